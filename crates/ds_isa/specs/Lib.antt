@@ -1,0 +1,5 @@
+pub mod Instruction
+pub mod Encoding
+pub mod Registers
+pub mod Meaning
+pub mod Rows

@@ -1,0 +1,16 @@
+//! The instruction set of MIPS I: one table, and what each instruction means.
+#![tactic(auto)]
+
+mod decoding;
+mod encoding;
+mod instr;
+mod table;
+mod uses;
+
+pub use decoding::{decode, round_trip};
+pub use encoding::encode;
+pub use instr::{Instr, Late, Size};
+pub use uses::{Sources, is_branch, links, reads, writes};
+
+#[cfg(test)]
+mod tests;

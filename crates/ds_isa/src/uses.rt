@@ -1,0 +1,106 @@
+//! The registers that an instruction reads, writes and links, and whether it is a branch.
+//!
+//! A register is the number in its field: register 0 counts as one that is read or written, though
+//! it reads 0 and keeps 0.
+ghost use Rattle.std.specs.Prelude.{◌≡◌};
+ghost use Rattle.ds_isa.specs.Encoding.{uses};
+
+use crate::instr::Instr;
+use crate::table::instruction_table;
+
+/// The source registers of an instruction, by the fields that name them.
+#[derive(Clone, Copy, Debug, PartialEq, Eq)]
+pub struct Sources {
+    pub rs: Option<u8>,
+    pub rt: Option<u8>,
+}
+
+/// What an instruction does with registers, and whether it is a branch or a jump.
+#[derive(Clone, Copy)]
+pub(crate) struct Uses {
+    reads: Sources,
+    writes: Option<u8>,
+    links: Option<u8>,
+    is_branch: bool,
+}
+
+const NO_SOURCES: Sources = Sources { rs: None, rt: None };
+
+const NO_USES: Uses = Uses {
+    reads: NO_SOURCES,
+    writes: None,
+    links: None,
+    is_branch: false,
+};
+
+/// A register that may be missing.
+macro_rules! register {
+    () => { None };
+    ($number:literal) => { Some($number) };
+    ($field:ident) => { Some(*$field) };
+}
+
+macro_rules! used {
+    (reads $read:tt $(writes $written:tt)? $(links $linked:tt)? branch) => {
+        Uses { is_branch: true, ..used!(reads $read $(writes $written)? $(links $linked)?) }
+    };
+    (reads [$($source:ident)*] $(writes [$written:tt])? $(links [$linked:tt])?) => {
+        Uses {
+            reads: Sources { $($source: Some(*$source),)* ..NO_SOURCES },
+            writes: register!($($written)?),
+            links: register!($($linked)?),
+            is_branch: false,
+        }
+    };
+}
+
+macro_rules! use_rows {
+    ($instr:ident
+     special { $($funct:literal $special:ident [$($field:ident)*] zero $zero:tt uses { $($use:tt)* };)* }
+     major { $($op:literal $major:ident [$($part:ident)*] zero $none:tt uses { $($used:tt)* };)* }) => {
+        match $instr {
+            $(Instr::$special { $($field),* } => used!($($use)*),)*
+            $(Instr::$major { $($part),* } => used!($($used)*),)*
+            Instr::Reserved(_) => NO_USES,
+        }
+    };
+}
+
+#[inline(always)]
+fn used_by(instr: &Instr) -> Uses
+    ensures { result ≡ uses instr.now }
+{
+    instruction_table!(use_rows instr)
+}
+
+/// The registers that an instruction reads. A system call reads none.
+#[inline(always)]
+pub fn reads(instr: &Instr) -> Sources
+    ensures { result ≡ (uses instr.now).reads }
+{
+    used_by(instr).reads
+}
+
+/// The register that an instruction writes, if any. A link is a write too.
+#[inline(always)]
+pub fn writes(instr: &Instr) -> Option<u8>
+    ensures { result ≡ (uses instr.now).writes }
+{
+    used_by(instr).writes
+}
+
+/// The register into which an instruction puts the address to return to, if any.
+#[inline(always)]
+pub fn links(instr: &Instr) -> Option<u8>
+    ensures { result ≡ (uses instr.now).links }
+{
+    used_by(instr).links
+}
+
+/// Whether an instruction is a branch or a jump, behind which stands a delay slot.
+#[inline(always)]
+pub fn is_branch(instr: &Instr) -> bool
+    ensures { result ≡ (uses instr.now).is_branch }
+{
+    used_by(instr).is_branch
+}

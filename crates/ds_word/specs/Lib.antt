@@ -1,0 +1,5 @@
+pub mod Arithmetic
+pub mod Merge
+pub mod Product
+pub mod Rows
+pub mod Word

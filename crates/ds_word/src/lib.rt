@@ -1,0 +1,23 @@
+//! Words of 32 bits: the fields of an instruction (Kane and Heinrich, appendix A), and what
+//! arithmetic makes of words.
+#![tactic(auto)]
+
+mod arithmetic;
+mod compare;
+mod field;
+mod merge;
+mod part;
+mod product;
+
+pub use arithmetic::{
+    checked_difference, checked_sum, shift_left, shift_right_arithmetic, shift_right_logical,
+    sign16, upper, wrapping_difference, wrapping_sum,
+};
+pub use compare::{is_negative, signed_less};
+pub use field::{code, funct, imm, op, rd, rs, rt, shamt, target};
+pub use merge::{merge_left, merge_right, store_left, store_right};
+pub use part::{byte_signed, byte_unsigned, half_signed, half_unsigned};
+pub use product::{div_signed, div_unsigned, mul_signed, mul_unsigned};
+
+#[cfg(test)]
+mod tests;
