@@ -1,0 +1,63 @@
+//! An entry of the buffer.
+ghost use Rattle.std.specs.Prelude.{◌≡◌, ◌<◌, ◌≤◌};
+ghost use Rattle.ds_tlb.specs.Entries.{matches, empty_entry, empty_entries};
+
+/// One entry: a virtual page of an address space and what it is mapped to, as EntryHi and EntryLo
+/// carry it (Kane and Heinrich, chapter 4).
+#[derive(Clone, Copy, Debug, PartialEq, Eq)]
+pub struct Entry {
+    /// The virtual page number, 20 bits.
+    pub vpn: u32,
+    /// The address space, 6 bits.
+    pub asid: u8,
+    /// The page frame number, 20 bits.
+    pub pfn: u32,
+    /// Whether accesses go past the caches.
+    pub n: bool,
+    /// Whether the page may be written.
+    pub d: bool,
+    /// Whether the entry may be used at all.
+    pub v: bool,
+    /// Whether the entry answers in each address space.
+    pub g: bool,
+}
+
+impl Entry {
+    /// Whether it answers for the page in the address space.
+    #[inline(always)]
+    pub fn matches(&self, vpn: u32, asid: u8) -> bool
+        ensures { result ≡ matches vpn asid self.now }
+    {
+        self.vpn == vpn && (self.g || self.asid == asid)
+    }
+
+    /// What the slot holds at the start: page 80000 + slot (hexadecimal), all else zero. No access
+    /// through the buffer names such a page.
+    pub fn empty(slot: usize) -> Entry
+        requires { slot < 64 }
+        ensures { result ≡ empty_entry slot }
+    {
+        Entry {
+            vpn: 0x80000 + slot as u32,
+            asid: 0,
+            pfn: 0,
+            n: false,
+            d: false,
+            v: false,
+            g: false,
+        }
+    }
+}
+
+/// What the slots of a buffer hold at the start.
+pub(crate) fn empty_entries<const N: usize>() -> [Entry; N]
+    requires some { 1 ≤ N }
+    requires few { N ≤ 64 }
+    ensures { result ≡ empty_entries N }
+{
+    let mut entries = [Entry::empty(0); N];
+    for slot in 0..N {
+        entries[slot] = Entry::empty(slot);
+    }
+    entries
+}

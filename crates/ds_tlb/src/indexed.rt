@@ -1,0 +1,139 @@
+//! A buffer that is searched by an index from virtual pages to slots.
+ghost use Rattle.std.specs.Prelude.{◌≡◌, ◌<◌, ◌≤◌, ◌%◌, length};
+ghost use Rattle.ds_tlb.specs.Entries.{find, empty_entries};
+ghost use Rattle.ds_tlb.specs.Buckets.{IsBucketOf, IsIndexOf};
+
+use crate::entry::{Entry, empty_entries};
+use crate::lookaside::{BadRandom, Lookaside, index_word_of};
+
+/// The number of buckets, which the low six bits of a virtual page number tell apart.
+const BUCKETS: usize = 64;
+
+/// A buffer of `N` slots, the first `WIRED` of them wired, that is searched by an index: for each
+/// bucket of virtual pages the set of its slots, slot i as bit i.
+#[derive(Debug, Drop)]
+pub struct Indexed<const N: usize, const WIRED: usize> {
+    entries: [Entry; N],
+    buckets: [u64; BUCKETS],
+    random: usize,
+    ghost size: { length entries ≡ N },
+    ghost low: { WIRED ≤ random },
+    ghost high: { random < N },
+    ghost some_wired: { 1 ≤ WIRED },
+    ghost few: { N ≤ 64 },
+    ghost indexed: { IsIndexOf buckets entries },
+}
+
+impl<const N: usize, const WIRED: usize> Lookaside for Indexed<N, WIRED> {
+    ghost SLOTS = { N };
+
+    ghost WIRED = { WIRED };
+
+    ghost entries = { λ t. t.entries };
+
+    ghost random_place = { λ t. t.random };
+
+    ghost size = { λ t. t.size };
+
+    ghost low = { λ t. t.low };
+
+    ghost high = { λ t. t.high };
+
+    ghost some_wired = { λ t. t.some_wired };
+
+    ghost few = { λ t. t.few };
+
+    const SLOTS: usize = N;
+
+    const WIRED: usize = WIRED;
+
+    #[tactic(auto, using(crate::proofs::Matches::empty_entries_are_single))]
+    fn new(start: usize) -> Result<Self, BadRandom> {
+        if start < WIRED || start >= N {
+            return Err(BadRandom);
+        }
+        Ok(Indexed {
+            entries: empty_entries(),
+            buckets: empty_buckets(N),
+            random: start,
+        })
+    }
+
+    #[inline(always)]
+    fn find(&self, vpn: u32, asid: u8) -> Option<usize> {
+        first_match(&self.entries, self.buckets[bucket_of(vpn)], vpn, asid)
+    }
+
+    #[inline(always)]
+    fn read(&self, slot: usize) -> Entry {
+        self.entries[slot]
+    }
+
+    #[inline(always)]
+    fn write(&mut self, slot: usize, entry: Entry) {
+        self.buckets[bucket_of(self.entries[slot].vpn)] &= !(1 << slot);
+        self.buckets[bucket_of(entry.vpn)] |= 1 << slot;
+        self.entries[slot] = entry;
+    }
+
+    fn write_random(&mut self, entry: Entry) -> usize {
+        self.write(self.random, entry);
+        self.random
+    }
+
+    #[inline(always)]
+    fn random(&self) -> usize {
+        self.random
+    }
+
+    #[inline(always)]
+    fn tick(&mut self) {
+        self.random = if self.random == WIRED {
+            N - 1
+        } else {
+            self.random - 1
+        };
+    }
+
+    fn probe(&self, vpn: u32, asid: u8) -> u32 {
+        index_word_of(self.find(vpn, asid))
+    }
+}
+
+/// The bucket that a virtual page falls into.
+#[inline(always)]
+fn bucket_of(vpn: u32) -> usize
+    ensures { result ≡ vpn % 64 }
+{
+    (vpn % 64) as usize
+}
+
+/// The index of the entries that a buffer of so many slots starts with.
+fn empty_buckets(slots: usize) -> [u64; BUCKETS]
+    requires { slots ≤ 64 }
+    ensures { IsIndexOf result (empty_entries slots) }
+{
+    let mut buckets = [0; BUCKETS];
+    for slot in 0..slots {
+        buckets[slot] = 1 << slot;
+    }
+    buckets
+}
+
+/// The lowest match among the slots of the page's bucket.
+#[inline(always)]
+fn first_match(entries: &[Entry], bucket: u64, vpn: u32, asid: u8) -> Option<usize>
+    requires few { length entries.now ≤ 64 }
+    requires bucket { IsBucketOf bucket (vpn % 64) entries.now }
+    ensures { result ≡ find entries.now vpn asid }
+{
+    let mut rest = bucket;
+    while rest != 0 {
+        let slot = rest.trailing_zeros() as usize;
+        if entries[slot].matches(vpn, asid) {
+            return Some(slot);
+        }
+        rest &= !(1 << slot);
+    }
+    None
+}

@@ -1,0 +1,123 @@
+//! What every translation lookaside buffer does, whichever way it is searched.
+ghost use Rattle.std.specs.Prelude.{◌≡◌, ℕ, ◌<◌, ◌≤◌, ◌↔◌, All, List, length, slice_get, slice_set, IsTrue, IsOk, IfOk, IsNone, IfSome, not};
+ghost use Rattle.ds_tlb.specs.Entries.{matches, find, empty_entries, ticked, index_word};
+ghost use Rattle.ds_tlb.specs.Singles.{IsSingle, IsOnlyMatch, MatchesAt};
+
+use crate::entry::Entry;
+use thiserror::Error;
+
+/// Random can't start at a wired slot, nor past the last slot.
+#[derive(Clone, Copy, Debug, PartialEq, Eq, Error)]
+#[error("Random starts outside the slots that it may name")]
+pub struct BadRandom;
+
+impl BadRandom {
+    /// The number of this refusal.
+    pub fn number(self) -> u32
+        ensures { result ≡ 1 }
+    {
+        1
+    }
+}
+
+/// A buffer of `SLOTS` entries. Random names one of its slots from `WIRED` on.
+pub trait Lookaside: Drop {
+    ghost use Rattle.ds_tlb.specs.declared.entry.Entry.{Entry};
+
+    ghost SLOTS: { ℕ };
+
+    ghost WIRED: { ℕ };
+
+    ghost entries: { Self → List Entry };
+
+    ghost random_place: { Self → ℕ };
+
+    /// The number of slots.
+    const SLOTS: usize;
+
+    /// The number of the first slots, which Random never names.
+    const WIRED: usize;
+
+    /// A buffer whose slot i holds page 80000 + i (hexadecimal), and whose Random is `start`;
+    /// refused exactly where Random may not be `start`.
+    fn new(start: usize) -> Result<Self, BadRandom>
+    where
+        Self: Sized,
+        requires some_wired { 1 ≤ WIRED }
+        requires some_free { WIRED < SLOTS }
+        requires few { SLOTS ≤ 64 }
+        ensures made { IsOk result ↔ (WIRED ≤ start) × (start < SLOTS) }
+        ensures empty { IfOk result (λ buffer. entries buffer ≡ empty_entries SLOTS) }
+        ensures single { IfOk result (λ buffer. IsSingle (entries buffer)) }
+        ensures random { IfOk result (λ buffer. random_place buffer ≡ start) };
+
+    /// The lowest slot whose entry matches.
+    fn find(&self, vpn: u32, asid: u8) -> Option<usize>
+        ensures lowest { result ≡ find (entries self.now) vpn asid }
+        ensures in_range { IfSome result (λ slot. slot < SLOTS) }
+        ensures found { IfSome result (λ slot. MatchesAt vpn asid (entries self.now) slot) }
+        ensures only { IsSingle (entries self.now) → IfSome result (λ slot. IsOnlyMatch vpn asid (entries self.now) slot) }
+        ensures missed { IsNone result ↔ All (λ e. IsTrue (not (matches vpn asid e))) (entries self.now) };
+
+    /// The entry of the slot.
+    fn read(&self, slot: usize) -> Entry
+        requires { slot < SLOTS }
+        ensures { slice_get (entries self.now) slot ≡ Some result };
+
+    /// Replaces the entry of the slot.
+    fn write(&mut self, slot: usize, entry: Entry)
+        requires { slot < SLOTS }
+        ensures written { entries self.new ≡ slice_set (entries self.old) slot entry }
+        ensures random { random_place self.new ≡ random_place self.old };
+
+    /// Replaces the entry of the slot that Random names, and answers that slot.
+    fn write_random(&mut self, entry: Entry) -> usize
+        ensures place { result ≡ random_place self.old }
+        ensures low { WIRED ≤ result }
+        ensures high { result < SLOTS }
+        ensures written { entries self.new ≡ slice_set (entries self.old) result entry }
+        ensures random { random_place self.new ≡ random_place self.old };
+
+    /// The slot that Random names.
+    fn random(&self) -> usize
+        ensures place { result ≡ random_place self.now }
+        ensures low { WIRED ≤ result }
+        ensures high { result < SLOTS };
+
+    /// Counts Random down by one; from the first slot that isn't wired it goes to the last slot.
+    fn tick(&mut self)
+        ensures same { entries self.new ≡ entries self.old }
+        ensures random { random_place self.new ≡ ticked SLOTS WIRED (random_place self.old) };
+
+    /// The Index word of a probe: the lowest matching slot in bits 13 to 8, or 80000000
+    /// (hexadecimal) where no entry matches.
+    fn probe(&self, vpn: u32, asid: u8) -> u32
+        ensures { result ≡ index_word (find (entries self.now) vpn asid) };
+
+    /// The number of entries.
+    ghost size: { (x : Self) → length (entries x) ≡ SLOTS };
+
+    /// Random names no wired slot.
+    ghost low: { (x : Self) → WIRED ≤ random_place x };
+
+    /// Random names a slot.
+    ghost high: { (x : Self) → random_place x < SLOTS };
+
+    /// Some slot is wired.
+    ghost some_wired: { (x : Self) → 1 ≤ WIRED };
+
+    /// A slot's number has six bits.
+    ghost few: { (x : Self) → SLOTS ≤ 64 };
+}
+
+/// The Index word for what a search found.
+#[inline(always)]
+pub(crate) fn index_word_of(found: Option<usize>) -> u32
+    requires { IfSome found (λ slot. slot < 64) }
+    ensures { result ≡ index_word found }
+{
+    match found {
+        Some(slot) => (slot as u32) << 8,
+        None => 0x8000_0000,
+    }
+}
