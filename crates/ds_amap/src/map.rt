@@ -1,0 +1,115 @@
+//! From an address to its place in physical memory.
+ghost use Rattle.std.specs.Prelude.{◌≡◌, ◌≢◌, ◌↔◌, Err};
+ghost use Rattle.ds_amap.specs.Map.{is_modified, place, through, mapped, translate, IsMissing, NeedsRefill};
+
+use ds_tlb::{Entry, Lookaside};
+
+/// What is done at an address.
+#[derive(Clone, Copy, Debug, PartialEq, Eq)]
+pub enum Access {
+    /// An instruction is fetched.
+    Fetch,
+    /// Bytes are read.
+    Load,
+    /// Bytes are written.
+    Store,
+}
+
+/// Who does it.
+#[derive(Clone, Copy, Debug, PartialEq, Eq)]
+pub enum Mode {
+    /// A user, who may use the lower half of the addresses.
+    User,
+    /// The kernel, which may use all of them.
+    Kernel,
+}
+
+/// A physical address.
+#[derive(Clone, Copy, Debug, PartialEq, Eq)]
+pub struct Physical(pub u32);
+
+/// Why an access has no physical address.
+#[derive(Clone, Copy, Debug, Drop, PartialEq, Eq)]
+pub enum Fault {
+    /// The mode may not use the address.
+    Address,
+    /// No entry matches.
+    Refill,
+    /// The entry that matches is not valid.
+    Invalid,
+    /// A store to a page that may not be written.
+    Modified,
+}
+
+/// The first address of kseg0, and of what a user may not use.
+const KSEG0: u32 = 0x8000_0000;
+
+/// The first address of kseg2, which is mapped.
+const KSEG2: u32 = 0xc000_0000;
+
+/// The physical address of an access: kuseg (from 00000000, hexadecimal) and kseg2 (from C0000000)
+/// are mapped by the entries, kseg0 and kseg1 (from 80000000) are bits 28 to 0 of the address.
+#[inline(always)]
+pub fn translate<L: Lookaside>(
+    addr: u32,
+    access: Access,
+    mode: Mode,
+    tlb: &L,
+    asid: u8,
+) -> Result<Physical, Fault>
+    ensures value { result ≡ translate (L.entries tlb.now) asid mode access addr }
+    ensures refill { (result ≡ Err Fault.Refill) ↔ NeedsRefill (L.entries tlb.now) asid mode addr }
+{
+    if addr >= KSEG0 {
+        if mode == Mode::User {
+            return Err(Fault::Address);
+        }
+        if addr < KSEG2 {
+            return Ok(Physical(addr & 0x1fff_ffff));
+        }
+    }
+    mapped(addr, access, tlb, asid)
+}
+
+/// What the entries answer.
+#[inline(always)]
+fn mapped<L: Lookaside>(addr: u32, access: Access, tlb: &L, asid: u8) -> Result<Physical, Fault>
+    ensures value { result ≡ mapped (L.entries tlb.now) asid access addr }
+    ensures refill { (result ≡ Err Fault.Refill) ↔ IsMissing (L.entries tlb.now) asid addr }
+{
+    match tlb.find(addr >> 12, asid) {
+        Some(slot) => through(tlb.read(slot), access, addr),
+        None => Err(Fault::Refill),
+    }
+}
+
+/// What a matching entry answers.
+#[inline(always)]
+fn through(entry: Entry, access: Access, addr: u32) -> Result<Physical, Fault>
+    ensures value { result ≡ through entry access addr }
+    ensures matched { result ≢ Err Fault.Refill }
+{
+    if !entry.v {
+        return Err(Fault::Invalid);
+    }
+    if is_modified(entry, access) {
+        return Err(Fault::Modified);
+    }
+    Ok(Physical(place(entry, addr)))
+}
+
+/// Whether the access is a store to a page that may not be written.
+#[inline(always)]
+fn is_modified(entry: Entry, access: Access) -> bool
+    ensures { result ≡ is_modified entry access }
+{
+    matches!(access, Access::Store) && !entry.d
+}
+
+/// The entry's frame, 20 bits, and the place in the page.
+#[inline(always)]
+fn place(entry: Entry, addr: u32) -> u32
+    ensures { result ≡ place entry addr }
+{
+    ((entry.pfn & 0xf_ffff) << 12) | (addr & 0xfff)
+}

@@ -1,0 +1,143 @@
+ghost use Rattle.std.specs.Prelude.{◌≡◌};
+
+use crate::{Access, Fault, Mode, Physical, translate};
+use ds_tlb::{BadRandom, Entry, Indexed, Lookaside, Tlb};
+
+/// Page 00400 of address space 1 in frame 00007, read only.
+const PAGE: Entry = Entry {
+    vpn: 0x400,
+    asid: 1,
+    pfn: 7,
+    n: false,
+    d: false,
+    v: true,
+    g: false,
+};
+
+/// A buffer with that page, page 00401 not valid, and page C0001 writable in each address space.
+fn filled<L: Lookaside>() -> Result<L, BadRandom>
+    requires slots { L.SLOTS ≡ 64 }
+    requires wired { L.WIRED ≡ 8 }
+{
+    let mut tlb = L::new(63)?;
+    tlb.write(8, PAGE);
+    tlb.write(
+        9,
+        Entry {
+            vpn: 0x401,
+            v: false,
+            ..PAGE
+        },
+    );
+    tlb.write(
+        0,
+        Entry {
+            vpn: 0xc0001,
+            pfn: 0xfffff,
+            d: true,
+            g: true,
+            ..PAGE
+        },
+    );
+    Ok(tlb)
+}
+
+/// An address, what is done there by whom in which address space, and the answer.
+type Row = (u32, Access, Mode, u8, Result<Physical, Fault>);
+
+const ROWS: [Row; 14] = [
+    (
+        0x0040_0123,
+        Access::Fetch,
+        Mode::User,
+        1,
+        Ok(Physical(0x7123)),
+    ),
+    (
+        0x0040_0123,
+        Access::Load,
+        Mode::Kernel,
+        1,
+        Ok(Physical(0x7123)),
+    ),
+    (
+        0x0040_0123,
+        Access::Store,
+        Mode::User,
+        1,
+        Err(Fault::Modified),
+    ),
+    (
+        0x0040_1000,
+        Access::Store,
+        Mode::User,
+        1,
+        Err(Fault::Invalid),
+    ),
+    (0x0040_0123, Access::Load, Mode::User, 2, Err(Fault::Refill)),
+    (0x7fff_ffff, Access::Load, Mode::User, 1, Err(Fault::Refill)),
+    (
+        0x8000_0000,
+        Access::Load,
+        Mode::User,
+        1,
+        Err(Fault::Address),
+    ),
+    (0x8000_0000, Access::Fetch, Mode::Kernel, 1, Ok(Physical(0))),
+    (
+        0x9fff_ffff,
+        Access::Load,
+        Mode::Kernel,
+        1,
+        Ok(Physical(0x1fff_ffff)),
+    ),
+    (
+        0xa000_0080,
+        Access::Store,
+        Mode::Kernel,
+        1,
+        Ok(Physical(0x80)),
+    ),
+    (
+        0xbfff_ffff,
+        Access::Store,
+        Mode::Kernel,
+        1,
+        Ok(Physical(0x1fff_ffff)),
+    ),
+    (
+        0xc000_0000,
+        Access::Load,
+        Mode::Kernel,
+        1,
+        Err(Fault::Refill),
+    ),
+    (
+        0xc000_1040,
+        Access::Store,
+        Mode::Kernel,
+        7,
+        Ok(Physical(0xffff_f040)),
+    ),
+    (
+        0xc000_1040,
+        Access::Load,
+        Mode::User,
+        7,
+        Err(Fault::Address),
+    ),
+];
+
+/// Whether the buffer answers each row.
+fn answers_all<L: Lookaside>(tlb: &L) -> bool {
+    ROWS.iter().all(|(addr, access, mode, asid, want)| {
+        translate(*addr, *access, *mode, tlb, *asid) == *want
+    })
+}
+
+#[test]
+fn each_segment_is_translated_as_its_row_says(rt: HostRuntime) -> Result<(), BadRandom> {
+    assert!(rt; answers_all(&filled::<Tlb<64, 8>>()?));
+    assert!(rt; answers_all(&filled::<Indexed<64, 8>>()?));
+    Ok(())
+}
