@@ -1,0 +1,15 @@
+pub mod KeyLists
+pub mod Steps
+pub mod Documents
+pub mod Entries
+pub mod Filling
+pub mod InputSteps
+pub mod PolicyRegions
+pub mod Sources
+pub mod Binds
+pub mod DistinctCounts
+pub mod GoodPolicy
+pub mod PolicyRead
+pub mod InputLineSteps
+pub mod GoodInput
+pub mod FirstEntries

@@ -1,0 +1,6 @@
+use Rattle.std.proofs.Common.{◌≡◌, drop}
+use Rattle.ds_policy.specs.Pages.{found}
+use Rattle.ds_policy.proofs.row.grant_at.Given as goal
+
+abbrev pub invariant-loop-entry : goal.invariant-loop-entry
+invariant-loop-entry l = found (drop l.entry-index l.entries) l.address ≡ found l.entries l.address

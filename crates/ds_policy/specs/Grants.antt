@@ -1,0 +1,144 @@
+-- What changes of the permission table do to the page state, and when they are refused.
+use Rattle.std.specs.Prelude.{ℕ, ◌+◌, ◌-◌, ◌/◌, ◌%◌, ◌^◌, Bool, true, false, not, ◌&&◌, ◌||◌, nat_lt, nat_le, ◌==◌, if◌then◌else◌, List, [], ◌∷◌, length, map, slice_set, Option, Some, None, Result, Ok, Err, is_some, unwrap_or}
+use Rattle.std.specs.List.{list_any}
+use Rattle.ds_policy.specs.declared.grant.Right.{Right}
+use Rattle.ds_policy.specs.declared.grant.Right.TheVariants.{Nothing, Read, Write}
+use Rattle.ds_policy.specs.declared.grant.Grant.{Grant}
+use Rattle.ds_policy.specs.Pages.{Pages, Table, entries_of, entry_at, with_entry, without_entry, bytes_of, count_live, fresh, kept}
+
+pub record PageState : Type 0 where
+  pub pages : Pages
+  pub table : Table
+  -- how many of the first pages the policy names
+  pub named : ℕ
+
+infixr 3 ◌or_else◌
+-- a refusal by its number, or what else comes
+abbrev pub ◌or_else◌ : Option ℕ → Result PageState ℕ → Result PageState ℕ
+None or_else next = next
+(Some number) or_else next = Err number
+
+abbrev pub refused : ℕ → Bool → Option ℕ
+refused number b = if b then Some number else None
+
+abbrev pub is_some_right : Right → Bool
+is_some_right Nothing = false
+is_some_right Read = true
+is_some_right Write = true
+
+abbrev pub is_write : Right → Bool
+is_write Write = true
+is_write Read = false
+is_write Nothing = false
+
+abbrev pub has_right : Option Grant → Bool
+has_right None = false
+has_right (Some g) = is_some_right g.right
+
+abbrev pub no_grant : Grant
+no_grant = record { right = Nothing; page = None; rule = 0; give = false; giver = 0 }
+
+-- The conditions of the refusals, by their names.
+abbrev pub not_page : ℕ → Option ℕ
+not_page address = refused 13 (not (address % 4096 == 0) || nat_le (2 ^ 31) address)
+
+abbrev pub no_right : PageState → ℕ → ℕ → Option ℕ
+no_right s p address = refused 14 (not (has_right (entry_at s.table p address)))
+
+abbrev pub no_entry : PageState → ℕ → ℕ → Option ℕ
+no_entry s p address = refused 14 (not (is_some (entry_at s.table p address)))
+
+abbrev pub table_full : PageState → ℕ → ℕ → Option ℕ
+table_full s p address = refused 17 (nat_le 256 (length (entries_of s.table p)) && not (is_some (entry_at s.table p address)))
+
+-- the region of 4 MiB
+abbrev pub region : ℕ → ℕ
+region address = address / 2 ^ 22
+
+abbrev pub count_distinct : List ℕ → ℕ
+count_distinct [] = 0
+count_distinct (a ∷ rest) = if list_any (λ b. b == a) rest then count_distinct rest else count_distinct rest + 1
+
+abbrev pub fifth_region : PageState → ℕ → ℕ → Option ℕ
+fifth_region s p address = refused 11 (nat_lt 4 (count_distinct (region address ∷ map (λ e. region e.address) (entries_of s.table p))))
+
+abbrev pub no_frames : PageState → ℕ → Option ℕ
+no_frames s mode = refused 18 ((mode == 3) && nat_le (length s.pages) (count_live s.pages))
+
+-- only pages that the policy or an entry names
+abbrev pub live_only : PageState → PageState
+live_only s = record s { pages = kept s.pages s.table s.named 0 }
+
+abbrev pub granted : PageState → ℕ → ℕ → Grant → PageState
+granted s p address g = record s { table = with_entry s.table p address g }
+
+abbrev pub removed : PageState → ℕ → ℕ → PageState
+removed s p address = live_only (record s { table = without_entry s.table p address })
+
+abbrev pub may_not_give : Grant → ℕ → Bool
+may_not_give g mode = (not (nat_lt 0 mode && nat_lt mode 4) || not g.give) || ((mode == 2) && not (is_write g.right))
+
+abbrev pub copied : PageState → Option ℕ → PageState
+copied s page = record s { pages = slice_set s.pages (fresh s.pages) (Some (bytes_of s.pages (unwrap_or page 0))) }
+
+-- what is given: by mode 1 the page for reading, by 2 for writing, by 3 a copy
+abbrev pub given : PageState → ℕ → Grant → ℕ → ℕ → ℕ → PageState
+given s caller g receiver to mode =
+    if mode == 1 then granted s receiver to (record g { right = Read; giver = caller })
+    else if mode == 2 then granted s receiver to (record g { right = Write; giver = caller })
+    else granted (copied s g.page) receiver to (record g { right = Write; page = Some (fresh s.pages); giver = caller })
+
+-- Each of these takes first which processes there are that haven't ended.
+abbrev pub give : (ℕ → Bool) → PageState → ℕ → ℕ → ℕ → ℕ → ℕ → Result PageState ℕ
+give lives s caller address receiver to mode =
+    let g = unwrap_or (entry_at s.table caller address) no_grant in
+    refused 12 (not (lives receiver)) or_else
+    not_page address or_else
+    not_page to or_else
+    no_right s caller address or_else
+    refused 15 (may_not_give g mode) or_else
+    refused 16 (is_some (entry_at s.table receiver to)) or_else
+    table_full s receiver to or_else
+    fifth_region s receiver to or_else
+    no_frames s mode or_else
+    Ok (given s caller g receiver to mode)
+
+abbrev pub take : (ℕ → Bool) → PageState → ℕ → ℕ → ℕ → Result PageState ℕ
+take lives s caller p address =
+    refused 12 (not (lives p)) or_else
+    not_page address or_else
+    no_right s p address or_else
+    refused 19 (not ((unwrap_or (entry_at s.table p address) no_grant).giver == caller)) or_else
+    Ok (removed s p address)
+
+abbrev pub drop_own : PageState → ℕ → ℕ → Result PageState ℕ
+drop_own s caller address = not_page address or_else no_right s caller address or_else Ok (removed s caller address)
+
+abbrev pub grant : (ℕ → Bool) → PageState → ℕ → ℕ → ℕ → Right → Bool → ℕ → Result PageState ℕ
+grant lives s p address page right may_give rule =
+    refused 12 (not (lives p)) or_else
+    not_page address or_else
+    refused 16 (has_right (entry_at s.table p address)) or_else
+    table_full s p address or_else
+    fifth_region s p address or_else
+    Ok (granted s p address (record { right = right; page = Some page; rule = rule; give = may_give; giver = 0 }))
+
+abbrev pub narrow : (ℕ → Bool) → PageState → ℕ → ℕ → Result PageState ℕ
+narrow lives s p address =
+    refused 12 (not (lives p)) or_else not_page address or_else no_right s p address or_else
+    Ok (granted s p address (record (unwrap_or (entry_at s.table p address) no_grant) { right = Read }))
+
+abbrev pub revoke : (ℕ → Bool) → PageState → ℕ → ℕ → ℕ → Result PageState ℕ
+revoke lives s p address rule =
+    refused 12 (not (lives p)) or_else not_page address or_else no_right s p address or_else
+    Ok (live_only (granted s p address (record no_grant { rule = rule })))
+
+-- the operator's drop removes an entry with right none too
+abbrev pub drop_by_command : (ℕ → Bool) → PageState → ℕ → ℕ → Result PageState ℕ
+drop_by_command lives s p address =
+    refused 12 (not (lives p)) or_else not_page address or_else no_entry s p address or_else
+    Ok (removed s p address)
+
+-- all entries of a process go; what it gave stays
+abbrev pub end_process : PageState → ℕ → PageState
+end_process s p = live_only (record s { table = slice_set s.table (p - 1) [] })

@@ -1,0 +1,37 @@
+-- Numbers and bytes in the words of an input.
+use Rattle.std.specs.Prelude.{ℕ, ◌+◌, ◌-◌, ◌*◌, ◌^◌, ◌&&◌, ◌==◌, nat_le, List, [], ◌∷◌, length, Option, Some, None, option_and_then, option_map, if◌then◌else◌}
+
+-- what a digit stands for, in a base of ten or sixteen
+abbrev pub digit_of : ℕ → ℕ → Option ℕ
+digit_of base c =
+    if nat_le 48 c && nat_le c 57 then Some (c - 48)
+    else if base == 16 && (nat_le 65 c && nat_le c 70) then Some (c - 55)
+    else if base == 16 && (nat_le 97 c && nat_le c 102) then Some (c - 87)
+    else None
+
+-- the number that goes on with these digits, if it stays within the limit
+unfoldable pub digits_from : ℕ → ℕ → ℕ → List ℕ → Option ℕ
+digits_from base limit n [] = Some n
+digits_from base limit n (c ∷ cs) = option_and_then (λ d. if nat_le (n * base + d) limit then digits_from base limit (n * base + d) cs else None) (digit_of base c)
+
+-- one to ten decimal digits of a number within the limit
+abbrev pub decimal_of : ℕ → List ℕ → Option ℕ
+decimal_of limit word = if nat_le 1 (length word) && nat_le (length word) 10 then digits_from 10 limit 0 word else None
+
+-- eight hexadecimal digits
+abbrev pub address_of : List ℕ → Option ℕ
+address_of word = if length word == 8 then digits_from 16 (2 ^ 32 - 1) 0 word else None
+
+-- the byte of two hexadecimal digits
+abbrev pub pair_of : ℕ → ℕ → Option ℕ
+pair_of a b = option_and_then (λ high. option_map (λ low. high * 16 + low) (digit_of 16 b)) (digit_of 16 a)
+
+-- the bytes of pairs of hexadecimal digits
+unfoldable pub pairs_of : List ℕ → Option (List ℕ)
+pairs_of [] = Some []
+pairs_of (a ∷ []) = None
+pairs_of (a ∷ b ∷ rest) = option_and_then (λ byte. option_map (λ bytes. byte ∷ bytes) (pairs_of rest)) (pair_of a b)
+
+-- 1 to 256 bytes
+abbrev pub bytes_of : List ℕ → Option (List ℕ)
+bytes_of word = if nat_le 2 (length word) && nat_le (length word) 512 then pairs_of word else None

@@ -1,0 +1,31 @@
+-- Worked rows of the reading of an input.
+use Rattle.std.specs.Prelude.{codes, refl, ◌≡◌, ℕ, Bool, true, List, [], ◌∷◌, Option, Some, None, Ok, Err}
+use Rattle.ds_policy.specs.declared.command.Command.TheVariants.{Grant}
+use Rattle.ds_policy.specs.declared.grant.Right.TheVariants.{Read}
+use Rattle.ds_policy.specs.declared.policy.PolicyPage.{PolicyPage}
+use Rattle.ds_policy.specs.InputNumbers.{digits_from, pairs_of}
+use Rattle.ds_policy.specs.InputLines.{command_of, keys_of, timed_event_of}
+use Rattle.ds_policy.specs.InputText.{with_line, with_lines, input_by, input_of}
+
+-- the pages of a policy that names one zero page
+abbrev one_page : List PolicyPage
+one_page = record { name = codes "data"; source = None } ∷ []
+
+characters_and_a_grant : input_by (λ e. true) one_page (codes "5 key 0 4869\n\n# x\n7 grant 1 0041000a data read give\n") ≡ Ok (record {
+  commands = record { time = 7; number = 1; command = Grant 1 0x41000a 0 Read true } ∷ [];
+  characters = record { time = 5; line = 0; byte = 72 } ∷ record { time = 5; line = 0; byte = 105 } ∷ [];
+})
+unfolding digits_from pairs_of command_of keys_of timed_event_of with_line with_lines
+characters_and_a_grant = refl
+
+a_time_that_falls : input_by (λ e. true) [] (codes "5 key 0 41\n4 key 0 41") ≡ Err 2
+unfolding digits_from pairs_of command_of keys_of timed_event_of with_line with_lines
+a_time_that_falls = refl
+
+no_bytes : input_of [] [] ≡ Ok (record { commands = []; characters = [] })
+unfolding with_line with_lines
+no_bytes = refl
+
+not_served_yet : input_of [] (codes "\n5 key 0 41") ≡ Err 2
+unfolding digits_from pairs_of command_of keys_of timed_event_of with_line with_lines
+not_served_yet = refl

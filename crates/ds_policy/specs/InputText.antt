@@ -1,0 +1,92 @@
+-- What an input says: its commands and characters, or the first line that is wrong.
+use Rattle.std.specs.Prelude.{codes, refl, ◌≡◌, ℕ, ◌+◌, Bool, true, false, ◌&&◌, ◌||◌, ◌==◌, nat_le, nat_lt, slice_index, List, [], ◌∷◌, ◌++◌, length, map, Option, Some, None, Result, Ok, Err, if◌then◌else◌}
+use Rattle.std.specs.List.{slice_split}
+use Rattle.ds_policy.specs.declared.command.Command.{Command}
+use Rattle.ds_policy.specs.declared.command.TimedCommand.{TimedCommand}
+use Rattle.ds_policy.specs.declared.command.Character.{Character}
+use Rattle.ds_policy.specs.declared.events.event.Event.{Event}
+use Rattle.ds_policy.specs.declared.events.event.Event.TheVariants.{Order, Input}
+use Rattle.ds_policy.specs.declared.events.event.TimedEvent.{TimedEvent}
+use Rattle.ds_policy.specs.declared.events.fault.EventsFault.{EventsFault}
+use Rattle.ds_policy.specs.declared.events.fault.EventsFault.TheVariants.{InputFault, Memory}
+use Rattle.ds_policy.specs.declared.policy.PolicyPage.{PolicyPage}
+use Rattle.ds_policy.specs.Value.{InputValue}
+use Rattle.ds_policy.specs.InputLines.{◌>>=◌, words_of, timed_event_of}
+
+-- what lines have said so far: the time of the last event, how many events there were, and what they come to
+pub record Said : Type 0 where
+  pub latest : ℕ
+  pub events : ℕ
+  pub commands : List TimedCommand
+  pub characters : List Character
+
+abbrev pub nothing_said : Said
+nothing_said = record { latest = 0; events = 0; commands = []; characters = [] }
+
+-- no kind of event is served yet
+abbrev pub is_served : Event → Bool
+is_served (Order command) = false
+is_served (Input line keys) = false
+
+abbrev pub characters_of : ℕ → ℕ → List ℕ → List Character
+characters_of time line keys = map (λ (b : ℕ). record { time = time; line = line; byte = b }) keys
+
+-- commands are numbered from 1
+abbrev pub with_event : Said → ℕ → Event → Said
+with_event s time (Order c) = record s { latest = time; events = s.events + 1; commands = s.commands ++ record { time = time; number = length s.commands + 1; command = c } ∷ [] }
+with_event s time (Input line keys) = record s { latest = time; events = s.events + 1; characters = s.characters ++ characters_of time line keys }
+
+-- an event isn't before the last one, nor the 4,097th
+abbrev pub follows : Said → ℕ → Bool
+follows s time = nat_le s.latest time && nat_lt s.events 4096
+
+abbrev pub may_follow : (Event → Bool) → Said → TimedEvent → Bool
+may_follow served s e = served e.event && follows s e.time
+
+-- an empty line, or a comment
+abbrev pub is_skipped : List ℕ → Bool
+is_skipped line = (length line == 0) || (slice_index line 0 == 35)
+
+-- with what a line says
+unfoldable pub with_line : (Event → Bool) → List PolicyPage → Said → List ℕ → Option Said
+with_line served pages s line =
+    if is_skipped line then Some s
+    else timed_event_of pages (words_of line) >>= (λ e. if may_follow served s e then Some (with_event s e.time e.event) else None)
+
+abbrev pub or_fault : {A B : Type 0} → Option A → ℕ → (A → Result B ℕ) → Result B ℕ
+or_fault None n f = Err n
+or_fault (Some x) n f = f x
+
+-- with what lines say, of which the first is line n; or the number of the first that is wrong
+unfoldable pub with_lines : (Event → Bool) → List PolicyPage → Said → ℕ → List (List ℕ) → Result Said ℕ
+with_lines served pages s n [] = Ok s
+with_lines served pages s n (line ∷ lines) = or_fault (with_line served pages s line) n (λ next. with_lines served pages next (n + 1) lines)
+
+-- what stands between line feeds; behind the last one stands an empty line or one that isn't ended
+abbrev pub lines_of : List ℕ → List (List ℕ)
+lines_of text = slice_split (λ b. b == 10) text
+
+abbrev pub input_in : Said → InputValue
+input_in s = record { commands = s.commands; characters = s.characters }
+
+abbrev pub as_input : Result Said ℕ → Result InputValue ℕ
+as_input (Ok s) = Ok (input_in s)
+as_input (Err line) = Err line
+
+abbrev pub input_by : (Event → Bool) → List PolicyPage → List ℕ → Result InputValue ℕ
+input_by served pages text = as_input (with_lines served pages nothing_said 1 (lines_of text))
+
+-- what a text says, by the policy's pages, or the number of its first wrong line
+abbrev pub input_of : List PolicyPage → List ℕ → Result InputValue ℕ
+input_of pages text = input_by is_served pages text
+
+-- the reading answered what the text says, unless memory ran out
+abbrev pub Gives : Result InputValue EventsFault → Result InputValue ℕ → Type 0
+Gives (Ok input) said = said ≡ Ok input
+Gives (Err (InputFault line)) said = said ≡ Err line
+Gives (Err Memory) said = Unit {0}
+
+-- the number of a refusal
+abbrev pub number_of : EventsFault → ℕ
+number_of (InputFault line) = 20
+number_of Memory = 25

@@ -1,0 +1,16 @@
+pub mod Pages
+pub mod Grants
+pub mod Value
+pub mod Document
+pub mod PolicyParts
+pub mod PolicyServed
+pub mod PolicyText
+pub mod PolicyFacts
+pub mod PolicyRows
+pub mod Refusal
+pub mod FirstTable
+pub mod InputNumbers
+pub mod InputLines
+pub mod InputText
+pub mod InputRows
+pub mod InputFacts

@@ -1,0 +1,81 @@
+-- Worked rows of the reading of a policy, from the document on: the texts are in ASCII.
+use Rattle.std.specs.Prelude.{codes, refl, ◌≡◌, ℕ, pos, false, List, [], ◌∷◌, ◌++◌, replicate, Some, None, Result, Ok, Err}
+use Rattle.toml.specs.Data.{Data, string, integer, table, member, no_members}
+use Rattle.toml.specs.Parse.{parse_document}
+use Rattle.toml.proofs.OnLiterals.{toml_on_literals}
+use Rattle.ds_policy.specs.declared.policy.PolicyPage.{PolicyPage}
+use Rattle.ds_policy.specs.declared.policy.PolicyRule.{PolicyRule}
+use Rattle.ds_policy.specs.declared.grant.Right.TheVariants.{Read}
+use Rattle.ds_policy.specs.Value.{PolicyValue}
+use Rattle.ds_policy.specs.Refusal.{PolicyRefusal, bad_toml, limit, bad_rule, or_else, ◌>>=◌}
+use Rattle.ds_policy.specs.PolicyParts.{process_of, source_of, page_of, new_page, grant_of, rule_of, new_rule, sources_of}
+use Rattle.ds_policy.specs.PolicyText.{each_of, processes_of, pages_of, rules_of, says}
+
+abbrev said : List ℕ → Result PolicyValue PolicyRefusal
+said text = or_else (parse_document text) bad_toml >>= says
+
+-- a policy of one process, with its code and a page of data
+abbrev sample : List ℕ
+sample = codes "version = 1\nframes = 16\n[[process]]\nstart = 0x00400000\nline = 0\n[[page]]\nname = \"code\"\nsource = \"one.s\"\npart = 0\n[[page]]\nname = \"data\"\n"
+
+abbrev rule_at : List ℕ → List ℕ
+rule_at address = codes "[[rule]]\nprocess = 1\naddress = " ++ address ++ codes "\nright = \"read\"\npage = \"code\"\n"
+
+pub no_bytes : said [] ≡ Err (limit (codes "version"))
+unfolding toml_on_literals says
+no_bytes = refl
+
+pub no_value : said (codes "version =") ≡ Err bad_toml
+unfolding toml_on_literals says
+no_value = refl
+
+pub off_a_page : said (sample ++ rule_at (codes "0x00400004")) ≡ Err (bad_rule 1)
+unfolding toml_on_literals process_of source_of page_of new_page grant_of rule_of new_rule each_of processes_of pages_of rules_of says
+off_a_page = refl
+
+pub one_rule : said (sample ++ rule_at (codes "0x00400000")) ≡ Ok (record {
+  frames = 16;
+  rate = 0;
+  processes = record { start = 4194304; line = 0 } ∷ [];
+  pages = record { name = codes "code"; source = Some (record { name = codes "one.s"; part = 0 }) } ∷ record { name = codes "data"; source = None } ∷ [];
+  rules = record { process = 1; address = 4194304; right = Read; page = Some 0; give = false } ∷ [];
+})
+unfolding toml_on_literals process_of source_of page_of new_page grant_of rule_of new_rule each_of processes_of pages_of rules_of says
+one_rule = refl
+
+-- rules as they stand and as they come
+
+abbrev data_page : List PolicyPage
+data_page = record { name = codes "data"; source = None } ∷ []
+
+abbrev rule_for : ℕ → PolicyRule
+rule_for address = record { process = 1; address = address; right = Read; page = Some 0; give = false }
+
+abbrev four_regions : List PolicyRule
+four_regions = rule_for 0 ∷ rule_for 0x400000 ∷ rule_for 0x800000 ∷ rule_for 0xC00000 ∷ []
+
+abbrev rule_data : ℕ → Data
+rule_data address = table (member (codes "process") (integer (pos 1)) (member (codes "address") (integer (pos address)) (member (codes "right") (string (codes "read")) (member (codes "page") (string (codes "data")) no_members))))
+
+pub same_place : new_rule 1 data_page four_regions (rule_data 0) ≡ None
+unfolding grant_of rule_of new_rule
+same_place = refl
+
+pub fourth_region : new_rule 1 data_page four_regions (rule_data 0xC01000) ≡ Some (rule_for 0xC01000)
+unfolding grant_of rule_of new_rule
+fourth_region = refl
+
+pub fifth_region : new_rule 1 data_page four_regions (rule_data 0x1000000) ≡ None
+unfolding grant_of rule_of new_rule
+fifth_region = refl
+
+pub rule_256 : new_rule 1 data_page (replicate 255 (rule_for 0)) (rule_data 4096) ≡ Some (rule_for 4096)
+unfolding grant_of rule_of new_rule
+rule_256 = refl
+
+pub rule_257 : new_rule 1 data_page (replicate 256 (rule_for 0)) (rule_data 4096) ≡ None
+unfolding grant_of rule_of new_rule
+rule_257 = refl
+
+pub sources_once : sources_of (record { name = codes "a"; source = Some (record { name = codes "two.s"; part = 0 }) } ∷ record { name = codes "b"; source = None } ∷ record { name = codes "c"; source = Some (record { name = codes "one.s"; part = 0 }) } ∷ record { name = codes "d"; source = Some (record { name = codes "two.s"; part = 1 }) } ∷ []) ≡ codes "two.s" ∷ codes "one.s" ∷ []
+sources_once = refl

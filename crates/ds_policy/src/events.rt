@@ -1,0 +1,119 @@
+//! What an input says: commands and characters, each with its time.
+ghost use Rattle.std.specs.Prelude.{◌≡◌, ◌==◌, ◌≤◌, length};
+ghost use Rattle.std.specs.List.{position_or_len, before_first, after_first};
+ghost use Rattle.ds_policy.specs.InputText.{Gives, input_of, with_lines, is_served, lines_of, nothing_said, as_input};
+
+mod digits;
+mod event;
+mod fault;
+mod keys;
+mod line;
+mod reading;
+
+use crate::command::{Character, TimedCommand};
+use crate::events::reading::Reading;
+use crate::policy::{Policy, PolicyPage};
+pub use digits::address_of;
+pub use fault::EventsFault;
+use std::alloc::Global;
+use std::marker::Model;
+
+/// The commands and characters of an input, in order.
+#[derive(Drop)]
+pub struct Events {
+    commands: Vec<TimedCommand>,
+    characters: Vec<Character>,
+}
+
+impl Model for Events {
+    ghost use Rattle.ds_policy.specs.Value.{InputValue};
+    ghost use Rattle.ds_policy.specs.InputFacts.{IsGoodInput, IsNothingYet};
+
+    ghost Value = { InputValue };
+
+    ghost view = { λ e. record { commands = e.commands.items; characters = e.characters.items } };
+
+    ghost invariant = { λ e. IsGoodInput (record { commands = e.commands.items; characters = e.characters.items }) × IsNothingYet (record { commands = e.commands.items; characters = e.characters.items }) };
+}
+
+impl Events {
+    ghost use Rattle.std.specs.Prelude.{[]};
+    ghost use Rattle.std.specs.List.{All};
+    ghost use Rattle.std.specs.List.Sorted.{IsNonDecreasingBy};
+    ghost use Rattle.ds_policy.specs.InputFacts.{has_time, comes_at, IsGoodCharacter, AreNumbered};
+
+    /// What a text says, or its first line that is wrong.
+    pub fn read(alloc: Global, text: &[u8], policy: &Policy) -> Result<Events, EventsFault>
+        ensures { Gives result (input_of policy.now.pages text.now) }
+    {
+        let pages = policy.pages();
+        prove!(pages.len() <= policy.frames() as usize);
+        events_of(alloc, text, pages)
+    }
+
+    /// The commands, each with its time and its number.
+    pub fn commands(&self) -> &[TimedCommand]
+        ensures all { result.now ≡ self.now.commands }
+        ensures few { length self.now.commands ≤ 4096 }
+        ensures due { All (λ c. has_time c ≤ 1000000000) self.now.commands }
+        ensures numbers { AreNumbered self.now.commands }
+        ensures order { IsNonDecreasingBy has_time self.now.commands }
+        ensures none_yet { self.now.commands ≡ [] }
+    {
+        &self.commands
+    }
+
+    /// The characters, each with its time and its line.
+    pub fn characters(&self) -> &[Character]
+        ensures all { result.now ≡ self.now.characters }
+        ensures good { All IsGoodCharacter self.now.characters }
+        ensures order { IsNonDecreasingBy comes_at self.now.characters }
+        ensures none_yet { self.now.characters ≡ [] }
+    {
+        &self.characters
+    }
+}
+
+fn events_of(alloc: Global, text: &[u8], pages: &[PolicyPage]) -> Result<Events, EventsFault>
+    requires { length pages.now ≤ 1024 }
+    ensures { Gives result (input_of pages.now text.now) }
+{
+    let mut reading = Reading::new(alloc);
+    let mut number = 0;
+    let mut left = text;
+    while !left.is_empty() {
+        let (line, rest) = first_line(left);
+        number += 1;
+        if !reading.add_line(alloc, pages, line)? {
+            return Err(EventsFault::InputFault(number));
+        }
+        left = rest;
+    }
+    Ok(Events {
+        commands: reading.commands,
+        characters: reading.characters,
+    })
+}
+
+/// The first line of a text, and what is behind the line feed that ends it.
+fn first_line(text: &[u8]) -> (&[u8], &[u8])
+    ensures line { result.0.now ≡ before_first (λ b. b == 10) text.now }
+    ensures rest { result.1.now ≡ after_first (λ b. b == 10) text.now }
+{
+    let end = line_len(text);
+    if end < text.len() {
+        (&text[..end], &text[end + 1..])
+    } else {
+        (text, &text[end..])
+    }
+}
+
+fn line_len(text: &[u8]) -> usize
+    ensures exact { result ≡ position_or_len (λ b. b == 10) text.now }
+    ensures within { result ≤ length text.now }
+{
+    text.iter().take_while(|b| **b != b'\n').count()
+}
+
+#[cfg(test)]
+mod tests;

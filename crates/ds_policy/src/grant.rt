@@ -1,0 +1,30 @@
+//! Entries of the permission table.
+
+/// What an entry allows.
+#[derive(Clone, Copy, Debug, PartialEq, Eq)]
+pub enum Right {
+    Nothing,
+    Read,
+    Write,
+}
+
+/// What a process was granted at a page address.
+#[derive(Clone, Copy, Debug, PartialEq, Eq)]
+pub struct Grant {
+    pub right: Right,
+    /// The page's number; there is one where there is a right.
+    pub page: Option<u32>,
+    /// The number of the rule that granted it, or of the command that took its right away.
+    pub rule: u32,
+    /// Whether the process may give it on.
+    pub give: bool,
+    /// The process that gave it, or 0 for the policy and the operator.
+    pub giver: u32,
+}
+
+/// An entry of the table: a page address and what is granted there.
+#[derive(Clone, Copy, Debug, PartialEq, Eq)]
+pub struct Entry {
+    pub address: u32,
+    pub grant: Grant,
+}

@@ -1,0 +1,28 @@
+//! The policy, the input and the permission table: texts to values, and what an access is answered.
+#![tactic(auto)]
+
+mod access;
+mod command;
+mod events;
+mod fault;
+mod grant;
+mod policy;
+mod reading;
+mod row;
+mod table;
+mod table_fault;
+mod text;
+
+pub use access::{Access, Kind, Rule, Verdict};
+pub use command::{Character, Command, TimedCommand};
+pub use ds_isa::Size;
+pub use events::{Events, EventsFault, address_of};
+pub use fault::PolicyFault;
+pub use grant::{Entry, Grant, Right};
+pub use policy::{Policy, PolicyPage, PolicyProcess, PolicyRule, Source};
+pub use table::Table;
+pub use table_fault::{NoGrant, TableFull};
+pub use text::Text;
+
+#[cfg(test)]
+mod policy_tests;

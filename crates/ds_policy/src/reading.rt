@@ -1,0 +1,66 @@
+//! A policy from its text.
+ghost use Rattle.std.specs.Prelude.{◌≡◌};
+ghost use Rattle.toml.specs.View.{table_view};
+ghost use Rattle.ds_policy.specs.Refusal.{Gives};
+ghost use Rattle.ds_policy.specs.PolicyText.{says, policy_of};
+
+mod document;
+mod pages;
+mod processes;
+mod rules;
+mod served;
+mod sources;
+
+use crate::fault::PolicyFault;
+use crate::policy::Policy;
+use document::{has_only, number_of, required, root, value_at};
+use pages::pages_of;
+use processes::{processes_of, rate_of};
+use rules::rules_of;
+use served::{check_pages, check_processes, check_rate};
+use sources::sources_of;
+use std::alloc::Global;
+use toml::Table;
+
+/// The root keys.
+const KEYS: [&str; 6] = ["version", "frames", "rate", "process", "page", "rule"];
+
+impl Policy {
+    /// The policy that a text says: a TOML document in UTF-8, all of whose checks hold. The first
+    /// check that fails is answered.
+    #[tactic(auto, unfolding(crate::specs::PolicyText::policy_of))]
+    pub fn read(alloc: Global, text: &[u8]) -> Result<Policy, PolicyFault>
+        ensures { Gives (λ p. p) result (policy_of text.now) }
+    {
+        let table = root(alloc, text)?;
+        Policy::of_table(alloc, &table)
+    }
+
+    #[tactic(auto, unfolding(crate::specs::PolicyText::says))]
+    fn of_table(alloc: Global, table: &Table) -> Result<Policy, PolicyFault>
+        ensures { Gives (λ p. p) result (says (table_view table.now)) }
+    {
+        if !has_only(table, KEYS.as_slice()) {
+            return Err(PolicyFault::Limit("key"));
+        }
+        required(number_of(table, "version", 1, 1), "version")?;
+        let frames = required(number_of(table, "frames", 1, 1024), "frames")?;
+        let rate = required(rate_of(value_at(table, "rate")), "rate")?;
+        check_rate(rate)?;
+        let processes = processes_of(alloc, value_at(table, "process"))?;
+        check_processes(&processes)?;
+        let pages = pages_of(alloc, frames, value_at(table, "page"))?;
+        check_pages(&pages)?;
+        let count = processes.len() as u32;
+        let rules = rules_of(alloc, count, &pages, value_at(table, "rule"))?;
+        let sources = sources_of(alloc, &pages)?;
+        Ok(Policy {
+            frames,
+            rate,
+            processes,
+            pages,
+            rules,
+            sources,
+        })
+    }
+}

@@ -1,0 +1,128 @@
+//! The pages of a policy.
+ghost use Rattle.std.specs.Prelude.{◌≡◌, ◌≤◌, length, option_map, bytes_eq, IfOk};
+ghost use Rattle.std.specs.List.{list_any, list_all};
+ghost use Rattle.toml.specs.View.{view, table_view, items_view};
+ghost use Rattle.ds_policy.specs.Refusal.{Gives};
+ghost use Rattle.ds_policy.specs.PolicyParts.{is_name, is_name_byte, is_source_name, is_source_byte, source_of, page_of, new_page};
+ghost use Rattle.ds_policy.specs.PolicyText.{pages_from, pages_of};
+
+use crate::fault::PolicyFault;
+use crate::policy::{PolicyPage, Source};
+use crate::reading::document::{has_only, items_between, number_of, text_at};
+use crate::text::Text;
+use std::alloc::Global;
+use toml::{Table, Value};
+
+/// The pages, of which there are no more than frames.
+#[tactic(auto, unfolding(crate::specs::PolicyText::pages_of, crate::specs::PolicyText::each_of))]
+pub fn pages_of(
+    alloc: Global,
+    frames: u32,
+    found: Option<&Value>,
+) -> Result<Vec<PolicyPage>, PolicyFault>
+    ensures exact { Gives (λ v. v.items) result (pages_of frames (option_map (λ v. view v.now) found.entry)) }
+    ensures fits { IfOk result (λ v. length v.items ≤ frames) }
+{
+    match found {
+        Some(value) => match items_between(value, 0, frames as usize) {
+            Some(values) => pages_in(alloc, values),
+            None => Err(PolicyFault::Limit("page")),
+        },
+        None => Ok(Vec::new(alloc)),
+    }
+}
+
+fn pages_in(alloc: Global, values: &[Value]) -> Result<Vec<PolicyPage>, PolicyFault>
+    ensures exact { Gives (λ v. v.items) result (pages_from (items_view values.now)) }
+    ensures fits { IfOk result (λ v. length v.items ≤ length values.now) }
+{
+    let mut pages = Vec::new(alloc);
+    for value in values {
+        match new_page(&pages, value) {
+            Some(page) => pages.push(page)?,
+            None => return Err(PolicyFault::Limit("page")),
+        }
+    }
+    Ok(pages)
+}
+
+#[tactic(auto, unfolding(crate::specs::PolicyParts::new_page))]
+fn new_page(before: &[PolicyPage], value: &Value) -> Option<PolicyPage>
+    ensures { result ≡ new_page before.now (view value.now) }
+{
+    let page = page_of(value)?;
+    if has_name(before, page.name.as_str()) {
+        return None;
+    }
+    Some(page)
+}
+
+fn has_name(pages: &[PolicyPage], name: &str) -> bool
+    ensures { result ≡ list_any (λ q. bytes_eq q.name name.now) pages.now }
+{
+    pages.iter().any(|page| page.name.as_str() == name)
+}
+
+#[tactic(auto, unfolding(crate::specs::PolicyParts::page_of))]
+fn page_of(value: &Value) -> Option<PolicyPage>
+    ensures { result ≡ page_of (view value.now) }
+{
+    let table = value.as_table()?;
+    let name = text_at(table, "name")?;
+    if !is_name(name) {
+        return None;
+    }
+    let source = source_of(table)?;
+    Some(PolicyPage {
+        name: Text::of(name),
+        source,
+    })
+}
+
+#[tactic(auto, unfolding(crate::specs::PolicyParts::source_of))]
+fn source_of(table: &Table) -> Option<Option<Source>>
+    ensures { result ≡ source_of (table_view table.now) }
+{
+    if has_only(table, &["name"]) {
+        return Some(None);
+    }
+    if !has_only(table, &["name", "source", "part"]) {
+        return None;
+    }
+    let name = text_at(table, "source")?;
+    if !is_source_name(name) {
+        return None;
+    }
+    let part = number_of(table, "part", 0, 15)?;
+    Some(Some(Source {
+        name: Text::of(name),
+        part: part as u8,
+    }))
+}
+
+fn is_name(text: &str) -> bool
+    ensures { result ≡ is_name text.now }
+{
+    text.len() >= 1 && text.len() <= 16 && has_name_bytes(text.as_bytes())
+}
+
+fn has_name_bytes(text: &[u8]) -> bool
+    ensures { result ≡ list_all is_name_byte text.now }
+{
+    text.iter()
+        .all(|b| (97 <= *b && *b <= 122) || (48 <= *b && *b <= 57))
+}
+
+fn is_source_name(text: &str) -> bool
+    ensures { result ≡ is_source_name text.now }
+{
+    text.len() >= 1 && text.len() <= 64 && has_source_bytes(text.as_bytes())
+}
+
+fn has_source_bytes(text: &[u8]) -> bool
+    ensures { result ≡ list_all is_source_byte text.now }
+{
+    text.iter().all(|b| {
+        (97 <= *b && *b <= 122) || (65 <= *b && *b <= 90) || (45 <= *b && *b <= 57) || *b == 95
+    })
+}

@@ -1,0 +1,71 @@
+//! The processes of a policy, and its rate.
+ghost use Rattle.std.specs.Prelude.{◌≡◌, ◌≤◌, length, option_map, IfOk};
+ghost use Rattle.toml.specs.View.{view, items_view};
+ghost use Rattle.ds_policy.specs.Refusal.{Gives};
+ghost use Rattle.ds_policy.specs.PolicyParts.{process_of, rate_of};
+ghost use Rattle.ds_policy.specs.PolicyText.{processes_from, processes_of};
+
+use crate::fault::PolicyFault;
+use crate::policy::PolicyProcess;
+use crate::reading::document::{has_only, items_between, number, number_of};
+use std::alloc::Global;
+use toml::Value;
+
+/// The rate: 0 where there is none.
+pub fn rate_of(found: Option<&Value>) -> Option<u32>
+    ensures { result ≡ rate_of (option_map (λ v. view v.now) found.entry) }
+{
+    match found {
+        None => Some(0),
+        Some(value) => match number(value, 0, 0) {
+            Some(_) => Some(0),
+            None => number(value, 3, 15),
+        },
+    }
+}
+
+/// The processes, of which there are 1 to 100.
+#[tactic(auto, unfolding(crate::specs::PolicyText::processes_of))]
+pub fn processes_of(alloc: Global, found: Option<&Value>) -> Result<Vec<PolicyProcess>, PolicyFault>
+    ensures exact { Gives (λ v. v.items) result (processes_of (option_map (λ v. view v.now) found.entry)) }
+    ensures fits { IfOk result (λ v. length v.items ≤ 100) }
+{
+    let value = match found {
+        Some(value) => value,
+        None => return Err(PolicyFault::Limit("process")),
+    };
+    match items_between(value, 1, 100) {
+        Some(values) => processes_in(alloc, values),
+        None => Err(PolicyFault::Limit("process")),
+    }
+}
+
+fn processes_in(alloc: Global, values: &[Value]) -> Result<Vec<PolicyProcess>, PolicyFault>
+    ensures exact { Gives (λ v. v.items) result (processes_from (items_view values.now)) }
+    ensures fits { IfOk result (λ v. length v.items ≤ length values.now) }
+{
+    let mut processes = Vec::new(alloc);
+    for value in values {
+        match process_of(value) {
+            Some(process) => processes.push(process)?,
+            None => return Err(PolicyFault::Limit("process")),
+        }
+    }
+    Ok(processes)
+}
+
+#[tactic(auto, unfolding(crate::specs::PolicyParts::process_of))]
+fn process_of(value: &Value) -> Option<PolicyProcess>
+    ensures { result ≡ process_of (view value.now) }
+{
+    let table = value.as_table()?;
+    if !has_only(table, &["start", "line"]) {
+        return None;
+    }
+    let start = number_of(table, "start", 0, u32::MAX)?;
+    let line = number_of(table, "line", 0, 3)?;
+    Some(PolicyProcess {
+        start,
+        line: line as u8,
+    })
+}

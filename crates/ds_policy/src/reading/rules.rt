@@ -1,0 +1,226 @@
+//! The rules of a policy.
+ghost use Rattle.std.specs.Prelude.{◌≡◌, ◌≤◌, ◌==◌, ◌+◌, ◌&&◌, ◌∷◌, length, option_map, bytes_eq, count_by, nat_le};
+ghost use Rattle.std.specs.List.{list_any};
+ghost use Rattle.toml.specs.View.{view, table_view, items_view};
+ghost use Rattle.ds_policy.specs.Refusal.{Gives};
+ghost use Rattle.ds_policy.specs.Grants.{region, count_distinct};
+ghost use Rattle.ds_policy.specs.PolicyParts.{right_named, page_number, flag_of, grant_of, rule_of, has_same_place, new_rule, regions_of};
+ghost use Rattle.ds_policy.specs.PolicyText.{rules_from, rules_of};
+
+use crate::fault::PolicyFault;
+use crate::grant::Right;
+use crate::policy::{PolicyPage, PolicyRule};
+use crate::reading::document::{has_only, items_between, number_of, text_at, value_at};
+use crate::reading::served::{check_rules, serves_rule};
+use std::alloc::Global;
+use toml::{Table, Value};
+
+/// The rules, of which there are at most 999.
+#[tactic(auto, unfolding(crate::specs::PolicyText::rules_of, crate::specs::PolicyText::each_of))]
+pub fn rules_of(
+    alloc: Global,
+    processes: u32,
+    pages: &[PolicyPage],
+    found: Option<&Value>,
+) -> Result<Vec<PolicyRule>, PolicyFault>
+    requires { length pages.now ≤ 1024 }
+    ensures { Gives (λ v. v.items) result (rules_of processes pages.now (option_map (λ v. view v.now) found.entry)) }
+{
+    match found {
+        Some(value) => match items_between(value, 0, 999) {
+            Some(values) => {
+                check_rules(values)?;
+                rules_in(alloc, processes, pages, values)
+            }
+            None => Err(PolicyFault::Limit("rule")),
+        },
+        None => Ok(Vec::new(alloc)),
+    }
+}
+
+fn rules_in(
+    alloc: Global,
+    processes: u32,
+    pages: &[PolicyPage],
+    values: &[Value],
+) -> Result<Vec<PolicyRule>, PolicyFault>
+    requires pages_fit { length pages.now ≤ 1024 }
+    requires values_fit { length values.now ≤ 999 }
+    ensures { Gives (λ v. v.items) result (rules_from processes pages.now (items_view values.now)) }
+{
+    let mut rules = Vec::new(alloc);
+    for value in values {
+        match new_rule(processes, pages, &rules, value) {
+            Some(rule) => rules.push(rule)?,
+            None => return Err(PolicyFault::BadRule(rules.len() as u32 + 1)),
+        }
+    }
+    Ok(rules)
+}
+
+#[tactic(auto, unfolding(crate::specs::PolicyParts::new_rule))]
+fn new_rule(
+    processes: u32,
+    pages: &[PolicyPage],
+    before: &[PolicyRule],
+    value: &Value,
+) -> Option<PolicyRule>
+    requires pages_fit { length pages.now ≤ 1024 }
+    requires rules_fit { length before.now ≤ 999 }
+    ensures { result ≡ new_rule processes pages.now before.now (view value.now) }
+{
+    let rule = rule_of(processes, pages, value)?;
+    if is_taken(before, &rule) {
+        return None;
+    }
+    if count_of(before, rule.process) >= 256 {
+        return None;
+    }
+    if !fits_regions(before, rule.process, rule.address) {
+        return None;
+    }
+    Some(rule)
+}
+
+#[tactic(auto, unfolding(crate::specs::PolicyParts::rule_of))]
+fn rule_of(processes: u32, pages: &[PolicyPage], value: &Value) -> Option<PolicyRule>
+    requires { length pages.now ≤ 1024 }
+    ensures { result ≡ rule_of processes pages.now (view value.now) }
+{
+    let table = value.as_table()?;
+    let process = number_of(table, "process", 1, processes)?;
+    let address = number_of(table, "address", 0, 0x7FFF_FFFF)?;
+    if address % 4096 != 0 {
+        return None;
+    }
+    let right = right_named(text_at(table, "right")?)?;
+    if !serves_rule(right, value_at(table, "give")) {
+        return None;
+    }
+    let (page, give) = grant_of(pages, right, table)?;
+    Some(PolicyRule {
+        process,
+        address,
+        right,
+        page,
+        give,
+    })
+}
+
+fn right_named(text: &str) -> Option<Right>
+    ensures { result ≡ right_named text.now }
+{
+    if text == "none" {
+        Some(Right::Nothing)
+    } else if text == "read" {
+        Some(Right::Read)
+    } else if text == "write" {
+        Some(Right::Write)
+    } else {
+        None
+    }
+}
+
+#[tactic(auto, unfolding(crate::specs::PolicyParts::grant_of))]
+fn grant_of(pages: &[PolicyPage], right: Right, table: &Table) -> Option<(Option<u32>, bool)>
+    requires { length pages.now ≤ 1024 }
+    ensures { result ≡ grant_of pages.now right (table_view table.now) }
+{
+    match right {
+        Right::Nothing => {
+            if !has_only(table, &["process", "address", "right"]) {
+                return None;
+            }
+            Some((None, false))
+        }
+        Right::Read | Right::Write => {
+            if !has_only(table, &["process", "address", "right", "page", "give"]) {
+                return None;
+            }
+            let name = text_at(table, "page")?;
+            let page = page_number(pages, name)?;
+            let give = flag_of(value_at(table, "give"))?;
+            Some((Some(page as u32), give))
+        }
+    }
+}
+
+fn page_number(pages: &[PolicyPage], name: &str) -> Option<usize>
+    ensures { result ≡ page_number pages.now name.now }
+{
+    pages.iter().position(|page| page.name.as_str() == name)
+}
+
+fn flag_of(found: Option<&Value>) -> Option<bool>
+    ensures { result ≡ flag_of (option_map (λ v. view v.now) found.entry) }
+{
+    match found {
+        None => Some(false),
+        Some(value) => value.as_bool(),
+    }
+}
+
+fn is_taken(rules: &[PolicyRule], rule: &PolicyRule) -> bool
+    ensures { result ≡ list_any (λ r. has_same_place r rule.now) rules.now }
+{
+    rules
+        .iter()
+        .any(|r| r.process == rule.process && r.address == rule.address)
+}
+
+fn count_of(rules: &[PolicyRule], process: u32) -> usize
+    ensures { result ≡ count_by (λ r. r.process == process) rules.now }
+{
+    rules.iter().filter(|rule| rule.process == process).count()
+}
+
+/// Whether a rule at this address leaves its process within four regions.
+fn fits_regions(rules: &[PolicyRule], process: u32, address: u32) -> bool
+    requires { length rules.now ≤ 999 }
+    ensures { result ≡ nat_le (count_distinct (region address ∷ regions_of process rules.now)) 4 }
+{
+    let regions = count_regions(rules, process);
+    if has_region(rules, process, address / 4_194_304) {
+        regions <= 4
+    } else {
+        regions + 1 <= 4
+    }
+}
+
+/// In how many regions the rules of a process are.
+fn count_regions(rules: &[PolicyRule], process: u32) -> usize
+    ensures exact { result ≡ count_distinct (regions_of process rules.now) }
+    ensures fits { result ≤ length rules.now }
+{
+    let mut count = 0;
+    let mut left = rules;
+    while let [first, rest @ ..] = left {
+        count += new_regions(first, rest, process);
+        left = rest;
+    }
+    count
+}
+
+/// 1 where a rule of the process is in a region that none of the rest is in.
+fn new_regions(rule: &PolicyRule, rest: &[PolicyRule], process: u32) -> usize
+    ensures exact { result + count_distinct (regions_of process rest.now) ≡ count_distinct (regions_of process (rule.now ∷ rest.now)) }
+    ensures few { result ≤ 1 }
+{
+    if rule.process == process && !has_region(rest, process, rule.address / 4_194_304) {
+        1
+    } else {
+        0
+    }
+}
+
+fn has_region(rules: &[PolicyRule], process: u32, number: u32) -> bool
+    ensures { result ≡ list_any (λ b. b == number) (regions_of process rules.now) }
+{
+    any_in(rules, process, number)
+}
+
+fn any_in(rules: &[PolicyRule], process: u32, number: u32) -> bool
+    ensures { result ≡ list_any (λ r. r.process == process && region r.address == number) rules.now }
+{
+    rules.iter().any(|rule| rule.process == process && rule.address / 4_194_304 == number)
+}

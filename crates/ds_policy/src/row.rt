@@ -1,0 +1,111 @@
+//! The entries of one process.
+ghost use Rattle.std.specs.Prelude.{◌≡◌, ◌==◌, ◌<◌, ◌≤◌, position, [], IsNone, length, filter, not};
+ghost use Rattle.ds_policy.specs.Pages.{found, put};
+
+use crate::grant::{Entry, Grant, Right};
+use arrayvec::ArrayVec;
+use std::marker::Model;
+
+/// How many entries a process can have.
+pub(crate) const MOST: usize = 256;
+
+impl Default for Entry {
+    fn default() -> Entry {
+        Entry {
+            address: 0,
+            grant: Grant {
+                right: Right::Nothing,
+                page: None,
+                rule: 0,
+                give: false,
+                giver: 0,
+            },
+        }
+    }
+}
+
+/// The entries of a process in the order in which they came, no more than 256.
+#[derive(Drop)]
+pub(crate) struct Row {
+    entries: ArrayVec<Entry, MOST>,
+}
+
+impl Model for Row {
+    ghost use Rattle.std.specs.Prelude.{List};
+    ghost use Rattle.ds_policy.specs.declared.grant.Entry.{Entry};
+
+    ghost Value = { List Entry };
+
+    ghost view = { λ r. r.entries.items };
+}
+
+impl Row {
+    /// No entries.
+    pub(crate) fn new() -> Row
+        ensures { result ≡ [] }
+    {
+        Row {
+            entries: ArrayVec::new(),
+        }
+    }
+
+    /// How many entries there are.
+    pub(crate) fn len(&self) -> usize
+        ensures exact { result ≡ length self.now }
+        ensures fits { length self.now ≤ 256 }
+    {
+        self.entries.len()
+    }
+
+    /// What is granted at an address.
+    pub(crate) fn get(&self, address: u32) -> Option<Grant>
+        ensures { result ≡ found self.now address }
+    {
+        grant_at(self.entries.as_slice(), address)
+    }
+
+    /// Puts an entry in the place of the one at its address, or else at the end.
+    pub(crate) fn set(&mut self, address: u32, grant: Grant)
+        requires { IsNone (found self.old address) → length self.old < 256 }
+        ensures { self.new ≡ put self.old address grant }
+    {
+        match place(self.entries.as_slice(), address) {
+            Some(i) => {
+                self.entries[i] = Entry { address, grant };
+            }
+            None => self.entries.push(Entry { address, grant }),
+        }
+    }
+
+    /// Removes all entries.
+    pub(crate) fn clear(&mut self)
+        ensures { self.new ≡ [] }
+    {
+        self.entries.clear();
+    }
+
+    /// Removes the entry at an address.
+    pub(crate) fn remove(&mut self, address: u32)
+        ensures { self.new ≡ filter (λ e. not (e.address == address)) self.old }
+    {
+        self.entries.retain(|e| e.address != address);
+    }
+}
+
+/// Where the entry of an address is.
+fn place(entries: &[Entry], address: u32) -> Option<usize>
+    ensures { result ≡ position (λ e. e.address == address) entries.now }
+{
+    entries.iter().position(|e| e.address == address)
+}
+
+fn grant_at(entries: &[Entry], address: u32) -> Option<Grant>
+    ensures { result ≡ found entries.now address }
+{
+    for entry in entries {
+        if entry.address == address {
+            return Some(entry.grant);
+        }
+    }
+    None
+}
