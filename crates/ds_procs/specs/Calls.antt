@@ -1,0 +1,12 @@
+-- The call that registers ask for.
+use Rattle.std.specs.Prelude.{ℕ, ◌%◌, ◌==◌, if◌then◌else◌, List, slice_index}
+use Rattle.ds_procs.specs.declared.call.Call.{Call}
+use Rattle.ds_procs.specs.declared.call.Call.TheVariants.{Exit, Put, Unknown}
+
+-- register 2 has the call's number, registers 4 to 7 its arguments
+abbrev pub call_of : List ℕ → Call
+call_of r =
+    let n = slice_index r 2 in
+    let a = slice_index r 4 in
+    if n == 0 then Exit else
+    if n == 1 then Put (a % 256) else Unknown

@@ -1,0 +1,12 @@
+//! Processes and what they call for.
+#![tactic(auto)]
+
+mod call;
+mod process;
+mod queue;
+#[cfg(test)]
+mod tests;
+
+pub use call::Call;
+pub use process::{Process, Standing};
+pub use queue::Queue;

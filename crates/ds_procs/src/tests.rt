@@ -1,0 +1,48 @@
+//! Calls and processes of the station's worked examples.
+
+use crate::{Call, Process, Queue, Standing};
+
+// A process at 0x00400000 that asks by these registers 2 and 4.
+fn asks(number: u32, argument: u32) -> Process {
+    let mut process = Process::new(0x0040_0000);
+    process.registers[2] = number;
+    process.registers[4] = argument;
+    process
+}
+
+#[test]
+fn a_process_starts_ready_with_all_registers_zero(rt: HostRuntime) {
+    let process = Process::new(0x0040_0000);
+    assert_eq!(rt; process.registers, [0; 32]);
+    assert_eq!(rt; (process.hi, process.lo, process.pc), (0, 0, 0x0040_0000));
+    assert_eq!(rt; process.state, Standing::Ready);
+}
+
+#[test]
+fn a_call_is_read_off_the_registers(rt: HostRuntime) {
+    assert_eq!(rt; Call::of(&asks(0, 0x41)), Call::Exit);
+    assert_eq!(rt; Call::of(&asks(1, 0x41)), Call::Put { byte: 0x41 });
+    assert_eq!(rt; Call::of(&asks(1, 0x1234_5678)), Call::Put { byte: 0x78 });
+    assert_eq!(rt; Call::of(&asks(10, 0)), Call::Unknown);
+    assert_eq!(rt; Call::of(&asks(0xFFFF_FFFF, 0)), Call::Unknown);
+}
+
+#[test]
+fn turns_go_round_among_those_that_are_ready(rt: HostRuntime) {
+    let mut ready = Queue::new();
+    ready.rotate();
+    assert_eq!(rt; ready.first(), None);
+    ready.push(1);
+    ready.push(2);
+    ready.push(100);
+    assert_eq!(rt; ready.first(), Some(1));
+    ready.rotate();
+    assert_eq!(rt; ready.first(), Some(2));
+    ready.remove(2);
+    ready.remove(3);
+    assert_eq!(rt; ready.first(), Some(100));
+    ready.rotate();
+    assert_eq!(rt; ready.first(), Some(1));
+    ready.rotate();
+    assert_eq!(rt; ready.first(), Some(100));
+}
