@@ -1,0 +1,10 @@
+pub mod Lists
+pub mod Touches
+pub mod Runs
+pub mod Units
+pub mod Processes
+pub mod Entries
+pub mod Refusals
+pub mod Isolation
+pub mod Boundaries
+pub mod Growth

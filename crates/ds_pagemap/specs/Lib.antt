@@ -1,0 +1,12 @@
+pub mod Machine
+pub mod Calls
+pub mod Unit
+pub mod Boundary
+pub mod Run
+pub mod Text
+pub mod Image
+pub mod First
+pub mod Inputs
+pub mod Laws
+pub mod Store
+pub mod Rows

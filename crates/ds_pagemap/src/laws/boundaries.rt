@@ -1,0 +1,23 @@
+//! What a boundary does to the time and the pages.
+ghost use Rattle.std.specs.Prelude.{◌≡◌, [], None};
+ghost use Rattle.ds_pagemap.specs.Machine.{State};
+ghost use Rattle.ds_pagemap.specs.Boundary.{boundary};
+ghost use Rattle.ds_pagemap.specs.Laws.{due};
+
+/// A boundary takes no time.
+#[tactic(auto, using(crate::proofs::Boundaries::boundary_time))]
+pub fn a_boundary_takes_no_time()
+    ensures { (m : State) → (boundary m).time ≡ m.time }
+{}
+
+/// No boundary is owed behind a boundary.
+#[tactic(auto, using(crate::proofs::Boundaries::boundary_owed))]
+pub fn a_boundary_is_done_once()
+    ensures { (m : State) → (boundary m).owed ≡ None }
+{}
+
+/// Where no command is due, a boundary changes no page and no entry.
+#[tactic(auto, using(crate::proofs::Boundaries::boundary_memory))]
+pub fn a_boundary_without_commands_leaves_the_pages()
+    ensures { (m : State) → due m ≡ [] → (boundary m).memory ≡ m.memory }
+{}

@@ -1,0 +1,28 @@
+//! A touch, on registers as code keeps them.
+ghost use Rattle.std.specs.Prelude.{◌≡◌};
+ghost use Rattle.ds_pagemap.specs.Machine.{Process, touched_process};
+
+/// Clears register 26 and puts the process's address into register 27, as the refill of a
+/// translation does. A load that is late has to be finished beside it.
+pub fn touch_registers(registers: &mut [u32; 32], pc: u32)
+    ensures { (q : Process) → q.registers.general ≡ registers.old → q.pc ≡ pc →
+        registers.new ≡ (touched_process q).registers.general }
+{
+    registers[26] = 0;
+    registers[27] = pc;
+}
+
+#[cfg(test)]
+mod tests {
+    use super::*;
+
+    #[test]
+    fn a_touch_changes_registers_26_and_27(rt: HostRuntime) {
+        let mut registers = [9u32; 32];
+        touch_registers(&mut registers, 0x0040_0010);
+        assert_eq!(rt; registers[25], 9);
+        assert_eq!(rt; registers[26], 0);
+        assert_eq!(rt; registers[27], 0x0040_0010);
+        assert_eq!(rt; registers[28], 9);
+    }
+}
