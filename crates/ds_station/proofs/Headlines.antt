@@ -1,0 +1,124 @@
+-- From a station's run to the text that is written.
+use Rattle.std.proofs.Common.{◌≡◌, ℕ, ◌≤◌, refl, sym, ◌∙◌, ap, subst, inl, inr, true, false, Bool, List, [], ◌∷◌, length, Option, Result, Ok, Err}
+use Rattle.std.specs.Prelude.{Some, OnOk, OnErr, IfErr, IfOk, None, is_some, ◌||◌, ◌&&◌, nat_lt, not, flat_map, slice_index_or}
+use Rattle.std.specs.Io.KnownBytes.{Appends, Keeps}
+use Rattle.ds_log.specs.Text.{line_text}
+use Rattle.ds_pagemap.specs.declared.turn.Turn.{Turn}
+use Rattle.ds_pagemap.specs.Machine.{State}
+use Rattle.ds_pagemap.specs.Run.{Reaches, Ends, IsPrefix, goes_on, is_over}
+use Rattle.ds_pagemap.specs.Text.{text_of}
+use Rattle.ds_pagemap.specs.Inputs.{Refusal}
+use Rattle.ds_station.specs.Held.{Held}
+use Rattle.ds_station.specs.Stands.{Stands}
+use Rattle.ds_station.specs.Report.{report_text}
+use Rattle.ds_station.specs.Sent.{AppendsPart}
+use Rattle.ds_station.specs.Sound.{RunsTo, RunsWithin}
+use Rattle.ds_station.specs.Headline.{held_text, Writes, WritesPrefix, WritesPart, Refuses, EndsBy, Begins, IsRefused}
+use Rattle.ds_station.specs.Faults.{IsNewFault, IsFaultAfter}
+use Rattle.ds_station.specs.declared.fault.Fault.{Fault}
+use Rattle.ds_station.specs.declared.fault.Fault.TheVariants as fault
+use Rattle.ds_station.proofs.Reports.{report_of_state}
+
+-- the text of what is held is that of each state that it stands for
+pub text_alike : (h : Held) (m : State) → Stands h m → held_text h ≡ text_of m
+text_alike h m k =
+    ap (λ (cs : List (List ℕ)). report_text cs h.outside.lines h.outside.log h.outside.time) (sym k.outside.consoles)
+    ∙ (ap (λ (n : ℕ). report_text m.consoles n h.outside.log h.outside.time) (sym k.outside.lines)
+    ∙ (ap (λ (l : List ℕ). report_text m.consoles (length m.log) l h.outside.time) (sym k.outside.log)
+    ∙ (ap (λ (t : ℕ). report_text m.consoles (length m.log) (flat_map line_text m.log) t) (sym k.outside.time)
+    ∙ report_of_state m)))
+
+-- the report of the four consoles, each read by itself
+pub report_of_consoles : (cs : List (List ℕ)) (a b d e : List ℕ) (lines lines' : ℕ) (log log' : List ℕ) (time time' : ℕ) → a ≡ slice_index_or cs 0 [] → b ≡ slice_index_or cs 1 [] → d ≡ slice_index_or cs 2 [] → e ≡ slice_index_or cs 3 [] → lines ≡ lines' → log ≡ log' → time ≡ time' → report_text (a ∷ b ∷ d ∷ e ∷ []) lines log time ≡ report_text cs lines' log' time'
+unfolding report_text
+report_of_consoles cs a b d e lines lines' log log' time time' p q r s t u v = rw (p, q, r, s, t, u, v) refl
+
+never_owed : (o : Option Turn) (rest : Bool) → (is_some o || rest) ≡ false → o ≡ None
+never_owed None rest e = refl
+never_owed (Some turn) rest e = absurd (cc)
+
+-- a run that has ended owes no boundary
+pub ended_whole : (n : ℕ) (m t : State) → Ends n m t → IsPrefix n m t
+ended_whole n m t e = record { reached = e.reached; whole = never_owed t.owed (nat_lt t.time n && not (is_over t)) e.over }
+
+module _ (old new : Option (List ℕ)) (n : ℕ) (first : State) (s t : Held) (begins : Stands s first) where
+  pub writes_whole : RunsTo n s t → Appends old new (held_text t) → Writes old new n first
+  writes_whole r a = let u = r.runs first begins in record { last = u.0; ends = u.1; written = subst (Appends old new) (text_alike t u.0 u.2) a }
+
+  pub writes_prefix : RunsWithin n s t → t.outside.owed ≡ None → Appends old new (held_text t) → WritesPrefix old new n first
+  writes_prefix r o a = let u = r.runs first begins in record { last = u.0; prefix = record { reached = u.1; whole = u.2.outside.owed ∙ o }; written = subst (Appends old new) (text_alike t u.0 u.2) a }
+
+  pub part_whole : RunsTo n s t → AppendsPart old new (held_text t) → WritesPart old new n first
+  part_whole r a = let u = r.runs first begins in record { last = u.0; prefix = ended_whole n first u.0 u.1; written = subst (AppendsPart old new) (text_alike t u.0 u.2) a }
+
+  pub part_prefix : RunsWithin n s t → t.outside.owed ≡ None → AppendsPart old new (held_text t) → WritesPart old new n first
+  part_prefix r o a = let u = r.runs first begins in record { last = u.0; prefix = record { reached = u.1; whole = u.2.outside.owed ∙ o }; written = subst (AppendsPart old new) (text_alike t u.0 u.2) a }
+
+  -- whatever the run answered
+  pub part_written : (ran : Result (Unit {0}) Fault) → OnOk ran (RunsTo n s t) → OnErr ran (RunsWithin n s t) → OnErr ran (t.outside.owed ≡ None) → AppendsPart old new (held_text t) → WritesPart old new n first
+  part_written (Ok x) r w o a = part_whole r a
+  part_written (Err f) r w o a = part_prefix w o a
+
+-- what a new fault of the run ends by
+pub fault_written : (f : Fault) (read : Result State Refusal) (old new : Option (List ℕ)) (n : ℕ) → IsNewFault f → Begins read (WritesPrefix old new n) → EndsBy f read old new n
+fault_written fault.Stuck read old new n i b = b
+fault_written fault.Memory read old new n i b = inr b
+fault_written fault.Failed read old new n i b = absurd i
+fault_written fault.BadRandom read old new n i b = absurd i
+fault_written (fault.Syntax name line) read old new n i b = absurd i
+fault_written (fault.TooLong name line) read old new n i b = absurd i
+fault_written fault.BadToml read old new n i b = absurd i
+fault_written (fault.BadRule rule) read old new n i b = absurd i
+fault_written (fault.Limit key) read old new n i b = absurd i
+fault_written (fault.InputFault line) read old new n i b = absurd i
+fault_written fault.WriteFault read old new n i b = absurd i
+fault_written (fault.NoSource name) read old new n i b = absurd i
+
+-- what refused inputs end by
+pub refused_unwritten : (f : Fault) (read : Result State Refusal) (old new : Option (List ℕ)) (n : ℕ) → Refuses f read → Keeps old new → EndsBy f read old new n
+refused_unwritten fault.Stuck read old new n i k = absurd i
+refused_unwritten fault.Memory read old new n i k = inl k
+refused_unwritten fault.Failed read old new n i k = absurd i
+refused_unwritten fault.BadRandom read old new n i k = (i, k)
+refused_unwritten (fault.Syntax name line) read old new n i k = (i, k)
+refused_unwritten (fault.TooLong name line) read old new n i k = (i, k)
+refused_unwritten fault.BadToml read old new n i k = (i, k)
+refused_unwritten (fault.BadRule rule) read old new n i k = (i, k)
+refused_unwritten (fault.Limit key) read old new n i k = (i, k)
+refused_unwritten (fault.InputFault line) read old new n i k = (i, k)
+refused_unwritten fault.WriteFault read old new n i k = absurd i
+refused_unwritten (fault.NoSource name) read old new n i k = (i, k)
+
+-- how a run that fell short ends
+pub ran_short : {T : Type 0} (r : Result T Fault) (failed : Bool) (n : ℕ) (s t : Held) (read : Result State Refusal) (old new : Option (List ℕ)) → failed ≡ false → IfErr r (IsFaultAfter failed) → OnErr r (RunsWithin n s t) → OnErr r (t.outside.owed ≡ None) → Begins read (Stands s) → Appends old new (held_text t) → IfErr r (λ f. EndsBy f read old new n)
+ran_short (Ok x) failed n s t read old new working faults within whole b a = tt
+ran_short (Err f) failed n s t read old new working faults within whole b a =
+    fault_written f read old new n (subst (λ (x : Bool). IsFaultAfter x f) working faults) (b.0, b.1, writes_prefix old new n b.0 s t b.2 within whole a)
+
+-- what was begun was not refused
+begun_not : (read : Result State Refusal) (P : State → Type 0) (r : Refusal) → Begins read P → read ≡ Err r → ⊥
+begun_not read P r b e = let no : Ok b.0 ≡ Err r = sym b.1 ∙ e in cc
+
+ends_refused : (f : Fault) (read : Result State Refusal) (old new : Option (List ℕ)) (n : ℕ) (r : Refusal) → read ≡ Err r → EndsBy f read old new n → Refuses f read × Keeps old new
+ends_refused fault.Stuck read old new n r e w = absurd (begun_not read _ r w e)
+ends_refused fault.Memory read old new n r e (inl k) = (tt, k)
+ends_refused fault.Memory read old new n r e (inr w) = absurd (begun_not read _ r w e)
+ends_refused fault.Failed read old new n r e w = absurd w
+ends_refused fault.WriteFault read old new n r e w = absurd (begun_not read _ r w e)
+ends_refused fault.BadRandom read old new n r e w = w
+ends_refused (fault.Syntax name line) read old new n r e w = w
+ends_refused (fault.TooLong name line) read old new n r e w = w
+ends_refused fault.BadToml read old new n r e w = w
+ends_refused (fault.BadRule number) read old new n r e w = w
+ends_refused (fault.Limit key) read old new n r e w = w
+ends_refused (fault.InputFault line) read old new n r e w = w
+ends_refused (fault.NoSource name) read old new n r e w = w
+
+-- an answer that is good for any inputs refuses those that are refused
+pub refused_only : {T : Type 0} (result : Result T Fault) (read : Result State Refusal) (old new : Option (List ℕ)) (n : ℕ) → OnOk result (Begins read (Writes old new n)) → IfErr result (λ f. EndsBy f read old new n) → (r : Refusal) → read ≡ Err r → IsRefused result r old new
+refused_only (Ok x) read old new n ok err r e = absurd (begun_not read (Writes old new n) r ok e)
+refused_only (Err f) read old new n ok err r e = let w = ends_refused f read old new n r e err in (subst (Refuses f) e w.0, w.1)
+
+pub keeps_same : (known : Option (List ℕ)) → Keeps known known
+keeps_same None = tt
+keeps_same (Some bytes) = refl

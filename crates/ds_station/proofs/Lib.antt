@@ -1,0 +1,17 @@
+pub mod Words
+pub mod Frames
+pub mod Lookups
+pub mod Meets
+pub mod Stages
+pub mod Refills
+pub mod Served
+pub mod Turns
+pub mod Counts
+pub mod Runs
+pub mod Headlines
+pub mod NamedTexts
+pub mod Preparing
+pub mod Images
+pub mod Reports
+pub mod Sends
+pub mod Firsts

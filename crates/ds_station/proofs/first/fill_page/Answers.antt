@@ -1,0 +1,7 @@
+use Rattle.std.proofs.Common.{◌≡◌, ◌∙◌, ap, sym, ℕ, replicate, Option}
+use Rattle.ds_policy.specs.declared.policy.Source.{Source}
+use Rattle.ds_pagemap.specs.First.{source_bytes}
+use Rattle.ds_station.proofs.first.fill_page.Goals as goal
+
+pub returns-in-None : goal.returns-in-None
+returns-in-None c = rw c.in-None.is (c.fill.ensures.after (λ y e. e) ∙ ap (λ (n : ℕ). replicate n 0) c.requires.whole)

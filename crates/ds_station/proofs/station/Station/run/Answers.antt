@@ -1,0 +1,31 @@
+use Rattle.std.proofs.Common.{refl, ap, subst, sym, ◌∙◌}
+use Rattle.ds_station.specs.Held.{Held}
+use Rattle.ds_station.specs.Stands.{IsSound}
+use Rattle.ds_station.proofs.Runs.{within_start, within_step, within_sound, within_stays, to_end, rank_falls, at_err, failed_same}
+use Rattle.ds_station.proofs.station.Station.run.Goals as goal
+
+pub loop-self-init : goal.loop-self-init
+loop-self-init g c = record {
+  within = within_start c.args.n c.args.self.now;
+  sound = subst IsSound c.self.view_is c.self.invariant.sound;
+  working = ap (λ (h : Held). h.own.failed) (sym c.self.view_is) ∙ c.if-self.false;
+}
+
+pub loop-self-smaller : goal.loop-self-smaller
+loop-self-smaller g c = rank_falls c.in_ok-step.field-0 c.args.n c.loop-self.self c.step.new.self (sym c.goes_on.ensures ∙ c.loop-self-test.true) c.loop-self.invariant.sound c.in_ok-step.ensures.ok c.in_ok-step.ensures.moves
+
+pub loop-self-preserved : goal.loop-self-preserved
+loop-self-preserved g c = record {
+  within = within_step c.in_ok-step.field-0 c.args.n c.args.self.now c.loop-self.self c.step.new.self c.loop-self.invariant.within (sym c.goes_on.ensures ∙ c.loop-self-test.true) c.in_ok-step.ensures.ok;
+  sound = c.step.ensures.sound;
+  working = failed_same c.in_ok-step.field-0 c.loop-self.self c.step.new.self c.in_ok-step.ensures.moves ∙ c.loop-self.invariant.working;
+}
+
+pub returns-in_err-step-clause-err : goal.returns-in_err-step-clause-err
+returns-in_err-step-clause-err g c = at_err c.from_residual.result (within_stays c.args.n c.args.self.now c.loop-self.self c.step.new.self c.loop-self.invariant.within c.in_err-step.ensures.err)
+
+pub returns-clause-ok : goal.returns-clause-ok
+returns-clause-ok g c = to_end c.args.n c.args.self.now c.loop-self.self c.loop-self.invariant.within (sym c.goes_on.ensures ∙ c.loop-self-test.false)
+
+pub returns-then-self-clause-err : goal.returns-then-self-clause-err
+returns-then-self-clause-err g c = within_start c.args.n c.args.self.now

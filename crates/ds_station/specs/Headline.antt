@@ -1,0 +1,84 @@
+-- What a run over files answers, and what it writes.
+use Rattle.std.specs.Prelude.{◌≡◌, ℕ, ◌⊎◌, List, map, Option, Result, Ok, Err, IsErrAnd}
+use Rattle.std.proofs.Common.{Bor}
+use Rattle.std.specs.Io.KnownBytes.{Appends, Keeps}
+use Rattle.ds_pagemap.specs.Machine.{State}
+use Rattle.ds_pagemap.specs.Run.{Ends, IsPrefix}
+use Rattle.ds_pagemap.specs.Text.{text_of}
+use Rattle.ds_pagemap.specs.Inputs.{Refusal, Sources}
+use Rattle.ds_pagemap.specs.Inputs as inputs
+use Rattle.ds_station.specs.Held.{Held}
+use Rattle.ds_station.specs.Stands.{Stands}
+use Rattle.ds_station.specs.Report.{report_text}
+use Rattle.ds_station.specs.Sent.{AppendsPart}
+use Rattle.ds_station.specs.declared.fault.Fault.{Fault}
+use Rattle.ds_station.specs.declared.fault.Fault.TheVariants as fault
+
+-- each source's name and text
+abbrev pub sources_seen : List (Bor (List ℕ) × Bor (List ℕ)) → Sources
+sources_seen sources = map (λ s. (s.0.now, s.1.now)) sources
+
+-- the text of what a station holds
+abbrev pub held_text : Held → List ℕ
+held_text h = report_text h.outside.consoles h.outside.lines h.outside.log h.outside.time
+
+-- a run for n from the first state has ended, and its text is written
+pub record Writes (old new : Option (List ℕ)) (n : ℕ) (first : State) : Type 0 where
+  pub last : State
+  pub ends : Ends n first last
+  pub written : Appends old new (text_of last)
+
+-- a run was cut short between two turns, and the text so far is written
+pub record WritesPrefix (old new : Option (List ℕ)) (n : ℕ) (first : State) : Type 0 where
+  pub last : State
+  pub prefix : IsPrefix n first last
+  pub written : Appends old new (text_of last)
+
+-- of the text of a run that has ended or was cut short a front is written
+pub record WritesPart (old new : Option (List ℕ)) (n : ℕ) (first : State) : Type 0 where
+  pub last : State
+  pub prefix : IsPrefix n first last
+  pub written : AppendsPart old new (text_of last)
+
+-- the fault is what refuses the inputs; want of memory refuses any
+abbrev pub Refuses : {Y : Type 0} → Fault → Result Y Refusal → Type 0
+Refuses fault.BadToml read = read ≡ Err inputs.BadToml
+Refuses (fault.Limit key) read = read ≡ Err (inputs.Limit key.now)
+Refuses (fault.BadRule number) read = read ≡ Err (inputs.BadRule number)
+Refuses (fault.NoSource name) read = read ≡ Err (inputs.NoSource name)
+Refuses (fault.Syntax name line) read = read ≡ Err (inputs.Syntax name line)
+Refuses (fault.TooLong name line) read = read ≡ Err (inputs.TooLong name line)
+Refuses (fault.InputFault line) read = read ≡ Err (inputs.InputFault line)
+Refuses fault.BadRandom read = read ≡ Err inputs.BadRandom
+Refuses fault.Memory read = Unit {0}
+Refuses fault.Stuck read = ⊥
+Refuses fault.Failed read = ⊥
+Refuses fault.WriteFault read = ⊥
+
+-- what was returned, seen by view, is what was read, or why nothing was
+abbrev pub Reads : {X Y : Type 0} → (X → Y) → Result X Fault → Result Y Refusal → Type 0
+Reads seen (Ok x) read = read ≡ Ok (seen x)
+Reads seen (Err f) read = Refuses f read
+
+-- a run was begun from the first state of these inputs, and this much of it was written
+abbrev pub Begins : Result State Refusal → (State → Type 0) → Type 0
+Begins read P = (first : State) × (read ≡ Ok first) × P first
+
+-- when each fault comes, and what is written then
+abbrev pub EndsBy : Fault → Result State Refusal → Option (List ℕ) → Option (List ℕ) → ℕ → Type 0
+EndsBy fault.BadToml read old new n = (read ≡ Err inputs.BadToml) × Keeps old new
+EndsBy (fault.Limit key) read old new n = (read ≡ Err (inputs.Limit key.now)) × Keeps old new
+EndsBy (fault.BadRule number) read old new n = (read ≡ Err (inputs.BadRule number)) × Keeps old new
+EndsBy (fault.NoSource name) read old new n = (read ≡ Err (inputs.NoSource name)) × Keeps old new
+EndsBy (fault.Syntax name line) read old new n = (read ≡ Err (inputs.Syntax name line)) × Keeps old new
+EndsBy (fault.TooLong name line) read old new n = (read ≡ Err (inputs.TooLong name line)) × Keeps old new
+EndsBy (fault.InputFault line) read old new n = (read ≡ Err (inputs.InputFault line)) × Keeps old new
+EndsBy fault.BadRandom read old new n = (read ≡ Err inputs.BadRandom) × Keeps old new
+EndsBy fault.Memory read old new n = Keeps old new ⊎ Begins read (WritesPrefix old new n)
+EndsBy fault.Stuck read old new n = Begins read (WritesPrefix old new n)
+EndsBy fault.WriteFault read old new n = Begins read (WritesPart old new n)
+EndsBy fault.Failed read old new n = ⊥
+
+-- inputs that are refused are refused by that, or for want of memory, and nothing is written
+abbrev pub IsRefused : {T : Type 0} → Result T Fault → Refusal → Option (List ℕ) → Option (List ℕ) → Type 0
+IsRefused result refusal old new = let read : Result State Refusal = Err refusal in IsErrAnd result (λ f. Refuses f read) × Keeps old new

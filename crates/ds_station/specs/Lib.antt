@@ -1,0 +1,16 @@
+pub mod Memory
+pub mod Frames
+pub mod Processor
+pub mod Consoles
+pub mod Held
+pub mod Stands
+pub mod Parts
+pub mod Services
+pub mod Steps
+pub mod Sound
+pub mod Sent
+pub mod Report
+pub mod Assembling
+pub mod Faults
+pub mod Headline
+pub mod Start

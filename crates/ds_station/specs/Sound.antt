@@ -1,0 +1,18 @@
+-- What a run of the station does to the machine states that it stands for.
+use Rattle.std.specs.Prelude.{◌≡◌, ℕ, Bool, ◌||◌, ◌&&◌, nat_lt, not, is_some, None}
+use Rattle.ds_pagemap.specs.Machine.{State, has_ended}
+use Rattle.ds_pagemap.specs.Run.{Reaches, Ends}
+use Rattle.ds_station.specs.Held.{Held}
+use Rattle.ds_station.specs.Stands.{Stands}
+
+-- whatever state was held, a run for n from it ends in the state held now
+pub record RunsTo (n : ℕ) (old new : Held) : Type 0 where
+  pub runs : (m : State) → Stands old m → (t : State) × Ends n m t × Stands new t
+
+-- or has come to it
+pub record RunsWithin (n : ℕ) (old new : Held) : Type 0 where
+  pub runs : (m : State) → Stands old m → (t : State) × Reaches n m t × Stands new t
+
+-- a run for n ticks goes on
+abbrev pub held_goes_on : ℕ → Held → Bool
+held_goes_on n h = is_some h.outside.owed || (nat_lt h.outside.time n && not (has_ended h.outside.process.state))

@@ -1,0 +1,153 @@
+//! A run from texts to a text.
+ghost use Rattle.std.specs.Prelude.{◌≡◌, ℕ, ◌≤◌, List, map, length, Option, OnOk, OnErr, IfErr, IfOk, option_map, [], false};
+ghost use Rattle.std.specs.Io.KnownBytes.{Appends};
+ghost use Rattle.ds_policy.specs.PolicyParts.{sources_of};
+ghost use Rattle.ds_pagemap.specs.Inputs.{Refusal, inputs, text_named, image_read, images_from};
+ghost use Rattle.ds_station.specs.Headline.{Writes, Begins, Reads, Refuses, EndsBy, IsRefused, held_text, sources_seen};
+ghost use Rattle.ds_station.specs.Sent.{AppendsPart};
+ghost use Rattle.ds_station.specs.Stands.{Stands};
+
+use crate::assembler::assemble;
+use crate::fault::Fault;
+use crate::image::Image;
+use crate::report::send_report;
+use crate::station::Station;
+use crate::writes::WriteFailed;
+use ds_policy::{Events, Policy, Text};
+use ds_tlb::{Lookaside, Tlb};
+use std::alloc::Global;
+use std::io::Write;
+
+/// The most ticks of a run.
+const MOST_TICKS: u64 = 1_000_000_000;
+
+/// The text of a source; of two of one name the first counts.
+fn text_named<'a>(sources: &[(&str, &'a [u8])], name: &str) -> Option<&'a [u8]>
+    ensures { option_map (λ t. t.now) result ≡ text_named (sources_seen sources.now) name.now }
+{
+    for (source, text) in sources {
+        if *source == name {
+            return Some(text);
+        }
+    }
+    None
+}
+
+/// The image of the source of this name.
+fn image_of(alloc: Global, sources: &[(&str, &[u8])], name: &Text<64>) -> Result<Image, Fault>
+    ensures { Reads (λ image. image) result (image_read name.now (text_named (sources_seen sources.now) name.now)) }
+{
+    let Some(text) = text_named(sources, name.as_str()) else {
+        return Err(Fault::NoSource(Text::of(name.as_str())));
+    };
+    match assemble(alloc, text) {
+        Ok(image) => Ok(image),
+        Err(fault) => Err(Fault::in_source(name, fault)),
+    }
+}
+
+/// The images of the sources of these names, in order.
+fn images_of(
+    alloc: Global,
+    names: &[Text<64>],
+    sources: &[(&str, &[u8])],
+) -> Result<Vec<Image>, Fault>
+    ensures images { Reads (λ images. images.items) result (images_from (sources_seen sources.now) [] names.now) }
+    ensures size { IfOk result (λ images. length images.items ≡ length names.now) }
+{
+    let mut images = Vec::new(alloc);
+    for name in names {
+        match image_of(alloc, sources, name) {
+            Ok(image) => images.push(image)?,
+            Err(fault) => return Err(fault),
+        }
+    }
+    Ok(images)
+}
+
+/// A station at the beginning of the run that the texts ask for.
+fn prepare(
+    alloc: Global,
+    policy: &[u8],
+    sources: &[(&str, &[u8])],
+    input: &[u8],
+    n: u64,
+    random: u8,
+) -> Result<Station<Tlb<64, 8>>, Fault>
+    ensures ok { IfOk result (λ s. Begins (inputs policy.now (sources_seen sources.now) input.now n random) (Stands s)) }
+    ensures working { IfOk result (λ s. s.own.failed ≡ false) }
+    ensures few { OnOk result (n ≤ 1000000000) }
+    ensures err { IfErr result (λ f. Refuses f (inputs policy.now (sources_seen sources.now) input.now n random)) }
+{
+    let policy = match Policy::read(alloc, policy) {
+        Ok(policy) => policy,
+        Err(fault) => return Err(Fault::from(fault)),
+    };
+    let images = match images_of(alloc, policy.sources(), sources) {
+        Ok(images) => images,
+        Err(refused) => return Err(refused),
+    };
+    let events = match Events::read(alloc, input, &policy) {
+        Ok(events) => events,
+        Err(wrong) => return Err(Fault::from(wrong)),
+    };
+    if n > MOST_TICKS {
+        return Err(Fault::Limit("n"));
+    }
+    match Station::<Tlb<64, 8>>::new(alloc, &policy, &images, events, random as usize) {
+        Ok(station) => Ok(station),
+        Err(refused) => Err(refused),
+    }
+}
+
+/// The text of a station's state goes to the writer.
+fn deliver<L: Lookaside, W: Write>(station: &Station<L>, out: &mut W) -> Result<(), WriteFailed>
+    ensures ok { OnOk result (Appends (W.contents out.old) (W.contents out.new) (held_text station.now)) }
+    ensures err { OnErr result (AppendsPart (W.contents out.old) (W.contents out.new) (held_text station.now)) }
+{
+    let consoles = [
+        station.console(0),
+        station.console(1),
+        station.console(2),
+        station.console(3),
+    ];
+    send_report(
+        &consoles,
+        station.log_lines(),
+        station.log(),
+        station.time(),
+        out,
+    )
+}
+
+/// Runs the processes of a policy from its text, the texts of its sources by their names, and an
+/// input's text, for `n` ticks and from a start of Random, and writes the consoles, the log and the
+/// time.
+///
+/// Inputs that are refused are refused in this order, and nothing is written: the policy, each source
+/// by the order of its name, the input, `n` above 1,000,000,000, `random` below 8 or above 63. A run
+/// that is cut short, for want of memory, writes its text so far and answers that fault. A write that
+/// fails, or takes nothing, is `WriteFault`, before any fault of the run.
+pub fn run_files<W: Write>(
+    alloc: Global,
+    policy: &[u8],
+    sources: &[(&str, &[u8])],
+    input: &[u8],
+    n: u64,
+    random: u8,
+    out: &mut W,
+) -> Result<(), Fault>
+    ensures ok { OnOk result (Begins (inputs policy.now (sources_seen sources.now) input.now n random) (Writes (W.contents out.old) (W.contents out.new) n)) }
+    ensures err { IfErr result (λ f. EndsBy f (inputs policy.now (sources_seen sources.now) input.now n random) (W.contents out.old) (W.contents out.new) n) }
+    ensures refused { (refusal : Refusal) → inputs policy.now (sources_seen sources.now) input.now n random ≡ Err refusal → IsRefused result refusal (W.contents out.old) (W.contents out.new) }
+{
+    let mut station = match prepare(alloc, policy, sources, input, n, random) {
+        Ok(station) => station,
+        Err(refused) => return Err(refused),
+    };
+    let ran = station.run(n);
+    match deliver(&station, out) {
+        Ok(()) => ran,
+        Err(_) => Err(Fault::WriteFault),
+    }
+}

@@ -1,0 +1,71 @@
+//! The text that is written of a state, in pieces: no memory is taken for it.
+ghost use Rattle.std.specs.Prelude.{OnOk, OnErr, map, ◌≡◌, length};
+ghost use Rattle.std.specs.Io.KnownBytes.{Appends};
+ghost use Rattle.ds_station.specs.Sent.{AppendsPart};
+ghost use Rattle.ds_station.specs.Report.{console_text, log_text, report_text};
+
+use crate::writes::{WriteFailed, send_all};
+use itoa::Buffer;
+use std::io::Write;
+
+/// Hands a console's number, the count of its bytes and the bytes to the writer.
+#[tactic(auto, unfolding(crate::specs::Report::console_text))]
+fn send_console<W: Write>(number: u32, bytes: &[u8], out: &mut W) -> Result<(), WriteFailed>
+    ensures ok { OnOk result (Appends (W.contents out.old) (W.contents out.new) (console_text number bytes.now)) }
+    ensures err { OnErr result (AppendsPart (W.contents out.old) (W.contents out.new) (console_text number bytes.now)) }
+{
+    let mut numbers = Buffer::new();
+    let mut counts = Buffer::new();
+    let pieces = [
+        b"console ".as_slice(),
+        numbers.format(number).as_bytes(),
+        b" ".as_slice(),
+        counts.format(bytes.len()).as_bytes(),
+        b"\n".as_slice(),
+        bytes,
+        b"\n".as_slice(),
+    ];
+    send_all(out, &pieces)
+}
+
+/// Hands the count of the log's lines, the lines, and the time to the writer.
+#[tactic(auto, unfolding(crate::specs::Report::log_text))]
+fn send_log<W: Write>(lines: u64, log: &[u8], time: u64, out: &mut W) -> Result<(), WriteFailed>
+    ensures ok { OnOk result (Appends (W.contents out.old) (W.contents out.new) (log_text lines log.now time)) }
+    ensures err { OnErr result (AppendsPart (W.contents out.old) (W.contents out.new) (log_text lines log.now time)) }
+{
+    let mut counts = Buffer::new();
+    let mut times = Buffer::new();
+    let pieces = [
+        b"log ".as_slice(),
+        counts.format(lines).as_bytes(),
+        b"\n".as_slice(),
+        log,
+        b"time ".as_slice(),
+        times.format(time).as_bytes(),
+        b"\n".as_slice(),
+    ];
+    send_all(out, &pieces)
+}
+
+/// Hands the text of a state to the writer: the consoles of the four lines, the log with the count
+/// of its lines, and the time. After a failure the writer has taken a front of that text.
+pub fn send_report<W: Write>(
+    consoles: &[&[u8]; 4],
+    lines: u64,
+    log: &[u8],
+    time: u64,
+    out: &mut W,
+) -> Result<(), WriteFailed>
+    ensures ok { OnOk result (Appends (W.contents out.old) (W.contents out.new) (report_text (map (λ c. c.now) consoles.now) lines log.now time)) }
+    ensures err { OnErr result (AppendsPart (W.contents out.old) (W.contents out.new) (report_text (map (λ c. c.now) consoles.now) lines log.now time)) }
+{
+    send_console(0, consoles[0], out)?;
+    send_console(1, consoles[1], out)?;
+    send_console(2, consoles[2], out)?;
+    send_console(3, consoles[3], out)?;
+    send_log(lines, log, time, out)
+}
+
+#[cfg(test)]
+mod tests;

@@ -1,0 +1,5 @@
+//! The monitor's services: what it does where the processor left the program.
+
+mod call;
+mod denial;
+mod miss;

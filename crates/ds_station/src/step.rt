@@ -1,0 +1,109 @@
+//! One step of a station.
+ghost use Rattle.std.specs.Prelude.{◌≡◌, ◌≢◌, ◌<◌, IfOk, IfErr, OnOk, OnErr, IsErrOf, None, IsSome, true, false};
+ghost use Rattle.ds_procs.specs.declared.process.Standing.TheVariants.{Ready, Parked};
+ghost use Rattle.ds_station.specs.Parts.{held, IsGood, IsBusy, IsOrderly};
+ghost use Rattle.ds_station.specs.Services as services;
+ghost use Rattle.ds_station.specs.Steps.{Follows, Stays, Moves, Counted};
+ghost use Rattle.ds_station.specs.Faults.{IsNewFault, IsFaultAfter};
+
+use crate::fault::Fault;
+use crate::parts::{Parts, Step};
+use crate::processor::Cause;
+use ds_log::Denied;
+use ds_policy::Rule;
+use ds_procs::Standing;
+use ds_tlb::Lookaside;
+
+impl<L: Lookaside> Parts<L> {
+    /// The boundary that is owed.
+    fn boundary(&mut self) -> Step
+        requires good { IsGood L.entries L.random_place self.old }
+        requires owed { IsSome self.old.owed }
+        ensures follows { Follows result (held L.entries L.random_place self.old) (held L.entries L.random_place self.new) }
+        ensures moves { Moves result (held L.entries L.random_place self.old) (held L.entries L.random_place self.new) }
+        ensures good { IsGood L.entries L.random_place self.new }
+    {
+        self.owed = None;
+        Step::Boundary
+    }
+
+    /// A turn in which the process does not run, with its boundary.
+    fn idle(&mut self) -> Result<Step, Fault>
+        requires good { IsGood L.entries L.random_place self.old }
+        requires owed { self.old.owed ≡ None }
+        requires rest { self.old.process.state ≢ Standing.Ready }
+        requires early { self.old.time < 1000000000 }
+        ensures ok { IfOk result (λ step. Follows step (held L.entries L.random_place self.old) (held L.entries L.random_place self.new)) }
+        ensures moves { IfOk result (λ step. Moves step (held L.entries L.random_place self.old) (held L.entries L.random_place self.new)) }
+        ensures good { IsGood L.entries L.random_place self.new }
+        ensures err { OnErr result (held L.entries L.random_place self.new ≡ services.failed (held L.entries L.random_place self.old)) }
+        ensures faults { IfErr result IsNewFault }
+    {
+        if !self.reserve() {
+            self.failed = true;
+            return Err(Fault::Memory);
+        }
+        self.time += 1;
+        Ok(Step::Boundary)
+    }
+
+    /// The exception that waits.
+    fn serve(&mut self) -> Step
+        requires busy { IsBusy L.entries L.random_place self.old }
+        requires ready { self.old.process.state ≡ Standing.Ready }
+        requires kernel { self.old.core.kernel ≡ true }
+        ensures follows { Follows result (held L.entries L.random_place self.old) (held L.entries L.random_place self.new) }
+        ensures moves { Moves result (held L.entries L.random_place self.old) (held L.entries L.random_place self.new) }
+        ensures good { IsGood L.entries L.random_place self.new }
+    {
+        match self.core.cause {
+            Cause::Access { access } => self.miss(access),
+            Cause::Fault { code } => self.deny(Denied::Exec, self.core.epc, Rule::I, code as u32),
+            Cause::Call => self.call(),
+        }
+    }
+
+    /// One instruction of the process.
+    fn attempt(&mut self) -> Step
+        requires busy { IsBusy L.entries L.random_place self.old }
+        requires ready { self.old.process.state ≡ Standing.Ready }
+        requires user { self.old.core.kernel ≡ false }
+        ensures follows { Follows result (held L.entries L.random_place self.old) (held L.entries L.random_place self.new) }
+        ensures counted { Counted result (held L.entries L.random_place self.old) (held L.entries L.random_place self.new) }
+        ensures good { IsGood L.entries L.random_place self.new }
+    {
+        self.execute()
+    }
+
+    /// One instruction, one service, an idle turn with its boundary, or a boundary.
+    pub fn step(&mut self) -> Result<Step, Fault>
+        requires good { IsGood L.entries L.random_place self.old }
+        requires early { self.old.owed ≡ None → self.old.time < 1000000000 }
+        ensures good { IsGood L.entries L.random_place self.new }
+        ensures ok { IfOk result (λ step. Follows step (held L.entries L.random_place self.old) (held L.entries L.random_place self.new)) }
+        ensures moves { IfOk result (λ step. Moves step (held L.entries L.random_place self.old) (held L.entries L.random_place self.new)) }
+        ensures err { OnErr result (Stays (held L.entries L.random_place self.old) (held L.entries L.random_place self.new)) }
+        ensures faults { IfErr result (IsFaultAfter self.old.failed) }
+        ensures whole { OnErr result (self.new.owed ≡ None) }
+        ensures failed { OnErr result (self.new.failed ≡ true) }
+        ensures again { self.old.failed ≡ true → IsErrOf result Fault.Failed × (self.new ≡ self.old) }
+    {
+        if self.failed {
+            return Err(Fault::Failed);
+        }
+        if self.owed.is_some() {
+            return Ok(self.boundary());
+        }
+        match self.process.state {
+            Standing::Ended => Ok(Step::Over),
+            Standing::Waiting | Standing::Parked => self.idle(),
+            Standing::Ready => {
+                if self.core.kernel {
+                    return Ok(self.serve());
+                }
+                self.begin()?;
+                Ok(self.attempt())
+            }
+        }
+    }
+}

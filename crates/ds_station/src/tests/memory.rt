@@ -1,0 +1,122 @@
+//! Want of memory. These tests pass whichever growth is refused: `rt try --test --fail-alloc N`.
+ghost use Rattle.std.specs.Prelude.{◌≤◌};
+
+use super::*;
+use crate::{Fault, Station, Step, assemble};
+use ds_policy::{Events, Policy};
+use ds_tlb::Tlb;
+use std::io;
+use std::io::Write;
+
+/// A writer that takes no memory.
+#[derive(Drop)]
+struct Held {
+    bytes: [u8; 80],
+    used: usize,
+    ghost fits: { used ≤ 80 },
+}
+
+impl Write for Held {
+    fn write(&mut self, buf: &[u8]) -> io::Result<usize> {
+        let count = buf.len().min(80 - self.used);
+        self.bytes[self.used..self.used + count].copy_from_slice(&buf[..count]);
+        self.used += count;
+        Ok(count)
+    }
+
+    fn flush(&mut self) -> io::Result<()> {
+        Ok(())
+    }
+}
+
+/// The policy's text, if there is memory for it.
+fn policy_text(alloc: Global) -> Option<String> {
+    let mut text = String::new(alloc);
+    for piece in POLICY {
+        text.push_str(piece).ok()?;
+    }
+    Some(text)
+}
+
+/// The station of the run that puts one byte, if there is memory for it.
+fn one_byte(alloc: Global) -> Option<Station<Tlb<64, 8>>> {
+    let text = policy_text(alloc)?;
+    let policy = Policy::read(alloc, text.as_bytes()).ok()?;
+    let mut images = Vec::new(alloc);
+    images.push(assemble(alloc, PUT_A.as_bytes()).ok()?).ok()?;
+    let events = Events::read(alloc, b"", &policy).ok()?;
+    if images.len() != policy.sources().len() {
+        return None;
+    }
+    Station::new(alloc, &policy, &images, events, 63).ok()
+}
+
+/// The texts after each turn of the run that puts one byte.
+const FRONTS: [&[u8]; 6] = [
+    b"console 0 0\n\nconsole 1 0\n\nconsole 2 0\n\nconsole 3 0\n\nlog 0\ntime 0\n",
+    b"console 0 0\n\nconsole 1 0\n\nconsole 2 0\n\nconsole 3 0\n\nlog 0\ntime 1\n",
+    b"console 0 0\n\nconsole 1 0\n\nconsole 2 0\n\nconsole 3 0\n\nlog 0\ntime 2\n",
+    b"console 0 1\nA\nconsole 1 0\n\nconsole 2 0\n\nconsole 3 0\n\nlog 0\ntime 3\n",
+    b"console 0 1\nA\nconsole 1 0\n\nconsole 2 0\n\nconsole 3 0\n\nlog 0\ntime 4\n",
+    b"console 0 1\nA\nconsole 1 0\n\nconsole 2 0\n\nconsole 3 0\n\nlog 0\ntime 5\n",
+];
+
+#[test]
+fn for_want_of_memory_nothing_is_written_or_the_text_of_the_first_turns(rt: HostRuntime) {
+    let Some(policy) = policy_text(rt.alloc()) else {
+        return;
+    };
+    let sources = [("one.s", PUT_A.as_bytes())];
+    let mut out = Held {
+        bytes: [0; 80],
+        used: 0,
+    };
+    let ran = run_files(
+        rt.alloc(),
+        policy.as_bytes(),
+        &sources,
+        b"",
+        100,
+        63,
+        &mut out,
+    );
+    let written = &out.bytes[..out.used];
+    match ran {
+        Ok(()) => assert_eq!(rt; written, FRONTS[5]),
+        Err(fault) => {
+            assert_eq!(rt; fault.number(), 25);
+            assert!(rt; written.is_empty() || FRONTS.iter().any(|front| *front == written));
+        }
+    }
+}
+
+/// A station that has failed answers that, and stays as it is.
+fn stays_failed(rt: &impl Abort, station: &mut Station<Tlb<64, 8>>) {
+    let (time, spent) = (station.time(), station.spent());
+    let put = station.console(0).len();
+    assert!(rt; time < 1_000_000_000);
+    assert!(rt; matches!(station.step(), Err(Fault::Failed)));
+    assert!(rt; matches!(station.run(100), Err(Fault::Failed)));
+    assert_eq!(rt; (station.time(), station.spent()), (time, spent));
+    assert_eq!(rt; station.console(0).len(), put);
+    assert!(rt; station.log().is_empty());
+}
+
+#[test]
+fn after_want_of_memory_a_station_answers_failed_and_stays(rt: HostRuntime) {
+    let Some(mut station) = one_byte(rt.alloc()) else {
+        return;
+    };
+    for _ in 0..100 {
+        assert!(rt; station.time() < 1_000_000_000);
+        match station.step() {
+            Ok(Step::Over) => return,
+            Ok(_) => {}
+            Err(fault) => {
+                assert_eq!(rt; fault.number(), 25);
+                stays_failed(&rt, &mut station);
+                return;
+            }
+        }
+    }
+}

@@ -1,0 +1,82 @@
+//! Turns: how one begins, an instruction of it, an idle turn, and the boundary behind it.
+ghost use Rattle.std.specs.Prelude.{◌≡◌, ◌+◌, ◌<◌, ◌≤◌, OnOk, OnErr, IfErr, None, IsSome, true, false};
+ghost use Rattle.ds_procs.specs.declared.process.Standing.TheVariants.{Ready};
+ghost use Rattle.ds_station.specs.Parts.{held, HasRoom};
+ghost use Rattle.ds_station.specs.Processor.{process_step, Stepped};
+ghost use Rattle.ds_station.specs.Services as services;
+ghost use Rattle.ds_station.specs.Faults.{IsNewFault};
+
+use crate::fault::Fault;
+use crate::parts::{Parts, Step};
+use crate::processor::Event;
+use ds_pagemap::Turn;
+use ds_tlb::Lookaside;
+
+/// The most machine instructions of one unit.
+pub const MOST_SPENT: u32 = 64;
+
+/// The room in bytes that one line of the log needs at most.
+pub const LINE_ROOM: usize = 64;
+
+impl<L: Lookaside> Parts<L> {
+    /// Makes room for what one unit may write, if it can.
+    pub fn reserve(&mut self) -> bool
+        ensures room { result ≡ true → HasRoom self.new }
+        ensures held { held L.entries L.random_place self.new ≡ held L.entries L.random_place self.old }
+    {
+        self.consoles.reserve() && self.log.reserve(LINE_ROOM).is_ok()
+    }
+
+    /// Counts the instruction that comes next; where it begins a unit, makes room for the unit.
+    pub fn begin(&mut self) -> Result<(), Fault>
+        requires spent { self.old.spent ≤ 64 }
+        requires room { 0 < self.old.spent → HasRoom self.old }
+        ensures ok { OnOk result (held L.entries L.random_place self.new ≡ services.begun L.SLOTS L.WIRED (held L.entries L.random_place self.old)) }
+        ensures room { OnOk result (HasRoom self.new) }
+        ensures count { OnOk result (self.new.spent ≤ 64) }
+        ensures err { OnErr result (held L.entries L.random_place self.new ≡ services.failed (held L.entries L.random_place self.old)) }
+        ensures kept { OnErr result (0 < self.old.spent → HasRoom self.new) }
+        ensures faults { IfErr result IsNewFault }
+    {
+        if self.spent >= MOST_SPENT {
+            self.failed = true;
+            return Err(Fault::Stuck);
+        }
+        if self.spent == 0 && !self.reserve() {
+            self.failed = true;
+            return Err(Fault::Memory);
+        }
+        self.spent += 1;
+        self.core.tlb.tick();
+        Ok(())
+    }
+
+    /// A turn of the running process is over.
+    pub fn end_unit(&mut self) -> Step
+        requires { self.old.time < 1000000000 }
+        ensures step { result ≡ Step.Unit }
+        ensures held { held L.entries L.random_place self.new ≡ record (held L.entries L.random_place self.old) { outside = services.over (held L.entries L.random_place self.old).outside (Some 1); own = services.unspent (held L.entries L.random_place self.old).own } }
+        ensures rest { self.new ≡ record self.old { time = self.new.time; owed = self.new.owed; spent = self.new.spent } }
+    {
+        self.owed = Some(Turn {
+            began: self.time,
+            runner: Some(1),
+        });
+        self.time += 1;
+        self.spent = 0;
+        Step::Unit
+    }
+
+    /// One instruction of the process.
+    pub fn execute(&mut self) -> Step
+        requires early { self.old.time < 1000000000 }
+        requires room { HasRoom self.old }
+        ensures room { 0 < self.new.spent → HasRoom self.new }
+        ensures held { (s : Stepped) → s ≡ process_step (held L.entries L.random_place self.old).cpu self.old.memory.items → (held L.entries L.random_place self.new ≡ services.after_event s.event (held L.entries L.random_place self.old) s) × (result ≡ services.step_of s.event) }
+    {
+        match self.core.step(&mut self.memory) {
+            Event::Retired => self.end_unit(),
+            Event::Raised => Step::Inside,
+        }
+    }
+}
