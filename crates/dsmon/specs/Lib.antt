@@ -1,0 +1,3 @@
+pub mod Demo
+pub mod Statuses
+pub mod Words

@@ -1,0 +1,71 @@
+//! Where the program's files come from.
+ghost use Rattle.std.specs.Prelude.{◌≡◌, ◌≢◌, ◌<◌, ◌≤◌, Ok, Err, IfErr, IfOk, vec_len};
+ghost use Rattle.std.specs.IoError.{error_kind};
+
+use std::alloc::Global;
+use std::fs::File;
+use std::io::{ErrorKind, Read};
+use std::{io, rt};
+
+/// The most bytes that a file may have.
+pub const MOST_BYTES: u64 = 16_777_216;
+
+/// Why a file was not read.
+#[derive(Clone, Copy, Debug, PartialEq, Eq)]
+pub enum FileFault {
+    /// The file can't be read, or has more than `MOST_BYTES` bytes.
+    Unreadable,
+    /// Memory ran out.
+    Memory,
+}
+
+/// A place that files come from.
+pub trait Files {
+    /// The bytes of the file of this name.
+    fn read(&mut self, alloc: Global, name: &str) -> Result<Vec<u8>, FileFault>
+        ensures limit { IfOk result (λ bytes. vec_len bytes ≤ 16777216) };
+}
+
+/// The files of the system.
+#[derive(Drop)]
+pub struct SystemFiles<'a, R> {
+    rt: &'a R,
+}
+
+impl<'a, R: rt::Files> SystemFiles<'a, R> {
+    /// The files that the runtime reaches.
+    pub fn new(rt: &'a R) -> Self {
+        SystemFiles { rt }
+    }
+
+    // One byte more than a file may have, if there are so many.
+    fn bytes(&self, alloc: Global, name: &str) -> io::Result<Vec<u8>> {
+        let file = File::open(self.rt, name)?;
+        let mut bytes = Vec::new(alloc);
+        file.take(MOST_BYTES + 1).read_to_end(&mut bytes)?;
+        Ok(bytes)
+    }
+}
+
+impl<'a, R: rt::Files> Files for SystemFiles<'a, R> {
+    fn read(&mut self, alloc: Global, name: &str) -> Result<Vec<u8>, FileFault> {
+        accept(self.bytes(alloc, name))
+    }
+}
+
+// The bytes of a file that was read, if they are not too many.
+fn accept(outcome: io::Result<Vec<u8>>) -> Result<Vec<u8>, FileFault>
+    ensures whole { IfOk outcome (λ bytes. vec_len bytes ≤ 16777216 → result ≡ Ok bytes) }
+    ensures long { IfOk outcome (λ bytes. 16777216 < vec_len bytes
+        → result ≡ Err FileFault.Unreadable) }
+    ensures memory { IfErr outcome (λ error. error_kind error ≡ ErrorKind.OutOfMemory
+        → result ≡ Err FileFault.Memory) }
+    ensures unreadable { IfErr outcome (λ error. error_kind error ≢ ErrorKind.OutOfMemory
+        → result ≡ Err FileFault.Unreadable) }
+{
+    match outcome {
+        Ok(bytes) if bytes.len() as u64 <= MOST_BYTES => Ok(bytes),
+        Err(error) if error.kind() == ErrorKind::OutOfMemory => Err(FileFault::Memory),
+        _ => Err(FileFault::Unreadable),
+    }
+}
