@@ -1,5 +1,5 @@
 -- One rule more in the table that a policy begins with.
-use Rattle.std.proofs.Common.{◌≡◌, ◌≢◌, ◌∙◌, sym, subst, ap, refl, ℕ, ◌+◌, ◌-◌, ◌<◌, ◌≤◌, ◌==◌, Bool, true, false, cond, List, [], ◌∷◌, length, ◌++◌, append-nil, take, drop, get_or, set, arith, inl, inr, length-set, get_or-set_same, get_or-set_other, count_by, replicate}
+use Rattle.std.proofs.Common.{◌≡◌, ◌≢◌, sym, subst, ap, ℕ, ◌+◌, ◌-◌, ◌<◌, ◌≤◌, ◌==◌, true, cond, List, [], ◌∷◌, length, ◌++◌, append-nil, take, drop, get_or, arith, inl, inr, length-set, get_or-set_same, get_or-set_other, count_by, replicate}
 use Rattle.std.proofs.lemmas.Bool.{cases_Bool, cases_lt}
 use Rattle.std.proofs.lemmas.Bool.Decides.{nat_tests}
 use Rattle.std.proofs.lemmas.List.{drop_all, take_all, drop_more, get_or-replicate, get_or_past, length-replicate}
@@ -8,7 +8,7 @@ use Rattle.std.proofs.lemmas.List.Elements.{All-head, All-tail, All-weaker}
 use Rattle.ds_policy.specs.declared.grant.Entry.{Entry}
 use Rattle.ds_policy.specs.declared.grant.Grant.{Grant}
 use Rattle.ds_policy.specs.declared.policy.PolicyRule.{PolicyRule}
-use Rattle.ds_policy.specs.Pages.{Table, entries_of, put, with_entry}
+use Rattle.ds_policy.specs.Pages.{Table, entries_of, put}
 use Rattle.std.specs.List.{All}
 use Rattle.ds_policy.specs.PolicyFacts.{IsGoodRule, HasFewRules}
 use Rattle.ds_policy.specs.FirstTable.{granted_by, with_rule, with_rules, HasRoom, AreWithin}

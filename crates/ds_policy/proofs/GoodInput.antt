@@ -1,5 +1,5 @@
 -- What is true of each input that was read: each event keeps it.
-use Rattle.std.proofs.Common.{◌≡◌, ◌∙◌, sym, ap, subst, refl, ℕ, ◌+◌, ◌*◌, ◌^◌, ◌-◌, ◌<◌, ◌≤◌, ◌==◌, ◌&&◌, Bool, true, false, nat_le, nat_lt, codes, bytes_eq, List, [], ◌∷◌, ◌++◌, length, get_or, map, Option, Some, None, option_and_then, option_map, Result, Ok, Err, arith, inl, inr, append-nil, append_assoc, length-append, if◌then◌else◌, slice_index_or}
+use Rattle.std.proofs.Common.{◌≡◌, ◌∙◌, sym, ap, subst, refl, ℕ, ◌+◌, ◌*◌, ◌-◌, ◌<◌, ◌≤◌, ◌&&◌, Bool, false, nat_le, nat_lt, codes, bytes_eq, List, [], ◌∷◌, ◌++◌, length, Option, Some, None, option_map, Ok, arith, inl, inr, append-nil, append_assoc, length-append}
 use Rattle.std.proofs.lemmas.List.{get_or_append_left, get_or_push}
 use Rattle.std.proofs.lemmas.List.Elements.{All-nil, All-push, All-weaker, All-get_or}
 use Rattle.std.proofs.lemmas.List.Sorted.{IsNonDecreasingBy-push, IsNonDecreasingBy-short}
@@ -14,9 +14,8 @@ use Rattle.ds_policy.specs.declared.events.event.Event.{Event}
 use Rattle.ds_policy.specs.declared.events.event.Event.TheVariants.{Order, Input}
 use Rattle.ds_policy.specs.declared.events.event.TimedEvent.{TimedEvent}
 use Rattle.ds_policy.specs.declared.policy.PolicyPage.{PolicyPage}
-use Rattle.ds_policy.specs.Value.{InputValue}
 use Rattle.ds_policy.specs.InputNumbers.{digit_of, digits_from, decimal_of, bytes_of}
-use Rattle.ds_policy.specs.InputLines.{◌>>=◌, words_of, line_of, keys_of, command_of, event_of, timed_event_of}
+use Rattle.ds_policy.specs.InputLines.{words_of, line_of, keys_of, command_of, event_of, timed_event_of}
 use Rattle.ds_policy.specs.InputText.{Said, nothing_said, is_served, characters_of, with_event, may_follow, follows, is_skipped, with_line, with_lines, or_fault, input_in}
 use Rattle.ds_policy.specs.InputFacts.{has_time, comes_at, IsGoodCharacter, AreNumbered, IsGoodInput, IsNothingYet}
 use Rattle.ds_policy.proofs.Binds.{bind_some, both}

@@ -1,5 +1,5 @@
 -- One step over the digits of a word, for the reading of an input.
-use Rattle.std.proofs.Common.{◌≡◌, ◌∙◌, sym, ap, refl, ℕ, ◌+◌, ◌*◌, ◌<◌, ◌≤◌, nat_le, List, [], ◌∷◌, ◌++◌, length, get_or, drop, Option, Some, None, option_and_then, option_map, arith, if◌then◌else◌, append_assoc, append-nil, length-append, take, ◌-◌, ◌==◌}
+use Rattle.std.proofs.Common.{◌≡◌, sym, ap, refl, ℕ, ◌+◌, ◌*◌, ◌<◌, ◌≤◌, nat_le, List, [], ◌∷◌, ◌++◌, length, get_or, drop, Option, Some, None, option_and_then, option_map, arith, if◌then◌else◌, append_assoc, append-nil, length-append, take, ◌-◌}
 use Rattle.std.proofs.lemmas.List.{drop_all, drop_more, take_all}
 use Rattle.ds_policy.specs.InputNumbers.{digit_of, digits_from, pair_of, pairs_of}
 

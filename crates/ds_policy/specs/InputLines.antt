@@ -1,5 +1,5 @@
 -- What a line of an input says.
-use Rattle.std.specs.Prelude.{codes, ℕ, ◌+◌, ◌-◌, ◌^◌, Bool, true, false, ◌&&◌, ◌==◌, nat_le, bytes_eq, position, List, [], ◌∷◌, Option, Some, None, option_and_then, option_map, if◌then◌else◌}
+use Rattle.std.specs.Prelude.{codes, ℕ, ◌-◌, ◌^◌, Bool, true, false, ◌&&◌, ◌==◌, nat_le, bytes_eq, position, List, [], ◌∷◌, Option, Some, None, option_and_then, option_map, if◌then◌else◌}
 use Rattle.std.specs.List.{slice_split}
 use Rattle.ds_policy.specs.declared.command.Command.{Command}
 use Rattle.ds_policy.specs.declared.command.Command.TheVariants.{Grant, Narrow, Revoke, Drop, Resume, Stop}

@@ -1,5 +1,5 @@
 -- Worked rows of the reading of an input.
-use Rattle.std.specs.Prelude.{codes, refl, ◌≡◌, ℕ, Bool, true, List, [], ◌∷◌, Option, Some, None, Ok, Err}
+use Rattle.std.specs.Prelude.{codes, refl, ◌≡◌, true, List, [], ◌∷◌, None, Ok, Err}
 use Rattle.ds_policy.specs.declared.command.Command.TheVariants.{Grant}
 use Rattle.ds_policy.specs.declared.grant.Right.TheVariants.{Read}
 use Rattle.ds_policy.specs.declared.policy.PolicyPage.{PolicyPage}

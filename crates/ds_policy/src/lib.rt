@@ -25,4 +25,6 @@ pub use table_fault::{NoGrant, TableFull};
 pub use text::Text;
 
 #[cfg(test)]
+mod memory_tests;
+#[cfg(test)]
 mod policy_tests;

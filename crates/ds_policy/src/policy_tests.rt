@@ -301,6 +301,10 @@ fn rules_are_an_array_of_at_most_two(rt: HostRuntime) -> Result<(), Fail> {
         ("[rule]\n", "10 Limit rule"),
         ("[[rule]]\n[[rule]]\n", "9 BadRule 1"),
         ("[[rule]]\n[[rule]]\n[[rule]]\n", "10 Limit rule"),
+        (
+            "[[rule]]\nprocess = 1\naddress = 0x00400004\nright = \"read\"\npage = \"code\"\n",
+            "9 BadRule 1",
+        ),
     ] {
         assert_eq!(rt; of_rules(rt.alloc(), rules)?.as_str(), wanted, "{rules}");
     }

@@ -64,3 +64,6 @@ impl Policy {
         })
     }
 }
+
+#[cfg(test)]
+mod tests;

@@ -1,6 +1,7 @@
 //! The entries of one process.
 ghost use Rattle.std.specs.Prelude.{◌≡◌, ◌==◌, ◌<◌, ◌≤◌, position, [], IsNone, length, filter, not};
 ghost use Rattle.ds_policy.specs.Pages.{found, put};
+ghost use Rattle.ds_policy.specs.Grants.{no_grant};
 
 use crate::grant::{Entry, Grant, Right};
 use arrayvec::ArrayVec;
@@ -9,7 +10,10 @@ use std::marker::Model;
 /// How many entries a process can have.
 pub(crate) const MOST: usize = 256;
 
+/// Nothing at address 0.
 impl Default for Entry {
+    ghost is_default = { λ e. e ≡ record { address = 0; grant = no_grant } };
+
     fn default() -> Entry {
         Entry {
             address: 0,

@@ -147,3 +147,6 @@ fn add_characters(
     }
     Ok(())
 }
+
+#[cfg(test)]
+mod tests;

@@ -206,6 +206,25 @@ fn a_line_that_is_no_event_says_nothing(rt: HostRuntime) -> Result<(), Fail> {
 }
 
 #[test]
+fn an_address_is_eight_hexadecimal_digits(rt: HostRuntime) {
+    for (word, address) in [
+        (b"00000000".as_slice(), Some(0)),
+        (b"0041000a".as_slice(), Some(0x0041_000A)),
+        (b"89ABCDEF".as_slice(), Some(0x89AB_CDEF)),
+        (b"ffffFFFF".as_slice(), Some(0xFFFF_FFFF)),
+        (b"".as_slice(), None),
+        (b"0041000".as_slice(), None),
+        (b"00041000a".as_slice(), None),
+        (b"0041000g".as_slice(), None),
+        (b"0041000/".as_slice(), None),
+        (b"0x410000".as_slice(), None),
+        (b" 0041000".as_slice(), None),
+    ] {
+        assert_eq!(rt; address_of(word), address, "{word:?}");
+    }
+}
+
+#[test]
 fn up_to_256_characters_come_in_together(rt: HostRuntime) -> Result<(), Fail> {
     let policy = Policy::read(rt.alloc(), POLICY.as_bytes())
         .ok()

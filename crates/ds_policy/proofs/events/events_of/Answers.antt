@@ -1,4 +1,4 @@
-use Rattle.std.proofs.Common.{◌≡◌, ◌∙◌, ◌+◌, sym, ap, subst, length, Ok, rules}
+use Rattle.std.proofs.Common.{◌∙◌, ◌+◌, sym, ap, subst, length, Ok, rules}
 use Rattle.ds_policy.specs.InputText.{Said, is_served, input_in, as_input, lines_of}
 use Rattle.ds_policy.specs.InputFacts.{IsGoodInput, IsNothingYet}
 use Rattle.ds_policy.proofs.GoodInput.{good_input, nothing_yet}

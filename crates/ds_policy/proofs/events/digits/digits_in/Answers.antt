@@ -1,4 +1,4 @@
-use Rattle.std.proofs.Common.{◌≡◌, ◌∙◌, ◌*◌, ◌+◌, ◌≤◌, nat_le, true, false, sym, ap, arith, refl, ltb}
+use Rattle.std.proofs.Common.{◌≡◌, ◌∙◌, ◌*◌, ◌+◌, nat_le, true, false, sym, arith, refl}
 use Rattle.std.proofs.lemmas.Bool.Decides.{nat_tests}
 use Rattle.ds_policy.proofs.InputSteps.{digits_step, digits_end}
 use Rattle.ds_policy.proofs.events.digits.digits_in.Goals as goal

@@ -1,4 +1,4 @@
-use Rattle.std.proofs.Common.{◌≡◌, ℕ, ◌+◌, ◌*◌, length}
+use Rattle.std.proofs.Common.{◌≡◌, ◌+◌, ◌*◌, length}
 use Rattle.ds_policy.specs.InputNumbers.{pairs_of}
 use Rattle.ds_policy.proofs.InputSteps.{behind}
 use Rattle.ds_policy.proofs.events.digits.pairs_of.Given as goal

@@ -1,4 +1,4 @@
-use Rattle.std.proofs.Common.{◌≡◌, ◌∙◌, sym, lit<, refl}
+use Rattle.std.proofs.Common.{◌∙◌, sym, lit<, refl}
 use Rattle.ds_policy.proofs.Entries.{placed, unplaced, entry, refill_set}
 use Rattle.ds_policy.proofs.row.Row.set.Goals as goal
 
