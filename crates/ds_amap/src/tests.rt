@@ -141,3 +141,78 @@ fn each_segment_is_translated_as_its_row_says(rt: HostRuntime) -> Result<(), Bad
     assert!(rt; answers_all(&filled::<Indexed<64, 8>>()?));
     Ok(())
 }
+
+/// A buffer with the first and last page of kuseg in frames 1 and 2, and of kseg2 in 3 and 4.
+fn bounded<L: Lookaside>() -> Result<L, BadRandom>
+    requires slots { L.SLOTS ≡ 64 }
+    requires wired { L.WIRED ≡ 8 }
+{
+    let mut tlb = L::new(63)?;
+    let page = Entry { d: true, ..PAGE };
+    tlb.write(
+        8,
+        Entry {
+            vpn: 0,
+            pfn: 1,
+            ..page
+        },
+    );
+    tlb.write(
+        9,
+        Entry {
+            vpn: 0x7ffff,
+            pfn: 2,
+            ..page
+        },
+    );
+    tlb.write(
+        10,
+        Entry {
+            vpn: 0xc0000,
+            pfn: 3,
+            ..page
+        },
+    );
+    tlb.write(
+        11,
+        Entry {
+            vpn: 0xfffff,
+            pfn: 4,
+            ..page
+        },
+    );
+    Ok(tlb)
+}
+
+/// The first and last address of each segment, whether a user may use it, and its place.
+const BOUNDS: [(u32, bool, u32); 8] = [
+    (0x0000_0000, true, 0x1000),
+    (0x7fff_ffff, true, 0x2fff),
+    (0x8000_0000, false, 0x0000_0000),
+    (0x9fff_ffff, false, 0x1fff_ffff),
+    (0xa000_0000, false, 0x0000_0000),
+    (0xbfff_ffff, false, 0x1fff_ffff),
+    (0xc000_0000, false, 0x3000),
+    (0xffff_ffff, false, 0x4fff),
+];
+
+/// Whether each bound is translated for each access in both modes.
+fn answers_bounds<L: Lookaside>(tlb: &L) -> bool {
+    BOUNDS.iter().all(|(addr, free, place)| {
+        [Access::Fetch, Access::Load, Access::Store]
+            .iter()
+            .all(|access| {
+                let found = Ok(Physical(*place));
+                let of_user = if *free { found } else { Err(Fault::Address) };
+                translate(*addr, *access, Mode::User, tlb, 1) == of_user
+                    && translate(*addr, *access, Mode::Kernel, tlb, 1) == found
+            })
+    })
+}
+
+#[test]
+fn each_segment_begins_and_ends_where_it_should(rt: HostRuntime) -> Result<(), BadRandom> {
+    assert!(rt; answers_bounds(&bounded::<Tlb<64, 8>>()?));
+    assert!(rt; answers_bounds(&bounded::<Indexed<64, 8>>()?));
+    Ok(())
+}

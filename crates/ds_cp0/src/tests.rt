@@ -91,24 +91,52 @@ fn an_unusable_coprocessor_is_named(rt: HostRuntime) {
     assert_eq!(rt; cp0.read(register::CAUSE), 0x3000_0320);
 }
 
+/// What a register reads after all ones were written to it.
+const AFTER_ONES: [(u8, u32); 10] = [
+    (register::INDEX, 0x8000_3f00),
+    (register::RANDOM, 0),
+    (register::ENTRY_LO, 0xffff_ff00),
+    (register::CONTEXT, 0xffe0_0000),
+    (register::BAD_VADDR, 0),
+    (register::ENTRY_HI, 0xffff_ffc0),
+    (register::STATUS, 0xf003_ff3f),
+    (register::CAUSE, 0x300),
+    (register::EPC, 0),
+    (register::PRID, 0x230),
+];
+
 #[test]
 fn a_write_changes_the_bits_that_can_be_written(rt: HostRuntime) {
-    for (n, want) in [
-        (register::INDEX, 0x8000_3f00),
-        (register::RANDOM, 0),
-        (register::ENTRY_LO, 0xffff_ff00),
-        (3, 0),
-        (register::CONTEXT, 0xffe0_0000),
-        (register::BAD_VADDR, 0),
-        (register::ENTRY_HI, 0xffff_ffc0),
-        (register::STATUS, 0xf003_ff3f),
-        (register::CAUSE, 0x300),
-        (register::EPC, 0),
-        (register::PRID, 0x230),
-        (31, 0),
-    ] {
+    for n in 0..32 {
         let mut cp0 = Cp0::new();
         cp0.write(n, 0xffff_ffff);
+        let row = AFTER_ONES.iter().find(|row| row.0 == n);
+        let want = row.map_or(0, |row| row.1);
+        assert_eq!(rt; cp0.read(n), want, "register {n}");
+    }
+}
+
+#[test]
+fn a_write_changes_that_register_alone(rt: HostRuntime) {
+    for n in 0..32 {
+        let mut cp0 = Cp0::new();
+        cp0.write(n, 0xffff_ffff);
+        for other in 0..32 {
+            if other != n {
+                let want = if other == register::PRID { 0x230 } else { 0 };
+                assert_eq!(rt; cp0.read(other), want, "register {other} after {n}");
+            }
+        }
+    }
+}
+
+#[test]
+fn a_write_of_zeros_clears_what_ones_set(rt: HostRuntime) {
+    for n in 0..32 {
+        let mut cp0 = Cp0::new();
+        cp0.write(n, 0xffff_ffff);
+        cp0.write(n, 0);
+        let want = if n == register::PRID { 0x230 } else { 0 };
         assert_eq!(rt; cp0.read(n), want, "register {n}");
     }
 }

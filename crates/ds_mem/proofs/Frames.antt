@@ -1,6 +1,6 @@
 -- A frame as a part of memory: read, lent and copied.
-use Rattle.std.proofs.Common.{◌≡◌, ◌⊎◌, inl, inr, ℕ, ◌+◌, ◌-◌, ◌*◌, ◌≤◌, List, [], ◌++◌, take, drop, length, sym, ap, ◌∙◌, arith, append_assoc, length-append}
-use Rattle.std.proofs.lemmas.List.{append-nil, drop_all, drop_at, drop-drop, length-drop, length-take-le, take_all, take_at, take-append-drop, take-append-le, take-take, drop-take}
+use Rattle.std.proofs.Common.{◌≡◌, ◌⊎◌, inl, inr, ℕ, ◌<◌, slice_index, slice_set, ◌+◌, ◌-◌, ◌*◌, ◌≤◌, List, ◌++◌, take, drop, length, sym, ap, ◌∙◌, arith, append_assoc, length-append}
+use Rattle.std.proofs.lemmas.List.{append-nil, get_or-drop, get_or-take, length-set, length-take, set-append_left, set-append_right, drop_all, drop_at, drop-drop, length-drop, length-take-le, take_all, take_at, take-append-drop, take-append-le, take-take, drop-take}
 use Rattle.std.specs.List.{copy_within}
 use Rattle.std.proofs.Math.Seq.{paste}
 use Rattle.ds_mem.specs.Memory.{frame_of, overwritten, with_frame}
@@ -80,3 +80,24 @@ frame_of-with_frame_apart memory bytes f g size within (inr above) =
     omega (arith, length-append (take (f * 4096) memory) bytes, length-take-le (f * 4096) memory (omega arith)) in
     ap (λ m. frame_of m g) (overwritten-within memory bytes (f * 4096) 4096 (sym size) within ∙ sym (append_assoc (take (f * 4096) memory) bytes (drop (f * 4096 + 4096) memory)))
     ∙ part_behind memory (take (f * 4096) memory ++ bytes) (g * 4096) (f * 4096 + 4096) 4096 front above
+
+-- a byte of a frame is a byte of memory
+pub slice_index-frame_of : (memory : List ℕ) (f at : ℕ) → at < 4096 → slice_index (frame_of memory f) at ≡ slice_index memory (f * 4096 + at)
+slice_index-frame_of memory f at within = get_or-take 4096 (drop (f * 4096) memory) at 0 within ∙ get_or-drop (f * 4096) memory at 0
+
+-- memory in which a frame has one byte replaced is memory with that byte replaced
+pub with_frame-slice_set : (memory : List ℕ) (f at b : ℕ) → at < 4096 → length (frame_of memory f) ≡ 4096 → with_frame memory f (slice_set (frame_of memory f) at b) ≡ slice_set memory (f * 4096 + at) b
+with_frame-slice_set memory f at b within size =
+    let inside : f * 4096 + 4096 ≤ length memory = omega (arith, size, length-take 4096 (drop (f * 4096) memory), length-drop (f * 4096) memory) in
+    let before : length (take (f * 4096) memory) ≡ f * 4096 = length-take-le (f * 4096) memory (omega arith) in
+    let far : f * 4096 ≤ f * 4096 + at = omega arith in
+    let near : f * 4096 + at - f * 4096 ≡ at = omega arith in
+    let within_frame : at < length (frame_of memory f) = omega arith in
+    let split : drop (f * 4096) memory ≡ frame_of memory f ++ drop (f * 4096 + 4096) memory =
+    sym (take-append-drop 4096 (drop (f * 4096) memory)) ∙ ap (λ r. frame_of memory f ++ r) (drop-drop 4096 (f * 4096) memory) in
+    overwritten-within memory (slice_set (frame_of memory f) at b) (f * 4096) 4096 (sym (length-set (frame_of memory f) at b ∙ size)) inside
+    ∙ ap (λ r. take (f * 4096) memory ++ r) (sym (set-append_left (frame_of memory f) (drop (f * 4096 + 4096) memory) at b within_frame))
+    ∙ ap (λ r. take (f * 4096) memory ++ slice_set r at b) (sym split)
+    ∙ ap (λ n. take (f * 4096) memory ++ slice_set (drop (f * 4096) memory) n b) (sym near)
+    ∙ sym (set-append_right (take (f * 4096) memory) (drop (f * 4096) memory) (f * 4096) (f * 4096 + at) b before far)
+    ∙ ap (λ m. slice_set m (f * 4096 + at) b) (take-append-drop (f * 4096) memory)

@@ -46,3 +46,22 @@ fn turns_go_round_among_those_that_are_ready(rt: HostRuntime) {
     ready.rotate();
     assert_eq!(rt; ready.first(), Some(100));
 }
+
+#[test]
+fn a_hundred_processes_take_turns(rt: HostRuntime) {
+    let mut ready = Queue::new();
+    for process in 1..101 {
+        ready.push(process);
+    }
+    for process in 1..=100 {
+        assert_eq!(rt; ready.first(), Some(process));
+        ready.rotate();
+    }
+    assert_eq!(rt; ready.first(), Some(1));
+    for process in 1..=99 {
+        ready.remove(process);
+    }
+    assert_eq!(rt; ready.first(), Some(100));
+    ready.remove(100);
+    assert_eq!(rt; ready.first(), None);
+}

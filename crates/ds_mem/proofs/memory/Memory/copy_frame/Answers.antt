@@ -1,4 +1,4 @@
-use Rattle.std.proofs.Common.{◌≡◌, ◌∙◌, ◌≤◌, ◌+◌, ◌*◌, length, ap, arith, rules}
+use Rattle.std.proofs.Common.{◌≡◌, ◌∙◌, length, ap, arith, rules}
 use Rattle.ds_mem.specs.Memory.{frame_of, with_frame}
 use Rattle.ds_mem.proofs.Frames.{copy_within-frame}
 use Rattle.ds_mem.proofs.memory.Memory.copy_frame.Goals as goal
