@@ -1,0 +1,6 @@
+pub mod Words
+pub mod Serial
+pub mod Clock
+pub mod Bus
+pub mod Lending
+pub mod Worked

@@ -1,0 +1,181 @@
+//! Memory and devices at their physical addresses.
+ghost use Rattle.std.specs.Prelude.{◌≡◌, ◌%◌, ◌<◌, ◌≤◌, OnErr};
+ghost use Rattle.std.specs.Borrow.{sem};
+ghost use Rattle.ds_dev.specs.Bus.{at_start, alignment, load, store, register_load, register_store, after_ticks, lines, with_serial};
+ghost use Rattle.ds_dev.specs.Serial.{received, sent};
+ghost use Rattle.ds_dev.specs.Lending.{LendsMemory};
+
+use crate::access;
+use crate::clock::{self, Clock};
+use crate::fault::BusError;
+use crate::serial::{self, SerialLines};
+use crate::system::{self, SystemRegister};
+use ds_isa::Size;
+use ds_mem::{Memory, SIZE};
+use std::marker::Model;
+
+/// The bus, which contracts see as the record of its memory and its devices.
+#[derive(Drop)]
+pub struct Bus {
+    memory: Memory,
+    serial: SerialLines,
+    clock: Clock,
+    system: SystemRegister,
+}
+
+impl Model for Bus {
+    ghost use Rattle.ds_dev.specs.Bus.{BusState};
+
+    ghost Value = { BusState };
+
+    ghost view = { λ b. record { memory = b.memory; serial = b.serial; clock = b.clock; system = b.system.enables } };
+}
+
+impl Bus {
+    /// New devices over a memory: every register, flag and time zero, and no character.
+    pub fn new(memory: Memory) -> Bus
+        ensures { result ≡ at_start memory }
+    {
+        Bus {
+            memory,
+            serial: SerialLines::new(),
+            clock: Clock::new(),
+            system: SystemRegister::new(),
+        }
+    }
+
+    /// The memory, for reading and writing.
+    #[inline(always)]
+    pub fn memory(&mut self) -> &mut Memory
+        ensures* writes_back { sem 𝓛 (LendsMemory self.entry result) }
+        ensures value { result.now ≡ self.old.memory }
+    {
+        &mut self.memory
+    }
+
+    /// The requests to the processor: IP2, of the system register, and IP3, of the clock.
+    #[inline(always)]
+    pub fn lines(&self) -> (bool, bool)
+        ensures { result ≡ lines self.now }
+    {
+        (
+            self.system.passes(self.serial.request()),
+            self.clock.request(),
+        )
+    }
+
+    /// What is read at a physical address: in memory the byte, half or word, or for a part of a
+    /// word that word; a register as a whole word. Reading a register may change it.
+    #[inline(always)]
+    pub fn load(&mut self, physical: u32, size: Size) -> Result<u32, BusError>
+        requires aligned { physical < SIZE → physical % alignment size ≡ 0 }
+        ensures value { result ≡ (load self.old physical size).0 }
+        ensures state { self.new ≡ (load self.old physical size).1 }
+        ensures refused { OnErr result (self.new ≡ self.old) }
+    {
+        if (physical as usize) < SIZE {
+            return Ok(access::load(&self.memory, physical, size));
+        }
+        match size {
+            Size::Word => self.load_register(physical),
+            _ => Err(BusError),
+        }
+    }
+
+    /// Writes at a physical address: in memory the byte, half or word, or for a part of a word
+    /// that word; a register as a whole word.
+    #[inline(always)]
+    pub fn store(&mut self, physical: u32, size: Size, value: u32) -> Result<(), BusError>
+        requires aligned { physical < SIZE → physical % alignment size ≡ 0 }
+        ensures value { result ≡ (store self.old physical size value).0 }
+        ensures state { self.new ≡ (store self.old physical size value).1 }
+        ensures refused { OnErr result (self.new ≡ self.old) }
+    {
+        if (physical as usize) < SIZE {
+            access::store(&mut self.memory, physical, size, value);
+            return Ok(());
+        }
+        match size {
+            Size::Word => self.store_register(physical, value),
+            _ => Err(BusError),
+        }
+    }
+
+    /// Lets one tick pass, or two.
+    #[inline(always)]
+    pub fn tick(&mut self, ticks: u32)
+        requires { (1 ≤ ticks) × (ticks ≤ 2) }
+        ensures { self.new ≡ after_ticks self.old ticks }
+    {
+        self.clock.tick(ticks);
+    }
+
+    /// A character comes in on a line, 0 to 3; whether it was taken. Of other numbers the low two
+    /// bits count.
+    pub fn receive(&mut self, line: u8, byte: u8) -> bool
+        ensures value { result ≡ (received self.old.serial line byte).0 }
+        ensures state { self.new ≡ with_serial self.old (received self.old.serial line byte).1 }
+    {
+        self.serial.receive(line, byte)
+    }
+
+    /// Hands out the character that waits to leave, as its line and its byte.
+    pub fn sent(&mut self) -> Option<(u8, u8)>
+        ensures value { result ≡ (sent self.old.serial).0 }
+        ensures state { self.new ≡ with_serial self.old (sent self.old.serial).1 }
+    {
+        self.serial.sent()
+    }
+
+    /// Reads a register.
+    #[cold]
+    #[inline(never)]
+    fn load_register(&mut self, physical: u32) -> Result<u32, BusError>
+        ensures value { result ≡ (register_load self.old physical).0 }
+        ensures state { self.new ≡ (register_load self.old physical).1 }
+        ensures refused { OnErr result (self.new ≡ self.old) }
+    {
+        match physical {
+            serial::CONTROL => Ok(self.serial.control()),
+            serial::RECEIVED => Ok(self.serial.read_silo()),
+            serial::ENABLES => Ok(self.serial.enables()),
+            serial::TRANSMIT => Ok(0),
+            clock::RATE => Ok(self.clock.rate()),
+            clock::ENABLE => Ok(self.clock.enable()),
+            clock::FLAGS => Ok(self.clock.read_flags()),
+            system::ENABLES => Ok(self.system.word(self.serial.request())),
+            _ => {
+                if clock::is_register(physical) {
+                    Ok(0)
+                } else {
+                    Err(BusError)
+                }
+            }
+        }
+    }
+
+    /// Writes a register.
+    #[cold]
+    #[inline(never)]
+    fn store_register(&mut self, physical: u32, value: u32) -> Result<(), BusError>
+        ensures value { result ≡ (register_store self.old physical value).0 }
+        ensures state { self.new ≡ (register_store self.old physical value).1 }
+        ensures refused { OnErr result (self.new ≡ self.old) }
+    {
+        match physical {
+            serial::CONTROL => self.serial.set_control(value),
+            serial::RECEIVED => {}
+            serial::ENABLES => self.serial.set_enables(value),
+            serial::TRANSMIT => self.serial.transmit(value),
+            clock::RATE => self.clock.set_rate(value),
+            clock::ENABLE => self.clock.set_enable(value),
+            system::ENABLES => self.system.set_enables(value),
+            _ => {
+                if !clock::is_register(physical) {
+                    return Err(BusError);
+                }
+            }
+        }
+        Ok(())
+    }
+}

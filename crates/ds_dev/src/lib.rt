@@ -1,0 +1,16 @@
+//! The workstation's bus: memory, the serial lines, the clock and the system register, at their
+//! physical addresses.
+#![tactic(auto)]
+
+mod access;
+mod bus;
+mod clock;
+mod fault;
+mod serial;
+mod system;
+
+pub use bus::Bus;
+pub use fault::BusError;
+
+#[cfg(test)]
+mod tests;
