@@ -1,3 +1,4 @@
+pub mod Fields
 pub mod Instruction
 pub mod Encoding
 pub mod Registers

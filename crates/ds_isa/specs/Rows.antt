@@ -1,11 +1,11 @@
 -- Worked rows: words of known instructions, and what known instructions do.
-use Rattle.std.specs.Prelude.{◌≡◌, [], ◌∷◌, Some, None, slice_set, codes, map, refl}
+use Rattle.std.specs.Prelude.{ℕ, ◌≡◌, [], ◌∷◌, Option, Some, None, slice_set, codes, map, refl}
 use Rattle.ds_isa.specs.declared.instr.Instr.TheVariants as instr
 use Rattle.ds_isa.specs.declared.instr.Size.TheVariants as size
-use Rattle.ds_isa.specs.Instruction.{instruction_of, uses_of, straight, rows}
+use Rattle.ds_isa.specs.Instruction.{instruction_of, uses_of, straight, branching, rows}
 use Rattle.ds_isa.specs.Encoding.{encoded}
 use Rattle.ds_isa.specs.Registers.{Registers, zero_registers, read, settled, written, loaded}
-use Rattle.ds_isa.specs.Meaning.{meaning, Goes, Loads, Stores, Faults, Calls}
+use Rattle.ds_isa.specs.Meaning.{Effect, meaning, Goes, Branches, Loads, Stores, Faults, Calls, Privileged}
 
 -- lw $2,4($4)
 pub load_word : instruction_of 0x8C82_0004 ≡ instr.Lw 2 4 4
@@ -67,8 +67,49 @@ word_of_a_call = refl
 pub uses_of_a_store : uses_of 0xAFBF_8000 ≡ straight (Some 29) (Some 31) None
 uses_of_a_store = refl
 
+-- jalr $5,$6 links in register 5
+pub uses_of_a_call : uses_of 0x00C0_2809 ≡ branching (Some 6) None (Some 5)
+uses_of_a_call = refl
+
+-- lwl $2,4($3) merges into register 2, and so reads it
+pub uses_of_a_part : uses_of 0x8862_0004 ≡ straight (Some 3) (Some 2) (Some 2)
+uses_of_a_part = refl
+
+-- mfc2 $4,$5, a word of coprocessor 2, and swc1 $31,-4($31), one of coprocessor 1
+pub of_coprocessor_2 : instruction_of 0x4804_2800 ≡ instr.Cop 2 0x4804_2800
+of_coprocessor_2 = refl
+
+pub of_coprocessor_1 : instruction_of 0xE7FF_FFFC ≡ instr.Cop 1 0xE7FF_FFFC
+of_coprocessor_1 = refl
+
+-- tlbwr, and the same with a bit between the top of rs and the function
+pub write_at_random : instruction_of 0x4200_0006 ≡ instr.Tlbwr
+write_at_random = refl
+
+pub operation_with_a_bit : instruction_of 0x4200_0046 ≡ instr.Cop 0 0x4200_0046
+operation_with_a_bit = refl
+
+-- a load of coprocessor 0, and bgezal $31,.+12
+pub load_of_coprocessor_0 : instruction_of 0xC000_0000 ≡ instr.Reserved 0xC000_0000
+load_of_coprocessor_0 = refl
+
+pub link_of_what_it_links : instruction_of 0x07F1_0002 ≡ instr.Reserved 0x07F1_0002
+link_of_what_it_links = refl
+
 -- the names, in the order of the rows
-pub names : map (λ row. row.name) rows ≡ codes "sll" ∷ codes "syscall" ∷ codes "addu" ∷ codes "addiu" ∷ codes "ori" ∷ codes "lui" ∷ codes "lw" ∷ codes "sw" ∷ []
+pub names :
+    map (λ row. row.name) rows ≡
+    codes "sll" ∷ codes "srl" ∷ codes "sra" ∷ codes "sllv" ∷ codes "srlv" ∷ codes "srav" ∷
+    codes "jr" ∷ codes "jalr" ∷ codes "syscall" ∷ codes "break" ∷ codes "mfhi" ∷ codes "mthi" ∷
+    codes "mflo" ∷ codes "mtlo" ∷ codes "mult" ∷ codes "multu" ∷ codes "div" ∷ codes "divu" ∷
+    codes "add" ∷ codes "addu" ∷ codes "sub" ∷ codes "subu" ∷ codes "and" ∷ codes "or" ∷
+    codes "xor" ∷ codes "nor" ∷ codes "slt" ∷ codes "sltu" ∷ codes "bltz" ∷ codes "bgez" ∷
+    codes "bltzal" ∷ codes "bgezal" ∷ codes "j" ∷ codes "jal" ∷ codes "beq" ∷ codes "bne" ∷
+    codes "blez" ∷ codes "bgtz" ∷ codes "addi" ∷ codes "addiu" ∷ codes "slti" ∷ codes "sltiu" ∷
+    codes "andi" ∷ codes "ori" ∷ codes "xori" ∷ codes "lui" ∷ codes "lb" ∷ codes "lh" ∷
+    codes "lwl" ∷ codes "lw" ∷ codes "lbu" ∷ codes "lhu" ∷ codes "lwr" ∷ codes "sb" ∷
+    codes "sh" ∷ codes "swl" ∷ codes "sw" ∷ codes "swr" ∷ codes "mfc0" ∷ codes "mtc0" ∷
+    codes "tlbr" ∷ codes "tlbwi" ∷ codes "tlbwr" ∷ codes "tlbp" ∷ codes "rfe" ∷ []
 names = refl
 
 -- register 8 at 0x0041_0000 and register 9 at 66
@@ -114,6 +155,121 @@ shift_drops = refl
 -- sw $9,-4($8) asks for the word below, and puts 66 there
 pub store_asks : meaning (instruction_of 0xAD09_FFFC) 0x0040_0000 before ≡ Stores size.Word 0x0040_FFFC (λ w. 66)
 store_asks = refl
+
+-- j 0x00400000
+pub jump_in_its_region : meaning (instruction_of 0x0810_0000) 0x0040_0010 before ≡ Branches (settled before) 0x0040_0000
+jump_in_its_region = refl
+
+-- j in the last word of a region of 2^28 bytes: its slot is in the next, and so is its target
+pub jump_at_the_end_of_a_region : meaning (instruction_of 0x0800_0001) 0x0FFF_FFFC before ≡ Branches (settled before) 0x1000_0004
+jump_at_the_end_of_a_region = refl
+
+-- jal 0x00400010
+pub call_links : meaning (instruction_of 0x0C10_0004) 0x0040_0000 before ≡ Branches (written before 31 0x0040_0008) 0x0040_0010
+call_links = refl
+
+-- jalr $31,$8 to an address off four
+pub jump_off_four : meaning (instruction_of 0x0100_F809) 0x0040_0004 (written before 8 0x0040_0002) ≡ Branches (written (written before 8 0x0040_0002) 31 0x0040_000C) 0x0040_0002
+jump_off_four = refl
+
+-- beq $0,$0,. comes back to itself
+pub branch_to_itself : meaning (instruction_of 0x1000_FFFF) 0x0040_0008 before ≡ Branches (settled before) 0x0040_0008
+branch_to_itself = refl
+
+-- bne $0,$0,. goes on behind its slot
+pub branch_not_taken : meaning (instruction_of 0x1400_FFFF) 0x0040_0008 before ≡ Branches (settled before) 0x0040_0010
+branch_not_taken = refl
+
+-- bgez $0,.-131068 wraps
+pub branch_wraps : meaning (instruction_of 0x0401_8000) 0 before ≡ Branches (settled before) 0xFFFE_0004
+branch_wraps = refl
+
+-- bltzal $0,.+12 is not taken, and links all the same
+pub link_without_branch : meaning (instruction_of 0x0410_0002) 0x0040_0000 before ≡ Branches (written before 31 0x0040_0008) 0x0040_0008
+link_without_branch = refl
+
+-- registers 4 and 5
+abbrev pub two : ℕ → ℕ → Registers
+two x y = written (written zero_registers 4 x) 5 y
+
+-- mult, multu, div and divu of registers 4 and 5
+pub product_of_the_lowest : meaning (instruction_of 0x0085_0018) 0 (two 0x8000_0000 2) ≡ Goes (record (two 0x8000_0000 2) { hi = 0xFFFF_FFFF; lo = 0 })
+product_of_the_lowest = refl
+
+pub unsigned_product : meaning (instruction_of 0x0085_0019) 0 (two 0x8000_0000 2) ≡ Goes (record (two 0x8000_0000 2) { hi = 1; lo = 0 })
+unsigned_product = refl
+
+pub quotient_cut_toward_zero : meaning (instruction_of 0x0085_001A) 0 (two 0xFFFF_FFF9 2) ≡ Goes (record (two 0xFFFF_FFF9 2) { hi = 0xFFFF_FFFF; lo = 0xFFFF_FFFD })
+quotient_cut_toward_zero = refl
+
+pub quotient_by_zero : meaning (instruction_of 0x0085_001B) 0 (two 5 0) ≡ Goes (record (two 5 0) { hi = 5; lo = 0 })
+quotient_by_zero = refl
+
+pub lowest_by_minus_one : meaning (instruction_of 0x0085_001A) 0 (two 0x8000_0000 0xFFFF_FFFF) ≡ Goes (record (two 0x8000_0000 0xFFFF_FFFF) { hi = 0; lo = 0x8000_0000 })
+lowest_by_minus_one = refl
+
+-- add $2,$4,$5 and sub $2,$4,$5 past the ends, and add across 0
+pub sum_overflows : meaning (instruction_of 0x0085_1020) 0 (two 0x7FFF_FFFF 1) ≡ Faults 12
+sum_overflows = refl
+
+pub difference_overflows : meaning (instruction_of 0x0085_1022) 0 (two 0x8000_0000 1) ≡ Faults 12
+difference_overflows = refl
+
+pub sum_across_zero : meaning (instruction_of 0x0085_1020) 0 (two 0xFFFF_FFFF 1) ≡ Goes (written (two 0xFFFF_FFFF 1) 2 0)
+sum_across_zero = refl
+
+-- slt $2,$4,$5 and sltu $2,$4,$5 of -1 and 1
+pub signed_order : meaning (instruction_of 0x0085_102A) 0 (two 0xFFFF_FFFF 1) ≡ Goes (written (two 0xFFFF_FFFF 1) 2 1)
+signed_order = refl
+
+pub unsigned_order : meaning (instruction_of 0x0085_102B) 0 (two 0xFFFF_FFFF 1) ≡ Goes (written (two 0xFFFF_FFFF 1) 2 0)
+unsigned_order = refl
+
+-- sra $2,$4,4 copies the sign
+pub shift_copies_the_sign : meaning (instruction_of 0x0004_1103) 0 (two 0x8000_0010 0) ≡ Goes (written (two 0x8000_0010 0) 2 0xF800_0001)
+shift_copies_the_sign = refl
+
+-- what is loaded where memory has a word, and what is stored over it
+abbrev pub loaded_from : ℕ → Effect → Option Registers
+loaded_from w e = elim e [ Goes _ ↦ None | Branches _ _ ↦ None | Loads _ _ after ↦ Some (after w) | Stores _ _ _ ↦ None | Faults _ ↦ None | Calls ↦ None | Privileged ↦ None ]
+
+abbrev pub stored_over : ℕ → Effect → Option ℕ
+stored_over w e = elim e [ Goes _ ↦ None | Branches _ _ ↦ None | Loads _ _ _ ↦ None | Stores _ _ after ↦ Some (after w) | Faults _ ↦ None | Calls ↦ None | Privileged ↦ None ]
+
+-- lwl, lwr, swl, swr of register 9 at the second byte of the word at 0x0041_0000
+abbrev pub merging : Registers
+merging = written before 9 0xAABB_CCDD
+
+pub merges_left : loaded_from 0x4433_2211 (meaning (instruction_of 0x8909_0001) 0 merging) ≡ Some (loaded merging 9 0x2211_CCDD)
+merges_left = refl
+
+pub merges_right : loaded_from 0x4433_2211 (meaning (instruction_of 0x9909_0001) 0 merging) ≡ Some (loaded merging 9 0xAA44_3322)
+merges_right = refl
+
+pub stores_left : stored_over 0x4433_2211 (meaning (instruction_of 0xA909_0001) 0 merging) ≡ Some 0x4433_AABB
+stores_left = refl
+
+pub stores_right : stored_over 0x4433_2211 (meaning (instruction_of 0xB909_0001) 0 merging) ≡ Some 0xBBCC_DD11
+stores_right = refl
+
+-- lwl behind a load of its register merges with what was loaded
+pub merges_with_the_late : loaded_from 0x4433_2211 (meaning (instruction_of 0x8909_0001) 0 late) ≡ Some (loaded late 9 0x2211_0041)
+merges_with_the_late = refl
+
+-- lh $9,2($8) carries the sign; sb $9,1($8) changes one byte
+pub half_carries_its_sign : loaded_from 0x8001_2211 (meaning (instruction_of 0x8509_0002) 0 before) ≡ Some (loaded before 9 0xFFFF_8001)
+half_carries_its_sign = refl
+
+pub byte_is_stored : stored_over 0x4433_2211 (meaning (instruction_of 0xA109_0001) 0 before) ≡ Some 0x4433_4211
+byte_is_stored = refl
+
+-- break
+pub breakpoint_faults : meaning (instruction_of 0x0000_000D) 0x0040_0000 before ≡ Faults 9
+breakpoint_faults = refl
+
+-- mfc2 $4,$5
+pub coprocessor_is_asked : meaning (instruction_of 0x4804_2800) 0x0040_0000 before ≡ Privileged
+coprocessor_is_asked = refl
 
 -- syscall and a reserved word
 pub call_calls : meaning (instruction_of 0x0000_000C) 0x0040_0000 before ≡ Calls

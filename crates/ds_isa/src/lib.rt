@@ -7,7 +7,7 @@ mod instr;
 mod table;
 mod uses;
 
-pub use decoding::{decode, round_trip};
+pub use decoding::{decode, no_two_rows, round_trip};
 pub use encoding::encode;
 pub use instr::{Instr, Late, Size};
 pub use uses::{Sources, is_branch, links, reads, writes};

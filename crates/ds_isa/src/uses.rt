@@ -56,11 +56,18 @@ macro_rules! used {
 
 macro_rules! use_rows {
     ($instr:ident
-     special { $($funct:literal $special:ident [$($field:ident)*] zero $zero:tt uses { $($use:tt)* };)* }
-     major { $($op:literal $major:ident [$($part:ident)*] zero $none:tt uses { $($used:tt)* };)* }) => {
+     special { $($funct:literal $special:ident [$($field:ident)*] zero $zero:tt $(given $condition:tt)? uses { $($use:tt)* };)* }
+     regimm { $($sign:literal $regimm:ident [$($place:ident)*] zero $none:tt $(given $need:tt)? uses { $($using:tt)* };)* }
+     major { $($op:literal $major:ident [$($part:ident)*] zero $nought:tt uses { $($used:tt)* };)* }
+     transfer { $($way:literal $transfer:ident [$($end:ident)*] zero $nil:tt uses { $($using_these:tt)* };)* }
+     operation { $($number:literal $operation:ident [] zero [] uses { reads [] };)* }) => {
         match $instr {
             $(Instr::$special { $($field),* } => used!($($use)*),)*
+            $(Instr::$regimm { $($place),* } => used!($($using)*),)*
             $(Instr::$major { $($part),* } => used!($($used)*),)*
+            $(Instr::$transfer { $($end),* } => used!($($using_these)*),)*
+            $(Instr::$operation => NO_USES,)*
+            Instr::Cop { .. } => NO_USES,
             Instr::Reserved(_) => NO_USES,
         }
     };

@@ -10,3 +10,4 @@ pub mod Inputs
 pub mod Laws
 pub mod Store
 pub mod Rows
+pub mod Guests

@@ -70,7 +70,7 @@ image_or_none (Ok image) = image
 image_or_none (Err fault) = []
 
 -- one process, a page of code that it may read at 0x00400000, and a zero page of data; further rules
-abbrev policy : ℕ → List PolicyRule → PolicyValue
+abbrev pub policy : ℕ → List PolicyRule → PolicyValue
 policy start further = record {
   frames = 16;
   rate = 0;
@@ -80,29 +80,29 @@ policy start further = record {
 }
 
 -- a rule over the page of data
-abbrev data_at : ℕ → Right → PolicyRule
+abbrev pub data_at : ℕ → Right → PolicyRule
 data_at address right = record { process = 1; address = address; right = right; page = Some 1; give = false }
 
 -- the first state of that policy, a source and timed commands
-abbrev first : PolicyValue → List String → List TimedCommand → State
+abbrev pub first : PolicyValue → List String → List TimedCommand → State
 first p lines commands = first_state p (image_or_none (image_of (source lines)) ∷ []) (record { commands = commands; characters = [] })
 
 -- of a run for n: whether it goes on after so many half turns, all touched or none, and the consoles, the log and the time
-abbrev shown : ℕ → ℕ → Bool → State → Bool × List (List ℕ) × List Line × ℕ
+abbrev pub shown : ℕ → ℕ → Bool → State → Bool × List (List ℕ) × List Line × ℕ
 shown n halves touch m = seen (after n (replicate halves touch) m)
   where
     seen : State → Bool × List (List ℕ) × List Line × ℕ
     seen t = (goes_on n t, t.consoles, t.log, t.time)
 
-abbrev on_line_0 : List ℕ → List (List ℕ)
+abbrev pub on_line_0 : List ℕ → List (List ℕ)
 on_line_0 bytes = bytes ∷ [] ∷ [] ∷ [] ∷ []
 
 -- the policy with no further rule, at the usual start
-abbrev plain : PolicyValue
+abbrev pub plain : PolicyValue
 plain = policy 0x00400000 []
 
 -- what the operator asks for at a time, as command k
-abbrev at : ℕ → ℕ → Command → TimedCommand
+abbrev pub at : ℕ → ℕ → Command → TimedCommand
 at time k c = record { time = time; number = k; command = c }
 
 -- addiu $4,$0,65; put; exit

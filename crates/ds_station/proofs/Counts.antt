@@ -1,59 +1,66 @@
 -- How clock, count and marks move in each step.
 use Rattle.std.proofs.lemmas.Bool.{cases_lt}
-use Rattle.std.proofs.Common.{add-zero, ◌≡◌, ◌≢◌, inl, inr, ℕ, ◌+◌, ◌-◌, ◌*◌, ◌<◌, ◌≤◌, Bool, true, false, cond, List, refl, sym, ap, subst, ◌∙◌, arith}
+use Rattle.std.proofs.Common.{add-zero, ◌≡◌, ◌≢◌, inl, inr, ℕ, ◌+◌, ◌-◌, ◌*◌, ◌<◌, ◌≤◌, Bool, true, false, List, refl, sym, ap, subst, ◌∙◌, arith}
 use Rattle.std.specs.Prelude.{Option, Some, None, IsSome, not, is_some}
 use Rattle.ds_isa.specs.Registers.{Registers}
 use Rattle.ds_isa.specs.declared.instr.Size.{Size}
 use Rattle.ds_isa.specs.declared.instr.Size.TheVariants.{Word}
 use Rattle.ds_isa.specs.Instruction.{instruction_of}
 use Rattle.ds_isa.specs.Meaning.{Effect, Goes, Branches, Loads, Stores, Faults, Calls, Privileged, meaning}
-use Rattle.ds_procs.specs.declared.process.Standing.{Standing}
 use Rattle.ds_procs.specs.declared.process.Standing.TheVariants.{Ready}
 use Rattle.ds_procs.specs.declared.call.Call.{Call}
 use Rattle.ds_procs.specs.declared.call.Call.TheVariants as call
 use Rattle.ds_policy.specs.declared.access.Access.{Access}
 use Rattle.ds_policy.specs.declared.access.Kind.TheVariants as kind
 use Rattle.ds_policy.specs.declared.access.Rule.{Rule}
+use Rattle.ds_policy.specs.declared.access.Rule.TheVariants.{I}
 use Rattle.ds_policy.specs.declared.access.Verdict.{Verdict}
 use Rattle.ds_policy.specs.declared.access.Verdict.TheVariants as verdict
 use Rattle.ds_log.specs.declared.line.Denied.{Denied}
+use Rattle.ds_log.specs.declared.line.Denied.TheVariants.{Exec}
 use Rattle.ds_pagemap.specs.declared.turn.Turn.{Turn}
+use Rattle.ds_pagemap.specs.Unit.{denied_as}
 use Rattle.ds_station.specs.declared.processor.Event.{Event}
 use Rattle.ds_station.specs.declared.processor.Event.TheVariants as event
 use Rattle.ds_station.specs.declared.parts.Step.{Step}
 use Rattle.ds_station.specs.declared.parts.Step.TheVariants as step
-use Rattle.ds_station.specs.Processor.{Cpu, Stepped, process_step, fetched, effect, loaded_from, stored_to, translate}
+use Rattle.ds_station.specs.Processor.{Cpu, Stepped, process_step, fetched, effect, branched, loaded_from, stored_to, translate}
 use Rattle.ds_station.specs.Memory.{load_word}
 use Rattle.ds_station.specs.Held.{Held}
 use Rattle.ds_station.specs.Parts.{IsOrderly}
-use Rattle.ds_station.specs.Services.{after_event, step_of, begun, failed, denied_held, by_verdict, step_by, called_held, exited, answered_held, idled, bounded}
-use Rattle.ds_station.specs.Steps.{Counted, Moves, left, flag}
+use Rattle.ds_station.specs.Services.{after_event, step_of, ticks_of, begun, failed, denied_held, by_verdict, step_by, called_held, called_or_fault, own_address, exited, answered_held, idled, bounded}
+use Rattle.ds_station.specs.Steps.{Counted, Moves, flag}
 
--- An instruction that is done leaves the processor in the program.
+-- An instruction that is done leaves the processor in the program; an exception leaves the slot.
 
 abbrev SameMode : Event → Cpu → Cpu → Type 0
 SameMode event.Retired c new = new.kernel ≡ c.kernel
-SameMode event.Raised c new = Unit {0}
+SameMode event.Branched c new = new.kernel ≡ c.kernel
+SameMode event.Raised c new = new.slot ≡ false
 
 load_mode : (c : Cpu) (m : List ℕ) (size : Size) (address : ℕ) (after : ℕ → Registers) (found : Option ℕ) → SameMode (loaded_from c m size address after found).event c (loaded_from c m size address after found).cpu
-load_mode c m size address after None = tt
+load_mode c m size address after None = refl
 load_mode c m size address after (Some place) = refl
 
 store_mode : (c : Cpu) (m : List ℕ) (size : Size) (address : ℕ) (after : ℕ → ℕ) (found : Option ℕ) → SameMode (stored_to c m size address after found).event c (stored_to c m size address after found).cpu
-store_mode c m size address after None = tt
+store_mode c m size address after None = refl
 store_mode c m size address after (Some place) = refl
+
+branch_mode : (slot : Bool) (c : Cpu) (m : List ℕ) (after : Registers) (target : ℕ) → SameMode (branched slot c m after target).event c (branched slot c m after target).cpu
+branch_mode true c m after target = refl
+branch_mode false c m after target = refl
 
 effect_mode : (c : Cpu) (m : List ℕ) (e : Effect) → SameMode (effect c m e).event c (effect c m e).cpu
 effect_mode c m (Goes after) = refl
-effect_mode c m (Branches after target) = tt
+effect_mode c m (Branches after target) = branch_mode c.slot c m after target
 effect_mode c m (Loads size address after) = load_mode c m size address after (translate c.entries kind.Load size address)
 effect_mode c m (Stores size address after) = store_mode c m size address after (translate c.entries kind.Store size address)
-effect_mode c m (Faults code) = tt
-effect_mode c m Calls = tt
-effect_mode c m Privileged = tt
+effect_mode c m (Faults code) = refl
+effect_mode c m Calls = refl
+effect_mode c m Privileged = refl
 
 fetch_mode : (c : Cpu) (m : List ℕ) (found : Option ℕ) → SameMode (fetched c m found).event c (fetched c m found).cpu
-fetch_mode c m None = tt
+fetch_mode c m None = refl
 fetch_mode c m (Some place) = effect_mode c m (meaning (instruction_of (load_word m place)) c.pc c.registers)
 
 step_mode : (c : Cpu) (m : List ℕ) → SameMode (process_step c m).event c (process_step c m).cpu
@@ -69,6 +76,7 @@ module _ (h : Held) (o : IsOrderly h) (working : h.own.failed ≡ false) where
     begun = λ b. absurd (omega (arith, b, spent));
     failed = λ f. (let no : false ≡ true = sym working ∙ (sym fails ∙ f) in absurd (cc));
     raised = λ k. (let no : false ≡ true = sym user ∙ k in absurd (cc));
+    first = λ k. (let no : false ≡ true = sym user ∙ k in absurd (cc));
     running = λ b. absurd (omega (arith, b, spent));
     spent = omega (arith, spent);
     lines = lines;
@@ -78,7 +86,7 @@ module _ (h : Held) (o : IsOrderly h) (working : h.own.failed ≡ false) where
   denied_orderly kind address rule code = ends_orderly (denied_held h kind address rule code) refl refl refl (omega (arith, o.lines))
 
   filled_orderly : (page offset : ℕ) (access : Access) → IsOrderly (by_verdict h access (verdict.Allowed page offset))
-  filled_orderly page offset access = record { begun = o.begun; failed = o.failed; raised = λ k. (let no : false ≡ true = k in absurd (cc)); running = o.running; spent = o.spent; lines = o.lines }
+  filled_orderly page offset access = record { begun = o.begun; failed = o.failed; raised = λ k. (let no : false ≡ true = k in absurd (cc)); first = λ k. (let no : false ≡ true = k in absurd (cc)); running = o.running; spent = o.spent; lines = o.lines }
 
   pub verdict_orderly : (access : Access) (v : Verdict) → IsOrderly (by_verdict h access v)
   verdict_orderly access (verdict.Allowed page offset) = filled_orderly page offset access
@@ -103,24 +111,33 @@ module _ (h : Held) (o : IsOrderly h) (working : h.own.failed ≡ false) where
   called_orderly (call.Drop address) = answered_orderly _ _
   called_orderly call.Wait = answered_orderly _ _
 
+  pub called_or_fault_orderly : (delayed : Bool) (c : Call) → IsOrderly (called_or_fault delayed h c)
+  called_or_fault_orderly true c = denied_orderly Exec (own_address h.cpu) I 8
+  called_or_fault_orderly false c = called_orderly c
+
+  grown : (slot : Bool) → h.outside.lines ≤ h.outside.time + ticks_of slot
+  grown true = omega (arith, o.lines)
+  grown false = omega (arith, o.lines)
+
   by_event_orderly : (e : Event) (t : Stepped) → 0 < h.own.spent → h.cpu.kernel ≡ false → SameMode e h.cpu t.cpu → IsOrderly (after_event e h t)
-  by_event_orderly event.Retired t b user m = ends_orderly (after_event event.Retired h t) refl refl (m ∙ user) (omega (arith, o.lines))
-  by_event_orderly event.Raised t b user m = record { begun = o.begun; failed = o.failed; raised = λ k. b; running = o.running; spent = o.spent; lines = o.lines }
+  by_event_orderly event.Retired t b user m = ends_orderly (after_event event.Retired h t) refl refl (m ∙ user) (grown h.cpu.slot)
+  by_event_orderly event.Branched t b user m = record { begun = o.begun; failed = o.failed; raised = λ k. b; first = λ k. (let no : false ≡ true = sym (m ∙ user) ∙ k in absurd (cc)); running = o.running; spent = o.spent; lines = o.lines }
+  by_event_orderly event.Raised t b user m = record { begun = o.begun; failed = o.failed; raised = λ k. b; first = λ k. m; running = o.running; spent = o.spent; lines = o.lines }
 
   pub event_orderly : (t : Stepped) → t ≡ process_step h.cpu h.memory → 0 < h.own.spent → h.cpu.kernel ≡ false → IsOrderly (after_event t.event h t)
   event_orderly t is b user = by_event_orderly t.event t b user (subst (λ (x : Stepped). SameMode x.event h.cpu x.cpu) (sym is) (step_mode h.cpu h.memory))
 
 pub begun_orderly : (slots wired : ℕ) (h : Held) → IsOrderly h → h.outside.owed ≡ None → h.outside.process.state ≡ Ready → h.own.spent + 1 ≤ 64 → IsOrderly (begun slots wired h)
-begun_orderly slots wired h o owed ready few = record { begun = λ b. owed; failed = o.failed; raised = λ k. omega arith; running = λ b. ready; spent = few; lines = o.lines }
+begun_orderly slots wired h o owed ready few = record { begun = λ b. owed; failed = o.failed; raised = λ k. omega arith; first = o.first; running = λ b. ready; spent = few; lines = o.lines }
 
 pub failed_orderly : (h : Held) → IsOrderly h → h.outside.owed ≡ None → IsOrderly (failed h)
-failed_orderly h o owed = record { begun = o.begun; failed = λ f. owed; raised = o.raised; running = o.running; spent = o.spent; lines = o.lines }
+failed_orderly h o owed = record { begun = o.begun; failed = λ f. owed; raised = o.raised; first = o.first; running = o.running; spent = o.spent; lines = o.lines }
 
 pub idled_orderly : (h : Held) → IsOrderly h → IsOrderly (idled h)
-idled_orderly h o = record { begun = λ b. refl; failed = λ f. refl; raised = o.raised; running = o.running; spent = o.spent; lines = omega (arith, o.lines) }
+idled_orderly h o = record { begun = λ b. refl; failed = λ f. refl; raised = o.raised; first = o.first; running = o.running; spent = o.spent; lines = omega (arith, o.lines) }
 
 pub bounded_orderly : (h : Held) → IsOrderly h → IsOrderly (bounded h)
-bounded_orderly h o = record { begun = λ b. refl; failed = λ f. refl; raised = o.raised; running = o.running; spent = o.spent; lines = o.lines }
+bounded_orderly h o = record { begun = λ b. refl; failed = λ f. refl; raised = o.raised; first = o.first; running = o.running; spent = o.spent; lines = o.lines }
 
 -- The count and the clock.
 
@@ -132,25 +149,36 @@ served_spent : (k : Bool) (s : ℕ) → k ≡ true → s ≡ s + flag (not k)
 served_spent true s e = omega arith
 served_spent false s e = absurd (cc)
 
-pub verdict_moves : (h : Held) (access : Access) (v : Verdict) → h.outside.owed ≡ None → h.cpu.kernel ≡ true → h.own.spent ≤ 64 → Moves (step_by v) h (by_verdict h access v)
-verdict_moves h access (verdict.Allowed page offset) owed kernel few = (owed, owed, refl, served_spent h.cpu.kernel h.own.spent kernel, few, left_served h.cpu.kernel h.own.spent kernel, refl)
-verdict_moves h access (verdict.Denied rule code) owed kernel few = (owed, refl, refl, refl, refl)
+one_tick : (slot : Bool) (t : ℕ) → slot ≡ false → t + 1 ≡ t + ticks_of slot
+one_tick slot t e = ap (λ (b : Bool). t + ticks_of b) (sym e)
 
-pub called_moves : (h : Held) (c : Call) → h.outside.owed ≡ None → Moves step.Unit h (called_held h c)
-called_moves h call.Exit owed = (owed, refl, refl, refl, refl)
-called_moves h (call.Put byte) owed = (owed, refl, refl, refl, refl)
-called_moves h call.Unknown owed = (owed, refl, refl, refl, refl)
-called_moves h call.Get owed = (owed, refl, refl, refl, refl)
-called_moves h call.Yield owed = (owed, refl, refl, refl, refl)
-called_moves h call.Time owed = (owed, refl, refl, refl, refl)
-called_moves h call.Own owed = (owed, refl, refl, refl, refl)
-called_moves h (call.Give address receiver to mode) owed = (owed, refl, refl, refl, refl)
-called_moves h (call.Take process address) owed = (owed, refl, refl, refl, refl)
-called_moves h (call.Drop address) owed = (owed, refl, refl, refl, refl)
-called_moves h call.Wait owed = (owed, refl, refl, refl, refl)
+pub denied_moves : (h : Held) (kind : Denied) (address : ℕ) (rule : Rule) (code : ℕ) → h.outside.owed ≡ None → h.cpu.slot ≡ false → Moves step.Unit h (denied_held h kind address rule code)
+denied_moves h kind address rule code owed first = (owed, refl, one_tick h.cpu.slot h.outside.time first, refl, refl)
+
+pub verdict_moves : (h : Held) (access : Access) (v : Verdict) → h.outside.owed ≡ None → h.cpu.kernel ≡ true → h.cpu.slot ≡ false → h.own.spent ≤ 64 → Moves (step_by v) h (by_verdict h access v)
+verdict_moves h access (verdict.Allowed page offset) owed kernel first few = (owed, owed, refl, served_spent h.cpu.kernel h.own.spent kernel, few, left_served h.cpu.kernel h.own.spent kernel, refl)
+verdict_moves h access (verdict.Denied rule code) owed kernel first few = denied_moves h (denied_as access.kind) h.cpu.bad rule code owed first
+
+called_moves : (h : Held) (c : Call) → h.outside.owed ≡ None → h.cpu.slot ≡ false → Moves step.Unit h (called_held h c)
+called_moves h call.Exit owed first = (owed, refl, one_tick h.cpu.slot h.outside.time first, refl, refl)
+called_moves h (call.Put byte) owed first = (owed, refl, one_tick h.cpu.slot h.outside.time first, refl, refl)
+called_moves h call.Unknown owed first = (owed, refl, one_tick h.cpu.slot h.outside.time first, refl, refl)
+called_moves h call.Get owed first = (owed, refl, one_tick h.cpu.slot h.outside.time first, refl, refl)
+called_moves h call.Yield owed first = (owed, refl, one_tick h.cpu.slot h.outside.time first, refl, refl)
+called_moves h call.Time owed first = (owed, refl, one_tick h.cpu.slot h.outside.time first, refl, refl)
+called_moves h call.Own owed first = (owed, refl, one_tick h.cpu.slot h.outside.time first, refl, refl)
+called_moves h (call.Give address receiver to mode) owed first = (owed, refl, one_tick h.cpu.slot h.outside.time first, refl, refl)
+called_moves h (call.Take process address) owed first = (owed, refl, one_tick h.cpu.slot h.outside.time first, refl, refl)
+called_moves h (call.Drop address) owed first = (owed, refl, one_tick h.cpu.slot h.outside.time first, refl, refl)
+called_moves h call.Wait owed first = (owed, refl, one_tick h.cpu.slot h.outside.time first, refl, refl)
+
+pub called_or_fault_moves : (delayed : Bool) (h : Held) (c : Call) → h.outside.owed ≡ None → h.cpu.slot ≡ false → Moves step.Unit h (called_or_fault delayed h c)
+called_or_fault_moves true h c owed first = denied_moves h Exec (own_address h.cpu) I 8 owed first
+called_or_fault_moves false h c owed first = called_moves h c owed first
 
 pub event_counted : (e : Event) (h : Held) (t : Stepped) → Counted (step_of e) h (after_event e h t)
 event_counted event.Retired h t = (refl, refl, refl, refl)
+event_counted event.Branched h t = (refl, refl, refl, refl)
 event_counted event.Raised h t = (refl, refl, refl, refl)
 
 begun_spent : (k : Bool) (s : ℕ) → k ≡ false → s + 1 ≡ s + flag (not k)

@@ -1,9 +1,9 @@
 -- A station that is made stands for the first state.
-use Rattle.std.proofs.Common.{◌≡◌, ◌∙◌, sym, ap, refl, subst, ℕ, zero, suc, ◌+◌, ◌-◌, ◌*◌, ◌<◌, ◌≤◌, ◌==◌, Bool, true, false, List, [], ◌∷◌, ◌++◌, length, map, take, drop, get_or, replicate, Option, Some, None, IfSome, inl, inr, ◌⊎◌, arith, length-append}
-use Rattle.std.specs.List.{flat_map, All}
+use Rattle.std.proofs.Common.{◌≡◌, ◌∙◌, sym, ap, refl, subst, ℕ, zero, suc, ◌+◌, ◌-◌, ◌*◌, ◌<◌, ◌≤◌, ◌==◌, false, List, [], ◌∷◌, ◌++◌, length, map, take, drop, get_or, replicate, Option, Some, None, IfSome, inl, inr, ◌⊎◌, arith, length-append}
+use Rattle.std.specs.List.{All}
 use Rattle.std.proofs.lemmas.Bool.{cases_Bool}
 use Rattle.std.proofs.lemmas.Bool.Decides.{nat_tests}
-use Rattle.std.proofs.lemmas.List.{get_or_default, take_all, length-replicate, length-take, length-drop, length-map}
+use Rattle.std.proofs.lemmas.List.{get_or_default, take_all, length-replicate, length-take, length-map}
 use Rattle.std.proofs.lemmas.List.Folds.{flat_map-map}
 use Rattle.std.proofs.lemmas.List.Elements.{All-head, All-tail}
 use Rattle.std.specs.Prelude.{slice_index_or, position, bytes_eq}
@@ -15,22 +15,22 @@ use Rattle.ds_policy.specs.declared.policy.PolicyRule.{PolicyRule}
 use Rattle.ds_policy.specs.declared.policy.PolicyPage.{PolicyPage}
 use Rattle.ds_policy.specs.declared.policy.PolicyProcess.{PolicyProcess}
 use Rattle.ds_policy.specs.declared.policy.Source.{Source}
-use Rattle.ds_policy.specs.Pages.{Table, found, put, entry_at, Pages}
+use Rattle.ds_policy.specs.Pages.{Table, found, put, entry_at}
 use Rattle.ds_policy.specs.Grants.{PageState}
 use Rattle.ds_policy.specs.Value.{PolicyValue}
-use Rattle.ds_policy.specs.PolicyFacts.{IsGoodRule, IsGoodProcess}
+use Rattle.ds_policy.specs.PolicyFacts.{IsGoodRule}
 use Rattle.ds_policy.specs.PolicyParts.{sources_of}
 use Rattle.ds_policy.specs.FirstTable.{granted_by, with_rule, with_rules, table_of}
 use Rattle.ds_pagemap.specs.First.{part_of, source_bytes, image_at, image_named, first_pages, first_process, numbers, first_state}
 use Rattle.ds_station.specs.Frames.{FramesHold}
-use Rattle.ds_station.specs.Start.{no_input, first_cpu, first_saved, bytes_of_pages, padded, first_frames}
+use Rattle.ds_station.specs.Start.{no_input, first_cpu, first_saved, bytes_of_pages, first_frames}
 use Rattle.ds_tlb.specs.declared.entry.Entry.{Entry}
 use Rattle.ds_tlb.specs.Entries.{empty_entries}
 use Rattle.ds_procs.specs.declared.process.Process as saved
 use Rattle.ds_pagemap.specs.Machine.{State}
 use Rattle.ds_station.specs.Processor.{Cpu}
 use Rattle.ds_station.specs.Held.{Held, Outside}
-use Rattle.ds_station.specs.Stands.{BufferHolds, NamesPages, RunningIs, OutsideIs, Stands}
+use Rattle.ds_station.specs.Stands.{BufferHolds, NamesPages, RunningIs, Stands}
 use Rattle.ds_station.proofs.Refills.{empty_holds}
 use Rattle.ds_station.proofs.Frames.{frames_joined}
 
@@ -162,7 +162,7 @@ running_first c s number m entries random p cpu kept line only ready =
       ready = ready;
       standing = refl;
       line = sym line;
-      running = record { user = refl; pc = refl; registers = refl };
+      running = record { user = refl; first = refl; pc = refl; next = refl; registers = inl refl };
     }))
 
 -- what is held outside the processor

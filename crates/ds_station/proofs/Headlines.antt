@@ -1,11 +1,11 @@
 -- From a station's run to the text that is written.
-use Rattle.std.proofs.Common.{◌≡◌, ℕ, ◌≤◌, refl, sym, ◌∙◌, ap, subst, inl, inr, true, false, Bool, List, [], ◌∷◌, length, Option, Result, Ok, Err}
-use Rattle.std.specs.Prelude.{Some, OnOk, OnErr, IfErr, IfOk, None, is_some, ◌||◌, ◌&&◌, nat_lt, not, flat_map, slice_index_or}
+use Rattle.std.proofs.Common.{◌≡◌, ℕ, refl, sym, ◌∙◌, ap, subst, inl, inr, false, Bool, List, [], ◌∷◌, length, Option, Result, Ok, Err}
+use Rattle.std.specs.Prelude.{Some, OnOk, OnErr, IfErr, None, is_some, ◌||◌, ◌&&◌, nat_lt, not, flat_map, slice_index_or}
 use Rattle.std.specs.Io.KnownBytes.{Appends, Keeps}
 use Rattle.ds_log.specs.Text.{line_text}
 use Rattle.ds_pagemap.specs.declared.turn.Turn.{Turn}
 use Rattle.ds_pagemap.specs.Machine.{State}
-use Rattle.ds_pagemap.specs.Run.{Reaches, Ends, IsPrefix, goes_on, is_over}
+use Rattle.ds_pagemap.specs.Run.{Ends, IsPrefix, is_over}
 use Rattle.ds_pagemap.specs.Text.{text_of}
 use Rattle.ds_pagemap.specs.Inputs.{Refusal}
 use Rattle.ds_station.specs.Held.{Held}

@@ -1,8 +1,8 @@
 -- From a source to its image line by line, and from an image to its pages.
-use Rattle.std.proofs.Common.{◌≡◌, inl, inr, ◌∙◌, sym, ap, refl, ℕ, ◌+◌, ◌-◌, ◌*◌, ◌<◌, ◌≤◌, Bool, false, List, [], ◌∷◌, ◌++◌, length, take, drop, get_or, replicate, min, Option, Some, None, Result, Ok, Err, arith, nat_lt, ◌==◌, length-append, append-nil}
+use Rattle.std.proofs.Common.{◌≡◌, inl, inr, ◌∙◌, sym, ap, refl, ℕ, ◌+◌, ◌-◌, ◌*◌, ◌≤◌, Bool, false, List, [], ◌∷◌, ◌++◌, length, take, drop, replicate, min, Option, Some, None, Result, Ok, Err, arith, nat_lt, ◌==◌, length-append, append-nil}
 use Rattle.std.specs.List.{slice_split, position_or_len, before_first, after_first, onto_first}
 use Rattle.std.proofs.lemmas.Bool.{cases_Bool, ltb-true, ltb-false}
-use Rattle.std.proofs.lemmas.List.{drop_all, drop_more, take-append-le, take-replicate, drop-replicate, take_all, take_rest}
+use Rattle.std.proofs.lemmas.List.{drop_all, take-append-le, take-replicate, drop-replicate, take_all, take_rest}
 use Rattle.std.proofs.lemmas.List.Splits.{slice_split_first}
 use Rattle.std.proofs.Math.Seq.{take-append-add}
 use Rattle.ds_pagemap.specs.Image.{Fault, Syntax, TooLong, without_empty_last, lines_of, word_of, with_line, or_else, little_endian, image_from}

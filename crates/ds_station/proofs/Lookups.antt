@@ -1,6 +1,6 @@
 -- What the buffer lets go, the table allows.
-use Rattle.std.proofs.Common.{◌≡◌, ◌≢◌, ℕ, ◌+◌, ◌-◌, ◌*◌, ◌/◌, ◌%◌, ◌<◌, ◌≤◌, ◌^◌, IsTrue, Bool, true, false, cond, List, refl, sym, ap, subst, ◌∙◌, arith}
-use Rattle.std.specs.Prelude.{Option, Some, None, nat_le, not, ◌&&◌, ◌||◌, ◌==◌, slice_get, position}
+use Rattle.std.proofs.Common.{◌≡◌, ◌≢◌, ℕ, ◌+◌, ◌-◌, ◌*◌, ◌/◌, ◌%◌, ◌^◌, Bool, true, false, cond, List, refl, sym, ap, subst, ◌∙◌, arith}
+use Rattle.std.specs.Prelude.{Option, Some, None, nat_le, not, ◌&&◌, ◌||◌, ◌==◌, slice_get}
 use Rattle.std.proofs.lemmas.Option.{get_or_from_slice_get}
 use Rattle.std.proofs.lemmas.List.Quantifiers.{position-Some}
 use Rattle.std.proofs.Common.{get_or}
@@ -8,7 +8,6 @@ use Rattle.std.proofs.lemmas.Bool.Decides.{nat_tests}
 use Rattle.ds_isa.specs.declared.instr.Size.{Size}
 use Rattle.ds_policy.specs.declared.access.Kind.{Kind}
 use Rattle.ds_policy.specs.declared.access.Kind.TheVariants.{Fetch, Load, Store}
-use Rattle.ds_policy.specs.declared.access.Verdict.{Verdict}
 use Rattle.ds_policy.specs.declared.access.Verdict.TheVariants.{Allowed, Denied}
 use Rattle.ds_policy.specs.declared.access.Rule.TheVariants.{K, A}
 use Rattle.ds_policy.specs.declared.grant.Grant.{Grant}

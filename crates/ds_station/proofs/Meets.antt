@@ -1,8 +1,6 @@
 -- One instruction of the processor is one of the machine.
-use Rattle.std.proofs.Common.{◌≡◌, ◌≢◌, ℕ, ◌+◌, ◌-◌, ◌*◌, ◌/◌, ◌%◌, ◌<◌, ◌≤◌, ◌^◌, Bool, true, false, cond, List, [], ◌∷◌, refl, sym, ap, subst, ◌∙◌, arith}
+use Rattle.std.proofs.Common.{◌≡◌, ◌≢◌, ℕ, ◌+◌, ◌*◌, ◌/◌, ◌%◌, ◌<◌, ◌^◌, ◌⊎◌, Bool, true, false, cond, List, refl, sym, ap, subst, ◌∙◌, arith, inl, inr}
 use Rattle.std.specs.Prelude.{Option, Some, None, nat_le, not, slice_set}
-use Rattle.ds_isa.specs.declared.instr.Instr.{Instr}
-use Rattle.ds_isa.specs.declared.instr.Instr.TheVariants as instr
 use Rattle.ds_isa.specs.declared.instr.Size.{Size}
 use Rattle.ds_isa.specs.declared.instr.Size.TheVariants.{Word}
 use Rattle.ds_isa.specs.Registers.{Registers, settled}
@@ -12,14 +10,13 @@ use Rattle.ds_policy.specs.declared.access.Kind.{Kind}
 use Rattle.ds_policy.specs.declared.access.Kind.TheVariants as kind
 use Rattle.ds_policy.specs.declared.access.Rule.{Rule}
 use Rattle.ds_policy.specs.declared.access.Rule.TheVariants.{K, A}
-use Rattle.ds_policy.specs.declared.access.Verdict.{Verdict}
 use Rattle.ds_policy.specs.declared.access.Verdict.TheVariants as verdict
 use Rattle.ds_policy.specs.declared.grant.Grant.{Grant}
 use Rattle.ds_policy.specs.declared.grant.Right.{Right}
 use Rattle.ds_policy.specs.declared.grant.Right.TheVariants.{Nothing, Read, Write}
 use Rattle.ds_policy.specs.Pages.{Pages, Table, decide, is_aligned, address_code, allowed_on, by_right, by_entry, entry_at, page_address, bytes_of, word_at, with_word}
 use Rattle.ds_pagemap.specs.Machine.{State, Process}
-use Rattle.ds_pagemap.specs.Unit.{Outcome, Went, Branched, Called, Stopped, Stop, instruction, done, where_allowed, denied_as, fault, with_registers, stored}
+use Rattle.ds_pagemap.specs.Unit.{Outcome, Went, Branched, Called, Stopped, instruction, done, where_allowed, denied_as, fault, stored}
 use Rattle.ds_station.specs.Memory.{load_word, store_word}
 use Rattle.ds_station.specs.Frames.{FramesHold}
 use Rattle.ds_station.specs.declared.processor.Cause.{Cause}
@@ -27,28 +24,28 @@ use Rattle.ds_station.specs.declared.processor.Cause.TheVariants as cause
 use Rattle.ds_station.specs.declared.processor.Event.{Event}
 use Rattle.ds_station.specs.declared.processor.Event.TheVariants as event
 use Rattle.ds_station.specs.Processor as processor
-use Rattle.ds_station.specs.Processor.{Cpu, Stepped, process_step, translate, effect, fetched, loaded_from, stored_to, raised_cpu, gone_cpu}
+use Rattle.ds_station.specs.Processor.{Cpu, Stepped, process_step, translate, effect, fetched, loaded_from, stored_to, raised_cpu, gone_cpu, branched_cpu}
 use Rattle.ds_station.specs.Stands.{BufferHolds, NamesPages}
 use Rattle.ds_station.proofs.Frames.{word_alike, word_stored}
 use Rattle.ds_station.proofs.Lookups.{translate_allowed}
-
--- a machine whose only process is q, and runs
-abbrev pub runs : State → Process → State
-runs m q = record m { processes = q ∷ []; ready = 1 ∷ [] }
+use Rattle.ds_station.proofs.Links.{runs}
 
 abbrev pub with_pages : State → Pages → State
 with_pages m pages = record m { memory = record m.memory { pages = pages } }
 
--- what the machine does where the processor leaves the program
-abbrev pub Leaves : Cause → ℕ → ℕ → State → Outcome → Type 0
-Leaves (cause.Access access) bad pc m o = (rule : Rule) (code : ℕ) → decide m.memory.table 1 access.kind access.size bad ≡ verdict.Denied rule code → o ≡ Stopped (record { kind = denied_as access.kind; address = bad; rule = rule; code = code })
-Leaves (cause.Fault code) bad pc m o = o ≡ Stopped (fault pc code)
-Leaves cause.Call bad pc m o = o ≡ Called
+-- What the machine does where the processor leaves the program; slot tells whether the instruction
+-- stands behind a branch, where another branch is reserved.
+abbrev pub Leaves : Cause → ℕ → Bool → ℕ → State → Outcome → Type 0
+Leaves (cause.Access access) bad slot pc m o = (rule : Rule) (code : ℕ) → decide m.memory.table 1 access.kind access.size bad ≡ verdict.Denied rule code → o ≡ Stopped (record { kind = denied_as access.kind; address = bad; rule = rule; code = code })
+Leaves (cause.Fault code) bad false pc m o = o ≡ Stopped (fault pc code)
+Leaves (cause.Fault code) bad true pc m o = (o ≡ Stopped (fault pc code)) ⊎ ((code ≡ 10) × ((after : State) × (target : ℕ) × (o ≡ Branched after target)))
+Leaves cause.Call bad slot pc m o = o ≡ Called
 
 -- an outcome and what the processor made of it
 abbrev pub MeetsBy : Event → Cpu → List ℕ → State → Process → Outcome → Stepped → Type 0
 MeetsBy event.Retired c memory m q o t = (r : Registers) × (pages : Pages) × (o ≡ Went (with_pages (runs m (record q { registers = r })) pages)) × FramesHold t.memory (record m.memory { pages = pages }) × (t.cpu ≡ gone_cpu c r)
-MeetsBy event.Raised c memory m q o t = (why : Cause) × (bad : ℕ) × Leaves why bad c.pc m o × (t.memory ≡ memory) × (t.cpu ≡ raised_cpu c why bad)
+MeetsBy event.Branched c memory m q o t = (r : Registers) × (target : ℕ) × (o ≡ Branched (runs m (record q { registers = r })) target) × (c.slot ≡ false) × (t.memory ≡ memory) × (t.cpu ≡ branched_cpu c r target)
+MeetsBy event.Raised c memory m q o t = (why : Cause) × (bad : ℕ) × Leaves why bad c.slot c.pc m o × (t.memory ≡ memory) × (t.cpu ≡ raised_cpu c why bad)
 
 pub record Meets (c : Cpu) (memory : List ℕ) (m : State) (q : Process) (o : Outcome) (t : Stepped) : Type 0 where
   pub meets : MeetsBy t.event c memory m q o t
@@ -78,34 +75,13 @@ allowed_tests false false found k o page offset e = allowed_entry found k o page
 pub allowed_place : (table : Table) (k : Kind) (size : Size) (address page offset : ℕ) → decide table 1 k size address ≡ verdict.Allowed page offset → (g : Grant) × (entry_at table 1 (page_address address) ≡ Some g) × (g.page ≡ Some page) × (offset ≡ address % 4096) × (g.right ≢ Nothing)
 allowed_place table k size address page offset e = allowed_tests (not (is_aligned size address)) (nat_le (2 ^ 31) address) (entry_at table 1 (page_address address)) k (address % 4096) page offset e
 
--- no instruction of today branches
-abbrev StaysInLine : Effect → Type 0
-StaysInLine (Branches after target) = ⊥
-StaysInLine (Goes after) = Unit {0}
-StaysInLine (Loads size address after) = Unit {0}
-StaysInLine (Stores size address after) = Unit {0}
-StaysInLine (Faults code) = Unit {0}
-StaysInLine Calls = Unit {0}
-StaysInLine Privileged = Unit {0}
-
-stays_in_line : (i : Instr) (pc : ℕ) (r : Registers) → StaysInLine (meaning i pc r)
-stays_in_line (instr.Sll rd rt shamt) pc r = tt
-stays_in_line (instr.Addu rd rs rt) pc r = tt
-stays_in_line (instr.Addiu rt rs i) pc r = tt
-stays_in_line (instr.Ori rt rs i) pc r = tt
-stays_in_line (instr.Lui rt i) pc r = tt
-stays_in_line (instr.Lw rt rs i) pc r = tt
-stays_in_line (instr.Sw rt rs i) pc r = tt
-stays_in_line (instr.Syscall code) pc r = tt
-stays_in_line (instr.Reserved w) pc r = tt
-
 whole : (place : ℕ) → place / 4096 * 4096 + place % 4096 ≡ place
 whole place = omega arith
 
 small_offset : (place : ℕ) → place % 4096 < 4096
 small_offset place = omega arith
 
-module _ (c : Cpu) (memory : List ℕ) (m : State) (q : Process) (buffer : BufferHolds c.entries m.memory.table) (frames : FramesHold memory m.memory) (names : NamesPages m.memory) (at : c.pc ≡ q.pc) (same : c.registers ≡ q.registers) where
+module _ (c : Cpu) (memory : List ℕ) (m : State) (q : Process) (buffer : BufferHolds c.entries m.memory.table) (frames : FramesHold memory m.memory) (names : NamesPages m.memory) (same : c.registers ≡ q.registers) where
   -- the page that the table allows is one of the policy's
   named_page : (k : Kind) (size : Size) (address page offset : ℕ) → decide m.memory.table 1 k size address ≡ verdict.Allowed page offset → page < m.memory.named
   named_page k size address page offset d = let p = allowed_place m.memory.table k size address page offset d in names.named (page_address address) p.0 page p.1 p.2
@@ -132,14 +108,22 @@ module _ (c : Cpu) (memory : List ℕ) (m : State) (q : Process) (buffer : Buffe
       rw w (subst (λ (x : ℕ). FramesHold (store_word memory x (after (load_word memory place))) (record m.memory { pages = slice_set m.memory.pages (place / 4096) (Some (with_word bytes (place % 4096) (after (load_word memory place)))) })) (whole place) (word_stored memory m.memory (place / 4096) (place % 4096) (after (load_word memory place)) frames p (small_offset place))) in
       rw d (record { meets = (settled q.registers, _, refl, stands, rw same refl) })
 
-  effect_meets : (e : Effect) → StaysInLine e → Meets c memory m q (done (runs m q) 1 c.pc e) (effect c memory e)
-  effect_meets (Goes after) s = record { meets = (after, m.memory.pages, refl, frames, refl) }
-  effect_meets (Branches after target) s = absurd s
-  effect_meets (Loads size address after) s = load_meets size address after (translate c.entries kind.Load size address) refl
-  effect_meets (Stores size address after) s = store_meets size address after (translate c.entries kind.Store size address) refl
-  effect_meets (Faults code) s = record { meets = (cause.Fault code, 0, refl, refl, refl) }
-  effect_meets Calls s = record { meets = (cause.Call, 0, refl, refl, refl) }
-  effect_meets Privileged s = record { meets = (cause.Fault 11, 0, refl, refl, refl) }
+  branch_meets : (slot : Bool) (after : Registers) (target : ℕ) → c.slot ≡ slot → Meets c memory m q (Branched (runs m (record q { registers = after })) target) (processor.branched slot c memory after target)
+  branch_meets true after target e = record { meets = (cause.Fault 10, 0, subst (λ (b : Bool). Leaves (cause.Fault 10) 0 b c.pc m (Branched (runs m (record q { registers = after })) target)) (sym e) (inr (refl, (runs m (record q { registers = after }), target, refl))), refl, refl) }
+  branch_meets false after target e = record { meets = (after, target, refl, e, refl, refl) }
+
+  fault_leaves : (slot : Bool) (code : ℕ) → Leaves (cause.Fault code) 0 slot c.pc m (Stopped (fault c.pc code))
+  fault_leaves true code = inl refl
+  fault_leaves false code = refl
+
+  effect_meets : (e : Effect) → Meets c memory m q (done (runs m q) 1 c.pc e) (effect c memory e)
+  effect_meets (Goes after) = record { meets = (after, m.memory.pages, refl, frames, refl) }
+  effect_meets (Branches after target) = branch_meets c.slot after target refl
+  effect_meets (Loads size address after) = load_meets size address after (translate c.entries kind.Load size address) refl
+  effect_meets (Stores size address after) = store_meets size address after (translate c.entries kind.Store size address) refl
+  effect_meets (Faults code) = record { meets = (cause.Fault code, 0, fault_leaves c.slot code, refl, refl) }
+  effect_meets Calls = record { meets = (cause.Call, 0, refl, refl, refl) }
+  effect_meets Privileged = record { meets = (cause.Fault 11, 0, fault_leaves c.slot 11, refl, refl) }
 
   fetch_meets : (found : Option ℕ) → translate c.entries kind.Fetch Word c.pc ≡ found →
       Meets c memory m q (where_allowed (decide m.memory.table 1 kind.Fetch Word c.pc) kind.Fetch c.pc (λ page offset. done (runs m q) 1 c.pc (meaning (instruction_of (word_at (bytes_of m.memory.pages page) offset)) c.pc q.registers))) (fetched c memory found)
@@ -148,9 +132,9 @@ module _ (c : Cpu) (memory : List ℕ) (m : State) (q : Process) (buffer : Buffe
       let d = translate_allowed m.memory.table c.entries buffer kind.Fetch Word c.pc place t in
       let w = word_here kind.Fetch Word c.pc place d in
       let i = instruction_of (load_word memory place) in
-      rw (d, w) (subst (λ (r : Registers). Meets c memory m q (done (runs m q) 1 c.pc (meaning i c.pc r)) (effect c memory (meaning i c.pc c.registers))) same (effect_meets (meaning i c.pc c.registers) (stays_in_line i c.pc c.registers)))
+      rw (d, w) (subst (λ (r : Registers). Meets c memory m q (done (runs m q) 1 c.pc (meaning i c.pc r)) (effect c memory (meaning i c.pc c.registers))) same (effect_meets (meaning i c.pc c.registers)))
 
   -- one instruction of both
-  pub step_meets : Meets c memory m q (instruction (runs m q) 1 q.pc) (process_step c memory)
+  pub step_meets : Meets c memory m q (instruction (runs m q) 1 c.pc) (process_step c memory)
   unfolding instruction process_step
-  step_meets = subst (λ (pc : ℕ). Meets c memory m q (instruction (runs m q) 1 pc) (process_step c memory)) at (fetch_meets (translate c.entries kind.Fetch Word c.pc) refl)
+  step_meets = fetch_meets (translate c.entries kind.Fetch Word c.pc) refl

@@ -1,6 +1,6 @@
 -- The text of a name among sources, place by place; and the images of names, one by one.
-use Rattle.std.proofs.Common.{◌≡◌, ℕ, suc, ◌+◌, ◌<◌, ◌≤◌, true, false, Bool, cond, List, [], ◌∷◌, ◌++◌, length, drop, get_or, refl, sym, ap, subst, ◌∙◌, add-one, Bor, Option, Result, Ok, Err}
-use Rattle.std.specs.Prelude.{Some, None, bytes_eq, map}
+use Rattle.std.proofs.Common.{◌≡◌, ℕ, suc, ◌+◌, ◌<◌, ◌≤◌, true, false, Bool, cond, List, [], ◌∷◌, ◌++◌, length, drop, get_or, refl, sym, ap, subst, ◌∙◌, add-one, Bor, Result, Ok}
+use Rattle.std.specs.Prelude.{Some, None, bytes_eq}
 use Rattle.std.proofs.Math.Seq.{drop-cons}
 use Rattle.std.proofs.Math.ListN.{drop_of_length-le}
 use Rattle.ds_pagemap.specs.Inputs.{Refusal, Sources, text_named, image_read, images_from, ◌>>=◌}

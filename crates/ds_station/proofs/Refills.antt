@@ -1,9 +1,9 @@
 -- A refill keeps what the buffer promises.
-use Rattle.std.proofs.Common.{◌≡◌, ◌≢◌, ℕ, ◌+◌, ◌*◌, ◌/◌, ◌%◌, ◌<◌, ◌≤◌, ◌^◌, IsTrue, Bool, true, false, List, length, set, get_or, refl, sym, ap, subst, ◌∙◌, arith, inl, inr, ◌⊎◌, Option}
-use Rattle.std.specs.Prelude.{Some, None, slice_get, slice_set, unwrap_or, not, IsNone, IsSomeAnd, All, ◌==◌, ◌||◌}
-use Rattle.std.proofs.lemmas.Bool.{cases_eq, cases_lt}
+use Rattle.std.proofs.Common.{◌≡◌, ◌≢◌, ℕ, Bool, true, false, List, set, get_or, refl, sym, ap, subst, ◌∙◌, arith, inl, inr, ◌⊎◌, Option}
+use Rattle.std.specs.Prelude.{Some, None, slice_get, slice_set, unwrap_or, not}
+use Rattle.std.proofs.lemmas.Bool.{cases_eq}
 use Rattle.std.proofs.lemmas.Bool.Decides.{nat_tests}
-use Rattle.std.proofs.lemmas.Option.{slice_get-get_or, slice_get_within, get_or_from_slice_get, slice_get_past}
+use Rattle.std.proofs.lemmas.Option.{slice_get-get_or, slice_get_within, get_or_from_slice_get}
 use Rattle.std.proofs.lemmas.List.{get_or-set_same, get_or-set_other}
 use Rattle.std.proofs.Common.{length-set}
 use Rattle.std.proofs.lemmas.List.FromFn.{length-map-range_with_len, get_or-map-range_with_len}
@@ -11,7 +11,7 @@ use Rattle.ds_policy.specs.declared.grant.Grant.{Grant}
 use Rattle.ds_policy.specs.Pages.{Table}
 use Rattle.ds_tlb.specs.declared.entry.Entry.{Entry}
 use Rattle.ds_tlb.specs.Entries.{matches, find, empty_entry, empty_entries}
-use Rattle.ds_tlb.specs.Singles.{match_each_other, IsSingle, IsOnlyMatch, MatchesAt}
+use Rattle.ds_tlb.specs.Singles.{match_each_other, IsSingle, IsOnlyMatch}
 use Rattle.ds_tlb.proofs.Matches.{only_match, missed_match, empty_entries_are_single}
 use Rattle.ds_station.specs.Stands.{IsBacked, BufferHolds}
 use Rattle.ds_station.specs.Services.{refilled}

@@ -1,10 +1,10 @@
 -- A run of the station, step by step.
-use Rattle.std.proofs.Common.{◌≡◌, ℕ, ◌+◌, ◌-◌, ◌*◌, ◌<◌, ◌≤◌, refl, sym, ◌∙◌, ap, subst, arith, true, false, Bool, cond, inl, inr, List, [], ◌∷◌}
+use Rattle.std.proofs.Common.{◌≡◌, ℕ, ◌+◌, ◌-◌, ◌*◌, ◌<◌, ◌≤◌, refl, sym, ◌∙◌, ap, subst, arith, true, false, Bool, cond, inl, inr, List}
 use Rattle.std.proofs.lemmas.Bool.Decides.{nat_tests}
-use Rattle.std.specs.Prelude.{◌||◌, ◌&&◌, nat_lt, not, is_some, IsSome, Option, Some, None, Result, Ok, Err, OnErr}
+use Rattle.std.specs.Prelude.{◌||◌, ◌&&◌, nat_lt, not, is_some, Option, Some, None, Result, Ok, Err, OnErr}
 use Rattle.ds_procs.specs.declared.process.Standing.{Standing}
 use Rattle.ds_pagemap.specs.declared.turn.Turn.{Turn}
-use Rattle.ds_pagemap.specs.Machine.{State, Process, has_ended, touched}
+use Rattle.ds_pagemap.specs.Machine.{State, Process, has_ended}
 use Rattle.ds_pagemap.specs.Unit.{unit}
 use Rattle.ds_pagemap.specs.Boundary.{boundary}
 use Rattle.ds_pagemap.specs.Run.{half, goes_on, is_over, Reaches}
@@ -13,6 +13,7 @@ use Rattle.ds_station.specs.declared.parts.Step.{Step}
 use Rattle.ds_station.specs.declared.parts.Step.TheVariants.{Inside, Unit, Boundary, Over}
 use Rattle.ds_station.specs.Held.{Held}
 use Rattle.ds_station.specs.Stands.{Stands, IsSound}
+use Rattle.ds_station.specs.Services.{ticks_of}
 use Rattle.ds_station.specs.Steps.{StepTo, HalfTo, Follows, Stays, Moves, left, flag}
 use Rattle.ds_station.specs.Sound.{RunsTo, RunsWithin, held_goes_on}
 
@@ -106,6 +107,10 @@ not_over n h new s g f =
     let t = f.follows s.state s.stands in
     stops n s.state t.1.0 t.1.1 (goes_alike n h s.state s.stands ∙ g)
 
+some_ticks : (slot : Bool) → 1 ≤ ticks_of slot
+some_ticks true = omega arith
+some_ticks false = omega arith
+
 pub rank_falls : (step : Step) (n : ℕ) (old new : Held) → held_goes_on n old ≡ true → IsSound old → Follows step old new → Moves step old new → rank n new < rank n old
 rank_falls Inside n old new g s f m =
     let a = rank_owed n old m.0 in
@@ -118,6 +123,7 @@ rank_falls Unit n old new g s f m =
     let a = rank_owed n old m.0 in
     let b = rank_most (is_some new.outside.owed) new in
     let c = m.2 in
+    let some : 1 ≤ ticks_of old.cpu.slot = some_ticks old.cpu.slot in
     rw (a, c) (omega arith)
 rank_falls Boundary n old new g s f m =
     let b = rank_owed n new m.0 in

@@ -1,56 +1,25 @@
 -- Turns in which no process runs, boundaries, and what the station does to its own marks.
-use Rattle.std.proofs.Common.{◌≡◌, ◌≢◌, ℕ, ◌+◌, ◌-◌, ◌*◌, ◌/◌, ◌%◌, ◌<◌, ◌^◌, ◌++◌, Bool, true, false, cond, List, [], ◌∷◌, length, refl, sym, ap, ap₂, subst, ◌∙◌, arith, inl, inr}
-use Rattle.std.specs.Prelude.{◌&&◌, Option, Some, None, is_some, flat_map, slice_index, slice_index_or, slice_set, ◌==◌, IsSome}
-use Rattle.std.proofs.lemmas.Grind.{flat_map-append}
-use Rattle.std.proofs.lemmas.List.{length-append, append-nil}
-use Rattle.std.proofs.Common.{length-set}
-use Rattle.ds_word.specs.Word.{word}
-use Rattle.ds_isa.specs.Registers.{Registers, settled}
+use Rattle.std.proofs.Common.{◌≡◌, ◌≢◌, ℕ, ◌+◌, Bool, true, false, cond, List, [], ◌∷◌, refl, sym, ap, subst, ◌∙◌, inl, inr}
+use Rattle.std.specs.Prelude.{◌&&◌, Option, Some, None, is_some, IsSome}
 use Rattle.ds_procs.specs.declared.process.Process as saved
 use Rattle.ds_procs.specs.declared.process.Standing.{Standing}
 use Rattle.ds_procs.specs.declared.process.Standing.TheVariants.{Ready, Waiting, Parked, Ended}
-use Rattle.ds_procs.specs.declared.call.Call.{Call}
-use Rattle.ds_procs.specs.declared.call.Call.TheVariants as call
-use Rattle.ds_procs.specs.Calls.{call_of}
-use Rattle.ds_policy.specs.declared.access.Access.{Access}
-use Rattle.ds_policy.specs.declared.access.Rule.{Rule}
-use Rattle.ds_policy.specs.declared.access.Rule.TheVariants.{I}
-use Rattle.ds_policy.specs.declared.access.Verdict.{Verdict}
-use Rattle.ds_policy.specs.declared.access.Verdict.TheVariants as verdict
 use Rattle.ds_policy.specs.declared.command.TimedCommand.{TimedCommand}
 use Rattle.ds_policy.specs.declared.command.Character.{Character}
-use Rattle.ds_policy.specs.declared.grant.Grant.{Grant}
-use Rattle.ds_policy.specs.declared.grant.Entry.{Entry as TableEntry}
-use Rattle.ds_policy.specs.Pages.{Table, decide, entry_at, found, page_address}
-use Rattle.ds_policy.specs.Grants.{PageState, is_write, end_process}
-use Rattle.ds_log.specs.declared.line.Line.{Line}
-use Rattle.ds_log.specs.declared.line.Line.TheVariants.{Denial}
-use Rattle.ds_log.specs.declared.line.Denied.{Denied}
-use Rattle.ds_log.specs.declared.line.Denied.TheVariants as denied
-use Rattle.ds_log.specs.Text.{line_text}
-use Rattle.ds_tlb.specs.declared.entry.Entry.{Entry}
 use Rattle.ds_tlb.specs.Entries.{ticked}
 use Rattle.ds_pagemap.specs.declared.turn.Turn.{Turn}
-use Rattle.ds_pagemap.specs.Machine.{State, Process, touched, touched_process, has_ended}
-use Rattle.ds_pagemap.specs.Calls.{served}
+use Rattle.ds_pagemap.specs.Machine.{State, Process, has_ended}
 use Rattle.ds_pagemap.specs.Boundary.{boundary}
-use Rattle.ds_pagemap.specs.Unit.{Stop, unit, denied_as, fault, parked, after_call, at_pc, settle}
+use Rattle.ds_pagemap.specs.Unit.{unit}
 use Rattle.ds_pagemap.specs.Run.{half, is_over}
-use Rattle.ds_station.specs.declared.processor.Cause.{Cause}
-use Rattle.ds_station.specs.declared.processor.Cause.TheVariants as cause
 use Rattle.ds_station.specs.declared.parts.Step.{Step}
-use Rattle.ds_station.specs.declared.parts.Step.TheVariants.{Inside, Unit, Boundary, Over}
+use Rattle.ds_station.specs.declared.parts.Step.TheVariants.{Boundary, Over}
 use Rattle.ds_station.specs.Processor.{Cpu}
-use Rattle.ds_station.specs.Held.{Held, Outside}
-use Rattle.ds_station.specs.Stands.{IsBacked, BufferHolds, NamesPages, Promise, AtStart, InService, OnCpu, IsSaved, RunningBy, RunningIs, OutsideIs, Stands, IsSound, ready_of, owes, stopped}
-use Rattle.ds_station.specs.Services as services
-use Rattle.ds_station.specs.Services.{denied_held, fault_held, filled_held, by_verdict, step_by, called_held, exited, answered_held, idled, bounded, begun, failed, may_write, has_write, entry_for, touched_registers, kept_at}
-use Rattle.ds_station.specs.Steps.{StepTo, HalfTo, Follows, Stays}
-use Rattle.ds_station.proofs.Frames.{frames_ended}
-use Rattle.ds_station.proofs.Meets.{allowed_place, runs}
-use Rattle.ds_station.proofs.Lookups.{page_start}
-use Rattle.ds_station.proofs.Refills.{refill_holds, empty_holds}
-use Rattle.ds_station.proofs.Stages.{half_unit, Comes, on_as, Runs, runs_in, running_ready, is_runs, is_running_of}
+use Rattle.ds_station.specs.Held.{Held}
+use Rattle.ds_station.specs.Stands.{OnCpu, RunningBy, Stands, IsSound, ready_of}
+use Rattle.ds_station.specs.Services.{idled, bounded, begun, failed}
+use Rattle.ds_station.specs.Steps.{Follows, Stays}
+use Rattle.ds_station.proofs.Stages.{half_unit}
 
 -- a machine with one process, nothing due and no clock
 abbrev quiet : State → Process → List ℕ → Option Turn → State
@@ -86,12 +55,19 @@ not_waiting Parked c kept q m k e = cc
 not_waiting Ended c kept q m k e = cc
 
 -- where a boundary is owed, the unit has not begun
-not_begun : (b : Bool) (c : Cpu) (q : Process) (m t : State) (turn : Turn) → m.owed ≡ Some turn → OnCpu b c q m → OnCpu b c q t
-not_begun true c q m t turn o k = let no : Some turn ≡ None = sym o ∙ k.owed in absurd (cc)
-not_begun false c q m t turn o k = record { user = k.user; pc = k.pc; registers = k.registers }
+not_begun : (kernel slot : Bool) (c : Cpu) (q : Process) (m t : State) (turn : Turn) → m.owed ≡ Some turn → OnCpu kernel slot c q m → OnCpu kernel slot c q t
+not_begun true slot c q m t turn o k = let no : Some turn ≡ None = sym o ∙ k.owed in absurd (cc)
+not_begun false true c q m t turn o k = let no : Some turn ≡ None = sym o ∙ k.owed in absurd (cc)
+not_begun false false c q m t turn o k = record {
+  user = k.user;
+  first = k.first;
+  pc = k.pc;
+  next = k.next;
+  registers = elim k.registers [ inl same ↦ inl same | inr again ↦ (let no : Some turn ≡ None = sym o ∙ again.0 in absurd (cc)) ];
+}
 
 running_still : (s : Standing) (c : Cpu) (kept : saved.Process) (q : Process) (m t : State) (turn : Turn) → m.owed ≡ Some turn → RunningBy s c kept q m → RunningBy s c kept q t
-running_still Ready c kept q m t turn o k = not_begun c.kernel c q m t turn o k
+running_still Ready c kept q m t turn o k = not_begun c.kernel c.slot c q m t turn o k
 running_still Waiting c kept q m t turn o k = absurd k
 running_still Parked c kept q m t turn o k = k
 running_still Ended c kept q m t turn o k = k
@@ -221,12 +197,13 @@ rests h owed ended = record {
 
 -- The station's own marks.
 
-on_random : (b : Bool) (c : Cpu) (random : ℕ) (q : Process) (m : State) → OnCpu b c q m → OnCpu b (record c { random = random }) q m
-on_random true c random q m k = record { kernel = k.kernel; owed = k.owed; epc = k.epc; registers = k.registers; promise = k.promise }
-on_random false c random q m k = record { user = k.user; pc = k.pc; registers = k.registers }
+on_random : (kernel slot : Bool) (c : Cpu) (random : ℕ) (q : Process) (m : State) → OnCpu kernel slot c q m → OnCpu kernel slot (record c { random = random }) q m
+on_random true slot c random q m k = record { kernel = k.kernel; owed = k.owed; epc = k.epc; registers = k.registers; promise = k.promise }
+on_random false true c random q m k = record { user = k.user; second = k.second; owed = k.owed; pc = k.pc; within = k.within; branched = k.branched }
+on_random false false c random q m k = record { user = k.user; first = k.first; pc = k.pc; next = k.next; registers = k.registers }
 
 running_random : (s : Standing) (c : Cpu) (random : ℕ) (kept : saved.Process) (q : Process) (m : State) → RunningBy s c kept q m → RunningBy s (record c { random = random }) kept q m
-running_random Ready c random kept q m k = on_random c.kernel c random q m k
+running_random Ready c random kept q m k = on_random c.kernel c.slot c random q m k
 running_random Waiting c random kept q m k = k
 running_random Parked c random kept q m k = k
 running_random Ended c random kept q m k = k

@@ -1,5 +1,5 @@
 -- The four console texts, and their room.
-use Rattle.std.specs.Prelude.{◌≡◌, ℕ, ◌+◌, ◌≤◌, List, map, All, vec_len, vec_capacity}
+use Rattle.std.specs.Prelude.{ℕ, ◌+◌, ◌≤◌, List, map, All, vec_len, vec_capacity}
 use Rattle.ds_station.specs.declared.consoles.Consoles.{Consoles}
 
 abbrev pub texts_of : Consoles → List (List ℕ)

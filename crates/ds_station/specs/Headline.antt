@@ -8,7 +8,6 @@ use Rattle.ds_pagemap.specs.Text.{text_of}
 use Rattle.ds_pagemap.specs.Inputs.{Refusal, Sources}
 use Rattle.ds_pagemap.specs.Inputs as inputs
 use Rattle.ds_station.specs.Held.{Held}
-use Rattle.ds_station.specs.Stands.{Stands}
 use Rattle.ds_station.specs.Report.{report_text}
 use Rattle.ds_station.specs.Sent.{AppendsPart}
 use Rattle.ds_station.specs.declared.fault.Fault.{Fault}

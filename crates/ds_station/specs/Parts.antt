@@ -1,5 +1,5 @@
 -- What the parts of a station hold, and the room that they have.
-use Rattle.std.specs.Prelude.{◌≡◌, ℕ, ◌+◌, ◌<◌, ◌≤◌, List, true, false, None, length, vec_len, vec_capacity}
+use Rattle.std.specs.Prelude.{◌≡◌, ℕ, ◌+◌, ◌<◌, ◌≤◌, List, true, false, None, vec_len, vec_capacity}
 use Rattle.ds_procs.specs.declared.process.Standing.TheVariants.{Ready}
 use Rattle.ds_tlb.specs.declared.entry.Entry.{Entry}
 use Rattle.ds_station.specs.Processor.{cpu_of}
@@ -35,8 +35,9 @@ pub record IsOrderly (h : Held) : Type 0 where
   -- a unit that has begun owes no boundary, and a failure comes only where none is owed
   pub begun : 0 < h.own.spent → h.outside.owed ≡ None
   pub failed : h.own.failed ≡ true → h.outside.owed ≡ None
-  -- an exception is raised in a unit, and a unit is that of a process that is ready
+  -- an exception is raised in a unit, and has left the delay slot; a unit is that of a process that is ready
   pub raised : h.cpu.kernel ≡ true → 0 < h.own.spent
+  pub first : h.cpu.kernel ≡ true → h.cpu.slot ≡ false
   pub running : 0 < h.own.spent → h.outside.process.state ≡ Ready
   pub spent : h.own.spent ≤ 64
   pub lines : h.outside.lines ≤ h.outside.time

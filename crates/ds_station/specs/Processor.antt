@@ -1,13 +1,11 @@
 -- One user instruction of the processor.
 use Rattle.std.specs.Prelude.{ℕ, ◌+◌, ◌*◌, ◌/◌, ◌%◌, ◌^◌, Bool, true, false, ◌&&◌, ◌||◌, not, nat_le, if◌then◌else◌, List, slice_get, Option, Some, None}
-use Rattle.ds_word.specs.Word.{word}
+use Rattle.ds_word.specs.Word.{word, minus}
 use Rattle.ds_isa.specs.declared.instr.Size.{Size}
 use Rattle.ds_isa.specs.declared.instr.Size.TheVariants.{Word}
-use Rattle.ds_isa.specs.declared.instr.Late.{Late}
-use Rattle.ds_isa.specs.Registers.{Registers, settled}
+use Rattle.ds_isa.specs.Registers.{Registers, settled, written}
 use Rattle.ds_isa.specs.Instruction.{instruction_of}
-use Rattle.ds_isa.specs.Meaning.{Effect, Goes, Branches, Loads, Stores, Faults, Calls, Privileged, meaning}
-use Rattle.ds_policy.specs.declared.access.Access.{Access}
+use Rattle.ds_isa.specs.Meaning.{Effect, Goes, Branches, Loads, Stores, Faults, Calls, Privileged, behind_slot, meaning}
 use Rattle.ds_policy.specs.declared.access.Kind.{Kind}
 use Rattle.ds_policy.specs.declared.access.Kind.TheVariants.{Fetch, Load, Store}
 use Rattle.ds_policy.specs.Pages.{is_aligned}
@@ -18,16 +16,22 @@ use Rattle.ds_station.specs.declared.processor.Core.{Core}
 use Rattle.ds_station.specs.declared.processor.Cause.{Cause}
 use Rattle.ds_station.specs.declared.processor.Cause.TheVariants as cause
 use Rattle.ds_station.specs.declared.processor.Event.{Event}
-use Rattle.ds_station.specs.declared.processor.Event.TheVariants.{Retired, Raised}
+use Rattle.ds_station.specs.declared.processor.Event.TheVariants.{Retired, Branched, Raised}
 
 pub record Cpu : Type 0 where
   pub registers : Registers
   pub pc : ℕ
+  -- where the machine goes on behind the instruction at pc
+  pub next : ℕ
+  -- pc stands in the delay slot of a branch or jump
+  pub slot : Bool
   -- an exception waits to be served
   pub kernel : Bool
+  -- of that exception: the address of the unit, why, the address that was asked for, and whether it came in the slot
   pub epc : ℕ
   pub cause : Cause
   pub bad : ℕ
+  pub delayed : Bool
   pub entries : List Entry
   pub random : ℕ
 
@@ -38,10 +42,13 @@ abbrev pub cpu_of : {L : Type 0} → (L → List Entry) → (L → ℕ) → Core
 cpu_of entries random c = record {
   registers = registers_of c;
   pc = c.pc;
+  next = c.next;
+  slot = c.slot;
   kernel = c.kernel;
   epc = c.epc;
   cause = c.cause;
   bad = c.bad;
+  delayed = c.delayed;
   entries = entries c.tlb;
   random = random c.tlb;
 }
@@ -72,17 +79,36 @@ translate entries kind size address =
     if not (is_aligned size address) || nat_le (2 ^ 31) address then None
     else by_slot kind address (entry_in entries (find entries (address / 4096) 1))
 
+-- where the unit began: a slot stands right behind its branch
+abbrev pub unit_address : Cpu → ℕ
+unit_address c = if c.slot then minus c.pc 4 else c.pc
+
+-- out of the program for an exception; a late load is finished
 abbrev pub raised_cpu : Cpu → Cause → ℕ → Cpu
-raised_cpu c why bad = record c { registers = settled c.registers; kernel = true; epc = c.pc; cause = why; bad = bad }
+raised_cpu c why bad = record c { registers = settled c.registers; slot = false; kernel = true; epc = unit_address c; cause = why; bad = bad; delayed = c.slot }
 
 abbrev pub raised : Cpu → List ℕ → Cause → ℕ → Stepped
 raised c m why bad = record { event = Raised; cpu = raised_cpu c why bad; memory = m }
 
 abbrev pub gone_cpu : Cpu → Registers → Cpu
-gone_cpu c r = record c { registers = r; pc = word (c.pc + 4) }
+gone_cpu c r = record c { registers = r; pc = c.next; next = word (c.next + 4); slot = false }
 
 abbrev pub gone : Cpu → List ℕ → Registers → Stepped
 gone c m r = record { event = Retired; cpu = gone_cpu c r; memory = m }
+
+-- the registers behind a branch, with the address behind its slot in the one that links
+abbrev pub linked : Option ℕ → ℕ → Registers → Registers
+linked None pc r = settled r
+linked (Some n) pc r = written r n (behind_slot pc)
+
+-- on into the slot, and behind it at the target
+abbrev pub branched_cpu : Cpu → Registers → ℕ → Cpu
+branched_cpu c r target = record c { registers = r; pc = c.next; next = target; slot = true }
+
+-- a branch in a slot is reserved
+abbrev pub branched : Bool → Cpu → List ℕ → Registers → ℕ → Stepped
+branched true c m r target = raised c m (cause.Fault 10) 0
+branched false c m r target = record { event = Branched; cpu = branched_cpu c r target; memory = m }
 
 abbrev pub denied : Cpu → List ℕ → Kind → Size → ℕ → Stepped
 denied c m kind size address = raised c m (cause.Access (record { kind = kind; size = size })) address
@@ -95,10 +121,9 @@ abbrev pub stored_to : Cpu → List ℕ → Size → ℕ → (ℕ → ℕ) → O
 stored_to c m size address after None = denied c m Store size address
 stored_to c m size address after (Some place) = gone c (store_word m place (after (load_word m place))) (settled c.registers)
 
--- No instruction of today branches.
 abbrev pub effect : Cpu → List ℕ → Effect → Stepped
 effect c m (Goes after) = gone c m after
-effect c m (Branches after target) = raised c m (cause.Fault 10) 0
+effect c m (Branches after target) = branched c.slot c m after target
 effect c m (Loads size address after) = loaded_from c m size address after (translate c.entries Load size address)
 effect c m (Stores size address after) = stored_to c m size address after (translate c.entries Store size address)
 effect c m (Faults code) = raised c m (cause.Fault code) 0

@@ -1,5 +1,5 @@
 -- What each step makes of what is held.
-use Rattle.std.specs.Prelude.{ℕ, ◌+◌, ◌-◌, ◌*◌, ◌/◌, ◌^◌, ◌++◌, ◌∷◌, [], Bool, true, false, List, length, slice_set, slice_index_or, Option, Some, None, unwrap_or}
+use Rattle.std.specs.Prelude.{ℕ, ◌+◌, ◌-◌, ◌/◌, ◌^◌, ◌++◌, ◌∷◌, [], Bool, true, false, if◌then◌else◌, List, length, slice_set, slice_index_or, Option, Some, None, unwrap_or}
 use Rattle.ds_word.specs.Word.{word}
 use Rattle.ds_isa.specs.Registers.{Registers, settled}
 use Rattle.ds_procs.specs.declared.process.Process.{Process}
@@ -21,18 +21,21 @@ use Rattle.ds_log.specs.declared.line.Line.TheVariants.{Denial}
 use Rattle.ds_log.specs.Text.{line_text}
 use Rattle.ds_tlb.specs.declared.entry.Entry.{Entry}
 use Rattle.ds_tlb.specs.Entries.{find, empty_entries, ticked}
-use Rattle.ds_pagemap.specs.declared.turn.Turn.{Turn}
 use Rattle.ds_pagemap.specs.Unit.{denied_as}
 use Rattle.ds_station.specs.declared.processor.Event.{Event}
-use Rattle.ds_station.specs.declared.processor.Event.TheVariants.{Retired, Raised}
+use Rattle.ds_station.specs.declared.processor.Event.TheVariants.{Retired, Branched, Raised}
 use Rattle.ds_station.specs.Processor.{Cpu, Stepped}
 use Rattle.ds_station.specs.declared.parts.Step.{Step}
 use Rattle.ds_station.specs.declared.parts.Step.TheVariants.{Inside, Unit}
 use Rattle.ds_station.specs.Held.{Held, Outside, Own}
 
--- a turn is over, and its boundary is owed
-abbrev pub over : Outside → Option ℕ → Outside
-over o runner = record o { time = o.time + 1; owed = Some (record { began = o.time; runner = runner }) }
+-- a turn of so many ticks is over, and its boundary is owed
+abbrev pub over : ℕ → Outside → Option ℕ → Outside
+over ticks o runner = record o { time = o.time + ticks; owed = Some (record { began = o.time; runner = runner }) }
+
+-- the ticks of a unit, by whether its last instruction stood in a slot
+abbrev pub ticks_of : Bool → ℕ
+ticks_of slot = if slot then 2 else 1
 
 abbrev pub unspent : Own → Own
 unspent own = record own { spent = 0 }
@@ -43,35 +46,41 @@ begun slots wired h = record h { cpu = record h.cpu { random = ticked slots wire
 
 -- after one instruction of the processor
 abbrev pub after_event : Event → Held → Stepped → Held
-after_event Retired h s = record h { cpu = s.cpu; memory = s.memory; outside = over h.outside (Some 1); own = unspent h.own }
+after_event Retired h s = record h { cpu = s.cpu; memory = s.memory; outside = over (ticks_of h.cpu.slot) h.outside (Some 1); own = unspent h.own }
+after_event Branched h s = record h { cpu = s.cpu; memory = s.memory }
 after_event Raised h s = record h { cpu = s.cpu; memory = s.memory }
 
 abbrev pub step_of : Event → Step
 step_of Retired = Unit
+step_of Branched = Inside
 step_of Raised = Inside
 
 -- the process as it is kept while it doesn't run
 abbrev pub kept_at : Cpu → ℕ → Standing → Process
 kept_at c pc standing = record { registers = c.registers.general; hi = c.registers.hi; lo = c.registers.lo; pc = pc; state = standing }
 
+-- the address of the instruction that raised the exception
+abbrev pub own_address : Cpu → ℕ
+own_address c = if c.delayed then word (c.epc + 4) else c.epc
+
 -- the unit ends in a denial or a fault, with a line in the log
 abbrev pub denied_held : Held → Denied → ℕ → Rule → ℕ → Held
 denied_held h kind address rule code = record h {
   cpu = record h.cpu { kernel = false };
-  outside = over (record h.outside {
+  outside = over 1 (record h.outside {
     process = kept_at h.cpu h.cpu.epc Parked;
-    log = h.outside.log ++ line_text (Denial h.outside.time 1 h.cpu.epc kind address rule code);
+    log = h.outside.log ++ line_text (Denial h.outside.time 1 (own_address h.cpu) kind address rule code);
     lines = h.outside.lines + 1;
   }) (Some 1);
   own = unspent h.own;
 }
 
 abbrev pub fault_held : Held → ℕ → Held
-fault_held h code = denied_held h denied.Exec h.cpu.epc I code
+fault_held h code = denied_held h denied.Exec (own_address h.cpu) I code
 
 -- back in the program at an address
 abbrev pub back_at : Cpu → ℕ → Cpu
-back_at c pc = record c { pc = pc; kernel = false }
+back_at c pc = record c { pc = pc; next = word (pc + 4); slot = false; kernel = false }
 
 -- registers 26 and 27 go to the refill
 abbrev pub touched_registers : Registers → ℕ → Registers
@@ -114,7 +123,7 @@ step_by (verdict.Denied rule code) = Unit
 abbrev pub exited : Held → Held
 exited h = record h {
   cpu = record h.cpu { kernel = false; entries = empty_entries (length h.cpu.entries) };
-  outside = over (record h.outside {
+  outside = over 1 (record h.outside {
     process = kept_at h.cpu (word (h.cpu.epc + 4)) Ended;
     table = slice_set h.outside.table 0 [];
   }) (Some 1);
@@ -125,7 +134,7 @@ exited h = record h {
 abbrev pub answered_held : Held → List (List ℕ) → ℕ → Held
 answered_held h consoles value = record h {
   cpu = record (back_at h.cpu (word (h.cpu.epc + 4))) { registers = record h.cpu.registers { general = slice_set h.cpu.registers.general 2 value } };
-  outside = over (record h.outside { process = kept_at h.cpu (word (h.cpu.epc + 4)) Ready; consoles = consoles }) (Some 1);
+  outside = over 1 (record h.outside { process = kept_at h.cpu (word (h.cpu.epc + 4)) Ready; consoles = consoles }) (Some 1);
   own = unspent h.own;
 }
 
@@ -136,6 +145,11 @@ abbrev pub called_held : Held → Call → Held
 called_held h call.Exit = exited h
 called_held h (call.Put byte) = answered_held h (with_byte h.outside byte) 0
 called_held h other = answered_held h h.outside.consoles (2 ^ 32 - 1)
+
+-- a call in a slot is a fault
+abbrev pub called_or_fault : Bool → Held → Call → Held
+called_or_fault true h c = fault_held h 8
+called_or_fault false h c = called_held h c
 
 -- a turn in which no process runs, and its boundary
 abbrev pub idled : Held → Held

@@ -1,5 +1,5 @@
 -- What a run of the station does to the machine states that it stands for.
-use Rattle.std.specs.Prelude.{◌≡◌, ℕ, Bool, ◌||◌, ◌&&◌, nat_lt, not, is_some, None}
+use Rattle.std.specs.Prelude.{ℕ, Bool, ◌||◌, ◌&&◌, nat_lt, not, is_some}
 use Rattle.ds_pagemap.specs.Machine.{State, has_ended}
 use Rattle.ds_pagemap.specs.Run.{Reaches, Ends}
 use Rattle.ds_station.specs.Held.{Held}

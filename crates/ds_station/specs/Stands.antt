@@ -1,6 +1,7 @@
 -- The machine states that a station stands for.
-use Rattle.std.specs.Prelude.{◌≡◌, ◌≢◌, ℕ, ◌*◌, ◌<◌, ◌^◌, IsTrue, Bool, true, false, List, [], ◌∷◌, length, slice_get, flat_map, Option, Some, None}
-use Rattle.ds_isa.specs.Registers.{settled}
+use Rattle.std.specs.Prelude.{◌≡◌, ◌≢◌, ℕ, ◌+◌, ◌*◌, ◌<◌, ◌^◌, ◌⊎◌, IsTrue, Bool, true, false, if◌then◌else◌, List, [], ◌∷◌, length, slice_get, flat_map, Some, None}
+use Rattle.ds_word.specs.Word.{word}
+use Rattle.ds_isa.specs.Registers.{Registers, settled}
 use Rattle.ds_procs.specs.declared.process.Process as saved
 use Rattle.ds_procs.specs.declared.process.Standing.{Standing}
 use Rattle.ds_procs.specs.declared.process.Standing.TheVariants.{Ready, Waiting, Parked, Ended}
@@ -14,7 +15,7 @@ use Rattle.ds_log.specs.Text.{line_text}
 use Rattle.ds_tlb.specs.declared.entry.Entry.{Entry}
 use Rattle.ds_tlb.specs.Singles.{IsSingle}
 use Rattle.ds_pagemap.specs.Machine.{State, Process}
-use Rattle.ds_pagemap.specs.Unit.{Stop, unit, denied_as, fault, parked, after_call}
+use Rattle.ds_pagemap.specs.Unit.{Stop, Branched, instruction, unit, denied_as, fault, parked, after_call, with_registers}
 use Rattle.ds_station.specs.Processor.{Cpu}
 use Rattle.ds_station.specs.declared.processor.Cause.{Cause}
 use Rattle.ds_station.specs.declared.processor.Cause.TheVariants as cause
@@ -49,45 +50,69 @@ ready_of Ended = []
 abbrev pub owes : State → State → State
 owes before m = record m { owed = Some (record { began = before.time; runner = Some 1 }) }
 
--- the unit ends in a denial or a fault
-abbrev pub stopped : State → ℕ → Stop → State
-stopped m pc stop = owes m (parked m 1 pc pc stop)
+-- the address of the instruction that left the program: the unit's, or behind a branch that of its slot
+abbrev pub own_of : Bool → ℕ → ℕ
+own_of delayed unit = if delayed then word (unit + 4) else unit
 
--- what the unit from m is, where the exception can't be mended
-abbrev pub Promise : Cause → ℕ → ℕ → State → Type 0
-Promise (cause.Access access) bad pc m =
+-- the unit from m ends in a denial or a fault of the instruction at pc, the process in it being as in s
+abbrev pub stopped : State → State → ℕ → ℕ → Stop → State
+stopped m s unit pc stop = owes m (parked s 1 unit pc stop)
+
+-- What the unit from m is, where the exception can't be mended; s is m with the processor's registers.
+abbrev pub Promise : Cause → ℕ → Bool → ℕ → State → State → Type 0
+Promise (cause.Access access) bad delayed pc m s =
     (rule : Rule) (code : ℕ) → decide m.memory.table 1 access.kind access.size bad ≡ Denied rule code
-    → unit m ≡ stopped m pc (record { kind = denied_as access.kind; address = bad; rule = rule; code = code })
-Promise (cause.Fault code) bad pc m = unit m ≡ stopped m pc (fault pc code)
-Promise cause.Call bad pc m = unit m ≡ owes m (after_call m 1 pc)
+    → unit m ≡ stopped m s pc (own_of delayed pc) (record { kind = denied_as access.kind; address = bad; rule = rule; code = code })
+Promise (cause.Fault code) bad delayed pc m s = unit m ≡ stopped m s pc (own_of delayed pc) (fault (own_of delayed pc) code)
+Promise cause.Call bad false pc m s = unit m ≡ owes m (after_call s 1 pc)
+Promise cause.Call bad true pc m s = unit m ≡ stopped m s pc (own_of true pc) (fault (own_of true pc) 8)
 
--- at the unit's instruction, for the first time or again
-pub record AtStart (c : Cpu) (q : Process) : Type 0 where
+-- a branch at the unit's address has written its link, or has been done without one
+pub record IsLinked (r : Registers) (q : Process) (m : State) : Type 0 where
+  pub target : ℕ
+  pub branched : instruction m 1 q.pc ≡ Branched (with_registers m 1 r) target
+
+-- at the unit's first instruction, for the first time or again
+pub record AtStart (c : Cpu) (q : Process) (m : State) : Type 0 where
   pub user : c.kernel ≡ false
+  pub first : c.slot ≡ false
   pub pc : c.pc ≡ q.pc
-  pub registers : c.registers ≡ q.registers
+  pub next : c.next ≡ word (q.pc + 4)
+  pub registers : (c.registers ≡ q.registers) ⊎ ((m.owed ≡ None) × (q.registers.late ≡ None) × IsLinked c.registers q m)
+
+-- between a branch and its slot
+pub record InSlot (c : Cpu) (q : Process) (m : State) : Type 0 where
+  pub user : c.kernel ≡ false
+  pub second : c.slot ≡ true
+  pub owed : m.owed ≡ None
+  pub pc : c.pc ≡ word (q.pc + 4)
+  pub within : q.pc < 2 ^ 32
+  pub branched : instruction m 1 q.pc ≡ Branched (with_registers m 1 c.registers) c.next
 
 -- an exception waits to be served
 pub record InService (c : Cpu) (q : Process) (m : State) : Type 0 where
   pub kernel : c.kernel ≡ true
   pub owed : m.owed ≡ None
   pub epc : c.epc ≡ q.pc
-  pub registers : c.registers ≡ settled q.registers
-  pub promise : Promise c.cause c.bad q.pc m
+  pub registers : (c.registers ≡ settled q.registers) ⊎ IsLinked c.registers q m
+  pub promise : Promise c.cause c.bad c.delayed q.pc m (with_registers m 1 c.registers)
 
 -- where the processor stands in the unit
-abbrev pub OnCpu : Bool → Cpu → Process → State → Type 0
-OnCpu true c q m = InService c q m
-OnCpu false c q m = AtStart c q
+abbrev pub OnCpu : Bool → Bool → Cpu → Process → State → Type 0
+OnCpu true slot c q m = InService c q m
+OnCpu false true c q m = InSlot c q m
+OnCpu false false c q m = AtStart c q m
 
 -- a process that is not ready has its registers saved
 pub record IsSaved (s : saved.Process) (q : Process) : Type 0 where
   pub general : q.registers.general ≡ s.registers
+  pub hi : q.registers.hi ≡ s.hi
+  pub lo : q.registers.lo ≡ s.lo
   pub pc : q.pc ≡ s.pc
 
 -- where the process is ready, the processor has it
 abbrev pub RunningBy : Standing → Cpu → saved.Process → Process → State → Type 0
-RunningBy Ready c s q m = OnCpu c.kernel c q m
+RunningBy Ready c s q m = OnCpu c.kernel c.slot c q m
 RunningBy Waiting c s q m = ⊥
 RunningBy Parked c s q m = IsSaved s q
 RunningBy Ended c s q m = IsSaved s q

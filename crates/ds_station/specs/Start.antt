@@ -1,5 +1,6 @@
 -- What a station holds at the beginning of a run.
-use Rattle.std.specs.Prelude.{ℕ, ◌-◌, ◌*◌, List, [], ◌++◌, length, flat_map, replicate, false}
+use Rattle.std.specs.Prelude.{ℕ, ◌+◌, ◌-◌, ◌*◌, List, [], ◌++◌, length, flat_map, replicate, false}
+use Rattle.ds_word.specs.Word.{word}
 use Rattle.ds_isa.specs.Registers.{zero_registers}
 use Rattle.ds_procs.specs.declared.process.Process.{Process}
 use Rattle.ds_procs.specs.declared.process.Standing.TheVariants.{Ready}
@@ -20,10 +21,13 @@ abbrev pub first_cpu : List Entry → ℕ → ℕ → Cpu
 first_cpu entries random pc = record {
   registers = zero_registers;
   pc = pc;
+  next = word (pc + 4);
+  slot = false;
   kernel = false;
   epc = 0;
   cause = Call;
   bad = 0;
+  delayed = false;
   entries = entries;
   random = random;
 }

@@ -1,11 +1,12 @@
 -- What a step of the station does to the machine state that it stands for.
-use Rattle.std.specs.Prelude.{◌≡◌, ◌≢◌, ℕ, ◌+◌, ◌-◌, ◌*◌, ◌<◌, ◌≤◌, ◌⊎◌, Bool, true, false, if◌then◌else◌, not, List, [], Option, Some, None, is_some, IsSome}
+use Rattle.std.specs.Prelude.{◌≡◌, ◌≢◌, ℕ, ◌+◌, ◌-◌, ◌*◌, ◌<◌, ◌≤◌, ◌⊎◌, Bool, true, false, if◌then◌else◌, not, [], None, is_some, IsSome}
 use Rattle.ds_pagemap.specs.Machine.{State, touched}
 use Rattle.ds_pagemap.specs.Run.{half, is_over}
 use Rattle.ds_station.specs.declared.parts.Step.{Step}
 use Rattle.ds_station.specs.declared.parts.Step.TheVariants.{Inside, Unit, Boundary, Over}
 use Rattle.ds_station.specs.Held.{Held}
 use Rattle.ds_station.specs.Stands.{Stands}
+use Rattle.ds_station.specs.Services.{ticks_of}
 
 -- half a turn, with a touch before and behind or without
 abbrev pub HalfTo : State → State → Type 0
@@ -36,13 +37,13 @@ left h = 2 * (64 - h.own.spent) + flag h.cpu.kernel
 -- how the clock and the count of a unit that has begun move in one instruction or service of it
 abbrev pub Counted : Step → Held → Held → Type 0
 Counted Inside old new = (new.outside.owed ≡ old.outside.owed) × (new.outside.time ≡ old.outside.time) × (new.own.spent ≡ old.own.spent) × (new.own.failed ≡ old.own.failed)
-Counted Unit old new = IsSome new.outside.owed × (new.outside.time ≡ old.outside.time + 1) × (new.own.spent ≡ 0) × (new.own.failed ≡ old.own.failed)
+Counted Unit old new = IsSome new.outside.owed × (new.outside.time ≡ old.outside.time + ticks_of old.cpu.slot) × (new.own.spent ≡ 0) × (new.own.failed ≡ old.own.failed)
 Counted Boundary old new = ⊥
 Counted Over old new = ⊥
 
 -- how the counts and the clock move in a step
 abbrev pub Moves : Step → Held → Held → Type 0
 Moves Inside old new = (old.outside.owed ≡ None) × (new.outside.owed ≡ None) × (new.outside.time ≡ old.outside.time) × (new.own.spent ≡ old.own.spent + flag (not old.cpu.kernel)) × (new.own.spent ≤ 64) × (left new < left old) × (new.own.failed ≡ old.own.failed)
-Moves Unit old new = (old.outside.owed ≡ None) × IsSome new.outside.owed × (new.outside.time ≡ old.outside.time + 1) × (new.own.spent ≡ 0) × (new.own.failed ≡ old.own.failed)
+Moves Unit old new = (old.outside.owed ≡ None) × IsSome new.outside.owed × (new.outside.time ≡ old.outside.time + ticks_of old.cpu.slot) × (new.own.spent ≡ 0) × (new.own.failed ≡ old.own.failed)
 Moves Boundary old new = (new.outside.owed ≡ None) × (new.own.spent ≡ 0) × (new.outside.time ≡ old.outside.time + flag (not (is_some old.outside.owed))) × (new.own.failed ≡ old.own.failed)
 Moves Over old new = new ≡ old

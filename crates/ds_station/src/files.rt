@@ -14,7 +14,7 @@ use crate::report::send_report;
 use crate::station::Station;
 use crate::writes::WriteFailed;
 use ds_policy::{Events, Policy, Text};
-use ds_tlb::{Lookaside, Tlb};
+use ds_tlb::{Indexed, Lookaside};
 use std::alloc::Global;
 use std::io::Write;
 
@@ -73,7 +73,7 @@ fn prepare(
     input: &[u8],
     n: u64,
     random: u8,
-) -> Result<Station<Tlb<64, 8>>, Fault>
+) -> Result<Station<Indexed<64, 8>>, Fault>
     ensures ok { IfOk result (λ s. Begins (inputs policy.now (sources_seen sources.now) input.now n random) (Stands s)) }
     ensures working { IfOk result (λ s. s.own.failed ≡ false) }
     ensures few { OnOk result (n ≤ 1000000000) }
@@ -94,7 +94,7 @@ fn prepare(
     if n > MOST_TICKS {
         return Err(Fault::Limit("n"));
     }
-    match Station::<Tlb<64, 8>>::new(alloc, &policy, &images, events, random as usize) {
+    match Station::<Indexed<64, 8>>::new(alloc, &policy, &images, events, random as usize) {
         Ok(station) => Ok(station),
         Err(refused) => Err(refused),
     }

@@ -18,6 +18,7 @@ use crate::station::Station;
 use ds_policy::{Events, Policy, PolicyPage, PolicyProcess, Source, Table, Text};
 use ds_procs::Process;
 use ds_tlb::Lookaside;
+use ds_word::wrapping_sum;
 use std::alloc::{AllocError, Global};
 
 /// How many bytes a page has.
@@ -96,10 +97,13 @@ fn first_core<L: Lookaside>(tlb: L, pc: u32) -> Core<L>
         lo: 0,
         late: None,
         pc,
+        next: wrapping_sum(pc, 4),
+        slot: false,
         kernel: false,
         epc: 0,
         cause: Cause::Call,
         bad: 0,
+        delayed: false,
         tlb,
     }
 }

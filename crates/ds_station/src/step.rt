@@ -9,8 +9,6 @@ ghost use Rattle.ds_station.specs.Faults.{IsNewFault, IsFaultAfter};
 use crate::fault::Fault;
 use crate::parts::{Parts, Step};
 use crate::processor::Cause;
-use ds_log::Denied;
-use ds_policy::Rule;
 use ds_procs::Standing;
 use ds_tlb::Lookaside;
 
@@ -58,7 +56,7 @@ impl<L: Lookaside> Parts<L> {
     {
         match self.core.cause {
             Cause::Access { access } => self.miss(access),
-            Cause::Fault { code } => self.deny(Denied::Exec, self.core.epc, Rule::I, code as u32),
+            Cause::Fault { code } => self.fault(code as u32),
             Cause::Call => self.call(),
         }
     }

@@ -1,11 +1,14 @@
 //! Whole runs: what goes in as texts, and what must come out.
 
+mod delays;
+mod emulated;
 mod limits;
 mod memory;
 mod refusals;
 pub mod rows;
 mod starts;
 pub mod steps;
+mod stops;
 pub mod writers;
 
 use crate::run_files;

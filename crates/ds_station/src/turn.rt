@@ -1,5 +1,5 @@
 //! Turns: how one begins, an instruction of it, an idle turn, and the boundary behind it.
-ghost use Rattle.std.specs.Prelude.{◌≡◌, ◌+◌, ◌<◌, ◌≤◌, OnOk, OnErr, IfErr, None, IsSome, true, false};
+ghost use Rattle.std.specs.Prelude.{◌≡◌, ◌+◌, ◌<◌, ◌≤◌, ◌^◌, OnOk, OnErr, IfErr, None, IsSome, true, false};
 ghost use Rattle.ds_procs.specs.declared.process.Standing.TheVariants.{Ready};
 ghost use Rattle.ds_station.specs.Parts.{held, HasRoom};
 ghost use Rattle.ds_station.specs.Processor.{process_step, Stepped};
@@ -51,18 +51,19 @@ impl<L: Lookaside> Parts<L> {
         Ok(())
     }
 
-    /// A turn of the running process is over.
-    pub fn end_unit(&mut self) -> Step
-        requires { self.old.time < 1000000000 }
+    /// A turn of the running process is over, which took one tick, or two with a delay slot.
+    pub fn end_unit(&mut self, ticks: u64) -> Step
+        requires early { self.old.time < 1000000000 }
+        requires few { ticks ≤ 2 }
         ensures step { result ≡ Step.Unit }
-        ensures held { held L.entries L.random_place self.new ≡ record (held L.entries L.random_place self.old) { outside = services.over (held L.entries L.random_place self.old).outside (Some 1); own = services.unspent (held L.entries L.random_place self.old).own } }
+        ensures held { held L.entries L.random_place self.new ≡ record (held L.entries L.random_place self.old) { outside = services.over ticks (held L.entries L.random_place self.old).outside (Some 1); own = services.unspent (held L.entries L.random_place self.old).own } }
         ensures rest { self.new ≡ record self.old { time = self.new.time; owed = self.new.owed; spent = self.new.spent } }
     {
         self.owed = Some(Turn {
             began: self.time,
             runner: Some(1),
         });
-        self.time += 1;
+        self.time += ticks;
         self.spent = 0;
         Step::Unit
     }
@@ -71,12 +72,14 @@ impl<L: Lookaside> Parts<L> {
     pub fn execute(&mut self) -> Step
         requires early { self.old.time < 1000000000 }
         requires room { HasRoom self.old }
+        ensures within { self.old.core.pc < 2 ^ 32 }
         ensures room { 0 < self.new.spent → HasRoom self.new }
         ensures held { (s : Stepped) → s ≡ process_step (held L.entries L.random_place self.old).cpu self.old.memory.items → (held L.entries L.random_place self.new ≡ services.after_event s.event (held L.entries L.random_place self.old) s) × (result ≡ services.step_of s.event) }
     {
+        let ticks = if self.core.slot { 2 } else { 1 };
         match self.core.step(&mut self.memory) {
-            Event::Retired => self.end_unit(),
-            Event::Raised => Step::Inside,
+            Event::Retired => self.end_unit(ticks),
+            Event::Branched | Event::Raised => Step::Inside,
         }
     }
 }

@@ -1,9 +1,10 @@
 -- That shifts and masks make the merged register, the stored word and the arithmetic shift.
-use Rattle.std.proofs.Common.{◌≡◌, ◌+◌, ◌-◌, ◌*◌, ◌/◌, ◌%◌, ◌^◌, ◌<◌, ◌≤◌, ℕ, bit_and, bit_or, arith, refl, sym, ap, ◌∙◌}
-use Rattle.std.proofs.lemmas.Nat.{and_mask, or_shifted, one_shl, mod_below, pow_pos, pow-add, shl_below, shr_below, mod-pow-add, shl-shr, or_disjoint, shr_le}
+use Rattle.std.proofs.Common.{◌≡◌, ◌+◌, ◌-◌, ◌*◌, ◌/◌, ◌%◌, ◌^◌, ◌<◌, ◌≤◌, ℕ, zero, suc, bit_and, bit_or, arith, ◌∙◌}
+use Rattle.std.proofs.lemmas.Nat.{and_mask, or_shifted, one_shl, mod_below, pow_pos, shr_below, mod-pow-add, shl-shr, or_disjoint, shr_le}
 use Rattle.std.proofs.lemmas.Nat.Bits.{and_high_mask, ones_shr}
 use Rattle.std.proofs.Math.Nat.{add_comm, mul-mod_left, add-zero, mod-one, mod-eq_of_lt, div-eq_of_lt, zero-mul}
-use Rattle.ds_word.specs.Merge.{stored_left, stored_right}
+use Rattle.ds_word.specs.Word.{word}
+use Rattle.ds_word.specs.Merge.{stored_left, stored_right, with_bits}
 
 -- the low part of a shifted number
 pub up_parts : (w k x : ℕ) → k ≤ w → x * 2 ^ k % 2 ^ w ≡ (x % 2 ^ (w - k)) * 2 ^ k
@@ -51,6 +52,25 @@ stored_right_is b w reg h p =
     let whole : 8 * b + (32 - 8 * b) ≡ 32 = omega arith in
     let none : w / 2 ^ 32 ≡ 0 = div-eq_of_lt p in
     rw (up_parts 32 (8 * b) reg le, whole, none) (omega arith)
+
+-- the bits beyond a part of w, with that part filled, above the low bits of w
+abbrev filled_above : ℕ → ℕ → ℕ → ℕ → ℕ
+filled_above w lo width v = word ((word (w / 2 ^ lo / 2 ^ width * 2 ^ width) + v % 2 ^ width) * 2 ^ lo) + w % 2 ^ lo
+
+-- one byte of a word replaced
+pub stored_byte_is : (b w reg : ℕ) → b ≤ 3 → w < 2 ^ 32 → filled_above w (8 * b) 8 reg ≡ with_bits w (8 * b) 8 reg
+stored_byte_is zero w reg h p = omega arith
+stored_byte_is (suc zero) w reg h p = omega arith
+stored_byte_is (suc (suc zero)) w reg h p = omega arith
+stored_byte_is (suc (suc (suc zero))) w reg h p = omega arith
+stored_byte_is (suc (suc (suc (suc b)))) w reg h p = omega arith
+
+-- one half of a word replaced
+pub stored_half_is : (b w reg : ℕ) → b ≤ 2 → w < 2 ^ 32 → filled_above w (8 * b) 16 reg ≡ with_bits w (8 * b) 16 reg
+stored_half_is zero w reg h p = omega arith
+stored_half_is (suc zero) w reg h p = omega arith
+stored_half_is (suc (suc zero)) w reg h p = omega arith
+stored_half_is (suc (suc (suc b))) w reg h p = omega arith
 
 -- x moved down by k bits, with ones above it
 pub below_ones_is : (k x : ℕ) → k < 32 → x < 2 ^ 32 → bit_or (x / 2 ^ k) (4294967295 - 4294967295 / 2 ^ k) ≡ x / 2 ^ k + (2 ^ 32 - 2 ^ (32 - k))

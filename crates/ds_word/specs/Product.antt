@@ -1,5 +1,5 @@
 -- Products and quotients of words, by the magnitudes of signed ones.
-use Rattle.std.specs.Prelude.{ℕ, ◌+◌, ◌-◌, ◌*◌, ◌/◌, ◌%◌, ◌^◌, Bool, not, nat_eq, ◌==◌, if◌then◌else◌}
+use Rattle.std.specs.Prelude.{ℕ, ◌-◌, ◌*◌, ◌/◌, ◌%◌, ◌^◌, Bool, not, ◌==◌, if◌then◌else◌}
 use Rattle.ds_word.specs.Word.{word, is_negative, negated, magnitude}
 
 -- a number of 64 bits as its upper and lower words, HI and LO

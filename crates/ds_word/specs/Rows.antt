@@ -2,7 +2,7 @@
 use Rattle.std.specs.Prelude.{◌≡◌, refl, ℕ, ◌*◌, List, [], ◌∷◌, map, true, Some, None}
 use Rattle.ds_word.specs.Word.{sign_extended, signed_lt}
 use Rattle.ds_word.specs.Arithmetic.{shifted_arithmetic, signed_sum, signed_difference}
-use Rattle.ds_word.specs.Merge.{merged_left, merged_right, stored_left, stored_right}
+use Rattle.ds_word.specs.Merge.{merged_left, merged_right, stored_left, stored_right, with_bits}
 use Rattle.ds_word.specs.Product.{halves, product_signed, quotient_signed, quotient_unsigned}
 
 -- at each byte of the word
@@ -20,6 +20,12 @@ stores_left = refl
 
 pub stores_right : at_each_byte stored_right ≡ 0xAABBCCDD ∷ 0xBBCCDD11 ∷ 0xCCDD2211 ∷ 0xDD332211 ∷ []
 stores_right = refl
+
+pub stores_a_byte : at_each_byte (λ w b reg. with_bits w (8 * b) 8 reg) ≡ 0x443322DD ∷ 0x4433DD11 ∷ 0x44DD2211 ∷ 0xDD332211 ∷ []
+stores_a_byte = refl
+
+pub stores_a_half : with_bits 0x44332211 0 16 0xAABBCCDD ∷ with_bits 0x44332211 16 16 0xAABBCCDD ∷ [] ≡ 0x4433CCDD ∷ 0xCCDD2211 ∷ []
+stores_a_half = refl
 
 pub lowest_by_two : halves (product_signed 0x80000000 2) ≡ (0xFFFFFFFF, 0)
 lowest_by_two = refl

@@ -1,8 +1,9 @@
-//! Loads and stores of part of an aligned word (Kane and Heinrich, appendix A: LWL, LWR, SWL, SWR).
+//! Loads and stores of part of an aligned word (Kane and Heinrich, appendix A: SB, SH, LWL, LWR, SWL,
+//! SWR).
 //! The byte of the word that is addressed, `b`, is from 0 for the lowest to 3.
 ghost use Rattle.std.specs.Prelude.{◌≡◌, ◌≤◌, ◌+◌, ◌-◌, ◌*◌, ◌/◌, ◌%◌, ◌^◌};
 ghost use Rattle.ds_word.specs.Word.{word};
-ghost use Rattle.ds_word.specs.Merge.{merged_left, merged_right, stored_left, stored_right};
+ghost use Rattle.ds_word.specs.Merge.{merged_left, merged_right, stored_left, stored_right, with_bits};
 
 /// The register after LWL: the word's bytes up to `b` above the register's low bytes.
 #[inline(always)]
@@ -38,6 +39,24 @@ pub fn store_right(word: u32, reg: u32, b: u32) -> u32
     ensures { result ≡ stored_right word b reg }
 {
     shifted_up(reg, word, 8 * b)
+}
+
+/// The word after SB: the byte is the register's lowest.
+#[inline(always)]
+pub fn store_byte(word: u32, reg: u32, b: u32) -> u32
+    requires { b ≤ 3 }
+    ensures { result ≡ with_bits word (8 * b) 8 reg }
+{
+    shifted_up(shifted_up(word >> (8 * b) >> 8, reg, 8), word, 8 * b)
+}
+
+/// The word after SH: the half from the byte on is the register's lower.
+#[inline(always)]
+pub fn store_half(word: u32, reg: u32, b: u32) -> u32
+    requires { b ≤ 2 }
+    ensures { result ≡ with_bits word (8 * b) 16 reg }
+{
+    shifted_up(shifted_up(word >> (8 * b) >> 16, reg, 16), word, 8 * b)
 }
 
 /// `upper` moved up by `shift` bits, with the low bits of `lower` below it.

@@ -28,19 +28,19 @@ pub fn byte_signed(word: u32, b: u32) -> u32
     }
 }
 
-/// The half from the byte on, below zeros.
+/// The half from the byte on, below zeros; from byte 3 on it is that byte.
 #[inline(always)]
 pub fn half_unsigned(word: u32, b: u32) -> u32
-    requires { b ≤ 2 }
+    requires { b ≤ 3 }
     ensures { result ≡ bits word (8 * b) 16 }
 {
     (word >> (8 * b)) & 0xffff
 }
 
-/// The half from the byte on with its sign carried to 32 bits.
+/// The same with the half's sign carried to 32 bits.
 #[inline(always)]
 pub fn half_signed(word: u32, b: u32) -> u32
-    requires { b ≤ 2 }
+    requires { b ≤ 3 }
     ensures { result ≡ sign_extended 16 (bits word (8 * b) 16) }
 {
     sign16(half_unsigned(word, b) as u16)

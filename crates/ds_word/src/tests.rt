@@ -2,7 +2,8 @@ use crate::{
     byte_signed, byte_unsigned, checked_difference, checked_sum, code, div_signed, div_unsigned,
     funct, half_signed, half_unsigned, imm, is_negative, merge_left, merge_right, mul_signed,
     mul_unsigned, op, rd, rs, rt, shamt, shift_left, shift_right_arithmetic, shift_right_logical,
-    sign16, signed_less, store_left, store_right, target, upper, wrapping_difference, wrapping_sum,
+    sign16, signed_less, store_byte, store_half, store_left, store_right, target, upper,
+    wrapping_difference, wrapping_sum,
 };
 
 #[test]
@@ -70,6 +71,22 @@ fn parts_of_a_word_merge_and_store_at_each_byte(rt: HostRuntime) {
         let stored = (store_left(word, reg, b), store_right(word, reg, b));
         assert_eq!(rt; loaded, loads, "at {b}");
         assert_eq!(rt; stored, stores, "at {b}");
+    }
+}
+
+#[test]
+fn bytes_and_halves_store_at_each_byte(rt: HostRuntime) {
+    let (word, reg) = (0x4433_2211, 0xaabb_ccdd);
+    for (b, stored) in [
+        (0, 0x4433_22dd),
+        (1, 0x4433_dd11),
+        (2, 0x44dd_2211),
+        (3, 0xdd33_2211),
+    ] {
+        assert_eq!(rt; store_byte(word, reg, b), stored, "at {b}");
+    }
+    for (b, stored) in [(0, 0x4433_ccdd), (1, 0x44cc_dd11), (2, 0xccdd_2211)] {
+        assert_eq!(rt; store_half(word, reg, b), stored, "at {b}");
     }
 }
 
@@ -154,7 +171,11 @@ fn bytes_and_halves_load_with_and_without_their_signs(rt: HostRuntime) {
         assert_eq!(rt; byte_unsigned(word, b), unsigned, "at {b}");
         assert_eq!(rt; byte_signed(word, b), signed, "at {b}");
     }
-    for (b, unsigned, signed) in [(0, 0x7f01, 0x7f01), (2, 0x80ff, 0xffff_80ff)] {
+    for (b, unsigned, signed) in [
+        (0, 0x7f01, 0x7f01),
+        (2, 0x80ff, 0xffff_80ff),
+        (3, 0x80, 0x80),
+    ] {
         assert_eq!(rt; half_unsigned(word, b), unsigned, "at {b}");
         assert_eq!(rt; half_signed(word, b), signed, "at {b}");
     }

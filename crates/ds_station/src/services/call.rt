@@ -13,6 +13,9 @@ use ds_procs::{Call, Standing};
 use ds_tlb::{Entry, Lookaside};
 use ds_word::wrapping_sum;
 
+/// The exception code of a call in a delay slot.
+const CALL_IN_A_SLOT: u32 = 8;
+
 /// Empties the buffer: slot i holds page 80000 + i (hexadecimal), which needs no translation.
 fn flush<L: Lookaside>(tlb: &mut L)
     ensures entries { L.entries tlb.new ≡ empty_entries L.SLOTS }
@@ -36,7 +39,7 @@ impl<L: Lookaside> Parts<L> {
         self.table.clear(1);
         flush(&mut self.core.tlb);
         self.core.kernel = false;
-        self.end_unit()
+        self.end_unit(1)
     }
 
     /// The call is answered in register 2, and the process goes on behind it.
@@ -47,20 +50,23 @@ impl<L: Lookaside> Parts<L> {
         ensures held { held L.entries L.random_place self.new ≡ services.answered_held (held L.entries L.random_place self.old) (held L.entries L.random_place self.old).outside.consoles value }
     {
         self.core.registers[2] = value;
-        self.core.pc = wrapping_sum(self.core.epc, 4);
-        self.core.kernel = false;
-        self.end_unit()
+        self.back(wrapping_sum(self.core.epc, 4));
+        self.end_unit(1)
     }
 
-    /// The call of the process.
+    /// The call of the process. In a delay slot it is a fault.
     pub fn call(&mut self) -> Step
         requires room { HasRoom self.old }
         requires line { self.old.line < 4 }
         requires early { self.old.time < 1000000000 }
+        requires lines { self.old.lines ≤ self.old.time }
         requires one { length self.old.table ≡ 1 }
         ensures step { result ≡ Step.Unit }
-        ensures held { (call : Call) → call ≡ call_of self.old.core.registers → held L.entries L.random_place self.new ≡ services.called_held (held L.entries L.random_place self.old) call }
+        ensures held { (call : Call) → call ≡ call_of self.old.core.registers → held L.entries L.random_place self.new ≡ services.called_or_fault self.old.core.delayed (held L.entries L.random_place self.old) call }
     {
+        if self.core.delayed {
+            return self.fault(CALL_IN_A_SLOT);
+        }
         self.keep(wrapping_sum(self.core.epc, 4), Standing::Ready);
         match Call::of(&self.process) {
             Call::Exit => self.exit(),

@@ -9,6 +9,7 @@ use ds_log::{Denied, Line, append, line_fits};
 use ds_policy::Rule;
 use ds_procs::{Process, Standing};
 use ds_tlb::Lookaside;
+use ds_word::wrapping_sum;
 
 impl<L: Lookaside> Parts<L> {
     /// Keeps the process while it doesn't run.
@@ -25,7 +26,18 @@ impl<L: Lookaside> Parts<L> {
         };
     }
 
-    /// The process is parked at its unit's address, with a line in the log.
+    /// The address of the instruction that raised the exception.
+    fn own_address(&self) -> u32
+        ensures { result ≡ services.own_address (held L.entries L.random_place self.now).cpu }
+    {
+        if self.core.delayed {
+            wrapping_sum(self.core.epc, 4)
+        } else {
+            self.core.epc
+        }
+    }
+
+    /// The process is parked at its unit's address, with a line in the log for the instruction.
     pub fn deny(&mut self, kind: Denied, address: u32, rule: Rule, code: u32) -> Step
         requires room { HasRoom self.old }
         requires early { self.old.time < 1000000000 }
@@ -38,7 +50,7 @@ impl<L: Lookaside> Parts<L> {
         let line = Line::Denial {
             time: self.time,
             process: 1,
-            pc: self.core.epc,
+            pc: self.own_address(),
             kind,
             addr: address,
             rule,
@@ -49,6 +61,18 @@ impl<L: Lookaside> Parts<L> {
         self.lines += 1;
         self.keep(self.core.epc, Standing::Parked);
         self.core.kernel = false;
-        self.end_unit()
+        self.end_unit(1)
+    }
+
+    /// The process is parked for a fault of its instruction.
+    pub fn fault(&mut self, code: u32) -> Step
+        requires room { HasRoom self.old }
+        requires early { self.old.time < 1000000000 }
+        requires lines { self.old.lines ≤ self.old.time }
+        requires code { code < 10 ^ 5 }
+        ensures step { result ≡ Step.Unit }
+        ensures held { held L.entries L.random_place self.new ≡ services.fault_held (held L.entries L.random_place self.old) code }
+    {
+        self.deny(Denied::Exec, self.own_address(), Rule::I, code)
     }
 }

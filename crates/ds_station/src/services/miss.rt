@@ -71,8 +71,7 @@ impl<L: Lookaside> Parts<L> {
         self.core.registers[26] = 0;
         self.core.registers[27] = self.core.epc;
         self.core.late = None;
-        self.core.pc = self.core.epc;
-        self.core.kernel = false;
+        self.back(self.core.epc);
     }
 
     /// What the buffer does not let go: it is filled by the table, or the process is parked.

@@ -3,12 +3,12 @@
 use super::*;
 
 /// Consoles on which nothing was put.
-const NOTHING_PUT: &str = "console 0 0\n\nconsole 1 0\n\nconsole 2 0\n\nconsole 3 0\n\n";
+pub const NOTHING_PUT: &str = "console 0 0\n\nconsole 1 0\n\nconsole 2 0\n\nconsole 3 0\n\n";
 
 const READ_DATA: &str =
     "[[rule]]\nprocess = 1\naddress = 0x00410000\nright = \"read\"\npage = \"data\"\n";
 
-const WRITE_DATA: &str =
+pub const WRITE_DATA: &str =
     "[[rule]]\nprocess = 1\naddress = 0x00410000\nright = \"write\"\npage = \"data\"\n";
 
 /// Loads from address 00000000.

@@ -11,23 +11,41 @@ use ds_tlb::{Indexed, Lookaside, Tlb};
 /// The most ticks of a run.
 const MOST_TICKS: u64 = 1_000_000_000;
 
+/// A station at the beginning of a run.
+pub fn station_from<L: Lookaside>(
+    alloc: Global,
+    policy: &[&str],
+    sources: &[&str],
+    input: &str,
+    random: u8,
+) -> Result<Station<L>, Fail>
+    requires slots { L.SLOTS ≡ 64 }
+    requires wired { L.WIRED ≡ 8 }
+{
+    let text = joined(alloc, policy)?;
+    let policy = Policy::read(alloc, text.as_bytes())?;
+    let mut images = Vec::new(alloc);
+    for source in sources {
+        images.push(assemble(alloc, source.as_bytes())?)?;
+    }
+    let events = Events::read(alloc, input.as_bytes(), &policy)?;
+    if images.len() != policy.sources().len() {
+        Err("an image for each source")?;
+    }
+    let station = Station::new(alloc, &policy, &images, events, random as usize)?;
+    Ok(station)
+}
+
 /// A station at the beginning of a row's run.
 pub fn station_of<L: Lookaside>(alloc: Global, row: &Row) -> Result<Station<L>, Fail>
     requires slots { L.SLOTS ≡ 64 }
     requires wired { L.WIRED ≡ 8 }
 {
-    let text = joined(alloc, row.policy)?;
-    let policy = Policy::read(alloc, text.as_bytes())?;
-    let mut images = Vec::new(alloc);
+    let mut sources = Vec::new(alloc);
     for (_, source) in row.sources {
-        images.push(assemble(alloc, source.as_bytes())?)?;
+        sources.push(*source)?;
     }
-    let events = Events::read(alloc, row.input.as_bytes(), &policy)?;
-    if images.len() != policy.sources().len() {
-        Err("an image for each source")?;
-    }
-    let station = Station::new(alloc, &policy, &images, events, row.random as usize)?;
-    Ok(station)
+    station_from(alloc, row.policy, &sources, row.input, row.random)
 }
 
 /// The text of a station's state.
@@ -49,16 +67,13 @@ fn text_of<L: Lookaside>(alloc: Global, station: &Station<L>) -> Result<String, 
     joined(alloc, &[std::str::from_utf8(&out)?])
 }
 
-/// The text of a row that is run by steps.
-fn stepped<L: Lookaside>(alloc: Global, row: &Row) -> Result<String, Fail>
-    requires slots { L.SLOTS ≡ 64 }
-    requires wired { L.WIRED ≡ 8 }
-{
-    let mut station = station_of::<L>(alloc, row)?;
+/// The text of a station that is stepped to the end of a run for n.
+fn stepped<L: Lookaside>(alloc: Global, station: Station<L>, n: u64) -> Result<String, Fail> {
+    let mut station = station;
     let mut owed = false;
     for _ in 0..10_000 {
         let time = station.time();
-        if time >= MOST_TICKS || time >= row.n && !owed {
+        if time >= MOST_TICKS || time >= n && !owed {
             break;
         }
         match station.step()? {
@@ -70,14 +85,26 @@ fn stepped<L: Lookaside>(alloc: Global, row: &Row) -> Result<String, Fail>
     text_of(alloc, &station)
 }
 
-/// The text of a row that is run at once.
-fn ran<L: Lookaside>(alloc: Global, row: &Row) -> Result<String, Fail>
-    requires slots { L.SLOTS ≡ 64 }
-    requires wired { L.WIRED ≡ 8 }
-{
-    let mut station = station_of::<L>(alloc, row)?;
-    station.run(row.n.min(MOST_TICKS))?;
+/// The text of a station that is run for n.
+fn ran<L: Lookaside>(alloc: Global, station: Station<L>, n: u64) -> Result<String, Fail> {
+    let mut station = station;
+    station.run(n.min(MOST_TICKS))?;
     text_of(alloc, &station)
+}
+
+/// The texts of runs for n under a policy with one source, at once and by steps, over either buffer.
+pub fn texts(alloc: Global, policy: &[&str], source: &str, n: u64) -> Result<[String; 4], Fail> {
+    let sources = &[source];
+    let searched = station_from::<Tlb<64, 8>>(alloc, policy, sources, "", 63)?;
+    let searched_by_steps = station_from::<Tlb<64, 8>>(alloc, policy, sources, "", 63)?;
+    let indexed = station_from::<Indexed<64, 8>>(alloc, policy, sources, "", 63)?;
+    let indexed_by_steps = station_from::<Indexed<64, 8>>(alloc, policy, sources, "", 63)?;
+    Ok([
+        ran(alloc, searched, n)?,
+        stepped(alloc, searched_by_steps, n)?,
+        ran(alloc, indexed, n)?,
+        stepped(alloc, indexed_by_steps, n)?,
+    ])
 }
 
 /// Compares what came with what was wanted of a row.
@@ -87,40 +114,27 @@ fn compare(rt: &impl Abort, alloc: Global, row: &Row, came: &str) -> Result<(), 
     Ok(())
 }
 
-#[test]
-fn steps_come_to_the_text_of_the_run(rt: HostRuntime) -> Result<(), Fail> {
-    for row in &rows() {
-        compare(
-            &rt,
-            rt.alloc(),
-            row,
-            stepped::<Tlb<64, 8>>(rt.alloc(), row)?.as_str(),
-        )?;
-        compare(
-            &rt,
-            rt.alloc(),
-            row,
-            ran::<Tlb<64, 8>>(rt.alloc(), row)?.as_str(),
-        )?;
-    }
-    Ok(())
+/// Compares the text that comes at once, and by steps, over a buffer.
+fn check_over<L: Lookaside>(rt: &impl Abort, alloc: Global, row: &Row) -> Result<(), Fail>
+    requires slots { L.SLOTS ≡ 64 }
+    requires wired { L.WIRED ≡ 8 }
+{
+    let text = ran(alloc, station_of::<L>(alloc, row)?, row.n)?;
+    compare(rt, alloc, row, text.as_str())?;
+    let text = stepped(alloc, station_of::<L>(alloc, row)?, row.n)?;
+    compare(rt, alloc, row, text.as_str())
+}
+
+/// Compares the text that comes at once, and by steps, over either buffer.
+pub fn check_steps(rt: &impl Abort, alloc: Global, row: &Row) -> Result<(), Fail> {
+    check_over::<Tlb<64, 8>>(rt, alloc, row)?;
+    check_over::<Indexed<64, 8>>(rt, alloc, row)
 }
 
 #[test]
-fn either_buffer_gives_the_same_text(rt: HostRuntime) -> Result<(), Fail> {
+fn steps_over_either_buffer_come_to_the_text_of_the_run(rt: HostRuntime) -> Result<(), Fail> {
     for row in &rows() {
-        compare(
-            &rt,
-            rt.alloc(),
-            row,
-            stepped::<Indexed<64, 8>>(rt.alloc(), row)?.as_str(),
-        )?;
-        compare(
-            &rt,
-            rt.alloc(),
-            row,
-            ran::<Indexed<64, 8>>(rt.alloc(), row)?.as_str(),
-        )?;
+        check_steps(&rt, rt.alloc(), row)?;
     }
     Ok(())
 }
@@ -202,6 +216,40 @@ fn instructions_are_counted_from_where_a_unit_begins(rt: HostRuntime) -> Result<
         (2, 0),
         (2, 1),
         (3, 0),
+    ]
+    .iter()
+    .enumerate()
+    {
+        assert_eq!(rt; behind_a_step(&rt, &mut station)?, *wanted, "step {step}");
+    }
+    Ok(())
+}
+
+/// Branches over an instruction, and exits.
+const BRANCH: Row = Row {
+    name: "a branch over an instruction",
+    sources: &[(
+        "one.s",
+        ".word 0x10000002\n.word 0x00000000\n.word 0x00000000\n.word 0x24020000\n.word 0x0000000C\n",
+    )],
+    wanted: &["console 0 0\n\n", OTHERS, "log 0\ntime 4\n"],
+    ..ONE_BYTE
+};
+
+#[test]
+fn a_slot_is_a_step_of_its_branchs_unit(rt: HostRuntime) -> Result<(), Fail> {
+    check_steps(&rt, rt.alloc(), &BRANCH)?;
+    let mut station = station_of(rt.alloc(), &BRANCH)?;
+    for (step, wanted) in [
+        (0, 1),
+        (0, 1),
+        (0, 2),
+        (2, 0),
+        (2, 0),
+        (3, 0),
+        (3, 0),
+        (3, 1),
+        (4, 0),
     ]
     .iter()
     .enumerate()

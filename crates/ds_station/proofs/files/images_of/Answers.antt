@@ -1,4 +1,4 @@
-use Rattle.std.proofs.Common.{◌≡◌, ap, drop, ◌+◌, [], ◌∷◌, ◌++◌, sym, subst, ◌∙◌, get_or, List, ℕ}
+use Rattle.std.proofs.Common.{ap, drop, ◌+◌, sym, subst, ◌∙◌, List, ℕ}
 use Rattle.std.proofs.Common.{arith}
 use Rattle.std.proofs.lemmas.Grind.{common_steps}
 use Rattle.ds_pagemap.specs.Inputs.{images_from}

@@ -1,4 +1,4 @@
-use Rattle.std.proofs.Common.{◌≡◌, sym, ap, subst, ◌∙◌, List, [], ℕ, Ok}
+use Rattle.std.proofs.Common.{◌≡◌, sym, subst, ◌∙◌, List, [], ℕ, Ok}
 use Rattle.ds_policy.specs.PolicyParts.{sources_of}
 use Rattle.ds_station.specs.Faults.{of_events}
 use Rattle.ds_station.specs.declared.fault.Fault.TheVariants.{BadRandom}
@@ -6,7 +6,7 @@ use Rattle.ds_station.specs.Stands.{Stands}
 use Rattle.ds_pagemap.specs.First.{first_state}
 use Rattle.ds_pagemap.specs.Inputs.{inputs, images_from}
 use Rattle.ds_station.specs.Headline.{sources_seen, Refuses}
-use Rattle.ds_station.proofs.Preparing.{refused_by_policy, under_policy, refused_by_image, under_images, refused_by_input, under_input, refused_by_ticks, under_ticks, with_images, with_input, with_ticks, prepared, unprepared_by, ok_is_no_err}
+use Rattle.ds_station.proofs.Preparing.{refused_by_policy, under_policy, refused_by_image, under_images, refused_by_input, under_input, refused_by_ticks, under_ticks, with_ticks, prepared, unprepared_by, ok_is_no_err}
 use Rattle.ds_station.proofs.files.prepare.Goals as goal
 
 pub returns-in-Err-clause-err : goal.returns-in-Err-clause-err

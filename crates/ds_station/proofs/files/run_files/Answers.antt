@@ -1,7 +1,7 @@
-use Rattle.std.proofs.Common.{◌≡◌, List, ℕ, subst, sym, ◌∙◌, refl, Ok, Err}
+use Rattle.std.proofs.Common.{◌≡◌, subst, sym, ◌∙◌, Ok, Err}
 use Rattle.std.proofs.lemmas.Result.{on_ok_weaker}
 use Rattle.ds_station.specs.Headline.{Refuses}
-use Rattle.ds_station.proofs.Headlines.{writes_whole, ran_short, part_written, refused_unwritten, refused_only, keeps_same}
+use Rattle.ds_station.proofs.Headlines.{writes_whole, ran_short, part_written, refused_only, keeps_same}
 use Rattle.ds_station.proofs.files.run_files.Goals as goal
 
 pub returns-in-Ok-deliver-clause-ok : goal.returns-in-Ok-deliver-clause-ok

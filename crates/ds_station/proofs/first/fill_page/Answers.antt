@@ -1,6 +1,4 @@
-use Rattle.std.proofs.Common.{◌≡◌, ◌∙◌, ap, sym, ℕ, replicate, Option}
-use Rattle.ds_policy.specs.declared.policy.Source.{Source}
-use Rattle.ds_pagemap.specs.First.{source_bytes}
+use Rattle.std.proofs.Common.{◌∙◌, ap, ℕ, replicate}
 use Rattle.ds_station.proofs.first.fill_page.Goals as goal
 
 pub returns-in-None : goal.returns-in-None

@@ -1,5 +1,4 @@
-use Rattle.std.proofs.Common.{◌≡◌, ◌∙◌, ◌<◌, sym, ap, subst, ℕ, List, length, replicate, arith, bytes_eq}
-use Rattle.std.specs.Prelude.{Some, None, position}
+use Rattle.std.proofs.Common.{◌∙◌, ◌<◌, ap, ℕ, List, length, replicate, arith}
 use Rattle.ds_pagemap.specs.First.{part_of}
 use Rattle.ds_station.proofs.Firsts.{image_found, part_missed}
 use Rattle.ds_station.proofs.first.fill_part.Goals as goal

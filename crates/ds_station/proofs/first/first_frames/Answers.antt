@@ -1,4 +1,4 @@
-use Rattle.std.proofs.Common.{◌≡◌, ◌∙◌, ◌*◌, ◌≤◌, length, arith, vec_len}
+use Rattle.std.proofs.Common.{◌≡◌, ◌∙◌, ◌*◌, length, arith, vec_len}
 use Rattle.ds_station.proofs.Firsts.{frames_padded}
 use Rattle.ds_station.proofs.first.first_frames.Goals as goal
 

@@ -1,4 +1,4 @@
-use Rattle.std.proofs.Common.{refl}
+use Rattle.std.proofs.Common.{◌<◌, ◌^◌, refl}
 use Rattle.ds_station.specs.Parts.{held}
 use Rattle.ds_station.specs.Processor.{process_step}
 use Rattle.ds_station.proofs.Stages.{instruction_follows}
@@ -11,7 +11,8 @@ returns-clause-follows g c =
     let h = held g.L.Lookaside.entries g.L.Lookaside.random_place c.args.self.now in
     let t = process_step h.cpu h.memory in
     let e = c.execute.ensures.held t refl in
-    rw (e.1, e.0) (instruction_follows h t refl (c.requires.busy.good.orderly.begun c.requires.busy.begun) c.requires.ready c.requires.user)
+    let within : h.cpu.pc < 2 ^ 32 = c.execute.ensures.within in
+    rw (e.1, e.0) (instruction_follows h t refl (c.requires.busy.good.orderly.begun c.requires.busy.begun) c.requires.ready c.requires.user within)
 
 pub returns-clause-counted : goal.returns-clause-counted
 returns-clause-counted g c =

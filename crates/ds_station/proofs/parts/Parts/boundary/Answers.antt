@@ -1,4 +1,3 @@
-use Rattle.std.proofs.Common.{refl}
 use Rattle.ds_station.specs.Parts.{held}
 use Rattle.ds_station.specs.declared.parts.Step.TheVariants.{Boundary}
 use Rattle.ds_station.proofs.Turns.{sound_after, bounds}

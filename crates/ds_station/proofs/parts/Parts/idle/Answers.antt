@@ -1,13 +1,12 @@
-use Rattle.std.proofs.Common.{◌≡◌, refl, sym, ap, subst, ◌∙◌, arith}
+use Rattle.std.proofs.Common.{◌≡◌, sym, ap, subst, ◌∙◌}
 use Rattle.std.specs.Prelude.{None}
 use Rattle.ds_station.specs.Held.{Held}
 use Rattle.ds_station.specs.Parts.{held, IsOrderly}
-use Rattle.ds_station.specs.Stands.{IsSound}
-use Rattle.ds_station.specs.Services.{idled, failed}
-use Rattle.ds_station.specs.Steps.{Follows, Moves}
+use Rattle.ds_station.specs.Services.{idled}
+use Rattle.ds_station.specs.Steps.{Follows}
 use Rattle.ds_station.specs.declared.parts.Step.TheVariants.{Boundary}
-use Rattle.ds_station.proofs.Turns.{sound_after, sound_stays, idles, fails}
-use Rattle.ds_station.proofs.Counts.{idled_orderly, idled_moves, failed_orderly, resting}
+use Rattle.ds_station.proofs.Turns.{sound_after, idles}
+use Rattle.ds_station.proofs.Counts.{idled_orderly}
 use Rattle.ds_station.proofs.parts.Parts.idle.Goals as goal
 
 pub returns-clause-ok : goal.returns-clause-ok

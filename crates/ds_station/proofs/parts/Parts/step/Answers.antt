@@ -1,5 +1,3 @@
-use Rattle.std.proofs.Common.{◌≡◌, refl, sym, ap, subst, ◌∙◌, arith}
-use Rattle.ds_station.specs.Held.{Held}
 use Rattle.ds_station.specs.Parts.{held}
 use Rattle.ds_station.specs.Steps.{Stays}
 use Rattle.ds_station.proofs.Turns.{begins, follows_stays}

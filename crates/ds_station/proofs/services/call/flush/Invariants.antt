@@ -1,4 +1,4 @@
-use Rattle.std.proofs.Common.{◌≡◌, ◌<◌, ℕ, get_or, length}
+use Rattle.std.proofs.Common.{◌≡◌, ◌<◌, ℕ, get_or}
 use Rattle.ds_tlb.specs.Entries.{empty_entry}
 use Rattle.ds_station.proofs.services.call.flush.Given as goal
 

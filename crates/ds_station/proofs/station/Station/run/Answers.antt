@@ -1,7 +1,7 @@
-use Rattle.std.proofs.Common.{refl, ap, subst, sym, ◌∙◌}
+use Rattle.std.proofs.Common.{ap, subst, sym, ◌∙◌}
 use Rattle.ds_station.specs.Held.{Held}
 use Rattle.ds_station.specs.Stands.{IsSound}
-use Rattle.ds_station.proofs.Runs.{within_start, within_step, within_sound, within_stays, to_end, rank_falls, at_err, failed_same}
+use Rattle.ds_station.proofs.Runs.{within_start, within_step, within_stays, to_end, rank_falls, at_err, failed_same}
 use Rattle.ds_station.proofs.station.Station.run.Goals as goal
 
 pub loop-self-init : goal.loop-self-init
