@@ -1,0 +1,86 @@
+-- The processor as a record, and how it goes on behind an instruction or an exception (Kane and Heinrich, chapter 5).
+use Rattle.std.specs.Prelude.{ℕ, ◌+◌, Bool, true, false, List, Option, Some, None}
+use Rattle.ds_word.specs.Word.{word}
+use Rattle.ds_isa.specs.Registers.{Registers, settled, written}
+use Rattle.ds_isa.specs.Meaning.{behind_slot}
+use Rattle.ds_tlb.specs.declared.entry.Entry.{Entry}
+use Rattle.ds_tlb.specs.Entries.{ticked}
+use Rattle.ds_cp0.specs.declared.exception.Exception.{Exception}
+use Rattle.ds_cp0.specs.declared.exception.ExceptionCode.{ExceptionCode}
+use Rattle.ds_cp0.specs.declared.exception.ExceptionCode.TheVariants.{ReservedInstruction}
+use Rattle.ds_cp0.specs.System.{System, vector, entered}
+use Rattle.ds_dev.specs.Bus.{BusState}
+use Rattle.ds_core.specs.declared.processor.Core.{Core}
+use Rattle.ds_core.specs.declared.event.Event.{Event}
+use Rattle.ds_core.specs.declared.event.Event.TheVariants.{Retired, Branched, Raised}
+
+pub record CoreState : Type 0 where
+  pub registers : Registers
+  pub pc : ℕ
+  -- the address of the instruction behind pc
+  pub next : ℕ
+  -- pc stands right behind a branch or jump
+  pub slot : Bool
+  pub system : System
+  pub entries : List Entry
+  pub random : ℕ
+
+abbrev pub registers_of : {L : Type 0} → Core L → Registers
+registers_of c = record { general = c.registers; hi = c.hi; lo = c.lo; late = c.late }
+
+-- a processor, by the entries and the Random of its translation buffer
+abbrev pub state_of : {L : Type 0} → (L → List Entry) → (L → ℕ) → Core L → CoreState
+state_of entries random c = record {
+  registers = registers_of c;
+  pc = c.pc;
+  next = c.next;
+  slot = c.slot;
+  system = c.cp0;
+  entries = entries c.tlb;
+  random = random c.tlb;
+}
+
+-- an event, and the processor and its bus after it
+pub record Step : Type 0 where
+  pub event : Event
+  pub core : CoreState
+  pub bus : BusState
+
+-- the exception of an instruction that names neither an address nor a coprocessor
+abbrev pub exception : CoreState → ExceptionCode → Exception
+exception c code = record { code = code; pc = c.pc; slot = c.slot; unit = 0; addr = None; miss = false }
+
+-- at the exception's vector; a late load is finished
+abbrev pub raised_core : CoreState → Exception → CoreState
+raised_core c e = record c { registers = settled c.registers; pc = vector e; next = word (vector e + 4); slot = false; system = entered c.system e }
+
+abbrev pub raised : CoreState → BusState → Exception → Step
+raised c b e = record { event = Raised e.code; core = raised_core c e; bus = b }
+
+abbrev pub trapped : CoreState → BusState → ExceptionCode → Step
+trapped c b code = raised c b (exception c code)
+
+abbrev pub gone_core : CoreState → Registers → CoreState
+gone_core c r = record c { registers = r; pc = c.next; next = word (c.next + 4); slot = false }
+
+-- on behind the instruction
+abbrev pub gone : CoreState → BusState → Registers → Step
+gone c b r = record { event = Retired; core = gone_core c r; bus = b }
+
+-- the registers behind a branch, with the address behind its slot in the one that links
+abbrev pub linked : Option ℕ → ℕ → Registers → Registers
+linked None pc r = settled r
+linked (Some n) pc r = written r n (behind_slot pc)
+
+-- on into the slot, and behind it at the target
+abbrev pub branched_core : CoreState → Registers → ℕ → CoreState
+branched_core c r target = record c { registers = r; pc = c.next; next = target; slot = true }
+
+-- a branch in a slot is reserved
+abbrev pub branched : Bool → CoreState → BusState → Registers → ℕ → Step
+branched true c b r target = trapped c b ReservedInstruction
+branched false c b r target = record { event = Branched; core = branched_core c r target; bus = b }
+
+-- Random counted down, as once for each instruction that began
+abbrev pub with_tick : Step → Step
+with_tick s = record s { core = record s.core { random = ticked 64 8 s.core.random } }

@@ -1,0 +1,6 @@
+pub mod Core
+pub mod Access
+pub mod Coprocessor
+pub mod Effect
+pub mod Refilled
+pub mod Worked

@@ -1,0 +1,72 @@
+//! The processor and its step.
+ghost use Rattle.std.specs.Prelude.{◌≡◌};
+ghost use Rattle.ds_core.specs.Core.{state_of};
+ghost use Rattle.ds_core.specs.Effect.{instruction, step};
+
+mod access;
+mod coprocessor;
+mod execute;
+mod flow;
+mod registers;
+mod transfer;
+
+use crate::event::Event;
+use access::load_aligned;
+use ds_amap::{Access, Physical};
+use ds_cp0::{Cp0, ExceptionCode};
+use ds_dev::Bus;
+use ds_isa::{Late, Size, decode};
+use ds_tlb::Lookaside;
+
+/// The processor's registers, its system coprocessor and its translation buffer.
+#[derive(Drop)]
+pub struct Core<L> {
+    /// The general registers; register 0 holds 0.
+    pub registers: [u32; 32],
+    pub hi: u32,
+    pub lo: u32,
+    /// The register whose load is late.
+    pub late: Option<Late>,
+    pub pc: u32,
+    /// Where the program goes on behind the instruction at `pc`.
+    pub next: u32,
+    /// `pc` stands right behind a branch or jump.
+    pub slot: bool,
+    pub cp0: Cp0,
+    pub tlb: L,
+}
+
+impl<L: Lookaside> Core<L> {
+    /// Takes an interrupt that is pending, or does the instruction at `pc`. In a buffer of 64 slots
+    /// 8 are wired.
+    #[inline(always)]
+    pub fn step(&mut self, bus: &mut Bus) -> Event
+        requires slots { L.SLOTS ≡ 64 }
+        requires wired { L.WIRED ≡ 8 }
+        ensures { (record { event = result; core = state_of L.entries L.random_place self.new; bus = bus.new }) ≡ step (state_of L.entries L.random_place self.old) bus.old }
+    {
+        let (system, clock) = bus.lines();
+        if self.cp0.pending(system, clock) {
+            return self.trap(ExceptionCode::Interrupt);
+        }
+        let event = self.instruction(bus);
+        self.tlb.tick();
+        event
+    }
+
+    /// Does the instruction at `pc`.
+    #[inline(always)]
+    fn instruction(&mut self, bus: &mut Bus) -> Event
+        requires { L.SLOTS ≡ 64 }
+        ensures { (record { event = result; core = state_of L.entries L.random_place self.new; bus = bus.new }) ≡ instruction (state_of L.entries L.random_place self.old) bus.old }
+    {
+        let place = match self.reach(Access::Fetch, Size::Word, self.pc) {
+            Ok(Physical(place)) => place,
+            Err(fault) => return self.refuse(Access::Fetch, self.pc, fault),
+        };
+        match load_aligned(bus, place, Size::Word) {
+            Ok(word) => self.execute(decode(word), bus),
+            Err(_) => self.trap(ExceptionCode::FetchBus),
+        }
+    }
+}

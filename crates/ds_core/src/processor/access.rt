@@ -1,0 +1,135 @@
+//! Fetches, loads and stores: an address through the translation buffer, and then the bus.
+ghost use Rattle.std.specs.Prelude.{◌≡◌};
+ghost use Rattle.ds_amap.specs.Map.{is_store};
+ghost use Rattle.ds_core.specs.Core.{state_of, raised_core};
+ghost use Rattle.ds_core.specs.Access.{is_aligned, mode_of, reached, code_of, refusal, aligned_load, kept, aligned_store, store_answered};
+
+use super::Core;
+use crate::event::Event;
+use ds_amap::{Access, Fault, Mode, Physical, translate};
+use ds_cp0::{Cp0, Exception, ExceptionCode};
+use ds_dev::{Bus, BusError};
+use ds_isa::Size;
+use ds_mem::SIZE;
+use ds_tlb::Lookaside;
+
+/// Whether an address suits the size of an access.
+#[inline(always)]
+fn is_aligned(size: Size, address: u32) -> bool
+    ensures { result ≡ is_aligned size address }
+{
+    match size {
+        Size::Byte | Size::Part => true,
+        Size::Half => address % 2 == 0,
+        Size::Word => address % 4 == 0,
+    }
+}
+
+/// The mode of the processor.
+#[inline(always)]
+fn mode_of(cp0: &Cp0) -> Mode
+    ensures { result ≡ mode_of cp0.now }
+{
+    if cp0.user() { Mode::User } else { Mode::Kernel }
+}
+
+/// The cause of an access that has no physical address.
+fn code_of(fault: Fault, store: bool) -> ExceptionCode
+    ensures { result ≡ code_of fault store }
+{
+    match fault {
+        Fault::Address if store => ExceptionCode::StoreAddress,
+        Fault::Address => ExceptionCode::LoadAddress,
+        Fault::Modified => ExceptionCode::Modification,
+        Fault::Refill | Fault::Invalid if store => ExceptionCode::StoreMiss,
+        Fault::Refill | Fault::Invalid => ExceptionCode::LoadMiss,
+    }
+}
+
+/// Loads the aligned word that holds a place in memory, whatever the size of the access; a
+/// register answers to a whole word.
+#[inline(always)]
+pub(super) fn load_aligned(bus: &mut Bus, place: u32, size: Size) -> Result<u32, BusError>
+    ensures value { result ≡ (aligned_load bus.old place size).0 }
+    ensures state { bus.new ≡ (aligned_load bus.old place size).1 }
+{
+    if (place as usize) < SIZE {
+        bus.load(place, Size::Part)
+    } else {
+        bus.load(place, size)
+    }
+}
+
+/// The aligned word that holds a place in memory, of which a store changes a part; 0 elsewhere.
+#[inline(always)]
+pub(super) fn kept(bus: &mut Bus, place: u32) -> u32
+    ensures value { result ≡ kept bus.old place }
+    ensures same { bus.new ≡ bus.old }
+{
+    match bus.load(place, Size::Part) {
+        Ok(word) => word,
+        Err(_) => 0,
+    }
+}
+
+/// Stores the aligned word that holds a place in memory, whatever the size of the access; a
+/// register takes a whole word.
+#[inline(always)]
+fn store_aligned(bus: &mut Bus, place: u32, size: Size, word: u32) -> Result<(), BusError>
+    ensures value { result ≡ (aligned_store bus.old place size word).0 }
+    ensures state { bus.new ≡ (aligned_store bus.old place size word).1 }
+{
+    if (place as usize) < SIZE {
+        bus.store(place, Size::Part, word)
+    } else {
+        bus.store(place, size, word)
+    }
+}
+
+impl<L: Lookaside> Core<L> {
+    /// The physical address of an access, or why there is none.
+    #[inline(always)]
+    pub(super) fn reach(&self, access: Access, size: Size, address: u32) -> Result<Physical, Fault>
+        ensures { result ≡ reached (state_of L.entries L.random_place self.now) access size address }
+    {
+        if !is_aligned(size, address) {
+            return Err(Fault::Address);
+        }
+        translate(
+            address,
+            access,
+            mode_of(&self.cp0),
+            &self.tlb,
+            self.cp0.asid(),
+        )
+    }
+
+    /// Enters the exception of an access that has no physical address.
+    #[cold]
+    #[inline(never)]
+    pub(super) fn refuse(&mut self, access: Access, address: u32, fault: Fault) -> Event
+        ensures event { result ≡ Event.Raised (code_of fault (is_store access)) }
+        ensures core { state_of L.entries L.random_place self.new ≡ raised_core (state_of L.entries L.random_place self.old) (refusal (state_of L.entries L.random_place self.old) access address fault) }
+    {
+        let store = matches!(access, Access::Store);
+        self.raise(Exception {
+            code: code_of(fault, store),
+            pc: self.pc,
+            slot: self.slot,
+            unit: 0,
+            addr: Some(address),
+            miss: matches!(fault, Fault::Refill),
+        })
+    }
+
+    /// Stores a word at a place, and is done with the instruction.
+    #[inline(always)]
+    pub(super) fn retire_store(&mut self, place: u32, size: Size, word: u32, bus: &mut Bus) -> Event
+        ensures { (record { event = result; core = state_of L.entries L.random_place self.new; bus = bus.new }) ≡ store_answered (state_of L.entries L.random_place self.old) (aligned_store bus.old place size word).1 (aligned_store bus.old place size word).0 }
+    {
+        match store_aligned(bus, place, size, word) {
+            Ok(()) => self.retire_settled(),
+            Err(_) => self.trap(ExceptionCode::DataBus),
+        }
+    }
+}

@@ -1,0 +1,175 @@
+//! The instructions of the system coprocessor, the translation buffer's among them.
+ghost use Rattle.std.specs.Prelude.{◌≡◌, ◌<◌, if◌then◌else◌};
+ghost use Rattle.ds_core.specs.Core.{state_of, raised_core};
+ghost use Rattle.ds_core.specs.Coprocessor.{is_usable, unusable, unusable_exception, requests, system_reads, entry_hi, entry_lo, entry_of, indexed, usable, unit_of, privileged};
+
+use super::Core;
+use crate::event::Event;
+use ds_cp0::{Cp0, Exception, ExceptionCode, register};
+use ds_dev::Bus;
+use ds_isa::Instr;
+use ds_tlb::{Entry, Lookaside};
+
+/// A bit of a word.
+fn bit(value: u32, set: bool) -> u32
+    ensures { result ≡ (if set then value else 0) }
+{
+    if set { value } else { 0 }
+}
+
+/// The requests of the devices, as Cause shows them: bit 10 and bit 11.
+fn requests(bus: &Bus) -> u32
+    ensures { result ≡ requests bus.now }
+{
+    let (system, clock) = bus.lines();
+    bit(0x400, system) + bit(0x800, clock)
+}
+
+/// The EntryHi of an entry: VPN 31 to 12, ASID 11 to 6.
+fn entry_hi(entry: Entry) -> u32
+    ensures { result ≡ entry_hi entry }
+{
+    entry.vpn % 0x10_0000 * 0x1000 + u32::from(entry.asid % 64) * 64
+}
+
+/// The EntryLo of an entry: PFN 31 to 12, N 11, D 10, V 9, G 8.
+fn entry_lo(entry: Entry) -> u32
+    ensures { result ≡ entry_lo entry }
+{
+    entry.pfn % 0x10_0000 * 0x1000
+        + bit(0x800, entry.n)
+        + bit(0x400, entry.d)
+        + bit(0x200, entry.v)
+        + bit(0x100, entry.g)
+}
+
+/// The entry of the two words.
+fn entry_of(cp0: &Cp0) -> Entry
+    ensures { result ≡ entry_of cp0.now.entry_hi cp0.now.entry_lo }
+{
+    let hi = cp0.read(register::ENTRY_HI);
+    let lo = cp0.read(register::ENTRY_LO);
+    Entry {
+        vpn: (hi >> 12) & 0xf_ffff,
+        asid: ((hi >> 6) & 0x3f) as u8,
+        pfn: (lo >> 12) & 0xf_ffff,
+        n: (lo >> 11) & 1 == 1,
+        d: (lo >> 10) & 1 == 1,
+        v: (lo >> 9) & 1 == 1,
+        g: (lo >> 8) & 1 == 1,
+    }
+}
+
+/// The slot that Index names.
+fn indexed(cp0: &Cp0) -> usize
+    ensures value { result ≡ indexed cp0.now }
+    ensures range { result < 64 }
+{
+    ((cp0.read(register::INDEX) >> 8) & 0x3f) as usize
+}
+
+/// The coprocessor of an instruction.
+fn unit_of(instr: Instr) -> u8
+    ensures { result ≡ unit_of instr }
+{
+    match instr {
+        Instr::Cop { unit, .. } => unit,
+        _ => 0,
+    }
+}
+
+impl<L: Lookaside> Core<L> {
+    /// Whether a coprocessor may be used: coprocessor 0 in kernel mode, else each by its bit in
+    /// Status.
+    fn is_usable(&self, unit: u8) -> bool
+        ensures { result ≡ is_usable (state_of L.entries L.random_place self.now) unit }
+    {
+        let enabled = (self.cp0.read(register::STATUS) >> (28 + unit % 4)) & 1 == 1;
+        unit % 4 == 0 && !self.cp0.user() || enabled
+    }
+
+    /// Enters the exception of a coprocessor that can't be used.
+    fn unusable(&mut self, unit: u8) -> Event
+        ensures event { result ≡ Event.Raised ExceptionCode.CoprocessorUnusable }
+        ensures core { state_of L.entries L.random_place self.new ≡ raised_core (state_of L.entries L.random_place self.old) (unusable_exception (state_of L.entries L.random_place self.old) unit) }
+    {
+        self.raise(Exception {
+            code: ExceptionCode::CoprocessorUnusable,
+            pc: self.pc,
+            slot: self.slot,
+            unit,
+            addr: None,
+            miss: false,
+        })
+    }
+
+    /// What a register of the coprocessor reads, Random and the requests of the devices included.
+    fn system_reads(&self, number: u8, bus: &Bus) -> u32
+        requires { L.SLOTS ≡ 64 }
+        ensures { result ≡ system_reads (state_of L.entries L.random_place self.now) bus.now number }
+    {
+        match number {
+            register::RANDOM => self.tlb.random() as u32 * 256,
+            register::CAUSE => self.cp0.read(register::CAUSE) | requests(bus),
+            _ => self.cp0.read(number),
+        }
+    }
+
+    /// Carries out an instruction of a coprocessor that may be used.
+    fn use_coprocessor(&mut self, instr: Instr, bus: &Bus) -> Event
+        requires { L.SLOTS ≡ 64 }
+        ensures { (record { event = result; core = state_of L.entries L.random_place self.new; bus = bus.now }) ≡ usable (state_of L.entries L.random_place self.old) bus.now instr }
+    {
+        match instr {
+            Instr::Mfc0 { rt, rd } => {
+                let value = self.system_reads(rd, bus);
+                self.retire_load(rt, value)
+            }
+            Instr::Mtc0 { rt, rd } => {
+                let value = self.read(rt);
+                self.cp0.write(rd, value);
+                self.retire_settled()
+            }
+            Instr::Tlbr => {
+                let entry = self.tlb.read(indexed(&self.cp0));
+                self.cp0.write(register::ENTRY_HI, entry_hi(entry));
+                self.cp0.write(register::ENTRY_LO, entry_lo(entry));
+                self.retire_settled()
+            }
+            Instr::Tlbwi => {
+                self.tlb.write(indexed(&self.cp0), entry_of(&self.cp0));
+                self.retire_settled()
+            }
+            Instr::Tlbwr => {
+                self.tlb.write_random(entry_of(&self.cp0));
+                self.retire_settled()
+            }
+            Instr::Tlbp => {
+                let vpn = (self.cp0.read(register::ENTRY_HI) >> 12) & 0xf_ffff;
+                let index = self.tlb.probe(vpn, self.cp0.asid());
+                self.cp0.write(register::INDEX, index);
+                self.retire_settled()
+            }
+            Instr::Rfe => {
+                self.cp0.rfe();
+                self.retire_settled()
+            }
+            _ => self.trap(ExceptionCode::ReservedInstruction),
+        }
+    }
+
+    /// Carries out an instruction of a coprocessor.
+    #[cold]
+    #[inline(never)]
+    pub(super) fn privileged(&mut self, instr: Instr, bus: &Bus) -> Event
+        requires { L.SLOTS ≡ 64 }
+        ensures { (record { event = result; core = state_of L.entries L.random_place self.new; bus = bus.now }) ≡ privileged (state_of L.entries L.random_place self.old) bus.now instr }
+    {
+        let unit = unit_of(instr);
+        if self.is_usable(unit) {
+            self.use_coprocessor(instr, bus)
+        } else {
+            self.unusable(unit)
+        }
+    }
+}
