@@ -1,0 +1,108 @@
+-- The two passes agree: the second has as many bytes as the first has counted, and labels that are
+-- looked up alike give the same bytes.
+use Rattle.std.proofs.Common.{◌≡◌, inl, inr, ◌∙◌, sym, ap, subst, refl, ℕ, ◌+◌, ◌%◌, ◌^◌, ◌≤◌, ◌&&◌, List, [], ◌∷◌, ◌++◌, length, length-append, replicate, Option, Some, None, Result, Ok, Err, arith, nat_lt}
+use Rattle.std.proofs.lemmas.Bool.{cases_Bool, ltb-false}
+use Rattle.std.proofs.lemmas.List.{length-replicate}
+use Rattle.ds_asm.specs.Numbers.{as_word}
+use Rattle.ds_asm.specs.Operands.{Instruction, Target, Nowhere, BranchTo, JumpTo}
+use Rattle.ds_asm.specs.Lines.{Statement, Encoded, WordNumber, WordLabel, Byte, Space, Line, line_of}
+use Rattle.ds_asm.specs.Assembly.{Fault, ◌>>=◌, origin, most_bytes, size_of, is_in_range, is_aligned, Layout, labelled, sized, with_line, with_lines, little_endian, resolved, known, word_bytes, statement_bytes, optional_bytes, line_bytes, bytes_from, address_of, empty_layout, lines_of, assembled}
+
+-- what is good at the end was good at each step
+bind_ok : {A B : Type 0} (r : Result A Fault) (f : A → Result B Fault) (y : B) → (r >>= f) ≡ Ok y → (x : A) × (r ≡ Ok x) × (f x ≡ Ok y)
+bind_ok (Ok x) f y h = (x, refl, h)
+bind_ok (Err e) f y h = cc
+
+word_length : (r : Result ℕ Fault) (more : List ℕ) → word_bytes r ≡ Ok more → length more ≡ 4
+word_length (Ok w) more h = let same : little_endian w ≡ more = cc in sym (ap length same)
+word_length (Err e) more h = cc
+
+-- a statement's bytes are as many as its size
+statement_length : (n : ℕ) (find : List ℕ → Option ℕ) (at : ℕ) (s : Statement) (more : List ℕ) → statement_bytes n find at s ≡ Ok more → length more ≡ size_of s
+statement_length n find at (Encoded i) more h = word_length (resolved n find (origin + at + 4) i i.target) more h
+statement_length n find at (WordNumber x) more h = word_length (Ok (as_word x)) more h
+statement_length n find at (WordLabel name) more h = word_length (known n (find name)) more h
+statement_length n find at (Byte x) more h = let same : (as_word x % 2 ^ 8) ∷ [] ≡ more = cc in sym (ap length same)
+statement_length n find at (Space x) more h = let same : replicate x.magnitude 0 ≡ more = cc in sym (ap length same) ∙ length-replicate x.magnitude 0
+
+-- a statement that is let in makes the image longer by its size, and no longer than it may be
+sized_more : (n at : ℕ) (s : Statement) (size : ℕ) → sized n at (Some s) ≡ Ok size → (size ≡ at + size_of s) × (size ≤ 65536)
+sized_more n at s size h = elim (cases_Bool (is_in_range s && is_aligned at s)) [
+  | inr bad ↦ let k = rw bad at h in cc
+  | inl good ↦ let k = rw good at h in elim (cases_Bool (nat_lt most_bytes (at + size_of s))) [
+    | inl long ↦ let j = rw long at k in cc
+    | inr short ↦ let j = rw short at k in
+        let same : at + size_of s ≡ size = cc in
+        let room : at + size_of s ≤ most_bytes = ltb-false _ _ short in
+        (sym same, omega arith)
+  ]
+]
+
+optional_size : (n : ℕ) (find : List ℕ → Option ℕ) (at : ℕ) (s : Option Statement) (size : ℕ) (more : List ℕ) → at ≤ 65536 → sized n at s ≡ Ok size → optional_bytes n find at s ≡ Ok more
+    → (size ≡ at + length more) × (size ≤ 65536)
+optional_size n find at None size more few h k =
+    let same : at ≡ size = cc in
+    let none : length more ≡ 0 = (let e : [] ≡ more = cc in sym (ap (λ (xs : List ℕ). length xs) e)) in
+    (omega arith, omega arith)
+optional_size n find at (Some s) size more few h k =
+    let (grown, room) = sized_more n at s size h in
+    let long = statement_length n find at s more k in
+    (omega arith, room)
+
+line_size : (n : ℕ) (find : List ℕ → Option ℕ) (m next : Layout) (x : Option Line) (more : List ℕ) → m.size ≤ 65536 → with_line n x m ≡ Ok next → line_bytes n find m.size x ≡ Ok more
+    → (next.size ≡ m.size + length more) × (next.size ≤ 65536)
+line_size n find m next None more few h k = cc
+line_size n find m next (Some line) more few h k =
+    let (labels, a, b) = bind_ok (labelled n m.size line.label m.labels) _ next h in
+    let (size, c, d) = bind_ok (sized n m.size line.statement) (λ size. Ok (record { labels = labels; size = size })) next b in
+    let same : size ≡ next.size = (let e : record { labels = labels; size = size } ≡ next = cc in ap (λ (l : Layout). l.size) e) in
+    let (grown, room) = optional_size n find m.size line.statement size more few c k in
+    (omega arith, omega arith)
+
+pub bytes_fit : (n : ℕ) (find : List ℕ → Option ℕ) (m last : Layout) (bytes out : List ℕ) (lines : List (List ℕ)) → length bytes ≡ m.size → m.size ≤ 65536
+    → with_lines n m lines ≡ Ok last → bytes_from n find bytes lines ≡ Ok out → length out ≤ 65536
+bytes_fit n find m last bytes out [] same few h k = let e : bytes ≡ out = cc in let l : length bytes ≡ length out = ap (λ (xs : List ℕ). length xs) e in omega arith
+bytes_fit n find m last bytes out (line ∷ lines) same few h k =
+    let (next, a, b) = bind_ok (with_line n (line_of line) m) (λ more. with_lines (n + 1) more lines) last h in
+    let (more, c, d) = bind_ok (line_bytes n find (length bytes) (line_of line)) (λ more. bytes_from (n + 1) find (bytes ++ more) lines) out k in
+    let (grown, room) = line_size n find m next (line_of line) more few a (subst (λ (k : ℕ). line_bytes n find k (line_of line) ≡ Ok more) same c) in
+    bytes_fit (n + 1) find next last (bytes ++ more) out lines (omega (arith, length-append bytes more)) room b d
+
+-- Labels that are looked up alike.
+module _ (f g : List ℕ → Option ℕ) (alike : (name : List ℕ) → f name ≡ g name) where
+  resolved_alike : (n slot : ℕ) (i : Instruction) (t : Target) → resolved n f slot i t ≡ resolved n g slot i t
+  resolved_alike n slot i Nowhere = refl
+  resolved_alike n slot i (BranchTo name) = rw (alike name) refl
+  resolved_alike n slot i (JumpTo name) = rw (alike name) refl
+
+  statement_alike : (n at : ℕ) (s : Statement) → statement_bytes n f at s ≡ statement_bytes n g at s
+  statement_alike n at (Encoded i) = ap word_bytes (resolved_alike n (origin + at + 4) i i.target)
+  statement_alike n at (WordNumber x) = refl
+  statement_alike n at (WordLabel name) = rw (alike name) refl
+  statement_alike n at (Byte x) = refl
+  statement_alike n at (Space x) = refl
+
+  optional_alike : (n at : ℕ) (s : Option Statement) → optional_bytes n f at s ≡ optional_bytes n g at s
+  optional_alike n at None = refl
+  optional_alike n at (Some s) = statement_alike n at s
+
+  line_alike : (n at : ℕ) (x : Option Line) → line_bytes n f at x ≡ line_bytes n g at x
+  line_alike n at None = refl
+  line_alike n at (Some line) = optional_alike n at line.statement
+
+  through_ok : {A B : Type 0} (r : Result A Fault) (p q : A → Result B Fault) → ((x : A) → p x ≡ q x) → (r >>= p) ≡ (r >>= q)
+  through_ok (Ok x) p q h = h x
+  through_ok (Err e) p q h = refl
+
+  pub bytes_alike : (n : ℕ) (bytes : List ℕ) (lines : List (List ℕ)) → bytes_from n f bytes lines ≡ bytes_from n g bytes lines
+  bytes_alike n bytes [] = refl
+  bytes_alike n bytes (line ∷ lines) =
+      ap (λ r. r >>= (λ more. bytes_from (n + 1) f (bytes ++ more) lines)) (line_alike n (length bytes) (line_of line))
+      ∙ through_ok (line_bytes n g (length bytes) (line_of line)) _ _ (λ more. bytes_alike (n + 1) (bytes ++ more) lines)
+
+-- what a source says once its labels are held
+pub assembled_by : (text : List ℕ) (l : Layout) (find : List ℕ → Option ℕ) → with_lines 1 empty_layout (lines_of text) ≡ Ok l → ((name : List ℕ) → find name ≡ address_of l.labels name)
+    → assembled text ≡ bytes_from 1 find [] (lines_of text)
+assembled_by text l find said alike =
+    ap (λ r. r >>= (λ layout. bytes_from 1 (address_of layout.labels) [] (lines_of text))) said
+    ∙ bytes_alike (address_of l.labels) find (λ name. sym (alike name)) 1 [] (lines_of text)

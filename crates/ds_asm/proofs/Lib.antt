@@ -1,0 +1,5 @@
+pub mod DigitSteps
+pub mod WrittenForms
+pub mod Pages
+pub mod SourceLines
+pub mod ImageSizes

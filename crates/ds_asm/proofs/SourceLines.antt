@@ -1,0 +1,111 @@
+-- From one line of a source to the next, in both passes.
+use Rattle.std.proofs.Common.{◌≡◌, inl, inr, ◌∙◌, ap, subst, refl, ℕ, ◌+◌, ◌≤◌, Bool, false, List, [], ◌∷◌, ◌++◌, length, length-drop, Result, Ok, Option, Some, is_some, arith, nat_lt, ◌==◌}
+use Rattle.std.specs.List.{slice_split, position_or_len, before_first, after_first, onto_first}
+use Rattle.std.proofs.lemmas.Bool.{cases_Bool, ltb-true, ltb-false}
+use Rattle.std.proofs.lemmas.List.{drop_all, take_all}
+use Rattle.std.proofs.lemmas.List.Splits.{slice_split_first}
+use Rattle.ds_asm.specs.declared.fault.AsmFault.{AsmFault}
+use Rattle.ds_asm.specs.declared.fault.AsmFault.TheVariants as asm
+use Rattle.ds_asm.specs.Assembly.{Fault, ◌>>=◌, without_empty_last, lines_of, origin, Labels, address_of, Layout, labelled, sized, with_line, with_lines, line_bytes, bytes_from}
+use Rattle.ds_asm.specs.Assembling.{Fails}
+use Rattle.ds_asm.specs.Lines.{Line, line_of}
+
+-- a list in which no element passes is one part
+one_part : (p : ℕ → Bool) (xs : List ℕ) → length xs ≤ position_or_len p xs → slice_split p xs ≡ xs ∷ []
+one_part p [] h = refl
+one_part p (x ∷ xs) h = elim (cases_Bool (p x)) [
+  | inl e ↦ absurd (let k = rw e at h in omega arith)
+  | inr e ↦ let k = rw e at h in rw (e, one_part p xs (omega arith)) refl
+]
+
+-- a piece stays where another stands behind it
+keep_piece : (piece next : List ℕ) (rest : List (List ℕ)) → without_empty_last (piece ∷ next ∷ rest) ≡ piece ∷ without_empty_last (next ∷ rest)
+keep_piece [] next rest = refl
+keep_piece (b ∷ bs) next rest = refl
+
+keep_onto : (piece : List ℕ) (x : ℕ) (parts : List (List ℕ)) → without_empty_last (piece ∷ onto_first x parts) ≡ piece ∷ without_empty_last (onto_first x parts)
+keep_onto piece x [] = keep_piece piece (x ∷ []) []
+keep_onto piece x (q ∷ qs) = keep_piece piece (x ∷ q) qs
+
+-- the parts of a list are one at least
+keep_split : (p : ℕ → Bool) (piece xs : List ℕ) → without_empty_last (piece ∷ slice_split p xs) ≡ piece ∷ without_empty_last (slice_split p xs)
+keep_split p piece [] = keep_piece piece [] []
+keep_split p piece (x ∷ xs) = elim (cases_Bool (p x)) [
+  | inl e ↦ rw e (keep_piece piece [] (slice_split p xs))
+  | inr e ↦ rw e (keep_onto piece x (slice_split p xs))
+]
+
+first_of : (p : ℕ → Bool) (x : ℕ) (xs : List ℕ) → without_empty_last (slice_split p (x ∷ xs)) ≡ before_first p (x ∷ xs) ∷ without_empty_last (slice_split p (after_first p (x ∷ xs)))
+first_of p x xs = elim (cases_Bool (nat_lt (position_or_len p (x ∷ xs)) (length (x ∷ xs)))) [
+  | inl found ↦ ap without_empty_last (slice_split_first p (x ∷ xs) 0 (ltb-true _ _ found)) ∙ keep_split p (before_first p (x ∷ xs)) (after_first p (x ∷ xs))
+  | inr missed ↦
+      let far : length (x ∷ xs) ≤ position_or_len p (x ∷ xs) = ltb-false _ _ missed in
+      rw (one_part p (x ∷ xs) far, take_all (position_or_len p (x ∷ xs)) (x ∷ xs) far, drop_all (position_or_len p (x ∷ xs) + 1) (x ∷ xs) (omega arith)) refl
+]
+
+-- a text that isn't empty has its first line, and those of the text behind it
+pub lines_of-first : (text line behind : List ℕ) → (length text == 0) ≡ false → line ≡ before_first (λ b. b == 10) text → behind ≡ after_first (λ b. b == 10) text → lines_of text ≡ line ∷ lines_of behind
+lines_of-first [] line behind h p q = cc
+lines_of-first (x ∷ xs) line behind h p q = rw (p, q) (first_of (λ b. b == 10) x xs)
+
+-- what is behind the first line is shorter
+pub behind_within : (n m : ℕ) (text behind : List ℕ) → behind ≡ after_first (λ b. b == 10) text → (length text == 0) ≡ false → n + length text ≤ m → n + 1 + length behind ≤ m
+behind_within n m [] behind q some within = cc
+behind_within n m (x ∷ xs) behind q some within = rw q (omega (arith, length-drop (position_or_len (λ b. b == 10) (x ∷ xs) + 1) (x ∷ xs)))
+
+-- a fault stays the fault, whatever would come behind
+pub fails_bind : {A B : Type 0} (e : AsmFault) (r : Result A Fault) (f : A → Result B Fault) → Fails e r → Fails e (r >>= f)
+fails_bind (asm.Syntax l) r f p = ap (λ x. x >>= f) p
+fails_bind (asm.UnknownLabel l) r f p = ap (λ x. x >>= f) p
+fails_bind (asm.DoubleLabel l) r f p = ap (λ x. x >>= f) p
+fails_bind (asm.Range l) r f p = ap (λ x. x >>= f) p
+fails_bind (asm.TooLong l) r f p = ap (λ x. x >>= f) p
+fails_bind asm.Memory r f p = tt
+
+-- The first pass.
+pub layout_good : (n : ℕ) (m next : Layout) (text line behind : List ℕ) → lines_of text ≡ line ∷ lines_of behind → with_line n (line_of line) m ≡ Ok next
+    → with_lines n m (lines_of text) ≡ with_lines (n + 1) next (lines_of behind)
+layout_good n m next text line behind first said = ap (with_lines n m) first ∙ ap (λ r. r >>= (λ more. with_lines (n + 1) more (lines_of behind))) said
+
+pub layout_bad : (e : AsmFault) (n : ℕ) (m : Layout) (text line behind : List ℕ) → lines_of text ≡ line ∷ lines_of behind → Fails e (with_line n (line_of line) m)
+    → Fails e (with_lines n m (lines_of text))
+layout_bad e n m text line behind first said = rw first (fails_bind e (with_line n (line_of line) m) (λ more. with_lines (n + 1) more (lines_of behind)) said)
+
+pub layout_end : (n : ℕ) (m : Layout) (text : List ℕ) → length text ≡ 0 → with_lines n m (lines_of text) ≡ Ok m
+layout_end n m [] none = refl
+layout_end n m (x ∷ xs) none = absurd (omega arith)
+
+-- The second pass.
+pub bytes_good : (n : ℕ) (find : List ℕ → Option ℕ) (bytes more text line behind : List ℕ) → lines_of text ≡ line ∷ lines_of behind → line_bytes n find (length bytes) (line_of line) ≡ Ok more
+    → bytes_from n find bytes (lines_of text) ≡ bytes_from (n + 1) find (bytes ++ more) (lines_of behind)
+bytes_good n find bytes more text line behind first said = ap (bytes_from n find bytes) first ∙ ap (λ r. r >>= (λ m. bytes_from (n + 1) find (bytes ++ m) (lines_of behind))) said
+
+pub bytes_bad : (e : AsmFault) (n : ℕ) (find : List ℕ → Option ℕ) (bytes text line behind : List ℕ) → lines_of text ≡ line ∷ lines_of behind → Fails e (line_bytes n find (length bytes) (line_of line))
+    → Fails e (bytes_from n find bytes (lines_of text))
+bytes_bad e n find bytes text line behind first said = rw first (fails_bind e (line_bytes n find (length bytes) (line_of line)) (λ m. bytes_from (n + 1) find (bytes ++ m) (lines_of behind)) said)
+
+pub bytes_end : (n : ℕ) (find : List ℕ → Option ℕ) (bytes text : List ℕ) → length text ≡ 0 → bytes_from n find bytes (lines_of text) ≡ Ok bytes
+bytes_end n find bytes [] none = refl
+bytes_end n find bytes (x ∷ xs) none = absurd (omega arith)
+
+-- a label that stands nowhere before is taken
+pub labelled_new : (n at : ℕ) (label : Option (List ℕ)) (name : List ℕ) (labels : Labels) → label ≡ Some name → is_some (address_of labels name) ≡ false → labelled n at label labels ≡ Ok ((name, origin + at) ∷ labels)
+labelled_new n at label name labels p q = rw (p, q) refl
+
+-- a line whose label and statement are good is
+pub line_laid : (n at after : ℕ) (x : Option Line) (line : Line) (l : Layout) (labels : Labels) (size : ℕ) → x ≡ Some line → at ≡ l.size → labelled n at line.label l.labels ≡ Ok labels
+    → after ≡ l.size → sized n after line.statement ≡ Ok size → with_line n x l ≡ Ok (record { labels = labels; size = size })
+line_laid n at after x line l labels size p e q f r =
+    let q2 = subst (λ (k : ℕ). labelled n k line.label l.labels ≡ Ok labels) e q in
+    let r2 = subst (λ (k : ℕ). sized n k line.statement ≡ Ok size) f r in
+    rw (p, q2, r2) refl
+
+-- and one whose label or statement isn't is not
+pub label_fails : (e : AsmFault) (n at : ℕ) (x : Option Line) (line : Line) (l : Layout) → x ≡ Some line → at ≡ l.size → Fails e (labelled n at line.label l.labels) → Fails e (with_line n x l)
+label_fails e n at x line l p f h = rw p (fails_bind e (labelled n l.size line.label l.labels) _ (subst (λ (k : ℕ). Fails e (labelled n k line.label l.labels)) f h))
+
+pub statement_fails : (e : AsmFault) (n at after : ℕ) (x : Option Line) (line : Line) (l : Layout) (labels : Labels) → x ≡ Some line → at ≡ l.size → labelled n at line.label l.labels ≡ Ok labels
+    → after ≡ l.size → Fails e (sized n after line.statement) → Fails e (with_line n x l)
+statement_fails e n at after x line l labels p f q g h =
+    let q2 = subst (λ (k : ℕ). labelled n k line.label l.labels ≡ Ok labels) f q in
+    rw (p, q2) (fails_bind e (sized n l.size line.statement) _ (subst (λ (k : ℕ). Fails e (sized n k line.statement)) g h))

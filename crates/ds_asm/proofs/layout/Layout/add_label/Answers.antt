@@ -1,0 +1,18 @@
+use Rattle.std.proofs.Common.{◌≡◌, ◌∙◌, ◌+◌, sym, ap, refl, ◌∷◌, false, is_some, option_map}
+use Rattle.ds_asm.specs.Assembly.{address_of, origin}
+use Rattle.ds_asm.proofs.SourceLines.{labelled_new}
+use Rattle.ds_asm.proofs.layout.Layout.add_label.Goals as goal
+
+pub returns-in-None-clause-said : goal.returns-in-None-clause-said
+returns-in-None-clause-said c = λ labels h. (labels, rw c.in-None.is refl, h)
+
+pub returns-clause-said : goal.returns-clause-said
+returns-clause-said c = λ labels h.
+    let held = h c.in-Some.name.now in
+    let looked = c.address_of.ensures in
+    let tested = c.is_some.ensures in
+    let new : is_some (address_of labels c.in-Some.name.now) ≡ false = ap is_some (sym (looked ∙ held)) ∙ (sym tested ∙ c.if-is_some.false) in (
+      (c.in-Some.name.now, origin + c.args.self.now.size) ∷ labels,
+      labelled_new c.args.number c.args.self.now.size (option_map (λ t. t.now) c.args.label) c.in-Some.name.now labels (ap (option_map (λ t. t.now)) c.in-Some.is) new,
+      c.in_ok-insert.ensures labels h,
+    )

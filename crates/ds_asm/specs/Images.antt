@@ -1,0 +1,6 @@
+-- The parts of an image.
+use Rattle.std.specs.Prelude.{ℕ, ◌*◌, List, ◌++◌, take, drop, replicate}
+
+-- a page of an image, with zeros past its end
+abbrev pub part_of : List ℕ → ℕ → List ℕ
+part_of image k = take 4096 (drop (4096 * k) image ++ replicate 4096 0)

@@ -1,0 +1,11 @@
+pub mod Characters
+pub mod Numbers
+pub mod RegisterNames
+pub mod Forms
+pub mod Operands
+pub mod Lines
+pub mod Plain
+pub mod Assembly
+pub mod Assembling
+pub mod Images
+pub mod Worked

@@ -1,0 +1,73 @@
+-- What a line says: a label, a statement, both or nothing.
+use Rattle.std.specs.Prelude.{codes, ℕ, bytes_eq, if◌then◌else◌, List, [], ◌∷◌, drop, Option, Some, None, option_map}
+use Rattle.std.specs.List.{position_or_len, before_first}
+use Rattle.ds_asm.specs.declared.number.Number.{Number}
+use Rattle.ds_asm.specs.Characters.{is_blank, is_name, without_front_blanks, trimmed, until, behind}
+use Rattle.ds_asm.specs.Numbers.{number_of}
+use Rattle.ds_asm.specs.Forms.{form_named}
+use Rattle.ds_asm.specs.Operands.{◌>>=◌, Instruction, bare, with_operands}
+
+pub data Statement : Type 0 where
+  Encoded : (instruction : Instruction) → Statement
+  WordNumber : (number : Number) → Statement
+  WordLabel : (name : List ℕ) → Statement
+  Byte : (number : Number) → Statement
+  Space : (number : Number) → Statement
+
+-- a text, unless it is empty
+abbrev pub unless_empty : List ℕ → Option (List ℕ)
+unless_empty [] = None
+unless_empty (c ∷ cs) = Some (c ∷ cs)
+
+abbrev pub mnemonic_of : List ℕ → List ℕ
+mnemonic_of text = before_first is_blank text
+
+abbrev pub behind_mnemonic : List ℕ → Option (List ℕ)
+behind_mnemonic text = unless_empty (without_front_blanks (drop (position_or_len is_blank text) text))
+
+-- a number, or else a label
+abbrev pub label_word : List ℕ → Option Statement
+label_word text = if is_name text then Some (WordLabel text) else None
+
+abbrev pub number_word : Option Number → List ℕ → Option Statement
+number_word (Some n) text = Some (WordNumber n)
+number_word None text = label_word text
+
+-- an instruction of its form's name, with its operands
+abbrev pub instruction_named : List ℕ → Option (List ℕ) → Option Instruction
+instruction_named name left = form_named name >>= (λ f. with_operands f.operands left (bare f.word))
+
+-- the statement of a mnemonic and of what stands behind it
+unfoldable pub statement_named : List ℕ → Option (List ℕ) → Option Statement
+statement_named name left =
+    if bytes_eq name (codes ".word") then left >>= (λ text. number_word (number_of text) text)
+    else if bytes_eq name (codes ".byte") then left >>= (λ text. option_map (λ n. Byte n) (number_of text))
+    else if bytes_eq name (codes ".space") then left >>= (λ text. option_map (λ n. Space n) (number_of text))
+    else option_map (λ i. Encoded i) (instruction_named name left)
+
+abbrev pub statement_of : List ℕ → Option Statement
+statement_of text = statement_named (mnemonic_of text) (behind_mnemonic text)
+
+-- an empty text is no statement, and that is good
+abbrev pub statement_in : List ℕ → Option (Option Statement)
+statement_in [] = Some None
+statement_in (c ∷ cs) = option_map (λ s. Some s) (statement_of (c ∷ cs))
+
+pub record Line : Type 0 where
+  pub label : Option (List ℕ)
+  pub statement : Option Statement
+
+abbrev pub with_statement : Option (List ℕ) → List ℕ → Option Line
+with_statement label text = option_map (λ s. record { label = label; statement = s }) (statement_in text)
+
+-- what stands before a colon is a label
+abbrev pub with_label : List ℕ → Option (List ℕ) → Option Line
+with_label text None = with_statement None text
+with_label text (Some rest) = if is_name (until 58 text) then with_statement (Some (until 58 text)) (trimmed rest) else None
+
+abbrev pub line_parts : List ℕ → Option Line
+line_parts text = with_label text (behind 58 text)
+
+-- what a line says, up to its comment
+unfoldable pub line_of : List ℕ → Option Line
+line_of line = line_parts (trimmed (until 35 line))

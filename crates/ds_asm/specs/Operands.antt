@@ -1,0 +1,104 @@
+-- From the text of operands to what an instruction has in their places.
+use Rattle.std.specs.Prelude.{ℕ, ◌+◌, ◌-◌, ◌*◌, ◌%◌, ◌^◌, Bool, true, false, not, ◌&&◌, ◌==◌, nat_lt, if◌then◌else◌, List, [], ◌∷◌, length, take, slice_index, Option, Some, None, option_and_then, option_map}
+use Rattle.std.specs.List.{position_or_len}
+use Rattle.ds_word.specs.Word.{word}
+use Rattle.ds_isa.specs.Fields.{Field, rd, Operand, Register, LinkRegister, SystemRegister, Number, Code, Signed, Branch, Jump, Indexed}
+use Rattle.ds_asm.specs.declared.number.Number as code
+use Rattle.ds_asm.specs.Characters.{is_name, trimmed, until, behind}
+use Rattle.ds_asm.specs.Numbers.{number_of, is_within, as_word}
+use Rattle.ds_asm.specs.RegisterNames.{register_of, system_register_of}
+
+infixl 10 ◌>>=◌
+abbrev pub ◌>>=◌ : {A B : Type 0} → Option A → (A → Option B) → Option B
+o >>= f = option_and_then f o
+
+-- the label that an instruction goes to, if it does
+pub data Target : Type 0 where
+  Nowhere : Target
+  BranchTo : (name : List ℕ) → Target
+  JumpTo : (name : List ℕ) → Target
+
+-- what the text of an instruction says: its word with 0 in the place of a label, whether its
+-- numbers are in range, and its label
+pub record Instruction : Type 0 where
+  pub word : ℕ
+  pub in_range : Bool
+  pub target : Target
+
+-- an instruction without operands
+abbrev pub bare : ℕ → Instruction
+bare w = record { word = w; in_range = true; target = Nowhere }
+
+-- with a value added in a field, cut to the field's width
+abbrev pub with_value : Field → ℕ → Instruction → Instruction
+with_value f v i = record i { word = word (i.word + v % 2 ^ f.width * 2 ^ f.lo) }
+
+-- with a number in a field, which is to be from -least to most
+abbrev pub with_number : Field → ℕ → ℕ → code.Number → Instruction → Instruction
+with_number f least most n i = record (with_value f (as_word n) i) { in_range = i.in_range && is_within least most n }
+
+abbrev pub with_target : Target → Instruction → Instruction
+with_target t i = record i { target = t }
+
+abbrev pub with_register : Field → Option ℕ → Instruction → Option Instruction
+with_register f r i = option_map (λ n. with_value f n i) r
+
+abbrev pub with_unsigned : Field → List ℕ → Instruction → Option Instruction
+with_unsigned f text i = option_map (λ n. with_number f 0 (2 ^ f.width - 1) n i) (number_of text)
+
+abbrev pub with_signed : Field → List ℕ → Instruction → Option Instruction
+with_signed f text i = option_map (λ n. with_number f (2 ^ (f.width - 1)) (2 ^ (f.width - 1) - 1) n i) (number_of text)
+
+abbrev pub with_label : (List ℕ → Target) → List ℕ → Instruction → Option Instruction
+with_label make text i = if is_name text then Some (with_target (make text) i) else None
+
+-- what stands before the parenthesis at the end
+abbrev pub before_close : List ℕ → Option (List ℕ)
+before_close text = if slice_index text (length text - 1) == 41 then Some (take (length text - 1) text) else None
+
+-- an offset, and in parentheses behind it the register of the base
+unfoldable pub with_indexed : Field → Field → List ℕ → Instruction → Option Instruction
+with_indexed base offset text i = do
+  rest ← behind 40 text
+  inner ← before_close rest
+  register ← register_of (trimmed inner)
+  with_signed offset (trimmed (until 40 text)) (with_value base register i)
+
+-- with what the text of one operand says
+unfoldable pub with_operand : Operand → List ℕ → Instruction → Option Instruction
+with_operand (Register f) text i = with_register f (register_of text) i
+with_operand (LinkRegister f) text i = with_register f (register_of text) i
+with_operand (SystemRegister f) text i = with_register f (system_register_of text) i
+with_operand (Number f) text i = with_unsigned f text i
+with_operand (Code f) text i = with_unsigned f text i
+with_operand (Signed f) text i = with_signed f text i
+with_operand (Branch f) text i = with_label BranchTo text i
+with_operand (Jump f) text i = with_label JumpTo text i
+with_operand (Indexed base offset) text i = with_indexed base offset text i
+
+abbrev pub is_code : Operand → Bool
+is_code (Code f) = true
+is_code _ = false
+
+abbrev pub is_link : Operand → Bool
+is_link (LinkRegister f) = true
+is_link _ = false
+
+abbrev pub has_comma : List ℕ → Bool
+has_comma text = nat_lt (position_or_len (λ b. b == 44) text) (length text)
+
+-- with what stands before the first comma; what stands behind it is left
+abbrev pub with_first : Operand → List ℕ → Instruction → Option (Option (List ℕ) × Instruction)
+with_first o text i = option_map (λ next. (behind 44 text, next)) (with_operand o (trimmed (until 44 text)) i)
+
+-- with one operand of what is left of a statement's text, if anything is. A code may be left out, and
+-- a link register, where only one operand is left
+abbrev pub with_next : Operand → Option (List ℕ) → Instruction → Option (Option (List ℕ) × Instruction)
+with_next o None i = if is_code o then Some (None, i) else None
+with_next o (Some text) i = if is_link o && not (has_comma text) then Some (Some text, with_value rd 31 i) else with_first o text i
+
+-- with all operands; nothing may be left
+unfoldable pub with_operands : List Operand → Option (List ℕ) → Instruction → Option Instruction
+with_operands [] None i = Some i
+with_operands [] (Some text) i = None
+with_operands (o ∷ os) left i = with_next o left i >>= (λ p. with_operands os p.0 p.1)

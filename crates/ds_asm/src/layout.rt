@@ -1,0 +1,105 @@
+//! The first pass: where labels stand, and whether everything fits.
+ghost use Rattle.std.specs.Prelude.{◌≡◌, ◌≤◌, ◌∷◌, Some, None, Ok, option_map, IfOk};
+ghost use Rattle.ds_asm.specs.Assembling.{IsLaid, Holds, Assembles, Comes};
+ghost use Rattle.ds_asm.specs.Assembly.{empty_layout, labelled, sized, with_line, with_lines, lines_of};
+ghost use Rattle.ds_asm.specs.Assembly as assembly;
+ghost use Rattle.ds_asm.specs.Lines.{line_of};
+ghost use Rattle.ds_asm.specs.Plain.{plain_statement};
+
+use crate::fault::AsmFault;
+use crate::labels::Labels;
+use crate::line::{MOST_BYTES, Statement, line_of};
+use crate::source::first_line;
+use std::alloc::Global;
+
+/// Where the image begins.
+pub(crate) const ORIGIN: u32 = 0x40_0000;
+
+/// Where the labels stand, and how long the image is, as far as lines were taken.
+#[derive(Drop)]
+pub(crate) struct Layout<'a> {
+    pub(crate) labels: Labels<'a>,
+    pub(crate) size: u32,
+}
+
+/// The layout of a source, or its first fault of the first pass.
+pub(crate) fn layout_of(alloc: Global, text: &[u8]) -> Result<Layout<'_>, AsmFault>
+    ensures { Comes (λ m l. IsLaid m l) result (with_lines 1 empty_layout (lines_of text.now)) }
+{
+    let mut layout = Layout::new(alloc);
+    let mut number = 0u64;
+    let mut rest = text;
+    while !rest.is_empty() {
+        let (line, behind) = first_line(rest);
+        number += 1;
+        match layout.add_line(number, line) {
+            Ok(()) => rest = behind,
+            Err(fault) => return Err(fault),
+        }
+    }
+    Ok(layout)
+}
+
+impl<'a> Layout<'a> {
+    /// No lines were taken.
+    fn new(alloc: Global) -> Layout<'a>
+        ensures { IsLaid result empty_layout }
+    {
+        Layout {
+            labels: Labels::new(alloc),
+            size: 0,
+        }
+    }
+
+    /// Takes line `number`.
+    fn add_line(&mut self, number: u64, line: &'a [u8]) -> Result<(), AsmFault>
+        requires { self.old.size ≤ 65536 }
+        ensures said { (l : assembly.Layout) → IsLaid self.old l → Comes (λ _ m. IsLaid self.new m) result (with_line number (line_of line.now) l) }
+        ensures fits { IfOk result (λ _. self.new.size ≤ 65536) }
+    {
+        let line = match line_of(line) {
+            Some(line) => line,
+            None => return Err(AsmFault::Syntax(number)),
+        };
+        self.add_label(number, line.label)?;
+        self.size = sized(number, self.size, line.statement)?;
+        Ok(())
+    }
+
+    /// Adds a label, where there is one, at the end of the image so far.
+    fn add_label(&mut self, number: u64, label: Option<&'a [u8]>) -> Result<(), AsmFault>
+        requires { self.old.size ≤ 65536 }
+        ensures said { (labels : assembly.Labels) → Holds self.old.labels labels → Comes (λ _ more. Holds self.new.labels more) result (labelled number self.old.size (option_map (λ t. t.now) label.entry) labels) }
+        ensures size { self.new.size ≡ self.old.size }
+    {
+        let name = match label {
+            Some(name) => name,
+            None => return Ok(()),
+        };
+        if self.labels.address_of(name).is_some() {
+            return Err(AsmFault::DoubleLabel(number));
+        }
+        self.labels.insert(name, ORIGIN + self.size)?;
+        Ok(())
+    }
+}
+
+/// The size of the image with a statement, where there is one.
+fn sized(number: u64, at: u32, statement: Option<Statement<'_>>) -> Result<u32, AsmFault>
+    requires { at ≤ 65536 }
+    ensures said { Assembles (λ s. s) result (sized number at (option_map plain_statement statement.entry)) }
+    ensures fits { IfOk result (λ s. s ≤ 65536) }
+{
+    let statement = match statement {
+        Some(statement) => statement,
+        None => return Ok(at),
+    };
+    if !(statement.is_in_range() && statement.is_aligned(at)) {
+        return Err(AsmFault::Range(number));
+    }
+    let end = u64::from(at) + statement.size();
+    if end > MOST_BYTES {
+        return Err(AsmFault::TooLong(number));
+    }
+    Ok(end as u32)
+}

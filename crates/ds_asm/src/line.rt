@@ -1,0 +1,187 @@
+//! What a line says: a label, a statement, both or nothing.
+ghost use Rattle.std.specs.Prelude.{◌≡◌, ◌≤◌, option_map, length};
+ghost use Rattle.std.specs.List.{position_or_len};
+ghost use Rattle.ds_asm.specs.Characters.{is_blank};
+ghost use Rattle.ds_asm.specs.Numbers.{number_of};
+ghost use Rattle.ds_asm.specs.Lines.{mnemonic_of, behind_mnemonic, number_word, instruction_named, statement_named, statement_of, statement_in, with_statement, line_parts, line_of};
+ghost use Rattle.ds_asm.specs.Assembly.{is_reserved_word, is_in_range, is_aligned, size_of};
+ghost use Rattle.ds_asm.specs.Plain.{plain_instruction, plain_statement, plain_line};
+
+use crate::characters::{is_blank, is_name, split_at_first, trimmed, until, without_front_blanks};
+use crate::form::form_named;
+use crate::instruction::{Instruction, instruction_of};
+use crate::number::{Number, number_of};
+use ds_isa::{Instr, decode};
+
+/// The most bytes that an image has.
+pub(crate) const MOST_BYTES: u64 = 65_536;
+
+/// What a line says.
+#[derive(Clone, Copy)]
+pub(crate) struct Line<'a> {
+    pub(crate) label: Option<&'a [u8]>,
+    pub(crate) statement: Option<Statement<'a>>,
+}
+
+/// What becomes bytes.
+#[derive(Clone, Copy)]
+pub(crate) enum Statement<'a> {
+    Instruction(Instruction<'a>),
+    Word(Number),
+    /// A word with the address of a label.
+    WordOf(&'a [u8]),
+    Byte(Number),
+    /// So many bytes that are zero.
+    Space(Number),
+}
+
+impl<'a> Statement<'a> {
+    /// Whether its numbers and registers are in range.
+    pub(crate) fn is_in_range(&self) -> bool
+        ensures { result ≡ is_in_range (plain_statement self.now) }
+    {
+        match self {
+            Statement::Instruction(i) => i.in_range && !is_reserved_word(i.word),
+            Statement::Word(number) => number.is_within(0x8000_0000, 0xFFFF_FFFF),
+            Statement::WordOf(_) => true,
+            Statement::Byte(number) => number.is_within(128, 255),
+            Statement::Space(number) => number.is_within(0, MOST_BYTES),
+        }
+    }
+
+    /// Whether it may stand at a place of the image: words stand at multiples of four.
+    pub(crate) fn is_aligned(&self, at: u32) -> bool
+        ensures { result ≡ is_aligned at (plain_statement self.now) }
+    {
+        match self {
+            Statement::Byte(_) | Statement::Space(_) => true,
+            Statement::Instruction(_) | Statement::Word(_) | Statement::WordOf(_) => at % 4 == 0,
+        }
+    }
+
+    /// How many bytes it takes.
+    pub(crate) fn size(&self) -> u64
+        ensures { result ≡ size_of (plain_statement self.now) }
+    {
+        match self {
+            Statement::Instruction(_) | Statement::Word(_) | Statement::WordOf(_) => 4,
+            Statement::Byte(_) => 1,
+            Statement::Space(number) => number.magnitude,
+        }
+    }
+}
+
+/// Whether a word is no instruction.
+#[tactic(auto, unfolding(crate::specs::Assembly::is_reserved_word))]
+fn is_reserved_word(word: u32) -> bool
+    ensures { result ≡ is_reserved_word word }
+{
+    matches!(decode(word), Instr::Reserved(_))
+}
+
+/// What a line says, up to its comment.
+#[tactic(auto, unfolding(crate::specs::Lines::line_of))]
+pub(crate) fn line_of(line: &[u8]) -> Option<Line<'_>>
+    ensures { option_map plain_line result ≡ line_of line.now }
+{
+    line_parts(trimmed(until(b'#', line)))
+}
+
+fn line_parts(text: &[u8]) -> Option<Line<'_>>
+    ensures { option_map plain_line result ≡ line_parts text.now }
+{
+    let (name, behind) = split_at_first(b':', text);
+    match behind {
+        None => with_statement(None, text),
+        Some(rest) => {
+            if is_name(name) {
+                with_statement(Some(name), trimmed(rest))
+            } else {
+                None
+            }
+        }
+    }
+}
+
+fn with_statement<'a>(label: Option<&'a [u8]>, text: &'a [u8]) -> Option<Line<'a>>
+    ensures { option_map plain_line result ≡ with_statement (option_map (λ t. t.now) label.entry) text.now }
+{
+    if text.is_empty() {
+        return Some(Line {
+            label,
+            statement: None,
+        });
+    }
+    let statement = statement_of(text)?;
+    Some(Line {
+        label,
+        statement: Some(statement),
+    })
+}
+
+fn statement_of(text: &[u8]) -> Option<Statement<'_>>
+    ensures { option_map plain_statement result ≡ statement_of text.now }
+{
+    let (name, left) = split_mnemonic(text);
+    statement_named(name, left)
+}
+
+/// The mnemonic of a statement, and what stands behind it, if anything does.
+fn split_mnemonic(text: &[u8]) -> (&[u8], Option<&[u8]>)
+    ensures name { result.0.now ≡ mnemonic_of text.now }
+    ensures left { option_map (λ t. t.now) result.1 ≡ behind_mnemonic text.now }
+{
+    let end = mnemonic_len(text);
+    let behind = without_front_blanks(&text[end..]);
+    let left = if behind.is_empty() {
+        None
+    } else {
+        Some(behind)
+    };
+    (&text[..end], left)
+}
+
+fn mnemonic_len(text: &[u8]) -> usize
+    ensures exact { result ≡ position_or_len is_blank text.now }
+    ensures within { result ≤ length text.now }
+{
+    text.iter().take_while(|c| !is_blank(**c)).count()
+}
+
+/// The statement of a mnemonic and of what stands behind it.
+#[tactic(auto, unfolding(crate::specs::Lines::statement_named))]
+fn statement_named<'a>(name: &[u8], left: Option<&'a [u8]>) -> Option<Statement<'a>>
+    ensures { option_map plain_statement result ≡ statement_named name.now (option_map (λ t. t.now) left.entry) }
+{
+    if name == b".word".as_slice() {
+        word_statement(left?)
+    } else if name == b".byte".as_slice() {
+        Some(Statement::Byte(number_of(left?)?))
+    } else if name == b".space".as_slice() {
+        Some(Statement::Space(number_of(left?)?))
+    } else {
+        Some(Statement::Instruction(instruction_named(name, left)?))
+    }
+}
+
+fn word_statement(text: &[u8]) -> Option<Statement<'_>>
+    ensures { option_map plain_statement result ≡ number_word (number_of text.now) text.now }
+{
+    match number_of(text) {
+        Some(number) => Some(Statement::Word(number)),
+        None => {
+            if is_name(text) {
+                Some(Statement::WordOf(text))
+            } else {
+                None
+            }
+        }
+    }
+}
+
+fn instruction_named<'a>(name: &[u8], left: Option<&'a [u8]>) -> Option<Instruction<'a>>
+    ensures { option_map plain_instruction result ≡ instruction_named name.now (option_map (λ t. t.now) left.entry) }
+{
+    let form = form_named(name)?;
+    instruction_of(form.word, form.operands, left)
+}
