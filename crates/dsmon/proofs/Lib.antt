@@ -1,1 +1,3 @@
+pub mod HeldFiles
+pub mod Requests
 pub mod WordLemmas

@@ -1,3 +1,5 @@
 pub mod Demo
+pub mod Done
+pub mod Failures
 pub mod Statuses
 pub mod Words

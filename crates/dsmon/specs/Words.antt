@@ -1,6 +1,8 @@
 -- What the program's words ask for, over what clap reads of its command line.
-use Rattle.std.specs.Prelude.{◌≡◌, List, [], ◌∷◌, Option, Some, true, codes, option_map}
-use Rattle.clap.specs.Words.{App, Rule, Text, fault_of, new_app, new_rule, subcommand_of, with_rule, with_subcommand}
+use Rattle.std.specs.Prelude.{◌≡◌, ℕ, List, [], ◌∷◌, Option, Some, None, true, codes, option_map}
+use Rattle.std.specs.Str.Parse.{digits_value, without_leading_plus}
+use Rattle.clap.specs.Words.{App, Row, Rule, Text, fault_of, first_of, one_of, new_app, new_rule, subcommand_of, with_rule, with_subcommand}
+use Rattle.dsmon.specs.declared.words.Request.{Request}
 use Rattle.clap.specs.declared.builder.value_parser.ValueParser.TheVariants.{Unsigned}
 
 -- an argument that has to be there
@@ -40,3 +42,22 @@ command_named words = option_map (λ p. p.0) (subcommand_of dsmon_app words)
 pub record AsksForDemo (words : List Text) : Type 0 where
   pub taken : fault_of dsmon_app words ≡ []
   pub named : command_named words ≡ Some (codes "demo")
+
+-- a word, with a plus before it or without, writes the number in decimal digits
+abbrev pub IsNumber : Option Text → ℕ → Type 0
+IsNumber None n = ⊥
+IsNumber (Some text) n = digits_value 10 (without_leading_plus text) ≡ n
+
+-- what stands behind `run` names the files and the numbers
+pub record NamesRun (rows : List Row) (request : Request) : Type 0 where
+  pub policy : first_of (codes "POLICY") rows ≡ Some request.policy.now
+  pub input : first_of (codes "INPUT") rows ≡ Some request.input.now
+  pub time : IsNumber (one_of (codes "N") rows) request.most_time
+  pub random : IsNumber (one_of (codes "R") rows) request.random
+
+-- clap takes the words, and they name a run of these files and numbers
+pub record AsksForRun (words : List Text) (request : Request) : Type 0 where
+  pub taken : fault_of dsmon_app words ≡ []
+  pub rows : List Row
+  pub named : subcommand_of dsmon_app words ≡ Some (codes "run", rows)
+  pub names : NamesRun rows request

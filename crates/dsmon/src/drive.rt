@@ -1,17 +1,20 @@
 //! All of the program but the handing over of its words, files and streams.
-ghost use Rattle.std.specs.Prelude.{◌≡◌, ◌≢◌, ◌≤◌, ◌⊎◌, ◌∷◌, List, [], ℕ, codes, map, string_bytes, IfErr, OnOk};
-ghost use Rattle.ds_station.specs.Faults.{number_of};
+ghost use Rattle.std.specs.Prelude.{◌≡◌, ◌≢◌, ◌≤◌, ◌⊎◌, ◌∷◌, List, [], ℕ, codes, map, string_bytes};
 ghost use Rattle.std.specs.Io.KnownBytes.{Keeps};
-ghost use Rattle.ds_station.specs.Headline.{Begins, Writes};
-ghost use Rattle.dsmon.specs.Demo.{demo_inputs};
+ghost use Rattle.dsmon.specs.Done.{AsksForSomething, IsDone};
+ghost use Rattle.dsmon.specs.Failures.{failure_number};
 ghost use Rattle.dsmon.specs.Statuses.{fault_status};
 ghost use Rattle.dsmon.specs.Words.{AsksForDemo};
 
 #[cfg(test)]
+mod run_tests;
+#[cfg(test)]
 mod tests;
 
 use crate::demo::run_demo;
+use crate::failure::Failure;
 use crate::files::Files;
+use crate::run::run_request;
 use crate::status::{DONE, WORDS_REFUSED, status_of};
 use crate::words::{Wish, wish_of};
 use ds_station::Fault;
@@ -30,24 +33,30 @@ pub fn drive<F: Files, W: Write, E: Write>(
     err: &mut E,
 ) -> u8
     ensures range { result ≤ 3 }
-    ensures asked { (result ≡ 0) ⊎ (result ≡ 2) → AsksForDemo (map string_bytes words.now) }
+    ensures asked { (result ≡ 0) ⊎ (result ≡ 2) → AsksForSomething (map string_bytes words.now) }
     ensures taken { AsksForDemo (map string_bytes words.now) → result ≢ 1 }
     ensures alone { (program : List ℕ) → map string_bytes words.now ≡ program ∷ codes "demo" ∷ []
         → result ≢ 1 }
     ensures refused { result ≡ 1 → W.contents out.new ≡ W.contents out.old }
-    ensures done { result ≡ 0 → Begins demo_inputs
-        (Writes (W.contents out.old) (W.contents out.new) 100) }
+    ensures done { result ≡ 0 → IsDone (map string_bytes words.now) (F.holds files.old) (W.contents out.old) (W.contents out.new) }
     ensures unread { result ≡ 2 → Keeps (W.contents out.old) (W.contents out.new) }
     ensures silent { result ≡ 0 → E.contents err.new ≡ E.contents err.old }
 {
     match wish_of(alloc, words) {
-        Ok(Wish::Demo) => conclude(err, run_demo(alloc, out)),
-        Ok(Wish::Run) => {
-            let _ = write!(err, "dsmon: run is not there yet\n");
+        Ok(Some(Wish::Demo)) => match run_demo(alloc, out) {
+            Ok(()) => DONE,
+            Err(fault) => tell(err, &Failure::Fault(fault)),
+        },
+        Ok(Some(Wish::Run(request))) => match run_request(alloc, &request, files, out) {
+            Ok(()) => DONE,
+            Err(failure) => tell(err, &failure),
+        },
+        Ok(None) => {
+            let _ = write!(err, "dsmon: the words leave something out\n");
             WORDS_REFUSED
         }
         Err(error) if error.kind() == clap::error::ErrorKind::OutOfMemory => {
-            conclude(err, Err(Fault::Memory))
+            tell(err, &Failure::Fault(Fault::Memory))
         }
         Err(error) => {
             let _ = write!(err, "{error}");
@@ -62,22 +71,16 @@ pub fn refuse_words<E: Write>(err: &mut E, kind: ErrorKind) -> u8
     ensures other { kind ≢ ErrorKind.OutOfMemory → result ≡ 1 }
 {
     if kind == ErrorKind::OutOfMemory {
-        return conclude(err, Err(Fault::Memory));
+        return tell(err, &Failure::Fault(Fault::Memory));
     }
     let _ = write!(err, "dsmon: the words are no text\n");
     WORDS_REFUSED
 }
 
-// Tells of a fault in one line, and answers the status.
-fn conclude<E: Write>(err: &mut E, outcome: Result<(), Fault>) -> u8
-    ensures done { OnOk outcome ((result ≡ 0) × (E.contents err.new ≡ E.contents err.old)) }
-    ensures fault { IfErr outcome (λ fault. result ≡ fault_status (number_of fault)) }
+/// Tells of a failure in one line, and answers the status.
+fn tell<'a, E: Write>(err: &mut E, failure: &Failure<'a>) -> u8
+    ensures { result ≡ fault_status (failure_number failure.now) }
 {
-    match outcome {
-        Ok(()) => DONE,
-        Err(fault) => {
-            let _ = write!(err, "dsmon: {fault}\n");
-            status_of(fault.number())
-        }
-    }
+    let _ = write!(err, "dsmon: {failure}\n");
+    status_of(failure.number())
 }

@@ -1,5 +1,5 @@
 //! Where the program's files come from.
-ghost use Rattle.std.specs.Prelude.{◌≡◌, ◌≢◌, ◌<◌, ◌≤◌, Ok, Err, IfErr, IfOk, vec_len};
+ghost use Rattle.std.specs.Prelude.{◌≡◌, ◌≢◌, ◌<◌, ◌≤◌, ℕ, List, ⊤, Ok, Err, IfErr, IfOk, vec_len};
 ghost use Rattle.std.specs.IoError.{error_kind};
 
 use std::alloc::Global;
@@ -21,9 +21,14 @@ pub enum FileFault {
 
 /// A place that files come from.
 pub trait Files {
+    /// The file of this name may be read as these bytes, now or later.
+    ghost holds: { Self → List ℕ → List ℕ → Type 0 } = { λ _ _ _. ⊤ };
+
     /// The bytes of the file of this name.
     fn read(&mut self, alloc: Global, name: &str) -> Result<Vec<u8>, FileFault>
-        ensures limit { IfOk result (λ bytes. vec_len bytes ≤ 16777216) };
+        ensures limit { IfOk result (λ bytes. vec_len bytes ≤ 16777216) }
+        ensures found { IfOk result (λ bytes. holds self.old name.now bytes.items) }
+        ensures kept { (file bytes : List ℕ) → holds self.new file bytes → holds self.old file bytes };
 }
 
 /// The files of the system.

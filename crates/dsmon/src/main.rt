@@ -3,7 +3,9 @@
 
 mod demo;
 mod drive;
+mod failure;
 mod files;
+mod run;
 mod status;
 mod words;
 

@@ -1,5 +1,6 @@
 //! The program over files and streams in memory.
-use super::{conclude, drive, refuse_words};
+use super::{drive, refuse_words, tell};
+use crate::failure::Failure;
 use crate::files::{FileFault, Files, SystemFiles};
 use crate::status::status_of;
 use ds_policy::Text;
@@ -175,21 +176,6 @@ fn help_and_the_version_go_to_the_error_stream(rt: HostRuntime) -> Result<(), Fa
 }
 
 #[test]
-fn a_run_of_files_is_not_there_yet(rt: HostRuntime) -> Result<(), Fail> {
-    let answer = answer_to(
-        rt.alloc(),
-        &["dsmon", "run", "p.toml", "in", "10", "--random", "8"],
-    )?;
-    assert_eq!(rt; answer.status, 1);
-    assert_eq!(rt;
-        answer.err.as_slice(),
-        b"dsmon: run is not there yet\n".as_slice()
-    );
-    assert!(rt; answer.out.is_empty());
-    Ok(())
-}
-
-#[test]
 fn a_fault_is_told_in_one_line_and_gives_its_status(rt: HostRuntime) -> Result<(), Fail> {
     let name = Text::of("one.s");
     let cases = [
@@ -215,10 +201,25 @@ fn a_fault_is_told_in_one_line_and_gives_its_status(rt: HostRuntime) -> Result<(
     ];
     for (fault, status, line) in cases {
         let mut err: Vec<u8> = Vec::new(rt.alloc());
-        assert_eq!(rt; conclude(&mut err, Err(fault)), status, "{line}");
+        assert_eq!(rt; tell(&mut err, &Failure::Fault(fault)), status, "{line}");
         assert_eq!(rt; err.as_slice(), line.as_bytes(), "{line}");
     }
     Ok(())
+}
+
+#[test]
+fn a_file_that_can_not_be_read_is_told_by_its_name(rt: HostRuntime) {
+    let mut err: Vec<u8> = Vec::new(rt.alloc());
+    let failure = Failure::UnreadableFile("no such policy.toml");
+    assert_eq!(rt; tell(&mut err, &failure), 2);
+    assert_eq!(rt;
+        err.as_slice(),
+        b"dsmon: 26 Unreadable no such policy.toml\n".as_slice()
+    );
+    let mut err: Vec<u8> = Vec::new(rt.alloc());
+    let failure = Failure::UnreadableSource(Text::of("one.s"));
+    assert_eq!(rt; tell(&mut err, &failure), 2);
+    assert_eq!(rt; err.as_slice(), b"dsmon: 26 Unreadable one.s\n".as_slice());
 }
 
 #[test]
