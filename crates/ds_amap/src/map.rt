@@ -1,5 +1,6 @@
 //! From an address to its place in physical memory.
-ghost use Rattle.std.specs.Prelude.{◌≡◌, ◌≢◌, ◌↔◌, Err};
+ghost use Rattle.std.specs.Prelude.{◌≡◌, ◌≢◌, ◌↔◌, ◌<◌, ◌/◌, ◌^◌, All, Err, IfSome, IsNone, IsTrue, not};
+ghost use Rattle.ds_tlb.specs.Entries.{find, matches};
 ghost use Rattle.ds_amap.specs.Map.{is_modified, place, through, mapped, translate, IsMissing, NeedsRefill};
 
 use ds_tlb::{Entry, Lookaside};
@@ -77,10 +78,36 @@ fn mapped<L: Lookaside>(addr: u32, access: Access, tlb: &L, asid: u8) -> Result<
     ensures value { result ≡ mapped (L.entries tlb.now) asid access addr }
     ensures refill { (result ≡ Err Fault.Refill) ↔ IsMissing (L.entries tlb.now) asid addr }
 {
-    match tlb.find(addr >> 12, asid) {
+    match slot_of(addr, tlb, asid) {
         Some(slot) => through(tlb.read(slot), access, addr),
         None => Err(Fault::Refill),
     }
+}
+
+/// The lowest slot whose entry matches.
+#[inline(always)]
+fn slot_of<L: Lookaside>(addr: u32, tlb: &L, asid: u8) -> Option<usize>
+    ensures lowest { result ≡ find (L.entries tlb.now) (addr / 2 ^ 12) asid }
+    ensures in_range { IfSome result (λ slot. slot < L.SLOTS) }
+    ensures missed { IsNone result ↔ IsMissing (L.entries tlb.now) asid addr }
+{
+    if addr < KSEG0 {
+        tlb.find(addr >> 12, asid)
+    } else {
+        // Answered anew: what a user's search found is then known to be there.
+        Some(find_for_kernel(tlb, addr >> 12, asid)?)
+    }
+}
+
+/// The same for a page of kseg2. It stays a call, so that a user's access is short.
+#[cold]
+#[inline(never)]
+fn find_for_kernel<L: Lookaside>(tlb: &L, vpn: u32, asid: u8) -> Option<usize>
+    ensures lowest { result ≡ find (L.entries tlb.now) vpn asid }
+    ensures in_range { IfSome result (λ slot. slot < L.SLOTS) }
+    ensures missed { IsNone result ↔ All (λ e. IsTrue (not (matches vpn asid e))) (L.entries tlb.now) }
+{
+    tlb.find(vpn, asid)
 }
 
 /// What a matching entry answers.

@@ -1,5 +1,7 @@
 //! The processor and its step.
 ghost use Rattle.std.specs.Prelude.{◌≡◌};
+ghost use Rattle.ds_cp0.specs.System.{is_pending};
+ghost use Rattle.ds_dev.specs.Bus.{lines};
 ghost use Rattle.ds_core.specs.Core.{state_of};
 ghost use Rattle.ds_core.specs.Effect.{instruction, step};
 
@@ -13,9 +15,9 @@ mod transfer;
 use crate::event::Event;
 use access::load_aligned;
 use ds_amap::{Access, Physical};
-use ds_cp0::{Cp0, ExceptionCode};
+use ds_cp0::{Cp0, ExceptionCode, register};
 use ds_dev::Bus;
-use ds_isa::{Late, Size, decode};
+use ds_isa::{Late, Size};
 use ds_tlb::Lookaside;
 
 /// The processor's registers, its system coprocessor and its translation buffer.
@@ -45,13 +47,35 @@ impl<L: Lookaside> Core<L> {
         requires wired { L.WIRED ≡ 8 }
         ensures { (record { event = result; core = state_of L.entries L.random_place self.new; bus = bus.new }) ≡ step (state_of L.entries L.random_place self.old) bus.old }
     {
-        let (system, clock) = bus.lines();
-        if self.cp0.pending(system, clock) {
+        if self.is_interrupted(bus) {
             return self.trap(ExceptionCode::Interrupt);
         }
         let event = self.instruction(bus);
         self.tlb.tick();
         event
+    }
+
+    /// Whether an interrupt is to be taken. Where Status lets none through, no device is asked.
+    #[inline(always)]
+    fn is_interrupted(&self, bus: &Bus) -> bool
+        ensures { result ≡ is_pending self.now.cp0 (lines bus.now).0 (lines bus.now).1 }
+    {
+        if self.cp0.read(register::STATUS) & 1 == 0 {
+            return false;
+        }
+        match bus.lines() {
+            (false, false) => self.cp0.pending(false, false),
+            (system, clock) => self.is_let_through(system, clock),
+        }
+    }
+
+    /// Whether an interrupt is to be taken where a device asks for one.
+    #[cold]
+    #[inline(never)]
+    fn is_let_through(&self, system: bool, clock: bool) -> bool
+        ensures { result ≡ is_pending self.now.cp0 system clock }
+    {
+        self.cp0.pending(system, clock)
     }
 
     /// Does the instruction at `pc`.
@@ -65,7 +89,7 @@ impl<L: Lookaside> Core<L> {
             Err(fault) => return self.refuse(Access::Fetch, self.pc, fault),
         };
         match load_aligned(bus, place, Size::Word) {
-            Ok(word) => self.execute(decode(word), bus),
+            Ok(word) => self.execute(word, bus),
             Err(_) => self.trap(ExceptionCode::FetchBus),
         }
     }

@@ -155,6 +155,7 @@ fn regimm(word: u32) -> Instr
 }
 
 /// The instruction of a word of the system coprocessor that is no operation of it.
+#[inline(always)]
 fn transfer(word: u32) -> Instr
     requires op { bits word 26 6 ≡ 16 }
     requires high { bits word 25 1 ≡ 0 }
@@ -165,6 +166,7 @@ fn transfer(word: u32) -> Instr
 }
 
 /// The instruction of a word with an operation of the system coprocessor.
+#[inline(always)]
 fn operation(word: u32) -> Instr
     requires op { bits word 26 6 ≡ 16 }
     requires high { bits word 25 1 ≡ 1 }
@@ -176,7 +178,7 @@ fn operation(word: u32) -> Instr
 }
 
 /// The instruction of a word of the system coprocessor.
-#[inline(never)]
+#[inline(always)]
 fn system(word: u32) -> Instr
     requires { bits word 26 6 ≡ 16 }
     ensures value { result ≡ instruction_of word }

@@ -12,7 +12,7 @@ use Rattle.std.proofs.Common.{w64}
 use Rattle.ds_tlb.specs.declared.entry.Entry.{Entry}
 use Rattle.std.proofs.lemmas.List.FromFn.{length-map-range_with_len, get_or-map-range_with_len}
 use Rattle.ds_tlb.specs.Entries.{empty_entry, empty_entries}
-use Rattle.ds_tlb.specs.Buckets.{bucket_bit, IsIndexOf}
+use Rattle.ds_tlb.specs.Buckets.{bucket_of, bucket_bit, IsIndexOf}
 
 -- what a read past the last slot gives
 abbrev pub no_entry : Entry
@@ -64,16 +64,28 @@ joined_bit buckets b h slot i p q = elim (cases_eq h b) [
   | inr other ↦ rw (ne_eqb h b other, get_or-set_other buckets b h (with_slot (get_or buckets b 0) slot) 0 other) refl
 ]
 
+pub bucket_small : (vpn : ℕ) → bucket_of vpn < 128
+unfolding bucket_of
+bucket_small vpn = elim (cases_lt vpn (2 ^ 19)) [
+  | inl lower ↦ rw (lt-ltb vpn (2 ^ 19) lower) (omega arith)
+  | inr upper ↦ rw (le-ltb vpn (2 ^ 19) upper) (omega arith)
+]
+
+-- a page of the entries at the start
+empty_bucket : (i : ℕ) → i < 64 → bucket_of (2 ^ 19 + i) ≡ i
+unfolding bucket_of
+empty_bucket i low = rw (le-ltb (2 ^ 19 + i) (2 ^ 19) (omega arith)) (omega arith)
+
 moved_bit : (buckets : List ℕ) (entries : List Entry) (slot old new : ℕ) (entry : Entry) (h i : ℕ) →
-    length buckets ≡ 64 → length entries ≤ 64 → slot < length entries → old ≡ (get_or entries slot no_entry).vpn % 64 → new ≡ entry.vpn % 64 →
-    IsIndexOf buckets entries → h < 64 → i < 64 →
+    length buckets ≡ 128 → length entries ≤ 64 → slot < length entries → old ≡ bucket_of (get_or entries slot no_entry).vpn → new ≡ bucket_of entry.vpn →
+    IsIndexOf buckets entries → h < 128 → i < 64 →
     let cleared = set buckets old (without_slot (get_or buckets old 0) slot) in
     bit_at (get_or (set cleared new (with_slot (get_or cleared new 0) slot)) h 0) i ≡ bucket_bit h (slice_get (set entries slot entry) i)
 moved_bit buckets entries slot old new entry h i size few inside was now index small low =
     let cleared = set buckets old (without_slot (get_or buckets old 0) slot) in
     let fits : slot < 64 = omega arith in
-    let at_old : old < length buckets = omega arith in
-    let at_new : new < length cleared = omega (arith, length-set {A = ℕ}) in
+    let at_old : old < length buckets = omega (arith, bucket_small (get_or entries slot no_entry).vpn) in
+    let at_new : new < length cleared = omega (arith, length-set {A = ℕ}, bucket_small entry.vpn) in
     let here = (index.each h small).slots i low in
     let first : bit_at (get_or cleared h 0) i ≡ cond (nat_eq h old && nat_eq i slot) 0 (bit_at (get_or buckets h 0) i) = cleared_bit buckets old h slot i at_old fits low in
     let second = joined_bit cleared new h slot i at_new fits in
@@ -90,7 +102,7 @@ moved_bit buckets entries slot old new entry h i size few inside was now index s
 
 -- a slot that is written leaves its old bucket and joins its new one
 pub moved : (buckets : List ℕ) (entries : List Entry) (slot old new : ℕ) (entry : Entry) →
-    length buckets ≡ 64 → length entries ≤ 64 → slot < length entries → old ≡ (get_or entries slot no_entry).vpn % 64 → new ≡ entry.vpn % 64 →
+    length buckets ≡ 128 → length entries ≤ 64 → slot < length entries → old ≡ bucket_of (get_or entries slot no_entry).vpn → new ≡ bucket_of entry.vpn →
     IsIndexOf buckets entries →
     let cleared = set buckets old (without_slot (get_or buckets old 0) slot) in
     IsIndexOf (set cleared new (with_slot (get_or cleared new 0) slot)) (set entries slot entry)
@@ -105,21 +117,21 @@ one_bit h i small =
     ]
 
 first_bit : (buckets : List ℕ) (n h i : ℕ) → n ≤ 64 →
-    ((k : ℕ) → k < n → get_or buckets k 0 ≡ 1 * 2 ^ k % 2 ^ 64) → ((k : ℕ) → n ≤ k → k < 64 → get_or buckets k 0 ≡ 0) → h < 64 → i < 64 →
+    ((k : ℕ) → k < n → get_or buckets k 0 ≡ 1 * 2 ^ k % 2 ^ 64) → ((k : ℕ) → n ≤ k → k < 128 → get_or buckets k 0 ≡ 0) → h < 128 → i < 64 →
     bit_at (get_or buckets h 0) i ≡ cond (nat_lt h n) (cond (nat_eq i h) 1 0) 0
 first_bit buckets n h i few ones zeros small low = elim (cases_lt h n) [
-  | inl inside ↦ rw (ones h inside, lt-ltb h n inside) (one_bit h i small)
+  | inl inside ↦ rw (ones h inside, lt-ltb h n inside) (one_bit h i (omega arith))
   | inr past ↦ rw (zeros h past small, le-ltb h n past) (bit_at-zero i)
 ]
 
-first_slot : (n h i : ℕ) → n ≤ 64 → h < 64 → i < 64 → cond (nat_lt h n) (cond (nat_eq i h) 1 0) 0 ≡ bucket_bit h (slice_get (empty_entries n) i)
+first_slot : (n h i : ℕ) → n ≤ 64 → h < 128 → i < 64 → cond (nat_lt h n) (cond (nat_eq i h) 1 0) 0 ≡ bucket_bit h (slice_get (empty_entries n) i)
 first_slot n h i few small low =
     let long : length (empty_entries n) ≡ n = length-map-range_with_len empty_entry 0 n in
     elim (cases_lt i n) [
       | inl here ↦
           let read : slice_get (empty_entries n) i ≡ Some (empty_entry i) =
           slice_get-get_or (empty_entries n) i no_entry (omega arith) ∙ ap Some (get_or-map-range_with_len empty_entry 0 n i i no_entry here (omega arith)) in
-          let page : (2 ^ 19 + i) % 64 ≡ i = omega arith in
+          let page : bucket_of (2 ^ 19 + i) ≡ i = empty_bucket i low in
           rw (read, page) (grind (arith, nat_tests))
       | inr past ↦
           let read : slice_get (empty_entries n) i ≡ None = slice_get_past (empty_entries n) i (omega arith) in
@@ -127,6 +139,6 @@ first_slot n h i few small low =
     ]
 
 -- the buckets of the entries at the start, each with one slot
-pub first_index : (buckets : List ℕ) (n : ℕ) → n ≤ 64 → length buckets ≡ 64 →
-    ((h : ℕ) → h < n → get_or buckets h 0 ≡ 1 * 2 ^ h % 2 ^ 64) → ((h : ℕ) → n ≤ h → h < 64 → get_or buckets h 0 ≡ 0) → IsIndexOf buckets (empty_entries n)
+pub first_index : (buckets : List ℕ) (n : ℕ) → n ≤ 64 → length buckets ≡ 128 →
+    ((h : ℕ) → h < n → get_or buckets h 0 ≡ 1 * 2 ^ h % 2 ^ 64) → ((h : ℕ) → n ≤ h → h < 128 → get_or buckets h 0 ≡ 0) → IsIndexOf buckets (empty_entries n)
 first_index buckets n few size set clear = record { each = λ h small. record { slots = λ i low. first_bit buckets n h i few set clear small low ∙ first_slot n h i few small low } }

@@ -11,7 +11,7 @@ use Rattle.std.proofs.lemmas.Nat.Bits.{bit_at-trailing_zeros, bit_at-zero}
 use Rattle.std.proofs.lemmas.Nat.{and_le_l}
 use Rattle.ds_tlb.specs.declared.entry.Entry.{Entry}
 use Rattle.ds_tlb.specs.Entries.{matches, find}
-use Rattle.ds_tlb.specs.Buckets.{bucket_bit, IsBucketOf}
+use Rattle.ds_tlb.specs.Buckets.{bucket_of, bucket_bit, IsBucketOf}
 use Rattle.ds_tlb.proofs.Bits.{no_entry, without_slot, without_bit}
 
 -- only entries of the bucket are left to try, and every other entry fails
@@ -19,20 +19,20 @@ pub record IsLeft (rest vpn asid : ℕ) (entries : List Entry) : Type 0 where
   pub inside : (slot : ℕ) → slot < 64 → bit_at rest slot ≡ 1 → slot < length entries
   pub passed : (slot : ℕ) → slot < length entries → bit_at rest slot ≡ 0 → matches vpn asid (get_or entries slot no_entry) ≡ false
 
-pub left_at_first : (bits vpn asid : ℕ) (entries : List Entry) → length entries ≤ 64 → IsBucketOf bits (vpn % 64) entries → IsLeft bits vpn asid entries
+pub left_at_first : (bits vpn asid : ℕ) (entries : List Entry) → length entries ≤ 64 → IsBucketOf bits (bucket_of vpn) entries → IsLeft bits vpn asid entries
 left_at_first bits vpn asid entries few bucket = record {
   inside = λ slot low one.
       elim (cases_lt slot (length entries)) [
         | inl here ↦ here
         | inr past ↦
-            let none : bit_at bits slot ≡ bucket_bit (vpn % 64) None = rw (slice_get_past entries slot past) at (bucket.slots slot low) in
+            let none : bit_at bits slot ≡ bucket_bit (bucket_of vpn) None = rw (slice_get_past entries slot past) at (bucket.slots slot low) in
             absurd (omega (arith, none, one))
       ];
   passed = λ slot here zero.
       let entry : Entry = get_or entries slot no_entry in
       let read : slice_get entries slot ≡ Some entry = slice_get-get_or entries slot no_entry here in
-      let bit : bit_at bits slot ≡ bucket_bit (vpn % 64) (Some entry) = rw read at (bucket.slots slot (omega arith)) in
-      let out : cond (nat_eq (entry.vpn % 64) (vpn % 64)) 1 0 ≡ 0 = sym bit ∙ zero in
+      let bit : bit_at bits slot ≡ bucket_bit (bucket_of vpn) (Some entry) = rw read at (bucket.slots slot (omega arith)) in
+      let out : cond (nat_eq (bucket_of entry.vpn) (bucket_of vpn)) 1 0 ≡ 0 = sym bit ∙ zero in
       grind (arith, nat_tests);
 }
 

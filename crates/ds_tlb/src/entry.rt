@@ -28,7 +28,7 @@ impl Entry {
     pub fn matches(&self, vpn: u32, asid: u8) -> bool
         ensures { result ≡ matches vpn asid self.now }
     {
-        self.vpn == vpn && (self.g || self.asid == asid)
+        self.vpn == vpn && (self.asid == asid || self.g)
     }
 
     /// What the slot holds at the start: page 80000 + slot (hexadecimal), all else zero. No access

@@ -1,13 +1,14 @@
 //! A buffer that is searched by an index from virtual pages to slots.
 ghost use Rattle.std.specs.Prelude.{◌≡◌, ◌<◌, ◌≤◌, ◌%◌, length};
 ghost use Rattle.ds_tlb.specs.Entries.{find, empty_entries};
-ghost use Rattle.ds_tlb.specs.Buckets.{IsBucketOf, IsIndexOf};
+ghost use Rattle.ds_tlb.specs.Buckets.{bucket_of, IsBucketOf, IsIndexOf};
 
 use crate::entry::{Entry, empty_entries};
 use crate::lookaside::{BadRandom, Lookaside, index_word_of};
 
-/// The number of buckets, which the low six bits of a virtual page number tell apart.
-const BUCKETS: usize = 64;
+/// The number of buckets, which the low six bits of a virtual page number tell apart, and whether
+/// it lies in the upper half of the addresses.
+const BUCKETS: usize = 128;
 
 /// A buffer of `N` slots, the first `WIRED` of them wired, that is searched by an index: for each
 /// bucket of virtual pages the set of its slots, slot i as bit i.
@@ -102,10 +103,13 @@ impl<const N: usize, const WIRED: usize> Lookaside for Indexed<N, WIRED> {
 
 /// The bucket that a virtual page falls into.
 #[inline(always)]
+#[tactic(auto, unfolding(crate::specs::Buckets::bucket_of))]
 fn bucket_of(vpn: u32) -> usize
-    ensures { result ≡ vpn % 64 }
+    ensures value { result ≡ bucket_of vpn }
+    ensures range { result < 128 }
 {
-    (vpn % 64) as usize
+    let low = (vpn % 64) as usize;
+    if vpn < 0x8_0000 { low + 64 } else { low }
 }
 
 /// The index of the entries that a buffer of so many slots starts with.
@@ -124,7 +128,7 @@ fn empty_buckets(slots: usize) -> [u64; BUCKETS]
 #[inline(always)]
 fn first_match(entries: &[Entry], bucket: u64, vpn: u32, asid: u8) -> Option<usize>
     requires few { length entries.now ≤ 64 }
-    requires bucket { IsBucketOf bucket (vpn % 64) entries.now }
+    requires bucket { IsBucketOf bucket (bucket_of vpn) entries.now }
     ensures { result ≡ find entries.now vpn asid }
 {
     let mut rest = bucket;

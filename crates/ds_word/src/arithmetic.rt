@@ -15,11 +15,7 @@ use crate::is_negative;
 pub fn sign16(immediate: u16) -> u32
     ensures { result ≡ sign_extended 16 immediate }
 {
-    if immediate < 0x8000 {
-        u32::from(immediate)
-    } else {
-        u32::from(immediate) | 0xffff_0000
-    }
+    u32::from(immediate.wrapping_add(0x8000)).wrapping_sub(0x8000)
 }
 
 /// An immediate as the upper half of a word, above zeros.

@@ -1,5 +1,6 @@
 //! Fetches, loads and stores: an address through the translation buffer, and then the bus.
-ghost use Rattle.std.specs.Prelude.{◌≡◌};
+ghost use Rattle.std.specs.Prelude.{◌≡◌, ◌≤◌};
+ghost use Rattle.ds_dev.specs.Bus.{load, store};
 ghost use Rattle.ds_amap.specs.Map.{is_store};
 ghost use Rattle.ds_core.specs.Core.{state_of, raised_core};
 ghost use Rattle.ds_core.specs.Access.{is_aligned, mode_of, reached, code_of, refusal, aligned_load, kept, aligned_store, store_answered};
@@ -56,8 +57,20 @@ pub(super) fn load_aligned(bus: &mut Bus, place: u32, size: Size) -> Result<u32,
     if (place as usize) < SIZE {
         bus.load(place, Size::Part)
     } else {
-        bus.load(place, size)
+        // Answered anew: what memory answers is then known to be Ok.
+        Ok(load_elsewhere(bus, place, size)?)
     }
+}
+
+/// Loads from a place that lies in no memory.
+#[cold]
+#[inline(never)]
+fn load_elsewhere(bus: &mut Bus, place: u32, size: Size) -> Result<u32, BusError>
+    requires { SIZE ≤ place }
+    ensures value { result ≡ (load bus.old place size).0 }
+    ensures state { bus.new ≡ (load bus.old place size).1 }
+{
+    bus.load(place, size)
 }
 
 /// The aligned word that holds a place in memory, of which a store changes a part; 0 elsewhere.
@@ -82,8 +95,20 @@ fn store_aligned(bus: &mut Bus, place: u32, size: Size, word: u32) -> Result<(),
     if (place as usize) < SIZE {
         bus.store(place, Size::Part, word)
     } else {
-        bus.store(place, size, word)
+        store_elsewhere(bus, place, size, word)?;
+        Ok(())
     }
+}
+
+/// Stores at a place that lies in no memory.
+#[cold]
+#[inline(never)]
+fn store_elsewhere(bus: &mut Bus, place: u32, size: Size, word: u32) -> Result<(), BusError>
+    requires { SIZE ≤ place }
+    ensures value { result ≡ (store bus.old place size word).0 }
+    ensures state { bus.new ≡ (store bus.old place size word).1 }
+{
+    bus.store(place, size, word)
 }
 
 impl<L: Lookaside> Core<L> {

@@ -1,5 +1,6 @@
 //! The instructions of the system coprocessor, the translation buffer's among them.
 ghost use Rattle.std.specs.Prelude.{◌≡◌, ◌<◌, if◌then◌else◌};
+ghost use Rattle.ds_isa.specs.Instruction.{instruction_of};
 ghost use Rattle.ds_core.specs.Core.{state_of, raised_core};
 ghost use Rattle.ds_core.specs.Coprocessor.{is_usable, unusable, unusable_exception, requests, system_reads, entry_hi, entry_lo, entry_of, indexed, usable, unit_of, privileged};
 
@@ -7,7 +8,7 @@ use super::Core;
 use crate::event::Event;
 use ds_cp0::{Cp0, Exception, ExceptionCode, register};
 use ds_dev::Bus;
-use ds_isa::Instr;
+use ds_isa::{Instr, decode};
 use ds_tlb::{Entry, Lookaside};
 
 /// A bit of a word.
@@ -158,13 +159,14 @@ impl<L: Lookaside> Core<L> {
         }
     }
 
-    /// Carries out an instruction of a coprocessor.
+    /// Carries out the instruction of a word, which is one of a coprocessor.
     #[cold]
     #[inline(never)]
-    pub(super) fn privileged(&mut self, instr: Instr, bus: &Bus) -> Event
+    pub(super) fn privileged(&mut self, word: u32, bus: &Bus) -> Event
         requires { L.SLOTS ≡ 64 }
-        ensures { (record { event = result; core = state_of L.entries L.random_place self.new; bus = bus.now }) ≡ privileged (state_of L.entries L.random_place self.old) bus.now instr }
+        ensures { (record { event = result; core = state_of L.entries L.random_place self.new; bus = bus.now }) ≡ privileged (state_of L.entries L.random_place self.old) bus.now (instruction_of word) }
     {
+        let instr = decode(word);
         let unit = unit_of(instr);
         if self.is_usable(unit) {
             self.use_coprocessor(instr, bus)

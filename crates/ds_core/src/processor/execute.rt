@@ -1,6 +1,7 @@
 //! One decoded instruction, as the table of instructions means it.
 ghost use Rattle.std.specs.Prelude.{◌≡◌, ◌%◌, ◌||◌, ◌==◌};
 ghost use Rattle.ds_word.specs.Word.{is_negative};
+ghost use Rattle.ds_isa.specs.Instruction.{instruction_of};
 ghost use Rattle.ds_core.specs.Core.{state_of};
 ghost use Rattle.ds_core.specs.Effect.{executed};
 
@@ -9,7 +10,7 @@ use super::flow::jump_target;
 use crate::event::Event;
 use ds_cp0::ExceptionCode;
 use ds_dev::Bus;
-use ds_isa::Instr;
+use ds_isa::{Instr, decode};
 use ds_tlb::Lookaside;
 use ds_word::{
     checked_difference, checked_sum, div_signed, div_unsigned, is_negative, mul_signed,
@@ -34,13 +35,13 @@ fn places(word: u32) -> u8
 }
 
 impl<L: Lookaside> Core<L> {
-    /// Carries out an instruction.
+    /// Carries out the instruction of a word.
     #[inline(always)]
-    pub(super) fn execute(&mut self, instr: Instr, bus: &mut Bus) -> Event
+    pub(super) fn execute(&mut self, word: u32, bus: &mut Bus) -> Event
         requires { L.SLOTS ≡ 64 }
-        ensures { (record { event = result; core = state_of L.entries L.random_place self.new; bus = bus.new }) ≡ executed (state_of L.entries L.random_place self.old) bus.old instr }
+        ensures { (record { event = result; core = state_of L.entries L.random_place self.new; bus = bus.new }) ≡ executed (state_of L.entries L.random_place self.old) bus.old (instruction_of word) }
     {
-        match instr {
+        match decode(word) {
             Instr::Sll { rd, rt, shamt } => self.retire(rd, shift_left(self.read(rt), shamt)),
             Instr::Srl { rd, rt, shamt } => {
                 self.retire(rd, shift_right_logical(self.read(rt), shamt))
@@ -170,7 +171,7 @@ impl<L: Lookaside> Core<L> {
             | Instr::Tlbwr
             | Instr::Tlbp
             | Instr::Rfe
-            | Instr::Cop { .. } => self.privileged(instr, bus),
+            | Instr::Cop { .. } => self.privileged(word, bus),
             Instr::Reserved(_) => self.trap(ExceptionCode::ReservedInstruction),
         }
     }

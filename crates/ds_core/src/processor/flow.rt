@@ -107,14 +107,13 @@ impl<L: Lookaside> Core<L> {
         self.go()
     }
 
-    /// The instruction is done, and no general register changed.
+    /// The instruction is done, and no general register changed: register 0 takes no write.
     #[inline(always)]
     pub(super) fn retire_settled(&mut self) -> Event
         ensures event { result ≡ Event.Retired }
         ensures core { state_of L.entries L.random_place self.new ≡ gone_core (state_of L.entries L.random_place self.old) (settled (registers_of self.old)) }
     {
-        self.late = None;
-        self.go()
+        self.retire(0, 0)
     }
 
     /// The instruction is done, and HI and LO written.

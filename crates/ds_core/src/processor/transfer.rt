@@ -95,7 +95,7 @@ impl<L: Lookaside> Core<L> {
     }
 
     /// Loads the upper part of an unaligned word.
-    #[inline(always)]
+    #[inline(never)]
     pub(super) fn load_left(&mut self, rt: u8, rs: u8, immediate: u16, bus: &mut Bus) -> Event
         ensures { (record { event = result; core = state_of L.entries L.random_place self.new; bus = bus.new }) ≡ executed (state_of L.entries L.random_place self.old) bus.old (Instr.Lwl rt rs immediate) }
     {
@@ -127,7 +127,7 @@ impl<L: Lookaside> Core<L> {
     }
 
     /// Loads the lower part of an unaligned word.
-    #[inline(always)]
+    #[inline(never)]
     pub(super) fn load_right(&mut self, rt: u8, rs: u8, immediate: u16, bus: &mut Bus) -> Event
         ensures { (record { event = result; core = state_of L.entries L.random_place self.new; bus = bus.new }) ≡ executed (state_of L.entries L.random_place self.old) bus.old (Instr.Lwr rt rs immediate) }
     {
@@ -183,7 +183,7 @@ impl<L: Lookaside> Core<L> {
     }
 
     /// Stores the upper part of an unaligned word.
-    #[inline(always)]
+    #[inline(never)]
     pub(super) fn store_left(&mut self, rt: u8, rs: u8, immediate: u16, bus: &mut Bus) -> Event
         ensures { (record { event = result; core = state_of L.entries L.random_place self.new; bus = bus.new }) ≡ executed (state_of L.entries L.random_place self.old) bus.old (Instr.Swl rt rs immediate) }
     {
@@ -215,7 +215,7 @@ impl<L: Lookaside> Core<L> {
     }
 
     /// Stores the lower part of an unaligned word.
-    #[inline(always)]
+    #[inline(never)]
     pub(super) fn store_right(&mut self, rt: u8, rs: u8, immediate: u16, bus: &mut Bus) -> Event
         ensures { (record { event = result; core = state_of L.entries L.random_place self.new; bus = bus.new }) ≡ executed (state_of L.entries L.random_place self.old) bus.old (Instr.Swr rt rs immediate) }
     {
