@@ -12,5 +12,6 @@ pub mod Sent
 pub mod Report
 pub mod Assembling
 pub mod Faults
+pub mod Halts
 pub mod Headline
 pub mod Start

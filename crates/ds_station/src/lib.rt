@@ -6,6 +6,7 @@ mod consoles;
 mod fault;
 mod files;
 mod first;
+mod halt;
 mod image;
 mod laws;
 mod memory;

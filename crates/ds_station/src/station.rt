@@ -7,8 +7,10 @@ ghost use Rattle.ds_station.specs.Stands.{Stands, IsSound};
 ghost use Rattle.ds_station.specs.Steps.{Follows, Stays, Moves};
 ghost use Rattle.ds_station.specs.Sound.{RunsTo, RunsWithin, held_goes_on};
 ghost use Rattle.ds_station.specs.Faults.{IsNewFault, IsFaultAfter};
+ghost use Rattle.ds_station.specs.Halts.{fault_of};
 
 use crate::fault::Fault;
+use crate::halt::Halt;
 use crate::parts::{Parts, Step};
 use ds_procs::Standing;
 use ds_tlb::Lookaside;
@@ -45,6 +47,22 @@ impl<L: Lookaside> Station<L> {
         ensures whole { OnErr result (self.new.outside.owed ≡ None) }
         ensures failed { OnErr result (self.new.own.failed ≡ true) }
         ensures again { self.old.own.failed ≡ true → IsErrOf result Fault.Failed × (self.new ≡ self.old) }
+    {
+        Ok(self.advance()?)
+    }
+
+    /// As `step`, with why it halted as it is.
+    #[inline(always)]
+    fn advance(&mut self) -> Result<Step, Halt>
+        requires { self.old.outside.owed ≡ None → self.old.outside.time < 1000000000 }
+        ensures ok { IfOk result (λ step. Follows step self.old self.new) }
+        ensures moves { IfOk result (λ step. Moves step self.old self.new) }
+        ensures sound { IsSound self.new }
+        ensures err { OnErr result (Stays self.old self.new) }
+        ensures faults { IfErr result (λ halt. IsFaultAfter self.old.own.failed (fault_of halt)) }
+        ensures whole { OnErr result (self.new.outside.owed ≡ None) }
+        ensures failed { OnErr result (self.new.own.failed ≡ true) }
+        ensures again { self.old.own.failed ≡ true → IsErrOf result Halt.Failed × (self.new ≡ self.old) }
     {
         let _ = &self.parts;
         self.parts.step()
@@ -91,6 +109,7 @@ impl<L: Lookaside> Station<L> {
     }
 
     /// Whether a run for n ticks goes on.
+    #[inline(always)]
     fn goes_on(&self, n: u64) -> bool
         ensures { result ≡ held_goes_on n self.now }
     {
@@ -117,7 +136,7 @@ impl<L: Lookaside> Station<L> {
             return Err(Fault::Failed);
         }
         while self.goes_on(n) {
-            self.step()?;
+            self.advance()?;
         }
         Ok(())
     }

@@ -2,11 +2,13 @@
 ghost use Rattle.std.specs.Prelude.{◌≡◌, ◌≢◌, ◌<◌, IfOk, IfErr, OnOk, OnErr, IsErrOf, None, IsSome, true, false};
 ghost use Rattle.ds_procs.specs.declared.process.Standing.TheVariants.{Ready, Parked};
 ghost use Rattle.ds_station.specs.Parts.{held, IsGood, IsBusy, IsOrderly};
+ghost use Rattle.ds_station.specs.Processor.{process_step, Stepped};
 ghost use Rattle.ds_station.specs.Services as services;
 ghost use Rattle.ds_station.specs.Steps.{Follows, Stays, Moves, Counted};
-ghost use Rattle.ds_station.specs.Faults.{IsNewFault, IsFaultAfter};
+ghost use Rattle.ds_station.specs.Faults.{IsFaultAfter};
+ghost use Rattle.ds_station.specs.Halts.{fault_of};
 
-use crate::fault::Fault;
+use crate::halt::Halt;
 use crate::parts::{Parts, Step};
 use crate::processor::Cause;
 use ds_procs::Standing;
@@ -14,6 +16,7 @@ use ds_tlb::Lookaside;
 
 impl<L: Lookaside> Parts<L> {
     /// The boundary that is owed.
+    #[inline(always)]
     fn boundary(&mut self) -> Step
         requires good { IsGood L.entries L.random_place self.old }
         requires owed { IsSome self.old.owed }
@@ -26,7 +29,9 @@ impl<L: Lookaside> Parts<L> {
     }
 
     /// A turn in which the process does not run, with its boundary.
-    fn idle(&mut self) -> Result<Step, Fault>
+    #[cold]
+    #[inline(never)]
+    fn idle(&mut self) -> Result<Step, Halt>
         requires good { IsGood L.entries L.random_place self.old }
         requires owed { self.old.owed ≡ None }
         requires rest { self.old.process.state ≢ Standing.Ready }
@@ -35,17 +40,18 @@ impl<L: Lookaside> Parts<L> {
         ensures moves { IfOk result (λ step. Moves step (held L.entries L.random_place self.old) (held L.entries L.random_place self.new)) }
         ensures good { IsGood L.entries L.random_place self.new }
         ensures err { OnErr result (held L.entries L.random_place self.new ≡ services.failed (held L.entries L.random_place self.old)) }
-        ensures faults { IfErr result IsNewFault }
+        ensures memory { IfErr result (λ halt. halt ≡ Halt.Memory) }
     {
         if !self.reserve() {
             self.failed = true;
-            return Err(Fault::Memory);
+            return Err(Halt::Memory);
         }
         self.time += 1;
         Ok(Step::Boundary)
     }
 
     /// The exception that waits.
+    #[inline(never)]
     fn serve(&mut self) -> Step
         requires busy { IsBusy L.entries L.random_place self.old }
         requires ready { self.old.process.state ≡ Standing.Ready }
@@ -62,11 +68,13 @@ impl<L: Lookaside> Parts<L> {
     }
 
     /// One instruction of the process.
+    #[inline(always)]
     fn attempt(&mut self) -> Step
         requires busy { IsBusy L.entries L.random_place self.old }
         requires ready { self.old.process.state ≡ Standing.Ready }
         requires user { self.old.core.kernel ≡ false }
         ensures follows { Follows result (held L.entries L.random_place self.old) (held L.entries L.random_place self.new) }
+        ensures exact { (s : Stepped) → s ≡ process_step (held L.entries L.random_place self.old).cpu self.old.memory.items → (held L.entries L.random_place self.new ≡ services.after_event s.event (held L.entries L.random_place self.old) s) × (result ≡ services.step_of s.event) }
         ensures counted { Counted result (held L.entries L.random_place self.old) (held L.entries L.random_place self.new) }
         ensures good { IsGood L.entries L.random_place self.new }
     {
@@ -74,20 +82,21 @@ impl<L: Lookaside> Parts<L> {
     }
 
     /// One instruction, one service, an idle turn with its boundary, or a boundary.
-    pub fn step(&mut self) -> Result<Step, Fault>
+    #[inline(always)]
+    pub fn step(&mut self) -> Result<Step, Halt>
         requires good { IsGood L.entries L.random_place self.old }
         requires early { self.old.owed ≡ None → self.old.time < 1000000000 }
         ensures good { IsGood L.entries L.random_place self.new }
         ensures ok { IfOk result (λ step. Follows step (held L.entries L.random_place self.old) (held L.entries L.random_place self.new)) }
         ensures moves { IfOk result (λ step. Moves step (held L.entries L.random_place self.old) (held L.entries L.random_place self.new)) }
         ensures err { OnErr result (Stays (held L.entries L.random_place self.old) (held L.entries L.random_place self.new)) }
-        ensures faults { IfErr result (IsFaultAfter self.old.failed) }
+        ensures faults { IfErr result (λ halt. IsFaultAfter self.old.failed (fault_of halt)) }
         ensures whole { OnErr result (self.new.owed ≡ None) }
         ensures failed { OnErr result (self.new.failed ≡ true) }
-        ensures again { self.old.failed ≡ true → IsErrOf result Fault.Failed × (self.new ≡ self.old) }
+        ensures again { self.old.failed ≡ true → IsErrOf result Halt.Failed × (self.new ≡ self.old) }
     {
         if self.failed {
-            return Err(Fault::Failed);
+            return Err(Halt::Failed);
         }
         if self.owed.is_some() {
             return Ok(self.boundary());

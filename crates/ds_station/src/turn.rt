@@ -1,12 +1,11 @@
 //! Turns: how one begins, an instruction of it, an idle turn, and the boundary behind it.
-ghost use Rattle.std.specs.Prelude.{◌≡◌, ◌+◌, ◌<◌, ◌≤◌, ◌^◌, OnOk, OnErr, IfErr, None, IsSome, true, false};
+ghost use Rattle.std.specs.Prelude.{◌≡◌, ◌≢◌, ◌+◌, ◌<◌, ◌≤◌, ◌^◌, OnOk, OnErr, IfErr, IsErrOf, None, IsSome, true, false};
 ghost use Rattle.ds_procs.specs.declared.process.Standing.TheVariants.{Ready};
 ghost use Rattle.ds_station.specs.Parts.{held, HasRoom};
 ghost use Rattle.ds_station.specs.Processor.{process_step, Stepped};
 ghost use Rattle.ds_station.specs.Services as services;
-ghost use Rattle.ds_station.specs.Faults.{IsNewFault};
 
-use crate::fault::Fault;
+use crate::halt::Halt;
 use crate::parts::{Parts, Step};
 use crate::processor::Event;
 use ds_pagemap::Turn;
@@ -20,6 +19,7 @@ pub const LINE_ROOM: usize = 64;
 
 impl<L: Lookaside> Parts<L> {
     /// Makes room for what one unit may write, if it can.
+    #[inline(never)]
     pub fn reserve(&mut self) -> bool
         ensures room { result ≡ true → HasRoom self.new }
         ensures held { held L.entries L.random_place self.new ≡ held L.entries L.random_place self.old }
@@ -28,7 +28,8 @@ impl<L: Lookaside> Parts<L> {
     }
 
     /// Counts the instruction that comes next; where it begins a unit, makes room for the unit.
-    pub fn begin(&mut self) -> Result<(), Fault>
+    #[inline(always)]
+    pub fn begin(&mut self) -> Result<(), Halt>
         requires spent { self.old.spent ≤ 64 }
         requires room { 0 < self.old.spent → HasRoom self.old }
         ensures ok { OnOk result (held L.entries L.random_place self.new ≡ services.begun L.SLOTS L.WIRED (held L.entries L.random_place self.old)) }
@@ -36,15 +37,16 @@ impl<L: Lookaside> Parts<L> {
         ensures count { OnOk result (self.new.spent ≤ 64) }
         ensures err { OnErr result (held L.entries L.random_place self.new ≡ services.failed (held L.entries L.random_place self.old)) }
         ensures kept { OnErr result (0 < self.old.spent → HasRoom self.new) }
-        ensures faults { IfErr result IsNewFault }
+        ensures stuck { self.old.spent ≡ 64 → IsErrOf result Halt.Stuck }
+        ensures memory { self.old.spent ≢ 64 → IfErr result (λ halt. (halt ≡ Halt.Memory) × (self.old.spent ≡ 0)) }
     {
         if self.spent >= MOST_SPENT {
             self.failed = true;
-            return Err(Fault::Stuck);
+            return Err(Halt::Stuck);
         }
         if self.spent == 0 && !self.reserve() {
             self.failed = true;
-            return Err(Fault::Memory);
+            return Err(Halt::Memory);
         }
         self.spent += 1;
         self.core.tlb.tick();
@@ -52,6 +54,7 @@ impl<L: Lookaside> Parts<L> {
     }
 
     /// A turn of the running process is over, which took one tick, or two with a delay slot.
+    #[inline(always)]
     pub fn end_unit(&mut self, ticks: u64) -> Step
         requires early { self.old.time < 1000000000 }
         requires few { ticks ≤ 2 }
@@ -69,6 +72,7 @@ impl<L: Lookaside> Parts<L> {
     }
 
     /// One instruction of the process.
+    #[inline(always)]
     pub fn execute(&mut self) -> Step
         requires early { self.old.time < 1000000000 }
         requires room { HasRoom self.old }
