@@ -1,6 +1,7 @@
 pub mod Words
 pub mod Frames
 pub mod Lookups
+pub mod Windows
 pub mod Links
 pub mod Meets
 pub mod Stages

@@ -1,6 +1,7 @@
 pub mod Memory
 pub mod Frames
 pub mod Processor
+pub mod Windows
 pub mod Consoles
 pub mod Held
 pub mod Stands

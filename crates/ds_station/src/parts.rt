@@ -1,6 +1,8 @@
 //! All that a station holds, and what a step of it was.
 use crate::consoles::Consoles;
 use crate::processor::Core;
+use crate::processor::memo::Memo;
+use crate::processor::window::Window;
 use ds_pagemap::Turn;
 use ds_policy::Table;
 use ds_procs::Process;
@@ -40,4 +42,9 @@ pub struct Parts<L> {
     pub failed: bool,
     /// The machine instructions that the unit has taken so far.
     pub spent: u32,
+    /// A unit may begin without a new reservation.
+    pub has_room: bool,
+    /// The page that was fetched from last, and the words that were.
+    pub code: Window,
+    pub memo: Memo,
 }

@@ -1,17 +1,23 @@
 //! The processor: one user instruction at a time, each address through the translation buffer.
 ghost use Rattle.std.specs.Prelude.{◌≡◌, ◌<◌, ◌^◌};
+ghost use Rattle.ds_policy.specs.declared.access.Kind.TheVariants.{Fetch};
 ghost use Rattle.ds_station.specs.Processor.{cpu_of, process_step};
+ghost use Rattle.ds_station.specs.Windows.{IsRight};
 
 mod access;
 mod execute;
 mod flow;
+pub mod memo;
 mod registers;
 mod translate;
+pub mod window;
 
 use crate::memory::load_word;
-use ds_isa::{Late, Size, decode};
-use ds_policy::{Access, Kind};
+use ds_isa::Late;
+use ds_policy::Access;
 use ds_tlb::Lookaside;
+use memo::{Memo, PAGE_WORDS};
+use window::Window;
 
 /// The number of the one address space.
 pub const ASID: u8 = 1;
@@ -63,15 +69,19 @@ pub struct Core<L> {
 }
 
 impl<L: Lookaside> Core<L> {
-    /// The instruction at `pc`.
+    /// The instruction at `pc`. `code` is the window of the page that was fetched from last.
+    #[inline(always)]
     #[tactic(auto, unfolding(crate::specs::Processor::process_step))]
-    pub fn step(&mut self, memory: &mut [u8]) -> Event
+    pub fn step(&mut self, memory: &mut [u8], memo: &mut Memo, code: &mut Window) -> Event
+        requires right { IsRight (L.entries self.old.tlb) Fetch code.old }
         ensures within { self.old.pc < 2 ^ 32 }
         ensures stepped { (record { event = result; cpu = cpu_of L.entries L.random_place self.new; memory = memory.new }) ≡ process_step (cpu_of L.entries L.random_place self.old) memory.old }
+        ensures right { IsRight (L.entries self.old.tlb) Fetch code.new }
     {
-        let Some(place) = self.reach(Kind::Fetch, Size::Word, self.pc) else {
+        let Some(place) = self.reach_code(code) else {
             return Event::Raised;
         };
-        self.execute(decode(load_word(memory, place)), memory)
+        let instr = memo.decoded(place / 4 % PAGE_WORDS, load_word(memory, place));
+        self.execute(instr, memory)
     }
 }

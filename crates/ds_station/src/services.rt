@@ -16,6 +16,7 @@ impl<L: Lookaside> Parts<L> {
     fn back(&mut self, pc: u32)
         ensures held { held L.entries L.random_place self.new ≡ record (held L.entries L.random_place self.old) { cpu = services.back_at (held L.entries L.random_place self.old).cpu pc } }
         ensures rest { self.new ≡ record self.old { core = self.new.core } }
+        ensures buffer { self.new.core.tlb ≡ self.old.core.tlb }
     {
         self.core.pc = pc;
         self.core.next = wrapping_sum(pc, 4);

@@ -1,9 +1,11 @@
 //! Turns: how one begins, an instruction of it, an idle turn, and the boundary behind it.
 ghost use Rattle.std.specs.Prelude.{◌≡◌, ◌≢◌, ◌+◌, ◌<◌, ◌≤◌, ◌^◌, OnOk, OnErr, IfErr, IsErrOf, None, IsSome, true, false};
 ghost use Rattle.ds_procs.specs.declared.process.Standing.TheVariants.{Ready};
+ghost use Rattle.ds_policy.specs.declared.access.Kind.TheVariants.{Fetch};
 ghost use Rattle.ds_station.specs.Parts.{held, HasRoom};
 ghost use Rattle.ds_station.specs.Processor.{process_step, Stepped};
 ghost use Rattle.ds_station.specs.Services as services;
+ghost use Rattle.ds_station.specs.Windows.{IsRight};
 
 use crate::halt::Halt;
 use crate::parts::{Parts, Step};
@@ -22,29 +24,37 @@ impl<L: Lookaside> Parts<L> {
     #[inline(never)]
     pub fn reserve(&mut self) -> bool
         ensures room { result ≡ true → HasRoom self.new }
+        ensures told { self.new.has_room ≡ result }
         ensures held { held L.entries L.random_place self.new ≡ held L.entries L.random_place self.old }
+        ensures rest { self.new ≡ record self.old { consoles = self.new.consoles; log = self.new.log; has_room = self.new.has_room } }
     {
-        self.consoles.reserve() && self.log.reserve(LINE_ROOM).is_ok()
+        self.has_room = self.consoles.reserve() && self.log.reserve(LINE_ROOM).is_ok();
+        self.has_room
     }
 
-    /// Counts the instruction that comes next; where it begins a unit, makes room for the unit.
+    /// Counts the instruction that comes next; where it begins a unit, there is room for the unit, or
+    /// it is made.
     #[inline(always)]
     pub fn begin(&mut self) -> Result<(), Halt>
         requires spent { self.old.spent ≤ 64 }
         requires room { 0 < self.old.spent → HasRoom self.old }
+        requires roomy { self.old.has_room ≡ true → HasRoom self.old }
+        requires code { IsRight (L.entries self.old.core.tlb) Fetch self.old.code }
         ensures ok { OnOk result (held L.entries L.random_place self.new ≡ services.begun L.SLOTS L.WIRED (held L.entries L.random_place self.old)) }
         ensures room { OnOk result (HasRoom self.new) }
         ensures count { OnOk result (self.new.spent ≤ 64) }
         ensures err { OnErr result (held L.entries L.random_place self.new ≡ services.failed (held L.entries L.random_place self.old)) }
         ensures kept { OnErr result (0 < self.old.spent → HasRoom self.new) }
+        ensures roomy { self.new.has_room ≡ true → HasRoom self.new }
+        ensures code { IsRight (L.entries self.new.core.tlb) Fetch self.new.code }
         ensures stuck { self.old.spent ≡ 64 → IsErrOf result Halt.Stuck }
-        ensures memory { self.old.spent ≢ 64 → IfErr result (λ halt. (halt ≡ Halt.Memory) × (self.old.spent ≡ 0)) }
+        ensures memory { self.old.spent ≢ 64 → IfErr result (λ halt. (halt ≡ Halt.Memory) × (self.old.spent ≡ 0) × (self.old.has_room ≡ false)) }
     {
         if self.spent >= MOST_SPENT {
             self.failed = true;
             return Err(Halt::Stuck);
         }
-        if self.spent == 0 && !self.reserve() {
+        if self.spent == 0 && !self.has_room && !self.reserve() {
             self.failed = true;
             return Err(Halt::Memory);
         }
@@ -76,12 +86,17 @@ impl<L: Lookaside> Parts<L> {
     pub fn execute(&mut self) -> Step
         requires early { self.old.time < 1000000000 }
         requires room { HasRoom self.old }
+        requires code { IsRight (L.entries self.old.core.tlb) Fetch self.old.code }
         ensures within { self.old.core.pc < 2 ^ 32 }
-        ensures room { 0 < self.new.spent → HasRoom self.new }
+        ensures room { HasRoom self.new }
+        ensures code { IsRight (L.entries self.new.core.tlb) Fetch self.new.code }
         ensures held { (s : Stepped) → s ≡ process_step (held L.entries L.random_place self.old).cpu self.old.memory.items → (held L.entries L.random_place self.new ≡ services.after_event s.event (held L.entries L.random_place self.old) s) × (result ≡ services.step_of s.event) }
     {
         let ticks = if self.core.slot { 2 } else { 1 };
-        match self.core.step(&mut self.memory) {
+        match self
+            .core
+            .step(&mut self.memory, &mut self.memo, &mut self.code)
+         {
             Event::Retired => self.end_unit(ticks),
             Event::Branched | Event::Raised => Step::Inside,
         }

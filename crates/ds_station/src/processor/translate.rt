@@ -1,9 +1,11 @@
 //! Addresses through the translation buffer.
 ghost use Rattle.std.specs.Prelude.{◌≡◌, ◌<◌, ◌^◌, IfSome, IsNone, IsTrue};
 ghost use Rattle.ds_policy.specs.Pages.{is_aligned};
+ghost use Rattle.ds_policy.specs.declared.access.Kind.TheVariants.{Fetch};
 ghost use Rattle.ds_station.specs.Processor.{cpu_of, translate, raised_cpu};
+ghost use Rattle.ds_station.specs.Windows.{IsRight};
 
-use super::{ASID, Cause, Core};
+use super::{ASID, Cause, Core, Window};
 use ds_isa::Size;
 use ds_policy::{Access, Kind};
 use ds_tlb::Lookaside;
@@ -58,5 +60,38 @@ impl<L: Lookaside> Core<L> {
             self.raise(Cause::Access { access }, address);
         }
         place
+    }
+    /// As `reach`, for the word at `pc`: by the window where that has it, and else the window is moved
+    /// there.
+    #[inline(always)]
+    pub(super) fn reach_code(&mut self, code: &mut Window) -> Option<usize>
+        requires right { IsRight (L.entries self.old.tlb) Fetch code.old }
+        ensures within { self.old.pc < 2 ^ 32 }
+        ensures place { result ≡ translate (L.entries self.old.tlb) Fetch Size.Word self.old.pc }
+        ensures some { IfSome result (λ _. self.new ≡ self.old) }
+        ensures none { IsNone result → cpu_of L.entries L.random_place self.new ≡ raised_cpu (cpu_of L.entries L.random_place self.old) (Cause.Access (record { kind = Fetch; size = Size.Word })) self.old.pc }
+        ensures right { IsRight (L.entries self.old.tlb) Fetch code.new }
+    {
+        match code.place_of(self.pc) {
+            Some(place) => Some(place),
+            None => self.look_up_code(code),
+        }
+    }
+
+    /// As `reach` for the word at `pc`; the window is moved there.
+    #[cold]
+    #[inline(never)]
+    fn look_up_code(&mut self, code: &mut Window) -> Option<usize>
+        requires right { IsRight (L.entries self.old.tlb) Fetch code.old }
+        ensures within { self.old.pc < 2 ^ 32 }
+        ensures place { result ≡ translate (L.entries self.old.tlb) Fetch Size.Word self.old.pc }
+        ensures some { IfSome result (λ _. self.new ≡ self.old) }
+        ensures none { IsNone result → cpu_of L.entries L.random_place self.new ≡ raised_cpu (cpu_of L.entries L.random_place self.old) (Cause.Access (record { kind = Fetch; size = Size.Word })) self.old.pc }
+        ensures right { IsRight (L.entries self.old.tlb) Fetch code.new }
+    {
+        let address = self.pc;
+        let place = self.reach(Kind::Fetch, Size::Word, address)?;
+        *code = Window::around(address, place);
+        Some(place)
     }
 }

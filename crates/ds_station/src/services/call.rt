@@ -1,14 +1,17 @@
 //! Calls.
-ghost use Rattle.std.specs.Prelude.{◌≡◌, ◌+◌, ◌<◌, ◌≤◌, length};
+ghost use Rattle.std.specs.Prelude.{◌≡◌, ◌+◌, ◌<◌, ◌≤◌, length, false};
 ghost use Rattle.ds_word.specs.Word.{word};
 ghost use Rattle.ds_procs.specs.declared.process.Standing.TheVariants.{Ready};
 ghost use Rattle.ds_procs.specs.declared.call.Call.{Call};
 ghost use Rattle.ds_procs.specs.Calls.{call_of};
 ghost use Rattle.ds_tlb.specs.Entries.{empty_entries};
+ghost use Rattle.ds_policy.specs.declared.access.Kind.TheVariants.{Fetch};
 ghost use Rattle.ds_station.specs.Parts.{held, HasRoom};
 ghost use Rattle.ds_station.specs.Services as services;
+ghost use Rattle.ds_station.specs.Windows.{IsRight};
 
 use crate::parts::{Parts, Step};
+use crate::processor::window::Window;
 use ds_procs::{Call, Standing};
 use ds_tlb::{Entry, Lookaside};
 use ds_word::wrapping_sum;
@@ -34,10 +37,13 @@ impl<L: Lookaside> Parts<L> {
         requires kept { (held L.entries L.random_place self.old).outside.process ≡ services.kept_at (held L.entries L.random_place self.old).cpu (word (self.old.core.epc + 4)) Ready }
         ensures step { result ≡ Step.Unit }
         ensures held { held L.entries L.random_place self.new ≡ services.exited (held L.entries L.random_place self.old) }
+        ensures closed { self.new.has_room ≡ self.old.has_room }
+        ensures code { IsRight (L.entries self.new.core.tlb) Fetch self.new.code }
     {
         self.process.state = Standing::Ended;
         self.table.clear(1);
         flush(&mut self.core.tlb);
+        self.code = Window::none();
         self.core.kernel = false;
         self.end_unit(1)
     }
@@ -48,6 +54,9 @@ impl<L: Lookaside> Parts<L> {
         requires kept { (held L.entries L.random_place self.old).outside.process ≡ services.kept_at (held L.entries L.random_place self.old).cpu (word (self.old.core.epc + 4)) Ready }
         ensures step { result ≡ Step.Unit }
         ensures held { held L.entries L.random_place self.new ≡ services.answered_held (held L.entries L.random_place self.old) (held L.entries L.random_place self.old).outside.consoles value }
+        ensures closed { self.new.has_room ≡ self.old.has_room }
+        ensures buffer { self.new.core.tlb ≡ self.old.core.tlb }
+        ensures code { self.new.code ≡ self.old.code }
     {
         self.core.registers[2] = value;
         self.back(wrapping_sum(self.core.epc, 4));
@@ -61,12 +70,16 @@ impl<L: Lookaside> Parts<L> {
         requires early { self.old.time < 1000000000 }
         requires lines { self.old.lines ≤ self.old.time }
         requires one { length self.old.table ≡ 1 }
+        requires code { IsRight (L.entries self.old.core.tlb) Fetch self.old.code }
         ensures step { result ≡ Step.Unit }
+        ensures closed { self.new.has_room ≡ false }
+        ensures code { IsRight (L.entries self.new.core.tlb) Fetch self.new.code }
         ensures held { (call : Call) → call ≡ call_of self.old.core.registers → held L.entries L.random_place self.new ≡ services.called_or_fault self.old.core.delayed (held L.entries L.random_place self.old) call }
     {
         if self.core.delayed {
             return self.fault(CALL_IN_A_SLOT);
         }
+        self.has_room = false;
         self.keep(wrapping_sum(self.core.epc, 4), Standing::Ready);
         match Call::of(&self.process) {
             Call::Exit => self.exit(),

@@ -1,5 +1,5 @@
 //! A denial or a fault: the process is parked, and the log tells why.
-ghost use Rattle.std.specs.Prelude.{◌≡◌, ◌<◌, ◌≤◌, ◌^◌};
+ghost use Rattle.std.specs.Prelude.{◌≡◌, ◌<◌, ◌≤◌, ◌^◌, false};
 ghost use Rattle.ds_log.specs.Length.{IsShortRule};
 ghost use Rattle.ds_station.specs.Parts.{held, HasRoom};
 ghost use Rattle.ds_station.specs.Services as services;
@@ -46,6 +46,9 @@ impl<L: Lookaside> Parts<L> {
         requires code { code < 10 ^ 5 }
         ensures step { result ≡ Step.Unit }
         ensures held { held L.entries L.random_place self.new ≡ services.denied_held (held L.entries L.random_place self.old) kind address rule code }
+        ensures closed { self.new.has_room ≡ false }
+        ensures buffer { self.new.core.tlb ≡ self.old.core.tlb }
+        ensures code { self.new.code ≡ self.old.code }
     {
         let line = Line::Denial {
             time: self.time,
@@ -58,6 +61,7 @@ impl<L: Lookaside> Parts<L> {
         };
         line_fits(&line);
         append(&mut self.log, &line).unwrap();
+        self.has_room = false;
         self.lines += 1;
         self.keep(self.core.epc, Standing::Parked);
         self.core.kernel = false;
@@ -72,6 +76,9 @@ impl<L: Lookaside> Parts<L> {
         requires code { code < 10 ^ 5 }
         ensures step { result ≡ Step.Unit }
         ensures held { held L.entries L.random_place self.new ≡ services.fault_held (held L.entries L.random_place self.old) code }
+        ensures closed { self.new.has_room ≡ false }
+        ensures buffer { self.new.core.tlb ≡ self.old.core.tlb }
+        ensures code { self.new.code ≡ self.old.code }
     {
         self.deny(Denied::Exec, self.own_address(), Rule::I, code)
     }

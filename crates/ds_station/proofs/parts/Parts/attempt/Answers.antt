@@ -29,5 +29,7 @@ returns-clause-good g c =
     record {
       sound = sound_after c.execute.result h _ c.requires.busy.good.sound (returns-clause-follows g c);
       orderly = rw e.0 (event_orderly h c.requires.busy.good.orderly c.requires.busy.working t refl c.requires.busy.begun c.requires.user);
-      room = c.execute.ensures.room;
+      room = λ b. c.execute.ensures.room;
+      roomy = λ b. c.execute.ensures.room;
+      code = c.execute.ensures.code;
     }

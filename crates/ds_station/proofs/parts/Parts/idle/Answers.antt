@@ -24,4 +24,6 @@ returns-clause-good g c =
       sound = sound_after Boundary h _ c.requires.good.sound (returns-clause-ok g c);
       orderly = subst IsOrderly (sym (rw owed (ap idled c.reserve.ensures.held))) (idled_orderly h c.requires.good.orderly);
       room = λ b. record { consoles = r.consoles; log = r.log };
+      roomy = λ b. record { consoles = r.consoles; log = r.log };
+      code = rw c.reserve.ensures.rest c.requires.good.code;
     }

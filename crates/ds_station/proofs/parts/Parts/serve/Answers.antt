@@ -1,4 +1,4 @@
-use Rattle.std.proofs.Common.{◌≡◌, refl, sym, ap, subst, ◌∙◌, arith}
+use Rattle.std.proofs.Common.{◌≡◌, true, false, refl, sym, ap, subst, ◌∙◌, arith}
 use Rattle.ds_policy.specs.declared.access.Rule.TheVariants.{I}
 use Rattle.ds_policy.specs.Pages.{decide}
 use Rattle.ds_procs.specs.Calls.{call_of}
@@ -36,6 +36,8 @@ returns-in-Access-clause-good g c =
       sound = sound_after c.miss.result h _ c.requires.busy.good.sound (returns-in-Access-clause-follows g c);
       orderly = rw e.0 (verdict_orderly h c.requires.busy.good.orderly c.requires.busy.working c.in-Access.access v);
       room = c.miss.ensures.room;
+      roomy = c.miss.ensures.roomy;
+      code = c.miss.ensures.code;
     }
 
 pub returns-in-Fault-clause-follows : goal.returns-in-Fault-clause-follows
@@ -55,6 +57,8 @@ returns-in-Fault-clause-good g c =
       sound = sound_after c.fault.result h _ c.requires.busy.good.sound (returns-in-Fault-clause-follows g c);
       orderly = rw c.fault.ensures.held (denied_orderly h c.requires.busy.good.orderly c.requires.busy.working Exec (own_address h.cpu) I c.in-Fault.code);
       room = λ b. (let none : c.fault.new.self.spent ≡ 0 = ap (λ (x : Held). x.own.spent) c.fault.ensures.held in absurd (omega arith));
+      roomy = λ b. (let no : false ≡ true = sym c.fault.ensures.closed ∙ b in absurd (cc));
+      code = rw (c.fault.ensures.buffer, c.fault.ensures.code) c.requires.busy.good.code;
     }
 
 pub returns-in-Call-clause-follows : goal.returns-in-Call-clause-follows
@@ -77,4 +81,6 @@ returns-in-Call-clause-good g c =
       sound = sound_after c.call.result h _ c.requires.busy.good.sound (returns-in-Call-clause-follows g c);
       orderly = rw (c.call.ensures.held call refl) (called_or_fault_orderly h c.requires.busy.good.orderly c.requires.busy.working h.cpu.delayed call);
       room = λ b. (let none : c.call.new.self.spent ≡ 0 = ap (λ (x : Held). x.own.spent) (c.call.ensures.held call refl) ∙ (called_or_fault_moves h.cpu.delayed h call (c.requires.busy.good.orderly.begun c.requires.busy.begun) (c.requires.busy.good.orderly.first c.requires.kernel)).3 in absurd (omega arith));
+      roomy = λ b. (let no : false ≡ true = sym c.call.ensures.closed ∙ b in absurd (cc));
+      code = c.call.ensures.code;
     }

@@ -1,0 +1,13 @@
+-- A page that the buffer lets go.
+use Rattle.std.specs.Prelude.{◌≡◌, ℕ, ◌+◌, ◌<◌, ◌≤◌, ◌^◌, true, List, Some}
+use Rattle.ds_isa.specs.declared.instr.Size.{Size}
+use Rattle.ds_policy.specs.declared.access.Kind.{Kind}
+use Rattle.ds_policy.specs.Pages.{is_aligned}
+use Rattle.ds_tlb.specs.declared.entry.Entry.{Entry}
+use Rattle.ds_station.specs.Processor.{translate}
+use Rattle.ds_station.specs.declared.processor.window.Window.{Window}
+
+-- the buffer lets each aligned access to the window's page go, to the place that the window tells
+pub record IsRight (entries : List Entry) (kind : Kind) (w : Window) : Type 0 where
+  pub low : w.start ≤ 2 ^ 32
+  pub lets : (size : Size) (offset : ℕ) → offset < 4096 → w.start + offset < 2 ^ 32 → is_aligned size offset ≡ true → translate entries kind size (w.start + offset) ≡ Some (w.base + offset)
