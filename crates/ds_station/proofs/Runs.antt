@@ -1,7 +1,7 @@
 -- A run of the station, step by step.
 use Rattle.std.proofs.Common.{◌≡◌, ℕ, ◌+◌, ◌-◌, ◌*◌, ◌<◌, ◌≤◌, refl, sym, ◌∙◌, ap, subst, arith, true, false, Bool, cond, inl, inr, List}
 use Rattle.std.proofs.lemmas.Bool.Decides.{nat_tests}
-use Rattle.std.specs.Prelude.{◌||◌, ◌&&◌, nat_lt, not, is_some, Option, Some, None, Result, Ok, Err, OnErr}
+use Rattle.std.specs.Prelude.{◌||◌, ◌&&◌, nat_lt, not, is_some, Option, Some, None, IsSome, Result, Ok, Err, OnErr}
 use Rattle.ds_procs.specs.declared.process.Standing.{Standing}
 use Rattle.ds_pagemap.specs.declared.turn.Turn.{Turn}
 use Rattle.ds_pagemap.specs.Machine.{State, Process, has_ended}
@@ -15,7 +15,8 @@ use Rattle.ds_station.specs.Held.{Held}
 use Rattle.ds_station.specs.Stands.{Stands, IsSound}
 use Rattle.ds_station.specs.Services.{ticks_of}
 use Rattle.ds_station.specs.Steps.{StepTo, HalfTo, Follows, Stays, Moves, left, flag}
-use Rattle.ds_station.specs.Sound.{RunsTo, RunsWithin, held_goes_on}
+use Rattle.ds_station.specs.Sound.{RunsTo, RunsWithin, Goes, held_goes_on}
+use Rattle.ds_station.proofs.Turns.{sound_after}
 
 -- the run of the machine goes on just where that of the station does
 pub goes_alike : (n : ℕ) (h : Held) (m : State) → Stands h m → goes_on n m ≡ held_goes_on n h
@@ -144,3 +145,32 @@ failed_same Inside old new m = m.6
 failed_same Unit old new m = m.4
 failed_same Boundary old new m = m.3
 failed_same Over old new m = ap (λ (h : Held). h.own.failed) m
+
+-- The same of a unit with its boundary.
+
+owed_goes_on : (n : ℕ) (h : Held) → IsSome h.outside.owed → held_goes_on n h ≡ true
+owed_goes_on n h owed = ap (λ (b : Bool). b || (nat_lt h.outside.time n && not (has_ended h.outside.process.state))) owed
+
+pub within_goes : (step : Step) (n : ℕ) (a b d : Held) → RunsWithin n a b → held_goes_on n b ≡ true → Goes step b d → RunsWithin n a d
+within_goes Inside n a b d w g f = within_step Inside n a b d w g f.0
+within_goes Unit n a b d w g f = within_step Boundary n a f.0 d (within_step Unit n a b f.0 w g f.1) (owed_goes_on n f.0 f.2.1) f.3
+within_goes Boundary n a b d w g f = within_step Boundary n a b d w g f.0
+within_goes Over n a b d w g f = within_step Over n a b d w g f.0
+
+less_trans : (a b c : ℕ) → a < b → b < c → a < c
+less_trans a b c p q = omega (arith, p, q)
+
+pub rank_goes : (step : Step) (n : ℕ) (old new : Held) → held_goes_on n old ≡ true → IsSound old → Goes step old new → rank n new < rank n old
+rank_goes Inside n old new g s f = rank_falls Inside n old new g s f.0 f.1
+rank_goes Unit n old new g s f =
+    let first : rank n f.0 < rank n old = rank_falls Unit n old f.0 g s f.1 f.2 in
+    let second : rank n new < rank n f.0 = rank_falls Boundary n f.0 new (owed_goes_on n f.0 f.2.1) (sound_after Unit old f.0 s f.1) f.3 f.4 in
+    less_trans (rank n new) (rank n f.0) (rank n old) second first
+rank_goes Boundary n old new g s f = rank_falls Boundary n old new g s f.0 f.1
+rank_goes Over n old new g s f = rank_falls Over n old new g s f.0 f.1
+
+pub failed_goes : (step : Step) (old new : Held) → Goes step old new → new.own.failed ≡ old.own.failed
+failed_goes Inside old new f = failed_same Inside old new f.1
+failed_goes Unit old new f = failed_same Boundary f.0 new f.4 ∙ failed_same Unit old f.0 f.2
+failed_goes Boundary old new f = failed_same Boundary old new f.1
+failed_goes Over old new f = failed_same Over old new f.1

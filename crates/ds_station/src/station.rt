@@ -1,11 +1,11 @@
 //! A station: a machine and its monitor.
-ghost use Rattle.std.specs.Prelude.{◌≡◌, ℕ, ◌<◌, ◌≤◌, [], slice_index_or, flat_map, IfOk, IfErr, OnOk, OnErr, IsErrOf, None, true, false};
+ghost use Rattle.std.specs.Prelude.{◌≡◌, ℕ, ◌<◌, ◌≤◌, [], slice_index_or, flat_map, IfOk, IfErr, OnOk, OnErr, IsErrOf, None, IsSome, true, false};
 ghost use Rattle.ds_station.specs.Held.{Held};
 ghost use Rattle.ds_log.specs.Text.{line_text};
 ghost use Rattle.ds_pagemap.specs.Machine.{State};
 ghost use Rattle.ds_station.specs.Stands.{Stands, IsSound};
 ghost use Rattle.ds_station.specs.Steps.{Follows, Stays, Moves};
-ghost use Rattle.ds_station.specs.Sound.{RunsTo, RunsWithin, held_goes_on};
+ghost use Rattle.ds_station.specs.Sound.{RunsTo, RunsWithin, Goes, held_goes_on};
 ghost use Rattle.ds_station.specs.Faults.{IsNewFault, IsFaultAfter};
 ghost use Rattle.ds_station.specs.Halts.{fault_of};
 
@@ -66,6 +66,40 @@ impl<L: Lookaside> Station<L> {
     {
         let _ = &self.parts;
         self.parts.step()
+    }
+
+    /// The boundary that is owed.
+    #[inline(always)]
+    fn bound(&mut self)
+        requires { IsSome self.old.outside.owed }
+        ensures follows { Follows Step.Boundary self.old self.new }
+        ensures moves { Moves Step.Boundary self.old self.new }
+        ensures sound { IsSound self.new }
+    {
+        let _ = &self.parts;
+        self.parts.boundary();
+    }
+
+    /// As `advance`; behind a unit its boundary is done at once.
+    #[inline(always)]
+    fn go(&mut self) -> Result<Step, Halt>
+        requires { self.old.outside.owed ≡ None → self.old.outside.time < 1000000000 }
+        ensures ok { IfOk result (λ step. Goes step self.old self.new) }
+        ensures sound { IsSound self.new }
+        ensures err { OnErr result (Stays self.old self.new) }
+        ensures faults { IfErr result (λ halt. IsFaultAfter self.old.own.failed (fault_of halt)) }
+        ensures whole { OnErr result (self.new.outside.owed ≡ None) }
+        ensures failed { OnErr result (self.new.own.failed ≡ true) }
+    {
+        match self.advance()? {
+            Step::Inside => Ok(Step::Inside),
+            Step::Unit => {
+                self.bound();
+                Ok(Step::Unit)
+            }
+            Step::Boundary => Ok(Step::Boundary),
+            Step::Over => Ok(Step::Over),
+        }
     }
 
     /// The text of a console line, from 0.
@@ -136,7 +170,7 @@ impl<L: Lookaside> Station<L> {
             return Err(Fault::Failed);
         }
         while self.goes_on(n) {
-            self.advance()?;
+            self.go()?;
         }
         Ok(())
     }

@@ -17,9 +17,10 @@ use ds_tlb::Lookaside;
 impl<L: Lookaside> Parts<L> {
     /// The boundary that is owed.
     #[inline(always)]
-    fn boundary(&mut self) -> Step
+    pub fn boundary(&mut self) -> Step
         requires good { IsGood L.entries L.random_place self.old }
         requires owed { IsSome self.old.owed }
+        ensures step { result ≡ Step.Boundary }
         ensures follows { Follows result (held L.entries L.random_place self.old) (held L.entries L.random_place self.new) }
         ensures moves { Moves result (held L.entries L.random_place self.old) (held L.entries L.random_place self.new) }
         ensures good { IsGood L.entries L.random_place self.new }

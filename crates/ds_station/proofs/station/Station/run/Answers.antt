@@ -1,7 +1,7 @@
 use Rattle.std.proofs.Common.{ap, subst, sym, ◌∙◌}
 use Rattle.ds_station.specs.Held.{Held}
 use Rattle.ds_station.specs.Stands.{IsSound}
-use Rattle.ds_station.proofs.Runs.{within_start, within_step, within_stays, to_end, rank_falls, at_err, failed_same}
+use Rattle.ds_station.proofs.Runs.{within_start, within_goes, within_stays, to_end, rank_goes, at_err, failed_goes}
 use Rattle.ds_station.proofs.station.Station.run.Goals as goal
 
 pub loop-self-init : goal.loop-self-init
@@ -12,17 +12,17 @@ loop-self-init g c = record {
 }
 
 pub loop-self-smaller : goal.loop-self-smaller
-loop-self-smaller g c = rank_falls c.in_ok-advance.field-0 c.args.n c.loop-self.self c.advance.new.self (sym c.goes_on.ensures ∙ c.loop-self-test.true) c.loop-self.invariant.sound c.in_ok-advance.ensures.ok c.in_ok-advance.ensures.moves
+loop-self-smaller g c = rank_goes c.in_ok-go.field-0 c.args.n c.loop-self.self c.go.new.self (sym c.goes_on.ensures ∙ c.loop-self-test.true) c.loop-self.invariant.sound c.in_ok-go.ensures.ok
 
 pub loop-self-preserved : goal.loop-self-preserved
 loop-self-preserved g c = record {
-  within = within_step c.in_ok-advance.field-0 c.args.n c.args.self.now c.loop-self.self c.advance.new.self c.loop-self.invariant.within (sym c.goes_on.ensures ∙ c.loop-self-test.true) c.in_ok-advance.ensures.ok;
-  sound = c.advance.ensures.sound;
-  working = failed_same c.in_ok-advance.field-0 c.loop-self.self c.advance.new.self c.in_ok-advance.ensures.moves ∙ c.loop-self.invariant.working;
+  within = within_goes c.in_ok-go.field-0 c.args.n c.args.self.now c.loop-self.self c.go.new.self c.loop-self.invariant.within (sym c.goes_on.ensures ∙ c.loop-self-test.true) c.in_ok-go.ensures.ok;
+  sound = c.go.ensures.sound;
+  working = failed_goes c.in_ok-go.field-0 c.loop-self.self c.go.new.self c.in_ok-go.ensures.ok ∙ c.loop-self.invariant.working;
 }
 
-pub returns-in_err-advance-clause-err : goal.returns-in_err-advance-clause-err
-returns-in_err-advance-clause-err g c = at_err c.from_residual.result (within_stays c.args.n c.args.self.now c.loop-self.self c.advance.new.self c.loop-self.invariant.within c.in_err-advance.ensures.err)
+pub returns-in_err-go-clause-err : goal.returns-in_err-go-clause-err
+returns-in_err-go-clause-err g c = at_err c.from_residual.result (within_stays c.args.n c.args.self.now c.loop-self.self c.go.new.self c.loop-self.invariant.within c.in_err-go.ensures.err)
 
 pub returns-clause-ok : goal.returns-clause-ok
 returns-clause-ok g c = to_end c.args.n c.args.self.now c.loop-self.self c.loop-self.invariant.within (sym c.goes_on.ensures ∙ c.loop-self-test.false)
