@@ -1,6 +1,6 @@
 -- What the buffer answers for one address of a page, it answers for all of them.
 use Rattle.std.proofs.Common.{◌≡◌, ℕ, ◌+◌, ◌-◌, ◌*◌, ◌/◌, ◌%◌, ◌<◌, ◌^◌, Bool, true, false, cond, List, refl, sym, ap, subst, ◌∙◌, arith}
-use Rattle.std.specs.Prelude.{Option, Some, None, SomeIff, IfSome, nat_le, not, ◌&&◌, ◌||◌, ◌==◌}
+use Rattle.std.specs.Prelude.{Option, Some, None, SomeIff, IfSome, IsTrue, nat_le, not, ◌&&◌, ◌||◌, ◌==◌}
 use Rattle.std.proofs.lemmas.Bool.Decides.{nat_tests}
 use Rattle.ds_isa.specs.declared.instr.Size.{Size}
 use Rattle.ds_isa.specs.declared.instr.Size.TheVariants.{Byte, Half, Word, Part}
@@ -49,6 +49,7 @@ aligned_on Part page offset = refl
 pub around_right : (entries : List Entry) (kind : Kind) (size : Size) (a place : ℕ) (w : Window) → translate entries kind size a ≡ Some place → a < 2 ^ 32 → w.start ≡ a - a % 4096 → w.base ≡ place - place % 4096 → IsRight entries kind w
 around_right entries kind size a place w is few start base = record {
   low = omega (arith, start, few);
+  whole = omega (arith, start);
   lets = λ other offset within small aligned.
       let page : w.start ≡ a / 4096 * 4096 = omega (arith, start) in
       let same : (w.start + offset) / 4096 ≡ a / 4096 = omega (arith, page, within) in
@@ -57,12 +58,23 @@ around_right entries kind size a place w is few start base = record {
       translate_page entries kind size other a (w.start + offset) place is same still ∙ ap (λ (n : ℕ). Some n) (rw (rest, base) refl);
 }
 
+-- a window starts at the start of a page
+start_aligned : (size : Size) (start offset address : ℕ) → start + offset ≡ address → start % 4096 ≡ 0 → is_aligned size offset ≡ true → is_aligned size address ≡ true
+start_aligned Byte start offset address here whole aligned = refl
+start_aligned Half start offset address here whole aligned = grind (arith, nat_tests, here, whole, aligned)
+start_aligned Word start offset address here whole aligned = grind (arith, nat_tests, here, whole, aligned)
+start_aligned Part start offset address here whole aligned = refl
+
+pub place_aligned : (entries : List Entry) (kind : Kind) (size : Size) (address offset : ℕ) (w : Window) (found : Option ℕ) → w.start + offset ≡ address → is_aligned size offset ≡ true → IsRight entries kind w → IfSome found (λ place. IsTrue (is_aligned size address))
+place_aligned entries kind size address offset w None here aligned right = tt
+place_aligned entries kind size address offset w (Some place) here aligned right = start_aligned size w.start offset address here right.whole aligned
+
 -- an address in the window is let go
-pub place_lets : (entries : List Entry) (kind : Kind) (address offset : ℕ) (w : Window) (found : Option ℕ) → SomeIff found (w.base + offset < 2 ^ 64) (w.base + offset) → w.start + offset ≡ address → offset < 4096 → offset % 4 ≡ 0 → address < 2 ^ 32 → IsRight entries kind w → IfSome found (λ place. translate entries kind Word address ≡ Some place)
-place_lets entries kind address offset w None s here within aligned small right = tt
-place_lets entries kind address offset w (Some place) s here within aligned small right =
-    let lets : translate entries kind Word (w.start + offset) ≡ Some (w.base + offset) = right.lets Word offset within (rw here small) (grind (arith, nat_tests, aligned)) in
-    ap (translate entries kind Word) (sym here) ∙ (lets ∙ ap (λ (n : ℕ). Some n) (sym s.1))
+pub place_lets : (entries : List Entry) (kind : Kind) (size : Size) (address offset : ℕ) (w : Window) (found : Option ℕ) → SomeIff found (w.base + offset < 2 ^ 64) (w.base + offset) → w.start + offset ≡ address → offset < 4096 → is_aligned size offset ≡ true → address < 2 ^ 32 → IsRight entries kind w → IfSome found (λ place. translate entries kind size address ≡ Some place)
+place_lets entries kind size address offset w None s here within aligned small right = tt
+place_lets entries kind size address offset w (Some place) s here within aligned small right =
+    let lets : translate entries kind size (w.start + offset) ≡ Some (w.base + offset) = right.lets size offset within (rw here small) aligned in
+    ap (translate entries kind size) (sym here) ∙ (lets ∙ ap (λ (n : ℕ). Some n) (sym s.1))
 
 -- no instruction changes the buffer
 

@@ -2,9 +2,8 @@
 use Rattle.std.specs.Prelude.{◌≡◌, ℕ, ◌+◌, ◌<◌, ◌≤◌, List, true, false, None, vec_len, vec_capacity}
 use Rattle.ds_procs.specs.declared.process.Standing.TheVariants.{Ready}
 use Rattle.ds_tlb.specs.declared.entry.Entry.{Entry}
-use Rattle.ds_policy.specs.declared.access.Kind.TheVariants.{Fetch}
 use Rattle.ds_station.specs.Processor.{cpu_of}
-use Rattle.ds_station.specs.Windows.{IsRight}
+use Rattle.ds_station.specs.Windows.{AreRight}
 use Rattle.ds_station.specs.Consoles as consoles
 use Rattle.ds_station.specs.Held.{Held}
 use Rattle.ds_station.specs.Stands.{IsSound}
@@ -50,7 +49,7 @@ pub record IsGood {L : Type 0} (entries : L → List Entry) (random : L → ℕ)
   pub orderly : IsOrderly (held entries random p)
   pub room : 0 < p.spent → HasRoom p
   pub roomy : p.has_room ≡ true → HasRoom p
-  pub code : IsRight (entries p.core.tlb) Fetch p.code
+  pub windows : AreRight (entries p.core.tlb) p.windows
 
 -- a unit goes on: there is a machine state, room, and time left
 pub record IsBusy {L : Type 0} (entries : L → List Entry) (random : L → ℕ) (p : Parts L) : Type 0 where

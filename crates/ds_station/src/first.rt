@@ -4,9 +4,8 @@ ghost use Rattle.ds_policy.specs.PolicyParts.{sources_of};
 ghost use Rattle.ds_pagemap.specs.First.{part_of, image_named, source_bytes, first_state};
 ghost use Rattle.ds_station.specs.Start.{no_input, first_cpu, bytes_of_pages, padded, first_frames};
 ghost use Rattle.ds_station.specs.Processor.{cpu_of};
-ghost use Rattle.ds_policy.specs.declared.access.Kind.TheVariants.{Fetch};
 ghost use Rattle.ds_station.specs.Parts.{held};
-ghost use Rattle.ds_station.specs.Windows.{IsRight};
+ghost use Rattle.ds_station.specs.Windows.{AreRight};
 ghost use Rattle.ds_station.specs.Stands.{Stands, IsSound};
 ghost use Rattle.ds_station.specs.Faults.{IsStartFault};
 ghost use Rattle.ds_tlb.specs.Entries.{empty_entries};
@@ -16,7 +15,7 @@ use crate::fault::Fault;
 use crate::image::Image;
 use crate::parts::Parts;
 use crate::processor::memo::Memo;
-use crate::processor::window::Window;
+use crate::processor::window::Windows;
 use crate::processor::{Cause, Core};
 use crate::station::Station;
 use ds_policy::{Events, Policy, PolicyPage, PolicyProcess, Source, Table, Text};
@@ -127,7 +126,7 @@ impl<L: Lookaside> Parts<L> {
         ensures own { IfOk result (λ p. (p.failed ≡ false) × (p.spent ≡ 0)) }
         ensures counts { IfOk result (λ p. (p.lines ≡ 0) × (p.time ≡ 0) × (p.owed ≡ None)) }
         ensures room { IfOk result (λ p. p.has_room ≡ false) }
-        ensures code { IfOk result (λ p. IsRight (L.entries p.core.tlb) Fetch p.code) }
+        ensures windows { IfOk result (λ p. AreRight (L.entries p.core.tlb) p.windows) }
     {
         let table = Table::new(alloc, policy)?;
         let memory = first_frames(alloc, policy, images)?;
@@ -148,7 +147,7 @@ impl<L: Lookaside> Parts<L> {
             failed: false,
             spent: 0,
             has_room: false,
-            code: Window::none(),
+            windows: Windows::none(),
             memo: Memo::new(),
         })
     }

@@ -2,7 +2,7 @@
 use crate::consoles::Consoles;
 use crate::processor::Core;
 use crate::processor::memo::Memo;
-use crate::processor::window::Window;
+use crate::processor::window::Windows;
 use ds_pagemap::Turn;
 use ds_policy::Table;
 use ds_procs::Process;
@@ -44,7 +44,7 @@ pub struct Parts<L> {
     pub spent: u32,
     /// A unit may begin without a new reservation.
     pub has_room: bool,
-    /// The page that was fetched from last, and the words that were.
-    pub code: Window,
+    /// The pages of the last accesses, and the words that were fetched.
+    pub windows: Windows,
     pub memo: Memo,
 }

@@ -1,8 +1,7 @@
 //! The processor: one user instruction at a time, each address through the translation buffer.
 ghost use Rattle.std.specs.Prelude.{◌≡◌, ◌<◌, ◌^◌};
-ghost use Rattle.ds_policy.specs.declared.access.Kind.TheVariants.{Fetch};
 ghost use Rattle.ds_station.specs.Processor.{cpu_of, process_step};
-ghost use Rattle.ds_station.specs.Windows.{IsRight};
+ghost use Rattle.ds_station.specs.Windows.{AreRight};
 
 mod access;
 mod execute;
@@ -13,11 +12,11 @@ mod translate;
 pub mod window;
 
 use crate::memory::load_word;
-use ds_isa::Late;
-use ds_policy::Access;
+use ds_isa::{Late, Size};
+use ds_policy::{Access, Kind};
 use ds_tlb::Lookaside;
 use memo::{Memo, PAGE_WORDS};
-use window::Window;
+use window::Windows;
 
 /// The number of the one address space.
 pub const ASID: u8 = 1;
@@ -69,19 +68,19 @@ pub struct Core<L> {
 }
 
 impl<L: Lookaside> Core<L> {
-    /// The instruction at `pc`. `code` is the window of the page that was fetched from last.
+    /// The instruction at `pc`. What was decoded and which pages were let go is known from before.
     #[inline(always)]
     #[tactic(auto, unfolding(crate::specs::Processor::process_step))]
-    pub fn step(&mut self, memory: &mut [u8], memo: &mut Memo, code: &mut Window) -> Event
-        requires right { IsRight (L.entries self.old.tlb) Fetch code.old }
+    pub fn step(&mut self, memory: &mut [u8], memo: &mut Memo, windows: &mut Windows) -> Event
+        requires right { AreRight (L.entries self.old.tlb) windows.old }
         ensures within { self.old.pc < 2 ^ 32 }
         ensures stepped { (record { event = result; cpu = cpu_of L.entries L.random_place self.new; memory = memory.new }) ≡ process_step (cpu_of L.entries L.random_place self.old) memory.old }
-        ensures right { IsRight (L.entries self.old.tlb) Fetch code.new }
+        ensures right { AreRight (L.entries self.old.tlb) windows.new }
     {
-        let Some(place) = self.reach_code(code) else {
+        let Some(place) = self.reach(windows, Kind::Fetch, Size::Word, self.pc) else {
             return Event::Raised;
         };
         let instr = memo.decoded(place / 4 % PAGE_WORDS, load_word(memory, place));
-        self.execute(instr, memory)
+        self.execute(instr, memory, windows)
     }
 }

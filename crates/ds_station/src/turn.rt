@@ -1,11 +1,10 @@
 //! Turns: how one begins, an instruction of it, an idle turn, and the boundary behind it.
 ghost use Rattle.std.specs.Prelude.{◌≡◌, ◌≢◌, ◌+◌, ◌<◌, ◌≤◌, ◌^◌, OnOk, OnErr, IfErr, IsErrOf, None, IsSome, true, false};
 ghost use Rattle.ds_procs.specs.declared.process.Standing.TheVariants.{Ready};
-ghost use Rattle.ds_policy.specs.declared.access.Kind.TheVariants.{Fetch};
 ghost use Rattle.ds_station.specs.Parts.{held, HasRoom};
 ghost use Rattle.ds_station.specs.Processor.{process_step, Stepped};
 ghost use Rattle.ds_station.specs.Services as services;
-ghost use Rattle.ds_station.specs.Windows.{IsRight};
+ghost use Rattle.ds_station.specs.Windows.{AreRight};
 
 use crate::halt::Halt;
 use crate::parts::{Parts, Step};
@@ -39,14 +38,14 @@ impl<L: Lookaside> Parts<L> {
         requires spent { self.old.spent ≤ 64 }
         requires room { 0 < self.old.spent → HasRoom self.old }
         requires roomy { self.old.has_room ≡ true → HasRoom self.old }
-        requires code { IsRight (L.entries self.old.core.tlb) Fetch self.old.code }
+        requires windows { AreRight (L.entries self.old.core.tlb) self.old.windows }
         ensures ok { OnOk result (held L.entries L.random_place self.new ≡ services.begun L.SLOTS L.WIRED (held L.entries L.random_place self.old)) }
         ensures room { OnOk result (HasRoom self.new) }
         ensures count { OnOk result (self.new.spent ≤ 64) }
         ensures err { OnErr result (held L.entries L.random_place self.new ≡ services.failed (held L.entries L.random_place self.old)) }
         ensures kept { OnErr result (0 < self.old.spent → HasRoom self.new) }
         ensures roomy { self.new.has_room ≡ true → HasRoom self.new }
-        ensures code { IsRight (L.entries self.new.core.tlb) Fetch self.new.code }
+        ensures windows { AreRight (L.entries self.new.core.tlb) self.new.windows }
         ensures stuck { self.old.spent ≡ 64 → IsErrOf result Halt.Stuck }
         ensures memory { self.old.spent ≢ 64 → IfErr result (λ halt. (halt ≡ Halt.Memory) × (self.old.spent ≡ 0) × (self.old.has_room ≡ false)) }
     {
@@ -86,17 +85,17 @@ impl<L: Lookaside> Parts<L> {
     pub fn execute(&mut self) -> Step
         requires early { self.old.time < 1000000000 }
         requires room { HasRoom self.old }
-        requires code { IsRight (L.entries self.old.core.tlb) Fetch self.old.code }
+        requires windows { AreRight (L.entries self.old.core.tlb) self.old.windows }
         ensures within { self.old.core.pc < 2 ^ 32 }
         ensures room { HasRoom self.new }
-        ensures code { IsRight (L.entries self.new.core.tlb) Fetch self.new.code }
+        ensures windows { AreRight (L.entries self.new.core.tlb) self.new.windows }
         ensures held { (s : Stepped) → s ≡ process_step (held L.entries L.random_place self.old).cpu self.old.memory.items → (held L.entries L.random_place self.new ≡ services.after_event s.event (held L.entries L.random_place self.old) s) × (result ≡ services.step_of s.event) }
     {
         let ticks = if self.core.slot { 2 } else { 1 };
         match self
             .core
-            .step(&mut self.memory, &mut self.memo, &mut self.code)
-         {
+            .step(&mut self.memory, &mut self.memo, &mut self.windows)
+        {
             Event::Retired => self.end_unit(ticks),
             Event::Branched | Event::Raised => Step::Inside,
         }

@@ -2,7 +2,9 @@
 ghost use Rattle.std.specs.Prelude.{◌≡◌};
 ghost use Rattle.ds_isa.specs.Meaning.{meaning};
 ghost use Rattle.ds_station.specs.Processor.{cpu_of, registers_of, effect};
+ghost use Rattle.ds_station.specs.Windows.{AreRight};
 
+use super::window::Windows;
 use super::{Core, Event};
 use crate::memory::{load_word, store_word};
 use ds_isa::{Instr, Size};
@@ -16,11 +18,20 @@ use ds_word::{
 impl<L: Lookaside> Core<L> {
     /// Loads a byte with its sign.
     #[inline(always)]
-    pub(super) fn load_byte(&mut self, rt: u8, rs: u8, immediate: u16, memory: &[u8]) -> Event
-        ensures { (record { event = result; cpu = cpu_of L.entries L.random_place self.new; memory = memory.now }) ≡ effect (cpu_of L.entries L.random_place self.old) memory.now (meaning (Instr.Lb rt rs immediate) self.old.pc (registers_of self.old)) }
+    pub(super) fn load_byte(
+        &mut self,
+        rt: u8,
+        rs: u8,
+        immediate: u16,
+        memory: &[u8],
+        windows: &mut Windows,
+    ) -> Event
+        requires right { AreRight (L.entries self.old.tlb) windows.old }
+        ensures right { AreRight (L.entries self.old.tlb) windows.new }
+        ensures done { (record { event = result; cpu = cpu_of L.entries L.random_place self.new; memory = memory.now }) ≡ effect (cpu_of L.entries L.random_place self.old) memory.now (meaning (Instr.Lb rt rs immediate) self.old.pc (registers_of self.old)) }
     {
         let address = self.address_of(rs, immediate);
-        let Some(place) = self.reach(Kind::Load, Size::Byte, address) else {
+        let Some(place) = self.reach(windows, Kind::Load, Size::Byte, address) else {
             return Event::Raised;
         };
         let word = load_word(memory, place);
@@ -35,11 +46,14 @@ impl<L: Lookaside> Core<L> {
         rs: u8,
         immediate: u16,
         memory: &[u8],
+        windows: &mut Windows,
     ) -> Event
-        ensures { (record { event = result; cpu = cpu_of L.entries L.random_place self.new; memory = memory.now }) ≡ effect (cpu_of L.entries L.random_place self.old) memory.now (meaning (Instr.Lbu rt rs immediate) self.old.pc (registers_of self.old)) }
+        requires right { AreRight (L.entries self.old.tlb) windows.old }
+        ensures right { AreRight (L.entries self.old.tlb) windows.new }
+        ensures done { (record { event = result; cpu = cpu_of L.entries L.random_place self.new; memory = memory.now }) ≡ effect (cpu_of L.entries L.random_place self.old) memory.now (meaning (Instr.Lbu rt rs immediate) self.old.pc (registers_of self.old)) }
     {
         let address = self.address_of(rs, immediate);
-        let Some(place) = self.reach(Kind::Load, Size::Byte, address) else {
+        let Some(place) = self.reach(windows, Kind::Load, Size::Byte, address) else {
             return Event::Raised;
         };
         let word = load_word(memory, place);
@@ -48,11 +62,20 @@ impl<L: Lookaside> Core<L> {
 
     /// Loads a half with its sign.
     #[inline(always)]
-    pub(super) fn load_half(&mut self, rt: u8, rs: u8, immediate: u16, memory: &[u8]) -> Event
-        ensures { (record { event = result; cpu = cpu_of L.entries L.random_place self.new; memory = memory.now }) ≡ effect (cpu_of L.entries L.random_place self.old) memory.now (meaning (Instr.Lh rt rs immediate) self.old.pc (registers_of self.old)) }
+    pub(super) fn load_half(
+        &mut self,
+        rt: u8,
+        rs: u8,
+        immediate: u16,
+        memory: &[u8],
+        windows: &mut Windows,
+    ) -> Event
+        requires right { AreRight (L.entries self.old.tlb) windows.old }
+        ensures right { AreRight (L.entries self.old.tlb) windows.new }
+        ensures done { (record { event = result; cpu = cpu_of L.entries L.random_place self.new; memory = memory.now }) ≡ effect (cpu_of L.entries L.random_place self.old) memory.now (meaning (Instr.Lh rt rs immediate) self.old.pc (registers_of self.old)) }
     {
         let address = self.address_of(rs, immediate);
-        let Some(place) = self.reach(Kind::Load, Size::Half, address) else {
+        let Some(place) = self.reach(windows, Kind::Load, Size::Half, address) else {
             return Event::Raised;
         };
         let word = load_word(memory, place);
@@ -67,11 +90,14 @@ impl<L: Lookaside> Core<L> {
         rs: u8,
         immediate: u16,
         memory: &[u8],
+        windows: &mut Windows,
     ) -> Event
-        ensures { (record { event = result; cpu = cpu_of L.entries L.random_place self.new; memory = memory.now }) ≡ effect (cpu_of L.entries L.random_place self.old) memory.now (meaning (Instr.Lhu rt rs immediate) self.old.pc (registers_of self.old)) }
+        requires right { AreRight (L.entries self.old.tlb) windows.old }
+        ensures right { AreRight (L.entries self.old.tlb) windows.new }
+        ensures done { (record { event = result; cpu = cpu_of L.entries L.random_place self.new; memory = memory.now }) ≡ effect (cpu_of L.entries L.random_place self.old) memory.now (meaning (Instr.Lhu rt rs immediate) self.old.pc (registers_of self.old)) }
     {
         let address = self.address_of(rs, immediate);
-        let Some(place) = self.reach(Kind::Load, Size::Half, address) else {
+        let Some(place) = self.reach(windows, Kind::Load, Size::Half, address) else {
             return Event::Raised;
         };
         let word = load_word(memory, place);
@@ -80,11 +106,20 @@ impl<L: Lookaside> Core<L> {
 
     /// Loads the upper part of an unaligned word.
     #[inline(always)]
-    pub(super) fn load_left(&mut self, rt: u8, rs: u8, immediate: u16, memory: &[u8]) -> Event
-        ensures { (record { event = result; cpu = cpu_of L.entries L.random_place self.new; memory = memory.now }) ≡ effect (cpu_of L.entries L.random_place self.old) memory.now (meaning (Instr.Lwl rt rs immediate) self.old.pc (registers_of self.old)) }
+    pub(super) fn load_left(
+        &mut self,
+        rt: u8,
+        rs: u8,
+        immediate: u16,
+        memory: &[u8],
+        windows: &mut Windows,
+    ) -> Event
+        requires right { AreRight (L.entries self.old.tlb) windows.old }
+        ensures right { AreRight (L.entries self.old.tlb) windows.new }
+        ensures done { (record { event = result; cpu = cpu_of L.entries L.random_place self.new; memory = memory.now }) ≡ effect (cpu_of L.entries L.random_place self.old) memory.now (meaning (Instr.Lwl rt rs immediate) self.old.pc (registers_of self.old)) }
     {
         let address = self.address_of(rs, immediate);
-        let Some(place) = self.reach(Kind::Load, Size::Part, address) else {
+        let Some(place) = self.reach(windows, Kind::Load, Size::Part, address) else {
             return Event::Raised;
         };
         let word = load_word(memory, place);
@@ -93,11 +128,20 @@ impl<L: Lookaside> Core<L> {
 
     /// Loads a word.
     #[inline(always)]
-    pub(super) fn load_whole(&mut self, rt: u8, rs: u8, immediate: u16, memory: &[u8]) -> Event
-        ensures { (record { event = result; cpu = cpu_of L.entries L.random_place self.new; memory = memory.now }) ≡ effect (cpu_of L.entries L.random_place self.old) memory.now (meaning (Instr.Lw rt rs immediate) self.old.pc (registers_of self.old)) }
+    pub(super) fn load_whole(
+        &mut self,
+        rt: u8,
+        rs: u8,
+        immediate: u16,
+        memory: &[u8],
+        windows: &mut Windows,
+    ) -> Event
+        requires right { AreRight (L.entries self.old.tlb) windows.old }
+        ensures right { AreRight (L.entries self.old.tlb) windows.new }
+        ensures done { (record { event = result; cpu = cpu_of L.entries L.random_place self.new; memory = memory.now }) ≡ effect (cpu_of L.entries L.random_place self.old) memory.now (meaning (Instr.Lw rt rs immediate) self.old.pc (registers_of self.old)) }
     {
         let address = self.address_of(rs, immediate);
-        let Some(place) = self.reach(Kind::Load, Size::Word, address) else {
+        let Some(place) = self.reach(windows, Kind::Load, Size::Word, address) else {
             return Event::Raised;
         };
         self.retire_load(rt, load_word(memory, place))
@@ -105,11 +149,20 @@ impl<L: Lookaside> Core<L> {
 
     /// Loads the lower part of an unaligned word.
     #[inline(always)]
-    pub(super) fn load_right(&mut self, rt: u8, rs: u8, immediate: u16, memory: &[u8]) -> Event
-        ensures { (record { event = result; cpu = cpu_of L.entries L.random_place self.new; memory = memory.now }) ≡ effect (cpu_of L.entries L.random_place self.old) memory.now (meaning (Instr.Lwr rt rs immediate) self.old.pc (registers_of self.old)) }
+    pub(super) fn load_right(
+        &mut self,
+        rt: u8,
+        rs: u8,
+        immediate: u16,
+        memory: &[u8],
+        windows: &mut Windows,
+    ) -> Event
+        requires right { AreRight (L.entries self.old.tlb) windows.old }
+        ensures right { AreRight (L.entries self.old.tlb) windows.new }
+        ensures done { (record { event = result; cpu = cpu_of L.entries L.random_place self.new; memory = memory.now }) ≡ effect (cpu_of L.entries L.random_place self.old) memory.now (meaning (Instr.Lwr rt rs immediate) self.old.pc (registers_of self.old)) }
     {
         let address = self.address_of(rs, immediate);
-        let Some(place) = self.reach(Kind::Load, Size::Part, address) else {
+        let Some(place) = self.reach(windows, Kind::Load, Size::Part, address) else {
             return Event::Raised;
         };
         let word = load_word(memory, place);
@@ -118,11 +171,20 @@ impl<L: Lookaside> Core<L> {
 
     /// Stores the low byte of a register.
     #[inline(always)]
-    pub(super) fn store_byte(&mut self, rt: u8, rs: u8, immediate: u16, memory: &mut [u8]) -> Event
-        ensures { (record { event = result; cpu = cpu_of L.entries L.random_place self.new; memory = memory.new }) ≡ effect (cpu_of L.entries L.random_place self.old) memory.old (meaning (Instr.Sb rt rs immediate) self.old.pc (registers_of self.old)) }
+    pub(super) fn store_byte(
+        &mut self,
+        rt: u8,
+        rs: u8,
+        immediate: u16,
+        memory: &mut [u8],
+        windows: &mut Windows,
+    ) -> Event
+        requires right { AreRight (L.entries self.old.tlb) windows.old }
+        ensures right { AreRight (L.entries self.old.tlb) windows.new }
+        ensures done { (record { event = result; cpu = cpu_of L.entries L.random_place self.new; memory = memory.new }) ≡ effect (cpu_of L.entries L.random_place self.old) memory.old (meaning (Instr.Sb rt rs immediate) self.old.pc (registers_of self.old)) }
     {
         let address = self.address_of(rs, immediate);
-        let Some(place) = self.reach(Kind::Store, Size::Byte, address) else {
+        let Some(place) = self.reach(windows, Kind::Store, Size::Byte, address) else {
             return Event::Raised;
         };
         let word = load_word(memory, place);
@@ -132,11 +194,20 @@ impl<L: Lookaside> Core<L> {
 
     /// Stores the low half of a register.
     #[inline(always)]
-    pub(super) fn store_half(&mut self, rt: u8, rs: u8, immediate: u16, memory: &mut [u8]) -> Event
-        ensures { (record { event = result; cpu = cpu_of L.entries L.random_place self.new; memory = memory.new }) ≡ effect (cpu_of L.entries L.random_place self.old) memory.old (meaning (Instr.Sh rt rs immediate) self.old.pc (registers_of self.old)) }
+    pub(super) fn store_half(
+        &mut self,
+        rt: u8,
+        rs: u8,
+        immediate: u16,
+        memory: &mut [u8],
+        windows: &mut Windows,
+    ) -> Event
+        requires right { AreRight (L.entries self.old.tlb) windows.old }
+        ensures right { AreRight (L.entries self.old.tlb) windows.new }
+        ensures done { (record { event = result; cpu = cpu_of L.entries L.random_place self.new; memory = memory.new }) ≡ effect (cpu_of L.entries L.random_place self.old) memory.old (meaning (Instr.Sh rt rs immediate) self.old.pc (registers_of self.old)) }
     {
         let address = self.address_of(rs, immediate);
-        let Some(place) = self.reach(Kind::Store, Size::Half, address) else {
+        let Some(place) = self.reach(windows, Kind::Store, Size::Half, address) else {
             return Event::Raised;
         };
         let word = load_word(memory, place);
@@ -146,11 +217,20 @@ impl<L: Lookaside> Core<L> {
 
     /// Stores the upper part of an unaligned word.
     #[inline(always)]
-    pub(super) fn store_left(&mut self, rt: u8, rs: u8, immediate: u16, memory: &mut [u8]) -> Event
-        ensures { (record { event = result; cpu = cpu_of L.entries L.random_place self.new; memory = memory.new }) ≡ effect (cpu_of L.entries L.random_place self.old) memory.old (meaning (Instr.Swl rt rs immediate) self.old.pc (registers_of self.old)) }
+    pub(super) fn store_left(
+        &mut self,
+        rt: u8,
+        rs: u8,
+        immediate: u16,
+        memory: &mut [u8],
+        windows: &mut Windows,
+    ) -> Event
+        requires right { AreRight (L.entries self.old.tlb) windows.old }
+        ensures right { AreRight (L.entries self.old.tlb) windows.new }
+        ensures done { (record { event = result; cpu = cpu_of L.entries L.random_place self.new; memory = memory.new }) ≡ effect (cpu_of L.entries L.random_place self.old) memory.old (meaning (Instr.Swl rt rs immediate) self.old.pc (registers_of self.old)) }
     {
         let address = self.address_of(rs, immediate);
-        let Some(place) = self.reach(Kind::Store, Size::Part, address) else {
+        let Some(place) = self.reach(windows, Kind::Store, Size::Part, address) else {
             return Event::Raised;
         };
         let word = load_word(memory, place);
@@ -160,11 +240,20 @@ impl<L: Lookaside> Core<L> {
 
     /// Stores a word.
     #[inline(always)]
-    pub(super) fn store_whole(&mut self, rt: u8, rs: u8, immediate: u16, memory: &mut [u8]) -> Event
-        ensures { (record { event = result; cpu = cpu_of L.entries L.random_place self.new; memory = memory.new }) ≡ effect (cpu_of L.entries L.random_place self.old) memory.old (meaning (Instr.Sw rt rs immediate) self.old.pc (registers_of self.old)) }
+    pub(super) fn store_whole(
+        &mut self,
+        rt: u8,
+        rs: u8,
+        immediate: u16,
+        memory: &mut [u8],
+        windows: &mut Windows,
+    ) -> Event
+        requires right { AreRight (L.entries self.old.tlb) windows.old }
+        ensures right { AreRight (L.entries self.old.tlb) windows.new }
+        ensures done { (record { event = result; cpu = cpu_of L.entries L.random_place self.new; memory = memory.new }) ≡ effect (cpu_of L.entries L.random_place self.old) memory.old (meaning (Instr.Sw rt rs immediate) self.old.pc (registers_of self.old)) }
     {
         let address = self.address_of(rs, immediate);
-        let Some(place) = self.reach(Kind::Store, Size::Word, address) else {
+        let Some(place) = self.reach(windows, Kind::Store, Size::Word, address) else {
             return Event::Raised;
         };
         store_word(memory, place, self.read(rt));
@@ -173,11 +262,20 @@ impl<L: Lookaside> Core<L> {
 
     /// Stores the lower part of an unaligned word.
     #[inline(always)]
-    pub(super) fn store_right(&mut self, rt: u8, rs: u8, immediate: u16, memory: &mut [u8]) -> Event
-        ensures { (record { event = result; cpu = cpu_of L.entries L.random_place self.new; memory = memory.new }) ≡ effect (cpu_of L.entries L.random_place self.old) memory.old (meaning (Instr.Swr rt rs immediate) self.old.pc (registers_of self.old)) }
+    pub(super) fn store_right(
+        &mut self,
+        rt: u8,
+        rs: u8,
+        immediate: u16,
+        memory: &mut [u8],
+        windows: &mut Windows,
+    ) -> Event
+        requires right { AreRight (L.entries self.old.tlb) windows.old }
+        ensures right { AreRight (L.entries self.old.tlb) windows.new }
+        ensures done { (record { event = result; cpu = cpu_of L.entries L.random_place self.new; memory = memory.new }) ≡ effect (cpu_of L.entries L.random_place self.old) memory.old (meaning (Instr.Swr rt rs immediate) self.old.pc (registers_of self.old)) }
     {
         let address = self.address_of(rs, immediate);
-        let Some(place) = self.reach(Kind::Store, Size::Part, address) else {
+        let Some(place) = self.reach(windows, Kind::Store, Size::Part, address) else {
             return Event::Raised;
         };
         let word = load_word(memory, place);

@@ -3,8 +3,10 @@ ghost use Rattle.std.specs.Prelude.{◌≡◌, ◌%◌, ◌||◌, ◌==◌};
 ghost use Rattle.ds_word.specs.Word.{is_negative};
 ghost use Rattle.ds_isa.specs.Meaning.{meaning};
 ghost use Rattle.ds_station.specs.Processor.{cpu_of, registers_of, effect};
+ghost use Rattle.ds_station.specs.Windows.{AreRight};
 
 use super::flow::{RESERVED, behind_slot, jump_target};
+use super::window::Windows;
 use super::{Cause, Core, Event};
 use ds_isa::Instr;
 use ds_tlb::Lookaside;
@@ -39,8 +41,15 @@ fn places(word: u32) -> u8
 impl<L: Lookaside> Core<L> {
     /// Carries out an instruction.
     #[inline(always)]
-    pub(super) fn execute(&mut self, instr: Instr, memory: &mut [u8]) -> Event
-        ensures { (record { event = result; cpu = cpu_of L.entries L.random_place self.new; memory = memory.new }) ≡ effect (cpu_of L.entries L.random_place self.old) memory.old (meaning instr self.old.pc (registers_of self.old)) }
+    pub(super) fn execute(
+        &mut self,
+        instr: Instr,
+        memory: &mut [u8],
+        windows: &mut Windows,
+    ) -> Event
+        requires right { AreRight (L.entries self.old.tlb) windows.old }
+        ensures right { AreRight (L.entries self.old.tlb) windows.new }
+        ensures done { (record { event = result; cpu = cpu_of L.entries L.random_place self.new; memory = memory.new }) ≡ effect (cpu_of L.entries L.random_place self.old) memory.old (meaning instr self.old.pc (registers_of self.old)) }
     {
         match instr {
             Instr::Sll { rd, rt, shamt } => self.retire(rd, shift_left(self.read(rt), shamt)),
@@ -153,18 +162,24 @@ impl<L: Lookaside> Core<L> {
                 self.retire(rt, self.read(rs) ^ u32::from(immediate))
             }
             Instr::Lui { rt, immediate } => self.retire(rt, upper(immediate)),
-            Instr::Lb { rt, rs, immediate } => self.load_byte(rt, rs, immediate, memory),
-            Instr::Lh { rt, rs, immediate } => self.load_half(rt, rs, immediate, memory),
-            Instr::Lwl { rt, rs, immediate } => self.load_left(rt, rs, immediate, memory),
-            Instr::Lw { rt, rs, immediate } => self.load_whole(rt, rs, immediate, memory),
-            Instr::Lbu { rt, rs, immediate } => self.load_byte_unsigned(rt, rs, immediate, memory),
-            Instr::Lhu { rt, rs, immediate } => self.load_half_unsigned(rt, rs, immediate, memory),
-            Instr::Lwr { rt, rs, immediate } => self.load_right(rt, rs, immediate, memory),
-            Instr::Sb { rt, rs, immediate } => self.store_byte(rt, rs, immediate, memory),
-            Instr::Sh { rt, rs, immediate } => self.store_half(rt, rs, immediate, memory),
-            Instr::Swl { rt, rs, immediate } => self.store_left(rt, rs, immediate, memory),
-            Instr::Sw { rt, rs, immediate } => self.store_whole(rt, rs, immediate, memory),
-            Instr::Swr { rt, rs, immediate } => self.store_right(rt, rs, immediate, memory),
+            Instr::Lb { rt, rs, immediate } => self.load_byte(rt, rs, immediate, memory, windows),
+            Instr::Lh { rt, rs, immediate } => self.load_half(rt, rs, immediate, memory, windows),
+            Instr::Lwl { rt, rs, immediate } => self.load_left(rt, rs, immediate, memory, windows),
+            Instr::Lw { rt, rs, immediate } => self.load_whole(rt, rs, immediate, memory, windows),
+            Instr::Lbu { rt, rs, immediate } => self.load_byte_unsigned(
+                rt, rs, immediate, memory, windows,
+            ),
+            Instr::Lhu { rt, rs, immediate } => self.load_half_unsigned(
+                rt, rs, immediate, memory, windows,
+            ),
+            Instr::Lwr { rt, rs, immediate } => self.load_right(rt, rs, immediate, memory, windows),
+            Instr::Sb { rt, rs, immediate } => self.store_byte(rt, rs, immediate, memory, windows),
+            Instr::Sh { rt, rs, immediate } => self.store_half(rt, rs, immediate, memory, windows),
+            Instr::Swl { rt, rs, immediate } => self.store_left(rt, rs, immediate, memory, windows),
+            Instr::Sw { rt, rs, immediate } => self.store_whole(rt, rs, immediate, memory, windows),
+            Instr::Swr { rt, rs, immediate } => self.store_right(
+                rt, rs, immediate, memory, windows,
+            ),
             Instr::Mfc0 { .. }
             | Instr::Mtc0 { .. }
             | Instr::Tlbr

@@ -5,13 +5,12 @@ ghost use Rattle.ds_procs.specs.declared.process.Standing.TheVariants.{Ready};
 ghost use Rattle.ds_procs.specs.declared.call.Call.{Call};
 ghost use Rattle.ds_procs.specs.Calls.{call_of};
 ghost use Rattle.ds_tlb.specs.Entries.{empty_entries};
-ghost use Rattle.ds_policy.specs.declared.access.Kind.TheVariants.{Fetch};
 ghost use Rattle.ds_station.specs.Parts.{held, HasRoom};
 ghost use Rattle.ds_station.specs.Services as services;
-ghost use Rattle.ds_station.specs.Windows.{IsRight};
+ghost use Rattle.ds_station.specs.Windows.{AreRight};
 
 use crate::parts::{Parts, Step};
-use crate::processor::window::Window;
+use crate::processor::window::Windows;
 use ds_procs::{Call, Standing};
 use ds_tlb::{Entry, Lookaside};
 use ds_word::wrapping_sum;
@@ -38,12 +37,12 @@ impl<L: Lookaside> Parts<L> {
         ensures step { result ≡ Step.Unit }
         ensures held { held L.entries L.random_place self.new ≡ services.exited (held L.entries L.random_place self.old) }
         ensures closed { self.new.has_room ≡ self.old.has_room }
-        ensures code { IsRight (L.entries self.new.core.tlb) Fetch self.new.code }
+        ensures windows { AreRight (L.entries self.new.core.tlb) self.new.windows }
     {
         self.process.state = Standing::Ended;
         self.table.clear(1);
         flush(&mut self.core.tlb);
-        self.code = Window::none();
+        self.windows = Windows::none();
         self.core.kernel = false;
         self.end_unit(1)
     }
@@ -56,7 +55,7 @@ impl<L: Lookaside> Parts<L> {
         ensures held { held L.entries L.random_place self.new ≡ services.answered_held (held L.entries L.random_place self.old) (held L.entries L.random_place self.old).outside.consoles value }
         ensures closed { self.new.has_room ≡ self.old.has_room }
         ensures buffer { self.new.core.tlb ≡ self.old.core.tlb }
-        ensures code { self.new.code ≡ self.old.code }
+        ensures windows { self.new.windows ≡ self.old.windows }
     {
         self.core.registers[2] = value;
         self.back(wrapping_sum(self.core.epc, 4));
@@ -70,10 +69,10 @@ impl<L: Lookaside> Parts<L> {
         requires early { self.old.time < 1000000000 }
         requires lines { self.old.lines ≤ self.old.time }
         requires one { length self.old.table ≡ 1 }
-        requires code { IsRight (L.entries self.old.core.tlb) Fetch self.old.code }
+        requires windows { AreRight (L.entries self.old.core.tlb) self.old.windows }
         ensures step { result ≡ Step.Unit }
         ensures closed { self.new.has_room ≡ false }
-        ensures code { IsRight (L.entries self.new.core.tlb) Fetch self.new.code }
+        ensures windows { AreRight (L.entries self.new.core.tlb) self.new.windows }
         ensures held { (call : Call) → call ≡ call_of self.old.core.registers → held L.entries L.random_place self.new ≡ services.called_or_fault self.old.core.delayed (held L.entries L.random_place self.old) call }
     {
         if self.core.delayed {

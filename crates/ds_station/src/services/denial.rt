@@ -48,7 +48,7 @@ impl<L: Lookaside> Parts<L> {
         ensures held { held L.entries L.random_place self.new ≡ services.denied_held (held L.entries L.random_place self.old) kind address rule code }
         ensures closed { self.new.has_room ≡ false }
         ensures buffer { self.new.core.tlb ≡ self.old.core.tlb }
-        ensures code { self.new.code ≡ self.old.code }
+        ensures windows { self.new.windows ≡ self.old.windows }
     {
         let line = Line::Denial {
             time: self.time,
@@ -78,7 +78,7 @@ impl<L: Lookaside> Parts<L> {
         ensures held { held L.entries L.random_place self.new ≡ services.fault_held (held L.entries L.random_place self.old) code }
         ensures closed { self.new.has_room ≡ false }
         ensures buffer { self.new.core.tlb ≡ self.old.core.tlb }
-        ensures code { self.new.code ≡ self.old.code }
+        ensures windows { self.new.windows ≡ self.old.windows }
     {
         self.deny(Denied::Exec, self.own_address(), Rule::I, code)
     }

@@ -3,14 +3,13 @@ ghost use Rattle.std.specs.Prelude.{◌≡◌, ◌<◌, ◌≤◌, length, true}
 ghost use Rattle.ds_policy.specs.declared.access.Verdict.{Verdict};
 ghost use Rattle.ds_policy.specs.Pages.{decide};
 ghost use Rattle.ds_pagemap.specs.Unit.{denied_as};
-ghost use Rattle.ds_policy.specs.declared.access.Kind.TheVariants.{Fetch};
 ghost use Rattle.ds_station.specs.Parts.{held, HasRoom};
 ghost use Rattle.ds_station.specs.Services as services;
-ghost use Rattle.ds_station.specs.Windows.{IsRight};
+ghost use Rattle.ds_station.specs.Windows.{AreRight};
 
 use crate::parts::{Parts, Step};
 use crate::processor::ASID;
-use crate::processor::window::Window;
+use crate::processor::window::Windows;
 use ds_log::Denied;
 use ds_policy::{Access, Kind, Right, Verdict};
 use ds_tlb::{Entry, Lookaside};
@@ -59,8 +58,8 @@ impl<L: Lookaside> Parts<L> {
     fn fill(&mut self, page: u32)
         requires { length self.old.table ≡ 1 }
         ensures held { held L.entries L.random_place self.new ≡ services.filled_held (held L.entries L.random_place self.old) page }
-        ensures rest { self.new ≡ record self.old { core = self.new.core; code = self.new.code } }
-        ensures code { IsRight (L.entries self.new.core.tlb) Fetch self.new.code }
+        ensures rest { self.new ≡ record self.old { core = self.new.core; windows = self.new.windows } }
+        ensures windows { AreRight (L.entries self.new.core.tlb) self.new.windows }
     {
         let entry = Entry {
             vpn: self.core.bad / 4096,
@@ -72,7 +71,7 @@ impl<L: Lookaside> Parts<L> {
             g: false,
         };
         refill(&mut self.core.tlb, entry);
-        self.code = Window::none();
+        self.windows = Windows::none();
         self.core.registers[26] = 0;
         self.core.registers[27] = self.core.epc;
         self.core.late = None;
@@ -85,10 +84,9 @@ impl<L: Lookaside> Parts<L> {
         requires early { self.old.time < 1000000000 }
         requires lines { self.old.lines ≤ self.old.time }
         requires one { length self.old.table ≡ 1 }
-        requires code { IsRight (L.entries self.old.core.tlb) Fetch self.old.code }
         ensures room { 0 < self.new.spent → HasRoom self.new }
         ensures roomy { self.new.has_room ≡ true → HasRoom self.new }
-        ensures code { IsRight (L.entries self.new.core.tlb) Fetch self.new.code }
+        ensures windows { AreRight (L.entries self.old.core.tlb) self.old.windows → AreRight (L.entries self.new.core.tlb) self.new.windows }
         ensures held { (v : Verdict) → v ≡ decide self.old.table 1 access.kind access.size self.old.core.bad → (held L.entries L.random_place self.new ≡ services.by_verdict (held L.entries L.random_place self.old) access v) × (result ≡ services.step_by v) }
     {
         match self.table.decide(1, access, self.core.bad) {

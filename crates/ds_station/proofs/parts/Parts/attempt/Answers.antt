@@ -31,5 +31,5 @@ returns-clause-good g c =
       orderly = rw e.0 (event_orderly h c.requires.busy.good.orderly c.requires.busy.working t refl c.requires.busy.begun c.requires.user);
       room = λ b. c.execute.ensures.room;
       roomy = λ b. c.execute.ensures.room;
-      code = c.execute.ensures.code;
+      windows = c.execute.ensures.windows;
     }

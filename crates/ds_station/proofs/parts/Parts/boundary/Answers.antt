@@ -13,4 +13,4 @@ returns-clause-moves g c = bounded_moves (held g.L.Lookaside.entries g.L.Lookasi
 pub returns-clause-good : goal.returns-clause-good
 returns-clause-good g c =
     let h = held g.L.Lookaside.entries g.L.Lookaside.random_place c.args.self.now in
-    record { sound = sound_after Boundary h _ c.requires.good.sound (returns-clause-follows g c); orderly = bounded_orderly h c.requires.good.orderly; room = λ b. (let r = c.requires.good.room b in record { consoles = r.consoles; log = r.log }); roomy = λ b. (let r = c.requires.good.roomy b in record { consoles = r.consoles; log = r.log }); code = c.requires.good.code }
+    record { sound = sound_after Boundary h _ c.requires.good.sound (returns-clause-follows g c); orderly = bounded_orderly h c.requires.good.orderly; room = λ b. (let r = c.requires.good.room b in record { consoles = r.consoles; log = r.log }); roomy = λ b. (let r = c.requires.good.roomy b in record { consoles = r.consoles; log = r.log }); windows = c.requires.good.windows }

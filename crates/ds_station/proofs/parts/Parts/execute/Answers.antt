@@ -1,17 +1,16 @@
 use Rattle.std.proofs.Common.{◌≡◌, List, sym, ap, subst, ◌∙◌}
-use Rattle.ds_policy.specs.declared.access.Kind.TheVariants.{Fetch}
 use Rattle.ds_tlb.specs.declared.entry.Entry.{Entry}
 use Rattle.ds_station.specs.Processor.{Stepped}
-use Rattle.ds_station.specs.Windows.{IsRight}
+use Rattle.ds_station.specs.Windows.{AreRight}
 use Rattle.ds_station.proofs.Windows.{step_entries}
 use Rattle.ds_station.proofs.parts.Parts.execute.Goals as goal
 
-pub returns-in-Retired-clause-code : goal.returns-in-Retired-clause-code
-returns-in-Retired-clause-code g c =
+pub returns-in-Retired-clause-windows : goal.returns-in-Retired-clause-windows
+returns-in-Retired-clause-windows g c =
     let same : g.L.Lookaside.entries c.step.new.self.tlb ≡ g.L.Lookaside.entries c.args.self.now.core.tlb = ap (λ (s : Stepped). s.cpu.entries) c.step.ensures.stepped ∙ step_entries _ _ in
-    rw c.end_unit.ensures.rest (subst (λ (es : List Entry). IsRight es Fetch c.step.new.code) (sym same) c.step.ensures.right)
+    rw c.end_unit.ensures.rest (subst (λ (es : List Entry). AreRight es c.step.new.windows) (sym same) c.step.ensures.right)
 
-pub returns-in-Branched-clause-code : goal.returns-in-Branched-clause-code
-returns-in-Branched-clause-code g c =
+pub returns-in-Branched-clause-windows : goal.returns-in-Branched-clause-windows
+returns-in-Branched-clause-windows g c =
     let same : g.L.Lookaside.entries c.step.new.self.tlb ≡ g.L.Lookaside.entries c.args.self.now.core.tlb = ap (λ (s : Stepped). s.cpu.entries) c.step.ensures.stepped ∙ step_entries _ _ in
-    subst (λ (es : List Entry). IsRight es Fetch c.step.new.code) (sym same) c.step.ensures.right
+    subst (λ (es : List Entry). AreRight es c.step.new.windows) (sym same) c.step.ensures.right

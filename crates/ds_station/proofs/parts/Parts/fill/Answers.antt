@@ -1,5 +1,4 @@
-use Rattle.ds_policy.specs.declared.access.Kind.TheVariants.{Fetch}
 use Rattle.ds_station.proofs.parts.Parts.fill.Goals as goal
 
-pub returns-clause-code : goal.returns-clause-code
-returns-clause-code g c = rw c.back.ensures.rest (c.none-self.ensures _ Fetch)
+pub returns-clause-windows : goal.returns-clause-windows
+returns-clause-windows g c = rw c.back.ensures.rest (c.none-self.ensures _)

@@ -3,7 +3,6 @@ use Rattle.std.specs.List.{All}
 use Rattle.std.proofs.lemmas.List.Elements.{All-head}
 use Rattle.ds_policy.specs.declared.policy.PolicyProcess.{PolicyProcess}
 use Rattle.ds_policy.specs.PolicyFacts.{IsGoodProcess}
-use Rattle.ds_policy.specs.declared.access.Kind.TheVariants.{Fetch}
 use Rattle.ds_tlb.specs.declared.entry.Entry.{Entry}
 use Rattle.ds_station.specs.Start.{first_cpu}
 use Rattle.ds_station.proofs.Firsts.{first_stands, only_one}
@@ -33,5 +32,5 @@ returns-clause-first g c =
       owed = refl;
     })
 
-pub returns-clause-code : goal.returns-clause-code
-returns-clause-code g c = c.none.ensures _ Fetch
+pub returns-clause-windows : goal.returns-clause-windows
+returns-clause-windows g c = c.none.ensures _

@@ -25,5 +25,5 @@ returns-clause-good g c =
       orderly = subst IsOrderly (sym (rw owed (ap idled c.reserve.ensures.held))) (idled_orderly h c.requires.good.orderly);
       room = λ b. record { consoles = r.consoles; log = r.log };
       roomy = λ b. record { consoles = r.consoles; log = r.log };
-      code = rw c.reserve.ensures.rest c.requires.good.code;
+      windows = rw c.reserve.ensures.rest c.requires.good.windows;
     }

@@ -37,7 +37,7 @@ returns-in-Access-clause-good g c =
       orderly = rw e.0 (verdict_orderly h c.requires.busy.good.orderly c.requires.busy.working c.in-Access.access v);
       room = c.miss.ensures.room;
       roomy = c.miss.ensures.roomy;
-      code = c.miss.ensures.code;
+      windows = c.miss.ensures.windows c.requires.busy.good.windows;
     }
 
 pub returns-in-Fault-clause-follows : goal.returns-in-Fault-clause-follows
@@ -58,7 +58,7 @@ returns-in-Fault-clause-good g c =
       orderly = rw c.fault.ensures.held (denied_orderly h c.requires.busy.good.orderly c.requires.busy.working Exec (own_address h.cpu) I c.in-Fault.code);
       room = λ b. (let none : c.fault.new.self.spent ≡ 0 = ap (λ (x : Held). x.own.spent) c.fault.ensures.held in absurd (omega arith));
       roomy = λ b. (let no : false ≡ true = sym c.fault.ensures.closed ∙ b in absurd (cc));
-      code = rw (c.fault.ensures.buffer, c.fault.ensures.code) c.requires.busy.good.code;
+      windows = rw (c.fault.ensures.buffer, c.fault.ensures.windows) c.requires.busy.good.windows;
     }
 
 pub returns-in-Call-clause-follows : goal.returns-in-Call-clause-follows
@@ -82,5 +82,5 @@ returns-in-Call-clause-good g c =
       orderly = rw (c.call.ensures.held call refl) (called_or_fault_orderly h c.requires.busy.good.orderly c.requires.busy.working h.cpu.delayed call);
       room = λ b. (let none : c.call.new.self.spent ≡ 0 = ap (λ (x : Held). x.own.spent) (c.call.ensures.held call refl) ∙ (called_or_fault_moves h.cpu.delayed h call (c.requires.busy.good.orderly.begun c.requires.busy.begun) (c.requires.busy.good.orderly.first c.requires.kernel)).3 in absurd (omega arith));
       roomy = λ b. (let no : false ≡ true = sym c.call.ensures.closed ∙ b in absurd (cc));
-      code = c.call.ensures.code;
+      windows = c.call.ensures.windows;
     }
