@@ -15,6 +15,7 @@ pub record IsRight (entries : List Entry) (kind : Kind) (w : Window) : Type 0 wh
   pub whole : w.start % 4096 ≡ 0
   pub lets : (size : Size) (offset : ℕ) → offset < 4096 → w.start + offset < 2 ^ 32 → is_aligned size offset ≡ true → translate entries kind size (w.start + offset) ≡ Some (w.base + offset)
 
+-- each of the windows is right for the accesses of its kind
 pub record AreRight (entries : List Entry) (w : Windows) : Type 0 where
   pub code : IsRight entries Fetch w.code
   pub loads : IsRight entries Load w.loads

@@ -51,57 +51,6 @@ impl<L: Lookaside> Station<L> {
         Ok(self.advance()?)
     }
 
-    /// As `step`, with why it halted as it is.
-    #[inline(always)]
-    fn advance(&mut self) -> Result<Step, Halt>
-        requires { self.old.outside.owed ≡ None → self.old.outside.time < 1000000000 }
-        ensures ok { IfOk result (λ step. Follows step self.old self.new) }
-        ensures moves { IfOk result (λ step. Moves step self.old self.new) }
-        ensures sound { IsSound self.new }
-        ensures err { OnErr result (Stays self.old self.new) }
-        ensures faults { IfErr result (λ halt. IsFaultAfter self.old.own.failed (fault_of halt)) }
-        ensures whole { OnErr result (self.new.outside.owed ≡ None) }
-        ensures failed { OnErr result (self.new.own.failed ≡ true) }
-        ensures again { self.old.own.failed ≡ true → IsErrOf result Halt.Failed × (self.new ≡ self.old) }
-    {
-        let _ = &self.parts;
-        self.parts.step()
-    }
-
-    /// The boundary that is owed.
-    #[inline(always)]
-    fn bound(&mut self)
-        requires { IsSome self.old.outside.owed }
-        ensures follows { Follows Step.Boundary self.old self.new }
-        ensures moves { Moves Step.Boundary self.old self.new }
-        ensures sound { IsSound self.new }
-    {
-        let _ = &self.parts;
-        self.parts.boundary();
-    }
-
-    /// As `advance`; behind a unit its boundary is done at once.
-    #[inline(always)]
-    fn go(&mut self) -> Result<Step, Halt>
-        requires { self.old.outside.owed ≡ None → self.old.outside.time < 1000000000 }
-        ensures ok { IfOk result (λ step. Goes step self.old self.new) }
-        ensures sound { IsSound self.new }
-        ensures err { OnErr result (Stays self.old self.new) }
-        ensures faults { IfErr result (λ halt. IsFaultAfter self.old.own.failed (fault_of halt)) }
-        ensures whole { OnErr result (self.new.outside.owed ≡ None) }
-        ensures failed { OnErr result (self.new.own.failed ≡ true) }
-    {
-        match self.advance()? {
-            Step::Inside => Ok(Step::Inside),
-            Step::Unit => {
-                self.bound();
-                Ok(Step::Unit)
-            }
-            Step::Boundary => Ok(Step::Boundary),
-            Step::Over => Ok(Step::Over),
-        }
-    }
-
     /// The text of a console line, from 0.
     pub fn console(&self, line: usize) -> &[u8]
         requires { line < 4 }
@@ -142,18 +91,6 @@ impl<L: Lookaside> Station<L> {
         self.parts.spent
     }
 
-    /// Whether a run for n ticks goes on.
-    #[inline(always)]
-    fn goes_on(&self, n: u64) -> bool
-        ensures { result ≡ held_goes_on n self.now }
-    {
-        let ended = match self.parts.process.state {
-            Standing::Ended => true,
-            Standing::Ready | Standing::Waiting | Standing::Parked => false,
-        };
-        self.parts.owed.is_some() || self.time() < n && !ended
-    }
-
     /// Does the boundary that is owed, if one is, and then runs until the time is n or the process
     /// has ended. After a failure it answers `Failed`, and nothing changes.
     pub fn run(&mut self, n: u64) -> Result<(), Fault>
@@ -173,5 +110,68 @@ impl<L: Lookaside> Station<L> {
             self.go()?;
         }
         Ok(())
+    }
+
+    /// As `step`, with why it halted as it is.
+    #[inline(always)]
+    fn advance(&mut self) -> Result<Step, Halt>
+        requires { self.old.outside.owed ≡ None → self.old.outside.time < 1000000000 }
+        ensures ok { IfOk result (λ step. Follows step self.old self.new) }
+        ensures moves { IfOk result (λ step. Moves step self.old self.new) }
+        ensures sound { IsSound self.new }
+        ensures err { OnErr result (Stays self.old self.new) }
+        ensures faults { IfErr result (λ halt. IsFaultAfter self.old.own.failed (fault_of halt)) }
+        ensures whole { OnErr result (self.new.outside.owed ≡ None) }
+        ensures failed { OnErr result (self.new.own.failed ≡ true) }
+        ensures again { self.old.own.failed ≡ true → IsErrOf result Halt.Failed × (self.new ≡ self.old) }
+    {
+        let _ = &self.parts;
+        self.parts.step()
+    }
+
+    /// Whether a run for n ticks goes on.
+    #[inline(always)]
+    fn goes_on(&self, n: u64) -> bool
+        ensures { result ≡ held_goes_on n self.now }
+    {
+        let ended = match self.parts.process.state {
+            Standing::Ended => true,
+            Standing::Ready | Standing::Waiting | Standing::Parked => false,
+        };
+        self.parts.owed.is_some() || self.time() < n && !ended
+    }
+
+    /// As `advance`; behind a unit its boundary is done at once.
+    #[inline(always)]
+    fn go(&mut self) -> Result<Step, Halt>
+        requires { self.old.outside.owed ≡ None → self.old.outside.time < 1000000000 }
+        ensures ok { IfOk result (λ step. Goes step self.old self.new) }
+        ensures sound { IsSound self.new }
+        ensures err { OnErr result (Stays self.old self.new) }
+        ensures faults { IfErr result (λ halt. IsFaultAfter self.old.own.failed (fault_of halt)) }
+        ensures whole { OnErr result (self.new.outside.owed ≡ None) }
+        ensures failed { OnErr result (self.new.own.failed ≡ true) }
+    {
+        match self.advance()? {
+            Step::Inside => Ok(Step::Inside),
+            Step::Unit => {
+                self.bound();
+                Ok(Step::Unit)
+            }
+            Step::Boundary => Ok(Step::Boundary),
+            Step::Over => Ok(Step::Over),
+        }
+    }
+
+    /// The boundary that is owed.
+    #[inline(always)]
+    fn bound(&mut self)
+        requires { IsSome self.old.outside.owed }
+        ensures follows { Follows Step.Boundary self.old self.new }
+        ensures moves { Moves Step.Boundary self.old self.new }
+        ensures sound { IsSound self.new }
+    {
+        let _ = &self.parts;
+        self.parts.boundary();
     }
 }
