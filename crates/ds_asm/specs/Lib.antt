@@ -8,4 +8,5 @@ pub mod Plain
 pub mod Assembly
 pub mod Assembling
 pub mod Images
+pub mod OnLiterals
 pub mod Worked

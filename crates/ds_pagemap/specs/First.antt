@@ -1,5 +1,5 @@
 -- The state that a run begins with.
-use Rattle.std.specs.Prelude.{ℕ, zero, suc, ◌+◌, ◌-◌, ◌*◌, List, [], ◌∷◌, ◌++◌, length, take, drop, map, replicate, slice_index_or, bytes_eq, position, Option, Some, None}
+use Rattle.std.specs.Prelude.{ℕ, zero, suc, ◌+◌, ◌-◌, List, [], ◌∷◌, ◌++◌, length, map, replicate, slice_index_or, bytes_eq, position, Option, Some, None}
 use Rattle.ds_procs.specs.declared.process.Standing.TheVariants.{Ready}
 use Rattle.ds_isa.specs.Registers.{zero_registers}
 use Rattle.ds_policy.specs.declared.policy.PolicyProcess.{PolicyProcess}
@@ -9,11 +9,8 @@ use Rattle.ds_policy.specs.Value.{PolicyValue, InputValue}
 use Rattle.ds_policy.specs.Pages.{Pages}
 use Rattle.ds_policy.specs.FirstTable.{table_of}
 use Rattle.ds_policy.specs.PolicyParts.{sources_of}
+use Rattle.ds_asm.specs.Images.{part_of}
 use Rattle.ds_pagemap.specs.Machine.{State, Process}
-
--- part k of an image, a page long: zeros past its end
-abbrev pub part_of : List ℕ → ℕ → List ℕ
-part_of image k = take 4096 (drop (4096 * k) image ++ replicate 4096 0)
 
 -- the image at a place
 abbrev pub image_at : List (List ℕ) → Option ℕ → List ℕ

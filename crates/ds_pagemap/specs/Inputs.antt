@@ -5,9 +5,9 @@ use Rattle.ds_policy.specs.Refusal.{PolicyRefusal, bad_toml, limit, bad_rule}
 use Rattle.ds_policy.specs.PolicyParts.{sources_of}
 use Rattle.ds_policy.specs.PolicyText.{policy_of}
 use Rattle.ds_policy.specs.InputText.{input_of}
+use Rattle.ds_asm.specs.Assembly.{Fault, assembled}
+use Rattle.ds_asm.specs.Assembly as source
 use Rattle.ds_pagemap.specs.Machine.{State}
-use Rattle.ds_pagemap.specs.Image.{Fault, image_of}
-use Rattle.ds_pagemap.specs.Image as image
 use Rattle.ds_pagemap.specs.First.{first_state}
 
 -- why there is no first state
@@ -16,8 +16,11 @@ pub data Refusal : Type 0 where
   Limit : (name : List ℕ) → Refusal
   BadRule : (number : ℕ) → Refusal
   NoSource : (name : List ℕ) → Refusal
-  -- a fault of the source of this name, in this line
+  -- faults of the source of this name, in this line
   Syntax : (name : List ℕ) (line : ℕ) → Refusal
+  UnknownLabel : (name : List ℕ) (line : ℕ) → Refusal
+  DoubleLabel : (name : List ℕ) (line : ℕ) → Refusal
+  Range : (name : List ℕ) (line : ℕ) → Refusal
   TooLong : (name : List ℕ) (line : ℕ) → Refusal
   InputFault : (line : ℕ) → Refusal
   BadRandom : Refusal
@@ -55,15 +58,18 @@ text_named [] name = None
 text_named (source ∷ rest) name = if bytes_eq source.0 name then Some source.1 else text_named rest name
 
 -- an image, or its refusal as one of these
-abbrev pub assembled : List ℕ → Result (List ℕ) Fault → Result (List ℕ) Refusal
-assembled name (Ok bytes) = Ok bytes
-assembled name (Err (image.Syntax line)) = Err (Syntax name line)
-assembled name (Err (image.TooLong line)) = Err (TooLong name line)
+abbrev pub source_read : List ℕ → Result (List ℕ) Fault → Result (List ℕ) Refusal
+source_read name (Ok bytes) = Ok bytes
+source_read name (Err (source.Syntax line)) = Err (Syntax name line)
+source_read name (Err (source.UnknownLabel line)) = Err (UnknownLabel name line)
+source_read name (Err (source.DoubleLabel line)) = Err (DoubleLabel name line)
+source_read name (Err (source.Range line)) = Err (Range name line)
+source_read name (Err (source.TooLong line)) = Err (TooLong name line)
 
 -- the image of a source's text, if there is one
 abbrev pub image_read : List ℕ → Option (List ℕ) → Result (List ℕ) Refusal
 image_read name None = Err (NoSource name)
-image_read name (Some text) = assembled name (image_of text)
+image_read name (Some text) = source_read name (assembled text)
 
 -- the images done, and those of the sources of these names, in order
 unfoldable pub images_from : Sources → List (List ℕ) → List (List ℕ) → Result (List (List ℕ)) Refusal

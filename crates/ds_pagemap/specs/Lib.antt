@@ -4,7 +4,6 @@ pub mod Unit
 pub mod Boundary
 pub mod Run
 pub mod Text
-pub mod Image
 pub mod First
 pub mod Inputs
 pub mod Laws

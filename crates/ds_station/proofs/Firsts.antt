@@ -21,7 +21,8 @@ use Rattle.ds_policy.specs.Value.{PolicyValue}
 use Rattle.ds_policy.specs.PolicyFacts.{IsGoodRule}
 use Rattle.ds_policy.specs.PolicyParts.{sources_of}
 use Rattle.ds_policy.specs.FirstTable.{granted_by, with_rule, with_rules, table_of}
-use Rattle.ds_pagemap.specs.First.{part_of, source_bytes, image_at, image_named, first_pages, first_process, numbers, first_state}
+use Rattle.ds_asm.specs.Images.{part_of}
+use Rattle.ds_pagemap.specs.First.{source_bytes, image_at, image_named, first_pages, first_process, numbers, first_state}
 use Rattle.ds_station.specs.Frames.{FramesHold}
 use Rattle.ds_station.specs.Start.{no_input, first_cpu, first_saved, bytes_of_pages, first_frames}
 use Rattle.ds_tlb.specs.declared.entry.Entry.{Entry}

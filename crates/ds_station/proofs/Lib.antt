@@ -13,7 +13,6 @@ pub mod Runs
 pub mod Headlines
 pub mod NamedTexts
 pub mod Preparing
-pub mod Images
 pub mod Reports
 pub mod Sends
 pub mod Firsts

@@ -32,6 +32,9 @@ refuses_then fault.Failed read next r = r
 refuses_then fault.WriteFault read next r = r
 refuses_then fault.BadRandom read next r = ap (λ x. x >>= next) r
 refuses_then (fault.Syntax name line) read next r = ap (λ x. x >>= next) r
+refuses_then (fault.UnknownLabel name line) read next r = ap (λ x. x >>= next) r
+refuses_then (fault.DoubleLabel name line) read next r = ap (λ x. x >>= next) r
+refuses_then (fault.Range name line) read next r = ap (λ x. x >>= next) r
 refuses_then (fault.TooLong name line) read next r = ap (λ x. x >>= next) r
 refuses_then fault.BadToml read next r = ap (λ x. x >>= next) r
 refuses_then (fault.BadRule number) read next r = ap (λ x. x >>= next) r

@@ -11,7 +11,6 @@ pub mod Steps
 pub mod Sound
 pub mod Sent
 pub mod Report
-pub mod Assembling
 pub mod Faults
 pub mod Halts
 pub mod Headline

@@ -7,12 +7,11 @@ ghost use Rattle.ds_station.specs.Headline.{Writes, Begins, Reads, Refuses, Ends
 ghost use Rattle.ds_station.specs.Sent.{AppendsPart};
 ghost use Rattle.ds_station.specs.Stands.{Stands};
 
-use crate::assembler::assemble;
 use crate::fault::Fault;
-use crate::image::Image;
 use crate::report::send_report;
 use crate::station::Station;
 use crate::writes::WriteFailed;
+use ds_asm::{Image, assemble};
 use ds_policy::{Events, Policy, Text};
 use ds_tlb::{Indexed, Lookaside};
 use std::alloc::Global;

@@ -1,7 +1,8 @@
 //! The beginning of a run: the named pages in their frames, and the process at its start.
 ghost use Rattle.std.specs.Prelude.{◌≡◌, ◌≢◌, ◌*◌, ◌<◌, ◌≤◌, ◌⊎◌, ◌∷◌, [], length, replicate, position, bytes_eq, IfSome, IfOk, IfErr, IsErrOf, None, false};
 ghost use Rattle.ds_policy.specs.PolicyParts.{sources_of};
-ghost use Rattle.ds_pagemap.specs.First.{part_of, image_named, source_bytes, first_state};
+ghost use Rattle.ds_asm.specs.Images.{part_of};
+ghost use Rattle.ds_pagemap.specs.First.{image_named, source_bytes, first_state};
 ghost use Rattle.ds_station.specs.Start.{no_input, first_cpu, bytes_of_pages, padded, first_frames};
 ghost use Rattle.ds_station.specs.Processor.{cpu_of};
 ghost use Rattle.ds_station.specs.Parts.{held};
@@ -12,12 +13,12 @@ ghost use Rattle.ds_tlb.specs.Entries.{empty_entries};
 
 use crate::consoles::Consoles;
 use crate::fault::Fault;
-use crate::image::Image;
 use crate::parts::Parts;
 use crate::processor::memo::Memo;
 use crate::processor::window::Windows;
 use crate::processor::{Cause, Core};
 use crate::station::Station;
+use ds_asm::Image;
 use ds_policy::{Events, Policy, PolicyPage, PolicyProcess, Source, Table, Text};
 use ds_procs::Process;
 use ds_tlb::Lookaside;

@@ -1,13 +1,11 @@
 //! The monitor: it runs processes on the processor under a page policy.
 #![tactic(auto)]
 
-mod assembler;
 mod consoles;
 mod fault;
 mod files;
 mod first;
 mod halt;
-mod image;
 mod laws;
 mod memory;
 mod parts;
@@ -19,10 +17,8 @@ mod step;
 mod turn;
 mod writes;
 
-pub use assembler::{AsmFault, assemble};
 pub use fault::Fault;
 pub use files::run_files;
-pub use image::Image;
 pub use parts::Step;
 pub use station::Station;
 

@@ -11,6 +11,18 @@ fn a_fault_is_told_by_its_number_and_name_and_what_it_carries(rt: HostRuntime) -
             "3 Syntax one.s 2",
         ),
         (
+            Fault::in_source(&name, AsmFault::UnknownLabel(1)),
+            "4 UnknownLabel one.s 1",
+        ),
+        (
+            Fault::in_source(&name, AsmFault::DoubleLabel(7)),
+            "5 DoubleLabel one.s 7",
+        ),
+        (
+            Fault::in_source(&name, AsmFault::Range(4_294_967_296)),
+            "6 Range one.s 4294967296",
+        ),
+        (
             Fault::in_source(&name, AsmFault::TooLong(16385)),
             "7 TooLong one.s 16385",
         ),

@@ -1,6 +1,6 @@
 //! Instructions carried out by a guest that prints what comes. The results of `arithmetic`,
-//! `products` and `memory` are those of qemu-mipsel 7.2 on the same words, assembled by GNU as
-//! 2.40 with `-march=r3000`.
+//! `products` and `memory` are those of qemu-mipsel 7.2 on the words that GNU as 2.40 makes of the
+//! same texts with `-march=r3000`.
 
 mod arithmetic;
 mod memory;
@@ -10,32 +10,46 @@ mod worked;
 use super::rows::WRITE_DATA;
 use super::*;
 
-/// What an instruction is given, the words that leave its result in register 10, and the result in
+/// What an instruction is given, the text that leaves its result in register 10, and the result in
 /// hexadecimal digits.
 pub type Case = (&'static str, &'static str, &'static str);
 
 /// The guest's beginning: behind a jump to the cases, a routine that puts register 8 as eight
 /// hexadecimal digits and a line feed.
-const PRINTER: &str = "\
-.word 0x08100013\n.word 0x00000000\n.word 0x24100008\n\
-.word 0x00082702\n.word 0x2C91000A\n.word 0x16200002\n\
-.word 0x00084100\n.word 0x24840007\n.word 0x24840030\n\
-.word 0x24020001\n.word 0x0000000C\n.word 0x2610FFFF\n\
-.word 0x1600FFF6\n.word 0x00000000\n.word 0x2404000A\n\
-.word 0x24020001\n.word 0x0000000C\n.word 0x03E00008\n\
-.word 0x00000000\n";
+const PRINTER: &str = "
+        j     cases
+        nop
+print:  addiu $16,$0,8
+digit:  srl   $4,$8,28
+        sltiu $17,$4,10
+        bne   $17,$0,put
+        sll   $8,$8,4
+        addiu $4,$4,7
+put:    addiu $4,$4,48
+        addiu $2,$0,1
+        syscall
+        addiu $16,$16,-1
+        bne   $16,$0,digit
+        nop
+        addiu $4,$0,10
+        addiu $2,$0,1
+        syscall
+        jr    $31
+        nop
+cases:
+";
 
 /// Calls the routine, with register 10 moved to register 8 in the delay slot.
-const PRINT: &str = ".word 0x0C100002\n.word 0x01404021\n";
+const PRINT: &str = "jal print\naddu $8,$10,$0\n";
 
 /// Exits.
-const EXIT: &str = ".word 0x24020000\n.word 0x0000000C\n";
+const EXIT: &str = "addiu $2,$0,0\nsyscall\n";
 
 /// The guest of some cases.
 fn guest(alloc: Global, cases: &[Case]) -> Result<String, Fail> {
     let mut source = joined(alloc, &[PRINTER])?;
-    for (_, words, _) in cases {
-        source.push_str(words)?;
+    for (_, text, _) in cases {
+        source.push_str(text)?;
         source.push_str(PRINT)?;
     }
     source.push_str(EXIT)?;

@@ -2,7 +2,8 @@
 ghost use Rattle.std.specs.Prelude.{◌≤◌};
 
 use super::*;
-use crate::{Fault, Station, Step, assemble};
+use crate::{Fault, Station, Step};
+use ds_asm::assemble;
 use ds_policy::{Events, Policy};
 use ds_tlb::Tlb;
 use std::io;
@@ -29,6 +30,10 @@ impl Write for Held {
     }
 }
 
+/// Puts the byte 41 and exits; its label takes memory too.
+const LABELLED: &str =
+    "put: addiu $4,$0,65\naddiu $2,$0,1\nsyscall\naddiu $2,$0,0\nsyscall\n";
+
 /// The policy's text, if there is memory for it.
 fn policy_text(alloc: Global) -> Option<String> {
     let mut text = String::new(alloc);
@@ -43,7 +48,7 @@ fn one_byte(alloc: Global) -> Option<Station<Tlb<64, 8>>> {
     let text = policy_text(alloc)?;
     let policy = Policy::read(alloc, text.as_bytes()).ok()?;
     let mut images = Vec::new(alloc);
-    images.push(assemble(alloc, PUT_A.as_bytes()).ok()?).ok()?;
+    images.push(assemble(alloc, LABELLED.as_bytes()).ok()?).ok()?;
     let events = Events::read(alloc, b"", &policy).ok()?;
     if images.len() != policy.sources().len() {
         return None;
@@ -66,7 +71,7 @@ fn for_want_of_memory_nothing_is_written_or_the_text_of_the_first_turns(rt: Host
     let Some(policy) = policy_text(rt.alloc()) else {
         return;
     };
-    let sources = [("one.s", PUT_A.as_bytes())];
+    let sources = [("one.s", LABELLED.as_bytes())];
     let mut out = Held {
         bytes: [0; 80],
         used: 0,

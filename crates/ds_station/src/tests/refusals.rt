@@ -4,7 +4,7 @@ use super::*;
 
 const NO_SOURCES: &[(&str, &str)] = &[];
 
-/// A source whose second line is no line.
+/// A source whose second line is no statement, since an operand is missing.
 const BAD_SECOND_LINE: &str = ".word 0x24040041\nlw $1\n";
 
 /// A key is not served yet.
@@ -80,6 +80,72 @@ pub fn source_rows() -> [Row; 5] {
             sources: &[("one.s", BAD_SECOND_LINE), ("one.s", PUT_A)],
             wanted: &["3 Syntax one.s 2"],
             ..ONE_BYTE
+        },
+    ]
+}
+
+/// A run of these sources that is refused.
+fn refused(
+    name: &'static str,
+    sources: &'static [(&'static str, &'static str)],
+    wanted: &'static [&'static str],
+) -> Row {
+    Row {
+        name,
+        sources,
+        wanted,
+        ..ONE_BYTE
+    }
+}
+
+/// Faults of a source, each told with its line.
+pub fn assembler_rows() -> [Row; 8] {
+    [
+        refused(
+            "an operand is missing",
+            &[("one.s", "lw $1")],
+            &["3 Syntax one.s 1"],
+        ),
+        refused(
+            "a label stands nowhere",
+            &[("one.s", "beq $0,$0,y")],
+            &["4 UnknownLabel one.s 1"],
+        ),
+        refused(
+            "a label stands twice",
+            &[("one.s", "x: nop\nx: nop")],
+            &["5 DoubleLabel one.s 2"],
+        ),
+        refused(
+            "a number is out of range",
+            &[("one.s", "addiu $1,$0,40000")],
+            &["6 Range one.s 1"],
+        ),
+        refused(
+            "one statement is too many",
+            &[("one.s", ".space 65536\nnop")],
+            &["7 TooLong one.s 2"],
+        ),
+        refused(
+            "of two faults the one of the first pass is told",
+            &[("one.s", "# none\n\nbeq $0,$0,y\njalr $5,$5\n")],
+            &["6 Range one.s 4"],
+        ),
+        Row {
+            policy: TWO_SOURCES,
+            ..refused(
+                "the second source's label stands twice",
+                &[("two.s", "x:\nx:"), ("one.s", PUT_A)],
+                &["5 DoubleLabel two.s 2"],
+            )
+        },
+        Row {
+            policy: TWO_SOURCES,
+            ..refused(
+                "of two sources the first name's fault is told",
+                &[("two.s", "lw $1"), ("one.s", "j y")],
+                &["4 UnknownLabel one.s 1"],
+            )
         },
     ]
 }
@@ -195,6 +261,11 @@ fn a_policy_that_is_refused_is_told_and_nothing_is_written(rt: HostRuntime) -> R
 #[test]
 fn a_source_that_is_refused_is_told_and_nothing_is_written(rt: HostRuntime) -> Result<(), Fail> {
     check(&rt, rt.alloc(), &source_rows())
+}
+
+#[test]
+fn a_fault_of_a_source_is_told_with_its_name_and_line(rt: HostRuntime) -> Result<(), Fail> {
+    check(&rt, rt.alloc(), &assembler_rows())
 }
 
 #[test]

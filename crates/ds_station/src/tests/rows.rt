@@ -14,7 +14,7 @@ pub const WRITE_DATA: &str =
 /// Loads from address 00000000.
 const LOADS_NOWHERE: Row = Row {
     name: "a load where nothing is granted",
-    sources: &[("one.s", ".word 0x8D280000\n")],
+    sources: &[("one.s", "lw $8,0($9)\n")],
     n: 10,
     wanted: &[
         NOTHING_PUT,
@@ -26,7 +26,7 @@ const LOADS_NOWHERE: Row = Row {
 const STORES_OVER_READ: Row = Row {
     name: "a store over read",
     policy: &[HEAD, PROCESS, CODE, DATA, READ_CODE, READ_DATA],
-    sources: &[("one.s", ".word 0x3C080041\n.word 0xAD080000\n")],
+    sources: &[("one.s", "lui $8,0x41\nsw $8,0($8)\n")],
     n: 10,
     wanted: &[
         NOTHING_PUT,
@@ -37,7 +37,7 @@ const STORES_OVER_READ: Row = Row {
 
 const STORES_NOWHERE: Row = Row {
     name: "a store where nothing is granted",
-    sources: &[("one.s", ".word 0x3C081234\n.word 0xAD000004\n")],
+    sources: &[("one.s", "lui $8,0x1234\nsw $0,4($8)\n")],
     n: 10,
     wanted: &[
         NOTHING_PUT,
@@ -71,7 +71,7 @@ const READS_BACK: Row = Row {
     policy: &[HEAD, PROCESS, CODE, DATA, READ_CODE, WRITE_DATA],
     sources: &[(
         "one.s",
-        ".word 0x3C080041\n.word 0x24090042\n.word 0xAD090000\n.word 0x8D040000\n.word 0x24020001\n.word 0x0000000C\n.word 0x24020000\n.word 0x0000000C\n",
+        "lui $8,0x41\naddiu $9,$0,66\nsw $9,0($8)\nlw $4,0($8)\naddiu $2,$0,1\nsyscall\naddiu $2,$0,0\nsyscall\n",
     )],
     wanted: &["console 0 1\nB\n", OTHERS, "log 0\ntime 8\n"],
     ..ONE_BYTE
@@ -86,7 +86,33 @@ const DOES_NOTHING: Row = Row {
     ..ONE_BYTE
 };
 
-pub fn rows() -> [Row; 8] {
+/// Puts 1 where the third word of its source is 03BF2021.
+const READS_A_WORD: Row = Row {
+    name: "a word of the assembler",
+    sources: &[(
+        "one.s",
+        "\
+        j     on            # over the word
+        nop
+        addu  $a0,$sp,$ra
+on:     lui   $t0,0x40
+        lw    $t1,8($t0)
+        lui   $t2,0x03BF
+        ori   $t2,$t2,0x2021
+        xor   $t1,$t1,$t2
+        sltiu $t1,$t1,1
+        addiu $a0,$t1,48
+        addiu $v0,$zero,1
+        syscall
+        addiu $v0,$zero,0
+        syscall
+",
+    )],
+    wanted: &["console 0 1\n1\n", OTHERS, "log 0\ntime 13\n"],
+    ..ONE_BYTE
+};
+
+pub fn rows() -> [Row; 9] {
     [
         ONE_BYTE,
         Row {
@@ -100,6 +126,7 @@ pub fn rows() -> [Row; 8] {
         STORES_NOWHERE,
         LEAVES_USER_ADDRESSES,
         READS_BACK,
+        READS_A_WORD,
         DOES_NOTHING,
     ]
 }

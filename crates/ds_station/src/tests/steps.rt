@@ -4,7 +4,8 @@ ghost use Rattle.std.specs.Prelude.{◌≡◌};
 use super::rows::rows;
 use super::*;
 use crate::report::send_report;
-use crate::{Station, Step, assemble};
+use crate::{Station, Step};
+use ds_asm::assemble;
 use ds_policy::{Events, Policy};
 use ds_tlb::{Indexed, Lookaside, Tlb};
 
@@ -230,7 +231,7 @@ const BRANCH: Row = Row {
     name: "a branch over an instruction",
     sources: &[(
         "one.s",
-        ".word 0x10000002\n.word 0x00000000\n.word 0x00000000\n.word 0x24020000\n.word 0x0000000C\n",
+        "beq $0,$0,on\nnop\nnop\non: addiu $2,$0,0\nsyscall\n",
     )],
     wanted: &["console 0 0\n\n", OTHERS, "log 0\ntime 4\n"],
     ..ONE_BYTE

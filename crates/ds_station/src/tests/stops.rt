@@ -4,69 +4,69 @@ use super::rows::NOTHING_PUT;
 use super::steps::texts;
 use super::*;
 
-/// What a program does, its words, and the line of its stop.
+/// What a program does, the program, and the line of its stop.
 type Stop = (&'static str, &'static str, &'static str);
 
 /// Accesses that are denied.
 const ACCESSES: &[Stop] = &[
     (
         "a jump to 00400002",
-        ".word 0x3C080040\n.word 0x35080002\n.word 0x01000008\n.word 0x00000000\n",
+        "lui $8,0x40\nori $8,$8,2\njr $8\nnop\n",
         "4 1 00400002 fetch 00400002 A 4",
     ),
     (
         "a load from 80000000",
-        ".word 0x3C088000\n.word 0x8D090000\n",
+        "lui $8,0x8000\nlw $9,0($8)\n",
         "1 1 00400004 load 80000000 K 4",
     ),
     (
         "a store to 80000000",
-        ".word 0x3C088000\n.word 0xAD090000\n",
+        "lui $8,0x8000\nsw $9,0($8)\n",
         "1 1 00400004 store 80000000 K 5",
     ),
     (
         "a jump to 80000000",
-        ".word 0x3C088000\n.word 0x01000008\n.word 0x00000000\n",
+        "lui $8,0x8000\njr $8\nnop\n",
         "3 1 80000000 fetch 80000000 K 4",
     ),
     (
         "a jump to 80000080",
-        ".word 0x3C088000\n.word 0x35080080\n.word 0x01000008\n.word 0x00000000\n",
+        "lui $8,0x8000\nori $8,$8,0x80\njr $8\nnop\n",
         "4 1 80000080 fetch 80000080 K 4",
     ),
     (
         "a jump within the region of its slot",
-        ".word 0x3C080040\n.word 0x0BFFFFFF\n.word 0x00000000\n",
+        "lui $8,0x40\n.word 0x0BFFFFFF\nnop\n",
         "3 1 0FFFFFFC fetch 0FFFFFFC r0 2",
     ),
     (
         "a load of a half off 2",
-        ".word 0x3C080040\n.word 0x85090001\n",
+        "lui $8,0x40\nlh $9,1($8)\n",
         "1 1 00400004 load 00400001 A 4",
     ),
     (
         "a load of a word off 4",
-        ".word 0x3C080040\n.word 0x8D090002\n",
+        "lui $8,0x40\nlw $9,2($8)\n",
         "1 1 00400004 load 00400002 A 4",
     ),
     (
         "a store of a half off 2",
-        ".word 0x3C080040\n.word 0xA5090003\n",
+        "lui $8,0x40\nsh $9,3($8)\n",
         "1 1 00400004 store 00400003 A 5",
     ),
     (
         "a store of a word off 4",
-        ".word 0x3C080040\n.word 0xAD090001\n",
+        "lui $8,0x40\nsw $9,1($8)\n",
         "1 1 00400004 store 00400001 A 5",
     ),
     (
         "a store of a part over read",
-        ".word 0x3C080040\n.word 0xA9090001\n",
+        "lui $8,0x40\nswl $9,1($8)\n",
         "1 1 00400004 store 00400001 r1 1",
     ),
     (
         "a load of a part where nothing is granted",
-        ".word 0x98090003\n",
+        "lwr $9,3($0)\n",
         "0 1 00400000 load 00000003 r0 2",
     ),
 ];
@@ -100,22 +100,22 @@ const FAULTS: &[Stop] = &[
     ),
     (
         "mfc0",
-        ".word 0x40026000\n",
+        "mfc0 $2,$12\n",
         "0 1 00400000 exec 00400000 I 11",
     ),
     (
         "mtc0",
-        ".word 0x40826000\n",
+        "mtc0 $2,$12\n",
         "0 1 00400000 exec 00400000 I 11",
     ),
     (
         "tlbwr",
-        ".word 0x42000006\n",
+        "tlbwr\n",
         "0 1 00400000 exec 00400000 I 11",
     ),
     (
         "rfe",
-        ".word 0x42000010\n",
+        "rfe\n",
         "0 1 00400000 exec 00400000 I 11",
     ),
     (
@@ -135,22 +135,22 @@ const FAULTS: &[Stop] = &[
     ),
     (
         "break",
-        ".word 0x0000000D\n",
+        "break\n",
         "0 1 00400000 exec 00400000 I 9",
     ),
     (
         "a sum that overflows",
-        ".word 0x3C087FFF\n.word 0x3508FFFF\n.word 0x24090001\n.word 0x01095020\n",
+        "lui $8,0x7FFF\nori $8,$8,0xFFFF\naddiu $9,$0,1\nadd $10,$8,$9\n",
         "3 1 0040000C exec 0040000C I 12",
     ),
     (
         "a sum with an immediate that overflows",
-        ".word 0x3C088000\n.word 0x210AFFFF\n",
+        "lui $8,0x8000\naddi $10,$8,-1\n",
         "1 1 00400004 exec 00400004 I 12",
     ),
     (
         "a difference that overflows",
-        ".word 0x3C088000\n.word 0x24090001\n.word 0x01095022\n",
+        "lui $8,0x8000\naddiu $9,$0,1\nsub $10,$8,$9\n",
         "2 1 00400008 exec 00400008 I 12",
     ),
 ];
@@ -159,42 +159,42 @@ const FAULTS: &[Stop] = &[
 const SLOTS: &[Stop] = &[
     (
         "a branch in a slot",
-        ".word 0x00000000\n.word 0x10000001\n.word 0x10000001\n.word 0x00000000\n",
+        "nop\nbeq $0,$0,on1\nbeq $0,$0,on2\non1: nop\non2:\n",
         "1 1 00400008 exec 00400008 I 10",
     ),
     (
         "a jump in a slot",
-        ".word 0x10000001\n.word 0x03E00008\n.word 0x00000000\n",
+        "beq $0,$0,on\njr $31\non: nop\n",
         "0 1 00400004 exec 00400004 I 10",
     ),
     (
         "a call in a slot",
-        ".word 0x10000001\n.word 0x0000000C\n.word 0x00000000\n",
+        "beq $0,$0,on\nsyscall\non: nop\n",
         "0 1 00400004 exec 00400004 I 8",
     ),
     (
         "break in a slot",
-        ".word 0x10000001\n.word 0x0000000D\n.word 0x00000000\n",
+        "beq $0,$0,on\nbreak\non: nop\n",
         "0 1 00400004 exec 00400004 I 9",
     ),
     (
         "a reserved word in a slot",
-        ".word 0x10000001\n.word 0x00200000\n.word 0x00000000\n",
+        "beq $0,$0,on\n.word 0x00200000\non: nop\n",
         "0 1 00400004 exec 00400004 I 10",
     ),
     (
         "rfe in a slot",
-        ".word 0x0C100004\n.word 0x42000010\n.word 0x00000000\n",
+        "jal on\nrfe\nnop\nnop\non:\n",
         "0 1 00400004 exec 00400004 I 11",
     ),
     (
         "an overflow in a slot",
-        ".word 0x3C088000\n.word 0x0C100004\n.word 0x210AFFFF\n.word 0x00000000\n",
+        "lui $8,0x8000\njal on\naddi $10,$8,-1\nnop\non:\n",
         "1 1 00400008 exec 00400008 I 12",
     ),
     (
         "a load in a slot where nothing is granted",
-        ".word 0x10000002\n.word 0x8C080000\n.word 0x00000000\n.word 0x24020000\n.word 0x0000000C\n",
+        "beq $0,$0,on\nlw $8,0($0)\nnop\non: addiu $2,$0,0\nsyscall\n",
         "0 1 00400004 load 00000000 r0 2",
     ),
 ];

@@ -1,5 +1,5 @@
 use Rattle.std.proofs.Common.{◌∙◌, ◌<◌, ap, ℕ, List, length, replicate, arith}
-use Rattle.ds_pagemap.specs.First.{part_of}
+use Rattle.ds_asm.specs.Images.{part_of}
 use Rattle.ds_station.proofs.Firsts.{image_found, part_missed}
 use Rattle.ds_station.proofs.first.fill_part.Goals as goal
 

@@ -6,82 +6,82 @@ use super::Case;
 pub const WORKED: &[Case] = &[
     (
         "mfhi of mult of 80000000 and 00000002",
-        ".word 0x3C098000\n.word 0x240B0002\n.word 0x012B0018\n.word 0x00005010\n",
+        "lui $9,0x8000\naddiu $11,$0,2\nmult $9,$11\nmfhi $10\n",
         "FFFFFFFF",
     ),
     (
         "mflo of mult of 80000000 and 00000002",
-        ".word 0x3C098000\n.word 0x240B0002\n.word 0x012B0018\n.word 0x00005012\n",
+        "lui $9,0x8000\naddiu $11,$0,2\nmult $9,$11\nmflo $10\n",
         "00000000",
     ),
     (
         "mfhi of multu of 80000000 and 00000002",
-        ".word 0x3C098000\n.word 0x240B0002\n.word 0x012B0019\n.word 0x00005010\n",
+        "lui $9,0x8000\naddiu $11,$0,2\nmultu $9,$11\nmfhi $10\n",
         "00000001",
     ),
     (
         "mflo of multu of 80000000 and 00000002",
-        ".word 0x3C098000\n.word 0x240B0002\n.word 0x012B0019\n.word 0x00005012\n",
+        "lui $9,0x8000\naddiu $11,$0,2\nmultu $9,$11\nmflo $10\n",
         "00000000",
     ),
     (
         "mfhi of div of FFFFFFF9 and 00000002",
-        ".word 0x2409FFF9\n.word 0x240B0002\n.word 0x012B001A\n.word 0x00005010\n",
+        "addiu $9,$0,-7\naddiu $11,$0,2\ndiv $9,$11\nmfhi $10\n",
         "FFFFFFFF",
     ),
     (
         "mflo of div of FFFFFFF9 and 00000002",
-        ".word 0x2409FFF9\n.word 0x240B0002\n.word 0x012B001A\n.word 0x00005012\n",
+        "addiu $9,$0,-7\naddiu $11,$0,2\ndiv $9,$11\nmflo $10\n",
         "FFFFFFFD",
     ),
     (
         "mfhi of divu of 00000005 and 00000000",
-        ".word 0x24090005\n.word 0x240B0000\n.word 0x012B001B\n.word 0x00005010\n",
+        "addiu $9,$0,5\naddiu $11,$0,0\ndivu $9,$11\nmfhi $10\n",
         "00000005",
     ),
     (
         "mflo of divu of 00000005 and 00000000",
-        ".word 0x24090005\n.word 0x240B0000\n.word 0x012B001B\n.word 0x00005012\n",
+        "addiu $9,$0,5\naddiu $11,$0,0\ndivu $9,$11\nmflo $10\n",
         "00000000",
     ),
     (
         "mfhi of div of 80000000 and FFFFFFFF",
-        ".word 0x3C098000\n.word 0x240BFFFF\n.word 0x012B001A\n.word 0x00005010\n",
+        "lui $9,0x8000\naddiu $11,$0,-1\ndiv $9,$11\nmfhi $10\n",
         "00000000",
     ),
     (
         "mflo of div of 80000000 and FFFFFFFF",
-        ".word 0x3C098000\n.word 0x240BFFFF\n.word 0x012B001A\n.word 0x00005012\n",
+        "lui $9,0x8000\naddiu $11,$0,-1\ndiv $9,$11\nmflo $10\n",
         "80000000",
     ),
     (
         "mfhi of div of 00000005 and 00000000",
-        ".word 0x24090005\n.word 0x240B0000\n.word 0x012B001A\n.word 0x00005010\n",
+        "addiu $9,$0,5\naddiu $11,$0,0\ndiv $9,$11\nmfhi $10\n",
         "00000005",
     ),
     (
         "mflo of div of 00000005 and 00000000",
-        ".word 0x24090005\n.word 0x240B0000\n.word 0x012B001A\n.word 0x00005012\n",
+        "addiu $9,$0,5\naddiu $11,$0,0\ndiv $9,$11\nmflo $10\n",
         "00000000",
     ),
     (
         "lwl of 44332211 at 1",
-        ".word 0x3C0B4433\n.word 0x356B2211\n.word 0x3C090041\n.word 0xAD2B0000\n.word 0x3C0AAABB\n.word 0x354ACCDD\n.word 0x892A0001\n.word 0x00000000\n",
+        "lui $11,0x4433\nori $11,$11,0x2211\nlui $9,0x41\nsw $11,0($9)\nlui $10,0xAABB\nori $10,$10,0xCCDD\nlwl $10,1($9)\nnop\n",
         "2211CCDD",
     ),
     (
         "lwr of 44332211 at 1",
-        ".word 0x3C0B4433\n.word 0x356B2211\n.word 0x3C090041\n.word 0xAD2B0000\n.word 0x3C0AAABB\n.word 0x354ACCDD\n.word 0x992A0001\n.word 0x00000000\n",
+        "lui $11,0x4433\nori $11,$11,0x2211\nlui $9,0x41\nsw $11,0($9)\nlui $10,0xAABB\nori $10,$10,0xCCDD\nlwr $10,1($9)\nnop\n",
         "AA443322",
     ),
     (
         "swl of AABBCCDD over 44332211 at 1",
-        ".word 0x3C0B4433\n.word 0x356B2211\n.word 0x3C090041\n.word 0xAD2B0004\n.word 0x3C0CAABB\n.word 0x358CCCDD\n.word 0xA92C0005\n.word 0x8D2A0004\n.word 0x00000000\n",
+        "lui $11,0x4433\nori $11,$11,0x2211\nlui $9,0x41\nsw $11,4($9)\nlui $12,0xAABB\nori $12,$12,0xCCDD\nswl $12,5($9)\nlw $10,4($9)\nnop\n",
         "4433AABB",
     ),
     (
         "swr of AABBCCDD over 44332211 at 1",
-        ".word 0x3C0B4433\n.word 0x356B2211\n.word 0x3C090041\n.word 0xAD2B0004\n.word 0x3C0CAABB\n.word 0x358CCCDD\n.word 0xB92C0005\n.word 0x8D2A0004\n.word 0x00000000\n",
+        "lui $11,0x4433\nori $11,$11,0x2211\nlui $9,0x41\nsw $11,4($9)\nlui $12,0xAABB\nori $12,$12,0xCCDD\nswr $12,5($9)\nlw $10,4($9)\nnop\n",
         "BBCCDD11",
     ),
 ];
