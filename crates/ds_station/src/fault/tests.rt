@@ -3,9 +3,36 @@ use std::test::*;
 
 #[test]
 fn a_fault_is_told_by_its_number_and_name_and_what_it_carries(rt: HostRuntime) -> Result<(), Fail> {
-    let name = Text::of("one.s");
     for (fault, text) in [
         (Fault::from(BadRandom), "1 BadRandom"),
+        (Fault::from(PolicyFault::BadToml), "8 BadToml"),
+        (Fault::from(PolicyFault::BadRule(17)), "9 BadRule 17"),
+        (
+            Fault::from(PolicyFault::Limit("version")),
+            "10 Limit version",
+        ),
+        (Fault::Limit("n"), "10 Limit n"),
+        (Fault::from(EventsFault::InputFault(3)), "20 InputFault 3"),
+        (Fault::Stuck, "21 Stuck"),
+        (Fault::Failed, "22 Failed"),
+        (Fault::from(WriteFailed), "23 WriteFault"),
+        (Fault::NoSource(Text::of("one.s")), "24 NoSource one.s"),
+        (Fault::from(AllocError), "25 Memory"),
+        (Fault::from(OutOfMemory), "25 Memory"),
+        (Fault::from(PolicyFault::Memory), "25 Memory"),
+        (Fault::from(EventsFault::Memory), "25 Memory"),
+    ] {
+        assert_eq!(rt; fault.to_string(rt.alloc())?.as_str(), text);
+        let number = fault.number().to_string(rt.alloc())?;
+        assert!(rt; text.starts_with(number.as_str()), "{text}");
+    }
+    Ok(())
+}
+
+#[test]
+fn a_fault_of_a_source_is_told_with_its_name_and_line(rt: HostRuntime) -> Result<(), Fail> {
+    let name = Text::of("one.s");
+    for (fault, text) in [
         (
             Fault::in_source(&name, AsmFault::Syntax(2)),
             "3 Syntax one.s 2",
@@ -26,22 +53,6 @@ fn a_fault_is_told_by_its_number_and_name_and_what_it_carries(rt: HostRuntime) -
             Fault::in_source(&name, AsmFault::TooLong(16385)),
             "7 TooLong one.s 16385",
         ),
-        (Fault::from(PolicyFault::BadToml), "8 BadToml"),
-        (Fault::from(PolicyFault::BadRule(17)), "9 BadRule 17"),
-        (
-            Fault::from(PolicyFault::Limit("version")),
-            "10 Limit version",
-        ),
-        (Fault::Limit("n"), "10 Limit n"),
-        (Fault::from(EventsFault::InputFault(3)), "20 InputFault 3"),
-        (Fault::Stuck, "21 Stuck"),
-        (Fault::Failed, "22 Failed"),
-        (Fault::from(WriteFailed), "23 WriteFault"),
-        (Fault::NoSource(Text::of("one.s")), "24 NoSource one.s"),
-        (Fault::from(AllocError), "25 Memory"),
-        (Fault::from(OutOfMemory), "25 Memory"),
-        (Fault::from(PolicyFault::Memory), "25 Memory"),
-        (Fault::from(EventsFault::Memory), "25 Memory"),
         (Fault::in_source(&name, AsmFault::Memory), "25 Memory"),
     ] {
         assert_eq!(rt; fault.to_string(rt.alloc())?.as_str(), text);
