@@ -100,8 +100,8 @@ const SOURCE: &str = ".word 0x24040041
 ";
 
 /// Stores into its own page of code.
-const STORES: &str = ".word 0x3C080040
-.word 0xAD080000
+const STORES: &str = "lui $8,0x40
+sw $8,0($8)
 ";
 
 /// What a run of `SOURCE` writes.
@@ -216,6 +216,29 @@ fn each_refusal_is_told_with_status_2_and_nothing_is_written(rt: HostRuntime) ->
         assert_eq!(rt; answer.err.as_slice(), wanted.as_bytes(), "{wanted}");
         assert_eq!(rt; answer.status, 2, "{wanted}");
         assert!(rt; answer.out.is_empty(), "{wanted}");
+    }
+    Ok(())
+}
+
+#[test]
+fn a_fault_of_a_source_is_told_with_its_name_and_line(rt: HostRuntime) -> Result<(), Fail> {
+    let cases: [(&[u8], &[u8]); 5] = [
+        (b".word 0x24040041\nlw $1\n", b"dsmon: 3 Syntax one.s 2\n"),
+        (b"beq $0,$0,y\n", b"dsmon: 4 UnknownLabel one.s 1\n"),
+        (b"x: nop\nx: nop\n", b"dsmon: 5 DoubleLabel one.s 2\n"),
+        (b"addiu $1,$0,40000\n", b"dsmon: 6 Range one.s 1\n"),
+        (b".space 65536\nnop\n", b"dsmon: 7 TooLong one.s 2\n"),
+    ];
+    for (source, wanted) in cases {
+        let files = [
+            ("in.txt", b"".as_slice()),
+            ("one.s", source),
+            ("p.toml", POLICY.as_bytes()),
+        ];
+        let answer = answer_to(rt.alloc(), &WORDS, &files)?;
+        assert_eq!(rt; answer.err.as_slice(), wanted);
+        assert_eq!(rt; answer.status, 2);
+        assert!(rt; answer.out.is_empty());
     }
     Ok(())
 }
