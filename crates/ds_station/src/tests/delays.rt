@@ -272,13 +272,7 @@ const READ_NEXT: &str =
 fn a_branch_runs_again_where_its_slot_is_filled(rt: HostRuntime) -> Result<(), Fail> {
     let source = "first: .space 4092\njal first\n";
     let policy = &[HEAD, LAST_WORD, CODE, DATA, READ_CODE, READ_NEXT];
-    let mut station = station_from::<Indexed<64, 8>>(
-        rt.alloc(),
-        policy,
-        &[source],
-        "",
-        63,
-    )?;
+    let mut station = station_from::<Indexed<64, 8>>(rt.alloc(), policy, &[source], "", 63)?;
     for spent in [1, 1, 2, 3, 3, 4, 0] {
         assert!(rt; station.time() < 1_000_000_000);
         station.step()?;

@@ -31,8 +31,7 @@ impl Write for Held {
 }
 
 /// Puts the byte 41 and exits; its label takes memory too.
-const LABELLED: &str =
-    "put: addiu $4,$0,65\naddiu $2,$0,1\nsyscall\naddiu $2,$0,0\nsyscall\n";
+const LABELLED: &str = "put: addiu $4,$0,65\naddiu $2,$0,1\nsyscall\naddiu $2,$0,0\nsyscall\n";
 
 /// The policy's text, if there is memory for it.
 fn policy_text(alloc: Global) -> Option<String> {
@@ -48,7 +47,9 @@ fn one_byte(alloc: Global) -> Option<Station<Tlb<64, 8>>> {
     let text = policy_text(alloc)?;
     let policy = Policy::read(alloc, text.as_bytes()).ok()?;
     let mut images = Vec::new(alloc);
-    images.push(assemble(alloc, LABELLED.as_bytes()).ok()?).ok()?;
+    images
+        .push(assemble(alloc, LABELLED.as_bytes()).ok()?)
+        .ok()?;
     let events = Events::read(alloc, b"", &policy).ok()?;
     if images.len() != policy.sources().len() {
         return None;

@@ -98,26 +98,10 @@ const FAULTS: &[Stop] = &[
         ".word 0xC0000000\n",
         "0 1 00400000 exec 00400000 I 10",
     ),
-    (
-        "mfc0",
-        "mfc0 $2,$12\n",
-        "0 1 00400000 exec 00400000 I 11",
-    ),
-    (
-        "mtc0",
-        "mtc0 $2,$12\n",
-        "0 1 00400000 exec 00400000 I 11",
-    ),
-    (
-        "tlbwr",
-        "tlbwr\n",
-        "0 1 00400000 exec 00400000 I 11",
-    ),
-    (
-        "rfe",
-        "rfe\n",
-        "0 1 00400000 exec 00400000 I 11",
-    ),
+    ("mfc0", "mfc0 $2,$12\n", "0 1 00400000 exec 00400000 I 11"),
+    ("mtc0", "mtc0 $2,$12\n", "0 1 00400000 exec 00400000 I 11"),
+    ("tlbwr", "tlbwr\n", "0 1 00400000 exec 00400000 I 11"),
+    ("rfe", "rfe\n", "0 1 00400000 exec 00400000 I 11"),
     (
         "a word of coprocessor 1",
         ".word 0x44000000\n",
@@ -133,11 +117,7 @@ const FAULTS: &[Stop] = &[
         ".word 0xEC000000\n",
         "0 1 00400000 exec 00400000 I 11",
     ),
-    (
-        "break",
-        "break\n",
-        "0 1 00400000 exec 00400000 I 9",
-    ),
+    ("break", "break\n", "0 1 00400000 exec 00400000 I 9"),
     (
         "a sum that overflows",
         "lui $8,0x7FFF\nori $8,$8,0xFFFF\naddiu $9,$0,1\nadd $10,$8,$9\n",
