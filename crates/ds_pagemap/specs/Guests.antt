@@ -33,7 +33,7 @@ a_routine_comes_back_behind_the_slot_of_its_caller false = refl
 
 -- Slots.
 
--- beq $0,$0,on; lw $8,0($0); on: exit; the page being granted after the denial
+-- the page is granted after the denial
 pub a_denied_slot_is_done_again_with_its_branch : (touch : Bool) → shown 10 10 touch (first plain ("beq $0,$0,on" ∷ "lw $8,0($0)" ∷ "on: addiu $2,$0,0" ∷ "syscall" ∷ []) (at 1 1 (command.Grant 1 0x00000000 1 Read false) ∷ at 1 2 (command.Resume 1) ∷ [])) ≡ (false, on_line_0 [], Denial 0 1 0x00400004 denied.Load 0x00000000 (Number 0) 2 ∷ [], 5)
 unfolding run_on_literals
 a_denied_slot_is_done_again_with_its_branch true = refl
@@ -59,7 +59,7 @@ unfolding run_on_literals
 a_jump_links_behind_its_slot true = refl
 a_jump_links_behind_its_slot false = refl
 
--- jal 0x00400008; lw $8,0($0); the process is parked at the jump, whose link is written
+-- the process is parked at the jump, whose link is written
 abbrev parked_in_a_slot : Process
 parked_in_a_slot = process_of (after 1 (false ∷ []) (first plain ("jal on" ∷ "lw $8,0($0)" ∷ "on:" ∷ []) [])) 1
 
@@ -75,7 +75,7 @@ pub a_denied_slot_leaves_the_link : slice_index parked_in_a_slot.registers.gener
 unfolding run_on_literals
 a_denied_slot_leaves_the_link = refl
 
--- 66 stored, 65 in $9; beq $0,$0,on; lw $9,0($8); on: addu $4,$9,$0; put
+-- 66 is stored, 65 is in $9
 pub a_load_in_a_slot_is_late_at_the_target : shown 100 22 false (first (policy 0x00400000 (data_at 0x00410000 Write ∷ [])) ("lui $8,0x41" ∷ "addiu $9,$0,66" ∷ "sw $9,0($8)" ∷ "addiu $9,$0,65" ∷ "beq $0,$0,on" ∷ "lw $9,0($8)" ∷ "on: addu $4,$9,$0" ∷ "addiu $2,$0,1" ∷ "syscall" ∷ "addiu $2,$0,0" ∷ "syscall" ∷ []) []) ≡ (false, on_line_0 (codes "A"), [], 11)
 unfolding run_on_literals
 a_load_in_a_slot_is_late_at_the_target = refl

@@ -141,7 +141,7 @@ unfolding run_on_literals
 a_revoked_entry_denies_a_load true = refl
 a_revoked_entry_denies_a_load false = refl
 
--- lw $8,0($0); exit, the page being granted after the denial
+-- the page is granted after the denial
 pub a_parked_process_goes_on_where_it_was_denied : (touch : Bool) → shown 10 8 touch (first plain ("lw $8,0($0)" ∷ "addiu $2,$0,0" ∷ "syscall" ∷ []) (at 1 1 (command.Grant 1 0x00000000 1 Read false) ∷ at 1 2 (command.Resume 1) ∷ [])) ≡ (false, on_line_0 [], Denial 0 1 0x00400000 denied.Load 0x00000000 (Number 0) 2 ∷ [], 4)
 unfolding run_on_literals
 a_parked_process_goes_on_where_it_was_denied true = refl
@@ -183,7 +183,7 @@ unfolding run_on_literals
 a_store_shows_at_each_address_of_its_page true = refl
 a_store_shows_at_each_address_of_its_page false = refl
 
--- 66 stored, 65 in $9; lw $9,0($8); addu $4,$9,$0; put
+-- 66 is stored, 65 is in $9
 pub a_late_load_shows_its_old_value_to_the_next_instruction : shown 100 20 false (first (policy 0x00400000 (data_at 0x00410000 Write ∷ [])) ("lui $8,0x41" ∷ "addiu $9,$0,66" ∷ "sw $9,0($8)" ∷ "addiu $9,$0,65" ∷ "lw $9,0($8)" ∷ "addu $4,$9,$0" ∷ "addiu $2,$0,1" ∷ "syscall" ∷ "addiu $2,$0,0" ∷ "syscall" ∷ []) []) ≡ (false, on_line_0 (codes "A"), [], 10)
 unfolding run_on_literals
 a_late_load_shows_its_old_value_to_the_next_instruction = refl
@@ -193,7 +193,7 @@ pub a_touch_finishes_a_late_load : shown 100 20 true (first (policy 0x00400000 (
 unfolding run_on_literals
 a_touch_finishes_a_late_load = refl
 
--- 66 stored; lw $9,0($8); addiu $9,$0,1; ori $4,$9,64; put
+-- 66 is stored
 pub a_write_wins_over_a_late_load : (touch : Bool) → shown 100 20 touch (first (policy 0x00400000 (data_at 0x00410000 Write ∷ [])) ("lui $8,0x41" ∷ "addiu $9,$0,66" ∷ "sw $9,0($8)" ∷ "lw $9,0($8)" ∷ "addiu $9,$0,1" ∷ "ori $4,$9,0x40" ∷ "addiu $2,$0,1" ∷ "syscall" ∷ "addiu $2,$0,0" ∷ "syscall" ∷ []) []) ≡ (false, on_line_0 (codes "A"), [], 10)
 unfolding run_on_literals
 a_write_wins_over_a_late_load true = refl
@@ -280,7 +280,7 @@ a_part_is_a_page_of_the_image = refl
 
 -- Inputs.
 
--- a source that says one word, and one that says none
+-- a source without a fault, and one with a fault in its second line
 abbrev good : String → List ℕ × List ℕ
 good name = (codes name, codes "syscall")
 
