@@ -1,18 +1,8 @@
 //! The program `dsmon`: it runs a simulated MIPS workstation under a page policy.
 #![tactic(auto)]
 
-mod demo;
-mod drive;
-mod failure;
-mod files;
-mod run;
-mod status;
-mod words;
-
-use drive::{drive, refuse_words};
-use files::SystemFiles;
+use ds_drive::{SystemFiles, drive, program_words, refuse_words};
 use std::process::ExitCode;
-use words::program_words;
 
 fn main(rt: HostRuntime) -> ExitCode {
     let mut files = SystemFiles::new(&rt);

@@ -1,0 +1,49 @@
+-- What was read of the files is what they hold.
+use Rattle.std.proofs.Common.{◌≡◌, ◌∙◌, ℕ, List, [], ◌∷◌, map, refl, sym, ap, subst}
+use Rattle.std.specs.Prelude.{Option, Result, Ok, Err, All}
+use Rattle.std.proofs.lemmas.List.Elements.{All-map, All-weaker}
+use Rattle.ds_policy.specs.PolicyText.{policy_of}
+use Rattle.ds_policy.specs.PolicyParts.{sources_of}
+use Rattle.ds_policy.specs.Value.{PolicyValue}
+use Rattle.ds_policy.specs.Refusal.{PolicyRefusal}
+use Rattle.ds_pagemap.specs.Inputs.{Sources, inputs}
+use Rattle.ds_station.specs.Headline.{EndsBy}
+use Rattle.ds_station.specs.declared.fault.Fault.{Fault}
+use Rattle.ds_drive.specs.declared.words.Request.{Request}
+use Rattle.ds_drive.specs.declared.run.SourceText.{SourceText}
+use Rattle.ds_drive.specs.Failures.{AreHeld}
+
+names_of : (texts : List SourceText) → map (λ (s : List ℕ × List ℕ). s.0) (map (λ s. (s.name, s.text.items)) texts) ≡ map (λ s. s.name) texts
+names_of [] = refl
+names_of (s ∷ more) = ap (λ (names : List (List ℕ)). s.name ∷ names) (names_of more)
+
+abbrev value_or : PolicyValue → Result PolicyValue PolicyRefusal → PolicyValue
+value_or other (Ok value) = value
+value_or other (Err e) = other
+
+same_value : (read : Result PolicyValue PolicyRefusal) (a b : PolicyValue) → read ≡ Ok a → read ≡ Ok b → a ≡ b
+same_value read a b x y = ap (value_or a) (sym x ∙ y)
+
+-- the policy, its sources and the input as they were read, one after the other
+pub are_held : (holds later : List ℕ → List ℕ → Type 0) (request : Request) (policy input : List ℕ) (texts : List SourceText) (sources : Sources) (value : PolicyValue)
+    → holds request.policy.now policy → holds request.input.now input
+    → ((file bytes : List ℕ) → later file bytes → holds file bytes)
+    → All (λ s. later s.name s.text.items) texts
+    → map (λ s. s.name) texts ≡ sources_of value.pages
+    → policy_of policy ≡ Ok value
+    → sources ≡ map (λ s. (s.name, s.text.items)) texts
+    → AreHeld holds request policy sources input
+are_held holds later request policy input texts sources value first second kept found names read lent = record {
+  policy_held = first;
+  input_held = second;
+  sources_held = subst (All (λ (s : List ℕ × List ℕ). holds s.0 s.1)) (sym lent) (All-map (λ (s : List ℕ × List ℕ). holds s.0 s.1) (λ (s : SourceText). (s.name, s.text.items)) texts (All-weaker (λ (s : SourceText). later s.name s.text.items) (λ (s : SourceText). holds s.name s.text.items) (λ s h. kept s.name s.text.items h) texts found));
+  sources_named = λ v is. ap (map (λ (s : List ℕ × List ℕ). s.0)) lent ∙ (names_of texts ∙ (names ∙ ap (λ (x : PolicyValue). sources_of x.pages) (same_value (policy_of policy) value v read is)));
+}
+
+-- a fault of the run of the same texts
+pub ends_same : (fault : Fault) (p q : List ℕ) (s t : Sources) (i j : List ℕ) (n random : ℕ) (old new : Option (List ℕ))
+    → p ≡ q → s ≡ t → i ≡ j → EndsBy fault (inputs p s i n random) old new n → EndsBy fault (inputs q t j n random) old new n
+ends_same fault p q s t i j n random old new e f g ends =
+    subst (λ (x : List ℕ). EndsBy fault (inputs q t x n random) old new n) g
+    (subst (λ (x : Sources). EndsBy fault (inputs q x i n random) old new n) f
+    (subst (λ (x : List ℕ). EndsBy fault (inputs x s i n random) old new n) e ends))

@@ -1,0 +1,18 @@
+-- What the program has done where it tells of no fault.
+use Rattle.std.specs.Prelude.{◌⊎◌, ℕ, List, Option}
+use Rattle.clap.specs.Words.{Text}
+use Rattle.ds_station.specs.Headline.{Begins, Writes}
+use Rattle.ds_drive.specs.declared.words.Request.{Request}
+use Rattle.ds_drive.specs.Demo.{demo_inputs}
+use Rattle.ds_drive.specs.Failures.{RunsFiles}
+use Rattle.ds_drive.specs.Words.{AsksForDemo, AsksForRun}
+
+-- the words ask for the demonstration or for a run of files
+abbrev pub AsksForSomething : List Text → Type 0
+AsksForSomething words = AsksForDemo words ⊎ ((request : Request) × AsksForRun words request)
+
+-- what the words ask for was run, and its text is written
+abbrev pub IsDone : List Text → (List ℕ → List ℕ → Type 0) → Option (List ℕ) → Option (List ℕ) → Type 0
+IsDone words holds old new =
+    (AsksForDemo words × Begins demo_inputs (Writes old new 100))
+    ⊎ ((request : Request) × AsksForRun words request × RunsFiles holds request old new)

@@ -1,0 +1,63 @@
+-- What the program's words ask for, over what clap reads of its command line.
+use Rattle.std.specs.Prelude.{◌≡◌, ℕ, List, [], ◌∷◌, Option, Some, None, true, codes, option_map}
+use Rattle.std.specs.Str.Parse.{digits_value, without_leading_plus}
+use Rattle.clap.specs.Words.{App, Row, Rule, Text, fault_of, first_of, one_of, new_app, new_rule, subcommand_of, with_rule, with_subcommand}
+use Rattle.ds_drive.specs.declared.words.Request.{Request}
+use Rattle.clap.specs.declared.builder.value_parser.ValueParser.TheVariants.{Unsigned}
+
+-- an argument that has to be there
+abbrev pub required_rule : Text → Rule
+required_rule id = record (new_rule id) { required = true }
+
+-- N, from 0 to 1000000000
+abbrev pub time_rule : Rule
+time_rule = record (required_rule (codes "N")) { parser = Some (Unsigned 0 1000000000) }
+
+-- `--random R`, from 0 to 255, and 63 where it is left out
+abbrev pub random_rule : Rule
+random_rule = record (new_rule (codes "R")) {
+  long = Some (codes "random");
+  parser = Some (Unsigned 0 255);
+  defaults = codes "63" ∷ [];
+}
+
+-- `run POLICY INPUT N [--random R]`
+abbrev pub run_app : App
+run_app = with_rule (with_rule (with_rule (with_rule (new_app (codes "run"))
+    (required_rule (codes "POLICY"))) (required_rule (codes "INPUT"))) time_rule) random_rule
+
+-- the command line with no command yet: one is wanted, and there is a version
+abbrev pub bare_app : App
+bare_app = record { top = record (new_app (codes "dsmon")).top { has_version = true; subcommand_required = true }; subs = [] }
+
+-- the whole command line
+abbrev pub dsmon_app : App
+dsmon_app = with_subcommand (with_subcommand bare_app run_app.top) (new_app (codes "demo")).top
+
+-- the command that the words name
+abbrev pub command_named : List Text → Option Text
+command_named words = option_map (λ p. p.0) (subcommand_of dsmon_app words)
+
+-- clap takes the words, and they name the demonstration
+pub record AsksForDemo (words : List Text) : Type 0 where
+  pub taken : fault_of dsmon_app words ≡ []
+  pub named : command_named words ≡ Some (codes "demo")
+
+-- a word, with a plus before it or without, writes the number in decimal digits
+abbrev pub IsNumber : Option Text → ℕ → Type 0
+IsNumber None n = ⊥
+IsNumber (Some text) n = digits_value 10 (without_leading_plus text) ≡ n
+
+-- what stands behind `run` names the files and the numbers
+pub record NamesRun (rows : List Row) (request : Request) : Type 0 where
+  pub policy : first_of (codes "POLICY") rows ≡ Some request.policy.now
+  pub input : first_of (codes "INPUT") rows ≡ Some request.input.now
+  pub time : IsNumber (one_of (codes "N") rows) request.most_time
+  pub random : IsNumber (one_of (codes "R") rows) request.random
+
+-- clap takes the words, and they name a run of these files and numbers
+pub record AsksForRun (words : List Text) (request : Request) : Type 0 where
+  pub taken : fault_of dsmon_app words ≡ []
+  pub rows : List Row
+  pub named : subcommand_of dsmon_app words ≡ Some (codes "run", rows)
+  pub names : NamesRun rows request

@@ -1,0 +1,86 @@
+//! All of the program but the handing over of its words, files and streams.
+ghost use Rattle.std.specs.Prelude.{◌≡◌, ◌≢◌, ◌≤◌, ◌⊎◌, ◌∷◌, List, [], ℕ, codes, map, string_bytes};
+ghost use Rattle.std.specs.Io.KnownBytes.{Keeps};
+ghost use Rattle.ds_drive.specs.Done.{AsksForSomething, IsDone};
+ghost use Rattle.ds_drive.specs.Failures.{failure_number};
+ghost use Rattle.ds_drive.specs.Statuses.{fault_status};
+ghost use Rattle.ds_drive.specs.Words.{AsksForDemo};
+
+#[cfg(test)]
+mod run_tests;
+#[cfg(test)]
+mod tests;
+
+use crate::demo::run_demo;
+use crate::failure::Failure;
+use crate::files::Files;
+use crate::run::run_request;
+use crate::status::{DONE, WORDS_REFUSED, status_of};
+use crate::words::{Wish, wish_of};
+use ds_station::Fault;
+use std::alloc::Global;
+use std::io::{ErrorKind, Write};
+
+/// Does what the words ask for, the program's own name first, and answers the status: 0 done; 1 the
+/// words were refused for another cause than memory, or ask for help; 2 refused input; 3 a fault of
+/// the run. What was refused is told on `err`; that a write there fails changes no status.
+#[tactic(auto, using(crate::proofs::WordLemmas::alone))]
+pub fn drive<F: Files, W: Write, E: Write>(
+    alloc: Global,
+    words: &[String],
+    files: &mut F,
+    out: &mut W,
+    err: &mut E,
+) -> u8
+    ensures range { result ≤ 3 }
+    ensures asked { (result ≡ 0) ⊎ (result ≡ 2) → AsksForSomething (map string_bytes words.now) }
+    ensures taken { AsksForDemo (map string_bytes words.now) → result ≢ 1 }
+    ensures alone { (program : List ℕ) → map string_bytes words.now ≡ program ∷ codes "demo" ∷ []
+        → result ≢ 1 }
+    ensures refused { result ≡ 1 → W.contents out.new ≡ W.contents out.old }
+    ensures done { result ≡ 0 → IsDone (map string_bytes words.now) (F.holds files.old) (W.contents out.old) (W.contents out.new) }
+    ensures unread { result ≡ 2 → Keeps (W.contents out.old) (W.contents out.new) }
+    ensures silent { result ≡ 0 → E.contents err.new ≡ E.contents err.old }
+{
+    match wish_of(alloc, words) {
+        Ok(Some(Wish::Demo)) => match run_demo(alloc, out) {
+            Ok(()) => DONE,
+            Err(fault) => tell(err, &Failure::Fault(fault)),
+        },
+        Ok(Some(Wish::Run(request))) => match run_request(alloc, &request, files, out) {
+            Ok(()) => DONE,
+            Err(failure) => tell(err, &failure),
+        },
+        Ok(None) => {
+            let _ = write!(err, "dsmon: the words leave something out\n");
+            WORDS_REFUSED
+        }
+        Err(error) if error.kind() == clap::error::ErrorKind::OutOfMemory => {
+            tell(err, &Failure::Fault(Fault::Memory))
+        }
+        Err(error) => {
+            let _ = write!(err, "{error}");
+            WORDS_REFUSED
+        }
+    }
+}
+
+/// Tells why the program's words could not be had, and answers the status.
+pub fn refuse_words<E: Write>(err: &mut E, kind: ErrorKind) -> u8
+    ensures memory { kind ≡ ErrorKind.OutOfMemory → result ≡ 3 }
+    ensures other { kind ≢ ErrorKind.OutOfMemory → result ≡ 1 }
+{
+    if kind == ErrorKind::OutOfMemory {
+        return tell(err, &Failure::Fault(Fault::Memory));
+    }
+    let _ = write!(err, "dsmon: the words are no text\n");
+    WORDS_REFUSED
+}
+
+/// Tells of a failure in one line, and answers the status.
+fn tell<'a, E: Write>(err: &mut E, failure: &Failure<'a>) -> u8
+    ensures { result ≡ fault_status (failure_number failure.now) }
+{
+    let _ = write!(err, "dsmon: {failure}\n");
+    status_of(failure.number())
+}

@@ -1,0 +1,100 @@
+//! A run of files: the policy, the input, and the sources that the policy names.
+ghost use Rattle.std.specs.Prelude.{◌≡◌, ℕ, List, IfErr, IfOk, OnOk, All, length, map};
+ghost use Rattle.ds_station.specs.Headline.{sources_seen};
+ghost use Rattle.ds_drive.specs.Failures.{RunsFiles, StopsBy};
+
+use crate::failure::Failure;
+use crate::files::{FileFault, Files};
+use crate::words::Request;
+use ds_policy::{Policy, Text};
+use ds_station::{Fault, run_files};
+use std::alloc::{AllocError, Global};
+use std::io::Write;
+
+/// The text of a source's file.
+#[derive(Drop)]
+struct SourceText {
+    name: Text<64>,
+    text: Vec<u8>,
+}
+
+/// Reads the policy, then the input, then, where the policy is good, each source by its name, and
+/// runs them. Nothing is written before all of them are read.
+pub fn run_request<'a, F: Files, W: Write>(
+    alloc: Global,
+    request: &Request<'a>,
+    files: &mut F,
+    out: &mut W,
+) -> Result<(), Failure<'a>>
+    ensures ok { OnOk result (RunsFiles (F.holds files.old) request.now (W.contents out.old) (W.contents out.new)) }
+    ensures err { IfErr result (λ f. StopsBy f (F.holds files.old) request.now (W.contents out.old) (W.contents out.new)) }
+{
+    let policy_text = named_file(alloc, files, request.policy)?;
+    let input = named_file(alloc, files, request.input)?;
+    let policy = match Policy::read(alloc, policy_text.as_slice()) {
+        Ok(policy) => policy,
+        Err(fault) => return Err(Failure::Fault(Fault::from(fault))),
+    };
+    let texts = source_texts(alloc, files, policy.sources())?;
+    let sources = lent(alloc, texts.as_slice())?;
+    match run_files(
+        alloc,
+        policy_text.as_slice(),
+        sources.as_slice(),
+        input.as_slice(),
+        request.most_time,
+        request.random,
+        out,
+    ) {
+        Ok(()) => Ok(()),
+        Err(fault) => Err(Failure::Fault(fault)),
+    }
+}
+
+/// The bytes of a file that the words name.
+fn named_file<'a, F: Files>(
+    alloc: Global,
+    files: &mut F,
+    name: &'a str,
+) -> Result<Vec<u8>, Failure<'a>>
+    ensures found { IfOk result (λ bytes. F.holds files.old name.entry.now bytes.items) }
+    ensures kept { (file bytes : List ℕ) → F.holds files.new file bytes → F.holds files.old file bytes }
+{
+    match files.read(alloc, name) {
+        Ok(bytes) => Ok(bytes),
+        Err(FileFault::Unreadable) => Err(Failure::UnreadableFile(name)),
+        Err(FileFault::Memory) => Err(Failure::Fault(Fault::Memory)),
+    }
+}
+
+/// The texts of the files of these sources, in order.
+fn source_texts<'a, F: Files>(
+    alloc: Global,
+    files: &mut F,
+    names: &[Text<64>],
+) -> Result<Vec<SourceText>, Failure<'a>>
+    ensures names { IfOk result (λ texts. map (λ s. s.name) texts.items ≡ names.now) }
+    ensures found { IfOk result (λ texts. All (λ s. F.holds files.old s.name s.text.items) texts.items) }
+{
+    let mut texts = Vec::new(alloc);
+    for name in names {
+        let name = Text::of(name.as_str());
+        match files.read(alloc, name.as_str()) {
+            Ok(text) => texts.push(SourceText { name, text })?,
+            Err(FileFault::Unreadable) => return Err(Failure::UnreadableSource(name)),
+            Err(FileFault::Memory) => return Err(Failure::Fault(Fault::Memory)),
+        }
+    }
+    Ok(texts)
+}
+
+/// The names and texts, lent.
+fn lent<'a>(alloc: Global, texts: &'a [SourceText]) -> Result<Vec<(&'a str, &'a [u8])>, AllocError>
+    ensures { IfOk result (λ sources. sources_seen sources.items ≡ map (λ s. (s.name, s.text.items)) texts.entry.now) }
+{
+    let mut sources = Vec::new(alloc);
+    for source in texts {
+        sources.push((source.name.as_str(), source.text.as_slice()))?;
+    }
+    Ok(sources)
+}

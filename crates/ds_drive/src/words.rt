@@ -1,0 +1,165 @@
+//! What the program's words ask for.
+ghost use Rattle.std.specs.Prelude.{◌≡◌, ◌↔◌, IfOk, IfSome, Some, codes, false, map, string_bytes};
+ghost use Rattle.clap.specs.Words.{FailsBy, app_of, fault_of, found_of, new_app, rows_of, rule_of, subcommand_name_of, subcommand_of, subcommand_rows_of};
+ghost use Rattle.clap.specs.declared.builder.command.Command.TheViews.{out-Command as fields_of};
+ghost use Rattle.ds_drive.specs.Words.{AsksForRun, NamesRun, command_named, dsmon_app, random_rule, required_rule, run_app, time_rule};
+
+use clap::builder::ValueParser;
+use clap::{Arg, ArgMatches, Command, Error};
+use std::alloc::{AllocError, Global};
+use std::rt::Env;
+use std::{env, io};
+
+/// A run of files that the words ask for.
+#[derive(Clone, Copy, Debug, PartialEq, Eq)]
+pub struct Request<'a> {
+    /// The name of the policy's file.
+    pub policy: &'a str,
+    /// The name of the input's file.
+    pub input: &'a str,
+    /// The time at which the run ends at the latest, in ticks, from 0 to 1,000,000,000.
+    pub most_time: u64,
+    /// Where the register Random starts.
+    pub random: u8,
+}
+
+/// What the words ask for.
+#[derive(Clone, Copy, Debug, PartialEq, Eq)]
+pub enum Wish<'a> {
+    /// The run that the program holds.
+    Demo,
+    /// A run of files.
+    Run(Request<'a>),
+}
+
+/// The words that the program was started with, its own name first.
+pub fn program_words<R: Env + AllocGlobal>(rt: &R) -> io::Result<Vec<String>> {
+    Ok(env::args(rt)?.collect(rt.alloc())?)
+}
+
+/// What stands at the end of the program's help.
+const HELP: &str = "Example:
+  dsmon run policy.toml input.txt 1000
+
+The status is 0 where all was done, 1 where the words are wrong or ask for help,
+2 where the policy, a source, the input or R is refused, and 3 where a fault ends
+the run. With 2 and 3 a line on standard error tells the fault's number and name.";
+
+/// What stands at the end of the help of `run`.
+const RUN_HELP: &str = "Each source that POLICY names is read by its name as it is written there.
+A file has at most 16777216 bytes. A file without a line is an input in which nothing happens.
+
+Example:
+  dsmon run policy.toml input.txt 1000 --random 40";
+
+/// What stands at the end of the help of `demo`.
+const DEMO_HELP: &str = "Its policy and its source are held in the program; it writes 66 bytes.
+
+Example:
+  dsmon demo";
+
+fn file_argument<'a>(alloc: Global, id: &'a str, help: &'a str) -> Arg<'a>
+    ensures rule { rule_of result ≡ required_rule id.entry.now }
+    ensures local { result.global ≡ false }
+{
+    Arg::new(alloc, id).required(true).help(help)
+}
+
+fn time_argument<'a>(alloc: Global) -> Arg<'a>
+    ensures rule { rule_of result ≡ time_rule }
+    ensures local { result.global ≡ false }
+{
+    Arg::new(alloc, "N")
+        .required(true)
+        .value_parser(ValueParser::unsigned(0, 1_000_000_000))
+        .help("The time at which the run ends at the latest, in ticks, from 0 to 1000000000")
+}
+
+fn random_argument<'a>(alloc: Global) -> Arg<'a>
+    ensures rule { rule_of result ≡ random_rule }
+    ensures local { result.global ≡ false }
+{
+    Arg::new(alloc, "R")
+        .long("random")
+        .value_parser(ValueParser::unsigned(0, 255))
+        .default_value("63")
+        .help("Where the register Random starts, from 0 to 255; a run takes 8 to 63")
+}
+
+fn run_described<'a>(alloc: Global) -> Command<'a>
+    ensures app { app_of result ≡ new_app (codes "run") }
+    ensures local { (fields_of result).has_globals ≡ false }
+{
+    Command::new(alloc, "run")
+        .about("Runs processes under a policy and writes their consoles and the log")
+        .after_help(RUN_HELP)
+}
+
+fn run_command<'a>(alloc: Global) -> Result<Command<'a>, AllocError>
+    ensures app { IfOk result (λ c. app_of c ≡ run_app) }
+    ensures local { IfOk result (λ c. (fields_of c).has_globals ≡ false) }
+{
+    run_described(alloc)
+        .arg(file_argument(alloc, "POLICY", "The file of the policy, in TOML"))?
+        .arg(file_argument(
+            alloc,
+            "INPUT",
+            "The file of the input: commands and characters, each with its time",
+        ))?
+        .arg(time_argument(alloc))?
+        .arg(random_argument(alloc))
+}
+
+fn command<'a>(alloc: Global) -> Result<Command<'a>, AllocError>
+    ensures { IfOk result (λ c. app_of c ≡ dsmon_app) }
+{
+    let demo = Command::new(alloc, "demo")
+        .about("Runs a process that writes one letter")
+        .after_help(DEMO_HELP);
+    Command::new(alloc, "dsmon")
+        .version("0.1.0")
+        .about("Runs a simulated MIPS workstation under a page policy")
+        .after_help(HELP)
+        .subcommand_required(true)
+        .subcommand(run_command(alloc)?)?
+        .subcommand(demo)
+}
+
+// What clap reads in the words.
+fn read_words<'a>(alloc: Global, words: &'a [String]) -> Result<ArgMatches<'a>, Error>
+    ensures refused { FailsBy (fault_of dsmon_app (map string_bytes words.entry.now)) result }
+    ensures named { IfOk result (λ matches. subcommand_rows_of matches
+        ≡ subcommand_of dsmon_app (map string_bytes words.entry.now)) }
+{
+    command(alloc)?.try_get_matches_from(words)
+}
+
+/// What the words behind `run` ask for.
+fn request_of<'a>(found: &ArgMatches<'a>) -> Option<Request<'a>>
+    ensures { IfSome result (λ request. NamesRun (rows_of (found_of found.now)) request) }
+{
+    Some(Request {
+        policy: found.get_str("POLICY")?,
+        input: found.get_str("INPUT")?,
+        most_time: found.get_one("N")?,
+        random: found.get_one("R")?,
+    })
+}
+
+/// What `words` ask for, the program's own name first. An error is clap's: a mistake in the words,
+/// a call for help or the version, or memory that ran out. `None` stands for words that clap takes
+/// and that name no command or leave a word out, which it does not let through.
+pub fn wish_of<'a>(alloc: Global, words: &'a [String]) -> Result<Option<Wish<'a>>, Error>
+    ensures refused { FailsBy (fault_of dsmon_app (map string_bytes words.entry.now)) result }
+    ensures named { IfOk result (λ wish. (wish ≡ Some Wish.Demo)
+        ↔ (command_named (map string_bytes words.entry.now) ≡ Some (codes "demo"))) }
+    ensures run { IfOk result (λ wish. (request : Request) → wish ≡ Some (Wish.Run request)
+        → AsksForRun (map string_bytes words.entry.now) request) }
+{
+    let matches = read_words(alloc, words)?;
+    match matches.subcommand() {
+        Some(("demo", _)) => Ok(Some(Wish::Demo)),
+        Some(("run", found)) => Ok(request_of(found).map(Wish::Run)),
+        _ => Ok(None),
+    }
+}

@@ -1,9 +1,0 @@
--- What the demonstration runs.
-use Rattle.std.specs.Prelude.{◌∷◌, [], Result, codes}
-use Rattle.ds_pagemap.specs.Machine.{State}
-use Rattle.ds_pagemap.specs.Inputs.{Refusal, inputs}
-use Rattle.dsmon.specs.declared.demo.TheConstants.{POLICY, SOURCE}
-
--- its texts as a run reads them: no input, 100 ticks, and Random starts at 63
-abbrev pub demo_inputs : Result State Refusal
-demo_inputs = inputs POLICY.now ((codes "one.s", SOURCE.now) ∷ []) [] 100 63
