@@ -28,6 +28,7 @@ pub fn run_request<'a, F: Files, W: Write>(
 ) -> Result<(), Failure<'a>>
     ensures ok { OnOk result (RunsFiles (F.holds files.old) request.now (W.contents out.old) (W.contents out.new)) }
     ensures err { IfErr result (λ f. StopsBy f (F.holds files.old) request.now (W.contents out.old) (W.contents out.new)) }
+    ensures kept { (file bytes : List ℕ) → F.holds files.new file bytes → F.holds files.old file bytes }
 {
     let policy_text = named_file(alloc, files, request.policy)?;
     let input = named_file(alloc, files, request.input)?;
@@ -75,6 +76,7 @@ fn source_texts<'a, F: Files>(
 ) -> Result<Vec<SourceText>, Failure<'a>>
     ensures names { IfOk result (λ texts. map (λ s. s.name) texts.items ≡ names.now) }
     ensures found { IfOk result (λ texts. All (λ s. F.holds files.old s.name s.text.items) texts.items) }
+    ensures kept { (file bytes : List ℕ) → F.holds files.new file bytes → F.holds files.old file bytes }
 {
     let mut texts = Vec::new(alloc);
     for name in names {
