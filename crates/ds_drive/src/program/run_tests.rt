@@ -185,7 +185,7 @@ fn each_refusal_is_told_with_status_2_and_nothing_is_written(rt: HostRuntime) ->
     let good = ("p.toml", POLICY.as_bytes());
     let input = ("in.txt", b"".as_slice());
     let source = ("one.s", SOURCE.as_bytes());
-    let cases: [(&[(&str, &[u8])], &str); 9] = [
+    let cases: [(&[(&str, &[u8])], &str); 13] = [
         (&[], "dsmon: 26 Unreadable p.toml\n"),
         (&[good, source], "dsmon: 26 Unreadable in.txt\n"),
         (&[good, input], "dsmon: 26 Unreadable one.s\n"),
@@ -201,6 +201,22 @@ fn each_refusal_is_told_with_status_2_and_nothing_is_written(rt: HostRuntime) ->
         (
             &[good, input, ("one.s", b".word 0x00000000\nlw $1\n")],
             "dsmon: 3 Syntax one.s 2\n",
+        ),
+        (
+            &[good, input, ("one.s", b"j there\nnop\n")],
+            "dsmon: 4 UnknownLabel one.s 1\n",
+        ),
+        (
+            &[good, input, ("one.s", b"x: nop\nx: nop\n")],
+            "dsmon: 5 DoubleLabel one.s 2\n",
+        ),
+        (
+            &[good, input, ("one.s", b"\n\naddiu $1,$0,40000\n")],
+            "dsmon: 6 Range one.s 3\n",
+        ),
+        (
+            &[good, input, ("one.s", b".space 65536\nnop\n")],
+            "dsmon: 7 TooLong one.s 2\n",
         ),
         (
             &[good, source, ("in.txt", b"\n5 jump\n")],
@@ -295,6 +311,47 @@ fn a_source_has_at_most_16777216_bytes(rt: HostRuntime) -> Result<(), Fail> {
         b"dsmon: 26 Unreadable one.s\n".as_slice()
     );
     assert_eq!(rt; answer.status, 2);
+    Ok(())
+}
+
+/// A place where memory runs out at the file that is asked for after so many others.
+#[derive(Drop)]
+struct Exhausted {
+    before: u32,
+}
+
+impl Files for Exhausted {
+    fn read(&mut self, alloc: Global, _name: &str) -> Result<Vec<u8>, FileFault> {
+        if self.before == 0 {
+            return Err(FileFault::Memory);
+        }
+        self.before -= 1;
+        match POLICY.as_bytes().to_vec(alloc) {
+            Ok(bytes) if bytes.len() as u64 <= MOST_BYTES => Ok(bytes),
+            _ => Err(FileFault::Memory),
+        }
+    }
+}
+
+#[test]
+fn want_of_memory_for_a_file_is_a_fault_of_the_run(rt: HostRuntime) -> Result<(), Fail> {
+    let mut words = Vec::new(rt.alloc());
+    for word in WORDS {
+        words.push(String::from_str(rt.alloc(), word)?)?;
+    }
+    for before in [0, 1, 2] {
+        let mut files = Exhausted { before };
+        let mut out: Vec<u8> = Vec::new(rt.alloc());
+        let mut err: Vec<u8> = Vec::new(rt.alloc());
+        let status = drive(rt.alloc(), words.as_slice(), &mut files, &mut out, &mut err);
+        assert_eq!(rt; status, 3, "{before}");
+        assert_eq!(rt;
+            err.as_slice(),
+            b"dsmon: 25 Memory\n".as_slice(),
+            "{before}"
+        );
+        assert!(rt; out.is_empty());
+    }
     Ok(())
 }
 

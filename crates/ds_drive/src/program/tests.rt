@@ -122,12 +122,30 @@ fn a_closed_error_stream_changes_no_status(rt: HostRuntime) -> Result<(), Fail> 
 
 #[test]
 fn words_that_ask_for_nothing_that_is_there_are_refused(rt: HostRuntime) -> Result<(), Fail> {
-    let cases: [(&[&str], &str); 9] = [
+    let cases: [(&[&str], &str); 20] = [
         (&[], "requires a subcommand"),
         (&["dsmon"], "requires a subcommand"),
         (&["dsmon", "walk"], "unrecognized subcommand 'walk'"),
+        (&["dsmon", "--fast"], "unexpected argument '--fast'"),
         (&["dsmon", "demo", "now"], "unexpected argument 'now'"),
+        (
+            &["dsmon", "demo", "--random", "8"],
+            "unexpected argument '--random'",
+        ),
+        (&["dsmon", "run"], "<POLICY>"),
+        (&["dsmon", "run", "p.toml"], "<INPUT>"),
         (&["dsmon", "run", "p.toml", "in"], "<N>"),
+        (
+            &["dsmon", "run", "p.toml", "in", "10", "63"],
+            "unexpected argument '63'",
+        ),
+        (&["dsmon", "run", "p.toml", "in", "ten"], "'ten'"),
+        (&["dsmon", "run", "p.toml", "in", "0x10"], "'0x10'"),
+        (&["dsmon", "run", "p.toml", "in", ""], "<N>"),
+        (
+            &["dsmon", "run", "p.toml", "in", "1000000000000000000000"],
+            "<N>",
+        ),
         (
             &["dsmon", "run", "p.toml", "in", "1000000001"],
             "1000000001 is not in 0..=1000000000",
@@ -143,6 +161,16 @@ fn words_that_ask_for_nothing_that_is_there_are_refused(rt: HostRuntime) -> Resu
         (
             &["dsmon", "run", "p.toml", "in", "10", "--random"],
             "--random",
+        ),
+        (
+            &["dsmon", "run", "p.toml", "in", "10", "--random", "last"],
+            "'last'",
+        ),
+        (
+            &[
+                "dsmon", "run", "p.toml", "in", "10", "--random", "8", "--random", "9",
+            ],
+            "cannot be used multiple times",
         ),
     ];
     for (words, wanted) in cases {
@@ -177,13 +205,47 @@ fn help_and_the_version_go_to_the_error_stream(rt: HostRuntime) -> Result<(), Fa
 
 #[test]
 fn a_fault_is_told_in_one_line_and_gives_its_status(rt: HostRuntime) -> Result<(), Fail> {
-    let name = Text::of("one.s");
     let cases = [
         (Fault::BadRandom, 2, "dsmon: 1 BadRandom\n"),
         (
-            Fault::Syntax { name, line: 2 },
+            Fault::Syntax {
+                name: Text::of("one.s"),
+                line: 2,
+            },
             2,
             "dsmon: 3 Syntax one.s 2\n",
+        ),
+        (
+            Fault::UnknownLabel {
+                name: Text::of("one.s"),
+                line: 3,
+            },
+            2,
+            "dsmon: 4 UnknownLabel one.s 3\n",
+        ),
+        (
+            Fault::DoubleLabel {
+                name: Text::of("one.s"),
+                line: 4,
+            },
+            2,
+            "dsmon: 5 DoubleLabel one.s 4\n",
+        ),
+        (
+            Fault::Range {
+                name: Text::of("one.s"),
+                line: 5,
+            },
+            2,
+            "dsmon: 6 Range one.s 5\n",
+        ),
+        (
+            Fault::TooLong {
+                name: Text::of("one.s"),
+                line: 6,
+            },
+            2,
+            "dsmon: 7 TooLong one.s 6\n",
         ),
         (Fault::BadToml, 2, "dsmon: 8 BadToml\n"),
         (Fault::BadRule(1), 2, "dsmon: 9 BadRule 1\n"),
