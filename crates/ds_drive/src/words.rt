@@ -17,7 +17,7 @@ pub struct Request<'a> {
     pub policy: &'a str,
     /// The name of the input's file.
     pub input: &'a str,
-    /// The time at which the run ends at the latest, in ticks, from 0 to 1,000,000,000.
+    /// How many ticks the run goes on, from 0 to 1,000,000,000; a branch at the end takes one more.
     pub most_time: u64,
     /// Where the register Random starts.
     pub random: u8,
@@ -46,8 +46,10 @@ The status is 0 where all was done, 1 where the words are wrong or ask for help,
 the run. With 2 and 3 a line on standard error tells the fault's number and name.";
 
 /// What stands at the end of the help of `run`.
-const RUN_HELP: &str = "Each source that POLICY names is read by its name as it is written there.
-A file has at most 16777216 bytes. A file without a line is an input in which nothing happens.
+const RUN_HELP: &str =
+    "Each source that POLICY names is read by its name as it is written there, from the folder
+in which the command is given. A file has at most 16777216 bytes. A file without a line is
+an input in which nothing happens.
 
 Example:
   dsmon run policy.toml input.txt 1000 --random 40";
@@ -72,7 +74,9 @@ fn time_argument<'a>(alloc: Global) -> Arg<'a>
     Arg::new(alloc, "N")
         .required(true)
         .value_parser(ValueParser::unsigned(0, 1_000_000_000))
-        .help("The time at which the run ends at the latest, in ticks, from 0 to 1000000000")
+        .help(
+            "How many ticks the run goes on, from 0 to 1000000000; a branch at the end takes one more",
+        )
 }
 
 fn random_argument<'a>(alloc: Global) -> Arg<'a>
@@ -104,7 +108,7 @@ fn run_command<'a>(alloc: Global) -> Result<Command<'a>, AllocError>
         .arg(file_argument(
             alloc,
             "INPUT",
-            "The file of the input: commands and characters, each with its time",
+            "The file of the input: today comments and empty lines alone",
         ))?
         .arg(time_argument(alloc))?
         .arg(random_argument(alloc))

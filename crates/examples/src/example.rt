@@ -9,7 +9,7 @@ use std::alloc::{AllocError, Global};
 pub struct Example {
     /// The name of its files, without what follows the dot.
     pub name: &'static str,
-    /// The time at which its run ends at the latest, in ticks, as it stands in its command.
+    /// How many ticks its run goes on, as they stand in its command.
     pub most_time: &'static str,
 }
 
