@@ -1,10 +1,9 @@
 -- What files may be read as later, they may be read as before: so a run of what they hold later is one of what they hold now.
-use Rattle.std.proofs.Common.{◌≡◌, ◌<◌, ◌≤◌, ◌+◌, ℕ, List, inl, inr, subst, arith, slice_index_or}
+use Rattle.std.proofs.Common.{◌≡◌, ◌<◌, ◌+◌, ℕ, List, inl, inr, subst, arith, slice_index_or}
 use Rattle.std.proofs.lemmas.Bool.{cases_lt}
-use Rattle.std.specs.Prelude.{Option, All}
+use Rattle.std.specs.Prelude.{Option}
 use Rattle.std.proofs.lemmas.List.Elements.{All-weaker}
 use Rattle.ds_drive.specs.Done.{IsDone}
-use Rattle.ds_drive.specs.Failures.{AreHeld, RunsFiles}
 use Rattle.examples.specs.Commands.{command_of}
 use Rattle.examples.specs.Outcomes.{RunsAsExpected}
 use Rattle.examples.specs.declared.example.Example.{Example}

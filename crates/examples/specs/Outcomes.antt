@@ -1,5 +1,5 @@
 -- What came of an example.
-use Rattle.std.specs.Prelude.{◌≡◌, ◌≢◌, ℕ, List, [], Option, Some, ◌++◌, codes, decimal, slice_get, take}
+use Rattle.std.specs.Prelude.{◌≡◌, ◌≢◌, ℕ, List, [], Some, ◌++◌, codes, decimal, slice_get, take}
 use Rattle.ds_drive.specs.Done.{IsDone}
 use Rattle.examples.specs.Commands.{command_of}
 use Rattle.examples.specs.declared.example.Example.{Example}

@@ -1,4 +1,4 @@
-use Rattle.std.proofs.Common.{rules, ◌≡◌, ℕ, List}
+use Rattle.std.proofs.Common.{rules}
 use Rattle.examples.proofs.Later.{done_before}
 use Rattle.examples.proofs.run.run_example.Goals as goal
 
