@@ -1,6 +1,6 @@
 //! Runs of examples whose files stand in memory.
 use super::run_all;
-use crate::example::EXAMPLES;
+use crate::example::{EXAMPLES, Example};
 use ds_drive::{FileFault, Files};
 use std::alloc::Global;
 use std::test::Fail;
@@ -88,46 +88,28 @@ sorting: its expected text can't be read
 #[test]
 fn the_status_is_0_where_each_example_is_as_expected(rt: HostRuntime) -> Result<(), Fail> {
     let files = [
-        ("hello.toml", POLICY),
-        ("hello.input", ""),
-        ("fault.toml", POLICY),
-        ("fault.input", ""),
-        ("denied_store.toml", POLICY),
-        ("denied_store.input", ""),
-        ("timing.toml", POLICY),
-        ("timing.input", ""),
-        ("sorting.toml", POLICY),
-        ("sorting.input", ""),
+        ("one.toml", POLICY),
+        ("one.input", ""),
+        ("one.expected", WRITTEN),
     ];
-    let texts = [
-        ("hello.expected", "time 100\n"),
-        ("fault.expected", "time 10\n"),
-        ("denied_store.expected", "time 20\n"),
-        ("timing.expected", "time 100\n"),
-        ("sorting.expected", "time 1000\n"),
-    ];
-    let front = WRITTEN.strip_suffix("time 20\n").expect(&rt, "its end");
-    let mut whole = Vec::new(rt.alloc());
-    for (_, end) in texts {
-        whole.push(format!(in rt.alloc(); "{front}{end}")?)?;
-    }
-    let mut all = Vec::from_slice(rt.alloc(), &files)?;
-    for ((name, _), text) in texts.iter().zip(&whole) {
-        all.push((name, text.as_str()))?;
-    }
+    let one = Example {
+        name: "one",
+        most_time: "20",
+    };
     let mut out: Vec<u8> = Vec::new(rt.alloc());
     let mut err: Vec<u8> = Vec::new(rt.alloc());
-    let mut held = Held {
-        files: all.as_slice(),
-    };
     let status = run_all(
         rt.alloc(),
-        EXAMPLES.as_slice(),
-        &mut held,
+        &[one, one],
+        &mut Held { files: &files },
         &mut out,
         &mut err,
     )?;
     assert_eq!(rt; status, 0);
+    assert_eq!(rt;
+        out.as_slice(),
+        b"one: as expected\none: as expected\n".as_slice()
+    );
     assert!(rt; err.is_empty());
     Ok(())
 }
