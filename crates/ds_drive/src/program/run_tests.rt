@@ -237,29 +237,6 @@ fn each_refusal_is_told_with_status_2_and_nothing_is_written(rt: HostRuntime) ->
 }
 
 #[test]
-fn a_fault_of_a_source_is_told_with_its_name_and_line(rt: HostRuntime) -> Result<(), Fail> {
-    let cases: [(&[u8], &[u8]); 5] = [
-        (b".word 0x24040041\nlw $1\n", b"dsmon: 3 Syntax one.s 2\n"),
-        (b"beq $0,$0,y\n", b"dsmon: 4 UnknownLabel one.s 1\n"),
-        (b"x: nop\nx: nop\n", b"dsmon: 5 DoubleLabel one.s 2\n"),
-        (b"addiu $1,$0,40000\n", b"dsmon: 6 Range one.s 1\n"),
-        (b".space 65536\nnop\n", b"dsmon: 7 TooLong one.s 2\n"),
-    ];
-    for (source, wanted) in cases {
-        let files = [
-            ("in.txt", b"".as_slice()),
-            ("one.s", source),
-            ("p.toml", POLICY.as_bytes()),
-        ];
-        let answer = answer_to(rt.alloc(), &WORDS, &files)?;
-        assert_eq!(rt; answer.err.as_slice(), wanted);
-        assert_eq!(rt; answer.status, 2);
-        assert!(rt; answer.out.is_empty());
-    }
-    Ok(())
-}
-
-#[test]
 fn a_rule_and_a_start_of_random_that_are_out_of_range_are_refused(
     rt: HostRuntime,
 ) -> Result<(), Fail> {
