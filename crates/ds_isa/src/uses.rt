@@ -24,10 +24,8 @@ pub(crate) struct Uses {
     is_branch: bool,
 }
 
-const NO_SOURCES: Sources = Sources { rs: None, rt: None };
-
 const NO_USES: Uses = Uses {
-    reads: NO_SOURCES,
+    reads: Sources { rs: None, rt: None },
     writes: None,
     links: None,
     is_branch: false,
@@ -37,18 +35,31 @@ const NO_USES: Uses = Uses {
 macro_rules! register {
     () => { None };
     ($number:literal) => { Some($number) };
-    ($field:ident) => { Some(*$field) };
+    ($field:ident) => { Some($field) };
+}
+
+/// Source registers, by the fields that name them.
+macro_rules! sources {
+    ([] []) => { Sources { rs: None, rt: None } };
+    ([rs] [$rs:ident]) => { Sources { rs: Some($rs), rt: None } };
+    ([rt] [$rt:ident]) => { Sources { rs: None, rt: Some($rt) } };
+    ([rs rt] [$rs:ident $rt:ident]) => { Sources { rs: Some($rs), rt: Some($rt) } };
 }
 
 macro_rules! used {
-    (reads $read:tt $(writes $written:tt)? $(links $linked:tt)? branch) => {
-        Uses { is_branch: true, ..used!(reads $read $(writes $written)? $(links $linked)?) }
-    };
-    (reads [$($source:ident)*] $(writes [$written:tt])? $(links [$linked:tt])?) => {
+    (reads [$($source:ident)*] $(writes [$written:tt])? $(links [$linked:tt])? branch) => {
         Uses {
-            reads: Sources { $($source: Some(*$source),)* ..NO_SOURCES },
+            reads: sources!([$($source)*] [$($source)*]),
             writes: register!($($written)?),
             links: register!($($linked)?),
+            is_branch: true,
+        }
+    };
+    (reads [$($source:ident)*] $(writes [$written:tt])?) => {
+        Uses {
+            reads: sources!([$($source)*] [$($source)*]),
+            writes: register!($($written)?),
+            links: None,
             is_branch: false,
         }
     };
@@ -61,7 +72,7 @@ macro_rules! use_rows {
      major { $($op:literal $major:ident [$($part:ident)*] zero $nought:tt uses { $($used:tt)* };)* }
      transfer { $($way:literal $transfer:ident [$($end:ident)*] zero $nil:tt uses { $($using_these:tt)* };)* }
      operation { $($number:literal $operation:ident [] zero [] uses { reads [] };)* }) => {
-        match $instr {
+        match *$instr {
             $(Instr::$special { $($field),* } => used!($($use)*),)*
             $(Instr::$regimm { $($place),* } => used!($($using)*),)*
             $(Instr::$major { $($part),* } => used!($($used)*),)*
