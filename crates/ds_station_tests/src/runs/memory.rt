@@ -2,9 +2,9 @@
 ghost use Rattle.std.specs.Prelude.{◌≤◌};
 
 use super::*;
-use crate::{Fault, Station, Step};
 use ds_asm::assemble;
 use ds_policy::{Events, Policy};
+use ds_station::{Fault, Station, Step};
 use ds_tlb::Tlb;
 use std::io;
 use std::io::Write;

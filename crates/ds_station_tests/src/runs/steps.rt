@@ -3,10 +3,9 @@ ghost use Rattle.std.specs.Prelude.{◌≡◌};
 
 use super::rows::rows;
 use super::*;
-use crate::report::send_report;
-use crate::{Station, Step};
 use ds_asm::assemble;
 use ds_policy::{Events, Policy};
+use ds_station::{Station, Step};
 use ds_tlb::{Indexed, Lookaside, Tlb};
 
 /// The most ticks of a run.
@@ -51,21 +50,18 @@ pub fn station_of<L: Lookaside>(alloc: Global, row: &Row) -> Result<Station<L>, 
 
 /// The text of a station's state.
 fn text_of<L: Lookaside>(alloc: Global, station: &Station<L>) -> Result<String, Fail> {
-    let consoles = [
-        station.console(0),
-        station.console(1),
-        station.console(2),
-        station.console(3),
-    ];
-    let mut out = Vec::new(alloc);
-    send_report(
-        &consoles,
-        station.log_lines(),
-        station.log(),
-        station.time(),
-        &mut out,
-    )?;
-    joined(alloc, &[std::str::from_utf8(&out)?])
+    let mut text = String::new(alloc);
+    for line in 0..4 {
+        let bytes = station.console(line);
+        let put = std::str::from_utf8(bytes)?;
+        let part = format!(in alloc; "console {line} {}\n{put}\n", bytes.len())?;
+        text.push_str(part.as_str())?;
+    }
+    let log = std::str::from_utf8(station.log())?;
+    let lines = log.lines().count();
+    let part = format!(in alloc; "log {lines}\n{log}time {}\n", station.time())?;
+    text.push_str(part.as_str())?;
+    Ok(text)
 }
 
 /// The text of a station that is stepped to the end of a run for n.
