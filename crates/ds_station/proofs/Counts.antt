@@ -20,12 +20,12 @@ use Rattle.ds_log.specs.declared.line.Denied.{Denied}
 use Rattle.ds_log.specs.declared.line.Denied.TheVariants.{Exec}
 use Rattle.ds_pagemap.specs.declared.turn.Turn.{Turn}
 use Rattle.ds_pagemap.specs.Unit.{denied_as}
-use Rattle.ds_station.specs.declared.processor.Event.{Event}
-use Rattle.ds_station.specs.declared.processor.Event.TheVariants as event
+use Rattle.ds_user.specs.declared.processor.Event.{Event}
+use Rattle.ds_user.specs.declared.processor.Event.TheVariants as event
 use Rattle.ds_station.specs.declared.parts.Step.{Step}
 use Rattle.ds_station.specs.declared.parts.Step.TheVariants as step
-use Rattle.ds_station.specs.Processor.{Cpu, Stepped, process_step, fetched, effect, branched, loaded_from, stored_to, translate}
-use Rattle.ds_station.specs.Memory.{load_word}
+use Rattle.ds_user.specs.Processor.{Cpu, Stepped, process_step, fetched, effect, branched, loaded_from, stored_to, translate}
+use Rattle.ds_user.specs.Memory.{load_word}
 use Rattle.ds_station.specs.Held.{Held}
 use Rattle.ds_station.specs.Parts.{IsOrderly}
 use Rattle.ds_station.specs.Services.{after_event, step_of, ticks_of, begun, failed, denied_held, by_verdict, step_by, called_held, called_or_fault, own_address, exited, answered_held, idled, bounded}

@@ -29,7 +29,7 @@ use Rattle.ds_tlb.specs.declared.entry.Entry.{Entry}
 use Rattle.ds_tlb.specs.Entries.{empty_entries}
 use Rattle.ds_procs.specs.declared.process.Process as saved
 use Rattle.ds_pagemap.specs.Machine.{State}
-use Rattle.ds_station.specs.Processor.{Cpu}
+use Rattle.ds_user.specs.Processor.{Cpu}
 use Rattle.ds_station.specs.Held.{Held, Outside}
 use Rattle.ds_station.specs.Stands.{BufferHolds, NamesPages, RunningIs, Stands}
 use Rattle.ds_station.proofs.Refills.{empty_holds}

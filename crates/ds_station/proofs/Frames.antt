@@ -9,9 +9,9 @@ use Rattle.std.specs.List.{flat_map}
 use Rattle.std.specs.Prelude.{Some, None, slice_index_or, slice_set, ◌==◌, nat_lt, nat_le}
 use Rattle.ds_policy.specs.Pages.{Pages, Table, bytes_of, kept, word_at, with_word}
 use Rattle.ds_policy.specs.Grants.{PageState, live_only, end_process}
-use Rattle.ds_station.specs.Memory.{load_word, store_word}
+use Rattle.ds_user.specs.Memory.{load_word, store_word}
 use Rattle.ds_station.specs.Frames.{FramesHold}
-use Rattle.ds_station.proofs.Words.{word_bytes, with_word-sets, part_word, part-sets, part-sets_apart}
+use Rattle.ds_user.proofs.Words.{store_word-with, word_bytes, with_word-sets, part_word, part-sets, part-sets_apart}
 
 -- the bytes of a page that is there
 pub bytes_of-some : (pages : Pages) (p : ℕ) (bytes : List ℕ) → slice_index_or pages p None ≡ Some bytes → bytes_of pages p ≡ bytes
@@ -29,10 +29,6 @@ page_there (b ∷ rest) (suc p) bytes e = let r = page_there rest p bytes e in o
 -- a word in range, loaded
 load_word-within : (memory : List ℕ) (place : ℕ) → place - place % 4 + 4 ≤ length memory → load_word memory place ≡ word_at memory place
 load_word-within memory place within = let t : nat_le (place - place % 4 + 4) (length memory) ≡ true = grind (arith, nat_tests) in rw t refl
-
--- a word in range, stored
-pub store_word-with : (memory : List ℕ) (place w : ℕ) → place - place % 4 + 4 ≤ length memory → store_word memory place w ≡ with_word memory place w
-store_word-with memory place w within = let t : nat_le (place - place % 4 + 4) (length memory) ≡ true = grind (arith, nat_tests) in rw t refl
 
 -- the same as stores of bytes
 store_word-sets : (memory : List ℕ) (place w : ℕ) → place - place % 4 + 4 ≤ length memory → store_word memory place w ≡ sets memory (place - place % 4) (word_bytes w)

@@ -1,7 +1,5 @@
-pub mod Words
 pub mod Frames
 pub mod Lookups
-pub mod Windows
 pub mod Links
 pub mod Meets
 pub mod Stages

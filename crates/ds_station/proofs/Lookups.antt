@@ -17,7 +17,7 @@ use Rattle.ds_policy.specs.Pages.{Table, decide, is_aligned, address_code, allow
 use Rattle.ds_policy.specs.Grants.{is_write}
 use Rattle.ds_tlb.specs.declared.entry.Entry.{Entry}
 use Rattle.ds_tlb.specs.Entries.{matches, find}
-use Rattle.ds_station.specs.Processor.{translate, by_slot, entry_in, is_store}
+use Rattle.ds_user.specs.Processor.{translate, by_slot, entry_in, is_store}
 use Rattle.ds_station.specs.Stands.{IsBacked, BufferHolds}
 
 both : (a b : Bool) → (a && b) ≡ true → (a ≡ true) × (b ≡ true)

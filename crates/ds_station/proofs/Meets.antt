@@ -17,14 +17,14 @@ use Rattle.ds_policy.specs.declared.grant.Right.TheVariants.{Nothing, Read, Writ
 use Rattle.ds_policy.specs.Pages.{Pages, Table, decide, is_aligned, address_code, allowed_on, by_right, by_entry, entry_at, page_address, bytes_of, word_at, with_word}
 use Rattle.ds_pagemap.specs.Machine.{State, Process}
 use Rattle.ds_pagemap.specs.Unit.{Outcome, Went, Branched, Called, Stopped, instruction, done, where_allowed, denied_as, fault, stored}
-use Rattle.ds_station.specs.Memory.{load_word, store_word}
+use Rattle.ds_user.specs.Memory.{load_word, store_word}
 use Rattle.ds_station.specs.Frames.{FramesHold}
-use Rattle.ds_station.specs.declared.processor.Cause.{Cause}
-use Rattle.ds_station.specs.declared.processor.Cause.TheVariants as cause
-use Rattle.ds_station.specs.declared.processor.Event.{Event}
-use Rattle.ds_station.specs.declared.processor.Event.TheVariants as event
-use Rattle.ds_station.specs.Processor as processor
-use Rattle.ds_station.specs.Processor.{Cpu, Stepped, process_step, translate, effect, fetched, loaded_from, stored_to, raised_cpu, gone_cpu, branched_cpu}
+use Rattle.ds_user.specs.declared.processor.Cause.{Cause}
+use Rattle.ds_user.specs.declared.processor.Cause.TheVariants as cause
+use Rattle.ds_user.specs.declared.processor.Event.{Event}
+use Rattle.ds_user.specs.declared.processor.Event.TheVariants as event
+use Rattle.ds_user.specs.Processor as processor
+use Rattle.ds_user.specs.Processor.{Cpu, Stepped, process_step, translate, effect, fetched, loaded_from, stored_to, raised_cpu, gone_cpu, branched_cpu}
 use Rattle.ds_station.specs.Stands.{BufferHolds, NamesPages}
 use Rattle.ds_station.proofs.Frames.{word_alike, word_stored}
 use Rattle.ds_station.proofs.Lookups.{translate_allowed}

@@ -26,8 +26,8 @@ use Rattle.ds_log.specs.Text.{line_text}
 use Rattle.ds_pagemap.specs.Machine.{State, Process, touched_process}
 use Rattle.ds_pagemap.specs.Calls.{served}
 use Rattle.ds_pagemap.specs.Unit.{unit, denied_as, fault, ticked}
-use Rattle.ds_station.specs.declared.processor.Cause.{Cause}
-use Rattle.ds_station.specs.declared.processor.Cause.TheVariants as cause
+use Rattle.ds_user.specs.declared.processor.Cause.{Cause}
+use Rattle.ds_user.specs.declared.processor.Cause.TheVariants as cause
 use Rattle.ds_station.specs.declared.parts.Step.{Step}
 use Rattle.ds_station.specs.declared.parts.Step.TheVariants.{Inside, Unit}
 use Rattle.ds_station.specs.Held.{Held}

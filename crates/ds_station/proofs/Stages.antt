@@ -13,14 +13,14 @@ use Rattle.ds_pagemap.specs.Machine.{State, Process}
 use Rattle.ds_pagemap.specs.Boundary.{boundary}
 use Rattle.ds_pagemap.specs.Unit.{Outcome, Went, Branched, Called, Stopped, Stop, unit, instruction, after_instruction, after_slot, after_call, fault, at_pc, ticked}
 use Rattle.ds_pagemap.specs.Run.{half}
-use Rattle.ds_station.specs.declared.processor.Cause.{Cause}
-use Rattle.ds_station.specs.declared.processor.Cause.TheVariants as cause
-use Rattle.ds_station.specs.declared.processor.Event.{Event}
-use Rattle.ds_station.specs.declared.processor.Event.TheVariants as event
+use Rattle.ds_user.specs.declared.processor.Cause.{Cause}
+use Rattle.ds_user.specs.declared.processor.Cause.TheVariants as cause
+use Rattle.ds_user.specs.declared.processor.Event.{Event}
+use Rattle.ds_user.specs.declared.processor.Event.TheVariants as event
 use Rattle.ds_station.specs.declared.parts.Step.{Step}
 use Rattle.ds_station.specs.declared.parts.Step.TheVariants.{Inside, Unit}
 use Rattle.ds_station.specs.Frames.{FramesHold}
-use Rattle.ds_station.specs.Processor.{Cpu, Stepped, process_step, raised_cpu, gone_cpu, branched_cpu, unit_address}
+use Rattle.ds_user.specs.Processor.{Cpu, Stepped, process_step, raised_cpu, gone_cpu, branched_cpu, unit_address}
 use Rattle.ds_station.specs.Held.{Held}
 use Rattle.ds_station.specs.Stands.{BufferHolds, NamesPages, Promise, IsLinked, AtStart, InSlot, InService, OnCpu, RunningBy, RunningIs, OutsideIs, Stands, ready_of, owes, stopped}
 use Rattle.ds_station.specs.Services.{after_event, step_of, ticks_of}

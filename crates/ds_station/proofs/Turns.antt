@@ -14,7 +14,7 @@ use Rattle.ds_pagemap.specs.Unit.{unit}
 use Rattle.ds_pagemap.specs.Run.{half, is_over}
 use Rattle.ds_station.specs.declared.parts.Step.{Step}
 use Rattle.ds_station.specs.declared.parts.Step.TheVariants.{Boundary, Over}
-use Rattle.ds_station.specs.Processor.{Cpu}
+use Rattle.ds_user.specs.Processor.{Cpu}
 use Rattle.ds_station.specs.Held.{Held}
 use Rattle.ds_station.specs.Stands.{OnCpu, RunningBy, Stands, IsSound, ready_of}
 use Rattle.ds_station.specs.Services.{idled, bounded, begun, failed}

@@ -3,7 +3,7 @@ use Rattle.std.specs.Prelude.{ℕ, List, Option, Bool}
 use Rattle.ds_procs.specs.declared.process.Process.{Process}
 use Rattle.ds_policy.specs.Pages.{Table}
 use Rattle.ds_pagemap.specs.declared.turn.Turn.{Turn}
-use Rattle.ds_station.specs.Processor.{Cpu}
+use Rattle.ds_user.specs.Processor.{Cpu}
 
 -- what is held beside the processor and its memory
 pub record Outside : Type 0 where

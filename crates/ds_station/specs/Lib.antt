@@ -1,7 +1,4 @@
-pub mod Memory
 pub mod Frames
-pub mod Processor
-pub mod Windows
 pub mod Consoles
 pub mod Held
 pub mod Stands

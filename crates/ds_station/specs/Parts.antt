@@ -2,8 +2,8 @@
 use Rattle.std.specs.Prelude.{◌≡◌, ℕ, ◌+◌, ◌<◌, ◌≤◌, List, true, false, None, vec_len, vec_capacity}
 use Rattle.ds_procs.specs.declared.process.Standing.TheVariants.{Ready}
 use Rattle.ds_tlb.specs.declared.entry.Entry.{Entry}
-use Rattle.ds_station.specs.Processor.{cpu_of}
-use Rattle.ds_station.specs.Windows.{AreRight}
+use Rattle.ds_user.specs.Processor.{cpu_of}
+use Rattle.ds_user.specs.Windows.{AreRight}
 use Rattle.ds_station.specs.Consoles as consoles
 use Rattle.ds_station.specs.Held.{Held}
 use Rattle.ds_station.specs.Stands.{IsSound}

@@ -22,9 +22,9 @@ use Rattle.ds_log.specs.Text.{line_text}
 use Rattle.ds_tlb.specs.declared.entry.Entry.{Entry}
 use Rattle.ds_tlb.specs.Entries.{find, empty_entries, ticked}
 use Rattle.ds_pagemap.specs.Unit.{denied_as}
-use Rattle.ds_station.specs.declared.processor.Event.{Event}
-use Rattle.ds_station.specs.declared.processor.Event.TheVariants.{Retired, Branched, Raised}
-use Rattle.ds_station.specs.Processor.{Cpu, Stepped}
+use Rattle.ds_user.specs.declared.processor.Event.{Event}
+use Rattle.ds_user.specs.declared.processor.Event.TheVariants.{Retired, Branched, Raised}
+use Rattle.ds_user.specs.Processor.{Cpu, Stepped}
 use Rattle.ds_station.specs.declared.parts.Step.{Step}
 use Rattle.ds_station.specs.declared.parts.Step.TheVariants.{Inside, Unit}
 use Rattle.ds_station.specs.Held.{Held, Outside, Own}

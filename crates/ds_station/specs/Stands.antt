@@ -16,9 +16,9 @@ use Rattle.ds_tlb.specs.declared.entry.Entry.{Entry}
 use Rattle.ds_tlb.specs.Singles.{IsSingle}
 use Rattle.ds_pagemap.specs.Machine.{State, Process}
 use Rattle.ds_pagemap.specs.Unit.{Stop, Branched, instruction, unit, denied_as, fault, parked, after_call, with_registers}
-use Rattle.ds_station.specs.Processor.{Cpu}
-use Rattle.ds_station.specs.declared.processor.Cause.{Cause}
-use Rattle.ds_station.specs.declared.processor.Cause.TheVariants as cause
+use Rattle.ds_user.specs.Processor.{Cpu}
+use Rattle.ds_user.specs.declared.processor.Cause.{Cause}
+use Rattle.ds_user.specs.declared.processor.Cause.TheVariants as cause
 use Rattle.ds_station.specs.Frames.{FramesHold}
 use Rattle.ds_station.specs.Held.{Held, Outside}
 

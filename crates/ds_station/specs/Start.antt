@@ -9,8 +9,8 @@ use Rattle.ds_policy.specs.declared.policy.PolicyPage.{PolicyPage}
 use Rattle.ds_policy.specs.PolicyParts.{sources_of}
 use Rattle.ds_policy.specs.Value.{PolicyValue, InputValue}
 use Rattle.ds_pagemap.specs.First.{source_bytes}
-use Rattle.ds_station.specs.Processor.{Cpu}
-use Rattle.ds_station.specs.declared.processor.Cause.TheVariants.{Call}
+use Rattle.ds_user.specs.Processor.{Cpu}
+use Rattle.ds_user.specs.declared.processor.Cause.TheVariants.{Call}
 
 -- no command, and no character
 abbrev pub no_input : InputValue

@@ -1,11 +1,9 @@
 //! All that a station holds, and what a step of it was.
 use crate::consoles::Consoles;
-use crate::processor::Core;
-use crate::processor::memo::Memo;
-use crate::processor::window::Windows;
 use ds_pagemap::Turn;
 use ds_policy::Table;
 use ds_procs::Process;
+use ds_user::{Core, Memo, Windows};
 
 /// What a step of a station was.
 #[derive(Clone, Copy, Debug, PartialEq, Eq)]

@@ -2,7 +2,7 @@
 ghost use Rattle.std.specs.Prelude.{◌≡◌, ◌≢◌, ◌<◌, IfOk, IfErr, OnOk, OnErr, IsErrOf, None, IsSome, true, false};
 ghost use Rattle.ds_procs.specs.declared.process.Standing.TheVariants.{Ready, Parked};
 ghost use Rattle.ds_station.specs.Parts.{held, IsGood, IsBusy, IsOrderly};
-ghost use Rattle.ds_station.specs.Processor.{process_step, Stepped};
+ghost use Rattle.ds_user.specs.Processor.{process_step, Stepped};
 ghost use Rattle.ds_station.specs.Services as services;
 ghost use Rattle.ds_station.specs.Steps.{Follows, Stays, Moves, Counted};
 ghost use Rattle.ds_station.specs.Faults.{IsFaultAfter};
@@ -10,9 +10,9 @@ ghost use Rattle.ds_station.specs.Halts.{fault_of};
 
 use crate::halt::Halt;
 use crate::parts::{Parts, Step};
-use crate::processor::Cause;
 use ds_procs::Standing;
 use ds_tlb::Lookaside;
+use ds_user::Cause;
 
 impl<L: Lookaside> Parts<L> {
     /// The boundary that is owed.

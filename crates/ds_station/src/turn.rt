@@ -2,15 +2,15 @@
 ghost use Rattle.std.specs.Prelude.{◌≡◌, ◌≢◌, ◌+◌, ◌<◌, ◌≤◌, ◌^◌, OnOk, OnErr, IfErr, IsErrOf, None, IsSome, true, false};
 ghost use Rattle.ds_procs.specs.declared.process.Standing.TheVariants.{Ready};
 ghost use Rattle.ds_station.specs.Parts.{held, HasRoom};
-ghost use Rattle.ds_station.specs.Processor.{process_step, Stepped};
+ghost use Rattle.ds_user.specs.Processor.{process_step, Stepped};
 ghost use Rattle.ds_station.specs.Services as services;
-ghost use Rattle.ds_station.specs.Windows.{AreRight};
+ghost use Rattle.ds_user.specs.Windows.{AreRight};
 
 use crate::halt::Halt;
 use crate::parts::{Parts, Step};
-use crate::processor::Event;
 use ds_pagemap::Turn;
 use ds_tlb::Lookaside;
+use ds_user::Event;
 
 /// The most machine instructions of one unit.
 pub const MOST_SPENT: u32 = 64;

@@ -7,12 +7,12 @@ ghost use Rattle.ds_procs.specs.Calls.{call_of};
 ghost use Rattle.ds_tlb.specs.Entries.{empty_entries};
 ghost use Rattle.ds_station.specs.Parts.{held, HasRoom};
 ghost use Rattle.ds_station.specs.Services as services;
-ghost use Rattle.ds_station.specs.Windows.{AreRight};
+ghost use Rattle.ds_user.specs.Windows.{AreRight};
 
 use crate::parts::{Parts, Step};
-use crate::processor::window::Windows;
 use ds_procs::{Call, Standing};
 use ds_tlb::{Entry, Lookaside};
+use ds_user::Windows;
 use ds_word::wrapping_sum;
 
 /// The exception code of a call in a delay slot.

@@ -5,14 +5,13 @@ ghost use Rattle.ds_policy.specs.Pages.{decide};
 ghost use Rattle.ds_pagemap.specs.Unit.{denied_as};
 ghost use Rattle.ds_station.specs.Parts.{held, HasRoom};
 ghost use Rattle.ds_station.specs.Services as services;
-ghost use Rattle.ds_station.specs.Windows.{AreRight};
+ghost use Rattle.ds_user.specs.Windows.{AreRight};
 
 use crate::parts::{Parts, Step};
-use crate::processor::ASID;
-use crate::processor::window::Windows;
 use ds_log::Denied;
 use ds_policy::{Access, Kind, Right, Verdict};
 use ds_tlb::{Entry, Lookaside};
+use ds_user::{ASID, Windows};
 
 /// What is denied where an access is.
 fn denied_as(kind: Kind) -> Denied

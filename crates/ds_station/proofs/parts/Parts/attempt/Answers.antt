@@ -1,6 +1,6 @@
 use Rattle.std.proofs.Common.{◌<◌, ◌^◌, refl}
 use Rattle.ds_station.specs.Parts.{held}
-use Rattle.ds_station.specs.Processor.{process_step}
+use Rattle.ds_user.specs.Processor.{process_step}
 use Rattle.ds_station.proofs.Stages.{instruction_follows}
 use Rattle.ds_station.proofs.Turns.{sound_after}
 use Rattle.ds_station.proofs.Counts.{event_counted, event_orderly}

@@ -1,8 +1,8 @@
 use Rattle.std.proofs.Common.{◌≡◌, List, sym, ap, subst, ◌∙◌}
 use Rattle.ds_tlb.specs.declared.entry.Entry.{Entry}
-use Rattle.ds_station.specs.Processor.{Stepped}
-use Rattle.ds_station.specs.Windows.{AreRight}
-use Rattle.ds_station.proofs.Windows.{step_entries}
+use Rattle.ds_user.specs.Processor.{Stepped}
+use Rattle.ds_user.specs.Windows.{AreRight}
+use Rattle.ds_user.proofs.Places.{step_entries}
 use Rattle.ds_station.proofs.parts.Parts.execute.Goals as goal
 
 pub returns-in-Retired-clause-windows : goal.returns-in-Retired-clause-windows

@@ -1,0 +1,169 @@
+//! Where the processor goes on: behind an instruction, in a delay slot, or out of the program.
+ghost use Rattle.std.specs.Prelude.{◌≡◌, ℕ, List};
+ghost use Rattle.ds_isa.specs.Registers.{settled, written, loaded};
+ghost use Rattle.ds_isa.specs.Meaning.{behind_slot, branch_target, jump_target, branches, links_and_branches, written_or_trap};
+ghost use Rattle.ds_user.specs.Processor.{cpu_of, registers_of, raised_cpu, gone_cpu, linked, branched, effect};
+
+use super::{Cause, Core, Event};
+use ds_tlb::Lookaside;
+use ds_word::{sign16, wrapping_difference, wrapping_sum};
+
+/// The exception code of a reserved instruction.
+pub(super) const RESERVED: u8 = 10;
+
+/// The exception code of an overflow.
+pub(super) const OVERFLOW: u8 = 12;
+
+/// The address behind a branch and its slot.
+#[inline(always)]
+pub(super) fn behind_slot(pc: u32) -> u32
+    ensures { result ≡ behind_slot pc }
+{
+    wrapping_sum(pc, 8)
+}
+
+/// The target of a taken branch, else the place behind its slot.
+#[inline(always)]
+pub(super) fn branch_target(taken: bool, pc: u32, immediate: u16) -> u32
+    ensures { result ≡ branch_target taken pc immediate }
+{
+    if taken {
+        let distance = sign16(immediate).wrapping_mul(4);
+        wrapping_sum(wrapping_sum(pc, 4), distance)
+    } else {
+        behind_slot(pc)
+    }
+}
+
+/// The target of a jump, in the region of 2^28 bytes of its slot.
+#[inline(always)]
+pub(super) fn jump_target(pc: u32, target: u32) -> u32
+    ensures { result ≡ jump_target pc target }
+{
+    let region = wrapping_sum(pc, 4) / 0x1000_0000;
+    region * 0x1000_0000 + 4 * (target % 0x400_0000)
+}
+
+impl<L: Lookaside> Core<L> {
+    /// Leaves the program for an exception; a late load is finished. In a slot the unit is that of
+    /// the branch, which runs again.
+    #[cold]
+    #[inline(never)]
+    pub(super) fn raise(&mut self, cause: Cause, bad: u32) -> Event
+        ensures event { result ≡ Event.Raised }
+        ensures cpu { cpu_of L.entries L.random_place self.new ≡ raised_cpu (cpu_of L.entries L.random_place self.old) cause bad }
+        ensures tlb { self.new.tlb ≡ self.old.tlb }
+    {
+        self.epc = if self.slot {
+            wrapping_difference(self.pc, 4)
+        } else {
+            self.pc
+        };
+        self.delayed = self.slot;
+        self.slot = false;
+        self.late = None;
+        self.kernel = true;
+        self.cause = cause;
+        self.bad = bad;
+        Event::Raised
+    }
+
+    /// Goes on behind the instruction, which is done.
+    #[inline(always)]
+    fn go(&mut self) -> Event
+        ensures event { result ≡ Event.Retired }
+        ensures cpu { cpu_of L.entries L.random_place self.new ≡ gone_cpu (cpu_of L.entries L.random_place self.old) (registers_of self.old) }
+    {
+        self.pc = self.next;
+        self.next = wrapping_sum(self.next, 4);
+        self.slot = false;
+        Event::Retired
+    }
+
+    /// The instruction is done, and a register written.
+    #[inline(always)]
+    pub(super) fn retire(&mut self, register: u8, value: u32) -> Event
+        ensures event { result ≡ Event.Retired }
+        ensures cpu { cpu_of L.entries L.random_place self.new ≡ gone_cpu (cpu_of L.entries L.random_place self.old) (written (registers_of self.old) register value) }
+    {
+        self.write(register, value);
+        self.go()
+    }
+
+    /// The instruction is done, and a register loaded.
+    #[inline(always)]
+    pub(super) fn retire_load(&mut self, register: u8, value: u32) -> Event
+        ensures event { result ≡ Event.Retired }
+        ensures cpu { cpu_of L.entries L.random_place self.new ≡ gone_cpu (cpu_of L.entries L.random_place self.old) (loaded (registers_of self.old) register value) }
+    {
+        self.load(register, value);
+        self.go()
+    }
+
+    /// The instruction is done, and no general register changed.
+    #[inline(always)]
+    pub(super) fn retire_settled(&mut self) -> Event
+        ensures event { result ≡ Event.Retired }
+        ensures cpu { cpu_of L.entries L.random_place self.new ≡ gone_cpu (cpu_of L.entries L.random_place self.old) (settled (registers_of self.old)) }
+    {
+        self.late = None;
+        self.go()
+    }
+
+    /// The instruction is done, and HI and LO written.
+    #[inline(always)]
+    pub(super) fn retire_hi_lo(&mut self, hi: u32, lo: u32) -> Event
+        ensures event { result ≡ Event.Retired }
+        ensures cpu { cpu_of L.entries L.random_place self.new ≡ gone_cpu (cpu_of L.entries L.random_place self.old) (record (registers_of self.old) { hi = hi; lo = lo; late = None }) }
+    {
+        self.hi = hi;
+        self.lo = lo;
+        self.retire_settled()
+    }
+
+    /// The instruction is done with its result in a register, or it overflowed and traps.
+    #[inline(always)]
+    pub(super) fn retire_or_trap(&mut self, register: u8, value: Option<u32>) -> Event
+        ensures { (memory : List ℕ) → (record { event = result; cpu = cpu_of L.entries L.random_place self.new; memory = memory }) ≡ effect (cpu_of L.entries L.random_place self.old) memory (written_or_trap (registers_of self.old) register value) }
+    {
+        match value {
+            Some(value) => self.retire(register, value),
+            None => self.raise(Cause::Fault { code: OVERFLOW }, 0),
+        }
+    }
+
+    /// Goes on in the slot of a branch or jump, and behind that at the target; a register that links
+    /// gets the address behind the slot. In a slot it is reserved.
+    #[inline(always)]
+    pub(super) fn branch_to(&mut self, link: Option<u8>, target: u32) -> Event
+        ensures { (memory : List ℕ) → (record { event = result; cpu = cpu_of L.entries L.random_place self.new; memory = memory }) ≡ branched self.old.slot (cpu_of L.entries L.random_place self.old) memory (linked link self.old.pc (registers_of self.old)) target }
+    {
+        if self.slot {
+            return self.raise(Cause::Fault { code: RESERVED }, 0);
+        }
+        match link {
+            Some(register) => self.write(register, behind_slot(self.pc)),
+            None => self.late = None,
+        }
+        self.pc = self.next;
+        self.next = target;
+        self.slot = true;
+        Event::Branched
+    }
+
+    /// A branch that may be taken.
+    #[inline(always)]
+    pub(super) fn branch(&mut self, taken: bool, immediate: u16) -> Event
+        ensures { (memory : List ℕ) → (record { event = result; cpu = cpu_of L.entries L.random_place self.new; memory = memory }) ≡ effect (cpu_of L.entries L.random_place self.old) memory (branches (registers_of self.old) taken self.old.pc immediate) }
+    {
+        self.branch_to(None, branch_target(taken, self.pc, immediate))
+    }
+
+    /// A branch that may be taken, and links in register 31 whether it is or not.
+    #[inline(always)]
+    pub(super) fn link_and_branch(&mut self, taken: bool, immediate: u16) -> Event
+        ensures { (memory : List ℕ) → (record { event = result; cpu = cpu_of L.entries L.random_place self.new; memory = memory }) ≡ effect (cpu_of L.entries L.random_place self.old) memory (links_and_branches (registers_of self.old) taken self.old.pc immediate) }
+    {
+        self.branch_to(Some(31), branch_target(taken, self.pc, immediate))
+    }
+}

@@ -1,0 +1,69 @@
+//! The general registers, and the load that is late (Kane and Heinrich, chapter 1, load delay).
+ghost use Rattle.std.specs.Prelude.{◌≡◌};
+ghost use Rattle.ds_isa.specs.Registers.{read, written, loaded};
+ghost use Rattle.ds_isa.specs.Meaning.{newest, address_of};
+ghost use Rattle.ds_user.specs.Processor.{cpu_of, registers_of};
+
+use super::Core;
+use ds_isa::Late;
+use ds_tlb::Lookaside;
+use ds_word::{sign16, wrapping_sum};
+
+impl<L: Lookaside> Core<L> {
+    /// A register, as an operand reads it: behind a load its old value.
+    #[inline(always)]
+    pub(super) fn read(&self, register: u8) -> u32
+        ensures { result ≡ read (registers_of self.now) register }
+    {
+        let number = register % 32;
+        match self.late {
+            Some(late) if late.register == number => late.old,
+            _ => self.registers[number as usize],
+        }
+    }
+
+    /// A register with the value that was loaded last, be it late or not.
+    #[inline(always)]
+    pub(super) fn newest(&self, register: u8) -> u32
+        ensures { result ≡ newest (registers_of self.now) register }
+    {
+        self.registers[(register % 32) as usize]
+    }
+
+    /// The address of a load or a store.
+    #[inline(always)]
+    pub(super) fn address_of(&self, base: u8, immediate: u16) -> u32
+        ensures { result ≡ address_of (registers_of self.now) base immediate }
+    {
+        wrapping_sum(self.read(base), sign16(immediate))
+    }
+
+    /// Writes a register; register 0 keeps 0.
+    #[inline(always)]
+    pub(super) fn write(&mut self, register: u8, value: u32)
+        ensures { cpu_of L.entries L.random_place self.new ≡ record (cpu_of L.entries L.random_place self.old) { registers = written (registers_of self.old) register value } }
+    {
+        let number = (register % 32) as usize;
+        if number != 0 {
+            self.registers[number] = value;
+        }
+        self.late = None;
+    }
+
+    /// Loads a register, whose old value the next instruction still reads.
+    #[inline(always)]
+    pub(super) fn load(&mut self, register: u8, value: u32)
+        ensures { cpu_of L.entries L.random_place self.new ≡ record (cpu_of L.entries L.random_place self.old) { registers = loaded (registers_of self.old) register value } }
+    {
+        let number = register % 32;
+        if number == 0 {
+            self.late = None;
+            return;
+        }
+        self.late = Some(Late {
+            register: number,
+            old: self.registers[number as usize],
+        });
+        self.registers[number as usize] = value;
+    }
+}
