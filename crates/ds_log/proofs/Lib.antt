@@ -1,1 +1,3 @@
 pub mod Lengths
+pub mod Reports
+pub mod Sends

@@ -1,2 +1,4 @@
 pub mod Length
 pub mod Text
+pub mod Report
+pub mod Sent

@@ -1,13 +1,17 @@
-//! The log: its lines, and their text.
+//! The log: its lines, and their text; and the text of a state, as it goes to a writer.
 #![tactic(auto)]
 
 mod digits;
 mod fault;
 mod line;
+mod report;
 #[cfg(test)]
 mod tests;
 mod text;
+mod writes;
 
 pub use fault::OutOfMemory;
 pub use line::{Denied, Line};
+pub use report::send_report;
 pub use text::{LINE_ROOM, append, line_fits};
+pub use writes::WriteFailed;

@@ -3,6 +3,8 @@ use Rattle.std.proofs.Common.{◌≡◌, ℕ, refl, sym, ◌∙◌, ap, subst, i
 use Rattle.std.specs.Prelude.{Some, OnOk, OnErr, IfErr, None, is_some, ◌||◌, ◌&&◌, nat_lt, not, flat_map, slice_index_or}
 use Rattle.std.specs.Io.KnownBytes.{Appends, Keeps}
 use Rattle.ds_log.specs.Text.{line_text}
+use Rattle.ds_log.specs.Report.{report_text}
+use Rattle.ds_log.specs.Sent.{AppendsPart}
 use Rattle.ds_pagemap.specs.declared.turn.Turn.{Turn}
 use Rattle.ds_pagemap.specs.Machine.{State}
 use Rattle.ds_pagemap.specs.Run.{Ends, IsPrefix, is_over}
@@ -10,8 +12,6 @@ use Rattle.ds_pagemap.specs.Text.{text_of}
 use Rattle.ds_pagemap.specs.Inputs.{Refusal}
 use Rattle.ds_station.specs.Held.{Held}
 use Rattle.ds_station.specs.Stands.{Stands}
-use Rattle.ds_station.specs.Report.{report_text}
-use Rattle.ds_station.specs.Sent.{AppendsPart}
 use Rattle.ds_station.specs.Sound.{RunsTo, RunsWithin}
 use Rattle.ds_station.specs.Headline.{held_text, Writes, WritesPrefix, WritesPart, Refuses, EndsBy, Begins, IsRefused}
 use Rattle.ds_station.specs.Faults.{IsNewFault, IsFaultAfter}

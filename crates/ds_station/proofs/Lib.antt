@@ -12,5 +12,4 @@ pub mod Headlines
 pub mod NamedTexts
 pub mod Preparing
 pub mod Reports
-pub mod Sends
 pub mod Firsts

@@ -2,14 +2,14 @@
 use Rattle.std.specs.Prelude.{◌≡◌, ℕ, ◌⊎◌, List, map, Option, Result, Ok, Err, IsErrAnd}
 use Rattle.std.proofs.Common.{Bor}
 use Rattle.std.specs.Io.KnownBytes.{Appends, Keeps}
+use Rattle.ds_log.specs.Report.{report_text}
+use Rattle.ds_log.specs.Sent.{AppendsPart}
 use Rattle.ds_pagemap.specs.Machine.{State}
 use Rattle.ds_pagemap.specs.Run.{Ends, IsPrefix}
 use Rattle.ds_pagemap.specs.Text.{text_of}
 use Rattle.ds_pagemap.specs.Inputs.{Refusal, Sources}
 use Rattle.ds_pagemap.specs.Inputs as inputs
 use Rattle.ds_station.specs.Held.{Held}
-use Rattle.ds_station.specs.Report.{report_text}
-use Rattle.ds_station.specs.Sent.{AppendsPart}
 use Rattle.ds_station.specs.declared.fault.Fault.{Fault}
 use Rattle.ds_station.specs.declared.fault.Fault.TheVariants as fault
 

@@ -6,8 +6,6 @@ pub mod Parts
 pub mod Services
 pub mod Steps
 pub mod Sound
-pub mod Sent
-pub mod Report
 pub mod Faults
 pub mod Halts
 pub mod Headline

@@ -3,9 +3,8 @@ ghost use Rattle.std.specs.Prelude.{◌≡◌};
 ghost use Rattle.ds_station.specs.Faults.{number_of, of_policy, of_events, in_source};
 ghost use Rattle.ds_station.specs.declared.fault.Fault.TheVariants as fault;
 
-use crate::writes::WriteFailed;
 use ds_asm::AsmFault;
-use ds_log::OutOfMemory;
+use ds_log::{OutOfMemory, WriteFailed};
 use ds_policy::{EventsFault, PolicyFault, Text};
 use ds_tlb::BadRandom;
 use std::alloc::{AllocError, AllocFailed};

@@ -2,16 +2,15 @@
 ghost use Rattle.std.specs.Prelude.{◌≡◌, ℕ, ◌≤◌, List, map, length, Option, OnOk, OnErr, IfErr, IfOk, option_map, [], false};
 ghost use Rattle.std.specs.Io.KnownBytes.{Appends};
 ghost use Rattle.ds_policy.specs.PolicyParts.{sources_of};
+ghost use Rattle.ds_log.specs.Sent.{AppendsPart};
 ghost use Rattle.ds_pagemap.specs.Inputs.{Refusal, inputs, text_named, image_read, images_from};
 ghost use Rattle.ds_station.specs.Headline.{Writes, Begins, Reads, Refuses, EndsBy, IsRefused, held_text, sources_seen};
-ghost use Rattle.ds_station.specs.Sent.{AppendsPart};
 ghost use Rattle.ds_station.specs.Stands.{Stands};
 
 use crate::fault::Fault;
-use crate::report::send_report;
 use crate::station::Station;
-use crate::writes::WriteFailed;
 use ds_asm::{Image, assemble};
+use ds_log::{WriteFailed, send_report};
 use ds_policy::{Events, Policy, Text};
 use ds_tlb::{Indexed, Lookaside};
 use std::alloc::Global;

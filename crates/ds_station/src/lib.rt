@@ -8,12 +8,10 @@ mod first;
 mod halt;
 mod laws;
 mod parts;
-mod report;
 mod services;
 mod station;
 mod step;
 mod turn;
-mod writes;
 
 pub use fault::Fault;
 pub use files::run_files;

@@ -1,18 +1,18 @@
 //! Bytes on their way to a writer: all of them, or a front of them and a failure.
 ghost use Rattle.std.specs.Prelude.{OnOk, OnErr, flat_map};
 ghost use Rattle.std.specs.Io.KnownBytes.{Appends};
-ghost use Rattle.ds_station.specs.Sent.{AppendsPart};
+ghost use Rattle.ds_log.specs.Sent.{AppendsPart};
 
 use std::io::Write;
 use thiserror::Error;
 
-/// A write failed, or took nothing.
+/// A write failed, or took nothing: the text did not go out whole.
 #[derive(Debug, Clone, Copy, PartialEq, Eq, Error)]
 #[error("the text could not be written")]
 pub struct WriteFailed;
 
 /// Hands bytes to the writer, in as many writes as it takes.
-pub fn send<W: Write>(out: &mut W, text: &[u8]) -> Result<(), WriteFailed>
+fn send<W: Write>(out: &mut W, text: &[u8]) -> Result<(), WriteFailed>
     ensures ok { OnOk result (Appends (W.contents out.old) (W.contents out.new) text.now) }
     ensures err { OnErr result (AppendsPart (W.contents out.old) (W.contents out.new) text.now) }
 {
@@ -28,7 +28,7 @@ pub fn send<W: Write>(out: &mut W, text: &[u8]) -> Result<(), WriteFailed>
 }
 
 /// Hands the pieces of a text to the writer, one after another.
-pub fn send_all<W: Write>(out: &mut W, pieces: &[&[u8]]) -> Result<(), WriteFailed>
+pub(crate) fn send_all<W: Write>(out: &mut W, pieces: &[&[u8]]) -> Result<(), WriteFailed>
     ensures ok { OnOk result (Appends (W.contents out.old) (W.contents out.new) (flat_map (λ p. p.now) pieces.now)) }
     ensures err { OnErr result (AppendsPart (W.contents out.old) (W.contents out.new) (flat_map (λ p. p.now) pieces.now)) }
 {

@@ -1,8 +1,8 @@
 //! The text that is written of a state, in pieces: no memory is taken for it.
 ghost use Rattle.std.specs.Prelude.{OnOk, OnErr, map, ◌≡◌, length};
 ghost use Rattle.std.specs.Io.KnownBytes.{Appends};
-ghost use Rattle.ds_station.specs.Sent.{AppendsPart};
-ghost use Rattle.ds_station.specs.Report.{console_text, log_text, report_text};
+ghost use Rattle.ds_log.specs.Sent.{AppendsPart};
+ghost use Rattle.ds_log.specs.Report.{console_text, log_text, report_text};
 
 use crate::writes::{WriteFailed, send_all};
 use itoa::Buffer;
@@ -49,7 +49,10 @@ fn send_log<W: Write>(lines: u64, log: &[u8], time: u64, out: &mut W) -> Result<
 }
 
 /// Hands the text of a state to the writer: the consoles of the four lines, the log with the count
-/// of its lines, and the time. After a failure the writer has taken a front of that text.
+/// of its lines, and the time in ticks. It takes no memory.
+///
+/// Where a write fails, or takes nothing, it is `WriteFailed`, and the writer has taken a front of
+/// that text.
 pub fn send_report<W: Write>(
     consoles: &[&[u8]; 4],
     lines: u64,

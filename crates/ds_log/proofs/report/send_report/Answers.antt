@@ -1,10 +1,10 @@
 use Rattle.std.proofs.Common.{subst}
 use Rattle.std.specs.Io.KnownBytes.{Appends}
-use Rattle.ds_station.specs.Sent.{AppendsPart}
-use Rattle.ds_station.specs.Report.{log_text}
-use Rattle.ds_station.proofs.Sends.{at_err, ok_gives, err_gives, appends_both, part_behind, part_before}
-use Rattle.ds_station.proofs.Reports.{lent_at, report_from_right}
-use Rattle.ds_station.proofs.report.send_report.Goals as goal
+use Rattle.ds_log.specs.Sent.{AppendsPart}
+use Rattle.ds_log.specs.Report.{log_text}
+use Rattle.ds_log.proofs.Sends.{at_err, ok_gives, err_gives, appends_both, part_behind, part_before}
+use Rattle.ds_log.proofs.Reports.{lent_at, report_from_right}
+use Rattle.ds_log.proofs.report.send_report.Goals as goal
 
 pub returns-in_err-send_console-clause-err : goal.returns-in_err-send_console-clause-err
 returns-in_err-send_console-clause-err g c = at_err c.from_residual.result
