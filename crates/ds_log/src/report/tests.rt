@@ -91,3 +91,10 @@ fn a_writer_that_stops_after_any_byte_holds_the_front_up_to_it(
     }
     Ok(())
 }
+
+#[test]
+fn a_failed_write_has_a_text(rt: HostRuntime) -> Result<(), Fail> {
+    let message = format!(in rt.alloc(); "{}", WriteFailed)?;
+    assert_eq!(rt; message.as_str(), "the text could not be written");
+    Ok(())
+}
