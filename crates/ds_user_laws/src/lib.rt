@@ -1,0 +1,6 @@
+//! Laws of the station's processor: where a user runs, it does what the whole processor does.
+#![tactic(auto)]
+
+mod laws;
+
+pub use laws::{a_user_can_run, user_steps_agree};
