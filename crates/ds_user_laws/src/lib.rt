@@ -1,4 +1,5 @@
-//! Laws of the station's processor: where a user runs, it does what the whole processor does.
+//! Laws of the station's processor: where a user runs over the whole memory, it does what the whole
+//! processor does.
 #![tactic(auto)]
 
 mod laws;
