@@ -1,0 +1,95 @@
+"""The command."""
+import argparse
+import os
+import sys
+import time
+from collections import Counter
+from concurrent.futures import ThreadPoolExecutor
+from pathlib import Path
+
+from .crates import Repository
+from .kinds import Kind
+from .record import Record, sum_of, toolchain
+from .trying import try_crate
+
+USES = """Tries the wrong bodies of the crates, crates/NAME/wrong/*.edit: the prover must refuse each of them.
+
+--changed tries those of each crate whose line in the record has another sum than its texts; --all tries all; names of crates, these.
+Each brings the lines of the crates that it tried up to date. docs/gate.md says more.
+
+The last line is 'N passed, M failed': how many wrong bodies are refused, those that the record has among them, and how many are not, or
+could not be tried. The status is 0 where M is 0."""
+
+
+def arguments(words):
+    top = Path(__file__).resolve().parents[2]
+    parser = argparse.ArgumentParser(prog="wrong_bodies.py", description=USES, formatter_class=argparse.RawDescriptionHelpFormatter)
+    parser.add_argument("crates", metavar="CRATE", nargs="*", help="try the wrong bodies of this crate")
+    parser.add_argument("--all", action="store_true", help="try those of every crate")
+    parser.add_argument("--changed", action="store_true", help="try those of every crate that is not as the record has it")
+    parser.add_argument("--proved", action="store_true", help="every crate was just proved, as by rt ci: do not check them without edits first")
+    parser.add_argument("--lanes", metavar="N", type=int, default=len(os.sched_getaffinity(0)), help="crates side by side (as many as processors)")
+    parser.add_argument("--edits", metavar="FOLDER", default="wrong", help="the folder of the edits; with another than 'wrong' no record is read or written")
+    parser.add_argument("--root", metavar="FOLDER", default=top, help="the top of the repository")
+    parser.add_argument("--record", metavar="FILE", help="the record (tools/wrong_bodies.record)")
+    given = parser.parse_args(words)
+    if not (given.all or given.changed or given.crates):
+        parser.error("say --changed, --all or names of crates")
+    return given
+
+
+def by_kinds(counts):
+    return ", ".join(f"{counts[it.word]} by {it.words}" for it in Kind)
+
+
+def main(words):
+    given, began = arguments(words), time.monotonic()
+    repository = Repository(given.root, given.edits)
+    lost = [it for it in given.crates if it not in repository.crates]
+    if lost:
+        print(f"crates.txt has no crate {lost[0]}\n0 passed, 1 failed")
+        return 2
+    record = Record(given.record or f"{repository.root}/tools/wrong_bodies.record") if given.edits == "wrong" else None
+    version = toolchain()
+    crates = [it for it in repository.crates.values() if it.edits]
+    sums = {it.name: sum_of(repository, it, version) for it in crates}
+    known = {it.name: record.counts(it.name, sums[it.name]) for it in crates} if record else {}
+    chosen = [it for it in crates if given.all or it.name in given.crates or given.changed and known.get(it.name) is None]
+    tried, seconds = try_all(repository, chosen, given, lambda it: record and keep(record, repository, it, sums)), time.monotonic() - began
+    return tell(tried, seconds, [it for it in crates if it not in chosen and known.get(it.name) is not None], known)
+
+
+def keep(record, repository, tried, sums):
+    record.put(tried, sums[tried.crate.name])
+    record.write(repository.crates)
+
+
+def try_all(repository, crates, given, done):
+    """Tries crates side by side, those with the most edits first."""
+    found = []
+    with ThreadPoolExecutor(max(given.lanes, 1)) as lanes:
+        for tried in lanes.map(lambda it: try_crate(repository, it, given.proved), sorted(crates, key=lambda it: -len(it.edits))):
+            for it in tried.edits:
+                print(it)
+            sys.stdout.flush()
+            done(tried)
+            found.append(tried)
+    return found
+
+
+def tell(tried, seconds, recorded, known):
+    """Prints what was found, and returns the status."""
+    total, failed = Counter(), [it for crate in tried for it in crate.failed()]
+    for it in tried:
+        counts = {kind.word: it.refused(kind) for kind in Kind}
+        total.update(counts)
+        print(f"{it.crate.name}: {len(it.edits)} wrong bodies: {by_kinds(counts)}; {it.checks} checks, {it.seconds:.0f} s of processor time")
+    for it in recorded:
+        total.update(known[it.name])
+    now = sum(len(it.edits) for it in tried)
+    print(f"{now} tried in {seconds:.0f} s, {sum(it.seconds for it in tried):.0f} s of processor time; {sum(map(len, (it.edits for it in recorded)))} by the record")
+    for it in failed:
+        print(it)
+    print(f"refused: {by_kinds(total)}")
+    print(f"{sum(total.values())} passed, {len(failed)} failed")
+    return 1 if failed else 0

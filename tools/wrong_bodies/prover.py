@@ -1,0 +1,140 @@
+"""Checks a copy of a crate with edits in it, and reads which goals were not proved."""
+import os
+import re
+import shutil
+import subprocess
+import sys
+import tempfile
+import time
+from dataclasses import dataclass, field
+from pathlib import Path
+
+# A function's line names the goals that no search proved and no answer is written for.
+NOT_SEARCHED = re.compile(r"`search` did not prove ([^;]*)")
+# An error at an answer names its goal first.
+IN_PROOF = re.compile(r"(?:\./)?proofs/(\S+)/(Answers|Proof|Invariants)\.antt:\d+:\d+: error: (?:`([^`]*)`: )?(.*)")
+# What another function's failure, or a name that the edit took away, makes an error of a proof file.
+NOT_OWN = re.compile(r"is not in scope|has no |is no name|not admitted|not proved")
+# What says of a text of src/ or specs/ that it cannot be read, and not that a statement is false.
+IN_SOURCE = re.compile(r"(?:\./)?(?:src|specs)/\S+?:\d+:\d+: error(?:\[[\w-]+\])?: (?:(`[^`]*`): )?(.*)")
+UNREADABLE = re.compile(r"is not in scope|has no field|is no name|operand is missing|expected the end|cannot continue")
+STALE = re.compile(r"module .Rattle-(\w+)-.*Run the lower steps again")
+
+
+class CannotTry(Exception):
+    """Why a crate's wrong bodies cannot be tried."""
+
+
+@dataclass(frozen=True)
+class Said:
+    """What a check said: its status, its lines, and by function the goals that were not proved."""
+
+    status: int
+    lines: list
+    goals: dict = field(default_factory=dict)
+
+    def could_read(self):
+        """Returns whether the prover read every text, and came to an end."""
+        found = [it for it in map(IN_SOURCE.match, self.lines) if it and (not it[1] or UNREADABLE.search(unquoted(it[2])))]
+        return not found and self.lines[-1].startswith(("only=", "logic="))
+
+    def complaint(self):
+        """Returns the first error that it printed."""
+        return next((it for it in self.lines if "error" in it), self.lines[-1])
+
+
+def unquoted(words):
+    return re.sub(r"`[^`]*`", "", words)
+
+
+def kit():
+    """Returns the folder of the toolchain."""
+    found = shutil.which("rt")
+    if not found:
+        raise CannotTry("there is no rt on the PATH")
+    return os.path.dirname(os.path.dirname(os.path.realpath(found)))
+
+
+def goals_in(lines, crate):
+    """Returns by function the names of the goals that were not proved, the crate's name taken from the functions'. A closure's are its function's."""
+    start, found = f"fn {crate}::", {}
+    said = dict(it[len(start) :].split(": ", 1) for it in lines if it.startswith(start) and ": " in it)
+    goals = [(name, goal.strip("` ")) for name, words in said.items() for it in NOT_SEARCHED.findall(words) for goal in it.split(", ")]
+    for it in map(IN_PROOF.match, lines):
+        name = it and it[1].replace("/", "::")
+        if it and "not proved" in said.get(name, "") and not NOT_OWN.search(unquoted(it[4])):
+            goals.append((name, it[3] or ""))
+    for name, goal in goals:
+        found.setdefault(re.sub(r"\bfn::(\w+)::.*", r"\1", name), []).append(goal)
+    return found
+
+
+class Prover:
+    """Checks one crate, over what its own checks kept in out/ and what those of this run keep."""
+
+    def __init__(self, repository, crate, room):
+        self.repository, self.crate, self.room = repository, crate, room
+        self.checks, self.seconds = 0, 0.0
+        self.kept = f"{room}/incremental"
+        own = Path(crate.folder, "out/incremental")
+        if own.is_dir():
+            # (rattle replaces the files of this folder and writes into none)
+            shutil.copytree(own, self.kept, copy_function=os.link)
+
+    def words(self):
+        crate, repository = self.crate, self.repository
+        folder = lambda it: f"{repository.root}/crates/{it}/out/rlib" if it in repository.crates else f"{kit()}/rlibs"
+        words = ["--crate-name", crate.name, "src/main.rt" if crate.sources.is_program else "src/lib.rt"]
+        for it in ("std", *crate.uses):
+            words += ["--extern", f"{it}={folder(it)}/{it}.rlib"]
+        for it in sorted({folder("std"), *(folder(it.name) for it in repository.below(crate))}):
+            words += ["-L", f"dependency={it}"]
+        return [*words, "--antt-project", f"{kit()}/rattle/logic/antt-project.json", "--logic-built", f"{kit()}/logic_built"]
+
+    def check(self, edits, functions):
+        """Checks a copy of the crate with these edits: the functions alone, or all where none is named."""
+        began, functions = time.monotonic(), sorted(set(functions))
+        with tempfile.TemporaryDirectory(prefix="wrong-bodies-") as copy:
+            for part in ("src", "specs", "proofs"):
+                if Path(self.crate.folder, part).is_dir():
+                    shutil.copytree(f"{self.crate.folder}/{part}", f"{copy}/{part}")
+            for file in {it.file for it in edits}:
+                Path(copy, file).write_text(self.with_edits(file, edits), "utf-8")
+            only = [word for it in functions for word in ("--only", it)]
+            status, lines = self.run([f"{kit()}/bin/rattle", "check", *self.words(), *only, "--incremental", self.kept], copy)
+        self.checks += 1
+        took = time.monotonic() - began
+        print(f"{self.crate.name}: check {self.checks}: {len(edits)} edits, {len(functions) or 'all'} functions, {took:.1f} s", file=sys.stderr, flush=True)
+        stale = [it[1] for it in map(STALE.search, lines) if it]
+        if stale:
+            raise CannotTry(f"the built library {stale[0]} is of another build: run `rt lib` in its folder")
+        return Said(status, lines, goals_in(lines, self.crate.name))
+
+    def with_edits(self, file, edits):
+        text = self.crate.sources.texts[file]
+        for it in sorted((it for it in edits if it.file == file), key=lambda it: -it.start):
+            text = text[: it.start] + it.new + text[it.end :]
+        return text
+
+    def run(self, words, folder):
+        """Runs a command, counts its processor time, and returns its status and lines."""
+        with tempfile.TemporaryFile() as said:
+            ran = subprocess.Popen(words, cwd=folder, stdin=subprocess.DEVNULL, stdout=said, stderr=subprocess.STDOUT)
+            _, status, used = os.wait4(ran.pid, 0)
+            ran.returncode = os.waitstatus_to_exitcode(status)
+            self.seconds += used.ru_utime + used.ru_stime
+            said.seek(0)
+            return ran.returncode, said.read().decode("utf-8", "replace").rstrip("\n").split("\n")
+
+
+def build_below(repository, crate):
+    """Has the libraries below a crate built: those that rt lib made where it says that they are still right, those of rt ci where nothing is newer."""
+    for it in repository.below(crate):
+        made = Path(it.folder, "out/rlib", f"{it.name}.rlib", "format")
+        texts = [path for part in ("src", "specs", "proofs") for path in Path(it.folder, part).rglob("*")]
+        is_of_ci = made.is_file() and not Path(it.folder, "out/rlib/stamp").is_file()
+        if is_of_ci and all(path.stat().st_mtime <= made.stat().st_mtime for path in texts):
+            continue
+        ran = subprocess.run(["rt", "lib"], cwd=it.folder, stdin=subprocess.DEVNULL, stdout=subprocess.PIPE, stderr=subprocess.STDOUT, errors="replace")
+        if ran.returncode:
+            raise CannotTry(f"its library {it.name} is not built: {ran.stdout.strip().splitlines()[-1:]}")
