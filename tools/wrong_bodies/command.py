@@ -30,6 +30,7 @@ def arguments(words):
     parser.add_argument("--proved", action="store_true", help="every crate was just proved, as by rt ci: do not check them without edits first")
     parser.add_argument("--lanes", metavar="N", type=int, default=len(os.sched_getaffinity(0)), help="crates side by side (as many as processors)")
     parser.add_argument("--edits", metavar="FOLDER", default="wrong", help="the folder of the edits; with another than 'wrong' no record is read or written")
+    parser.add_argument("--said", metavar="FOLDER", help="keep there what each check said")
     parser.add_argument("--root", metavar="FOLDER", default=top, help="the top of the repository")
     parser.add_argument("--record", metavar="FILE", help="the record (tools/wrong_bodies.record)")
     given = parser.parse_args(words)
@@ -68,7 +69,7 @@ def try_all(repository, crates, given, done):
     """Tries crates side by side, those with the most edits first."""
     found = []
     with ThreadPoolExecutor(max(given.lanes, 1)) as lanes:
-        for tried in lanes.map(lambda it: try_crate(repository, it, given.proved), sorted(crates, key=lambda it: -len(it.edits))):
+        for tried in lanes.map(lambda it: try_crate(repository, it, given.proved, given.said), sorted(crates, key=lambda it: -len(it.edits))):
             for it in tried.edits:
                 print(it)
             sys.stdout.flush()

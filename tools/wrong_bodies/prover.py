@@ -72,8 +72,8 @@ def goals_in(lines, crate):
 class Prover:
     """Checks one crate, over what its own checks kept in out/ and what those of this run keep."""
 
-    def __init__(self, repository, crate, room):
-        self.repository, self.crate, self.room = repository, crate, room
+    def __init__(self, repository, crate, room, said=None):
+        self.repository, self.crate, self.said = repository, crate, said
         self.checks, self.seconds = 0, 0.0
         self.kept = f"{room}/incremental"
         own = Path(crate.folder, "out/incremental")
@@ -105,6 +105,9 @@ class Prover:
         self.checks += 1
         took = time.monotonic() - began
         print(f"{self.crate.name}: check {self.checks}: {len(edits)} edits, {len(functions) or 'all'} functions, {took:.1f} s", file=sys.stderr, flush=True)
+        if self.said:
+            head = [" ".join(it.name for it in edits), " ".join(functions), f"status {status}"]
+            Path(self.said, f"{self.crate.name}-{self.checks}").write_text("\n".join([*head, *lines, ""]), "utf-8")
         stale = [it[1] for it in map(STALE.search, lines) if it]
         if stale:
             raise CannotTry(f"the built library {stale[0]} is of another build: run `rt lib` in its folder")

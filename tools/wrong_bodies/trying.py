@@ -29,15 +29,16 @@ class Tried:
         return [it for it in self.edits if it.verdict != "refused"]
 
 
-def try_crate(repository, crate, is_proved):
-    """Tries all edits of a crate. Unless the caller has just proved it, the edited functions are first checked as they stand."""
+def try_crate(repository, crate, is_proved, said=None):
+    """Tries all edits of a crate. Unless the caller has just proved it, the edited functions are first checked as they stand. What each check
+    said is kept in a folder, where one is given."""
     left = [it for it in crate.edits if not it.unreadable]
     tried = Tried(crate, crate.edits)
     if not left:
         return tried
     Path(crate.folder, "out").mkdir(exist_ok=True)
     with tempfile.TemporaryDirectory(prefix="wrong-bodies-", dir=f"{crate.folder}/out") as room:
-        prover = Prover(repository, crate, room)
+        prover = Prover(repository, crate, room, said)
         try:
             build_below(repository, crate)
             if not is_proved:
