@@ -1,29 +1,28 @@
-"""A wrong body: what it changes, and which function, or arm, it turns wrong."""
+"""A wrong body: what it changes, and which function, or arms of one, it turns wrong."""
 import os
 import re
-
-from .kinds import Kind
 
 
 class Edit:
     """A file of `file:`, `old:` and `new:` lines, in the form that `rt must-fail` reads, over one file of src/.
 
-    An edit outside every body, as of a macro or a constant, may name the functions that it turns wrong in lines 'function: module::name'.
-    The first is the one that has to be refused. A line 'goal: in-33' says which arm of it, by a part of the names of that arm's goals.
+    An edit outside every body, as of a macro or a constant, may name the functions that it turns wrong in lines 'function: module::name',
+    each with the arms of it that the edit changes, as the names of goals have them: 'function: decoding::special in-33 in-43'. The first
+    is the function that has to be refused. Where arms are named, all are that it changes.
     """
 
     def __init__(self, path, crate):
-        self.crate, self.name = crate, path.name
-        self.verdict, self.kind, self.why = "BAD EDIT", None, ""
-        self.file, self.start, self.end, self.new, self.functions, self.goal = "", 0, 0, "", [], None
+        self.crate, self.name, self.verdict, self.kind, self.why = crate, path.name, "BAD EDIT", None, ""
+        self.file, self.start, self.end, self.new = "", 0, 0, ""
         self.words = path.read_text("utf-8", "replace")
-        self.unreadable = self.why = self.read()
-        if not self.unreadable:
-            self.functions = re.findall(r"(?m)^function: (\S+)", self.words)
-            self.goal = "".join(re.findall(r"(?m)^goal: (\S+)", self.words)[:1]) or None
-            self.find_body()
-            lost = [it for it in self.functions if it not in crate.sources.by_name]
-            self.unreadable = self.why = f"the crate has no function {lost[0]}" if lost else ""
+        rows = [it.split() for it in re.findall(r"(?m)^function: (.+)", self.words)]
+        # (by function the arms that it changes, or none where it may change all)
+        self.functions = {name: frozenset(arms) for name, *arms in rows}
+        self.names_arms = any(self.functions.values())
+        lost = [it for it in self.functions if it not in crate.sources.by_name]
+        self.unreadable = self.why = f"the crate has no function {lost[0]}" if lost else self.read()
+        if not self.unreadable and not self.functions:
+            self.functions = self.found()
 
     def read(self):
         """Finds what the edit changes, and returns why it cannot be applied, if so."""
@@ -43,37 +42,36 @@ class Edit:
         self.end, self.new = len(was) - same, now[self.start : len(now) - same]
         return ""
 
-    def find_body(self):
-        """Finds the function, or arm, in whose body the edit lies, where the edit names none."""
+    def found(self):
+        """Returns the function, with its arm, in whose body the edit lies, if any."""
         around = [it for it in self.crate.sources.bodies[self.file] if it.start <= self.start and self.end <= it.end]
-        if not around or self.functions:
-            return
+        if not around:
+            return {}
         body = min(around, key=lambda it: it.end - it.start)
-        self.functions = [body.function]
         arms = [it for it in body.arms if it.start <= self.start and self.end <= it.end]
         arm = max(arms, key=lambda it: it.end - it.start).name if arms else None
         # (goals are named after the constructor, so one that stands in two arms tells nothing)
-        if arm and [it.name for it in body.arms].count(arm) == 1:
-            self.goal = self.goal or f"in-{arm}"
+        is_one = [it.name for it in body.arms].count(arm) == 1
+        return {body.function: frozenset({f"in-{arm}"} if is_one else ())}
 
     @property
     def function(self):
-        return self.functions[0] if self.functions else ""
+        """The function that has to be refused, or an empty text where none is known."""
+        return next(iter(self.functions), "")
 
-    @property
-    def fits_a_batch(self):
-        return bool(self.functions)
+    def shares(self, other):
+        """Returns whether the two change one function."""
+        return bool(self.functions.keys() & other.functions.keys())
 
-    def clashes(self, other, by_arms):
-        """Returns whether one check could not tell the two apart."""
+    def clashes(self, other):
+        """Returns whether one check could not tell the two apart: they change one text, one function, or one arm where both know theirs."""
         overlaps = self.file == other.file and self.start <= other.end and other.start <= self.end
-        shared = set(self.functions) & set(other.functions)
-        are_arms = by_arms and self.goal and other.goal and self.goal != other.goal
-        return overlaps or bool(shared) and not are_arms
+        both = [(self.functions[it], other.functions[it]) for it in self.functions.keys() & other.functions.keys()]
+        return overlaps or any(not mine or not others or mine & others for mine, others in both)
 
-    def owns(self, goal, is_alone):
-        """Returns whether a goal of the edit's function is the edit's own: beside edits of other arms, where its name has this edit's arm."""
-        return is_alone or bool(re.search(rf"(?:\A|-){re.escape(self.goal)}(?!\w)", goal))
+    def owns(self, goal):
+        """Returns whether a goal of the edit's function is of an arm that it changes."""
+        return any(re.search(rf"(?:\A|-){re.escape(it)}(?!\w)", goal) for it in self.functions[self.function])
 
     def refuse(self, kind, why):
         self.verdict, self.kind, self.why = "refused", kind, why
@@ -82,5 +80,5 @@ class Edit:
         self.verdict, self.kind, self.why = verdict, None, why
 
     def __str__(self):
-        by = f" by {self.kind.words}" if isinstance(self.kind, Kind) else ""
+        by = f" by {self.kind.words}" if self.kind else ""
         return f"{self.verdict}{by}: {self.crate.name}/{self.name}: {self.why}"

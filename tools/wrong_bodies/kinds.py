@@ -44,6 +44,3 @@ def strongest(goals, is_public):
     order = list(Kind)
     return min(((it, kind_of(it, is_public)) for it in goals), key=lambda it: order.index(it[1]))
 
-
-def is_safety(goal):
-    return not re.match(r"returns|invariant_of-", goal)

@@ -40,7 +40,7 @@ class Said:
 
     def complaint(self):
         """Returns the first error that it printed."""
-        return next((it for it in self.lines if "error" in it), self.lines[-1])
+        return next((it for it in self.lines if ": error" in it or it.startswith("error")), self.lines[-1])
 
 
 def unquoted(words):

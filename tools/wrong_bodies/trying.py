@@ -43,7 +43,7 @@ def try_crate(repository, crate, is_proved, said=None):
             build_below(repository, crate)
             if not is_proved:
                 check_unedited(prover, left)
-            for it in [*try_in_batches(prover, [it for it in left if it.fits_a_batch]), *(it for it in left if not it.fits_a_batch)]:
+            for it in [*try_in_batches(prover, [it for it in left if it.functions]), *(it for it in left if not it.functions)]:
                 try_alone(prover, it)
         except CannotTry as error:
             for it in left:
@@ -63,7 +63,7 @@ def batches_of(edits):
     """Returns the edits in as few batches as the first fit gives, each with no two that clash."""
     batches = []
     for it in edits:
-        fit = next((batch for batch in batches if not any(it.clashes(other, by_arms=True) for other in batch)), None)
+        fit = next((batch for batch in batches if not any(it.clashes(other) for other in batch)), None)
         if fit is None:
             batches.append([it])
         else:
@@ -77,7 +77,7 @@ def try_in_batches(prover, edits):
     batches, standing, undecided = batches_of(edits), [], []
     while batches:
         batch = batches.pop(0)
-        standing = [it for it in standing if not any(it.clashes(new, by_arms=False) for new in batch)]
+        standing = [it for it in standing if not any(it.shares(new) for new in batch)]
         written = [*standing, *batch]
         said = prover.check(written, [name for it in batch for name in it.functions])
         edited = {name for it in written for name in it.functions}
@@ -94,9 +94,13 @@ def try_in_batches(prover, edits):
 
 
 def judge(prover, edit, said, written):
-    """Refuses an edit where a goal of its own is not proved."""
-    is_alone = not any(it is not edit and set(it.functions) & set(edit.functions) for it in written)
-    goals = [it for it in said.goals.get(edit.function, []) if edit.owns(it, is_alone)]
+    """Refuses an edit where a goal of its own is not proved: of the function, or beside edits of other arms, of its arm. A goal of no edit's
+    arm says that an edit changes more than the arms that it names, so none that names arms is refused then."""
+    beside = [it for it in written if it is not edit and it.shares(edit)]
+    goals = said.goals.get(edit.function, [])
+    if beside:
+        is_told = all(any(it.function == edit.function and it.owns(goal) for it in (edit, *beside)) for goal in goals)
+        goals = [it for it in goals if edit.owns(it) and (is_told or not edit.names_arms)]
     if goals:
         goal, kind = strongest(goals, prover.crate.sources.is_public(edit.function))
         edit.refuse(kind, f"{edit.function}: {goal or 'a step of its proof'}")
@@ -104,7 +108,7 @@ def judge(prover, edit, said, written):
 
 def try_alone(prover, edit):
     """Tries one edit by its functions, and where these are proved or unknown by the whole crate, as `rt must-fail` does."""
-    for functions in ([edit.functions] if edit.functions else []) + [[]]:
+    for functions in ([list(edit.functions)] if edit.functions else []) + [[]]:
         said = prover.check([edit], functions)
         if said.status not in (0, 1) or not said.could_read():
             return edit.fail("BAD EDIT", f"the prover cannot read it, or could not tell: {said.complaint()}")
