@@ -4,7 +4,7 @@ import os
 import sys
 import time
 from collections import Counter
-from concurrent.futures import ThreadPoolExecutor
+from concurrent.futures import ThreadPoolExecutor, as_completed
 from pathlib import Path
 
 from .crates import Repository
@@ -56,26 +56,22 @@ def main(words):
     sums = {it.name: sum_of(repository, it, version) for it in crates}
     known = {it.name: record.counts(it.name, sums[it.name]) for it in crates} if record else {}
     chosen = [it for it in crates if given.all or it.name in given.crates or given.changed and known.get(it.name) is None]
-    tried, seconds = try_all(repository, chosen, given, lambda it: record and keep(record, repository, it, sums)), time.monotonic() - began
-    return tell(tried, seconds, [it for it in crates if it not in chosen and known.get(it.name) is not None], known)
+    tried = []
+    for it in try_all(repository, chosen, given):
+        print("\n".join(map(str, it.edits)), flush=True)
+        tried.append(it)
+        if record:
+            record.put(it, sums[it.crate.name], repository.crates)
+    recorded = [it for it in crates if it not in chosen and known.get(it.name) is not None]
+    return tell(tried, time.monotonic() - began, recorded, known)
 
 
-def keep(record, repository, tried, sums):
-    record.put(tried, sums[tried.crate.name])
-    record.write(repository.crates)
-
-
-def try_all(repository, crates, given, done):
-    """Tries crates side by side, those with the most edits first."""
-    found = []
+def try_all(repository, crates, given):
+    """Tries crates side by side, those with the most edits first, and gives each as it is done."""
     with ThreadPoolExecutor(max(given.lanes, 1)) as lanes:
-        for tried in lanes.map(lambda it: try_crate(repository, it, given.proved, given.said), sorted(crates, key=lambda it: -len(it.edits))):
-            for it in tried.edits:
-                print(it)
-            sys.stdout.flush()
-            done(tried)
-            found.append(tried)
-    return found
+        order = sorted(crates, key=lambda it: -len(it.edits))
+        for it in as_completed([lanes.submit(try_crate, repository, crate, given.proved, given.said) for crate in order]):
+            yield it.result()
 
 
 def tell(tried, seconds, recorded, known):

@@ -48,23 +48,30 @@ class Record:
 
     def __init__(self, path):
         self.path, self.lines = Path(path), {}
-        if self.path.is_file():
-            rows = (it.split() for it in self.path.read_text("utf-8").splitlines() if it.strip() and not it.startswith("#"))
-            self.lines = {name: (found, {kind: int(n) for kind, _, n in (it.partition("=") for it in counts)}) for name, found, *counts in rows}
+        self.read()
+
+    def read(self):
+        rows = self.path.read_text("utf-8").splitlines() if self.path.is_file() else []
+        rows = [it.split() for it in rows if it.strip() and not it.startswith("#")]
+        self.lines = {name: (found, {kind: int(n) for kind, _, n in (it.partition("=") for it in counts)}) for name, found, *counts in rows}
 
     def counts(self, name, found):
         """Returns how many are refused by each kind, by its word, where the line's sum is the given one, and otherwise nothing."""
         kept, counts = self.lines.get(name, ("", {}))
         return counts if kept == found else None
 
-    def put(self, tried, found):
-        """Notes what was found of a crate, or that nothing is known of it, where one of its edits is not refused."""
+    def put(self, tried, found, order):
+        """Writes what was found of a crate, or that nothing is known of it, where one of its edits is not refused. The lines of other crates stay
+        as the file has them now."""
+        self.read()
         if tried.failed():
             self.lines.pop(tried.crate.name, None)
         else:
             self.lines[tried.crate.name] = (found, {kind.word: tried.refused(kind) for kind in Kind})
+        self.write(order)
 
     def write(self, order):
         """Writes the lines of the crates that are given, in their order."""
-        rows = [f"{name} {self.lines[name][0]} " + " ".join(f"{kind}={n}" for kind, n in self.lines[name][1].items()) for name in order if name in self.lines]
-        self.path.write_text(HEAD + "".join(f"{it}\n" for it in rows), "utf-8")
+        rows = [(name, *self.lines[name]) for name in order if name in self.lines]
+        lines = [f"{name} {found} " + " ".join(f"{kind}={n}" for kind, n in counts.items()) for name, found, counts in rows]
+        self.path.write_text(HEAD + "".join(f"{it}\n" for it in lines), "utf-8")

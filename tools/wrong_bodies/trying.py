@@ -73,7 +73,8 @@ def batches_of(edits):
 
 def try_in_batches(prover, edits):
     """Tries edits together, and returns those that stay undecided. The edits of earlier batches stay in the copy until another of their
-    function comes, so that what the prover found of them serves again."""
+    function comes, so that what the prover found of them serves again. Where a check can't tell, they are taken out, and then the batch
+    is halved."""
     batches, standing, undecided = batches_of(edits), [], []
     while batches:
         batch = batches.pop(0)
@@ -81,15 +82,18 @@ def try_in_batches(prover, edits):
         written = [*standing, *batch]
         said = prover.check(written, [name for it in batch for name in it.functions])
         edited = {name for it in written for name in it.functions}
-        is_sound, half = said.could_read() and set(said.goals) <= edited, len(batch) // 2
-        if is_sound:
+        if said.could_read() and set(said.goals) <= edited:
             for it in batch:
                 judge(prover, it, said, written)
+            undecided += [it for it in batch if it.verdict != "refused"]
             standing = written
-        elif half:
-            batches[:0] = [batch[:half], batch[half:]]
-            continue
-        undecided += [it for it in batch if it.verdict != "refused"]
+        elif standing:
+            batches, standing = [batch, *batches], []
+        elif len(batch) > 1:
+            half = len(batch) // 2
+            batches = [batch[:half], batch[half:], *batches]
+        else:
+            undecided += batch
     return undecided
 
 
