@@ -15,7 +15,8 @@ from .trying import try_crate
 USES = """Tries the wrong bodies of the crates, crates/NAME/wrong/*.edit: the prover must refuse each of them.
 
 --changed tries those of each crate whose line in the record has another sum than its texts; --all tries all; names of crates, these.
-Each brings the lines of the crates that it tried up to date. docs/gate.md says more.
+Each brings the lines of the crates that it tried up to date. A name CRATE/EDIT tries one edit, and no line is written then.
+docs/gate.md says more.
 
 The last line is 'N passed, M failed': how many wrong bodies are refused, those that the record has among them, and how many are not, or
 could not be tried. The status is 0 where M is 0."""
@@ -24,7 +25,7 @@ could not be tried. The status is 0 where M is 0."""
 def arguments(words):
     top = Path(__file__).resolve().parents[2]
     parser = argparse.ArgumentParser(prog="wrong_bodies.py", description=USES, formatter_class=argparse.RawDescriptionHelpFormatter)
-    parser.add_argument("crates", metavar="CRATE", nargs="*", help="try the wrong bodies of this crate")
+    parser.add_argument("names", metavar="CRATE", nargs="*", help="try the wrong bodies of this crate, or with CRATE/EDIT one of them")
     parser.add_argument("--all", action="store_true", help="try those of every crate")
     parser.add_argument("--changed", action="store_true", help="try those of every crate that is not as the record has it")
     parser.add_argument("--proved", action="store_true", help="every crate was just proved, as by rt ci: do not check them without edits first")
@@ -34,7 +35,7 @@ def arguments(words):
     parser.add_argument("--root", metavar="FOLDER", default=top, help="the top of the repository")
     parser.add_argument("--record", metavar="FILE", help="the record (tools/wrong_bodies.record)")
     given = parser.parse_args(words)
-    if not (given.all or given.changed or given.crates):
+    if not (given.all or given.changed or given.names):
         parser.error("say --changed, --all or names of crates")
     return given
 
@@ -43,19 +44,33 @@ def by_kinds(counts):
     return ", ".join(f"{counts[it.word]} by {it.words}" for it in Kind)
 
 
+def pick(repository, names):
+    """Leaves the edits that are named, where some are, and returns the crates of the names. Raises `LookupError` at a name of nothing."""
+    for name in names:
+        crate, _, edit = name.partition("/")
+        if crate not in repository.crates or edit and not any(it.is_named(edit) for it in repository.crates[crate].edits):
+            raise LookupError(name)
+    for crate in repository.crates.values():
+        edits = [it.partition("/")[2] for it in names if it.startswith(f"{crate.name}/")]
+        crate.edits = [it for it in crate.edits if not edits or any(map(it.is_named, edits))]
+    return {it.partition("/")[0] for it in names}
+
+
 def main(words):
     given, began = arguments(words), time.monotonic()
     repository = Repository(given.root, given.edits)
-    lost = [it for it in given.crates if it not in repository.crates]
-    if lost:
-        print(f"crates.txt has no crate {lost[0]}\n0 passed, 1 failed")
+    try:
+        named = pick(repository, given.names)
+    except LookupError as error:
+        print(f"there is no {error}\n0 passed, 1 failed")
         return 2
-    record = Record(given.record or f"{repository.root}/tools/wrong_bodies.record") if given.edits == "wrong" else None
+    is_kept = given.edits == "wrong" and not any("/" in it for it in given.names)
+    record = Record(given.record or f"{repository.root}/tools/wrong_bodies.record") if is_kept else None
     version = toolchain()
     crates = [it for it in repository.crates.values() if it.edits]
     sums = {it.name: sum_of(repository, it, version) for it in crates}
     known = {it.name: record.counts(it.name, sums[it.name]) for it in crates} if record else {}
-    chosen = [it for it in crates if given.all or it.name in given.crates or given.changed and known.get(it.name) is None]
+    chosen = [it for it in crates if given.all or it.name in named or given.changed and known.get(it.name) is None]
     tried = []
     for it in try_all(repository, chosen, given):
         print("\n".join(map(str, it.edits)), flush=True)

@@ -59,6 +59,9 @@ class Edit:
         """The function that has to be refused, or an empty text where none is known."""
         return next(iter(self.functions), "")
 
+    def is_named(self, name):
+        return self.name in (name, f"{name}.edit")
+
     def shares(self, other):
         """Returns whether the two change one function."""
         return bool(self.functions.keys() & other.functions.keys())
