@@ -203,6 +203,16 @@ class Recorded(unittest.TestCase):
         self.assertEqual(self.before, self.after("upper/src/lib.rt", "pub fn first", "/// The first.\npub fn first"))
         self.assertEqual(self.before, self.after("lower/src/lib.rt", "pub fn one", "/// One.\npub fn one"))
 
+    def test_a_test_changes_nothing(self):
+        more = "\n#[cfg(test)]\nmod tests {\n    #[test]\n    fn it_is_one() {}\n}\n\n#[cfg(test)]\nmod more;\n"
+        for name in ("lower", "upper"):
+            write(self.room.name, {f"crates/{name}/src/more.rt": "fn more() {}\n", f"crates/{name}/proofs/more_tests/more/Answers.antt": "more = 1\n"})
+            self.assertEqual(self.before, self.after(f"{name}/src/lib.rt", "pub fn", more + "pub fn"))
+
+    def test_a_function_below_that_is_added_and_cannot_be_called_changes_nothing(self):
+        more = "impl One {\n    #[inline(always)]\n    fn three() -> u32 {\n        3\n    }\n}\n\n"
+        self.assertEqual(self.before, self.after("lower/src/lib.rt", "fn two", more + "fn two"))
+
     def test_a_clause_below_changes_it(self):
         self.assertNotEqual(self.before, self.after("lower/src/lib.rt", "result ≡ 1", "result ≡ 1 + 0"))
 

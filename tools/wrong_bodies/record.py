@@ -12,7 +12,6 @@ from pathlib import Path
 
 from .crates import NAMED_PROOF
 from .kinds import Kind
-from .sources import without_comments
 
 JUDGING = ("sources", "crates", "edits", "prover", "kinds", "trying")
 HEAD = """\
@@ -27,7 +26,7 @@ def toolchain():
 
 def sum_of(repository, crate, version):
     """Returns the sum of all on which the verdicts of a crate's wrong bodies rest."""
-    own = {path: without_comments(text) for path, text in crate.sources.texts.items()}
+    own = {path: crate.sources.words(path) for path in crate.sources.texts}
     logic = {**crate.logic("specs"), **crate.logic("proofs")}
     edits = [(it.name, it.words, it.unreadable) for it in crate.edits]
     judges = [Path(__file__).with_name(f"{it}.py").read_text("utf-8") for it in JUDGING]

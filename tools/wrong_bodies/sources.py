@@ -14,8 +14,9 @@ TRAIT = re.compile(r"(?m)^\s*(?:pub\s+)?trait\s+(\w+)[^{;]*\{")
 TYPE = re.compile(r"\b(?:struct|enum|trait)\s+(\w+)")
 PUBLIC_USE = re.compile(r"\bpub\s+use\s+([^;]*);")
 MODULE = re.compile(r"(?P<test>#\[cfg\(test\)\]\s*)?(?P<public>\bpub\s+)?\bmod\s+(?P<name>\w+)\s*;")
-# Attributes that say nothing of what a function does.
-ATTRIBUTE = re.compile(r"#\[(?:inline|tactic|cold|must_use|allow|doc)\b[^\]]*\]")
+TESTS = re.compile(r"#\[cfg\(test\)\]\s*mod\s+\w+\s*[;{]")
+# Attributes that say nothing of what a function does, and blocks of methods that are left with none.
+UNSAID = re.compile(r"#\[(?:inline|tactic|cold|must_use|allow|doc)\b[^\]]*\]|\bimpl\b(?:(?! for )[^{};])*\{ ?\}")
 
 
 @dataclass(frozen=True)
@@ -48,6 +49,16 @@ def without_comments(text):
     """Returns the words of a source, with no comments and one blank between them."""
     text = NO_CODE.sub(lambda it: " " if it[0].startswith(("//", "/*")) else it[0], text)
     return " ".join(text.split())
+
+
+def without_tests(text):
+    """Returns a text of the same length with blanks for the modules that are read with the tests alone."""
+    code = blanked(text)
+    ends = closed(code)
+    for it in TESTS.finditer(code):
+        end = ends.get(it.end() - 1, it.end() - 1) + 1
+        text = text[: it.start()] + re.sub(r"[^\n]", " ", text[it.start() : end]) + text[end:]
+    return text
 
 
 def modules_of(file):
@@ -138,11 +149,15 @@ class Sources:
 
     def stated(self, path):
         """Returns what a file states to the crates above: no comment, no body, and no function that they cannot call."""
-        text = self.texts[path]
+        text = without_tests(self.texts[path])
         for body in sorted(self.bodies[path], key=lambda it: -it.head):
-            head = "" if not body.is_public else text[body.head : body.start]
-            text = text[: body.head] + head + ";" + text[body.end :]
-        return ATTRIBUTE.sub("", without_comments(text))
+            head = text[body.head : body.start] + ";" if body.is_public else " "
+            text = text[: body.head] + head + text[body.end :]
+        return " ".join(UNSAID.sub("", without_comments(text)).split())
+
+    def words(self, path):
+        """Returns the words of a file, without comments and tests."""
+        return without_comments(without_tests(self.texts[path]))
 
 
 def tests_in(texts):
