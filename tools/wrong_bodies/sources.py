@@ -15,8 +15,9 @@ TYPE = re.compile(r"\b(?:struct|enum|trait)\s+(\w+)")
 PUBLIC_USE = re.compile(r"\bpub\s+use\s+([^;]*);")
 MODULE = re.compile(r"(?P<test>#\[cfg\(test\)\]\s*)?(?P<public>\bpub\s+)?\bmod\s+(?P<name>\w+)\s*;")
 TESTS = re.compile(r"#\[cfg\(test\)\]\s*mod\s+\w+\s*[;{]")
-# Attributes that say nothing of what a function does, and blocks of methods that are left with none.
-UNSAID = re.compile(r"#\[(?:inline|tactic|cold|must_use|allow|doc)\b[^\]]*\]|\bimpl\b(?:(?! for )[^{};])*\{ ?\}")
+# Attributes that say nothing of what a function does; blocks of methods that are left with none.
+ATTRIBUTE = re.compile(r"#\[(?:inline|tactic|cold|must_use|allow|doc)\b[^\]]*\]")
+EMPTY_BLOCK = re.compile(r"\bimpl\b(?:(?! for )[^{};])*\{\s*\}")
 
 
 @dataclass(frozen=True)
@@ -153,7 +154,7 @@ class Sources:
         for body in sorted(self.bodies[path], key=lambda it: -it.head):
             head = text[body.head : body.start] + ";" if body.is_public else " "
             text = text[: body.head] + head + text[body.end :]
-        return " ".join(UNSAID.sub("", without_comments(text)).split())
+        return " ".join(EMPTY_BLOCK.sub("", ATTRIBUTE.sub("", without_comments(text))).split())
 
     def words(self, path):
         """Returns the words of a file, without comments and tests."""
