@@ -134,9 +134,9 @@ def build_below(repository, crate):
     """Has the libraries below a crate built: those that rt lib made where it says that they are still right, those of rt ci where nothing is newer."""
     for it in repository.below(crate):
         made = Path(it.folder, "out/rlib", f"{it.name}.rlib", "format")
-        texts = [path for part in ("src", "specs", "proofs") for path in Path(it.folder, part).rglob("*")]
+        texts = [path for part in ("src", "specs", "proofs") for path in Path(it.folder, part).rglob("*.*")]
         is_of_ci = made.is_file() and not Path(it.folder, "out/rlib/stamp").is_file()
-        if is_of_ci and all(path.stat().st_mtime <= made.stat().st_mtime for path in texts):
+        if is_of_ci and all(path.stat().st_mtime <= made.stat().st_mtime for path in texts if path.is_file()):
             continue
         ran = subprocess.run(["rt", "lib"], cwd=it.folder, stdin=subprocess.DEVNULL, stdout=subprocess.PIPE, stderr=subprocess.STDOUT, errors="replace")
         if ran.returncode:
