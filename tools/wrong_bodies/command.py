@@ -29,7 +29,7 @@ def arguments(words):
     parser.add_argument("--all", action="store_true", help="try those of every crate")
     parser.add_argument("--changed", action="store_true", help="try those of every crate that is not as the record has it")
     parser.add_argument("--proved", action="store_true", help="every crate was just proved, as by rt ci: do not check them without edits first")
-    parser.add_argument("--lanes", metavar="N", type=int, default=len(os.sched_getaffinity(0)), help="crates side by side (as many as processors)")
+    parser.add_argument("--lanes", metavar="N", type=int, default=len(os.sched_getaffinity(0)), help="use so many processors (all)")
     parser.add_argument("--edits", metavar="FOLDER", default="wrong", help="the folder of the edits; with another than 'wrong' no record is read or written")
     parser.add_argument("--said", metavar="FOLDER", help="keep there what each check said")
     parser.add_argument("--root", metavar="FOLDER", default=top, help="the top of the repository")
@@ -82,10 +82,14 @@ def main(words):
 
 
 def try_all(repository, crates, given):
-    """Tries crates side by side, those with the most edits first, and gives each as it is done."""
+    """Tries crates side by side, those with the most edits first, and gives each as it is done. Lanes that are left over are shared out among
+    the crates that are still tried."""
+    done = []
+    jobs = lambda: max(given.lanes // max(len(crates) - len(done), 1), 1)
     with ThreadPoolExecutor(max(given.lanes, 1)) as lanes:
         order = sorted(crates, key=lambda it: -len(it.edits))
-        for it in as_completed([lanes.submit(try_crate, repository, crate, given.proved, given.said) for crate in order]):
+        for it in as_completed([lanes.submit(try_crate, repository, crate, given.proved, jobs, given.said) for crate in order]):
+            done.append(it)
             yield it.result()
 
 

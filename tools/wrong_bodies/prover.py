@@ -72,8 +72,8 @@ def goals_in(lines, crate):
 class Prover:
     """Checks one crate, over what its own checks kept in out/ and what those of this run keep."""
 
-    def __init__(self, repository, crate, room, said=None):
-        self.repository, self.crate, self.said = repository, crate, said
+    def __init__(self, repository, crate, room, jobs, said=None):
+        self.repository, self.crate, self.jobs, self.said = repository, crate, jobs, said
         self.checks, self.seconds = 0, 0.0
         self.kept = f"{room}/incremental"
         own = Path(crate.folder, "out/incremental")
@@ -101,7 +101,8 @@ class Prover:
             for file in {it.file for it in edits}:
                 Path(copy, file).write_text(self.with_edits(file, edits), "utf-8")
             only = [word for it in functions for word in ("--only", it)]
-            status, lines = self.run([f"{kit()}/bin/rattle", "check", *self.words(), *only, "--incremental", self.kept], copy)
+            how = ["--incremental", self.kept, "--jobs", str(self.jobs())]
+            status, lines = self.run([f"{kit()}/bin/rattle", "check", *self.words(), *only, *how], copy)
         self.checks += 1
         took = time.monotonic() - began
         print(f"{self.crate.name}: check {self.checks}: {len(edits)} edits, {len(functions) or 'all'} functions, {took:.1f} s", file=sys.stderr, flush=True)

@@ -29,16 +29,16 @@ class Tried:
         return [it for it in self.edits if it.verdict != "refused"]
 
 
-def try_crate(repository, crate, is_proved, said=None):
-    """Tries all edits of a crate. Unless the caller has just proved it, the edited functions are first checked as they stand. What each check
-    said is kept in a folder, where one is given."""
+def try_crate(repository, crate, is_proved, jobs=lambda: 1, said=None):
+    """Tries all edits of a crate. Unless the caller has just proved it, the edited functions are first checked as they stand. `jobs` says how
+    many processors a check may use. What each check said is kept in the folder `said`, where one is given."""
     left = [it for it in crate.edits if not it.unreadable]
     tried = Tried(crate, crate.edits)
     if not left:
         return tried
     Path(crate.folder, "out").mkdir(exist_ok=True)
     with tempfile.TemporaryDirectory(prefix="wrong-bodies-", dir=f"{crate.folder}/out") as room:
-        prover = Prover(repository, crate, room, said)
+        prover = Prover(repository, crate, room, jobs, said)
         try:
             build_below(repository, crate)
             if not is_proved:
