@@ -1,5 +1,6 @@
 """A repository's crates: what each uses, and its texts."""
 import re
+import threading
 from pathlib import Path
 
 from .edits import Edit
@@ -43,6 +44,8 @@ class Repository:
         rows = [line.partition("#")[0].partition(":") for line in Path(self.root, "crates.txt").read_text("utf-8").split("\n")]
         uses = {name.split()[0]: below.split() for name, _, below in rows if name.strip()}
         self.crates = {it: Crate(it, f"{self.root}/crates/{it}", uses[it], edits) for it in uses}
+        # (the libraries that this run had built, by name, with why one is not)
+        self.built, self.building = {}, threading.Lock()
 
     def below(self, crate):
         """Returns the repository's crates on which one rests, lowest first."""

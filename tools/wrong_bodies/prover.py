@@ -132,13 +132,25 @@ class Prover:
 
 
 def build_below(repository, crate):
-    """Has the libraries below a crate built: those that rt lib made where it says that they are still right, those of rt ci where nothing is newer."""
+    """Has the libraries below a crate built, each once in a run."""
     for it in repository.below(crate):
-        made = Path(it.folder, "out/rlib", f"{it.name}.rlib", "format")
-        texts = [path for part in ("src", "specs", "proofs") for path in Path(it.folder, part).rglob("*.*")]
-        is_of_ci = made.is_file() and not Path(it.folder, "out/rlib/stamp").is_file()
-        if is_of_ci and all(path.stat().st_mtime <= made.stat().st_mtime for path in texts if path.is_file()):
-            continue
-        ran = subprocess.run(["rt", "lib"], cwd=it.folder, stdin=subprocess.DEVNULL, stdout=subprocess.PIPE, stderr=subprocess.STDOUT, errors="replace")
-        if ran.returncode:
-            raise CannotTry(f"its library {it.name} is not built: {ran.stdout.strip().splitlines()[-1:]}")
+        with repository.building:
+            if it.name not in repository.built:
+                repository.built[it.name] = "" if is_left_by_ci(it) else built(it)
+        if repository.built[it.name]:
+            raise CannotTry(f"its library {it.name} is not built: {repository.built[it.name]}")
+
+
+def is_left_by_ci(crate):
+    """Returns whether rt ci built a library, which it does without a stamp, from the texts that stand now."""
+    made = Path(crate.folder, "out/rlib", f"{crate.name}.rlib", "format")
+    if not made.is_file() or Path(crate.folder, "out/rlib/stamp").is_file():
+        return False
+    texts = [path for part in ("src", "specs", "proofs") for path in Path(crate.folder, part).rglob("*.*") if path.is_file()]
+    return all(it.stat().st_mtime <= made.stat().st_mtime for it in texts)
+
+
+def built(crate):
+    """Has rt build a library, unless what it built stands, and returns why it did not, if so."""
+    ran = subprocess.run(["rt", "lib"], cwd=crate.folder, stdin=subprocess.DEVNULL, stdout=subprocess.PIPE, stderr=subprocess.STDOUT, errors="replace")
+    return (ran.stdout.strip().splitlines() or ["rt lib failed"])[-1] if ran.returncode else ""
