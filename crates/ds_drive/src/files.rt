@@ -32,7 +32,7 @@ pub trait Files {
 }
 
 /// The files of the system.
-#[derive(Drop)]
+#[derive_where(Clone, Copy)]
 pub struct SystemFiles<'a, R> {
     rt: &'a R,
 }

@@ -11,4 +11,4 @@ mod words;
 
 pub use files::{FileFault, Files, MOST_BYTES, SystemFiles};
 pub use program::{drive, refuse_words};
-pub use words::program_words;
+pub use words::{Request, Wish, program_words, wish_of};

@@ -33,19 +33,9 @@ impl Write for Held {
 /// Puts the byte 41 and exits; its label takes memory too.
 const LABELLED: &str = "put: addiu $4,$0,65\naddiu $2,$0,1\nsyscall\naddiu $2,$0,0\nsyscall\n";
 
-/// The policy's text, if there is memory for it.
-fn policy_text(alloc: Global) -> Option<String> {
-    let mut text = String::new(alloc);
-    for piece in POLICY {
-        text.push_str(piece).ok()?;
-    }
-    Some(text)
-}
-
 /// The station of the run that puts one byte, if there is memory for it.
 fn one_byte(alloc: Global) -> Option<Station<Tlb<64, 8>>> {
-    let text = policy_text(alloc)?;
-    let policy = Policy::read(alloc, text.as_bytes()).ok()?;
+    let policy = Policy::read(alloc, POLICY.as_bytes()).ok()?;
     let mut images = Vec::new(alloc);
     images
         .push(assemble(alloc, LABELLED.as_bytes()).ok()?)
@@ -69,9 +59,6 @@ const FRONTS: [&[u8]; 6] = [
 
 #[test]
 fn for_want_of_memory_nothing_is_written_or_the_text_of_the_first_turns(rt: HostRuntime) {
-    let Some(policy) = policy_text(rt.alloc()) else {
-        return;
-    };
     let sources = [("one.s", LABELLED.as_bytes())];
     let mut out = Held {
         bytes: [0; 80],
@@ -79,7 +66,7 @@ fn for_want_of_memory_nothing_is_written_or_the_text_of_the_first_turns(rt: Host
     };
     let ran = run_files(
         rt.alloc(),
-        policy.as_bytes(),
+        POLICY.as_bytes(),
         &sources,
         b"",
         100,

@@ -1,279 +1,104 @@
-//! Inputs that are refused: which fault comes first, and that nothing is written.
+//! Inputs that are refused, and that no command can give: sources that are missing or have one name,
+//! and more ticks than are served.
 
 use super::*;
 
-const NO_SOURCES: &[(&str, &str)] = &[];
-
 /// A source whose second line is no statement, since an operand is missing.
-const BAD_SECOND_LINE: &str = ".word 0x24040041\nlw $1\n";
+const BAD_SECOND_LINE: &[u8] = b".word 0x24040041\nlw $1\n";
 
 /// A key is not served yet.
-const KEY: &str = "5 key 0 41\n";
+const KEY: &[u8] = b"5 key 0 41\n";
 
 const TOO_MANY: u64 = 1_000_000_001;
 
-/// A page of another source.
-const MORE: &str = "[[page]]\nname = \"more\"\nsource = \"two.s\"\npart = 0\n";
-
 /// A policy with the sources one.s and two.s, in this order.
-const TWO_SOURCES: &[&str] = &[HEAD, PROCESS, CODE, MORE, READ_CODE];
+const TWO_SOURCES: &str = "version = 1
+frames = 16
+[[process]]
+start = 0x00400000
+line = 0
+[[page]]
+name = \"code\"
+source = \"one.s\"
+part = 0
+[[page]]
+name = \"more\"
+source = \"two.s\"
+part = 0
+[[rule]]
+process = 1
+address = 0x00400000
+right = \"read\"
+page = \"code\"
+";
 
-const BAD_RULE: &str =
-    "[[rule]]\nprocess = 1\naddress = 0x00400004\nright = \"read\"\npage = \"code\"\n";
-
-pub fn policy_rows() -> [Row; 4] {
-    [
-        Row {
-            name: "a policy of no bytes",
-            policy: &[],
-            wanted: &["10 Limit version"],
-            ..ONE_BYTE
-        },
-        Row {
-            name: "a policy that is no TOML",
-            policy: &["version ="],
-            wanted: &["8 BadToml"],
-            ..ONE_BYTE
-        },
-        Row {
-            name: "a rule for an address inside a page",
-            policy: &[HEAD, PROCESS, CODE, DATA, BAD_RULE],
-            wanted: &["9 BadRule 1"],
-            ..ONE_BYTE
-        },
-        Row {
-            name: "more processes than are served",
-            policy: &[HEAD, PROCESS, PROCESS, CODE, DATA, READ_CODE],
-            wanted: &["10 Limit process"],
-            ..ONE_BYTE
-        },
-    ]
-}
-
-pub fn source_rows() -> [Row; 5] {
-    [
-        Row {
-            name: "a source that isn't there",
-            sources: NO_SOURCES,
-            wanted: &["24 NoSource one.s"],
-            ..ONE_BYTE
-        },
-        Row {
-            name: "a source under another name",
-            sources: &[("One.s", PUT_A), ("one.s ", PUT_A)],
-            wanted: &["24 NoSource one.s"],
-            ..ONE_BYTE
-        },
-        Row {
-            name: "a second line that says nothing",
-            sources: &[("one.s", BAD_SECOND_LINE)],
-            wanted: &["3 Syntax one.s 2"],
-            ..ONE_BYTE
-        },
-        Row {
-            name: "two sources of one name, the second bad",
-            sources: &[("one.s", PUT_A), ("one.s", BAD_SECOND_LINE)],
-            ..ONE_BYTE
-        },
-        Row {
-            name: "two sources of one name, the first bad",
-            sources: &[("one.s", BAD_SECOND_LINE), ("one.s", PUT_A)],
-            wanted: &["3 Syntax one.s 2"],
-            ..ONE_BYTE
-        },
-    ]
-}
-
-/// A run of these sources that is refused.
-fn refused(
-    name: &'static str,
-    sources: &'static [(&'static str, &'static str)],
-    wanted: &'static [&'static str],
-) -> Row {
-    Row {
-        name,
+/// A run of these sources.
+fn run_of<'a>(policy: &'a str, sources: &'a [(&'a str, &'a [u8])]) -> Run<'a> {
+    Run {
+        policy: policy.as_bytes(),
         sources,
-        wanted,
-        ..ONE_BYTE
+        input: b"",
+        n: 100,
+        random: 63,
     }
 }
 
-/// Faults of a source, each told with its line.
-pub fn assembler_rows() -> [Row; 8] {
-    [
-        refused(
-            "an operand is missing",
-            &[("one.s", "lw $1")],
-            &["3 Syntax one.s 1"],
-        ),
-        refused(
-            "a label stands nowhere",
-            &[("one.s", "beq $0,$0,y")],
-            &["4 UnknownLabel one.s 1"],
-        ),
-        refused(
-            "a label stands twice",
-            &[("one.s", "x: nop\nx: nop")],
-            &["5 DoubleLabel one.s 2"],
-        ),
-        refused(
-            "a number is out of range",
-            &[("one.s", "addiu $1,$0,40000")],
-            &["6 Range one.s 1"],
-        ),
-        refused(
-            "one statement is too many",
-            &[("one.s", ".space 65536\nnop")],
-            &["7 TooLong one.s 2"],
-        ),
-        refused(
-            "of two faults the one of the first pass is told",
-            &[("one.s", "# none\n\nbeq $0,$0,y\njalr $5,$5\n")],
-            &["6 Range one.s 4"],
-        ),
-        Row {
-            policy: TWO_SOURCES,
-            ..refused(
-                "the second source's label stands twice",
-                &[("two.s", "x:\nx:"), ("one.s", PUT_A)],
-                &["5 DoubleLabel two.s 2"],
-            )
-        },
-        Row {
-            policy: TWO_SOURCES,
-            ..refused(
-                "of two sources the first name's fault is told",
-                &[("two.s", "lw $1"), ("one.s", "j y")],
-                &["4 UnknownLabel one.s 1"],
-            )
-        },
-    ]
-}
-
-pub fn input_rows() -> [Row; 5] {
-    [
-        Row {
-            name: "an input with a key",
-            input: KEY,
-            wanted: &["20 InputFault 1"],
-            ..ONE_BYTE
-        },
-        Row {
-            name: "an input with a command",
-            input: "1 resume 1",
-            wanted: &["20 InputFault 1"],
-            ..ONE_BYTE
-        },
-        Row {
-            name: "lines that are skipped are counted",
-            input: "# nothing\n\n1 stop 1\n",
-            wanted: &["20 InputFault 3"],
-            ..ONE_BYTE
-        },
-        Row {
-            name: "an input of skipped lines alone",
-            input: "# nothing\n\n\n#",
-            ..ONE_BYTE
-        },
-        Row {
-            name: "n above the most ticks",
-            n: TOO_MANY,
-            wanted: &["10 Limit n"],
-            ..ONE_BYTE
-        },
-    ]
-}
-
-/// Of two faults the earlier is answered.
-pub fn order_rows() -> [Row; 9] {
-    [
-        Row {
-            name: "policy before source",
-            policy: &["version ="],
-            sources: NO_SOURCES,
-            wanted: &["8 BadToml"],
-            ..ONE_BYTE
-        },
-        Row {
-            name: "policy before input",
-            policy: &[],
-            input: KEY,
-            wanted: &["10 Limit version"],
-            ..ONE_BYTE
-        },
-        Row {
-            name: "the first name's fault before the second's absence",
-            policy: TWO_SOURCES,
-            sources: &[("one.s", BAD_SECOND_LINE)],
-            wanted: &["3 Syntax one.s 2"],
-            ..ONE_BYTE
-        },
-        Row {
-            name: "the first name's absence before the second's fault",
-            policy: TWO_SOURCES,
-            sources: &[("two.s", BAD_SECOND_LINE)],
-            wanted: &["24 NoSource one.s"],
-            ..ONE_BYTE
-        },
-        Row {
-            name: "the second name's absence",
-            policy: TWO_SOURCES,
-            wanted: &["24 NoSource two.s"],
-            ..ONE_BYTE
-        },
-        Row {
-            name: "source before input",
-            sources: NO_SOURCES,
-            input: KEY,
-            wanted: &["24 NoSource one.s"],
-            ..ONE_BYTE
-        },
-        Row {
-            name: "a source's line before input",
-            sources: &[("one.s", BAD_SECOND_LINE)],
-            input: KEY,
-            n: TOO_MANY,
-            wanted: &["3 Syntax one.s 2"],
-            ..ONE_BYTE
-        },
-        Row {
-            name: "input before n",
-            input: KEY,
-            n: TOO_MANY,
-            wanted: &["20 InputFault 1"],
-            ..ONE_BYTE
-        },
-        Row {
-            name: "input before random",
-            input: KEY,
-            random: 7,
-            wanted: &["20 InputFault 1"],
-            ..ONE_BYTE
-        },
-    ]
+#[test]
+fn a_source_that_is_not_there_is_told(rt: HostRuntime) -> Result<(), Fail> {
+    let alloc = rt.alloc();
+    let none = run_of(POLICY, &[]);
+    check(&rt, alloc, none, "24 NoSource one.s")?;
+    let named = [("One.s", PUT_A.as_bytes()), ("one.s ", PUT_A.as_bytes())];
+    check(&rt, alloc, run_of(POLICY, &named), "24 NoSource one.s")?;
+    let policy = Run {
+        policy: b"version =",
+        ..none
+    };
+    check(&rt, alloc, policy, "8 BadToml")?;
+    let input = Run { input: KEY, ..none };
+    check(&rt, alloc, input, "24 NoSource one.s")
 }
 
 #[test]
-fn a_policy_that_is_refused_is_told_and_nothing_is_written(rt: HostRuntime) -> Result<(), Fail> {
-    check(&rt, rt.alloc(), &policy_rows())
+fn of_two_sources_of_one_name_the_first_is_taken(rt: HostRuntime) -> Result<(), Fail> {
+    let alloc = rt.alloc();
+    let good_first = [("one.s", PUT_A.as_bytes()), ("one.s", BAD_SECOND_LINE)];
+    check(&rt, alloc, run_of(POLICY, &good_first), A)?;
+    let bad_first = [("one.s", BAD_SECOND_LINE), ("one.s", PUT_A.as_bytes())];
+    check(&rt, alloc, run_of(POLICY, &bad_first), "3 Syntax one.s 2")
 }
 
 #[test]
-fn a_source_that_is_refused_is_told_and_nothing_is_written(rt: HostRuntime) -> Result<(), Fail> {
-    check(&rt, rt.alloc(), &source_rows())
+fn of_two_names_the_first_ones_fault_is_told(rt: HostRuntime) -> Result<(), Fail> {
+    let alloc = rt.alloc();
+    let bad_first = [("one.s", BAD_SECOND_LINE)];
+    check(&rt, alloc, run_of(TWO_SOURCES, &bad_first), "3 Syntax one.s 2")?;
+    let bad_second = [("two.s", BAD_SECOND_LINE)];
+    check(&rt, alloc, run_of(TWO_SOURCES, &bad_second), "24 NoSource one.s")?;
+    let good_first = [("one.s", PUT_A.as_bytes())];
+    check(&rt, alloc, run_of(TWO_SOURCES, &good_first), "24 NoSource two.s")
 }
 
 #[test]
-fn a_fault_of_a_source_is_told_with_its_name_and_line(rt: HostRuntime) -> Result<(), Fail> {
-    check(&rt, rt.alloc(), &assembler_rows())
-}
-
-#[test]
-fn an_input_that_is_refused_is_told_and_nothing_is_written(rt: HostRuntime) -> Result<(), Fail> {
-    check(&rt, rt.alloc(), &input_rows())
-}
-
-#[test]
-fn of_two_faults_the_earlier_is_told(rt: HostRuntime) -> Result<(), Fail> {
-    check(&rt, rt.alloc(), &order_rows())
+fn more_ticks_than_are_served_are_refused_behind_the_input_and_before_random(
+    rt: HostRuntime,
+) -> Result<(), Fail> {
+    let alloc = rt.alloc();
+    let good = [("one.s", PUT_A.as_bytes())];
+    let many = Run {
+        n: TOO_MANY,
+        ..run_of(POLICY, &good)
+    };
+    check(&rt, alloc, many, "10 Limit n")?;
+    for random in [7, 64] {
+        check(&rt, alloc, Run { random, ..many }, "10 Limit n")?;
+    }
+    let input = Run { input: KEY, ..many };
+    check(&rt, alloc, input, "20 InputFault 1")?;
+    let bad = [("one.s", BAD_SECOND_LINE)];
+    let source = Run {
+        sources: &bad,
+        ..input
+    };
+    check(&rt, alloc, source, "3 Syntax one.s 2")
 }

@@ -41,9 +41,8 @@ impl Write for Limited {
 
 /// Runs the row of one byte into a writer; the line of its fault, or nothing.
 fn write_one_byte(alloc: Global, out: &mut Limited) -> Result<String, Fail> {
-    let policy = joined(alloc, ONE_BYTE.policy)?;
     let sources = [("one.s", PUT_A.as_bytes())];
-    let ran = run_files(alloc, policy.as_bytes(), &sources, b"", 100, 63, out);
+    let ran = run_files(alloc, POLICY.as_bytes(), &sources, b"", 100, 63, out);
     match ran {
         Ok(()) => Ok(String::new(alloc)),
         Err(fault) => Ok(fault.to_string(alloc)?),
@@ -52,8 +51,7 @@ fn write_one_byte(alloc: Global, out: &mut Limited) -> Result<String, Fail> {
 
 #[test]
 fn a_writer_of_one_byte_a_call_gets_the_whole_text(rt: HostRuntime) -> Result<(), Fail> {
-    let text = joined(rt.alloc(), ONE_BYTE.wanted)?;
-    assert_eq!(rt; text.len(), 66);
+    assert_eq!(rt; A.len(), 66);
     let mut out = Limited {
         held: Vec::new(rt.alloc()),
         at_once: 1,
@@ -61,15 +59,14 @@ fn a_writer_of_one_byte_a_call_gets_the_whole_text(rt: HostRuntime) -> Result<()
         end: End::Error,
     };
     assert_eq!(rt; write_one_byte(rt.alloc(), &mut out)?.as_str(), "");
-    assert_eq!(rt; out.held.as_slice(), text.as_bytes());
+    assert_eq!(rt; out.held.as_slice(), A.as_bytes());
     Ok(())
 }
 
 #[test]
 fn a_writer_that_takes_no_more_holds_the_front_of_the_text(rt: HostRuntime) -> Result<(), Fail> {
-    let text = joined(rt.alloc(), ONE_BYTE.wanted)?;
     for end in [End::Error, End::Zero] {
-        for room in 0..text.len() {
+        for room in 0..A.len() {
             let mut out = Limited {
                 held: Vec::new(rt.alloc()),
                 at_once: 4096,
@@ -80,7 +77,7 @@ fn a_writer_that_takes_no_more_holds_the_front_of_the_text(rt: HostRuntime) -> R
             assert_eq!(rt; fault.as_str(), "23 WriteFault", "room for {room} bytes");
             assert_eq!(rt;
                 out.held.as_slice(),
-                &text.as_bytes()[..room],
+                &A.as_bytes()[..room],
                 "room for {room} bytes"
             );
         }

@@ -1,0 +1,54 @@
+-- What a row says, and when rows run as expected.
+use Rattle.std.specs.Prelude.{◌≡◌, ◌≢◌, ◌==◌, ◌⊎◌, ℕ, List, [], ◌∷◌, ◌++◌, All, Option, Some, None, codes}
+use Rattle.std.specs.List.{slice_split}
+use Rattle.std.specs.Str.Lines.{lines}
+use Rattle.ds_drive.specs.Done.{IsDone}
+use Rattle.ds_rows.specs.declared.files.Put.{Put}
+
+-- the name of a file of a folder
+abbrev pub path_of : List ℕ → List ℕ → List ℕ
+path_of folder file = folder ++ (codes "/" ++ file)
+
+-- what files hold in a folder
+abbrev pub Inside : (List ℕ → List ℕ → Type 0) → List ℕ → List ℕ → List ℕ → Type 0
+Inside holds folder file bytes = holds (path_of folder file) bytes
+
+-- what files hold in a folder, with a text in place of one file
+abbrev pub Beside : (List ℕ → List ℕ → Type 0) → List ℕ → List ℕ → List ℕ → List ℕ → List ℕ → Type 0
+Beside holds folder name text file bytes =
+    ((file ≡ name) × (bytes ≡ text)) ⊎ ((file ≢ name) × Inside holds folder file bytes)
+
+-- what they hold where a text is put, or none
+abbrev pub HeldAt : (List ℕ → List ℕ → Type 0) → List ℕ → Option Put → List ℕ → List ℕ → Type 0
+HeldAt holds folder None file bytes = Inside holds folder file bytes
+HeldAt holds folder (Some put) file bytes = Beside holds folder put.name.now put.text.now file bytes
+
+-- the words of a line, with one space between
+abbrev pub words_of : List ℕ → List (List ℕ)
+words_of line = slice_split (λ b. b == 32) line
+
+-- the command `dsmon WORD..`
+abbrev pub command_of : List (List ℕ) → List (List ℕ)
+command_of words = codes "dsmon" ∷ words
+
+-- the files hold the text that is expected of a row; at status 0 its command writes that text in a run of what its folder holds
+pub record RowRuns (holds : List ℕ → List ℕ → Type 0) (folder status file : List ℕ) (words : List (List ℕ)) : Type 0 where
+  pub text : List ℕ
+  pub held : Inside holds folder file text
+  pub done : status ≡ codes "0" → IsDone (command_of words) (Inside holds folder) (Some []) (Some text)
+
+-- the words of a line are a folder, a status, a file and a command, and such a row runs so
+abbrev pub RunsAsExpected : (List ℕ → List ℕ → Type 0) → List (List ℕ) → Type 0
+RunsAsExpected holds (folder ∷ status ∷ file ∷ words) = RowRuns holds folder status file words
+RunsAsExpected holds _ = ⊥
+
+-- the row of each line runs as expected
+abbrev pub EachRuns : (List ℕ → List ℕ → Type 0) → List (List ℕ) → Type 0
+EachRuns holds lines = All (λ line. RunsAsExpected holds (words_of line)) lines
+
+-- the files hold an index, it has a line, and the row of each line runs as expected
+pub record AllRun (holds : List ℕ → List ℕ → Type 0) (index : List ℕ) : Type 0 where
+  pub text : List ℕ
+  pub held : holds index text
+  pub some : lines text ≢ []
+  pub each : EachRuns holds (lines text)

@@ -1,0 +1,59 @@
+//! What came of a row or a case.
+ghost use Rattle.std.specs.Prelude.{◌≡◌, IfSome, None, Some};
+ghost use Rattle.ds_rows.specs.Outcomes.{DifferFrom, text_of};
+
+#[cfg(test)]
+mod tests;
+
+use std::fmt;
+
+/// What came of a row or a case.
+#[derive(Clone, Copy, Debug, PartialEq, Eq)]
+pub enum Outcome {
+    /// It came to what is expected.
+    AsExpected,
+    /// It wrote something else: so many bytes are as expected, and the next is not.
+    Differs(usize),
+    /// Its command ended with this status, which is not the expected one.
+    Ended(u8),
+    /// It wrote what is expected, and something to the other stream too.
+    Spills,
+    /// Stations that are made of its files come to another text, or can't be made.
+    StepsDiffer,
+    /// A file that its line names can't be read.
+    NoFile,
+    /// Its line has too few words, or a file that it names is not in the form of a table.
+    NoForm,
+}
+
+impl fmt::Display for Outcome {
+    ghost output = { λ outcome. Some (text_of outcome) };
+
+    fn fmt<W: fmt::Write>(&self, f: &mut fmt::Formatter<W>) -> fmt::Result {
+        match self {
+            Outcome::AsExpected => write!(f, "as expected"),
+            Outcome::Differs(n) => write!(f, "the first {n} bytes are as expected, and no more"),
+            Outcome::Ended(status) => write!(f, "the status is {status}"),
+            Outcome::Spills => write!(f, "something is written to the other stream"),
+            Outcome::StepsDiffer => write!(f, "stations come to another text"),
+            Outcome::NoFile => write!(f, "a file can't be read"),
+            Outcome::NoForm => write!(f, "words are missing, or the cases have no form"),
+        }
+    }
+}
+
+/// How many bytes two texts begin with together, where they are not the same.
+pub fn first_difference(wanted: &[u8], written: &[u8]) -> Option<usize>
+    ensures same { result ≡ None → written.now ≡ wanted.now }
+    ensures other { IfSome result (λ n. DifferFrom n wanted.now written.now) }
+{
+    for n in 0..wanted.len() {
+        if wanted.get(n) != written.get(n) {
+            return Some(n);
+        }
+    }
+    if wanted.len() < written.len() {
+        return Some(wanted.len());
+    }
+    None
+}

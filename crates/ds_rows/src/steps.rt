@@ -1,0 +1,152 @@
+//! Stations that are stepped and run by hand, over either buffer.
+ghost use Rattle.std.specs.Prelude.{◌≡◌};
+
+use ds_asm::{Image, assemble};
+use ds_drive::{Files, Request, Wish, wish_of};
+use ds_policy::{Events, Policy};
+use ds_station::{Station, Step};
+use ds_tlb::{Indexed, Lookaside, Tlb};
+use std::alloc::Global;
+use std::io;
+use std::io::Write;
+
+/// The most ticks of a run.
+const MOST_TICKS: u64 = 1_000_000_000;
+
+/// The most steps that a station is stepped.
+const MOST_STEPS: u32 = 1_000_000;
+
+/// Whether stations that are made as the words ask for it come to this text: over either buffer, at
+/// once and by steps. Where the words ask for no run of files, there is none to compare.
+pub fn stations_write<F: Files + Drop>(
+    alloc: Global,
+    words: &[String],
+    files: F,
+    wanted: &[u8],
+) -> bool {
+    match wish_of(alloc, words) {
+        Ok(Some(Wish::Demo)) => true,
+        Ok(Some(Wish::Run(request))) => request_writes(alloc, &request, files, wanted)
+            == Some(true),
+        _ => false,
+    }
+}
+
+/// As `stations_write`, of a run of files; nothing where a station can't be made or stops.
+fn request_writes<'a, F: Files + Drop>(
+    alloc: Global,
+    request: &Request<'a>,
+    files: F,
+    wanted: &[u8],
+) -> Option<bool> {
+    let mut files = files;
+    let parts = Parts::read(alloc, request, &mut files)?;
+    let searched = parts.write_over::<Tlb<64, 8>>(alloc, request, wanted)?;
+    let indexed = parts.write_over::<Indexed<64, 8>>(alloc, request, wanted)?;
+    Some(searched && indexed)
+}
+
+/// What a station is made of.
+#[derive(Drop)]
+struct Parts {
+    policy: Policy,
+    images: Vec<Image>,
+    input: Vec<u8>,
+}
+
+impl Parts {
+    /// The parts that the files of a request hold.
+    fn read<'a, F: Files>(alloc: Global, request: &Request<'a>, files: &mut F) -> Option<Parts> {
+        let text = files.read(alloc, request.policy).ok()?;
+        let input = files.read(alloc, request.input).ok()?;
+        let policy = Policy::read(alloc, text.as_slice()).ok()?;
+        let images = images_of(alloc, &policy, files)?;
+        Some(Parts {
+            policy,
+            images,
+            input,
+        })
+    }
+
+    /// A station at the beginning of a run.
+    fn station<L: Lookaside>(&self, alloc: Global, random: u8) -> Option<Station<L>>
+        requires slots { L.SLOTS ≡ 64 }
+        requires wired { L.WIRED ≡ 8 }
+    {
+        let events = Events::read(alloc, self.input.as_slice(), &self.policy).ok()?;
+        if self.images.len() != self.policy.sources().len() {
+            return None;
+        }
+        Station::new(
+            alloc,
+            &self.policy,
+            self.images.as_slice(),
+            events,
+            random as usize,
+        )
+        .ok()
+    }
+
+    /// Whether a station over this buffer comes to the text, at once and by steps.
+    fn write_over<'a, L: Lookaside>(
+        &self,
+        alloc: Global,
+        request: &Request<'a>,
+        wanted: &[u8],
+    ) -> Option<bool>
+        requires slots { L.SLOTS ≡ 64 }
+        requires wired { L.WIRED ≡ 8 }
+    {
+        let mut station = self.station::<L>(alloc, request.random)?;
+        station.run(request.most_time.min(MOST_TICKS)).ok()?;
+        let at_once = text_of(alloc, &station).ok()?;
+        let mut station = self.station::<L>(alloc, request.random)?;
+        step_to_end(&mut station, request.most_time)?;
+        let by_steps = text_of(alloc, &station).ok()?;
+        Some(at_once.as_slice() == wanted && by_steps.as_slice() == wanted)
+    }
+}
+
+/// The images of a policy's sources.
+fn images_of<F: Files>(alloc: Global, policy: &Policy, files: &mut F) -> Option<Vec<Image>> {
+    let mut images = Vec::new(alloc);
+    for name in policy.sources() {
+        let source = files.read(alloc, name.as_str()).ok()?;
+        images.push(assemble(alloc, source.as_slice()).ok()?).ok()?;
+    }
+    Some(images)
+}
+
+/// Steps a station to the end of a run for n.
+fn step_to_end<L: Lookaside>(station: &mut Station<L>, n: u64) -> Option<()> {
+    let mut owed = false;
+    for _ in 0..MOST_STEPS {
+        let time = station.time();
+        if time >= MOST_TICKS || time >= n && !owed {
+            return Some(());
+        }
+        match station.step().ok()? {
+            Step::Inside | Step::Boundary => owed = false,
+            Step::Unit => owed = true,
+            Step::Over => return Some(()),
+        }
+    }
+    None
+}
+
+/// The text of a station's state.
+fn text_of<L: Lookaside>(alloc: Global, station: &Station<L>) -> io::Result<Vec<u8>> {
+    let mut text = Vec::new(alloc);
+    for line in 0..4 {
+        let put = station.console(line);
+        write!(text, "console {line} {}\n", put.len())?;
+        text.write_all(put)?;
+        text.write_all(b"\n")?;
+    }
+    let log = station.log();
+    let lines = log.iter().filter(|byte| **byte == b'\n').count();
+    write!(text, "log {lines}\n")?;
+    text.write_all(log)?;
+    write!(text, "time {}\n", station.time())?;
+    Ok(text)
+}

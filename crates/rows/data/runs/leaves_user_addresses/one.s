@@ -1,0 +1,1 @@
+# A page of zeros, which runs up to 80000000.
