@@ -19,6 +19,3 @@ mod source;
 pub use assembler::assemble;
 pub use fault::AsmFault;
 pub use image::Image;
-
-#[cfg(test)]
-mod tests;

@@ -3,3 +3,4 @@ pub mod Done
 pub mod Failures
 pub mod Statuses
 pub mod Words
+pub mod Worked

@@ -6,11 +6,6 @@ ghost use Rattle.ds_drive.specs.Failures.{failure_number};
 ghost use Rattle.ds_drive.specs.Statuses.{fault_status};
 ghost use Rattle.ds_drive.specs.Words.{AsksForDemo};
 
-#[cfg(test)]
-mod run_tests;
-#[cfg(test)]
-mod tests;
-
 use crate::demo::run_demo;
 use crate::failure::Failure;
 use crate::files::Files;

@@ -5,8 +5,6 @@ mod digits;
 mod fault;
 mod line;
 mod report;
-#[cfg(test)]
-mod tests;
 mod text;
 mod writes;
 

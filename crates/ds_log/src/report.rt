@@ -69,6 +69,3 @@ pub fn send_report<W: Write>(
     send_console(3, consoles[3], out)?;
     send_log(lines, log, time, out)
 }
-
-#[cfg(test)]
-mod tests;

@@ -7,10 +7,12 @@ pub mod PolicyServed
 pub mod PolicyText
 pub mod PolicyFacts
 pub mod PolicyRows
+pub mod PolicyBounds
 pub mod Refusal
 pub mod FirstTable
 pub mod InputNumbers
 pub mod InputLines
 pub mod InputText
 pub mod InputRows
+pub mod InputEvents
 pub mod InputFacts

@@ -114,6 +114,3 @@ fn line_len(text: &[u8]) -> usize
 {
     text.iter().take_while(|b| **b != b'\n').count()
 }
-
-#[cfg(test)]
-mod tests;

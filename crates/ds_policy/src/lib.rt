@@ -23,8 +23,3 @@ pub use policy::{Policy, PolicyPage, PolicyProcess, PolicyRule, Source};
 pub use table::Table;
 pub use table_fault::{NoGrant, TableFull};
 pub use text::Text;
-
-#[cfg(test)]
-mod memory_tests;
-#[cfg(test)]
-mod policy_tests;

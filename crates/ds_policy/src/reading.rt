@@ -64,6 +64,3 @@ impl Policy {
         })
     }
 }
-
-#[cfg(test)]
-mod tests;

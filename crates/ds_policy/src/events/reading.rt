@@ -147,6 +147,3 @@ fn add_characters(
     }
     Ok(())
 }
-
-#[cfg(test)]
-mod tests;

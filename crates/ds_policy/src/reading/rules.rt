@@ -224,6 +224,3 @@ fn any_in(rules: &[PolicyRule], process: u32, number: u32) -> bool
 {
     rules.iter().any(|rule| rule.process == process && rule.address / 4_194_304 == number)
 }
-
-#[cfg(test)]
-mod tests;

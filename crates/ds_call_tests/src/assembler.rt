@@ -1,0 +1,104 @@
+//! What a source assembles to, where no run shows it.
+use ds_asm::{AsmFault, assemble};
+use std::test::*;
+
+#[test]
+fn faults_have_numbers_and_texts(rt: HostRuntime) -> Result<(), Fail> {
+    for (fault, number, text) in [
+        (AsmFault::Syntax(2), 3, "3 Syntax 2"),
+        (AsmFault::UnknownLabel(1), 4, "4 UnknownLabel 1"),
+        (AsmFault::DoubleLabel(7), 5, "5 DoubleLabel 7"),
+        (AsmFault::Range(65), 6, "6 Range 65"),
+        (AsmFault::TooLong(2), 7, "7 TooLong 2"),
+        (AsmFault::Memory, 25, "25 Memory"),
+    ] {
+        assert_eq!(rt; fault.number(), number);
+        let told = fault.to_string(rt.alloc())?;
+        assert_eq!(rt; told.as_str(), text);
+    }
+    Ok(())
+}
+
+#[test]
+fn blanks_comments_and_ends_of_lines_are_free(rt: HostRuntime) -> Result<(), Fail> {
+    for (text, length) in [
+        (b"".as_slice(), 0),
+        (b"\n\n \t\r\n".as_slice(), 0),
+        (b"# \x00\x0b\xff: lw $1 # ,\n".as_slice(), 0),
+        (b"nop".as_slice(), 4),
+        (b"nop\n".as_slice(), 4),
+        (b"\t nop \t\r\nnop#\xff\r\n".as_slice(), 8),
+        (b"x:nop".as_slice(), 4),
+        (b" x: \t # here\n_1:\n".as_slice(), 0),
+        (b"lw $1 , -0 ( $2 ) ".as_slice(), 4),
+        (b"lw\t$1\t,\t0x0\t(\t$2\t)\t".as_slice(), 4),
+        (b"syscall # 1048576".as_slice(), 4),
+        (b"jalr $4".as_slice(), 4),
+        (
+            b"abcdefghijabcdefghijabcdefghijab: j abcdefghijabcdefghijabcdefghijab".as_slice(),
+            4,
+        ),
+        (b"sll: j sll".as_slice(), 4),
+        (b".byte 1\n.space 3\nnop".as_slice(), 8),
+        (b".space 65536".as_slice(), 65_536),
+        (b".space 0".as_slice(), 0),
+        (b".space 65532\nnop\nend:".as_slice(), 65_536),
+    ] {
+        let image = assemble(rt.alloc(), text).ok().ok_or("an image")?;
+        assert_eq!(rt; image.len(), length, "{text:?}");
+        assert_eq!(rt; image.is_empty(), length == 0, "{text:?}");
+    }
+    Ok(())
+}
+
+#[test]
+fn a_page_past_the_end_is_zero(rt: HostRuntime) -> Result<(), Fail> {
+    let text = b".space 4094\n.byte 1\n.byte 2\n.byte -3\n".as_slice();
+    let image = assemble(rt.alloc(), text).ok().ok_or("an image")?;
+    assert_eq!(rt; image.len(), 4097);
+    let mut page = [0xAAu8; 4096];
+    image.page(0, &mut page);
+    assert_eq!(rt; (page[0], page[4093], page[4094], page[4095]), (0, 0, 1, 2));
+    let mut page = [0xAAu8; 4096];
+    image.page(1, &mut page);
+    assert_eq!(rt; (page[0], page[1], page[4095]), (253, 0, 0));
+    for part in [2, 15, 16, 255u8] {
+        let mut page = [0xAAu8; 4096];
+        image.page(part, &mut page);
+        assert!(rt; page.iter().all(|b| *b == 0), "{part}");
+    }
+    Ok(())
+}
+
+#[test]
+fn each_front_of_a_source_has_an_image_or_a_fault(rt: HostRuntime) -> Result<(), Fail> {
+    let good =
+        b"x: addu $a0,$sp,$ra # hi\n\tbeq $0, $0 ,x\r\n nop\n.word x\n lw $1, -4 ( $2 )\n".as_slice();
+    let bad = b".byte -128\ny: .space 3\nj y\nj z\n.word -2147483649\ny:".as_slice();
+    for text in [good, bad] {
+        for end in 0..text.len() {
+            match assemble(rt.alloc(), &text[..end]) {
+                Ok(image) => assert!(rt; image.len() <= 20, "{end}"),
+                Err(fault) => assert!(rt; fault != AsmFault::Memory, "{end}"),
+            }
+        }
+    }
+    Ok(())
+}
+
+#[test]
+fn a_label_of_many_is_found(rt: HostRuntime) -> Result<(), Fail> {
+    let mut text = Vec::new(rt.alloc());
+    for number in 0..3000u32 {
+        let line = format!(in rt.alloc(); "l{number}: nop\n")?;
+        text.extend_from_slice(line.as_bytes())?;
+    }
+    text.extend_from_slice(b".word l0\n.word l1499\n.word l2999\n".as_slice())?;
+    let image = assemble(rt.alloc(), &text).ok().ok_or("an image")?;
+    assert_eq!(rt; image.len(), 12_012);
+    let mut page = [0xAAu8; 4096];
+    image.page(2, &mut page);
+    let words = [0, 0, 0x40, 0, 0x6C, 0x17, 0x40, 0, 0xDC, 0x2E, 0x40, 0];
+    assert_eq!(rt; &page[3808..3820], words.as_slice());
+    Ok(())
+}

@@ -1,0 +1,96 @@
+//! Want of memory. These tests pass whichever growth is refused: `rt try --test --fail-alloc N`.
+use ds_policy::{Events, EventsFault, Grant, Policy, PolicyRule, Right, Table};
+use std::alloc::Global;
+use std::process::Abort;
+use std::test::*;
+
+/// One process, and nothing else.
+const SMALLEST: &str = "version = 1\nframes = 1\nprocess = [{ start = 0, line = 0 }]\n";
+
+/// One of each: a process, a page, a source and a rule.
+const SMALL: &str =
+    "version = 1\nframes = 1\nprocess = [{ start = 0, line = 0 }]\npage = [{ name = \"a\", source = \"s\", part = 0 }]\nrule = [{ process = 1, address = 0, right = \"write\", page = \"a\" }]\n";
+
+/// The policy of a text, or none where memory ran out.
+fn policy_of(rt: &impl Abort, alloc: Global, text: &str) -> Option<Policy> {
+    match Policy::read(alloc, text.as_bytes()) {
+        Ok(policy) => Some(policy),
+        Err(fault) => {
+            assert_eq!(rt; fault.number(), 25);
+            None
+        }
+    }
+}
+
+/// There are 33 growths. Whichever is refused, the answer is `Memory`.
+#[test]
+fn for_want_of_memory_there_is_no_policy(rt: HostRuntime) {
+    let Some(policy) = policy_of(&rt, rt.alloc(), SMALL) else {
+        return;
+    };
+    assert_eq!(rt; policy.processes().len(), 1);
+    assert_eq!(rt; policy.pages().len(), 1);
+    assert_eq!(rt; policy.sources().len(), 1);
+    let rule = PolicyRule {
+        process: 1,
+        address: 0,
+        right: Right::Write,
+        page: Some(0),
+        give: false,
+    };
+    assert_eq!(rt; policy.rules(), [rule].as_slice());
+}
+
+/// There are 12 growths: 11 of the policy, and 1 of the table, where `Table::new` is refused. A
+/// change of the table has none.
+#[test]
+fn for_want_of_memory_there_is_no_table(rt: HostRuntime) {
+    let Some(policy) = policy_of(&rt, rt.alloc(), SMALLEST) else {
+        return;
+    };
+    assert_eq!(rt; policy.processes().len(), 1);
+    let Ok(mut table) = Table::new(rt.alloc(), &policy) else {
+        return;
+    };
+    assert_eq!(rt; table.entry(1, 0), None);
+    let grant = Grant {
+        right: Right::Write,
+        page: Some(0),
+        rule: 1001,
+        give: false,
+        giver: 0,
+    };
+    for i in 0..256u32 {
+        let addr = i * 4096;
+        assert!(rt; table.set(1, addr, grant).is_ok(), "entry {i}");
+    }
+    assert!(rt; table.set(1, 256 * 4096, grant).is_err());
+    assert_eq!(rt; table.entry(1, 255 * 4096), Some(grant));
+    assert!(rt; table.remove(1, 0).is_ok());
+    table.clear(1);
+    assert_eq!(rt; table.entry(1, 255 * 4096), None);
+}
+
+/// There are 14 growths: 11 of the policy, and 3 of the nine words; an empty input and comments
+/// have none. `collect` asks once more where it is refused, so no answer changes.
+#[test]
+fn for_want_of_memory_an_input_says_nothing_else(rt: HostRuntime) {
+    let Some(policy) = policy_of(&rt, rt.alloc(), SMALLEST) else {
+        return;
+    };
+    for (text, wanted) in [
+        (b"".as_slice(), 0),
+        (b"# nothing\n\n".as_slice(), 0),
+        (b"\n#\n1 2 3 4 5 6 7 8 9".as_slice(), 3),
+    ] {
+        match Events::read(rt.alloc(), text, &policy) {
+            Ok(events) => {
+                assert_eq!(rt; wanted, 0, "{text:?}");
+                assert!(rt; events.commands().is_empty());
+                assert!(rt; events.characters().is_empty());
+            }
+            Err(EventsFault::InputFault(line)) => assert_eq!(rt; line, wanted, "{text:?}"),
+            Err(EventsFault::Memory) => {}
+        }
+    }
+}
