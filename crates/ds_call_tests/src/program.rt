@@ -286,28 +286,28 @@ fn a_file_of_the_system_is_read_whole_and_one_that_is_not_there_is_not(
     Ok(())
 }
 
-#[test]
-fn a_source_has_at_most_16777216_bytes(rt: HostRuntime) -> Result<(), Fail> {
-    let mut text: Vec<u8> = Vec::new(rt.alloc());
-    text.resize(16_777_216, b'x')?;
+/// What a run answers whose source has so many bytes that say nothing.
+fn answer_to_long_source(alloc: Global, count: usize) -> Result<Answer, AllocError> {
+    let mut text: Vec<u8> = Vec::new(alloc);
+    text.resize(count, b'x')?;
     let files = [
         ("in.txt", b"".as_slice()),
         ("one.s", text.as_slice()),
         ("p.toml", POLICY.as_bytes()),
     ];
-    let answer = answer_to(rt.alloc(), words_of(rt.alloc(), RUN)?.as_slice(), &files)?;
+    let words = words_of(alloc, RUN)?;
+    answer_to(alloc, words.as_slice(), &files)
+}
+
+#[test]
+fn a_source_has_at_most_16777216_bytes(rt: HostRuntime) -> Result<(), Fail> {
+    let answer = answer_to_long_source(rt.alloc(), 16_777_216)?;
     assert_eq!(rt;
         answer.err.as_slice(),
         b"dsmon: 3 Syntax one.s 1\n".as_slice()
     );
     assert_eq!(rt; answer.status, 2);
-    text.push(b'x')?;
-    let files = [
-        ("in.txt", b"".as_slice()),
-        ("one.s", text.as_slice()),
-        ("p.toml", POLICY.as_bytes()),
-    ];
-    let answer = answer_to(rt.alloc(), words_of(rt.alloc(), RUN)?.as_slice(), &files)?;
+    let answer = answer_to_long_source(rt.alloc(), 16_777_217)?;
     assert_eq!(rt;
         answer.err.as_slice(),
         b"dsmon: 26 Unreadable one.s\n".as_slice()
