@@ -72,11 +72,26 @@ fn of_two_sources_of_one_name_the_first_is_taken(rt: HostRuntime) -> Result<(), 
 fn of_two_names_the_first_ones_fault_is_told(rt: HostRuntime) -> Result<(), Fail> {
     let alloc = rt.alloc();
     let bad_first = [("one.s", BAD_SECOND_LINE)];
-    check(&rt, alloc, run_of(TWO_SOURCES, &bad_first), "3 Syntax one.s 2")?;
+    check(
+        &rt,
+        alloc,
+        run_of(TWO_SOURCES, &bad_first),
+        "3 Syntax one.s 2",
+    )?;
     let bad_second = [("two.s", BAD_SECOND_LINE)];
-    check(&rt, alloc, run_of(TWO_SOURCES, &bad_second), "24 NoSource one.s")?;
+    check(
+        &rt,
+        alloc,
+        run_of(TWO_SOURCES, &bad_second),
+        "24 NoSource one.s",
+    )?;
     let good_first = [("one.s", PUT_A.as_bytes())];
-    check(&rt, alloc, run_of(TWO_SOURCES, &good_first), "24 NoSource two.s")
+    check(
+        &rt,
+        alloc,
+        run_of(TWO_SOURCES, &good_first),
+        "24 NoSource two.s",
+    )
 }
 
 #[test]
