@@ -23,7 +23,8 @@ impl Came {
     pub fn of<F: Files + Drop>(alloc: Global, words: &[String], files: F) -> Came
         ensures range { result.status ≤ 3 }
         ensures done { result.status ≡ 0
-            → IsDone (map string_bytes words.now) (F.holds files) (Some []) (Some result.told.items) }
+            → IsDone (map string_bytes words.now) (F.holds files) (Some [])
+                (Some result.told.items) }
     {
         let mut files = files;
         let mut out: Vec<u8> = Vec::new(alloc);

@@ -93,8 +93,9 @@ enum Escape {
     Digit(u8),
 }
 
-/// Adds a line to a text, with its escapes read, if it has no wrong one: `\\` is a backslash, `\r` a
-/// carriage return, `\xHH` the byte of these digits; a backslash at the end leaves out the line feed.
+/// Adds a line to a text, with its escapes read, if it has no wrong one: `\\` is a backslash, `\r`
+/// a carriage return, `\xHH` the byte of these digits; a backslash at the end leaves out the line
+/// feed.
 fn push_line(text: &mut Vec<u8>, line: &str) -> Result<bool, AllocError> {
     let mut escape = Escape::No;
     for byte in line.as_bytes() {

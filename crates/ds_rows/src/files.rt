@@ -42,8 +42,10 @@ impl<'a, F: Files> FolderFiles<'a, F> {
     /// The bytes of a file of the folder.
     fn read_inside(&mut self, alloc: Global, name: &str) -> Result<Vec<u8>, FileFault>
         ensures limit { IfOk result (λ bytes. vec_len bytes ≤ 16777216) }
-        ensures found { IfOk result (λ bytes. F.holds self.old.files (path_of self.old.folder.now name.now) bytes.items) }
-        ensures kept { (file bytes : List ℕ) → F.holds self.new.files file bytes → F.holds self.old.files file bytes }
+        ensures found { IfOk result (λ bytes.
+            F.holds self.old.files (path_of self.old.folder.now name.now) bytes.items) }
+        ensures kept { (file bytes : List ℕ) → F.holds self.new.files file bytes
+            → F.holds self.old.files file bytes }
         ensures folder { self.new.folder ≡ self.old.folder }
         ensures put { self.new.put ≡ self.old.put }
     {
@@ -55,7 +57,8 @@ impl<'a, F: Files> FolderFiles<'a, F> {
 }
 
 impl<'a, F: Files> Files for FolderFiles<'a, F> {
-    ghost holds = { λ place file bytes. HeldAt (F.holds place.files) place.folder.now place.put file bytes };
+    ghost holds = { λ place file bytes.
+        HeldAt (F.holds place.files) place.folder.now place.put file bytes };
 
     fn read(&mut self, alloc: Global, name: &str) -> Result<Vec<u8>, FileFault> {
         let put = self.put;

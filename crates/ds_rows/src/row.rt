@@ -42,7 +42,8 @@ fn run_lines<F: Files + Copy + Drop, W: Write, E: Write>(
     out: &mut W,
     err: &mut E,
 ) -> io::Result<u8>
-    ensures { IfOk result (λ status. status ≡ 0 → EachRuns (F.holds files) (map (λ l. l.now) lines.now)) }
+    ensures { IfOk result (λ status. status ≡ 0
+        → EachRuns (F.holds files) (map (λ l. l.now) lines.now)) }
 {
     let mut status = 0;
     for line in lines {

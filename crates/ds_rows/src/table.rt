@@ -44,7 +44,8 @@ fn run_lines<F: Files + Copy + Drop, W: Write, E: Write>(
     out: &mut W,
     err: &mut E,
 ) -> io::Result<u8>
-    ensures { IfOk result (λ status. status ≡ 0 → EachTableRuns (F.holds files) (map (λ l. l.now) lines.now)) }
+    ensures { IfOk result (λ status. status ≡ 0
+        → EachTableRuns (F.holds files) (map (λ l. l.now) lines.now)) }
 {
     let mut status = 0;
     for line in lines {
@@ -92,7 +93,8 @@ fn run_table<F: Files + Copy + Drop, W: Write, E: Write>(
     out: &mut W,
     err: &mut E,
 ) -> io::Result<bool>
-    ensures { IfOk result (λ well. IsTrue well → TableOf (F.holds files) (map (λ w. w.now) words.now)) }
+    ensures { IfOk result (λ well. IsTrue well
+        → TableOf (F.holds files) (map (λ w. w.now) words.now)) }
 {
     let Some((folder, file, cases, words)) = first_three(words) else {
         write!(out, "{line}: {}\n", Outcome::NoForm)?;
@@ -152,7 +154,8 @@ fn run_cases<'a, F: Files + Copy + Drop, W: Write, E: Write>(
     err: &mut E,
 ) -> io::Result<bool>
     ensures { IfOk result (λ well. IsTrue well
-        → All (CaseRuns (F.holds files) table.now.folder.now table.now.file.now (map string_bytes table.now.command.now)) cases.now) }
+        → All (CaseRuns (F.holds files) table.now.folder.now table.now.file.now
+            (map string_bytes table.now.command.now)) cases.now) }
 {
     let mut well = true;
     for case in cases {
@@ -175,7 +178,8 @@ fn run_case<'a, F: Files + Copy + Drop, E: Write>(
     err: &mut E,
 ) -> io::Result<Outcome>
     ensures { IfOk result (λ outcome. outcome ≡ Outcome.AsExpected
-        → CaseRuns (F.holds files) table.now.folder.now table.now.file.now (map string_bytes table.now.command.now) case.now) }
+        → CaseRuns (F.holds files) table.now.folder.now table.now.file.now
+            (map string_bytes table.now.command.now) case.now) }
 {
     let came = Came::of(alloc, table.command, table.place(files, case));
     let outcome = case_outcome(alloc, case, &came)?;
@@ -194,7 +198,8 @@ fn run_case<'a, F: Files + Copy + Drop, E: Write>(
 
 /// What a case came to, compared with what is expected of it.
 fn case_outcome(alloc: Global, case: &Case, came: &Came) -> Result<Outcome, AllocError>
-    ensures { IfOk result (λ outcome. outcome ≡ Outcome.AsExpected → CameAs case.now came.now) }
+    ensures { IfOk result (λ outcome. outcome ≡ Outcome.AsExpected
+        → CameAs case.now came.now) }
 {
     match &case.expected {
         None => Ok(Outcome::NoForm),

@@ -103,7 +103,7 @@ a 0 written run policy nothing 20
 a 0 refused run policy key 20: the status is 2
 a 2 written run policy nothing 20: the status is 0
 a 0 policy run policy nothing 20: the first 0 bytes are as expected, and no more
-a 0 written run policy nothing 2: the first 96 bytes are as expected, and no more
+a 0 written run policy nothing 2: the first 97 bytes are as expected, and no more
 a 0 missing run policy nothing 20: a file can't be read
 a 0: words are missing, or the cases have no form
 a 0 written run policy nothing 20: as expected
