@@ -4,3 +4,4 @@ pub mod Encoding
 pub mod Registers
 pub mod Meaning
 pub mod Rows
+pub mod Access

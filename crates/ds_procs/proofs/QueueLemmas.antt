@@ -1,9 +1,9 @@
 -- A queue has room for each process that isn't in it, and stays a queue.
-use Rattle.std.proofs.Common.{◌≡◌, ℕ, ◌<◌, ◌≤◌, ◌<◌, List, [], ◌∷◌, ◌++◌, length, sym, ◌∙◌, arith, nat_eq, true}
+use Rattle.std.proofs.Common.{◌≡◌, ℕ, ◌<◌, ◌≤◌, ◌<◌, List, [], ◌∷◌, ◌++◌, length, sym, ◌∙◌, arith, nat_eq, true, get_or}
 use Rattle.std.specs.Prelude.{◌≢◌, ◌==◌, not, All, Contains}
 use Rattle.std.specs.List.{list_any}
 use Rattle.std.proofs.lemmas.List.{get_or_default}
-use Rattle.std.proofs.lemmas.List.Elements.{All-cons, All-push, All-filter}
+use Rattle.std.proofs.lemmas.List.Elements.{All-cons, All-push, All-filter, filter_passes}
 use Rattle.std.proofs.lemmas.List.Kept.{AllPairs-cons, AllPairs-filter}
 use Rattle.std.proofs.lemmas.List.Quantifiers.{all_pairs_push}
 use Rattle.std.proofs.lemmas.Bool.Decides.{Decides-eqb, nat_tests}
@@ -45,3 +45,12 @@ IsQueue-without xs n queue = record {
   numbered = All-filter (λ q. not (q == n)) (λ p. (0 < p) × (p ≤ 100)) xs queue.numbered;
   distinct = AllPairs-filter (λ p q. p ≢ q) (λ q. not (q == n)) xs queue.distinct;
 }
+
+-- who was taken out isn't in it
+pub absent-without : (xs : List ℕ) (n : ℕ) → ¬ Contains (without xs n) n
+absent-without xs n found =
+    let passes = filter_passes (λ q. not (q == n)) xs found.0 n found.1 in
+    differs (get_or (without xs n) found.0 n) n passes found.2
+  where
+    differs : (q p : ℕ) → not (q == p) ≡ true → ¬ (q ≡ p)
+    differs q p apart same = grind (arith, nat_tests)

@@ -50,6 +50,15 @@ impl Queue {
         self.numbers.push(process);
     }
 
+    /// Puts a process behind all others, wherever it stood, or where it wasn't in.
+    pub fn to_end(&mut self, process: u32)
+        requires number { (0 < process) × (process ≤ 100) }
+        ensures { self.new ≡ without self.old process ++ process ∷ [] }
+    {
+        self.remove(process);
+        self.push(process);
+    }
+
     /// Puts the first process behind all others.
     pub fn rotate(&mut self)
         ensures { self.new ≡ drop 1 self.old ++ take 1 self.old }

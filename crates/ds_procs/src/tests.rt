@@ -48,6 +48,20 @@ fn turns_go_round_among_those_that_are_ready(rt: HostRuntime) {
 }
 
 #[test]
+fn a_process_goes_to_the_end_from_anywhere(rt: HostRuntime) {
+    let mut ready = Queue::new();
+    ready.to_end(1);
+    ready.to_end(2);
+    ready.to_end(3);
+    ready.to_end(2);
+    assert_eq!(rt; ready.first(), Some(1));
+    ready.to_end(1);
+    assert_eq!(rt; ready.first(), Some(3));
+    ready.remove(3);
+    assert_eq!(rt; ready.first(), Some(2));
+}
+
+#[test]
 fn a_hundred_processes_take_turns(rt: HostRuntime) {
     let mut ready = Queue::new();
     for process in 1..101 {
