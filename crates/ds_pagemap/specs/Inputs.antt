@@ -76,17 +76,29 @@ unfoldable pub images_from : Sources → List (List ℕ) → List (List ℕ) →
 images_from sources done [] = Ok done
 images_from sources done (name ∷ names) = image_read name (text_named sources name) >>= (λ bytes. images_from sources (done ++ bytes ∷ []) names)
 
+-- What is made of a policy, the images of its sources and the events of an input, or the first refusal.
+module _ {A : Type 0} (make : PolicyValue → List (List ℕ) → InputValue → A) where
+  -- under a policy
+  unfoldable pub inputs_under_by : PolicyValue → Sources → List ℕ → ℕ → ℕ → Result A Refusal
+  inputs_under_by policy sources input n random = do
+    images ← images_from sources [] (sources_of policy.pages)
+    events ← input_read (input_of policy.pages input)
+    few ← check (nat_le n 1000000000) (Limit (codes "n"))
+    good ← check (nat_le 8 random && nat_lt random 64) BadRandom
+    Ok (make policy images events)
+
+  -- of a policy's text, sources, an input's text, a number of ticks and a start of Random
+  unfoldable pub inputs_by : List ℕ → Sources → List ℕ → ℕ → ℕ → Result A Refusal
+  inputs_by text sources input n random = do
+    policy ← policy_read (policy_of text)
+    inputs_under_by policy sources input n random
+
 -- the first state under a policy
 unfoldable pub inputs_under : PolicyValue → Sources → List ℕ → ℕ → ℕ → Result State Refusal
-inputs_under policy sources input n random = do
-  images ← images_from sources [] (sources_of policy.pages)
-  events ← input_read (input_of policy.pages input)
-  few ← check (nat_le n 1000000000) (Limit (codes "n"))
-  good ← check (nat_le 8 random && nat_lt random 64) BadRandom
-  Ok (first_state policy images events)
+unfolding inputs_under_by
+inputs_under policy sources input n random = inputs_under_by first_state policy sources input n random
 
 -- the first state of a policy's text, sources, an input's text, a number of ticks and a start of Random
 unfoldable pub inputs : List ℕ → Sources → List ℕ → ℕ → ℕ → Result State Refusal
-inputs text sources input n random = do
-  policy ← policy_read (policy_of text)
-  inputs_under policy sources input n random
+unfolding inputs_by inputs_under
+inputs text sources input n random = inputs_by first_state text sources input n random
