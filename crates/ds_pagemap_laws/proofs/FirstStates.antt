@@ -1,0 +1,139 @@
+-- What good inputs make, and that the first state of a run is lawful.
+use Rattle.std.proofs.Common.{◌≡◌, ℕ, zero, suc, ◌+◌, ◌-◌, ◌<◌, ◌≤◌, false, nat_le, nat_lt, ◌&&◌, List, [], ◌∷◌, length, length-set, map, Result, Ok, Err, refl, sym, ap, ◌∙◌, subst, arith, get_or, codes}
+use Rattle.std.specs.List.{All}
+use Rattle.std.proofs.lemmas.List.{length-map, length-replicate}
+use Rattle.std.proofs.lemmas.List.Elements.{All-nil, All-cons, All-head, All-tail}
+use Rattle.ds_procs.specs.declared.process.Standing.TheVariants.{Ready}
+use Rattle.ds_policy.specs.declared.policy.PolicyProcess.{PolicyProcess}
+use Rattle.ds_policy.specs.declared.policy.PolicyRule.{PolicyRule}
+use Rattle.ds_policy.specs.Value.{PolicyValue, InputValue}
+use Rattle.ds_policy.specs.Refusal.{PolicyRefusal, bad_toml, limit, bad_rule}
+use Rattle.ds_policy.specs.Refusal as reading
+use Rattle.ds_policy.specs.Document.{document}
+use Rattle.ds_policy.specs.Pages.{Table, entries_of, put}
+use Rattle.ds_policy.specs.FirstTable.{with_rule, with_rules, granted_by}
+use Rattle.ds_policy.specs.PolicyFacts.{IsGoodProcess, IsGoodPolicy}
+use Rattle.ds_policy.specs.PolicyParts.{sources_of}
+use Rattle.ds_policy.specs.PolicyText.{policy_of, says}
+use Rattle.ds_policy.specs.InputFacts.{IsGoodInput}
+use Rattle.ds_policy.specs.InputText.{Said, input_of, input_in, as_input, is_served, with_lines, nothing_said, lines_of}
+use Rattle.ds_policy.proofs.Binds as policies
+use Rattle.ds_policy.proofs.PolicyRead.{says_good}
+use Rattle.ds_policy.proofs.GoodInput.{good_input}
+use Rattle.ds_pagemap.specs.Machine.{State, no_process}
+use Rattle.ds_pagemap.specs.First.{first_process, first_state, numbers}
+use Rattle.ds_pagemap.specs.Inputs.{Refusal, Sources, Limit, BadRandom, ◌>>=◌, check, policy_read, input_read, images_from, inputs, inputs_by, inputs_under_by}
+use Rattle.ds_pagemap_laws.specs.Due.{IsInOrder}
+use Rattle.ds_pagemap_laws.specs.Lawful.{IsProcess, IsReady, IsLawful}
+use Rattle.ds_pagemap_laws.proofs.Asleep.{has_woken}
+
+-- Processes.
+
+first_good : (ps : List PolicyProcess) (i : ℕ) → All IsGoodProcess ps → IsProcess (get_or (map first_process ps) i no_process)
+first_good [] i good = record { registers = record { size = refl; nought = refl; late = tt }; line = omega arith }
+first_good (p ∷ ps) zero good = let line = (All-head IsGoodProcess p ps good).line in record { registers = record { size = refl; nought = refl; late = tt }; line = omega (arith, line) }
+first_good (p ∷ ps) (suc i) good = first_good ps i (All-tail IsGoodProcess p ps good)
+
+first_ready : (ps : List PolicyProcess) (i : ℕ) → i < length ps → (get_or (map first_process ps) i no_process).standing ≡ Ready
+first_ready [] i h = absurd (omega (arith, h))
+first_ready (p ∷ ps) zero h = refl
+first_ready (p ∷ ps) (suc i) h = first_ready ps i (omega (arith, h))
+
+first_asleep : (ps : List PolicyProcess) (qs : List (List ℕ)) (i : ℕ) → has_woken qs (get_or (map first_process ps) i no_process) ≡ false
+first_asleep [] qs i = refl
+first_asleep (p ∷ ps) qs zero = refl
+first_asleep (p ∷ ps) qs (suc i) = first_asleep ps qs i
+
+rules_long : (t : Table) (n : ℕ) (rules : List PolicyRule) → length (with_rules t n rules) ≡ length t
+rules_long t n [] = refl
+rules_long t n (r ∷ rest) = rules_long (with_rule t n r) (n + 1) rest ∙ length-set t (r.process - 1) (put (entries_of t r.process) r.address (granted_by n r))
+
+all_ready : (policy : PolicyValue) (images : List (List ℕ)) (input : InputValue) (n k : ℕ) → 0 < k → k + n ≤ length policy.processes + 1 → All (IsReady (first_state policy images input)) (numbers n k)
+all_ready policy images input zero k above within = All-nil (IsReady (first_state policy images input))
+all_ready policy images input (suc n) k above within =
+    let long : length (map first_process policy.processes) ≡ length policy.processes = length-map policy.processes first_process in
+    All-cons (IsReady (first_state policy images input)) k (numbers n (k + 1))
+    (above, omega (arith, long, within), first_ready policy.processes (k - 1) (omega (arith, above, within)))
+    (all_ready policy images input n (k + 1) (omega arith) (omega (arith, within)))
+
+pub first_lawful : (policy : PolicyValue) (images : List (List ℕ)) (input : InputValue) → length policy.processes ≤ 100 → All IsGoodProcess policy.processes → IsLawful (first_state policy images input)
+first_lawful policy images input few good =
+    let long : length (map first_process policy.processes) ≡ length policy.processes = length-map policy.processes first_process in
+    record {
+      formed = record {
+        ready = all_ready policy images input (length policy.processes) 1 (omega arith) (omega arith);
+        processes = λ p. first_good policy.processes (p - 1) good;
+        sizes = record {
+          processes = omega (arith, long, few);
+          queues = refl;
+          consoles = refl;
+          table = rules_long _ 1 policy.rules ∙ (length-replicate (length policy.processes) [] ∙ sym long);
+        };
+      };
+      asleep = λ p. first_asleep policy.processes (first_state policy images input).queues (p - 1);
+    }
+
+-- Inputs.
+
+bind_ok : {A B : Type 0} (r : Result A Refusal) (f : A → Result B Refusal) (y : B) → (r >>= f) ≡ Ok y → (x : A) × (r ≡ Ok x) × (f x ≡ Ok y)
+bind_ok (Err e) f y h = cc
+bind_ok (Ok x) f y h = (x, refl, h)
+
+policy_said : (r : Result PolicyValue PolicyRefusal) (p : PolicyValue) → policy_read r ≡ Ok p → r ≡ Ok p
+policy_said (Ok q) p h = let same : q ≡ p = cc in ap Ok same
+policy_said (Err bad_toml) p h = cc
+policy_said (Err (limit name)) p h = cc
+policy_said (Err (bad_rule number)) p h = cc
+
+input_said : (r : Result InputValue ℕ) (e : InputValue) → input_read r ≡ Ok e → r ≡ Ok e
+input_said (Ok i) e h = let same : i ≡ e = cc in ap Ok same
+input_said (Err line) e h = cc
+
+-- what was made was made of a policy, images and an input that were read
+pub record IsMade {A : Type 0} (make : PolicyValue → List (List ℕ) → InputValue → A) (text : List ℕ) (sources : Sources) (input : List ℕ) (x : A) : Type 0 where
+  pub policy : PolicyValue
+  pub images : List (List ℕ)
+  pub events : InputValue
+  pub policy_is : policy_of text ≡ Ok policy
+  pub images_are : images_from sources [] (sources_of policy.pages) ≡ Ok images
+  pub events_are : input_of policy.pages input ≡ Ok events
+  pub is : make policy images events ≡ x
+
+pub made : {A : Type 0} (make : PolicyValue → List (List ℕ) → InputValue → A) (text : List ℕ) (sources : Sources) (input : List ℕ) (n random : ℕ) (x : A) → inputs_by make text sources input n random ≡ Ok x → IsMade make text sources input x
+unfolding inputs_by inputs_under_by
+made make text sources input n random x h =
+    let (policy, h1, a) = bind_ok (policy_read (policy_of text)) _ x h in
+    let (images, h2, b) = bind_ok (images_from sources [] (sources_of policy.pages)) _ x a in
+    let (events, h3, c) = bind_ok (input_read (input_of policy.pages input)) _ x b in
+    let (few, h4, d) = bind_ok (check (nat_le n 1000000000) (Limit (codes "n"))) _ x c in
+    let (good, h5, e) = bind_ok (check (nat_le 8 random && nat_lt random 64) BadRandom) _ x d in
+    record { policy = policy; images = images; events = events; policy_is = policy_said (policy_of text) policy h1; images_are = h2; events_are = input_said (input_of policy.pages input) events h3; is = (let same : make policy images events ≡ x = cc in same) }
+
+text_good : (text : List ℕ) (p : PolicyValue) → policy_of text ≡ Ok p → IsGoodPolicy p
+unfolding policy_of
+text_good text p h =
+    let (ms, h1, a) = policies.bind_ok (reading.or_else (document text) bad_toml) says p h in
+    says_good ms p a
+
+said_in : (r : Result Said ℕ) (e : InputValue) → as_input r ≡ Ok e → (s : Said) × (r ≡ Ok s) × (input_in s ≡ e)
+said_in (Ok s) e h = (s, refl, cc)
+said_in (Err line) e h = cc
+
+events_good : (policy : PolicyValue) (input : List ℕ) (e : InputValue) → input_of policy.pages input ≡ Ok e → IsGoodInput e
+events_good policy input e h =
+    let (s, h1, is) = said_in (with_lines is_served policy.pages nothing_said 1 (lines_of input)) e h in
+    subst IsGoodInput is (good_input is_served policy.pages (lines_of input) s h1)
+
+pub inputs_lawful : (text : List ℕ) (sources : Sources) (input : List ℕ) (n random : ℕ) (m : State) → inputs text sources input n random ≡ Ok m → IsLawful m
+unfolding inputs
+inputs_lawful text sources input n random m h =
+    let it = made first_state text sources input n random m h in
+    let good = text_good text it.policy it.policy_is in
+    subst IsLawful it.is (first_lawful it.policy it.images it.events good.process_count.1 good.processes)
+
+pub inputs_ordered : (text : List ℕ) (sources : Sources) (input : List ℕ) (n random : ℕ) (m : State) → inputs text sources input n random ≡ Ok m → IsInOrder m
+unfolding inputs
+inputs_ordered text sources input n random m h =
+    let it = made first_state text sources input n random m h in
+    let good = events_good it.policy input it.events it.events_are in
+    subst IsInOrder it.is (record { commands = good.order; characters = good.character_order })

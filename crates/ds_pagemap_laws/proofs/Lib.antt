@@ -1,0 +1,13 @@
+pub mod Processes
+pub mod Calls
+pub mod Boundaries
+pub mod Sets
+pub mod Tables
+pub mod Formed
+pub mod Asleep
+pub mod LawfulCalls
+pub mod LawfulBoundaries
+pub mod Due
+pub mod FirstStates
+pub mod LawfulUnits
+pub mod LawfulRuns

@@ -1,0 +1,4 @@
+pub mod Settled
+pub mod Due
+pub mod Lawful
+pub mod Rows

@@ -1,0 +1,18 @@
+//! Laws of the page-map machine on which the station rests: late loads may be finished before or
+//! after anything that the monitor does, lawful states stay lawful, and what is due is a front of
+//! what is left.
+#![tactic(auto)]
+
+mod inputs;
+mod lawful;
+mod settling;
+
+pub use inputs::{first_states_are_lawful, what_is_due_is_a_front};
+pub use lawful::{
+    boundaries_keep_states_lawful, calls_keep_states_lawful, commands_keep_states_lawful,
+    runs_keep_states_lawful, steps_of_a_boundary_keep_states_well_formed,
+};
+pub use settling::{
+    a_boundary_with_nothing_to_do_changes_nothing, boundaries_settle, calls_settle,
+    commands_settle, ends_of_units_settle, processes_settle,
+};

@@ -1,0 +1,4 @@
+pub mod Alike
+pub mod Twins
+pub mod Quiet
+pub mod Rows
