@@ -9,14 +9,16 @@ ghost use Rattle.ds_pagemap.specs.Inputs.{Sources, inputs};
 ghost use Rattle.ds_pagemap_laws.specs.Due.{IsInOrder, SplitsAt, due_count};
 ghost use Rattle.ds_pagemap_laws.specs.Lawful.{IsLawful};
 
-/// Every first state is lawful; each of its processes has 32 registers; and its events are in order.
+/// Every first state is lawful, each of its processes has 32 registers, and its events are in
+/// order.
 pub fn first_states_are_lawful()
-    ensures lawful { (text : List ℕ) (sources : Sources) (input : List ℕ) (n random : ℕ) (m : State) →
-        inputs text sources input n random ≡ Ok m → IsLawful m }
-    ensures registers { (text : List ℕ) (sources : Sources) (input : List ℕ) (n random : ℕ) (m : State) (p : ℕ) →
-        inputs text sources input n random ≡ Ok m → length (process_of m p).registers.general ≡ 32 }
-    ensures order { (text : List ℕ) (sources : Sources) (input : List ℕ) (n random : ℕ) (m : State) →
-        inputs text sources input n random ≡ Ok m → IsInOrder m }
+    ensures lawful { (text : List ℕ) (sources : Sources) (input : List ℕ) (n random : ℕ)
+        (m : State) → inputs text sources input n random ≡ Ok m → IsLawful m }
+    ensures registers { (text : List ℕ) (sources : Sources) (input : List ℕ) (n random : ℕ)
+        (m : State) (p : ℕ) → inputs text sources input n random ≡ Ok m →
+        length (process_of m p).registers.general ≡ 32 }
+    ensures order { (text : List ℕ) (sources : Sources) (input : List ℕ) (n random : ℕ)
+        (m : State) → inputs text sources input n random ≡ Ok m → IsInOrder m }
 {}
 
 /// Of events in order, what is due at a time is a front, and what comes later is the rest.

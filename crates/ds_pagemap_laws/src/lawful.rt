@@ -20,7 +20,8 @@ pub fn calls_keep_states_lawful()
 /// So does each command.
 pub fn commands_keep_states_lawful()
     ensures one { (m : State) (k : ℕ) (c : Command) → IsLawful m → IsLawful (after_command m k c) }
-    ensures all { (m : State) (cs : List TimedCommand) → IsLawful m → IsLawful (after_commands m cs) }
+    ensures all { (m : State) (cs : List TimedCommand) → IsLawful m →
+        IsLawful (after_commands m cs) }
 {}
 
 /// The characters of a boundary keep a state well-formed; who wakes then leaves it lawful, and the
@@ -31,7 +32,8 @@ pub fn steps_of_a_boundary_keep_states_well_formed()
     ensures some { (m : State) (p n : ℕ) → 0 < p → p + n ≤ length m.processes + 1 → IsWellFormed m →
         IsWellFormed (woken m p n) }
     ensures all { (m : State) → IsWellFormed m → IsLawful (woken m 1 (length m.processes)) }
-    ensures rotated { (m : State) (runner : Option ℕ) → IsWellFormed m → IsWellFormed (rotated m runner) }
+    ensures rotated { (m : State) (runner : Option ℕ) → IsWellFormed m →
+        IsWellFormed (rotated m runner) }
     ensures lawful { (m : State) (runner : Option ℕ) → IsLawful m → IsLawful (rotated m runner) }
 {}
 

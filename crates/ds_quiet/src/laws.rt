@@ -27,8 +27,8 @@ pub fn quiet_runs_look_alike()
         Ends n m t → Ends n m u → text_of t ≡ text_of u }
 {}
 
-/// A run is quiet where so many half turns of it are, computed one after the other, and it has ended
-/// then; of a quiet run any number of half turns are.
+/// A run is quiet where so many half turns of it are, computed one after the other, and it has
+/// ended then; of a quiet run any number of half turns are.
 #[tactic(auto, using(crate::proofs::Found::found, crate::proofs::Found::always))]
 pub fn quiet_runs_are_found()
     ensures found { (n k : ℕ) (m : State) → quiet_halves n k m ≡ true →
@@ -36,14 +36,15 @@ pub fn quiet_runs_are_found()
     ensures always { (n k : ℕ) (m : State) → IsQuiet n m → quiet_halves n k m ≡ true }
 {}
 
-/// Where Random starts can't be seen: the first states of two starts are one, and where it is quiet,
-/// the runs of both write one text.
+/// Where Random starts can't be seen: the first states of two starts are one, and where it is
+/// quiet, the runs of both write one text.
 pub fn the_start_of_random_is_not_seen()
-    ensures registers { (text : List ℕ) (sources : Sources) (input : List ℕ) (n r : ℕ) (m : State) →
-        inputs text sources input n r ≡ Ok m → HaveRegisters m }
-    ensures first { (text : List ℕ) (sources : Sources) (input : List ℕ) (n r s : ℕ) (m o : State) →
-        inputs text sources input n r ≡ Ok m → inputs text sources input n s ≡ Ok o → m ≡ o }
-    ensures text { (text : List ℕ) (sources : Sources) (input : List ℕ) (n r s : ℕ) (m o t u : State) →
-        inputs text sources input n r ≡ Ok m → inputs text sources input n s ≡ Ok o →
-        IsQuiet n m → Ends n m t → Ends n o u → text_of t ≡ text_of u }
+    ensures registers { (text : List ℕ) (sources : Sources) (input : List ℕ) (n r : ℕ)
+        (m : State) → inputs text sources input n r ≡ Ok m → HaveRegisters m }
+    ensures first { (text : List ℕ) (sources : Sources) (input : List ℕ) (n r s : ℕ)
+        (m o : State) → inputs text sources input n r ≡ Ok m →
+        inputs text sources input n s ≡ Ok o → m ≡ o }
+    ensures text { (text : List ℕ) (sources : Sources) (input : List ℕ) (n r s : ℕ)
+        (m o t u : State) → inputs text sources input n r ≡ Ok m →
+        inputs text sources input n s ≡ Ok o → IsQuiet n m → Ends n m t → Ends n o u → text_of t ≡ text_of u }
 {}
