@@ -1,6 +1,7 @@
 -- What good inputs make, and that the first state of a run is lawful.
 use Rattle.std.proofs.Common.{◌≡◌, ℕ, zero, suc, ◌+◌, ◌-◌, ◌<◌, ◌≤◌, false, nat_le, nat_lt, ◌&&◌, List, [], ◌∷◌, length, length-set, map, Result, Ok, Err, refl, sym, ap, ◌∙◌, subst, arith, get_or, codes}
 use Rattle.std.specs.List.{All}
+use Rattle.std.specs.Result.{result_map_both}
 use Rattle.std.proofs.lemmas.List.{length-map, length-replicate}
 use Rattle.std.proofs.lemmas.List.Elements.{All-nil, All-cons, All-head, All-tail}
 use Rattle.ds_procs.specs.declared.process.Standing.TheVariants.{Ready}
@@ -108,6 +109,36 @@ made make text sources input n random x h =
     let (few, h4, d) = bind_ok (check (nat_le n 1000000000) (Limit (codes "n"))) _ x c in
     let (good, h5, e) = bind_ok (check (nat_le 8 random && nat_lt random 64) BadRandom) _ x d in
     record { policy = policy; images = images; events = events; policy_is = policy_said (policy_of text) policy h1; images_are = h2; events_are = input_said (input_of policy.pages input) events h3; is = (let same : make policy images events ≡ x = cc in same) }
+
+-- Of two things made of the same inputs.
+
+-- what is made further of an answer
+abbrev further : {A B : Type 0} → (A → B) → Result A Refusal → Result B Refusal
+further f r = result_map_both f (λ refusal. refusal) r
+
+bind_alike : {X A B : Type 0} (r : Result X Refusal) (g : X → Result A Refusal) (h : X → Result B Refusal) (f : A → B) → ((x : X) → h x ≡ further f (g x)) → (r >>= h) ≡ further f (r >>= g)
+bind_alike (Ok x) g h f e = e x
+bind_alike (Err refusal) g h f e = refl
+
+-- what is made further of it may be made at the end of the chain, or behind it
+pub made_alike : (A B : Type 0) (f : A → B) (make : PolicyValue → List (List ℕ) → InputValue → A) (text : List ℕ) (sources : Sources) (input : List ℕ) (n random : ℕ)
+    → inputs_by (λ policy images events. f (make policy images events)) text sources input n random ≡ result_map_both f (λ refusal. refusal) (inputs_by make text sources input n random)
+unfolding inputs_by inputs_under_by
+made_alike A B f make text sources input n random =
+    bind_alike (policy_read (policy_of text)) _ _ f (λ policy.
+    bind_alike (images_from sources [] (sources_of policy.pages)) _ _ f (λ images.
+    bind_alike (input_read (input_of policy.pages input)) _ _ f (λ events.
+    bind_alike (check (nat_le n 1000000000) (Limit (codes "n"))) _ _ f (λ few.
+    bind_alike (check (nat_le 8 random && nat_lt random 64) BadRandom) _ _ f (λ good. refl)))))
+
+pub inputs_made : (text : List ℕ) (sources : Sources) (input : List ℕ) (n random : ℕ) → inputs text sources input n random ≡ inputs_by first_state text sources input n random
+unfolding inputs
+inputs_made text sources input n random = refl
+
+pub made_further : (f : State → State) (text : List ℕ) (sources : Sources) (input : List ℕ) (n random : ℕ)
+    → inputs_by (λ policy images events. f (first_state policy images events)) text sources input n random ≡ result_map_both f (λ refusal. refusal) (inputs text sources input n random)
+unfolding inputs
+made_further f text sources input n random = made_alike State State f first_state text sources input n random
 
 text_good : (text : List ℕ) (p : PolicyValue) → policy_of text ≡ Ok p → IsGoodPolicy p
 unfolding policy_of

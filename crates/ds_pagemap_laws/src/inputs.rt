@@ -1,11 +1,13 @@
 //! What inputs make: the first states of runs, and events in order.
 ghost use Rattle.std.specs.Prelude.{◌≡◌, ℕ, List, length, Ok};
+ghost use Rattle.std.specs.Result.{result_map_both};
 ghost use Rattle.std.specs.List.Sorted.{IsNonDecreasingBy};
 ghost use Rattle.ds_policy.specs.declared.command.TimedCommand.{TimedCommand};
 ghost use Rattle.ds_policy.specs.declared.command.Character.{Character};
 ghost use Rattle.ds_policy.specs.InputFacts.{has_time, comes_at};
 ghost use Rattle.ds_pagemap.specs.Machine.{State, process_of};
-ghost use Rattle.ds_pagemap.specs.Inputs.{Sources, inputs};
+ghost use Rattle.ds_pagemap.specs.Inputs.{Sources, inputs, inputs_by};
+ghost use Rattle.ds_pagemap.specs.First.{first_state};
 ghost use Rattle.ds_pagemap_laws.specs.Due.{IsInOrder, SplitsAt, due_count};
 ghost use Rattle.ds_pagemap_laws.specs.Lawful.{IsLawful};
 
@@ -19,6 +21,18 @@ pub fn first_states_are_lawful()
         length (process_of m p).registers.general ≡ 32 }
     ensures order { (text : List ℕ) (sources : Sources) (input : List ℕ) (n random : ℕ)
         (m : State) → inputs text sources input n random ≡ Ok m → IsInOrder m }
+{}
+
+/// A first state is made at the end of the chain that reads policy, sources and input; and what is
+/// made further of it may be made there too, with the same refusals.
+pub fn inputs_make_first_states()
+    ensures first { (text : List ℕ) (sources : Sources) (input : List ℕ) (n random : ℕ) →
+        inputs text sources input n random ≡ inputs_by first_state text sources input n random }
+    ensures further { (f : State → State) (text : List ℕ) (sources : Sources) (input : List ℕ)
+        (n random : ℕ) →
+        inputs_by (λ policy images events. f (first_state policy images events))
+            text sources input n random
+        ≡ result_map_both f (λ refusal. refusal) (inputs text sources input n random) }
 {}
 
 /// Of events in order, what is due at a time is a front, and what comes later is the rest.

@@ -7,7 +7,9 @@ mod inputs;
 mod lawful;
 mod settling;
 
-pub use inputs::{first_states_are_lawful, what_is_due_is_a_front};
+pub use inputs::{
+    first_states_are_lawful, inputs_make_first_states, what_is_due_is_a_front,
+};
 pub use lawful::{
     boundaries_keep_states_lawful, calls_keep_states_lawful, commands_keep_states_lawful,
     runs_keep_states_lawful, steps_of_a_boundary_keep_states_well_formed,
