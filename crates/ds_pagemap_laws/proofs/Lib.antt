@@ -11,3 +11,4 @@ pub mod Due
 pub mod FirstStates
 pub mod LawfulUnits
 pub mod LawfulRuns
+pub mod Ordered

@@ -6,6 +6,7 @@ ghost use Rattle.ds_policy.specs.declared.command.TimedCommand.{TimedCommand};
 ghost use Rattle.ds_policy.specs.declared.command.Character.{Character};
 ghost use Rattle.ds_policy.specs.InputFacts.{has_time, comes_at};
 ghost use Rattle.ds_pagemap.specs.Machine.{State, process_of};
+ghost use Rattle.ds_pagemap.specs.Boundary.{boundary};
 ghost use Rattle.ds_pagemap.specs.Inputs.{Sources, inputs, inputs_by};
 ghost use Rattle.ds_pagemap.specs.First.{first_state};
 ghost use Rattle.ds_pagemap_laws.specs.Due.{IsInOrder, SplitsAt, due_count};
@@ -31,7 +32,7 @@ pub fn inputs_make_first_states()
     ensures further { (f : State → State) (text : List ℕ) (sources : Sources) (input : List ℕ)
         (n random : ℕ) →
         inputs_by (λ policy images events. f (first_state policy images events))
-            text sources input n random
+        text sources input n random
         ≡ result_map_both f (λ refusal. refusal) (inputs text sources input n random) }
 {}
 
@@ -41,4 +42,9 @@ pub fn what_is_due_is_a_front()
         SplitsAt has_time now cs (due_count has_time now cs) }
     ensures characters { (now : ℕ) (cs : List Character) → IsNonDecreasingBy comes_at cs →
         SplitsAt comes_at now cs (due_count comes_at now cs) }
+{}
+
+/// A boundary leaves what is still to come in order.
+pub fn boundaries_leave_events_in_order()
+    ensures { (m : State) → IsInOrder m → IsInOrder (boundary m) }
 {}

@@ -8,7 +8,8 @@ mod lawful;
 mod settling;
 
 pub use inputs::{
-    first_states_are_lawful, inputs_make_first_states, what_is_due_is_a_front,
+    boundaries_leave_events_in_order, first_states_are_lawful, inputs_make_first_states,
+    what_is_due_is_a_front,
 };
 pub use lawful::{
     boundaries_keep_states_lawful, calls_keep_states_lawful, commands_keep_states_lawful,
