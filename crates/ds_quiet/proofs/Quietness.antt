@@ -13,7 +13,7 @@ use Rattle.ds_isa.specs.declared.instr.Late.{Late}
 use Rattle.ds_isa.specs.Encoding.{uses}
 use Rattle.ds_isa.specs.Registers.{Registers, late_or, read, settled, written, loaded}
 use Rattle.ds_isa.specs.Meaning.{meaning, written_or_trap, with_hi_lo, branch_target, newest, flag}
-use Rattle.ds_quiet.specs.Alike.{is_borrowed, is_late, is_quiet_operand, is_quiet_merge, merges, is_quiet, AreLateAlike, AreAlike, DoAlike}
+use Rattle.ds_quiet.specs.Alike.{is_kernel_register, is_late, is_quiet_operand, is_quiet_merge, merges, is_quiet, AreLateAlike, AreAlike, DoAlike}
 
 both : (a b : Bool) → (a && b) ≡ true → (a ≡ true) × (b ≡ true)
 both true b e = (refl, e)
@@ -40,7 +40,7 @@ not_late (Some k) (Some l) n a e = ap (λ (x : ℕ). x == n) (sym a) ∙ e
 -- a quiet operand reads alike
 same_read : (r s : Registers) (n : ℕ) → AreAlike r s → is_quiet_operand r.late (Some n) ≡ true → read r n ≡ read s n
 same_read r s n k q =
-    let e = both (not (is_borrowed (n % 32))) _ q in
+    let e = both (not (is_kernel_register (n % 32))) _ q in
     let apart = is_false (is_late r.late (n % 32)) e.1 in
     read_now r.late (n % 32) _ apart
     ∙ (k.general (n % 32) (is_false _ e.0) ∙ sym (read_now s.late (n % 32) _ (not_late r.late s.late (n % 32) k.late apart)))
@@ -73,7 +73,7 @@ pub written_alike : (r s : Registers) (n v w : ℕ) → AreAlike r s → v ≡ w
 written_alike r s n v w k e =
     let size = k.size in let same_size = k.same_size in
     rw e (record {
-      general = λ m not_borrowed. put_alike (n % 32 == 0) r.general s.general (n % 32) w m (omega arith) (omega arith) (k.general m not_borrowed);
+      general = λ m not_kernels. put_alike (n % 32 == 0) r.general s.general (n % 32) w m (omega arith) (omega arith) (k.general m not_kernels);
       hi = k.hi;
       lo = k.lo;
       late = tt;
@@ -87,7 +87,7 @@ loaded_by true r s i v x y p k = settled_alike r s k
 loaded_by false r s i v x y p k =
     let size = k.size in let same_size = k.same_size in
     record {
-      general = λ m not_borrowed. sets_alike r.general s.general i v m (omega arith) (omega arith) (k.general m not_borrowed);
+      general = λ m not_kernels. sets_alike r.general s.general i v m (omega arith) (omega arith) (k.general m not_kernels);
       hi = k.hi;
       lo = k.lo;
       late = refl;

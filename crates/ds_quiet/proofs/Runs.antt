@@ -12,7 +12,7 @@ use Rattle.ds_pagemap.specs.Unit.{unit}
 use Rattle.ds_pagemap.specs.Boundary.{boundary}
 use Rattle.ds_pagemap.specs.Run.{half, goes_on, go, after, Ends}
 use Rattle.ds_pagemap.specs.Text.{text_of}
-use Rattle.ds_quiet.specs.Alike.{is_borrowed, AreLateAlike, AreAlike}
+use Rattle.ds_quiet.specs.Alike.{is_kernel_register, AreLateAlike, AreAlike}
 use Rattle.ds_quiet.specs.Twins.{IsTwinProcess, AreTwins, IsTwin, HaveRegisters}
 use Rattle.ds_quiet.specs.Quiet.{quiet_first, is_quiet_half, IsQuiet}
 use Rattle.ds_quiet.proofs.Twins.{twin, same, twins_set}
@@ -21,10 +21,10 @@ use Rattle.ds_quiet.proofs.Boundaries.{boundary_alike}
 
 -- A touch.
 
-not_26 : (n : ℕ) → is_borrowed n ≡ false → n ≢ 26
+not_26 : (n : ℕ) → is_kernel_register n ≡ false → n ≢ 26
 not_26 n e = λ (f : ◌≡◌ {A = ℕ} n 26). grind (arith, nat_tests)
 
-not_27 : (n : ℕ) → is_borrowed n ≡ false → n ≢ 27
+not_27 : (n : ℕ) → is_kernel_register n ≡ false → n ≢ 27
 not_27 n e = λ (f : ◌≡◌ {A = ℕ} n 27). grind (arith, nat_tests)
 
 touched_twin : (q r : Process) → IsTwinProcess q r → IsTwinProcess q (touched_process r)

@@ -12,6 +12,7 @@ use Rattle.ds_pagemap.specs.Unit.{Outcome, Went, Branched, Called, Stopped, inst
 use Rattle.ds_pagemap.specs.Run.{goes_on, go, after}
 use Rattle.ds_quiet.specs.Alike.{is_quiet}
 
+-- the instruction that is fetched there, if one is, is quiet
 abbrev pub quiet_where : State → ℕ → Verdict → Bool
 quiet_where m p (Allowed page offset) = is_quiet (process_of m p).registers (instruction_of (word_at (bytes_of m.memory.pages page) offset))
 quiet_where m p (Denied rule code) = true
@@ -20,12 +21,14 @@ quiet_where m p (Denied rule code) = true
 abbrev pub quiet_at : State → ℕ → ℕ → Bool
 quiet_at m p pc = quiet_where m p (decide m.memory.table p Fetch Word pc)
 
+-- the instruction in the slot behind a branch is quiet; behind others there is no slot
 abbrev pub quiet_behind : ℕ → ℕ → Outcome → Bool
 quiet_behind p pc (Branched m target) = quiet_at m p (word (pc + 4))
 quiet_behind p pc (Went m) = true
 quiet_behind p pc Called = true
 quiet_behind p pc (Stopped stop) = true
 
+-- the unit of the first ready process, if one is ready, is quiet
 abbrev pub quiet_first : State → List ℕ → Bool
 quiet_first m [] = true
 quiet_first m (p ∷ rest) = let pc = (process_of m p).pc in quiet_at m p pc && quiet_behind p pc (instruction m p pc)
