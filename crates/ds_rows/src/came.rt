@@ -24,7 +24,7 @@ impl Came {
         ensures range { result.status ≤ 3 }
         ensures done { result.status ≡ 0
             → IsDone (map string_bytes words.now) (F.holds files) (Some [])
-                (Some result.told.items) }
+            (Some result.told.items) }
     {
         let mut files = files;
         let mut out: Vec<u8> = Vec::new(alloc);

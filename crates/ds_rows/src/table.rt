@@ -155,7 +155,7 @@ fn run_cases<'a, F: Files + Copy + Drop, W: Write, E: Write>(
 ) -> io::Result<bool>
     ensures { IfOk result (λ well. IsTrue well
         → All (CaseRuns (F.holds files) table.now.folder.now table.now.file.now
-            (map string_bytes table.now.command.now)) cases.now) }
+        (map string_bytes table.now.command.now)) cases.now) }
 {
     let mut well = true;
     for case in cases {
@@ -179,7 +179,7 @@ fn run_case<'a, F: Files + Copy + Drop, E: Write>(
 ) -> io::Result<Outcome>
     ensures { IfOk result (λ outcome. outcome ≡ Outcome.AsExpected
         → CaseRuns (F.holds files) table.now.folder.now table.now.file.now
-            (map string_bytes table.now.command.now) case.now) }
+        (map string_bytes table.now.command.now) case.now) }
 {
     let came = Came::of(alloc, table.command, table.place(files, case));
     let outcome = case_outcome(alloc, case, &came)?;

@@ -1,5 +1,4 @@
-use Rattle.std.proofs.Common.{rules, arith, ◌≡◌, ◌∷◌, ◌<◌, ◌^◌, [], Some, map}
-use Rattle.std.specs.Prelude.{string_bytes}
+use Rattle.std.proofs.Common.{rules, arith, ◌≡◌, [], Some, map}
 use Rattle.ds_rows.specs.Rows.{command_of}
 use Rattle.ds_rows.specs.declared.outcome.Outcome.TheVariants.{AsExpected}
 use Rattle.ds_rows.proofs.Ends.{inside_done, inside_held, row_well}

@@ -1,4 +1,4 @@
-use Rattle.std.proofs.Common.{rules, arith, ◌≡◌, ◌<◌, ◌^◌, [], Some}
+use Rattle.std.proofs.Common.{rules, arith, ◌≡◌, [], Some}
 use Rattle.ds_rows.specs.Rows.{Beside}
 use Rattle.ds_rows.specs.declared.outcome.Outcome.TheVariants.{AsExpected}
 use Rattle.ds_rows.proofs.Ends.{beside_done, case_well}

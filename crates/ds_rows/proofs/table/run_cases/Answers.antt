@@ -15,4 +15,4 @@ loop-case-preserved g c = λ well.
     let before : IsTrue c.loop-case.well = search rules in
     let expected : c.in_ok-outcome.outcome ≡ AsExpected = search rules in
     each_to Runs cases c.loop-case.case-index (c.loop-case.invariant before)
-      (λ d. subst Runs (c.case-item.is ∙ get_or_default cases c.loop-case.case-index _ d (search rules)) (c.in_ok-outcome.ensures expected))
+    (λ d. subst Runs (c.case-item.is ∙ get_or_default cases c.loop-case.case-index _ d (search rules)) (c.in_ok-outcome.ensures expected))
