@@ -1,9 +1,10 @@
 //! From an address to its place in physical memory.
 ghost use Rattle.std.specs.Prelude.{◌≡◌, ◌≢◌, ◌↔◌, ◌<◌, ◌/◌, ◌^◌, All, Err, IfSome, IsNone, IsTrue, not};
 ghost use Rattle.ds_tlb.specs.Entries.{find, matches};
-ghost use Rattle.ds_amap.specs.Map.{is_modified, place, through, mapped, translate, IsMissing, NeedsRefill};
+ghost use Rattle.ds_tlb.specs.Frames.{writes};
+ghost use Rattle.ds_amap.specs.Map.{is_store, is_modified, place, through, mapped, translate, IsMissing, NeedsRefill};
 
-use ds_tlb::{Entry, Lookaside};
+use ds_tlb::{Entry, Lookaside, Purpose};
 
 /// What is done at an address.
 #[derive(Clone, Copy, Debug, PartialEq, Eq)]
@@ -70,6 +71,66 @@ pub fn translate<L: Lookaside>(
         }
     }
     mapped(addr, access, tlb, asid)
+}
+
+/// The same, by a buffer that may remember what it finds.
+#[inline(always)]
+#[tactic(auto, using(crate::proofs::Bases::translate_by_base))]
+pub fn reach<L: Lookaside>(
+    addr: u32,
+    access: Access,
+    mode: Mode,
+    tlb: &mut L,
+    asid: u8,
+) -> Result<Physical, Fault>
+    ensures value { result ≡ translate (L.entries tlb.old) asid mode access addr }
+    ensures entries { L.entries tlb.new ≡ L.entries tlb.old }
+    ensures random { L.random_place tlb.new ≡ L.random_place tlb.old }
+{
+    // In the lower half of the addresses, which is mapped in either mode.
+    if addr < KSEG0 {
+        match tlb.recalled(purpose_of(access), addr >> 12, asid) {
+            Some(base) => return Ok(Physical(base + addr % 4096)),
+            None => {}
+        }
+    }
+    reach_by_search(addr, access, mode, tlb, asid)
+}
+
+/// The same, where the buffer doesn't remember the page. It stays a call, so that the rest is short.
+#[cold]
+#[inline(never)]
+#[tactic(auto, using(crate::proofs::Bases::translate_by_base))]
+fn reach_by_search<L: Lookaside>(
+    addr: u32,
+    access: Access,
+    mode: Mode,
+    tlb: &mut L,
+    asid: u8,
+) -> Result<Physical, Fault>
+    ensures value { result ≡ translate (L.entries tlb.old) asid mode access addr }
+    ensures entries { L.entries tlb.new ≡ L.entries tlb.old }
+    ensures random { L.random_place tlb.new ≡ L.random_place tlb.old }
+{
+    if addr < KSEG0 {
+        match tlb.base(purpose_of(access), addr >> 12, asid) {
+            Some(base) => return Ok(Physical(base + addr % 4096)),
+            None => {}
+        }
+    }
+    translate(addr, access, mode, tlb, asid)
+}
+
+/// What the buffer is asked for.
+#[inline(always)]
+fn purpose_of(access: Access) -> Purpose
+    ensures { writes result ≡ is_store access }
+{
+    match access {
+        Access::Fetch => Purpose::Fetch,
+        Access::Load => Purpose::Load,
+        Access::Store => Purpose::Store,
+    }
 }
 
 /// What the entries answer.

@@ -1,6 +1,8 @@
 //! Memory and devices at their physical addresses.
 ghost use Rattle.std.specs.Prelude.{◌≡◌, ◌%◌, ◌<◌, ◌≤◌, OnErr};
 ghost use Rattle.std.specs.Borrow.{sem};
+ghost use Rattle.ds_isa.specs.Instruction.{instruction_of};
+ghost use Rattle.ds_mem.specs.Memory.{word_at};
 ghost use Rattle.ds_dev.specs.Bus.{at_start, alignment, load, store, register_load, register_store, after_ticks, lines, with_serial};
 ghost use Rattle.ds_dev.specs.Serial.{received, sent};
 ghost use Rattle.ds_dev.specs.Lending.{LendsMemory};
@@ -8,9 +10,10 @@ ghost use Rattle.ds_dev.specs.Lending.{LendsMemory};
 use crate::access;
 use crate::clock::{self, Clock};
 use crate::fault::BusError;
+use crate::memo::{Memo, PAGE_WORDS};
 use crate::serial::{self, SerialLines};
 use crate::system::{self, SystemRegister};
-use ds_isa::Size;
+use ds_isa::{Instr, Size};
 use ds_mem::{Memory, SIZE};
 use std::marker::Model;
 
@@ -18,6 +21,8 @@ use std::marker::Model;
 #[derive(Drop)]
 pub struct Bus {
     memory: Memory,
+    // What was fetched from memory before. Contracts don't see it.
+    memo: Memo,
     serial: SerialLines,
     clock: Clock,
     system: SystemRegister,
@@ -38,6 +43,7 @@ impl Bus {
     {
         Bus {
             memory,
+            memo: Memo::new(),
             serial: SerialLines::new(),
             clock: Clock::new(),
             system: SystemRegister::new(),
@@ -80,6 +86,20 @@ impl Bus {
             Size::Word => self.load_register(physical),
             _ => Err(BusError),
         }
+    }
+
+    /// The instruction of the word that holds a place in memory. It is remembered with its word and
+    /// taken again for that word alone, so whatever memory's owner changes, nothing has to be
+    /// forgotten.
+    #[inline(always)]
+    pub fn fetch(&mut self, physical: u32) -> Instr
+        requires { physical < SIZE }
+        ensures value { result ≡ instruction_of (word_at self.old.memory physical) }
+        ensures state { self.new ≡ self.old }
+    {
+        let word = access::load(&self.memory, physical, Size::Part);
+        let place = physical as usize / 4 % PAGE_WORDS;
+        self.memo.decoded(place, word)
     }
 
     /// Writes at a physical address: in memory the byte, half or word, or for a part of a word

@@ -6,6 +6,7 @@ mod access;
 mod bus;
 mod clock;
 mod fault;
+mod memo;
 mod serial;
 mod system;
 

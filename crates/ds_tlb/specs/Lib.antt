@@ -1,3 +1,4 @@
 pub mod Entries
+pub mod Frames
 pub mod Singles
 pub mod Buckets

@@ -1,6 +1,9 @@
 //! An entry of the buffer.
-ghost use Rattle.std.specs.Prelude.{◌≡◌, ◌<◌, ◌≤◌};
+ghost use Rattle.std.specs.Prelude.{◌≡◌, ◌<◌, ◌≤◌, ◌%◌, IfSome, Some};
 ghost use Rattle.ds_tlb.specs.Entries.{matches, empty_entry, empty_entries};
+ghost use Rattle.ds_tlb.specs.Frames.{writes, base_in};
+
+use crate::purpose::Purpose;
 
 /// One entry: a virtual page of an address space and what it is mapped to, as EntryHi and EntryLo
 /// carry it (Kane and Heinrich, chapter 4).
@@ -29,6 +32,23 @@ impl Entry {
         ensures { result ≡ matches vpn asid self.now }
     {
         self.vpn == vpn && (self.asid == asid || self.g)
+    }
+
+    /// The first physical address of the frame, where the entry is valid and, for a store, dirty.
+    #[inline(always)]
+    pub(crate) fn base_for(&self, purpose: Purpose) -> Option<u32>
+        ensures base { result ≡ base_in (writes purpose) (Some self.now) }
+        ensures whole { IfSome result (λ base. base % 4096 ≡ 0) }
+    {
+        let store = match purpose {
+            Purpose::Fetch | Purpose::Load => false,
+            Purpose::Store => true,
+        };
+        if self.v && (!store || self.d) {
+            Some(self.pfn % 0x10_0000 * 0x1000)
+        } else {
+            None
+        }
     }
 
     /// What the slot holds at the start: page 80000 + slot (hexadecimal), all else zero. No access

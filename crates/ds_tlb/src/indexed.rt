@@ -1,10 +1,14 @@
 //! A buffer that is searched by an index from virtual pages to slots.
-ghost use Rattle.std.specs.Prelude.{◌≡◌, ◌<◌, ◌≤◌, ◌%◌, length};
+ghost use Rattle.std.specs.Prelude.{◌≡◌, ◌<◌, ◌≤◌, ◌%◌, ◌^◌, length, Some, IfSome, true, false};
+ghost use Rattle.std.proofs.Props.{props};
+ghost use Rattle.ds_tlb.specs.Frames.{writes, base_of};
 ghost use Rattle.ds_tlb.specs.Entries.{find, empty_entries};
 ghost use Rattle.ds_tlb.specs.Buckets.{bucket_of, IsBucketOf, IsIndexOf};
 
 use crate::entry::{Entry, empty_entries};
 use crate::lookaside::{BadRandom, Lookaside, index_word_of};
+use crate::purpose::Purpose;
+use crate::window::Window;
 
 /// The number of buckets, which the low six bits of a virtual page number tell apart, and whether
 /// it lies in the upper half of the addresses.
@@ -17,12 +21,19 @@ pub struct Indexed<const N: usize, const WIRED: usize> {
     entries: [Entry; N],
     buckets: [u64; BUCKETS],
     random: usize,
+    // The last page for each purpose that a search found. Each write drops all three.
+    code: Window,
+    loads: Window,
+    stores: Window,
     ghost size: { length entries ≡ N },
     ghost low: { WIRED ≤ random },
     ghost high: { random < N },
     ghost some_wired: { 1 ≤ WIRED },
     ghost few: { N ≤ 64 },
     ghost indexed: { IsIndexOf buckets entries },
+    ghost code_right: { code.vpn < 2 ^ 32 → base_of entries false code.vpn code.asid ≡ Some code.base } by { Prim.hlevel props },
+    ghost loads_right: { loads.vpn < 2 ^ 32 → base_of entries false loads.vpn loads.asid ≡ Some loads.base } by { Prim.hlevel props },
+    ghost stores_right: { stores.vpn < 2 ^ 32 → base_of entries true stores.vpn stores.asid ≡ Some stores.base } by { Prim.hlevel props },
 }
 
 impl<const N: usize, const WIRED: usize> Lookaside for Indexed<N, WIRED> {
@@ -57,6 +68,9 @@ impl<const N: usize, const WIRED: usize> Lookaside for Indexed<N, WIRED> {
             entries: empty_entries(),
             buckets: empty_buckets(N),
             random: start,
+            code: Window::none(),
+            loads: Window::none(),
+            stores: Window::none(),
         })
     }
 
@@ -75,6 +89,9 @@ impl<const N: usize, const WIRED: usize> Lookaside for Indexed<N, WIRED> {
         self.buckets[bucket_of(self.entries[slot].vpn)] &= !(1 << slot);
         self.buckets[bucket_of(entry.vpn)] |= 1 << slot;
         self.entries[slot] = entry;
+        self.code = Window::none();
+        self.loads = Window::none();
+        self.stores = Window::none();
     }
 
     fn write_random(&mut self, entry: Entry) -> usize {
@@ -98,6 +115,49 @@ impl<const N: usize, const WIRED: usize> Lookaside for Indexed<N, WIRED> {
 
     fn probe(&self, vpn: u32, asid: u8) -> u32 {
         index_word_of(self.find(vpn, asid))
+    }
+
+    #[inline(always)]
+    fn recalled(&self, purpose: Purpose, vpn: u32, asid: u8) -> Option<u32> {
+        match purpose {
+            Purpose::Fetch => self.code.frame(vpn, asid),
+            Purpose::Load => self.loads.frame(vpn, asid),
+            Purpose::Store => self.stores.frame(vpn, asid),
+        }
+    }
+
+    fn base(&mut self, purpose: Purpose, vpn: u32, asid: u8) -> Option<u32> {
+        let base = self.searched(purpose, vpn, asid)?;
+        if let Some(window) = Window::of(vpn, asid, base) {
+            self.remember(purpose, window);
+        }
+        Some(base)
+    }
+}
+
+impl<const N: usize, const WIRED: usize> Indexed<N, WIRED> {
+    /// Searches for a page.
+    fn searched(&self, purpose: Purpose, vpn: u32, asid: u8) -> Option<u32>
+        ensures base { result ≡ base_of self.now.entries (writes purpose) vpn asid }
+        ensures whole { IfSome result (λ base. base % 4096 ≡ 0) }
+    {
+        match first_match(&self.entries, self.buckets[bucket_of(vpn)], vpn, asid) {
+            Some(slot) => self.entries[slot].base_for(purpose),
+            None => None,
+        }
+    }
+
+    /// Remembers what was found, in place of what was remembered for the purpose.
+    fn remember(&mut self, purpose: Purpose, window: Window)
+        requires { base_of self.now.entries (writes purpose) window.vpn window.asid ≡ Some window.base }
+        ensures entries { self.new.entries ≡ self.old.entries }
+        ensures random { self.new.random ≡ self.old.random }
+    {
+        match purpose {
+            Purpose::Fetch => self.code = window,
+            Purpose::Load => self.loads = window,
+            Purpose::Store => self.stores = window,
+        }
     }
 }
 

@@ -5,11 +5,14 @@
 mod entry;
 mod indexed;
 mod lookaside;
+mod purpose;
 mod tlb;
+mod window;
 
 pub use entry::Entry;
 pub use indexed::Indexed;
 pub use lookaside::{BadRandom, Lookaside};
+pub use purpose::Purpose;
 pub use tlb::Tlb;
 
 #[cfg(test)]
