@@ -2,6 +2,8 @@
 use Rattle.std.specs.Prelude.{ℕ, ◌%◌, Bool, true, false, not, ◌==◌, if◌then◌else◌, Some, Result, Ok, Err}
 use Rattle.ds_isa.specs.declared.instr.Size.{Size}
 use Rattle.ds_isa.specs.declared.instr.Size.TheVariants as size
+use Rattle.ds_isa.specs.declared.instr.Instr.{Instr}
+use Rattle.ds_isa.specs.Instruction.{instruction_of}
 use Rattle.ds_isa.specs.Registers.{Registers, settled}
 use Rattle.ds_mem.specs.Memory.{word_at, with_word}
 use Rattle.ds_cp0.specs.declared.exception.Exception.{Exception}
@@ -92,3 +94,8 @@ store_answered c b (Ok done) = gone c b (settled c.registers)
 abbrev pub stored_to : CoreState → BusState → Size → ℕ → (ℕ → ℕ) → Result Physical Fault → Step
 stored_to c b size addr after (Err fault) = refused c b Store addr fault
 stored_to c b size addr after (Ok place) = (let r = aligned_store b place.0 size (after (kept b place.0)) in store_answered c r.1 r.0)
+
+-- the instruction of the word that the bus answered
+abbrev pub decoded : Result ℕ BusError → Result Instr BusError
+decoded (Ok w) = Ok (instruction_of w)
+decoded (Err e) = Err e

@@ -4,3 +4,4 @@ pub mod Coprocessor
 pub mod Effect
 pub mod Refilled
 pub mod Worked
+pub mod Ahead

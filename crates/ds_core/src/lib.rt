@@ -3,10 +3,11 @@
 #![tactic(auto)]
 
 mod event;
+pub mod laws;
 mod processor;
 
 pub use event::Event;
-pub use processor::Core;
+pub use processor::{Ahead, Core};
 
 #[cfg(test)]
 mod tests;

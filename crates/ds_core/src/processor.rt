@@ -6,6 +6,7 @@ ghost use Rattle.ds_core.specs.Core.{state_of};
 ghost use Rattle.ds_core.specs.Effect.{instruction, step};
 
 mod access;
+mod ahead;
 mod coprocessor;
 mod execute;
 mod flow;
@@ -13,7 +14,8 @@ mod registers;
 mod transfer;
 
 use crate::event::Event;
-use access::load_aligned;
+use access::fetch;
+pub use ahead::Ahead;
 use ds_amap::{Access, Physical};
 use ds_cp0::{Cp0, ExceptionCode, register};
 use ds_dev::Bus;
@@ -39,10 +41,9 @@ pub struct Core<L> {
 }
 
 impl<L: Lookaside> Core<L> {
-    /// Takes an interrupt that is pending, or does the instruction at `pc`. In a buffer of 64 slots
-    /// 8 are wired.
+    /// A step: takes an interrupt that is pending, or does the instruction at `pc`.
     #[inline(always)]
-    pub fn step(&mut self, bus: &mut Bus) -> Event
+    fn proceed(&mut self, bus: &mut Bus) -> Event
         requires slots { L.SLOTS ≡ 64 }
         requires wired { L.WIRED ≡ 8 }
         ensures { (record { event = result; core = state_of L.entries L.random_place self.new; bus = bus.new }) ≡ step (state_of L.entries L.random_place self.old) bus.old }
@@ -88,8 +89,8 @@ impl<L: Lookaside> Core<L> {
             Ok(Physical(place)) => place,
             Err(fault) => return self.refuse(Access::Fetch, self.pc, fault),
         };
-        match load_aligned(bus, place, Size::Word) {
-            Ok(word) => self.execute(word, bus),
+        match fetch(bus, place) {
+            Ok(instr) => self.execute(instr, bus),
             Err(_) => self.trap(ExceptionCode::FetchBus),
         }
     }

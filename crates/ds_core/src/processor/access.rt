@@ -3,14 +3,14 @@ ghost use Rattle.std.specs.Prelude.{◌≡◌, ◌≤◌};
 ghost use Rattle.ds_dev.specs.Bus.{load, store};
 ghost use Rattle.ds_amap.specs.Map.{is_store};
 ghost use Rattle.ds_core.specs.Core.{state_of, raised_core};
-ghost use Rattle.ds_core.specs.Access.{is_aligned, mode_of, reached, code_of, refusal, aligned_load, kept, aligned_store, store_answered};
+ghost use Rattle.ds_core.specs.Access.{is_aligned, mode_of, reached, decoded, code_of, refusal, aligned_load, kept, aligned_store, store_answered};
 
 use super::Core;
 use crate::event::Event;
-use ds_amap::{Access, Fault, Mode, Physical, translate};
+use ds_amap::{Access, Fault, Mode, Physical, reach};
 use ds_cp0::{Cp0, Exception, ExceptionCode};
 use ds_dev::{Bus, BusError};
-use ds_isa::Size;
+use ds_isa::{Instr, Size, decode};
 use ds_mem::SIZE;
 use ds_tlb::Lookaside;
 
@@ -73,6 +73,33 @@ fn load_elsewhere(bus: &mut Bus, place: u32, size: Size) -> Result<u32, BusError
     bus.load(place, size)
 }
 
+/// The instruction whose word lies at a place.
+#[inline(always)]
+pub(super) fn fetch(bus: &mut Bus, place: u32) -> Result<Instr, BusError>
+    ensures value { result ≡ decoded (aligned_load bus.old place Size.Word).0 }
+    ensures state { bus.new ≡ (aligned_load bus.old place Size.Word).1 }
+{
+    if (place as usize) < SIZE {
+        Ok(bus.fetch(place))
+    } else {
+        Ok(fetch_elsewhere(bus, place)?)
+    }
+}
+
+/// The instruction whose word a register holds.
+#[cold]
+#[inline(never)]
+fn fetch_elsewhere(bus: &mut Bus, place: u32) -> Result<Instr, BusError>
+    requires { SIZE ≤ place }
+    ensures value { result ≡ decoded (load bus.old place Size.Word).0 }
+    ensures state { bus.new ≡ (load bus.old place Size.Word).1 }
+{
+    match bus.load(place, Size::Word) {
+        Ok(word) => Ok(decode(word)),
+        Err(error) => Err(error),
+    }
+}
+
 /// The aligned word that holds a place in memory, of which a store changes a part; 0 elsewhere.
 #[inline(always)]
 pub(super) fn kept(bus: &mut Bus, place: u32) -> u32
@@ -114,19 +141,23 @@ fn store_elsewhere(bus: &mut Bus, place: u32, size: Size, word: u32) -> Result<(
 impl<L: Lookaside> Core<L> {
     /// The physical address of an access, or why there is none.
     #[inline(always)]
-    pub(super) fn reach(&self, access: Access, size: Size, address: u32) -> Result<Physical, Fault>
-        ensures { result ≡ reached (state_of L.entries L.random_place self.now) access size address }
+    pub(super) fn reach(
+        &mut self,
+        access: Access,
+        size: Size,
+        address: u32,
+    ) -> Result<Physical, Fault>
+        ensures value { result ≡ reached (state_of L.entries L.random_place self.old) access size address }
+        ensures rest { self.new ≡ record self.old { tlb = self.new.tlb } }
+        ensures entries { L.entries self.new.tlb ≡ L.entries self.old.tlb }
+        ensures random { L.random_place self.new.tlb ≡ L.random_place self.old.tlb }
     {
         if !is_aligned(size, address) {
             return Err(Fault::Address);
         }
-        translate(
-            address,
-            access,
-            mode_of(&self.cp0),
-            &self.tlb,
-            self.cp0.asid(),
-        )
+        let mode = mode_of(&self.cp0);
+        let asid = self.cp0.asid();
+        reach(address, access, mode, &mut self.tlb, asid)
     }
 
     /// Enters the exception of an access that has no physical address.

@@ -1,6 +1,5 @@
 //! The instructions of the system coprocessor, the translation buffer's among them.
 ghost use Rattle.std.specs.Prelude.{◌≡◌, ◌<◌, if◌then◌else◌};
-ghost use Rattle.ds_isa.specs.Instruction.{instruction_of};
 ghost use Rattle.ds_core.specs.Core.{state_of, raised_core};
 ghost use Rattle.ds_core.specs.Coprocessor.{is_usable, unusable, unusable_exception, requests, system_reads, entry_hi, entry_lo, entry_of, indexed, usable, unit_of, privileged};
 
@@ -8,7 +7,7 @@ use super::Core;
 use crate::event::Event;
 use ds_cp0::{Cp0, Exception, ExceptionCode, register};
 use ds_dev::Bus;
-use ds_isa::{Instr, decode};
+use ds_isa::Instr;
 use ds_tlb::{Entry, Lookaside};
 
 /// A bit of a word.
@@ -159,19 +158,97 @@ impl<L: Lookaside> Core<L> {
         }
     }
 
-    /// Carries out the instruction of a word, which is one of a coprocessor.
-    #[cold]
-    #[inline(never)]
-    pub(super) fn privileged(&mut self, word: u32, bus: &Bus) -> Event
+    /// Carries out an instruction of a coprocessor. The calls below are taken in its place: an
+    /// instruction that is passed to a call goes through memory, and costs each other instruction.
+    fn privileged(&mut self, instr: Instr, bus: &Bus) -> Event
         requires { L.SLOTS ≡ 64 }
-        ensures { (record { event = result; core = state_of L.entries L.random_place self.new; bus = bus.now }) ≡ privileged (state_of L.entries L.random_place self.old) bus.now (instruction_of word) }
+        ensures { (record { event = result; core = state_of L.entries L.random_place self.new; bus = bus.now }) ≡ privileged (state_of L.entries L.random_place self.old) bus.now instr }
     {
-        let instr = decode(word);
         let unit = unit_of(instr);
         if self.is_usable(unit) {
             self.use_coprocessor(instr, bus)
         } else {
             self.unusable(unit)
         }
+    }
+
+    /// Move from coprocessor 0.
+    #[cold]
+    #[inline(never)]
+    pub(super) fn mfc0(&mut self, rt: u8, rd: u8, bus: &Bus) -> Event
+        requires { L.SLOTS ≡ 64 }
+        ensures { (record { event = result; core = state_of L.entries L.random_place self.new; bus = bus.now }) ≡ privileged (state_of L.entries L.random_place self.old) bus.now (Instr.Mfc0 rt rd) }
+    {
+        self.privileged(Instr::Mfc0 { rt, rd }, bus)
+    }
+
+    /// Move to coprocessor 0.
+    #[cold]
+    #[inline(never)]
+    pub(super) fn mtc0(&mut self, rt: u8, rd: u8, bus: &Bus) -> Event
+        requires { L.SLOTS ≡ 64 }
+        ensures { (record { event = result; core = state_of L.entries L.random_place self.new; bus = bus.now }) ≡ privileged (state_of L.entries L.random_place self.old) bus.now (Instr.Mtc0 rt rd) }
+    {
+        self.privileged(Instr::Mtc0 { rt, rd }, bus)
+    }
+
+    /// Read the entry that Index names.
+    #[cold]
+    #[inline(never)]
+    pub(super) fn tlbr(&mut self, bus: &Bus) -> Event
+        requires { L.SLOTS ≡ 64 }
+        ensures { (record { event = result; core = state_of L.entries L.random_place self.new; bus = bus.now }) ≡ privileged (state_of L.entries L.random_place self.old) bus.now (Instr.Tlbr) }
+    {
+        self.privileged(Instr::Tlbr, bus)
+    }
+
+    /// Write the entry that Index names.
+    #[cold]
+    #[inline(never)]
+    pub(super) fn tlbwi(&mut self, bus: &Bus) -> Event
+        requires { L.SLOTS ≡ 64 }
+        ensures { (record { event = result; core = state_of L.entries L.random_place self.new; bus = bus.now }) ≡ privileged (state_of L.entries L.random_place self.old) bus.now (Instr.Tlbwi) }
+    {
+        self.privileged(Instr::Tlbwi, bus)
+    }
+
+    /// Write the entry that Random names.
+    #[cold]
+    #[inline(never)]
+    pub(super) fn tlbwr(&mut self, bus: &Bus) -> Event
+        requires { L.SLOTS ≡ 64 }
+        ensures { (record { event = result; core = state_of L.entries L.random_place self.new; bus = bus.now }) ≡ privileged (state_of L.entries L.random_place self.old) bus.now (Instr.Tlbwr) }
+    {
+        self.privileged(Instr::Tlbwr, bus)
+    }
+
+    /// Probe for the page that EntryHi names.
+    #[cold]
+    #[inline(never)]
+    pub(super) fn tlbp(&mut self, bus: &Bus) -> Event
+        requires { L.SLOTS ≡ 64 }
+        ensures { (record { event = result; core = state_of L.entries L.random_place self.new; bus = bus.now }) ≡ privileged (state_of L.entries L.random_place self.old) bus.now (Instr.Tlbp) }
+    {
+        self.privileged(Instr::Tlbp, bus)
+    }
+
+    /// Return from an exception.
+    #[cold]
+    #[inline(never)]
+    pub(super) fn rfe(&mut self, bus: &Bus) -> Event
+        requires { L.SLOTS ≡ 64 }
+        ensures { (record { event = result; core = state_of L.entries L.random_place self.new; bus = bus.now }) ≡ privileged (state_of L.entries L.random_place self.old) bus.now (Instr.Rfe) }
+    {
+        self.privileged(Instr::Rfe, bus)
+    }
+
+    /// A word of a coprocessor that names no instruction.
+    #[cold]
+    #[inline(never)]
+    pub(super) fn cop(&mut self, unit: u8, word: u32, bus: &Bus) -> Event
+        requires { L.SLOTS ≡ 64 }
+        ensures { (record { event = result; core = state_of L.entries L.random_place self.new; bus = bus.now }) ≡ privileged (state_of L.entries L.random_place self.old) bus.now (Instr.Cop unit word) }
+    {
+        self.privileged(Instr::Cop { unit, word }, bus)
     }
 }

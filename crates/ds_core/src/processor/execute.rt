@@ -1,7 +1,6 @@
 //! One decoded instruction, as the table of instructions means it.
 ghost use Rattle.std.specs.Prelude.{◌≡◌, ◌%◌, ◌||◌, ◌==◌};
 ghost use Rattle.ds_word.specs.Word.{is_negative};
-ghost use Rattle.ds_isa.specs.Instruction.{instruction_of};
 ghost use Rattle.ds_core.specs.Core.{state_of};
 ghost use Rattle.ds_core.specs.Effect.{executed};
 
@@ -10,7 +9,7 @@ use super::flow::jump_target;
 use crate::event::Event;
 use ds_cp0::ExceptionCode;
 use ds_dev::Bus;
-use ds_isa::{Instr, decode};
+use ds_isa::Instr;
 use ds_tlb::Lookaside;
 use ds_word::{
     checked_difference, checked_sum, div_signed, div_unsigned, is_negative, mul_signed,
@@ -35,13 +34,13 @@ fn places(word: u32) -> u8
 }
 
 impl<L: Lookaside> Core<L> {
-    /// Carries out the instruction of a word.
+    /// Carries out an instruction.
     #[inline(always)]
-    pub(super) fn execute(&mut self, word: u32, bus: &mut Bus) -> Event
+    pub(super) fn execute(&mut self, instr: Instr, bus: &mut Bus) -> Event
         requires { L.SLOTS ≡ 64 }
-        ensures { (record { event = result; core = state_of L.entries L.random_place self.new; bus = bus.new }) ≡ executed (state_of L.entries L.random_place self.old) bus.old (instruction_of word) }
+        ensures { (record { event = result; core = state_of L.entries L.random_place self.new; bus = bus.new }) ≡ executed (state_of L.entries L.random_place self.old) bus.old instr }
     {
-        match decode(word) {
+        match instr {
             Instr::Sll { rd, rt, shamt } => self.retire(rd, shift_left(self.read(rt), shamt)),
             Instr::Srl { rd, rt, shamt } => {
                 self.retire(rd, shift_right_logical(self.read(rt), shamt))
@@ -164,14 +163,14 @@ impl<L: Lookaside> Core<L> {
             Instr::Swl { rt, rs, immediate } => self.store_left(rt, rs, immediate, bus),
             Instr::Sw { rt, rs, immediate } => self.store_whole(rt, rs, immediate, bus),
             Instr::Swr { rt, rs, immediate } => self.store_right(rt, rs, immediate, bus),
-            Instr::Mfc0 { .. }
-            | Instr::Mtc0 { .. }
-            | Instr::Tlbr
-            | Instr::Tlbwi
-            | Instr::Tlbwr
-            | Instr::Tlbp
-            | Instr::Rfe
-            | Instr::Cop { .. } => self.privileged(word, bus),
+            Instr::Mfc0 { rt, rd } => self.mfc0(rt, rd, bus),
+            Instr::Mtc0 { rt, rd } => self.mtc0(rt, rd, bus),
+            Instr::Tlbr => self.tlbr(bus),
+            Instr::Tlbwi => self.tlbwi(bus),
+            Instr::Tlbwr => self.tlbwr(bus),
+            Instr::Tlbp => self.tlbp(bus),
+            Instr::Rfe => self.rfe(bus),
+            Instr::Cop { unit, word } => self.cop(unit, word, bus),
             Instr::Reserved(_) => self.trap(ExceptionCode::ReservedInstruction),
         }
     }

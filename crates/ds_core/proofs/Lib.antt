@@ -1,0 +1,4 @@
+pub mod Fetches
+pub mod Advances
+pub mod Slots
+pub mod Users

@@ -1,0 +1,17 @@
+use Rattle.std.proofs.Common.{arith}
+use Rattle.ds_core.specs.Ahead.{hardware_of}
+use Rattle.ds_core.proofs.Advances.{calm_event, advances_on}
+use Rattle.ds_core.proofs.Slots.{ticks_of_advance}
+use Rattle.ds_core.proofs.processor.Core.run_ahead.Goals as goal
+
+pub loop-steps-preserved : goal.loop-steps-preserved
+loop-steps-preserved g c = record {
+  within = omega arith;
+  advances = advances_on _ _ _ _ _ c.loop-steps.invariant.advances c.proceed.ensures (calm_event _ c.in-Retired.is);
+}
+
+pub returns-clause-ticks : goal.returns-clause-ticks
+returns-clause-ticks g c = λ _. ticks_of_advance c.loop-steps.steps
+    (hardware_of g.L.Lookaside.entries g.L.Lookaside.random_place c.args.self.now c.args.bus.now)
+    (hardware_of g.L.Lookaside.entries g.L.Lookaside.random_place c.loop-steps.self c.loop-steps.bus)
+    c.loop-steps.invariant.advances

@@ -1,0 +1,62 @@
+-- Many steps, one behind the other.
+use Rattle.std.specs.Prelude.{◌≡◌, ℕ, zero, suc, ◌+◌, ◌<◌, Bool, true, false, if◌then◌else◌, List, Option, Some, None}
+use Rattle.ds_tlb.specs.declared.entry.Entry.{Entry}
+use Rattle.ds_cp0.specs.declared.exception.ExceptionCode.{ExceptionCode}
+use Rattle.ds_dev.specs.Bus.{BusState}
+use Rattle.ds_core.specs.declared.processor.Core.{Core}
+use Rattle.ds_core.specs.declared.event.Event.{Event}
+use Rattle.ds_core.specs.declared.event.Event.TheVariants.{Retired, Branched, Raised}
+use Rattle.ds_core.specs.Core.{CoreState, Step, state_of}
+use Rattle.ds_core.specs.Effect.{step}
+
+-- a processor and its bus
+pub record Hardware : Type 0 where
+  pub core : CoreState
+  pub bus : BusState
+
+abbrev pub hardware_of : {L : Type 0} → (L → List Entry) → (L → ℕ) → Core L → BusState → Hardware
+hardware_of entries random c b = record { core = state_of entries random c; bus = b }
+
+-- the next step
+abbrev pub step_of : Hardware → Step
+step_of h = step h.core h.bus
+
+-- what a step leaves
+abbrev pub left_by : Step → Hardware
+left_by s = record { core = s.core; bus = s.bus }
+
+-- the hardware after so many steps
+abbrev pub after_steps : ℕ → Hardware → Hardware
+after_steps zero h = h
+after_steps (suc n) h = left_by (step_of (after_steps n h))
+
+-- whether an exception is entered; an interrupt is one
+abbrev pub is_raised : Event → Bool
+is_raised Retired = false
+is_raised Branched = false
+is_raised (Raised code) = true
+
+-- so many steps lead from the one to the other, and none of them enters an exception
+pub record Advances (n : ℕ) (old new : Hardware) : Type 0 where
+  pub state : new ≡ after_steps n old
+  pub calm : (k : ℕ) → k < n → is_raised (step_of (after_steps k old)).event ≡ false
+
+-- so many such steps, and behind them the one that enters the exception, if there is one
+abbrev pub AdvancesTo : ℕ → Option ExceptionCode → Hardware → Hardware → Type 0
+AdvancesTo n None old new = Advances n old new
+AdvancesTo n (Some code) old new = (h : Hardware) × Advances n old h × ((record { event = Raised code; core = new.core; bus = new.bus }) ≡ step_of h)
+
+-- the tick that a branch leaves to its slot
+abbrev pub owed_tick : Bool → ℕ
+owed_tick slot = if slot then 1 else 0
+
+-- the ticks behind a step, by where it began: one for an instruction that is done, and one for the branch whose slot it stands in
+abbrev pub ticks_behind : Event → Bool → ℕ
+ticks_behind Retired slot = 1 + owed_tick slot
+ticks_behind Branched slot = 0
+ticks_behind (Raised code) slot = 0
+
+-- the ticks of so many steps
+abbrev pub ticks : ℕ → Hardware → ℕ
+ticks zero h = 0
+ticks (suc n) h = ticks n h + ticks_behind (step_of (after_steps n h)).event (after_steps n h).core.slot

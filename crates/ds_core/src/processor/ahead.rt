@@ -1,0 +1,76 @@
+//! Steps, one by one and many at once.
+ghost use Rattle.std.specs.Prelude.{◌≡◌, ◌<◌, ◌+◌, if◌then◌else◌, IsNone, IfSome};
+ghost use Rattle.ds_core.specs.Core.{state_of};
+ghost use Rattle.ds_core.specs.Effect.{step};
+ghost use Rattle.ds_core.specs.Ahead.{hardware_of, AdvancesTo, ticks, owed_tick};
+
+use super::Core;
+use crate::event::Event;
+use ds_cp0::ExceptionCode;
+use ds_dev::Bus;
+use ds_tlb::Lookaside;
+
+/// How far the processor went.
+#[derive(Clone, Copy, Debug, PartialEq, Eq)]
+pub struct Ahead {
+    /// The number of steps that entered no exception.
+    pub steps: u32,
+    /// The exception that the step behind them entered, if it did.
+    pub raised: Option<ExceptionCode>,
+}
+
+impl<L: Lookaside> Core<L> {
+    /// Takes an interrupt that is pending, or does the instruction at `pc`. In a buffer of 64 slots
+    /// 8 are wired.
+    #[inline(always)]
+    pub fn step(&mut self, bus: &mut Bus) -> Event
+        requires slots { L.SLOTS ≡ 64 }
+        requires wired { L.WIRED ≡ 8 }
+        ensures { (record { event = result; core = state_of L.entries L.random_place self.new; bus = bus.new }) ≡ step (state_of L.entries L.random_place self.old) bus.old }
+    {
+        match self.run_ahead(bus, 1).raised {
+            Some(code) => Event::Raised(code),
+            None => self.calm_event(),
+        }
+    }
+
+    /// Takes `limit` steps, or fewer and behind them one that enters an exception. So many steps
+    /// take so many ticks, but for a slot at either end.
+    ///
+    /// This alone reaches the code of the instructions: it is long, and a second place that reached
+    /// it would make it a call, for 30 host instructions on each.
+    #[inline(never)]
+    pub fn run_ahead(&mut self, bus: &mut Bus, limit: u32) -> Ahead
+        requires slots { L.SLOTS ≡ 64 }
+        requires wired { L.WIRED ≡ 8 }
+        ensures all { IsNone result.raised → result.steps ≡ limit }
+        ensures fewer { IfSome result.raised (λ _. result.steps < limit) }
+        ensures steps { AdvancesTo result.steps result.raised (hardware_of L.entries L.random_place self.old bus.old) (hardware_of L.entries L.random_place self.new bus.new) }
+        ensures ticks { IsNone result.raised → ticks result.steps (hardware_of L.entries L.random_place self.old bus.old) + owed_tick self.new.slot ≡ result.steps + owed_tick self.old.slot }
+    {
+        let mut steps = 0;
+        while steps < limit {
+            match self.proceed(bus) {
+                Event::Retired | Event::Branched => steps += 1,
+                Event::Raised(code) => {
+                    let raised = Some(code);
+                    return Ahead { steps, raised };
+                }
+            }
+        }
+        let raised = None;
+        Ahead { steps, raised }
+    }
+
+    /// The event of the last step, where it entered no exception.
+    #[inline(always)]
+    fn calm_event(&self) -> Event
+        ensures { result ≡ (if self.now.slot then Event.Branched else Event.Retired) }
+    {
+        if self.slot {
+            Event::Branched
+        } else {
+            Event::Retired
+        }
+    }
+}
