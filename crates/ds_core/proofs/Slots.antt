@@ -1,6 +1,6 @@
 -- How a step leaves the slot, and so: steps that enter no exception take a tick each, but for a branch whose slot is still to come.
-use Rattle.std.proofs.Common.{◌≡◌, ℕ, zero, suc, ◌+◌, ◌<◌, Bool, true, false, refl, sym, ap, ◌∙◌, arith, cond}
-use Rattle.std.specs.Prelude.{Result, Ok, Err, if◌then◌else◌}
+use Rattle.std.proofs.Common.{◌≡◌, ℕ, zero, suc, ◌+◌, ◌<◌, Bool, true, false, refl, ap, ◌∙◌, arith, cond}
+use Rattle.std.specs.Prelude.{Result, Ok, Err}
 use Rattle.ds_isa.specs.declared.instr.Instr.{Instr}
 use Rattle.ds_isa.specs.declared.instr.Instr.TheVariants as instr
 use Rattle.ds_isa.specs.declared.instr.Size.{Size}
@@ -20,8 +20,8 @@ use Rattle.ds_core.specs.declared.event.Event.{Event}
 use Rattle.ds_core.specs.declared.event.Event.TheVariants.{Retired, Branched, Raised}
 use Rattle.ds_core.specs.Core.{CoreState, Step, branched, with_tick, trapped}
 use Rattle.ds_core.specs.Access.{reached, aligned_load, aligned_store, kept, load_answered, loaded_from, store_answered, stored_to}
-use Rattle.ds_core.specs.Coprocessor.{is_usable, unusable, usable, unit_of, privileged}
-use Rattle.ds_core.specs.Effect.{effect, executed, fetch_answered, fetched_from, instruction, step}
+use Rattle.ds_core.specs.Coprocessor.{is_usable, unusable, usable, unit_of}
+use Rattle.ds_core.specs.Effect.{effect, fetch_answered, fetched_from, instruction, step}
 use Rattle.ds_core.specs.Ahead.{Hardware, Advances, step_of, after_steps, is_raised, owed_tick, ticks_behind, ticks}
 
 -- how a step leaves the slot, by its event and where it began

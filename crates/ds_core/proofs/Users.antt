@@ -1,6 +1,6 @@
 -- A calm step of a user who may not use coprocessor 0 leaves the coprocessor's registers and the entries alone.
-use Rattle.std.proofs.Common.{◌≡◌, ℕ, zero, suc, ◌+◌, ◌<◌, Bool, true, false, refl, sym, ap, ◌∙◌, arith, cond}
-use Rattle.std.specs.Prelude.{Result, Ok, Err, ◌==◌, if◌then◌else◌}
+use Rattle.std.proofs.Common.{◌≡◌, ℕ, Bool, true, false, refl, ap, ◌∙◌, cond}
+use Rattle.std.specs.Prelude.{Result, Ok, Err}
 use Rattle.ds_isa.specs.declared.instr.Instr.{Instr}
 use Rattle.ds_isa.specs.declared.instr.Instr.TheVariants as instr
 use Rattle.ds_isa.specs.declared.instr.Size.{Size}
@@ -16,15 +16,11 @@ use Rattle.ds_cp0.specs.System.{is_pending}
 use Rattle.ds_dev.specs.declared.fault.BusError.{BusError}
 use Rattle.ds_dev.specs.Bus.{BusState, lines}
 use Rattle.ds_isa.specs.declared.instr.Size.TheVariants.{Word}
-use Rattle.ds_core.specs.declared.event.Event.{Event}
-use Rattle.ds_core.specs.declared.event.Event.TheVariants.{Retired, Branched, Raised}
 use Rattle.ds_core.specs.Core.{CoreState, Step, branched, with_tick, trapped}
 use Rattle.ds_core.specs.Access.{reached, aligned_load, aligned_store, kept, load_answered, loaded_from, store_answered, stored_to}
-use Rattle.ds_core.specs.Coprocessor.{is_usable, unusable, usable, unit_of, privileged}
-use Rattle.ds_core.specs.Effect.{effect, executed, fetch_answered, fetched_from, instruction, step}
+use Rattle.ds_core.specs.Coprocessor.{is_usable, unusable, usable, unit_of}
+use Rattle.ds_core.specs.Effect.{effect, fetch_answered, fetched_from, instruction, step}
 use Rattle.ds_core.specs.Ahead.{is_raised}
-use Rattle.ds_word.specs.Word.{bits}
-use Rattle.ds_cp0.specs.System.{is_user}
 
 -- a step that enters no exception keeps both
 abbrev Keeps : CoreState → Step → Type 0

@@ -1,4 +1,4 @@
-use Rattle.std.proofs.Common.{◌≡◌, ◌≤◌, ◌-◌}
+use Rattle.std.proofs.Common.{◌≤◌, ◌-◌}
 use Rattle.ds_core.specs.Ahead.{Advances, hardware_of}
 use Rattle.ds_core.proofs.processor.Core.run_ahead.Given as goal
 
