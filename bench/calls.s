@@ -1,0 +1,1 @@
+../crates/ds_core_runs/data/calls.s
