@@ -4,7 +4,7 @@
 
 mod map;
 
-pub use map::{Access, Fault, Mode, Physical, reach, translate};
+pub use map::{Access, Fault, Mode, Physical, reach, recalled, translate};
 
 #[cfg(test)]
 mod tests;

@@ -1,5 +1,5 @@
 //! From an address to its place in physical memory.
-ghost use Rattle.std.specs.Prelude.{◌≡◌, ◌≢◌, ◌↔◌, ◌<◌, ◌/◌, ◌^◌, All, Err, IfSome, IsNone, IsTrue, not};
+ghost use Rattle.std.specs.Prelude.{◌≡◌, ◌≢◌, ◌↔◌, ◌<◌, ◌/◌, ◌^◌, All, Ok, Err, IfSome, IsNone, IsTrue, not};
 ghost use Rattle.ds_tlb.specs.Entries.{find, matches};
 ghost use Rattle.ds_tlb.specs.Frames.{writes};
 ghost use Rattle.ds_amap.specs.Map.{is_store, is_modified, place, through, mapped, translate, IsMissing, NeedsRefill};
@@ -73,35 +73,26 @@ pub fn translate<L: Lookaside>(
     mapped(addr, access, tlb, asid)
 }
 
-/// The same, by a buffer that may remember what it finds.
+/// The place of an address in memory, where the buffer remembers its page. In the lower half of the
+/// addresses alone, which is mapped in either mode.
 #[inline(always)]
 #[tactic(auto, using(crate::proofs::Bases::translate_by_base))]
-pub fn reach<L: Lookaside>(
-    addr: u32,
-    access: Access,
-    mode: Mode,
-    tlb: &mut L,
-    asid: u8,
-) -> Result<Physical, Fault>
-    ensures value { result ≡ translate (L.entries tlb.old) asid mode access addr }
-    ensures entries { L.entries tlb.new ≡ L.entries tlb.old }
-    ensures random { L.random_place tlb.new ≡ L.random_place tlb.old }
+pub fn recalled<L: Lookaside>(addr: u32, access: Access, tlb: &L, asid: u8) -> Option<Physical>
+    ensures value { (mode : Mode) → IfSome result (λ place. translate (L.entries tlb.now) asid mode access addr ≡ Ok place) }
+    ensures inside { IfSome result (λ place. place.0 < 2 ^ 23) }
 {
-    // In the lower half of the addresses, which is mapped in either mode.
-    if addr < KSEG0 {
-        match tlb.recalled(purpose_of(access), addr >> 12, asid) {
-            Some(base) => return Ok(Physical(base + addr % 4096)),
-            None => {}
-        }
+    if addr >= KSEG0 {
+        return None;
     }
-    reach_by_search(addr, access, mode, tlb, asid)
+    match tlb.recalled(purpose_of(access), addr >> 12, asid) {
+        Some(base) => Some(Physical(base + addr % 4096)),
+        None => None,
+    }
 }
 
-/// The same, where the buffer doesn't remember the page. It stays a call, so that the rest is short.
-#[cold]
-#[inline(never)]
+/// As `translate`, by a buffer that may remember what it finds.
 #[tactic(auto, using(crate::proofs::Bases::translate_by_base))]
-fn reach_by_search<L: Lookaside>(
+pub fn reach<L: Lookaside>(
     addr: u32,
     access: Access,
     mode: Mode,

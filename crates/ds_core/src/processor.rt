@@ -1,5 +1,6 @@
 //! The processor and its step.
 ghost use Rattle.std.specs.Prelude.{◌≡◌};
+ghost use Rattle.ds_tlb.specs.Entries.{ticked};
 ghost use Rattle.ds_cp0.specs.System.{is_pending};
 ghost use Rattle.ds_dev.specs.Bus.{lines};
 ghost use Rattle.ds_core.specs.Core.{state_of};
@@ -52,8 +53,21 @@ impl<L: Lookaside> Core<L> {
             return self.trap(ExceptionCode::Interrupt);
         }
         let event = self.instruction(bus);
-        self.tlb.tick();
+        // Told apart here, so that the common way behind an instruction has no test of its event.
+        match event {
+            Event::Raised(_) => self.tick_behind_exception(),
+            Event::Retired | Event::Branched => self.tlb.tick(),
+        }
         event
+    }
+
+    /// Counts Random down behind an exception. It stays a call, so that it is not the common way.
+    #[cold]
+    #[inline(never)]
+    fn tick_behind_exception(&mut self)
+        ensures { state_of L.entries L.random_place self.new ≡ record (state_of L.entries L.random_place self.old) { random = ticked L.SLOTS L.WIRED (L.random_place self.old.tlb) } }
+    {
+        self.tlb.tick();
     }
 
     /// Whether an interrupt is to be taken. Where Status lets none through, no device is asked.

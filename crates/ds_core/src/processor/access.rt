@@ -1,13 +1,14 @@
 //! Fetches, loads and stores: an address through the translation buffer, and then the bus.
 ghost use Rattle.std.specs.Prelude.{◌≡◌, ◌≤◌};
 ghost use Rattle.ds_dev.specs.Bus.{load, store};
-ghost use Rattle.ds_amap.specs.Map.{is_store};
+ghost use Rattle.ds_amap.specs.Map.{is_store, translate};
+ghost use Rattle.ds_cp0.specs.System.{asid_of};
 ghost use Rattle.ds_core.specs.Core.{state_of, raised_core};
 ghost use Rattle.ds_core.specs.Access.{is_aligned, mode_of, reached, decoded, code_of, refusal, aligned_load, kept, aligned_store, store_answered};
 
 use super::Core;
 use crate::event::Event;
-use ds_amap::{Access, Fault, Mode, Physical, reach};
+use ds_amap::{Access, Fault, Mode, Physical, reach, recalled};
 use ds_cp0::{Cp0, Exception, ExceptionCode};
 use ds_dev::{Bus, BusError};
 use ds_isa::{Instr, Size, decode};
@@ -155,6 +156,21 @@ impl<L: Lookaside> Core<L> {
         if !is_aligned(size, address) {
             return Err(Fault::Address);
         }
+        match recalled(address, access, &self.tlb, self.cp0.asid()) {
+            Some(place) => Ok(place),
+            None => self.search(access, address),
+        }
+    }
+
+    /// The same for an address whose page the buffer doesn't remember. It stays a call.
+    #[cold]
+    #[inline(never)]
+    fn search(&mut self, access: Access, address: u32) -> Result<Physical, Fault>
+        ensures value { result ≡ translate (L.entries self.old.tlb) (asid_of self.old.cp0) (mode_of self.old.cp0) access address }
+        ensures rest { self.new ≡ record self.old { tlb = self.new.tlb } }
+        ensures entries { L.entries self.new.tlb ≡ L.entries self.old.tlb }
+        ensures random { L.random_place self.new.tlb ≡ L.random_place self.old.tlb }
+    {
         let mode = mode_of(&self.cp0);
         let asid = self.cp0.asid();
         reach(address, access, mode, &mut self.tlb, asid)
