@@ -12,14 +12,14 @@ start:  lui   $t0, 0x41
         nop
         tlbwi
         lui   $t5, 0x41             # the page that may be written
-again:  addiu $s0, $s0, 1
-        sw    $s0, 0($t5)
+again:  addiu $a0, $a0, 1
+        sw    $a0, 0($t5)
         lw    $v0, 0($t0)
         sw    $zero, 0($t0)         # refused
         lw    $v1, 0($t0)
-        bne   $v0, $s0, wrong
+        bne   $v0, $a0, wrong
         nop
-        beq   $v1, $s0, again
+        beq   $v1, $a0, again
         nop
 wrong:  j     again
         addiu $s1, $s1, 1

@@ -1,9 +1,9 @@
 # The program writes over one of its own words between two executions of it.
 start:  lui   $t0, 0x40             # this page
         lui   $t1, 0x2402           # addiu $v0, $zero, 0
-        addiu $s0, $zero, 0
-again:  andi  $t2, $s0, 0x7fff
-        or    $t3, $t1, $t2         # addiu $v0, $zero, s0
+        addiu $a0, $zero, 0
+again:  andi  $t2, $a0, 0x7fff
+        or    $t3, $t1, $t2         # addiu $v0, $zero, a0
         sw    $t3, 28($t0)
         nop
 patch:  addiu $v0, $zero, 7         # at 0040001C
@@ -11,4 +11,4 @@ patch:  addiu $v0, $zero, 7         # at 0040001C
         nop
         addiu $s1, $s1, 1
 right:  j     again
-        addiu $s0, $s0, 1
+        addiu $a0, $a0, 1

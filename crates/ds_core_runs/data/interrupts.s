@@ -3,7 +3,7 @@
 start:  ori   $t0, $zero, 0x101     # Status: interrupts on, the first request of software let through
         mtc0  $t0, $12
         ori   $t1, $zero, 0x100     # Cause: the request
-again:  addiu $s0, $s0, 1
+again:  addiu $a0, $a0, 1
         mtc0  $t1, $13
         mfc0  $v0, $13              # behind the service: no request is there
         j     on

@@ -8,12 +8,12 @@ start:  lui   $t0, 0x41             # the page
         mtc0  $t1, $10
         mtc0  $t4, $0
 again:  mtc0  $t2, $2
-        addiu $s0, $s0, 1
+        addiu $a0, $a0, 1
         tlbwi
-        sw    $s0, 0($t0)           # in frame 2
+        sw    $a0, 0($t0)           # in frame 2
         lw    $v0, 0($t0)
         mtc0  $t3, $2
-        bne   $v0, $s0, wrong
+        bne   $v0, $a0, wrong
         nop
         tlbwi
         sw    $zero, 0($t0)         # in frame 3
@@ -24,7 +24,7 @@ again:  mtc0  $t2, $2
         tlbwi
         lw    $v0, 0($t0)           # in frame 2 again
         nop
-        beq   $v0, $s0, again
+        beq   $v0, $a0, again
         nop
 wrong:  j     again
         addiu $s1, $s1, 1

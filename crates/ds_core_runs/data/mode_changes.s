@@ -7,17 +7,17 @@ start:  lui   $t0, 0x41             # the page
         lui   $t3, 0x1000
         ori   $t2, $t2, 0
         or    $t2, $t2, $t3         # and coprocessor 0 may be used
-again:  addiu $s0, $s0, 1
-        sw    $s0, 0($t0)
+again:  addiu $a0, $a0, 1
+        sw    $a0, 0($t0)
         lw    $v0, 0($t1)
         mtc0  $t2, $12              # to user mode
-        bne   $v0, $s0, wrong
+        bne   $v0, $a0, wrong
         addiu $v1, $zero, 7
         lw    $v1, 0($t1)           # refused
         nop
         lw    $v0, 0($t0)
         mtc0  $zero, $12            # to kernel mode
-        bne   $v0, $s0, wrong
+        bne   $v0, $a0, wrong
         addiu $v0, $zero, 7
         beq   $v1, $v0, again
         nop
