@@ -14,6 +14,7 @@ pub record Hardware : Type 0 where
   pub core : CoreState
   pub bus : BusState
 
+-- those of a program's values, by the entries and the Random of the translation buffer
 abbrev pub hardware_of : {L : Type 0} → (L → List Entry) → (L → ℕ) → Core L → BusState → Hardware
 hardware_of entries random c b = record { core = state_of entries random c; bus = b }
 
@@ -44,13 +45,14 @@ pub record Advances (n : ℕ) (old new : Hardware) : Type 0 where
 -- so many such steps, and behind them the one that enters the exception, if there is one
 abbrev pub AdvancesTo : ℕ → Option ExceptionCode → Hardware → Hardware → Type 0
 AdvancesTo n None old new = Advances n old new
-AdvancesTo n (Some code) old new = (h : Hardware) × Advances n old h × ((record { event = Raised code; core = new.core; bus = new.bus }) ≡ step_of h)
+AdvancesTo n (Some code) old new = (h : Hardware) × Advances n old h
+    × ((record { event = Raised code; core = new.core; bus = new.bus }) ≡ step_of h)
 
 -- the tick that a branch leaves to its slot
 abbrev pub owed_tick : Bool → ℕ
 owed_tick slot = if slot then 1 else 0
 
--- the ticks behind a step, by where it began: one for an instruction that is done, and one for the branch whose slot it stands in
+-- the ticks behind a step: one for an instruction that is done, and one for the branch if that began in its slot
 abbrev pub ticks_behind : Event → Bool → ℕ
 ticks_behind Retired slot = 1 + owed_tick slot
 ticks_behind Branched slot = 0
@@ -59,4 +61,5 @@ ticks_behind (Raised code) slot = 0
 -- the ticks of so many steps
 abbrev pub ticks : ℕ → Hardware → ℕ
 ticks zero h = 0
-ticks (suc n) h = ticks n h + ticks_behind (step_of (after_steps n h)).event (after_steps n h).core.slot
+ticks (suc n) h =
+    ticks n h + ticks_behind (step_of (after_steps n h)).event (after_steps n h).core.slot

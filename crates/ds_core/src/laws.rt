@@ -8,24 +8,30 @@ ghost use Rattle.ds_core.specs.Ahead.{Hardware, Advances, is_raised, ticks, owed
 
 /// Two stretches of calm steps are one.
 pub fn stretches_join()
-    ensures { (a b : ℕ) (x y z : Hardware) → Advances a x y → Advances b y z → Advances (a + b) x z }
+    ensures { (a b : ℕ) (x y z : Hardware)
+        → Advances a x y → Advances b y z → Advances (a + b) x z }
 {}
 
 /// So many calm steps take so many ticks: one more if they begin in a slot, one less if they end in
 /// front of one.
 #[tactic(auto, using(crate::proofs::Slots::ticks_of_advance))]
 pub fn a_step_is_a_tick()
-    ensures { (n : ℕ) (old new : Hardware) → Advances n old new → ticks n old + owed_tick new.core.slot ≡ n + owed_tick old.core.slot }
+    ensures { (n : ℕ) (old new : Hardware) → Advances n old new
+        → ticks n old + owed_tick new.core.slot ≡ n + owed_tick old.core.slot }
 {}
 
 /// Where coprocessor 0 may not be used, as by a user, a calm step leaves its registers alone.
 #[tactic(auto, using(crate::proofs::Users::keeps_system))]
 pub fn a_user_keeps_the_coprocessor()
-    ensures { (c : CoreState) (b : BusState) → is_usable c 0 ≡ false → is_raised (step c b).event ≡ false → (step c b).core.system ≡ c.system }
+    ensures { (c : CoreState) (b : BusState)
+        → is_usable c 0 ≡ false → is_raised (step c b).event ≡ false
+        → (step c b).core.system ≡ c.system }
 {}
 
 /// The same for the entries of the translation buffer.
 #[tactic(auto, using(crate::proofs::Users::keeps_entries))]
 pub fn a_user_keeps_the_entries()
-    ensures { (c : CoreState) (b : BusState) → is_usable c 0 ≡ false → is_raised (step c b).event ≡ false → (step c b).core.entries ≡ c.entries }
+    ensures { (c : CoreState) (b : BusState)
+        → is_usable c 0 ≡ false → is_raised (step c b).event ≡ false
+        → (step c b).core.entries ≡ c.entries }
 {}

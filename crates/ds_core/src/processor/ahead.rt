@@ -45,8 +45,12 @@ impl<L: Lookaside> Core<L> {
         requires wired { L.WIRED ≡ 8 }
         ensures all { IsNone result.raised → result.steps ≡ limit }
         ensures fewer { IfSome result.raised (λ _. result.steps < limit) }
-        ensures steps { AdvancesTo result.steps result.raised (hardware_of L.entries L.random_place self.old bus.old) (hardware_of L.entries L.random_place self.new bus.new) }
-        ensures ticks { IsNone result.raised → ticks result.steps (hardware_of L.entries L.random_place self.old bus.old) + owed_tick self.new.slot ≡ result.steps + owed_tick self.old.slot }
+        ensures steps { AdvancesTo result.steps result.raised
+            (hardware_of L.entries L.random_place self.old bus.old)
+            (hardware_of L.entries L.random_place self.new bus.new) }
+        ensures ticks { IsNone result.raised
+            → ticks result.steps (hardware_of L.entries L.random_place self.old bus.old)
+            + owed_tick self.new.slot ≡ result.steps + owed_tick self.old.slot }
     {
         let mut steps = 0;
         while steps < limit {
