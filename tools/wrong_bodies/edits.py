@@ -72,9 +72,9 @@ class Edit:
         both = [(self.functions[it], other.functions[it]) for it in self.functions.keys() & other.functions.keys()]
         return overlaps or any(not mine or not others or mine & others for mine, others in both)
 
-    def owns(self, goal):
-        """Returns whether a goal of the edit's function is of an arm that it changes."""
-        return any(re.search(rf"(?:\A|-){re.escape(it)}(?!\w)", goal) for it in self.functions[self.function])
+    def owns(self, goal, function):
+        """Returns whether a goal of a function is of an arm that the edit changes."""
+        return any(re.search(rf"(?:\A|-){re.escape(it)}(?!\w)", goal) for it in self.functions.get(function, ()))
 
     def refuse(self, kind, why):
         self.verdict, self.kind, self.why = "refused", kind, why

@@ -103,8 +103,8 @@ def judge(prover, edit, said, written):
     beside = [it for it in written if it is not edit and it.shares(edit)]
     goals = said.goals.get(edit.function, [])
     if beside:
-        is_told = all(any(it.function == edit.function and it.owns(goal) for it in (edit, *beside)) for goal in goals)
-        goals = [it for it in goals if edit.owns(it) and (is_told or not edit.names_arms)]
+        is_told = all(any(it.owns(goal, edit.function) for it in (edit, *beside)) for goal in goals)
+        goals = [it for it in goals if edit.owns(it, edit.function) and (is_told or not edit.names_arms)]
     if goals:
         goal, kind = strongest(goals, prover.crate.sources.is_public(edit.function))
         edit.refuse(kind, f"{edit.function}: {goal or 'a step of its proof'}")
