@@ -100,7 +100,7 @@ def try_in_batches(prover, edits):
 def judge(prover, edit, said, written):
     """Refuses an edit where a goal of its own is not proved: of the function, or beside edits of other arms, of its arm. A goal of no edit's
     arm says that an edit changes more than the arms that it names, so none that names arms is refused then."""
-    beside = [it for it in written if it is not edit and it.shares(edit)]
+    beside = [it for it in written if it is not edit and edit.function in it.functions]
     goals = said.goals.get(edit.function, [])
     if beside:
         is_told = all(any(it.owns(goal, edit.function) for it in (edit, *beside)) for goal in goals)
