@@ -5,6 +5,3 @@
 mod map;
 
 pub use map::{Access, Fault, Mode, Physical, reach, recalled, translate};
-
-#[cfg(test)]
-mod tests;

@@ -8,6 +8,3 @@ mod processor;
 
 pub use event::Event;
 pub use processor::{Ahead, Core};
-
-#[cfg(test)]
-mod tests;

@@ -10,6 +10,3 @@ mod words;
 pub use cp0::Cp0;
 pub use exception::{Exception, ExceptionCode};
 pub use words::{GENERAL_VECTOR, REFILL_VECTOR};
-
-#[cfg(test)]
-mod tests;

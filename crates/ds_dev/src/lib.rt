@@ -12,6 +12,3 @@ mod system;
 
 pub use bus::Bus;
 pub use fault::BusError;
-
-#[cfg(test)]
-mod tests;

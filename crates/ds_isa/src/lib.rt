@@ -13,6 +13,3 @@ pub use decoding::{decode, no_two_rows, round_trip};
 pub use encoding::encode;
 pub use instr::{Instr, Late, Size};
 pub use uses::{Sources, is_branch, links, reads, writes};
-
-#[cfg(test)]
-mod tests;

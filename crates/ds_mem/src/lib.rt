@@ -7,6 +7,3 @@ mod memory;
 
 pub use fault::OutOfMemory;
 pub use memory::{FRAME_SIZE, FRAMES, Memory, SIZE};
-
-#[cfg(test)]
-mod tests;

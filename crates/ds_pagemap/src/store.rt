@@ -21,33 +21,3 @@ pub fn store_word_where_allowed(page: &mut [u8], verdict: Verdict, word: u32) ->
         Verdict::Denied { .. } => false,
     }
 }
-
-#[cfg(test)]
-mod tests {
-    use super::*;
-    use ds_policy::Rule;
-
-    #[test]
-    fn an_allowed_store_changes_the_aligned_word(rt: HostRuntime) {
-        let mut page = [7u8; 4096];
-        let verdict = Verdict::Allowed {
-            page: 3,
-            offset: 4094,
-        };
-        assert!(rt; store_word_where_allowed(&mut page, verdict, 0x1122_3344));
-        assert_eq!(rt; page[4091], 7);
-        assert_eq!(rt; page[4092], 0x44);
-        assert_eq!(rt; page[4095], 0x11);
-    }
-
-    #[test]
-    fn a_denied_store_changes_nothing(rt: HostRuntime) {
-        let mut page = [7u8; 4096];
-        let verdict = Verdict::Denied {
-            rule: Rule::Number(2),
-            code: 1,
-        };
-        assert!(rt; !store_word_where_allowed(&mut page, verdict, 0));
-        assert!(rt; page == [7u8; 4096]);
-    }
-}

@@ -11,18 +11,3 @@ pub fn touch_registers(registers: &mut [u32; 32], pc: u32)
     registers[26] = 0;
     registers[27] = pc;
 }
-
-#[cfg(test)]
-mod tests {
-    use super::*;
-
-    #[test]
-    fn a_touch_changes_registers_26_and_27(rt: HostRuntime) {
-        let mut registers = [9u32; 32];
-        touch_registers(&mut registers, 0x0040_0010);
-        assert_eq!(rt; registers[25], 9);
-        assert_eq!(rt; registers[26], 0);
-        assert_eq!(rt; registers[27], 0x0040_0010);
-        assert_eq!(rt; registers[28], 9);
-    }
-}

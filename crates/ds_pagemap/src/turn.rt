@@ -21,20 +21,3 @@ impl Turn {
         rate != 0 && self.began / period < now / period
     }
 }
-
-#[cfg(test)]
-mod tests {
-    use super::*;
-
-    #[test]
-    fn rate_3_has_a_period_of_32_ticks(rt: HostRuntime) {
-        let turn = Turn {
-            began: 31,
-            runner: Some(1),
-        };
-        assert!(rt; turn.ends_a_period(3, 32));
-        assert!(rt; turn.ends_a_period(3, 33));
-        assert!(rt; !turn.ends_a_period(4, 33));
-        assert!(rt; !turn.ends_a_period(0, 32));
-    }
-}

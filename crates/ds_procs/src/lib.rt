@@ -4,8 +4,6 @@
 mod call;
 mod process;
 mod queue;
-#[cfg(test)]
-mod tests;
 
 pub use call::Call;
 pub use process::{Process, Standing};

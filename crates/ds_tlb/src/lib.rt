@@ -14,6 +14,3 @@ pub use indexed::Indexed;
 pub use lookaside::{BadRandom, Lookaside};
 pub use purpose::Purpose;
 pub use tlb::Tlb;
-
-#[cfg(test)]
-mod tests;

@@ -18,6 +18,3 @@ pub use field::{code, funct, imm, op, rd, rs, rt, shamt, target};
 pub use merge::{merge_left, merge_right, store_byte, store_half, store_left, store_right};
 pub use part::{byte_signed, byte_unsigned, half_signed, half_unsigned};
 pub use product::{div_signed, div_unsigned, mul_signed, mul_unsigned};
-
-#[cfg(test)]
-mod tests;

@@ -1,6 +1,7 @@
+//! The address map, through both buffers.
 ghost use Rattle.std.specs.Prelude.{◌≡◌};
 
-use crate::{Access, Fault, Mode, Physical, translate};
+use ds_amap::{Access, Fault, Mode, Physical, translate};
 use ds_tlb::{BadRandom, Entry, Indexed, Lookaside, Tlb};
 
 /// Page 00400 of address space 1 in frame 00007, read only.

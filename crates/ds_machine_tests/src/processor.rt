@@ -1,12 +1,96 @@
-//! The kernel's instructions, interrupts and Random.
+//! The processor as a program sees it: a refill, interrupts, and what `mtc0` changes.
 ghost use Rattle.std.specs.Prelude.{◌≡◌};
 
-use super::{KERNEL, PLACE, PROGRAM, new_bus, new_core, page, put_words};
-use crate::{Core, Event};
-use ds_cp0::{Exception, ExceptionCode, GENERAL_VECTOR, REFILL_VECTOR, register};
+use ds_core::{Core, Event};
+use ds_cp0::{Cp0, ExceptionCode, register};
 use ds_dev::Bus;
-use ds_tlb::{BadRandom, Indexed, Lookaside, Tlb};
+use ds_mem::{Memory, OutOfMemory};
+use ds_tlb::{BadRandom, Entry, Indexed, Lookaside, Tlb};
+use std::alloc::Global;
 use std::test::Fail;
+
+/// Where a user's program stands, and the kernel's, in the same frame.
+const PROGRAM: u32 = 0x40_0000;
+
+const KERNEL: u32 = 0x8000_1000;
+
+/// The physical address of both.
+const PLACE: u32 = 0x1000;
+
+/// A page of address space 1, in the frame.
+fn page(vpn: u32, pfn: u32, d: bool, v: bool) -> Entry {
+    Entry {
+        vpn,
+        asid: 1,
+        pfn,
+        n: false,
+        d,
+        v,
+        g: false,
+    }
+}
+
+/// A buffer with the program's page, and behind it a page that is not valid, a clean one, one
+/// where nothing is, and the serial lines; page 00406 in address space 2.
+fn new_tlb<L: Lookaside>() -> Result<L, BadRandom>
+    requires slots { L.SLOTS ≡ 64 }
+    requires wired { L.WIRED ≡ 8 }
+{
+    let mut tlb = L::new(63)?;
+    tlb.write(8, page(0x400, 1, true, true));
+    tlb.write(9, page(0x401, 1, true, false));
+    tlb.write(10, page(0x402, 1, false, true));
+    tlb.write(11, page(0x403, 0x800, true, true));
+    tlb.write(12, page(0x404, 0x1fe00, true, true));
+    tlb.write(
+        13,
+        Entry {
+            asid: 2,
+            ..page(0x406, 1, true, true)
+        },
+    );
+    Ok(tlb)
+}
+
+/// A processor in address space 1 whose registers hold 7 but register 0, and register 8 what is
+/// asked for.
+fn new_core<L: Lookaside>(status: u32, pc: u32, eighth: u32) -> Result<Core<L>, BadRandom>
+    requires slots { L.SLOTS ≡ 64 }
+    requires wired { L.WIRED ≡ 8 }
+{
+    let mut registers = [7; 32];
+    registers[0] = 0;
+    registers[8] = eighth;
+    let mut cp0 = Cp0::new();
+    cp0.write(register::STATUS, status);
+    cp0.write(register::ENTRY_HI, 0x40);
+    Ok(Core {
+        registers,
+        hi: 0,
+        lo: 0,
+        late: None,
+        pc,
+        next: pc.wrapping_add(4),
+        slot: false,
+        cp0,
+        tlb: new_tlb()?,
+    })
+}
+
+/// A bus with nothing in memory.
+fn new_bus(alloc: Global) -> Result<Bus, OutOfMemory> {
+    Ok(Bus::new(Memory::new(alloc)?))
+}
+
+/// Puts words one behind the other from an aligned place on.
+fn put_words(bus: &mut Bus, place: u32, words: &[u32]) {
+    for (k, word) in words.iter().enumerate() {
+        let to = place as usize / 4 + k;
+        if to < 0x20_0000 {
+            bus.memory().put_word(4 * to as u32, *word);
+        }
+    }
+}
 
 /// The refill handler, at 80000000.
 const HANDLER: [u32; 9] = [
@@ -103,90 +187,5 @@ fn mtc0_counts_at_the_next_instruction(rt: HostRuntime) -> Result<(), Fail> {
     let want = (Event::Retired, Event::Raised(ExceptionCode::Interrupt));
     assert_eq!(rt; turned_on::<Tlb<64, 8>>(&mut bus)?, want);
     assert_eq!(rt; turned_on::<Indexed<64, 8>>(&mut bus)?, want);
-    Ok(())
-}
-
-/// The kernel's words, with what is written to Index, EntryHi and EntryLo before them, and what
-/// Index, EntryHi, EntryLo and register 9 read then.
-type Row = (&'static str, &'static [u32], [u32; 3], [u32; 4]);
-
-const ROWS: &[Row] = &[
-    (
-        "tlbp finds a page",
-        &[0x4200_0008],
-        [0, 0x40_3040, 0],
-        [0xb00, 0x40_3040, 0, 7],
-    ),
-    (
-        "tlbp answers the lowest match",
-        &[0x4200_0002, 0x4200_0008],
-        [0x900, 0x40_3040, 0],
-        [0x900, 0x40_3040, 0, 7],
-    ),
-    (
-        "tlbp misses",
-        &[0x4200_0008],
-        [0, 0x40_3080, 0],
-        [0x8000_0000, 0x40_3080, 0, 7],
-    ),
-    (
-        "tlbr reads an entry",
-        &[0x4200_0001],
-        [0xb00, 0, 0],
-        [0xb00, 0x40_3040, 0x80_0600, 7],
-    ),
-    (
-        "tlbr reads what tlbwi wrote",
-        &[0x4200_0002, 0x4200_0001],
-        [0x3f00, 0x1234_5fc0, 0xabcd_ef00],
-        [0x3f00, 0x1234_5fc0, 0xabcd_ef00, 7],
-    ),
-    (
-        "tlbwr writes at Random",
-        &[0x4200_0006, 0x4200_0008],
-        [0, 0x1234_5fc0, 0xabcd_ef00],
-        [0x3f00, 0x1234_5fc0, 0xabcd_ef00, 7],
-    ),
-    (
-        "mfc0 reads Random before it counts",
-        &[0, 0x4009_0800],
-        [0, 0, 0],
-        [0, 0, 0, 0x3e00],
-    ),
-];
-
-/// Runs a row's words.
-fn row_of<L: Lookaside>(bus: &mut Bus, row: &Row) -> Result<[u32; 4], BadRandom>
-    requires slots { L.SLOTS ≡ 64 }
-    requires wired { L.WIRED ≡ 8 }
-{
-    put_words(bus, PLACE, row.1);
-    let mut core: Core<L> = new_core(0, KERNEL, 0)?;
-    core.cp0.write(register::INDEX, row.2[0]);
-    core.cp0.write(register::ENTRY_HI, row.2[1]);
-    core.cp0.write(register::ENTRY_LO, row.2[2]);
-    for _ in row.1 {
-        core.step(bus);
-    }
-    Ok([
-        core.cp0.read(register::INDEX),
-        core.cp0.read(register::ENTRY_HI),
-        core.cp0.read(register::ENTRY_LO),
-        core.registers[9],
-    ])
-}
-
-#[test]
-fn the_kernel_reads_and_writes_entries(rt: HostRuntime) -> Result<(), Fail> {
-    let mut bus = new_bus(rt.alloc())?;
-    for row in ROWS {
-        assert_eq!(rt; row_of::<Tlb<64, 8>>(&mut bus, row)?, row.3, "{}", row.0);
-        assert_eq!(rt;
-            row_of::<Indexed<64, 8>>(&mut bus, row)?,
-            row.3,
-            "{}",
-            row.0
-        );
-    }
     Ok(())
 }

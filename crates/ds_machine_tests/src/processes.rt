@@ -1,6 +1,6 @@
 //! Calls and processes of the station's worked examples.
 
-use crate::{Call, Process, Queue, Standing};
+use ds_procs::{Call, Process, Queue, Standing};
 
 // A process at 0x00400000 that asks by these registers 2 and 4.
 fn asks(number: u32, argument: u32) -> Process {

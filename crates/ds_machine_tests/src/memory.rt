@@ -1,4 +1,6 @@
-use crate::*;
+//! Memory by words and by frames.
+
+use ds_mem::{Memory, OutOfMemory};
 use std::test::Fail;
 
 /// Whether all bytes of a frame are this one.

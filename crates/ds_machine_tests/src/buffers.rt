@@ -1,7 +1,7 @@
 //! Both buffers at three sizes, through the trait.
 ghost use Rattle.std.specs.Prelude.{◌≡◌, ◌<◌, ◌≤◌};
 
-use super::*;
+use ds_tlb::{BadRandom, Entry, Indexed, Lookaside, Tlb};
 use std::test::Fail;
 
 /// Pages that collide: the first two are in one bucket, as are the third and the page that slot 3

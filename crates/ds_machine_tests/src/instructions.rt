@@ -1,25 +1,7 @@
-//! Words and their instructions, both ways.
+//! Words and their instructions, both ways: many words that look like chance, and operands too large
+//! for their fields.
 
-mod registers;
-mod reserved;
-mod words;
-
-use crate::{Instr, decode, encode, round_trip};
-use std::process::Abort;
-use words::WORDS;
-
-/// Each word's instruction is the one behind it, and the other way round.
-fn are_words(rt: &impl Abort, words: &[(u32, Instr)]) {
-    for (word, want) in words {
-        assert_eq!(rt; decode(*word), *want, "of {word}");
-        assert_eq!(rt; encode(want), *word);
-    }
-}
-
-#[test]
-fn an_assembled_word_is_its_instruction(rt: HostRuntime) {
-    are_words(&rt, WORDS);
-}
+use ds_isa::{Instr, decode, encode, round_trip};
 
 /// A number whose bits look like chance, from the one before it.
 fn next_word(word: u32) -> u32 {

@@ -1,0 +1,103 @@
+//! Steps on the bus.
+ghost use Rattle.std.specs.Prelude.{◌≡◌};
+ghost use Rattle.ds_dev.specs.Bus.{alignment};
+
+use ds_dev::Bus;
+use ds_isa::Size;
+use std::alloc::{AllocError, Global};
+
+/// What the bus answers to a step; none where there is no step of that name with such operands.
+pub fn answer(
+    alloc: Global,
+    bus: &mut Bus,
+    step: &str,
+    operands: &[u32],
+) -> Result<Option<String>, AllocError> {
+    match (step, operands) {
+        ("sent", []) => sent(alloc, bus).map(Some),
+        ("lines", []) => lines(alloc, bus).map(Some),
+        ("receive", [line @ 0..=3, byte @ 0..=255]) => {
+            let taken = bus.receive(*line as u8, *byte as u8);
+            said(alloc, if taken { "taken" } else { "lost" })
+        }
+        ("tick", [ticks @ 1..=2, times]) => {
+            for _ in 0..*times {
+                bus.tick(*ticks);
+            }
+            said(alloc, "done")
+        }
+        _ => match size_of(step) {
+            Some(size) => access(alloc, bus, size, operands),
+            None => Ok(None),
+        },
+    }
+}
+
+/// An answer of one word.
+fn said(alloc: Global, word: &str) -> Result<Option<String>, AllocError> {
+    Ok(Some(String::from_str(alloc, word)?))
+}
+
+/// How much a step loads or stores.
+fn size_of(step: &str) -> Option<Size> {
+    match step {
+        "byte" => Some(Size::Byte),
+        "half" => Some(Size::Half),
+        "word" => Some(Size::Word),
+        "part" => Some(Size::Part),
+        _ => None,
+    }
+}
+
+/// Whether an address is aligned for a size.
+fn is_aligned(address: u32, size: Size) -> bool
+    ensures { result ≡ true → address % alignment size ≡ 0 }
+{
+    match size {
+        Size::Word => address % 4 == 0,
+        Size::Half => address % 2 == 0,
+        Size::Byte | Size::Part => true,
+    }
+}
+
+/// Loads from an address, or stores the value behind it there.
+fn access(
+    alloc: Global,
+    bus: &mut Bus,
+    size: Size,
+    operands: &[u32],
+) -> Result<Option<String>, AllocError> {
+    match operands {
+        [address] if is_aligned(*address, size) => match bus.load(*address, size) {
+            Ok(value) => Ok(Some(format!(in alloc; "{value:08x}")?)),
+            Err(_) => said(alloc, "refused"),
+        },
+        [address, value] if is_aligned(*address, size) => {
+            match bus.store(*address, size, *value) {
+                Ok(()) => said(alloc, "stored"),
+                Err(_) => said(alloc, "refused"),
+            }
+        }
+        _ => Ok(None),
+    }
+}
+
+/// The character that waits to leave: its line and its byte.
+fn sent(alloc: Global, bus: &mut Bus) -> Result<String, AllocError> {
+    match bus.sent() {
+        Some((line, byte)) => format!(in alloc; "{line} {byte:02x}"),
+        None => format!(in alloc; "nothing"),
+    }
+}
+
+/// The requests to the processor, of the system register and of the clock.
+fn lines(alloc: Global, bus: &Bus) -> Result<String, AllocError> {
+    let (system, clock) = bus.lines();
+    let text = match (system, clock) {
+        (false, false) => "none",
+        (true, false) => "system",
+        (false, true) => "clock",
+        (true, true) => "both",
+    };
+    String::from_str(alloc, text)
+}

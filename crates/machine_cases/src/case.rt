@@ -1,0 +1,58 @@
+//! The lines of a file of cases.
+
+use std::alloc::{AllocError, Global};
+
+/// A case: what it is run on, and what has to come out.
+#[derive(Clone, Copy, Debug, PartialEq, Eq)]
+pub struct Case<'a> {
+    /// A step's name, where the file has steps, and numbers in hexadecimal digits.
+    pub given: &'a str,
+    /// The text that has to come out.
+    pub wanted: &'a str,
+}
+
+/// A line, without its comment, which begins with `#`.
+#[derive(Clone, Copy, Debug, PartialEq, Eq)]
+pub enum Line<'a> {
+    /// Nothing.
+    Blank,
+    /// A title, behind which the cases begin anew.
+    Title,
+    /// What is given, a bar, and what is wanted.
+    Case(Case<'a>),
+}
+
+impl<'a> Line<'a> {
+    /// Reads a line.
+    pub fn read(line: &'a str) -> Line<'a> {
+        let text = match line.split_once('#') {
+            Some((before, _)) => before.trim(),
+            None => line.trim(),
+        };
+        match text.split_once('|') {
+            Some((given, wanted)) => Line::Case(Case {
+                given: given.trim(),
+                wanted: wanted.trim(),
+            }),
+            None if text.is_empty() => Line::Blank,
+            None => Line::Title,
+        }
+    }
+}
+
+/// The numbers of a text with blanks between them, where all are numbers.
+pub fn numbers(alloc: Global, text: &str) -> Result<Option<Vec<u32>>, AllocError> {
+    let mut numbers = Vec::new(alloc);
+    for word in text.split_whitespace() {
+        match u32::from_str_radix(word, 16) {
+            Ok(number) => numbers.push(number)?,
+            Err(_) => return Ok(None),
+        }
+    }
+    Ok(Some(numbers))
+}
+
+/// The name of a step and what follows it.
+pub fn step_of(given: &str) -> (&str, &str) {
+    given.split_once(' ').unwrap_or((given, ""))
+}
