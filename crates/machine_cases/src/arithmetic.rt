@@ -41,8 +41,8 @@ fn of_one(name: &str, word: u32) -> Option<u32> {
         "imm" => Some(imm(word) as u32),
         "target" => Some(target(word)),
         "code" => Some(code(word)),
-        "sign16" => Some(sign16(word as u16)),
-        "upper" => Some(upper(word as u16)),
+        "sign16" if word <= 0xffff => Some(sign16(word as u16)),
+        "upper" if word <= 0xffff => Some(upper(word as u16)),
         "is_negative" => Some(is_negative(word) as u32),
         _ => None,
     }
@@ -53,9 +53,9 @@ fn of_two(name: &str, a: u32, b: u32) -> Option<u32> {
     match name {
         "wrapping_sum" => Some(wrapping_sum(a, b)),
         "wrapping_difference" => Some(wrapping_difference(a, b)),
-        "shift_left" => Some(shift_left(a, b as u8)),
-        "shift_right_logical" => Some(shift_right_logical(a, b as u8)),
-        "shift_right_arithmetic" => Some(shift_right_arithmetic(a, b as u8)),
+        "shift_left" if b <= 0xff => Some(shift_left(a, b as u8)),
+        "shift_right_logical" if b <= 0xff => Some(shift_right_logical(a, b as u8)),
+        "shift_right_arithmetic" if b <= 0xff => Some(shift_right_arithmetic(a, b as u8)),
         "signed_less" => Some(signed_less(a, b) as u32),
         "byte_unsigned" if b <= 3 => Some(byte_unsigned(a, b)),
         "byte_signed" if b <= 3 => Some(byte_signed(a, b)),
