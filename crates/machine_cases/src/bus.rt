@@ -1,5 +1,5 @@
 //! Steps on the bus.
-ghost use Rattle.std.specs.Prelude.{◌≡◌};
+ghost use Rattle.std.specs.Prelude.{◌≡◌, ◌%◌, true};
 ghost use Rattle.ds_dev.specs.Bus.{alignment};
 
 use ds_dev::Bus;
