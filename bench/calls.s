@@ -1,1 +1,0 @@
-../crates/ds_core_runs/data/calls.s
