@@ -51,7 +51,7 @@ frame_of-with_frame memory bytes f size within =
     ∙ take_at bytes (drop (f * 4096 + 4096) memory) 4096 size
 
 -- the parts of a list before what was replaced
-part_before : (xs rest : List ℕ) (s at n : ℕ) → s + n ≤ at → at ≤ length xs → take n (drop s (take at xs ++ rest)) ≡ take n (drop s xs)
+pub part_before : (xs rest : List ℕ) (s at n : ℕ) → s + n ≤ at → at ≤ length xs → take n (drop s (take at xs ++ rest)) ≡ take n (drop s xs)
 part_before xs rest s at n below within =
     let front : length (take at xs) ≡ at = length-take-le at xs within in
     let far : s + n ≤ length (take at xs) = omega arith in
@@ -60,7 +60,7 @@ part_before xs rest s at n below within =
     ∙ drop-take s n xs
 
 -- the parts of a list behind what was replaced
-part_behind : (xs front : List ℕ) (s end n : ℕ) → length front ≡ end → end ≤ s → take n (drop s (front ++ drop end xs)) ≡ take n (drop s xs)
+pub part_behind : (xs front : List ℕ) (s end n : ℕ) → length front ≡ end → end ≤ s → take n (drop s (front ++ drop end xs)) ≡ take n (drop s xs)
 part_behind xs front s end n size above =
     let e : end + (s - end) ≡ s = omega arith in
     ap (take n)
