@@ -1,6 +1,6 @@
 -- One word of memory replaced: it is read, the words of other places and the other frames are as before. And words of a frame that was replaced.
 use Rattle.std.proofs.Common.{◌≡◌, ◌≢◌, ◌⊎◌, inl, inr, ℕ, suc, ◌++◌, length-append, ◌+◌, ◌-◌, ◌*◌, ◌/◌, ◌%◌, ◌<◌, ◌≤◌, ◌^◌, length, List, [], ◌∷◌, take, drop, set, refl, sym, ap, ◌∙◌, append_assoc, arith, length-set}
-use Rattle.std.proofs.lemmas.List.{get_or-set_same, get_or-set_other, get_or-replicate, length-take-le, length-drop}
+use Rattle.std.proofs.lemmas.List.{get_or-set_same, get_or-set_other, get_or-replicate, length-take, length-take-le, length-drop}
 use Rattle.std.proofs.lemmas.List.Edits.{sets, sets-eq}
 use Rattle.std.proofs.Math.Dec.{lit<}
 use Rattle.std.specs.Prelude.{slice_index, replicate}
@@ -137,3 +137,13 @@ pub length-with_frame : (memory bytes : List ℕ) (f : ℕ) → length bytes ≡
 length-with_frame memory bytes f size within =
     ap length (overwritten-within memory bytes (f * 4096) 4096 (sym size) within)
     ∙ omega (arith, length-append (take (f * 4096) memory) (bytes ++ drop (f * 4096 + 4096) memory), length-append bytes (drop (f * 4096 + 4096) memory), length-take-le (f * 4096) memory (omega arith), length-drop (f * 4096 + 4096) memory)
+
+-- memory that is long once a word is put was long before
+pub long-with_word : (memory : List ℕ) (place n w : ℕ) → place - place % 4 + 4 < n → n ≤ length (with_word memory place w) → n ≤ length memory
+long-with_word memory place n w short long =
+    omega (arith, long, length-append (take (place - place % 4) memory) (bytes_of w ++ drop (place - place % 4 + 4) memory), length-append (bytes_of w) (drop (place - place % 4 + 4) memory), length-take (place - place % 4) memory, length-drop (place - place % 4 + 4) memory)
+
+-- and once a frame is replaced
+pub long-with_frame : (memory bytes : List ℕ) (f n : ℕ) → n ≤ length (with_frame memory f bytes) → n ≤ length memory
+long-with_frame memory bytes f n long =
+    omega (arith, long, length-take (length memory) (take (f * 4096) memory ++ (bytes ++ drop (f * 4096 + length bytes) memory)))

@@ -1,0 +1,89 @@
+-- What each word of the refill handler makes of the processor, and a whole refill.
+use Rattle.std.specs.Prelude.{◌≡◌, ℕ, zero, suc, ◌+◌, ◌*◌, ◌^◌, ◌<◌, Bool, true, false, List, [], ◌∷◌, slice_set, slice_index, Option, Some}
+use Rattle.ds_word.specs.Word.{word, bits}
+use Rattle.ds_isa.specs.declared.instr.Size.TheVariants.{Word}
+use Rattle.ds_isa.specs.declared.instr.Late.{Late}
+use Rattle.ds_isa.specs.Registers.{Registers, read, settled, written, loaded}
+use Rattle.ds_isa.specs.Meaning.{address_of}
+use Rattle.ds_cp0.specs.declared.exception.Exception.{Exception}
+use Rattle.ds_cp0.specs.declared.exception.ExceptionCode.TheVariants.{LoadMiss}
+use Rattle.ds_cp0.specs.System.{System, is_user, returned}
+use Rattle.ds_amap.specs.declared.map.Access.TheVariants.{Load}
+use Rattle.ds_dev.specs.Bus.{BusState}
+use Rattle.ds_tlb.specs.declared.entry.Entry.{Entry}
+use Rattle.ds_tlb.specs.Entries.{ticked}
+use Rattle.ds_core.specs.declared.event.Event.{Event}
+use Rattle.ds_core.specs.declared.event.Event.TheVariants.{Retired, Branched}
+use Rattle.ds_core.specs.Effect.{step}
+use Rattle.ds_core.specs.Core.{CoreState, Step, gone, branched, with_tick}
+use Rattle.ds_core.specs.Access.{reached, loaded_from}
+use Rattle.ds_core.specs.Coprocessor.{with_entry}
+
+-- kernel mode, interrupts off
+pub record IsKernel (s : System) : Type 0 where
+  pub mode : is_user s ≡ false
+  pub off : bits s.status 0 1 ≡ 0
+
+-- what each word makes of the processor
+abbrev pub context_read : CoreState → BusState → Step
+context_read c b = with_tick (gone c b (loaded c.registers 26 c.system.context))
+
+abbrev pub address_read : CoreState → BusState → Step
+address_read c b = with_tick (gone c b (loaded c.registers 27 c.system.epc))
+
+abbrev pub entry_loaded : CoreState → BusState → Step
+entry_loaded c b = let addr = address_of c.registers 26 0 in with_tick (loaded_from c b Word addr (λ w. loaded c.registers 26 w) (reached c Load Word addr))
+
+abbrev pub passed : CoreState → BusState → Step
+passed c b = with_tick (gone c b (settled c.registers))
+
+abbrev pub entry_moved : CoreState → BusState → Step
+entry_moved c b = with_tick (gone (record c { system = record c.system { entry_lo = bits (read c.registers 26) 8 24 * 2 ^ 8 } }) b (settled c.registers))
+
+abbrev pub cleared : CoreState → BusState → Step
+cleared c b = with_tick (gone c b (written c.registers 26 (word (read c.registers 0 + read c.registers 0))))
+
+abbrev pub entry_written : CoreState → BusState → Step
+entry_written c b = with_tick (with_entry c b c.random)
+
+abbrev pub jumped : CoreState → BusState → Step
+jumped c b = with_tick (branched c.slot c b (settled c.registers) (read c.registers 27))
+
+abbrev pub came_back : CoreState → BusState → Step
+came_back c b = with_tick (gone (record c { system = returned c.system }) b (settled c.registers))
+
+-- A whole refill.
+
+-- registers with 26 and 27 lent to the handler
+abbrev pub lent : Registers → ℕ → ℕ → Option Late → Registers
+lent r x y late = record r { general = slice_set (slice_set r.general 26 x) 27 y; late = late }
+
+-- a load of register n that is late
+abbrev pub late_of : ℕ → ℕ → Option Late
+late_of n old = Some (record { register = n; old = old })
+
+-- the miss of the page of a table, by the third word
+abbrev pub table_miss : ℕ → Exception
+table_miss x = record { code = LoadMiss; pc = 0x80000008; slot = false; unit = 0; addr = Some x; miss = true }
+
+-- the processor before the word at pc
+abbrev pub at_word : ℕ → ℕ → Bool → Registers → System → List Entry → ℕ → CoreState
+at_word pc next slot r s es random = record { registers = r; pc = pc; next = next; slot = slot; system = s; entries = es; random = random }
+
+-- Random so many steps later
+abbrev pub later : ℕ → ℕ → ℕ
+later zero random = random
+later (suc n) random = later n (ticked 64 8 random)
+
+-- the instruction is done, and the bus stays
+abbrev pub went : CoreState → BusState → Step
+went c b = record { event = Retired; core = c; bus = b }
+
+-- steps with these events lead from one processor to the other, and leave the bus as it is
+abbrev pub RunsBy : List Event → CoreState → BusState → CoreState → Type 0
+RunsBy [] c b t = t ≡ c
+RunsBy (e ∷ es) c b t = (s : CoreState) × (step c b ≡ record { event = e; core = s; bus = b }) × RunsBy es s b t
+
+-- what the nine words do: all are done, and the eighth is a jump
+abbrev pub handler_events : List Event
+handler_events = Retired ∷ Retired ∷ Retired ∷ Retired ∷ Retired ∷ Retired ∷ Retired ∷ Branched ∷ Retired ∷ []
