@@ -18,8 +18,8 @@ use Rattle.ds_amap.specs.declared.map.Fault.{Fault}
 use Rattle.ds_amap.specs.declared.map.Fault.TheVariants.{Address, Refill}
 use Rattle.ds_amap.specs.Map.{translate, at_physical}
 use Rattle.ds_dev.specs.Bus.{BusState, is_memory, answers, load}
-use Rattle.ds_core.specs.declared.event.Event.TheVariants.{Retired, Branched, Raised}
-use Rattle.ds_core.specs.Core.{CoreState, gone, with_tick}
+use Rattle.ds_core.specs.declared.event.Event.TheVariants.{Branched, Raised}
+use Rattle.ds_core.specs.Core.{gone, with_tick}
 use Rattle.ds_core.specs.Access.{mode_of, reached, load_answered, loaded_from}
 use Rattle.ds_core.specs.Coprocessor.{entry_of}
 use Rattle.ds_core.specs.Effect.{step}

@@ -20,7 +20,7 @@ use Rattle.ds_core.specs.Access.{reached, mode_of}
 use Rattle.ds_core.specs.Coprocessor.{usable, unusable}
 use Rattle.ds_core.specs.Effect.{step, instruction, fetched_from, fetch_answered, executed}
 use Rattle.ds_cp0.specs.declared.exception.ExceptionCode.TheVariants.{Interrupt}
-use Rattle.ds_refill.specs.Handler.{words, HasWords}
+use Rattle.ds_refill.specs.Handler.{HasWords}
 use Rattle.ds_refill_laws.specs.Refill.{IsKernel}
 use Rattle.ds_refill_laws.specs.Refill as refill
 

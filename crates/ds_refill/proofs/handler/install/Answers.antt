@@ -1,5 +1,4 @@
-use Rattle.std.proofs.Common.{◌∙◌, ◌≡◌, ◌≤◌, ℕ, length, arith}
-use Rattle.ds_refill.specs.Handler.{words, with_words}
+use Rattle.std.proofs.Common.{◌∙◌, ◌≡◌, arith}
 use Rattle.ds_refill.proofs.Words.{all_put, installed, other_frames}
 use Rattle.ds_refill.proofs.handler.install.Goals as goal
 

@@ -1,4 +1,4 @@
-use Rattle.std.proofs.Common.{◌≡◌, ◌≤◌, ◌<◌, ℕ, take, length}
+use Rattle.std.proofs.Common.{◌≡◌, ◌≤◌, ◌<◌, take, length}
 use Rattle.ds_refill.specs.Handler.{words, with_words}
 use Rattle.ds_refill.proofs.handler.install.Given as goal
 
