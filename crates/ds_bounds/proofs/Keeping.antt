@@ -1,5 +1,5 @@
 -- What was written stays while fewer than 56 steps of Random pass.
-use Rattle.std.proofs.Common.{◌≡◌, ◌≢◌, ℕ, ◌+◌, ◌<◌, ◌≤◌, Bool, true, false, List, length, ap, ◌∙◌, arith, set, length-set, get_or, refl, subst, sym}
+use Rattle.std.proofs.Common.{◌≡◌, ◌≢◌, ℕ, ◌+◌, ◌<◌, ◌≤◌, Bool, true, List, length, ap, ◌∙◌, arith, set, length-set, get_or, refl, subst, sym}
 use Rattle.std.specs.Prelude.{slice_get, slice_set, Option, Some, None, IsSome, not}
 use Rattle.std.proofs.lemmas.Bool.Decides.{nat_tests}
 use Rattle.std.proofs.lemmas.Option.{slice_get-get_or, slice_get_within, get_or_from_slice_get}
