@@ -1,7 +1,7 @@
 -- Places of processes: who has one, whose frame it is, and how places change.
-use Rattle.std.proofs.Common.{◌≡◌, ◌≢◌, ℕ, zero, suc, ◌+◌, ◌-◌, ◌*◌, ◌/◌, ◌%◌, ◌^◌, ◌<◌, ◌≤◌, Bool, true, false, cond, List, [], ◌∷◌, length, set, map, get_or, replicate, refl, sym, ap, ap₂, subst, ◌∙◌, arith, inl, inr, length-set}
+use Rattle.std.proofs.Common.{◌≡◌, ◌≢◌, ℕ, zero, suc, ◌+◌, ◌-◌, ◌<◌, ◌≤◌, Bool, true, false, cond, List, [], ◌∷◌, length, set, map, get_or, replicate, refl, sym, ap, ap₂, ◌∙◌, arith, inl, inr, length-set}
 use Rattle.std.specs.List.{position_or_len}
-use Rattle.std.specs.Prelude.{Some, None, Option, slice_get, slice_set, slice_index_or, position, nat_lt, ◌==◌, not, All}
+use Rattle.std.specs.Prelude.{Some, None, Option, slice_set, slice_index_or, position, nat_lt, ◌==◌, not}
 use Rattle.std.proofs.lemmas.Bool.{cases_eq, cases_Bool}
 use Rattle.std.proofs.lemmas.Bool.Decides.{nat_tests}
 use Rattle.std.proofs.lemmas.List.{get_or-set_same, get_or-set_other, length-map, get_or_past, set_past, length-replicate, get_or-replicate}

@@ -1,0 +1,278 @@
+//! The nine words, and what a processor does with them.
+ghost use Rattle.std.specs.Prelude.{◌≡◌};
+
+use ds_asm::assemble;
+use ds_core::{Core, Event};
+use ds_cp0::{Cp0, Exception, ExceptionCode, register};
+use ds_dev::Bus;
+use ds_isa::Late;
+use ds_mem::{Memory, OutOfMemory};
+use ds_refill::{WORDS, install, phase};
+use ds_tables::{Tables, pte_address};
+use ds_tlb::{BadRandom, Entry, Indexed, Lookaside, Tlb};
+use std::alloc::Global;
+use std::test::Fail;
+
+/// The handler in assembly language.
+const TEXT: &str = "mfc0 $26,$4
+mfc0 $27,$14
+lw $26,0($26)
+nop
+mtc0 $26,$2
+addu $26,$0,$0
+tlbwr
+jr $27
+rfe
+";
+
+/// The address of the first word.
+const FIRST: u32 = 0x8000_0000;
+
+/// The program's address, and the one that missed.
+const PROGRAM: u32 = 0x40_0010;
+
+const MISSED: u32 = 0x41_0000;
+
+/// The page-table word of the page that missed: frame 402, to be written, valid.
+const WORD: u32 = 0x19_2600;
+
+#[test]
+fn the_words_are_those_of_the_text(rt: HostRuntime) -> Result<(), Fail> {
+    let image = assemble(rt.alloc(), TEXT.as_bytes())?;
+    assert_eq!(rt; image.len(), 36);
+    let mut memory = Memory::new(rt.alloc())?;
+    image.page(0, memory.frame_mut(0));
+    for k in 0..9 {
+        assert_eq!(rt; memory.word(4 * k as u32), WORDS[k], "word {k}");
+    }
+    Ok(())
+}
+
+#[test]
+fn the_words_are_installed_at_the_beginning_of_memory(rt: HostRuntime) -> Result<(), Fail> {
+    let mut memory = Memory::new(rt.alloc())?;
+    memory.put_word(36, 5);
+    memory.put_word(0x1000, 6);
+    install(&mut memory);
+    for k in 0..9 {
+        assert_eq!(rt; memory.word(4 * k as u32), WORDS[k], "word {k}");
+    }
+    assert_eq!(rt; memory.word(36), 5);
+    assert_eq!(rt; memory.word(0x1000), 6);
+    Ok(())
+}
+
+#[test]
+fn a_place_has_the_phase_of_its_word(rt: HostRuntime) {
+    assert_eq!(rt; phase(0x8000_0000), Some(0));
+    assert_eq!(rt; phase(0x8000_0018), Some(6));
+    assert_eq!(rt; phase(0x8000_0020), Some(8));
+    for pc in [
+        0x8000_0024,
+        0x8000_0080,
+        0x8000_0002,
+        0x7fff_fffc,
+        0,
+        0x18,
+        0xa000_0000,
+    ] {
+        assert_eq!(rt; phase(pc), None, "{pc:08X}");
+    }
+}
+
+/// A bus whose memory has the handler, and in process 1's table the word of the page that missed; and the
+/// frame of that table.
+fn new_bus(alloc: Global) -> Result<(Bus, u32), OutOfMemory> {
+    let mut memory = Memory::new(alloc)?;
+    install(&mut memory);
+    let mut tables = Tables::new(1);
+    let put = tables.put_entry(&mut memory, 1, MISSED, WORD).is_ok();
+    let frame = if put {
+        tables.page_of_table(1, MISSED >> 22) as u32
+    } else {
+        0
+    };
+    Ok((Bus::new(memory), frame))
+}
+
+/// Registers 26 and 27, what is late, and EntryLo, as the handler has left them before each of its
+/// words.
+fn lent(place: usize) -> (u32, u32, Option<Late>, u32) {
+    let context = pte_address(MISSED);
+    match place {
+        0 => (7, 7, None, 0),
+        1 => (
+            context,
+            7,
+            Some(Late {
+                register: 26,
+                old: 7,
+            }),
+            0,
+        ),
+        2 => (
+            context,
+            PROGRAM,
+            Some(Late {
+                register: 27,
+                old: 7,
+            }),
+            0,
+        ),
+        3 => (
+            WORD,
+            PROGRAM,
+            Some(Late {
+                register: 26,
+                old: context,
+            }),
+            0,
+        ),
+        4 => (WORD, PROGRAM, None, 0),
+        5 => (WORD, PROGRAM, None, WORD),
+        _ => (0, PROGRAM, None, WORD),
+    }
+}
+
+/// The entry of the page that missed.
+fn refilled() -> Entry {
+    Entry {
+        vpn: MISSED >> 12,
+        asid: 1,
+        pfn: WORD >> 12,
+        n: false,
+        d: true,
+        v: true,
+        g: false,
+    }
+}
+
+/// A buffer with the page of the table, and where the handler has written it the entry too.
+fn new_tlb<L: Lookaside>(table: u32, place: usize) -> Result<L, BadRandom>
+    requires slots { L.SLOTS ≡ 64 }
+    requires wired { L.WIRED ≡ 8 }
+{
+    let mut tlb = L::new(63)?;
+    let page = Entry {
+        vpn: pte_address(MISSED) >> 12,
+        pfn: table,
+        d: false,
+        ..refilled()
+    };
+    tlb.write(0, page);
+    if place > 6 {
+        tlb.write(63, refilled());
+    }
+    Ok(tlb)
+}
+
+/// A processor that has taken the miss and stands before the word at a place of the handler.
+fn new_core<L: Lookaside>(table: u32, place: usize) -> Result<Core<L>, BadRandom>
+    requires slots { L.SLOTS ≡ 64 }
+    requires wired { L.WIRED ≡ 8 }
+{
+    let (context, program, late, entry_lo) = lent(place);
+    let mut registers = [7; 32];
+    registers[0] = 0;
+    registers[26] = context;
+    registers[27] = program;
+    let mut cp0 = Cp0::new();
+    cp0.write(register::STATUS, 3);
+    cp0.write(register::CONTEXT, 0xc000_0000);
+    cp0.write(register::ENTRY_HI, 0x40);
+    cp0.enter(Exception {
+        code: ExceptionCode::LoadMiss,
+        pc: PROGRAM,
+        slot: false,
+        unit: 0,
+        addr: Some(MISSED),
+        miss: true,
+    });
+    cp0.write(register::ENTRY_LO, entry_lo);
+    let pc = FIRST.wrapping_add(4 * (place % 9) as u32);
+    let slot = place == 8;
+    Ok(Core {
+        registers,
+        hi: 0,
+        lo: 0,
+        late,
+        pc,
+        next: if slot { PROGRAM } else { pc.wrapping_add(4) },
+        slot,
+        cp0,
+        tlb: new_tlb(table, place)?,
+    })
+}
+
+/// Runs the handler from a place to its end: whether it has gone back to the program in user mode, with
+/// register 26 cleared and the entry in the buffer once, and all other registers as they were.
+fn goes_back<L: Lookaside>(bus: &mut Bus, table: u32, place: usize) -> Result<bool, BadRandom>
+    requires slots { L.SLOTS ≡ 64 }
+    requires wired { L.WIRED ≡ 8 }
+{
+    let mut core: Core<L> = new_core(table, place)?;
+    for _ in place..9 {
+        core.step(bus);
+    }
+    let mut registers = [7; 32];
+    registers[0] = 0;
+    registers[26] = 0;
+    registers[27] = PROGRAM;
+    let found = match core.tlb.find(MISSED >> 12, 1) {
+        Some(slot) => core.tlb.read(slot) == refilled(),
+        None => false,
+    };
+    Ok(
+        found
+            && core.registers == registers
+            && core.late.is_none()
+            && (core.pc, core.next, core.slot) == (PROGRAM, PROGRAM + 4, false)
+            && core.cp0.read(register::STATUS) == 3,
+    )
+}
+
+#[test]
+fn the_handler_refills_from_each_of_its_places(rt: HostRuntime) -> Result<(), Fail> {
+    let (mut bus, table) = new_bus(rt.alloc())?;
+    assert_eq!(rt; table, 2);
+    for place in 0..9 {
+        assert!(rt;
+            goes_back::<Tlb<64, 8>>(&mut bus, table, place)?,
+            "from place {place}"
+        );
+        assert!(rt;
+            goes_back::<Indexed<64, 8>>(&mut bus, table, place)?,
+            "from place {place}"
+        );
+    }
+    Ok(())
+}
+
+/// The handler where the buffer lacks the page of the table: what its third word does, where it goes on,
+/// BadVAddr, and register 27.
+fn missed<L: Lookaside>(bus: &mut Bus) -> Result<(Event, u32, u32, u32), BadRandom>
+    requires slots { L.SLOTS ≡ 64 }
+    requires wired { L.WIRED ≡ 8 }
+{
+    let mut core: Core<L> = new_core(2, 0)?;
+    core.tlb.write(0, Entry::empty(0));
+    core.step(bus);
+    core.step(bus);
+    let event = core.step(bus);
+    let bad = core.cp0.read(register::BAD_VADDR);
+    Ok((event, core.pc, bad, core.registers[27]))
+}
+
+#[test]
+fn a_page_of_a_table_may_be_missed(rt: HostRuntime) -> Result<(), Fail> {
+    let (mut bus, _) = new_bus(rt.alloc())?;
+    let want = (
+        Event::Raised(ExceptionCode::LoadMiss),
+        0x8000_0080,
+        0xc000_1040,
+        PROGRAM,
+    );
+    assert_eq!(rt; missed::<Tlb<64, 8>>(&mut bus)?, want);
+    assert_eq!(rt; missed::<Indexed<64, 8>>(&mut bus)?, want);
+    Ok(())
+}
