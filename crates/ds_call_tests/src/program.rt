@@ -1,5 +1,7 @@
 //! The program over files and streams in memory, where no row of a table can make them.
-use ds_drive::{FileFault, Files, MOST_BYTES, SystemFiles, drive, refuse_words};
+use ds_drive::{Failure, FileFault, Files, MOST_BYTES, SystemFiles, drive, refuse_words, tell};
+use ds_policy::Text;
+use ds_station::Fault;
 use std::alloc::{AllocError, Global};
 use std::io::Write;
 use std::process::Abort;
@@ -412,5 +414,23 @@ fn a_closed_error_stream_changes_no_status(rt: HostRuntime) -> Result<(), Fail> 
         &mut Closed,
     );
     assert_eq!(rt; status, 3);
+    Ok(())
+}
+
+#[test]
+fn a_fault_that_no_run_of_files_reaches_is_told_in_its_line(rt: HostRuntime) -> Result<(), Fail> {
+    for (fault, status, line) in [
+        (Fault::Stuck, 3, "dsmon: 21 Stuck\n"),
+        (Fault::Failed, 3, "dsmon: 22 Failed\n"),
+        (
+            Fault::NoSource(Text::of("one.s")),
+            2,
+            "dsmon: 24 NoSource one.s\n",
+        ),
+    ] {
+        let mut err: Vec<u8> = Vec::new(rt.alloc());
+        assert_eq!(rt; tell(&mut err, &Failure::Fault(fault)), status, "{line}");
+        assert_eq!(rt; err.as_slice(), line.as_bytes(), "{line}");
+    }
     Ok(())
 }

@@ -9,6 +9,7 @@ mod run;
 mod status;
 mod words;
 
+pub use failure::Failure;
 pub use files::{FileFault, Files, MOST_BYTES, SystemFiles};
-pub use program::{drive, refuse_words};
+pub use program::{drive, refuse_words, tell};
 pub use words::{Request, Wish, program_words, wish_of};

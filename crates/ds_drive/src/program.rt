@@ -74,7 +74,7 @@ pub fn refuse_words<E: Write>(err: &mut E, kind: ErrorKind) -> u8
 }
 
 /// Tells of a failure in one line, and answers the status.
-fn tell<'a, E: Write>(err: &mut E, failure: &Failure<'a>) -> u8
+pub fn tell<'a, E: Write>(err: &mut E, failure: &Failure<'a>) -> u8
     ensures { result ≡ fault_status (failure_number failure.now) }
 {
     let _ = write!(err, "dsmon: {failure}\n");
