@@ -1,7 +1,7 @@
 -- Worked rows, by computation.
 use Rattle.std.specs.Prelude.{◌≡◌, List, [], ◌∷◌, false, true, Result, Ok, Err, refl}
 use Rattle.ds_tlb.specs.declared.entry.Entry.{Entry}
-use Rattle.ds_amap.specs.declared.map.Access.TheVariants.{Fetch, Load, Store}
+use Rattle.ds_isa.specs.declared.instr.Kind.TheVariants.{Fetch, Load, Store}
 use Rattle.ds_amap.specs.declared.map.Mode.TheVariants.{User, Kernel}
 use Rattle.ds_amap.specs.declared.map.Physical.{Physical}
 use Rattle.ds_amap.specs.declared.map.Fault.{Fault}
@@ -12,6 +12,7 @@ use Rattle.ds_amap.specs.Map.{at_physical, translate}
 abbrev entries : List Entry
 entries = record { vpn = 0x400; asid = 1; pfn = 7; n = false; d = false; v = true; g = false } ∷ record { vpn = 0x401; asid = 1; pfn = 8; n = false; d = true; v = false; g = false } ∷ []
 
+-- where an access goes, or why it may not
 abbrev Answer : Type 0
 Answer = Result Physical Fault
 

@@ -4,4 +4,5 @@
 
 mod map;
 
-pub use map::{Access, Fault, Mode, Physical, reach, recalled, translate};
+pub use ds_isa::Kind as Access;
+pub use map::{Fault, Mode, Physical, reach, recalled, translate};

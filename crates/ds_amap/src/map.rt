@@ -1,21 +1,11 @@
 //! From an address to its place in physical memory.
 ghost use Rattle.std.specs.Prelude.{◌≡◌, ◌≢◌, ◌↔◌, ◌<◌, ◌/◌, ◌^◌, All, Ok, Err, IfSome, IsNone, IsTrue, not};
 ghost use Rattle.ds_tlb.specs.Entries.{find, matches};
-ghost use Rattle.ds_tlb.specs.Frames.{writes};
-ghost use Rattle.ds_amap.specs.Map.{is_store, is_modified, place, through, mapped, translate, IsMissing, NeedsRefill};
+ghost use Rattle.ds_amap.specs.Map.{is_modified, place, through, mapped, translate, IsMissing, NeedsRefill};
 
-use ds_tlb::{Entry, Lookaside, Purpose};
-
-/// What is done at an address.
-#[derive(Clone, Copy, Debug, PartialEq, Eq)]
-pub enum Access {
-    /// An instruction is fetched.
-    Fetch,
-    /// Bytes are read.
-    Load,
-    /// Bytes are written.
-    Store,
-}
+use crate::Access;
+use ds_tlb::{Entry, Lookaside};
+use ds_word::PAGE_SIZE;
 
 /// Who does it.
 #[derive(Clone, Copy, Debug, PartialEq, Eq)]
@@ -84,8 +74,8 @@ pub fn recalled<L: Lookaside>(addr: u32, access: Access, tlb: &L, asid: u8) -> O
     if addr >= KSEG0 {
         return None;
     }
-    match tlb.recalled(purpose_of(access), addr >> 12, asid) {
-        Some(base) => Some(Physical(base + addr % 4096)),
+    match tlb.recalled(access, addr >> 12, asid) {
+        Some(base) => Some(Physical(base + addr % PAGE_SIZE as u32)),
         None => None,
     }
 }
@@ -104,24 +94,12 @@ pub fn reach<L: Lookaside>(
     ensures random { L.random_place tlb.new ≡ L.random_place tlb.old }
 {
     if addr < KSEG0 {
-        match tlb.base(purpose_of(access), addr >> 12, asid) {
-            Some(base) => return Ok(Physical(base + addr % 4096)),
+        match tlb.base(access, addr >> 12, asid) {
+            Some(base) => return Ok(Physical(base + addr % PAGE_SIZE as u32)),
             None => {}
         }
     }
     translate(addr, access, mode, tlb, asid)
-}
-
-/// What the buffer is asked for.
-#[inline(always)]
-fn purpose_of(access: Access) -> Purpose
-    ensures { writes result ≡ is_store access }
-{
-    match access {
-        Access::Fetch => Purpose::Fetch,
-        Access::Load => Purpose::Load,
-        Access::Store => Purpose::Store,
-    }
 }
 
 /// What the entries answer.
@@ -182,7 +160,7 @@ fn through(entry: Entry, access: Access, addr: u32) -> Result<Physical, Fault>
 fn is_modified(entry: Entry, access: Access) -> bool
     ensures { result ≡ is_modified entry access }
 {
-    matches!(access, Access::Store) && !entry.d
+    access.is_store() && !entry.d
 }
 
 /// The entry's frame, 20 bits, and the place in the page.

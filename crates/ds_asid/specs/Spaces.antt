@@ -1,6 +1,7 @@
 -- Address space numbers: which process has which.
 use Rattle.std.specs.Prelude.{◌≡◌, ℕ, ◌+◌, ◌<◌, ◌≤◌, ◌==◌, nat_lt, if◌then◌else◌, List, length, replicate, slice_index, slice_set, Option, Some, None}
 
+-- which process has which number, and which numbers are left
 pub record Spaces : Type 0 where
   -- the number of process p at place p, 0 where it has none
   pub numbers : List ℕ
@@ -15,6 +16,7 @@ at_start = record { numbers = replicate 101 0; next = 1 }
 abbrev pub number_of : Spaces → ℕ → ℕ
 number_of s p = slice_index s.numbers p
 
+-- the number of process p, if it has one
 abbrev pub number_held : Spaces → ℕ → Option ℕ
 number_held s p = if number_of s p == 0 then None else Some (number_of s p)
 

@@ -3,18 +3,17 @@
 use Rattle.std.proofs.Common.{◌≡◌, inl, inr, ◌∙◌, sym, ap, subst, refl, ℕ, ◌+◌, ◌%◌, ◌^◌, ◌≤◌, ◌&&◌, List, [], ◌∷◌, ◌++◌, length, length-append, replicate, Option, Some, None, Result, Ok, Err, arith, nat_lt}
 use Rattle.std.proofs.lemmas.Bool.{cases_Bool, ltb-false}
 use Rattle.std.proofs.lemmas.List.{length-replicate}
+use Rattle.ds_word.proofs.ResultBinding.{bind_ok}
+use Rattle.ds_word.specs.Bytes.{bytes_of_word}
+use Rattle.ds_word.specs.ResultBinding.{◌>>=◌}
 use Rattle.ds_asm.specs.Numbers.{as_word}
 use Rattle.ds_asm.specs.Operands.{Instruction, Target, Nowhere, BranchTo, JumpTo}
 use Rattle.ds_asm.specs.Lines.{Statement, Encoded, WordNumber, WordLabel, Byte, Space, Line, line_of}
-use Rattle.ds_asm.specs.Assembly.{Fault, ◌>>=◌, origin, most_bytes, size_of, is_in_range, is_aligned, Layout, labelled, sized, with_line, with_lines, little_endian, resolved, known, word_bytes, statement_bytes, optional_bytes, line_bytes, bytes_from, address_of, empty_layout, lines_of, assembled}
+use Rattle.ds_asm.specs.declared.fault.SourceFault.{SourceFault}
+use Rattle.ds_asm.specs.Assembly.{origin, most_bytes, size_of, is_in_range, is_aligned, Layout, labelled, sized, with_line, with_lines, resolved, known, word_bytes, statement_bytes, optional_bytes, line_bytes, bytes_from, address_of, empty_layout, lines_of, assembled}
 
--- what is good at the end was good at each step
-bind_ok : {A B : Type 0} (r : Result A Fault) (f : A → Result B Fault) (y : B) → (r >>= f) ≡ Ok y → (x : A) × (r ≡ Ok x) × (f x ≡ Ok y)
-bind_ok (Ok x) f y h = (x, refl, h)
-bind_ok (Err e) f y h = cc
-
-word_length : (r : Result ℕ Fault) (more : List ℕ) → word_bytes r ≡ Ok more → length more ≡ 4
-word_length (Ok w) more h = let same : little_endian w ≡ more = cc in sym (ap length same)
+word_length : (r : Result ℕ SourceFault) (more : List ℕ) → word_bytes r ≡ Ok more → length more ≡ 4
+word_length (Ok w) more h = let same : bytes_of_word w ≡ more = cc in sym (ap length same)
 word_length (Err e) more h = cc
 
 -- a statement's bytes are as many as its size
@@ -90,7 +89,7 @@ module _ (f g : List ℕ → Option ℕ) (alike : (name : List ℕ) → f name �
   line_alike n at None = refl
   line_alike n at (Some line) = optional_alike n at line.statement
 
-  through_ok : {A B : Type 0} (r : Result A Fault) (p q : A → Result B Fault) → ((x : A) → p x ≡ q x) → (r >>= p) ≡ (r >>= q)
+  through_ok : {A B : Type 0} (r : Result A SourceFault) (p q : A → Result B SourceFault) → ((x : A) → p x ≡ q x) → (r >>= p) ≡ (r >>= q)
   through_ok (Ok x) p q h = h x
   through_ok (Err e) p q h = refl
 

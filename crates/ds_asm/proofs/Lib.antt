@@ -1,4 +1,3 @@
-pub mod DigitSteps
 pub mod WrittenForms
 pub mod Pages
 pub mod SourceLines

@@ -4,9 +4,11 @@ use Rattle.std.specs.List.{slice_split, position_or_len, before_first, after_fir
 use Rattle.std.proofs.lemmas.Bool.{cases_Bool, ltb-true, ltb-false}
 use Rattle.std.proofs.lemmas.List.{drop_all, take_all}
 use Rattle.std.proofs.lemmas.List.Splits.{slice_split_first}
+use Rattle.ds_word.specs.ResultBinding.{◌>>=◌}
 use Rattle.ds_asm.specs.declared.fault.AsmFault.{AsmFault}
 use Rattle.ds_asm.specs.declared.fault.AsmFault.TheVariants as asm
-use Rattle.ds_asm.specs.Assembly.{Fault, ◌>>=◌, without_empty_last, lines_of, origin, Labels, address_of, Layout, labelled, sized, with_line, with_lines, line_bytes, bytes_from}
+use Rattle.ds_asm.specs.declared.fault.SourceFault.{SourceFault}
+use Rattle.ds_asm.specs.Assembly.{without_empty_last, lines_of, origin, Labels, address_of, Layout, labelled, sized, with_line, with_lines, line_bytes, bytes_from}
 use Rattle.ds_asm.specs.Assembling.{Fails}
 use Rattle.ds_asm.specs.Lines.{Line, line_of}
 
@@ -54,12 +56,8 @@ behind_within n m [] behind q some within = cc
 behind_within n m (x ∷ xs) behind q some within = rw q (omega (arith, length-drop (position_or_len (λ b. b == 10) (x ∷ xs) + 1) (x ∷ xs)))
 
 -- a fault stays the fault, whatever would come behind
-pub fails_bind : {A B : Type 0} (e : AsmFault) (r : Result A Fault) (f : A → Result B Fault) → Fails e r → Fails e (r >>= f)
-fails_bind (asm.Syntax l) r f p = ap (λ x. x >>= f) p
-fails_bind (asm.UnknownLabel l) r f p = ap (λ x. x >>= f) p
-fails_bind (asm.DoubleLabel l) r f p = ap (λ x. x >>= f) p
-fails_bind (asm.Range l) r f p = ap (λ x. x >>= f) p
-fails_bind (asm.TooLong l) r f p = ap (λ x. x >>= f) p
+pub fails_bind : {A B : Type 0} (e : AsmFault) (r : Result A SourceFault) (f : A → Result B SourceFault) → Fails e r → Fails e (r >>= f)
+fails_bind (asm.Source fault) r f p = ap (λ x. x >>= f) p
 fails_bind asm.Memory r f p = tt
 
 -- The first pass.

@@ -1,40 +1,58 @@
 -- What the calls of the assembler return, beside what a source says.
-use Rattle.std.specs.Prelude.{◌≡◌, ℕ, List, Option, Result, Ok, Err}
+use Rattle.std.specs.Prelude.{◌≡◌, ℕ, List, Option, Result, Ok, Err, codes}
 use Rattle.std.specs.Ordering.{nat_cmp}
 use Rattle.std.specs.Cmp.Lexicographic.{slice_cmp}
 use Rattle.std.specs.BTreeMap.{get_by}
 use Rattle.ds_asm.specs.declared.fault.AsmFault.{AsmFault}
 use Rattle.ds_asm.specs.declared.fault.AsmFault.TheVariants as asm
+use Rattle.ds_asm.specs.declared.fault.SourceFault.{SourceFault}
+use Rattle.ds_asm.specs.declared.fault.SourceFault.TheVariants.{Syntax, UnknownLabel, DoubleLabel, Range, TooLong}
 use Rattle.ds_asm.specs.declared.labels.Labels as code
 use Rattle.ds_asm.specs.declared.layout.Layout as held
-use Rattle.ds_asm.specs.Assembly.{Fault, Syntax, UnknownLabel, DoubleLabel, Range, TooLong, Labels, address_of, Layout}
+use Rattle.ds_asm.specs.Assembly.{Labels, address_of, Layout}
 
--- the error beside the fault of the text; want of memory says nothing of the text
-abbrev pub Fails : {A : Type 0} → AsmFault → Result A Fault → Type 0
-Fails (asm.Syntax line) said = said ≡ Err (Syntax line)
-Fails (asm.UnknownLabel line) said = said ≡ Err (UnknownLabel line)
-Fails (asm.DoubleLabel line) said = said ≡ Err (DoubleLabel line)
-Fails (asm.Range line) said = said ≡ Err (Range line)
-Fails (asm.TooLong line) said = said ≡ Err (TooLong line)
+-- the text has this fault; want of memory says nothing of the text
+abbrev pub Fails : {A : Type 0} → AsmFault → Result A SourceFault → Type 0
+Fails (asm.Source fault) said = said ≡ Err fault
 Fails asm.Memory said = Unit {0}
 
 -- what was returned, seen by view, is what the text says, unless memory ran out
-abbrev pub Assembles : {X A : Type 0} → (X → A) → Result X AsmFault → Result A Fault → Type 0
+abbrev pub Assembles : {X A : Type 0} → (X → A) → Result X AsmFault → Result A SourceFault → Type 0
 Assembles seen (Ok x) said = said ≡ Ok (seen x)
 Assembles seen (Err e) said = Fails e said
 
--- the same of what is related to what the text says
-abbrev pub Comes : {X A : Type 0} → (X → A → Type 0) → Result X AsmFault → Result A Fault → Type 0
+-- as Assembles, by a relation between what was returned and what the text says
+abbrev pub Comes : {X A : Type 0} → (X → A → Type 0) → Result X AsmFault → Result A SourceFault → Type 0
 Comes {A = A} Is (Ok x) said = (a : A) × (said ≡ Ok a) × Is x a
 Comes Is (Err e) said = Fails e said
 
+-- the number of a source's fault among the refusals
+abbrev pub source_fault_number : SourceFault → ℕ
+source_fault_number (Syntax line) = 3
+source_fault_number (UnknownLabel line) = 4
+source_fault_number (DoubleLabel line) = 5
+source_fault_number (Range line) = 6
+source_fault_number (TooLong line) = 7
+
+-- its name there
+abbrev pub source_fault_name : SourceFault → List ℕ
+source_fault_name (Syntax line) = codes "Syntax"
+source_fault_name (UnknownLabel line) = codes "UnknownLabel"
+source_fault_name (DoubleLabel line) = codes "DoubleLabel"
+source_fault_name (Range line) = codes "Range"
+source_fault_name (TooLong line) = codes "TooLong"
+
+-- the line in which it stands, from 1
+abbrev pub source_fault_line : SourceFault → ℕ
+source_fault_line (Syntax line) = line
+source_fault_line (UnknownLabel line) = line
+source_fault_line (DoubleLabel line) = line
+source_fault_line (Range line) = line
+source_fault_line (TooLong line) = line
+
 -- the numbers of the refusals
 abbrev pub fault_number : AsmFault → ℕ
-fault_number (asm.Syntax line) = 3
-fault_number (asm.UnknownLabel line) = 4
-fault_number (asm.DoubleLabel line) = 5
-fault_number (asm.Range line) = 6
-fault_number (asm.TooLong line) = 7
+fault_number (asm.Source fault) = source_fault_number fault
 fault_number asm.Memory = 25
 
 -- the address that is held for a name

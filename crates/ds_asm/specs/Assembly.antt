@@ -1,28 +1,19 @@
 -- What a source says: the bytes of its statements one after the other, or its first fault.
 use Rattle.std.specs.Prelude.{ℕ, ◌+◌, ◌-◌, ◌/◌, ◌%◌, ◌^◌, Bool, true, false, not, ◌&&◌, ◌==◌, nat_le, nat_lt, bytes_eq, if◌then◌else◌, List, [], ◌∷◌, ◌++◌, length, replicate, Option, Some, None, is_some, Result, Ok, Err}
 use Rattle.std.specs.List.{slice_split}
+use Rattle.ds_word.specs.Bytes.{bytes_of_word}
+use Rattle.ds_word.specs.ResultBinding.{◌>>=◌}
 use Rattle.ds_isa.specs.declared.instr.Instr.{Instr}
 use Rattle.ds_isa.specs.declared.instr.Instr.TheVariants as instr
 use Rattle.ds_isa.specs.Fields.{imm, target}
 use Rattle.ds_isa.specs.Instruction.{instruction_of}
+use Rattle.ds_asm.specs.declared.fault.SourceFault.{SourceFault}
+use Rattle.ds_asm.specs.declared.fault.SourceFault.TheVariants.{Syntax, UnknownLabel, DoubleLabel, Range, TooLong}
 use Rattle.ds_asm.specs.Numbers.{is_within, as_word}
 use Rattle.ds_asm.specs.Operands.{Instruction, Target, Nowhere, BranchTo, JumpTo, with_value}
 use Rattle.ds_asm.specs.Lines.{Statement, Encoded, WordNumber, WordLabel, Byte, Space, Line, line_of}
 
--- why a source has no image, with the line, from 1
-pub data Fault : Type 0 where
-  Syntax : (line : ℕ) → Fault
-  UnknownLabel : (line : ℕ) → Fault
-  DoubleLabel : (line : ℕ) → Fault
-  Range : (line : ℕ) → Fault
-  TooLong : (line : ℕ) → Fault
-
-infixl 10 ◌>>=◌
-abbrev pub ◌>>=◌ : {A B : Type 0} → Result A Fault → (A → Result B Fault) → Result B Fault
-(Ok x) >>= f = f x
-(Err e) >>= f = Err e
-
--- a last piece that is empty is no line
+-- the pieces without an empty last one, which is no line
 abbrev pub without_empty_last : List (List ℕ) → List (List ℕ)
 without_empty_last [] = []
 without_empty_last ([] ∷ []) = []
@@ -37,6 +28,7 @@ lines_of text = without_empty_last (slice_split (λ b. b == 10) text)
 abbrev pub origin : ℕ
 origin = 4194304
 
+-- how many bytes an image has at most
 abbrev pub most_bytes : ℕ
 most_bytes = 65536
 
@@ -44,6 +36,7 @@ most_bytes = 65536
 abbrev pub Labels : Type 0
 Labels = List (List ℕ × ℕ)
 
+-- the address of a name, if it is a label
 abbrev pub address_of : Labels → List ℕ → Option ℕ
 address_of [] name = None
 address_of (l ∷ labels) name = if bytes_eq l.0 name then Some l.1 else address_of labels name
@@ -57,6 +50,7 @@ is_reserved _ = false
 unfoldable pub is_reserved_word : ℕ → Bool
 is_reserved_word w = is_reserved (instruction_of w)
 
+-- how many bytes a statement has
 abbrev pub size_of : Statement → ℕ
 size_of (Encoded i) = 4
 size_of (WordNumber n) = 4
@@ -80,38 +74,39 @@ is_aligned at (Encoded i) = at % 4 == 0
 is_aligned at (WordNumber n) = at % 4 == 0
 is_aligned at (WordLabel name) = at % 4 == 0
 
+-- the labels so far, and the size of the image so far
 pub record Layout : Type 0 where
   pub labels : Labels
   pub size : ℕ
 
+-- no labels and no bytes
 abbrev pub empty_layout : Layout
 empty_layout = record { labels = []; size = 0 }
 
 -- the labels with one that stands at a place of the image
-abbrev pub labelled : ℕ → ℕ → Option (List ℕ) → Labels → Result Labels Fault
+abbrev pub labelled : ℕ → ℕ → Option (List ℕ) → Labels → Result Labels SourceFault
 labelled n at None labels = Ok labels
 labelled n at (Some name) labels = if is_some (address_of labels name) then Err (DoubleLabel n) else Ok ((name, origin + at) ∷ labels)
 
 -- the size of the image with a statement
-abbrev pub sized : ℕ → ℕ → Option Statement → Result ℕ Fault
+abbrev pub sized : ℕ → ℕ → Option Statement → Result ℕ SourceFault
 sized n at None = Ok at
 sized n at (Some s) =
     if not (is_in_range s && is_aligned at s) then Err (Range n)
     else if nat_lt most_bytes (at + size_of s) then Err (TooLong n)
     else Ok (at + size_of s)
 
-abbrev pub with_line : ℕ → Option Line → Layout → Result Layout Fault
+-- the layout with what line n says, which is none where it has no meaning
+abbrev pub with_line : ℕ → Option Line → Layout → Result Layout SourceFault
 with_line n None l = Err (Syntax n)
 with_line n (Some line) l = labelled n l.size line.label l.labels >>= (λ labels. sized n l.size line.statement >>= (λ size. Ok (record { labels = labels; size = size })))
 
 -- with lines of which the first is line n
-abbrev pub with_lines : ℕ → Layout → List (List ℕ) → Result Layout Fault
+abbrev pub with_lines : ℕ → Layout → List (List ℕ) → Result Layout SourceFault
 with_lines n l [] = Ok l
 with_lines n l (line ∷ lines) = with_line n (line_of line) l >>= (λ more. with_lines (n + 1) more lines)
 
 -- The second pass: bytes.
-abbrev pub little_endian : ℕ → List ℕ
-little_endian w = (w % 2 ^ 8) ∷ (w / 2 ^ 8 % 2 ^ 8) ∷ (w / 2 ^ 16 % 2 ^ 8) ∷ (w / 2 ^ 24 % 2 ^ 8) ∷ []
 
 -- how many words lie between a slot and an address, in 16 bits of two's complement, if they suffice
 abbrev pub branch_field : ℕ → ℕ → Option ℕ
@@ -124,46 +119,49 @@ branch_field slot address =
 abbrev pub jump_field : ℕ → ℕ → Option ℕ
 jump_field slot address = if (address % 4 == 0) && (address / 2 ^ 28 == slot / 2 ^ 28) then Some (address / 4 % 2 ^ 26) else None
 
-abbrev pub known : ℕ → Option ℕ → Result ℕ Fault
+-- the address of a label, or the fault that it is nowhere
+abbrev pub known : ℕ → Option ℕ → Result ℕ SourceFault
 known n None = Err (UnknownLabel n)
 known n (Some address) = Ok address
 
-abbrev pub reached : ℕ → Option ℕ → Result ℕ Fault
+-- the field of a label, or the fault that it is out of reach
+abbrev pub reached : ℕ → Option ℕ → Result ℕ SourceFault
 reached n None = Err (Range n)
 reached n (Some field) = Ok field
 
 -- the word of an instruction whose slot has an address; find gives those of labels
-abbrev pub resolved : ℕ → (List ℕ → Option ℕ) → ℕ → Instruction → Target → Result ℕ Fault
+abbrev pub resolved : ℕ → (List ℕ → Option ℕ) → ℕ → Instruction → Target → Result ℕ SourceFault
 resolved n find slot i Nowhere = Ok i.word
 resolved n find slot i (BranchTo name) = known n (find name) >>= (λ a. reached n (branch_field slot a) >>= (λ f. Ok (with_value imm f i).word))
 resolved n find slot i (JumpTo name) = known n (find name) >>= (λ a. reached n (jump_field slot a) >>= (λ f. Ok (with_value target f i).word))
 
-abbrev pub word_bytes : Result ℕ Fault → Result (List ℕ) Fault
-word_bytes w = w >>= (λ v. Ok (little_endian v))
+-- the bytes of a word, or its fault
+abbrev pub word_bytes : Result ℕ SourceFault → Result (List ℕ) SourceFault
+word_bytes w = w >>= (λ v. Ok (bytes_of_word v))
 
 -- the bytes of a statement at a place of the image
-abbrev pub statement_bytes : ℕ → (List ℕ → Option ℕ) → ℕ → Statement → Result (List ℕ) Fault
+abbrev pub statement_bytes : ℕ → (List ℕ → Option ℕ) → ℕ → Statement → Result (List ℕ) SourceFault
 statement_bytes n find at (Encoded i) = word_bytes (resolved n find (origin + at + 4) i i.target)
-statement_bytes n find at (WordNumber x) = Ok (little_endian (as_word x))
+statement_bytes n find at (WordNumber x) = Ok (bytes_of_word (as_word x))
 statement_bytes n find at (WordLabel name) = word_bytes (known n (find name))
 statement_bytes n find at (Byte x) = Ok ((as_word x % 2 ^ 8) ∷ [])
 statement_bytes n find at (Space x) = Ok (replicate x.magnitude 0)
 
--- no statement has no bytes
-abbrev pub optional_bytes : ℕ → (List ℕ → Option ℕ) → ℕ → Option Statement → Result (List ℕ) Fault
+-- the bytes of a statement; where there is no statement there are no bytes
+abbrev pub optional_bytes : ℕ → (List ℕ → Option ℕ) → ℕ → Option Statement → Result (List ℕ) SourceFault
 optional_bytes n find at None = Ok []
 optional_bytes n find at (Some s) = statement_bytes n find at s
 
--- and no more has a line that is none, which the first pass has refused
-abbrev pub line_bytes : ℕ → (List ℕ → Option ℕ) → ℕ → Option Line → Result (List ℕ) Fault
+-- the bytes of a line; a malformed line has none either, and the first pass has refused it
+abbrev pub line_bytes : ℕ → (List ℕ → Option ℕ) → ℕ → Option Line → Result (List ℕ) SourceFault
 line_bytes n find at None = Ok []
 line_bytes n find at (Some line) = optional_bytes n find at line.statement
 
 -- the bytes with those of lines of which the first is line n
-abbrev pub bytes_from : ℕ → (List ℕ → Option ℕ) → List ℕ → List (List ℕ) → Result (List ℕ) Fault
+abbrev pub bytes_from : ℕ → (List ℕ → Option ℕ) → List ℕ → List (List ℕ) → Result (List ℕ) SourceFault
 bytes_from n find bytes [] = Ok bytes
 bytes_from n find bytes (line ∷ lines) = line_bytes n find (length bytes) (line_of line) >>= (λ more. bytes_from (n + 1) find (bytes ++ more) lines)
 
 -- what a source says
-abbrev pub assembled : List ℕ → Result (List ℕ) Fault
+abbrev pub assembled : List ℕ → Result (List ℕ) SourceFault
 assembled text = with_lines 1 empty_layout (lines_of text) >>= (λ layout. bytes_from 1 (address_of layout.labels) [] (lines_of text))

@@ -6,9 +6,11 @@ use Rattle.std.specs.List.{list_all, prefix_len, suffix_len, position_or_len, be
 abbrev pub is_blank : ℕ → Bool
 is_blank c = (c == 32 || c == 9) || c == 13
 
+-- a to z, A to Z and the underscore
 abbrev pub is_letter : ℕ → Bool
 is_letter c = ((nat_le 97 c && nat_le c 122) || (nat_le 65 c && nat_le c 90)) || c == 95
 
+-- 0 to 9
 abbrev pub is_digit : ℕ → Bool
 is_digit c = nat_le 48 c && nat_le c 57
 
@@ -17,9 +19,11 @@ abbrev pub is_name : List ℕ → Bool
 is_name [] = false
 is_name (c ∷ rest) = is_letter c && nat_le (length rest) 31 && list_all (λ d. is_letter d || is_digit d) rest
 
+-- a text without the blanks at its front
 abbrev pub without_front_blanks : List ℕ → List ℕ
 without_front_blanks text = drop (prefix_len is_blank text) text
 
+-- a text without the blanks at its end
 abbrev pub without_back_blanks : List ℕ → List ℕ
 without_back_blanks text = take (length text - suffix_len is_blank text) text
 

@@ -16,6 +16,7 @@ pub record Written : Type 0 where
   pub word : ℕ
   pub operands : List fields.Operand
 
+-- how the instruction of a row is written
 abbrev pub of_row : Row → Written
 of_row row = record { name = row.name; word = word_of row []; operands = row.operands }
 
@@ -23,6 +24,7 @@ of_row row = record { name = row.name; word = word_of row []; operands = row.ope
 abbrev pub nop : Written
 nop = record { name = codes "nop"; word = 0; operands = [] }
 
+-- all that a source may name: nop, and the rows of the table
 abbrev pub written_forms : List Written
 written_forms = nop ∷ map of_row rows
 
@@ -31,6 +33,8 @@ unfoldable pub form_named : List ℕ → Option Written
 form_named name = find (λ f. bytes_eq f.name name) written_forms
 
 -- The same of the code's types.
+
+-- the field of a place
 abbrev pub field_of : Place → Field
 field_of place.Rs = fields.rs
 field_of place.Rt = fields.rt
@@ -40,6 +44,7 @@ field_of place.Immediate = fields.imm
 field_of place.Code = fields.code
 field_of place.Target = fields.target
 
+-- what the code has in the place of an operand
 abbrev pub operand_of : Operand → fields.Operand
 operand_of (operand.Register p) = fields.Register (field_of p)
 operand_of operand.LinkRegister = fields.LinkRegister fields.rd
@@ -51,5 +56,6 @@ operand_of operand.Branch = fields.Branch fields.imm
 operand_of operand.Jump = fields.Jump fields.target
 operand_of operand.Indexed = fields.Indexed fields.rs fields.imm
 
+-- how a form of the code is written
 abbrev pub written_of : Form → Written
 written_of f = record { name = f.name.now; word = f.word; operands = map operand_of f.operands.now }

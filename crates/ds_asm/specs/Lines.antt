@@ -1,12 +1,14 @@
 -- What a line says: a label, a statement, both or nothing.
 use Rattle.std.specs.Prelude.{codes, ℕ, bytes_eq, if◌then◌else◌, List, [], ◌∷◌, drop, Option, Some, None, option_map}
 use Rattle.std.specs.List.{position_or_len, before_first}
+use Rattle.ds_word.specs.OptionBinding.{◌>>=◌}
 use Rattle.ds_asm.specs.declared.number.Number.{Number}
 use Rattle.ds_asm.specs.Characters.{is_blank, is_name, without_front_blanks, trimmed, until, behind}
 use Rattle.ds_asm.specs.Numbers.{number_of}
 use Rattle.ds_asm.specs.Forms.{form_named}
-use Rattle.ds_asm.specs.Operands.{◌>>=◌, Instruction, bare, with_operands}
+use Rattle.ds_asm.specs.Operands.{Instruction, bare, with_operands}
 
+-- an instruction, a word by its number or its label, a byte, or a number of zero bytes
 pub data Statement : Type 0 where
   Encoded : (instruction : Instruction) → Statement
   WordNumber : (number : Number) → Statement
@@ -19,9 +21,11 @@ abbrev pub unless_empty : List ℕ → Option (List ℕ)
 unless_empty [] = None
 unless_empty (c ∷ cs) = Some (c ∷ cs)
 
+-- what stands before the first blank
 abbrev pub mnemonic_of : List ℕ → List ℕ
 mnemonic_of text = before_first is_blank text
 
+-- what stands behind the mnemonic and its blanks, if anything does
 abbrev pub behind_mnemonic : List ℕ → Option (List ℕ)
 behind_mnemonic text = unless_empty (without_front_blanks (drop (position_or_len is_blank text) text))
 
@@ -29,6 +33,7 @@ behind_mnemonic text = unless_empty (without_front_blanks (drop (position_or_len
 abbrev pub label_word : List ℕ → Option Statement
 label_word text = if is_name text then Some (WordLabel text) else None
 
+-- a word by the number that its text is, or else by a label
 abbrev pub number_word : Option Number → List ℕ → Option Statement
 number_word (Some n) text = Some (WordNumber n)
 number_word None text = label_word text
@@ -45,18 +50,21 @@ statement_named name left =
     else if bytes_eq name (codes ".space") then left >>= (λ text. option_map (λ n. Space n) (number_of text))
     else option_map (λ i. Encoded i) (instruction_named name left)
 
+-- the statement that a text is, if it is one
 abbrev pub statement_of : List ℕ → Option Statement
 statement_of text = statement_named (mnemonic_of text) (behind_mnemonic text)
 
--- an empty text is no statement, and that is good
+-- the statement of a text; an empty text has none, and is no fault
 abbrev pub statement_in : List ℕ → Option (Option Statement)
 statement_in [] = Some None
 statement_in (c ∷ cs) = option_map (λ s. Some s) (statement_of (c ∷ cs))
 
+-- the label and the statement of a line, each if it has one
 pub record Line : Type 0 where
   pub label : Option (List ℕ)
   pub statement : Option Statement
 
+-- a line of a label and the text of a statement
 abbrev pub with_statement : Option (List ℕ) → List ℕ → Option Line
 with_statement label text = option_map (λ s. record { label = label; statement = s }) (statement_in text)
 
@@ -65,6 +73,7 @@ abbrev pub with_label : List ℕ → Option (List ℕ) → Option Line
 with_label text None = with_statement None text
 with_label text (Some rest) = if is_name (until 58 text) then with_statement (Some (until 58 text)) (trimmed rest) else None
 
+-- the label and the statement of a text, which a colon parts
 abbrev pub line_parts : List ℕ → Option Line
 line_parts text = with_label text (behind 58 text)
 

@@ -1,19 +1,7 @@
 -- Numbers in a source.
-use Rattle.std.specs.Prelude.{codes, ℕ, ◌+◌, ◌-◌, ◌*◌, ◌%◌, ◌^◌, Bool, true, false, ◌&&◌, ◌==◌, nat_le, bytes_eq, if◌then◌else◌, List, [], ◌∷◌, length, take, drop, Option, Some, None, option_and_then, option_map}
+use Rattle.std.specs.Prelude.{codes, ℕ, ◌-◌, ◌%◌, ◌^◌, Bool, true, false, ◌&&◌, ◌==◌, nat_le, bytes_eq, if◌then◌else◌, List, [], ◌∷◌, length, take, drop, Option, None, option_map}
+use Rattle.ds_word.specs.Digits.{digits_from}
 use Rattle.ds_asm.specs.declared.number.Number.{Number}
-
--- what a digit stands for, in a base of ten or sixteen
-abbrev pub digit_of : ℕ → ℕ → Option ℕ
-digit_of base c =
-    if nat_le 48 c && nat_le c 57 then Some (c - 48)
-    else if base == 16 && (nat_le 65 c && nat_le c 70) then Some (c - 55)
-    else if base == 16 && (nat_le 97 c && nat_le c 102) then Some (c - 87)
-    else None
-
--- the number that goes on with these digits, if it stays within the limit
-unfoldable pub digits_from : ℕ → ℕ → ℕ → List ℕ → Option ℕ
-digits_from base limit n [] = Some n
-digits_from base limit n (c ∷ cs) = option_and_then (λ d. if nat_le (n * base + d) limit then digits_from base limit (n * base + d) cs else None) (digit_of base c)
 
 -- one to ten decimal digits
 abbrev pub decimal_of : List ℕ → Option ℕ

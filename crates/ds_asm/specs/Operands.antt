@@ -1,16 +1,13 @@
 -- From the text of operands to what an instruction has in their places.
-use Rattle.std.specs.Prelude.{ℕ, ◌+◌, ◌-◌, ◌*◌, ◌%◌, ◌^◌, Bool, true, false, not, ◌&&◌, ◌==◌, nat_lt, if◌then◌else◌, List, [], ◌∷◌, length, take, slice_index, Option, Some, None, option_and_then, option_map}
+use Rattle.std.specs.Prelude.{ℕ, ◌+◌, ◌-◌, ◌*◌, ◌%◌, ◌^◌, Bool, true, false, not, ◌&&◌, ◌==◌, nat_lt, if◌then◌else◌, List, [], ◌∷◌, length, take, slice_index, Option, Some, None, option_map}
 use Rattle.std.specs.List.{position_or_len}
+use Rattle.ds_word.specs.OptionBinding.{◌>>=◌}
 use Rattle.ds_word.specs.Word.{word}
 use Rattle.ds_isa.specs.Fields.{Field, rd, Operand, Register, LinkRegister, SystemRegister, Number, Code, Signed, Branch, Jump, Indexed}
 use Rattle.ds_asm.specs.declared.number.Number as code
 use Rattle.ds_asm.specs.Characters.{is_name, trimmed, until, behind}
 use Rattle.ds_asm.specs.Numbers.{number_of, is_within, as_word}
 use Rattle.ds_asm.specs.RegisterNames.{register_of, system_register_of}
-
-infixl 10 ◌>>=◌
-abbrev pub ◌>>=◌ : {A B : Type 0} → Option A → (A → Option B) → Option B
-o >>= f = option_and_then f o
 
 -- the label that an instruction goes to, if it does
 pub data Target : Type 0 where
@@ -37,18 +34,23 @@ with_value f v i = record i { word = word (i.word + v % 2 ^ f.width * 2 ^ f.lo) 
 abbrev pub with_number : Field → ℕ → ℕ → code.Number → Instruction → Instruction
 with_number f least most n i = record (with_value f (as_word n) i) { in_range = i.in_range && is_within least most n }
 
+-- with the label that it goes to
 abbrev pub with_target : Target → Instruction → Instruction
 with_target t i = record i { target = t }
 
+-- with the number of a register in a field, if there is one
 abbrev pub with_register : Field → Option ℕ → Instruction → Option Instruction
 with_register f r i = option_map (λ n. with_value f n i) r
 
+-- with a number from 0 up to the greatest that a field holds
 abbrev pub with_unsigned : Field → List ℕ → Instruction → Option Instruction
 with_unsigned f text i = option_map (λ n. with_number f 0 (2 ^ f.width - 1) n i) (number_of text)
 
+-- with a number that a field holds in two's complement
 abbrev pub with_signed : Field → List ℕ → Instruction → Option Instruction
 with_signed f text i = option_map (λ n. with_number f (2 ^ (f.width - 1)) (2 ^ (f.width - 1) - 1) n i) (number_of text)
 
+-- with a label as the target
 abbrev pub with_label : (List ℕ → Target) → List ℕ → Instruction → Option Instruction
 with_label make text i = if is_name text then Some (with_target (make text) i) else None
 
@@ -76,14 +78,17 @@ with_operand (Branch f) text i = with_label BranchTo text i
 with_operand (Jump f) text i = with_label JumpTo text i
 with_operand (Indexed base offset) text i = with_indexed base offset text i
 
+-- whether an operand is a code, which may be left out
 abbrev pub is_code : Operand → Bool
 is_code (Code f) = true
 is_code _ = false
 
+-- whether an operand is a link register, which may be left out
 abbrev pub is_link : Operand → Bool
 is_link (LinkRegister f) = true
 is_link _ = false
 
+-- whether a comma stands in a text
 abbrev pub has_comma : List ℕ → Bool
 has_comma text = nat_lt (position_or_len (λ b. b == 44) text) (length text)
 

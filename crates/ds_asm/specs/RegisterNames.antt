@@ -16,9 +16,11 @@ register_numbered (c ∷ []) = if is_digit c then Some (c - 48) else None
 register_numbered (c ∷ d ∷ []) = if is_digit c && is_digit d && not (c == 48) && nat_lt ((c - 48) * 10 + (d - 48)) 32 then Some ((c - 48) * 10 + (d - 48)) else None
 register_numbered _ = None
 
+-- the number of the register of a name
 abbrev pub register_named : List ℕ → Option ℕ
 register_named name = position (λ r. bytes_eq r name) register_names
 
+-- the first number, or else the second
 abbrev pub or_else : Option ℕ → Option ℕ → Option ℕ
 or_else (Some n) other = Some n
 or_else None other = other

@@ -1,7 +1,8 @@
 -- Worked sources.
 use Rattle.std.specs.Prelude.{codes, refl, ◌≡◌, ℕ, List, [], ◌∷◌, Ok, Err}
-use Rattle.std.specs.List.{flat_map}
-use Rattle.ds_asm.specs.Assembly.{Syntax, UnknownLabel, DoubleLabel, Range, TooLong, little_endian, assembled}
+use Rattle.ds_word.specs.Bytes.{bytes_of_words}
+use Rattle.ds_asm.specs.declared.fault.SourceFault.TheVariants.{Syntax, UnknownLabel, DoubleLabel, Range, TooLong}
+use Rattle.ds_asm.specs.Assembly.{assembled}
 use Rattle.ds_asm.specs.OnLiterals.{asm_on_literals}
 
 -- The nine words of the refill handler (Kane and Heinrich, chapter 6), whose texts are these.
@@ -9,10 +10,11 @@ abbrev refill_text : List ℕ
 refill_text =
     codes "mfc0 $26,$4\nmfc0 $27,$14\nlw $26,0($26)\nnop\nmtc0 $26,$2\naddu $26,$0,$0\ntlbwr\njr $27\nrfe\n"
 
+-- the words that they make
 abbrev refill_words : List ℕ
 refill_words = 0x401A2000 ∷ 0x401B7000 ∷ 0x8F5A0000 ∷ 0x00000000 ∷ 0x409A1000 ∷ 0x0000D021 ∷ 0x42000006 ∷ 0x03600008 ∷ 0x42000010 ∷ []
 
-the_refill_handler : assembled refill_text ≡ Ok (flat_map little_endian refill_words)
+the_refill_handler : assembled refill_text ≡ Ok (bytes_of_words refill_words)
 unfolding asm_on_literals
 the_refill_handler = refl
 

@@ -2,10 +2,10 @@
 ghost use Rattle.ds_asm.specs.Assembling.{Assembles};
 ghost use Rattle.ds_asm.specs.Assembly.{assembled};
 
-use crate::bytes::bytes_of;
 use crate::fault::AsmFault;
 use crate::image::Image;
 use crate::layout::layout_of;
+use crate::second_pass::bytes_of;
 use std::alloc::Global;
 
 /// The image of a source, or its first fault: of two, the one of the first pass, which tests each

@@ -1,29 +1,83 @@
 //! Why a source has no image.
 ghost use Rattle.std.specs.Prelude.{◌≡◌};
-ghost use Rattle.ds_asm.specs.Assembling.{fault_number};
+ghost use Rattle.ds_asm.specs.Assembling.{fault_number, source_fault_line, source_fault_name, source_fault_number};
 ghost use Rattle.ds_asm.specs.declared.fault.AsmFault.TheVariants.{Memory};
 
 use std::alloc::{AllocError, AllocFailed};
+use std::{error, fmt};
 use thiserror::Error;
 
-/// Why a source has no image. A fault in the text carries the number of its line, from 1.
-#[derive(Clone, Copy, Debug, PartialEq, Eq, Drop, Error)]
-pub enum AsmFault {
+/// What is wrong in a source's text, with the number of the line, from 1. Its text is the refusal's
+/// number and name, and the line.
+#[derive(Clone, Copy, Debug, PartialEq, Eq, Drop)]
+pub enum SourceFault {
     /// A line that is neither blank nor a label nor a statement.
-    #[error("3 Syntax {0}")]
     Syntax(u64),
     /// A statement names a label that stands nowhere.
-    #[error("4 UnknownLabel {0}")]
     UnknownLabel(u64),
     /// A label that stands on an earlier line too.
-    #[error("5 DoubleLabel {0}")]
     DoubleLabel(u64),
-    /// A number, an address or a pair of registers that a statement may not have.
-    #[error("6 Range {0}")]
+    /// A number, a place, a target or a pair of registers that a statement may not have.
     Range(u64),
     /// The line that passes 65,536 bytes.
-    #[error("7 TooLong {0}")]
     TooLong(u64),
+}
+
+impl SourceFault {
+    /// The refusal's number: 3 to 7.
+    pub fn number(&self) -> u32
+        ensures { result ≡ source_fault_number self.now }
+    {
+        match self {
+            SourceFault::Syntax(_) => 3,
+            SourceFault::UnknownLabel(_) => 4,
+            SourceFault::DoubleLabel(_) => 5,
+            SourceFault::Range(_) => 6,
+            SourceFault::TooLong(_) => 7,
+        }
+    }
+
+    /// The refusal's name.
+    pub fn name(&self) -> &'static str
+        ensures { result.now ≡ source_fault_name self.now }
+    {
+        match self {
+            SourceFault::Syntax(_) => "Syntax",
+            SourceFault::UnknownLabel(_) => "UnknownLabel",
+            SourceFault::DoubleLabel(_) => "DoubleLabel",
+            SourceFault::Range(_) => "Range",
+            SourceFault::TooLong(_) => "TooLong",
+        }
+    }
+
+    /// The number of the line, from 1.
+    pub fn line(&self) -> u64
+        ensures { result ≡ source_fault_line self.now }
+    {
+        match self {
+            SourceFault::Syntax(line)
+            | SourceFault::UnknownLabel(line)
+            | SourceFault::DoubleLabel(line)
+            | SourceFault::Range(line)
+            | SourceFault::TooLong(line) => *line,
+        }
+    }
+}
+
+impl fmt::Display for SourceFault {
+    fn fmt<W: fmt::Write>(&self, f: &mut fmt::Formatter<W>) -> fmt::Result {
+        write!(f, "{} {} {}", self.number(), self.name(), self.line())
+    }
+}
+
+impl error::Error for SourceFault {}
+
+/// Why a source has no image: the first fault of its text, or want of memory.
+#[derive(Clone, Copy, Debug, PartialEq, Eq, Drop, Error)]
+pub enum AsmFault {
+    /// What is wrong in the text.
+    #[error(transparent)]
+    Source(SourceFault),
     /// Memory ran out.
     #[error("25 Memory")]
     Memory,
@@ -35,11 +89,7 @@ impl AsmFault {
         ensures { result ≡ fault_number self.now }
     {
         match self {
-            AsmFault::Syntax(_) => 3,
-            AsmFault::UnknownLabel(_) => 4,
-            AsmFault::DoubleLabel(_) => 5,
-            AsmFault::Range(_) => 6,
-            AsmFault::TooLong(_) => 7,
+            AsmFault::Source(fault) => fault.number(),
             AsmFault::Memory => 25,
         }
     }

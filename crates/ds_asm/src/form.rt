@@ -4,6 +4,8 @@ ghost use Rattle.std.specs.List.{find};
 ghost use Rattle.ds_asm.specs.Forms.{form_named, written_of, written_forms, field_of, operand_of};
 ghost use Rattle.ds_asm.specs.Operands.{is_code, is_link};
 
+use ds_isa::instruction_table;
+
 /// Where an operand's value stands in a word.
 #[derive(Clone, Copy, Debug, PartialEq, Eq)]
 pub(crate) enum Place {
@@ -47,124 +49,48 @@ pub(crate) struct Form {
     pub(crate) operands: &'static [Operand],
 }
 
-const RS: Operand = Operand::Register(Place::Rs);
+/// An operand, by the word for it in the table of instructions.
+macro_rules! operand {
+    (rs) => { Operand::Register(Place::Rs) };
+    (rt) => { Operand::Register(Place::Rt) };
+    (rd) => { Operand::Register(Place::Rd) };
+    (link) => { Operand::LinkRegister };
+    (system) => { Operand::SystemRegister };
+    (shamt) => { Operand::Number(Place::Shamt) };
+    (unsigned) => { Operand::Number(Place::Immediate) };
+    (code) => { Operand::Code };
+    (signed) => { Operand::Signed };
+    (label) => { Operand::Branch };
+    (jump) => { Operand::Jump };
+    (indexed) => { Operand::Indexed };
+}
 
-const RT: Operand = Operand::Register(Place::Rt);
+/// The form of a word, with its name and operands as a row has them.
+macro_rules! form {
+    ($word:expr, $name:literal [$($operand:ident)*]) => {
+        Form { name: $name, word: $word, operands: &[$(operand!($operand)),*] }
+    };
+}
 
-const RD: Operand = Operand::Register(Place::Rd);
-
-const UNSIGNED: Operand = Operand::Number(Place::Immediate);
-
-const NONE: &[Operand] = &[];
-
-const SHIFT: &[Operand] = &[RD, RT, Operand::Number(Place::Shamt)];
-
-const SHIFT_BY: &[Operand] = &[RD, RT, RS];
-
-const SOURCE: &[Operand] = &[RS];
-
-const DESTINATION: &[Operand] = &[RD];
-
-const LINK: &[Operand] = &[Operand::LinkRegister, RS];
-
-const TRAP: &[Operand] = &[Operand::Code];
-
-const TWO: &[Operand] = &[RS, RT];
-
-const THREE: &[Operand] = &[RD, RS, RT];
-
-const BRANCH: &[Operand] = &[RS, Operand::Branch];
-
-const COMPARE: &[Operand] = &[RS, RT, Operand::Branch];
-
-const JUMP: &[Operand] = &[Operand::Jump];
-
-const SIGNED: &[Operand] = &[RT, RS, Operand::Signed];
-
-const LOGICAL: &[Operand] = &[RT, RS, UNSIGNED];
-
-const UPPER: &[Operand] = &[RT, UNSIGNED];
-
-const MEMORY: &[Operand] = &[RT, Operand::Indexed];
-
-const SYSTEM: &[Operand] = &[RT, Operand::SystemRegister];
-
-/// A table of forms: their names, their words and their operands.
-macro_rules! forms {
-    ($($name:literal $word:literal $operands:ident;)*) => {
-        [$(Form { name: $name, word: $word, operands: $operands }),*]
+macro_rules! form_rows {
+    (special { $($funct:literal $special:ident $field:tt zero $zero:tt $(given $condition:tt)? uses $use:tt written { $($text:tt)* };)* }
+     regimm { $($sign:literal $regimm:ident $place:tt zero $none:tt $(given $need:tt)? uses $using:tt written { $($line:tt)* };)* }
+     major { $($op:literal $major:ident $part:tt zero $nought:tt uses $used:tt written { $($form:tt)* };)* }
+     transfer { $($way:literal $transfer:ident $end:tt zero $nil:tt uses $using_these:tt written { $($words:tt)* };)* }
+     operation { $($number:literal $operation:ident [] zero [] uses $using_none:tt written { $($name:tt)* };)* }) => {
+        [
+            form!(0, "nop" []),
+            $(form!($funct, $($text)*),)*
+            $(form!(0x400_0000 + $sign * 0x1_0000, $($line)*),)*
+            $(form!($op * 0x400_0000, $($form)*),)*
+            $(form!(0x4000_0000 + $way * 0x20_0000, $($words)*),)*
+            $(form!(0x4200_0000 + $number, $($name)*),)*
+        ]
     };
 }
 
 /// The forms: `nop`, and those of the table of instructions in its order.
-static FORMS: [Form; 66] = forms! {
-    "nop" 0 NONE;
-    "sll" 0 SHIFT;
-    "srl" 2 SHIFT;
-    "sra" 3 SHIFT;
-    "sllv" 4 SHIFT_BY;
-    "srlv" 6 SHIFT_BY;
-    "srav" 7 SHIFT_BY;
-    "jr" 8 SOURCE;
-    "jalr" 9 LINK;
-    "syscall" 12 TRAP;
-    "break" 13 TRAP;
-    "mfhi" 16 DESTINATION;
-    "mthi" 17 SOURCE;
-    "mflo" 18 DESTINATION;
-    "mtlo" 19 SOURCE;
-    "mult" 24 TWO;
-    "multu" 25 TWO;
-    "div" 26 TWO;
-    "divu" 27 TWO;
-    "add" 32 THREE;
-    "addu" 33 THREE;
-    "sub" 34 THREE;
-    "subu" 35 THREE;
-    "and" 36 THREE;
-    "or" 37 THREE;
-    "xor" 38 THREE;
-    "nor" 39 THREE;
-    "slt" 42 THREE;
-    "sltu" 43 THREE;
-    "bltz" 0x0400_0000 BRANCH;
-    "bgez" 0x0401_0000 BRANCH;
-    "bltzal" 0x0410_0000 BRANCH;
-    "bgezal" 0x0411_0000 BRANCH;
-    "j" 0x0800_0000 JUMP;
-    "jal" 0x0C00_0000 JUMP;
-    "beq" 0x1000_0000 COMPARE;
-    "bne" 0x1400_0000 COMPARE;
-    "blez" 0x1800_0000 BRANCH;
-    "bgtz" 0x1C00_0000 BRANCH;
-    "addi" 0x2000_0000 SIGNED;
-    "addiu" 0x2400_0000 SIGNED;
-    "slti" 0x2800_0000 SIGNED;
-    "sltiu" 0x2C00_0000 SIGNED;
-    "andi" 0x3000_0000 LOGICAL;
-    "ori" 0x3400_0000 LOGICAL;
-    "xori" 0x3800_0000 LOGICAL;
-    "lui" 0x3C00_0000 UPPER;
-    "lb" 0x8000_0000 MEMORY;
-    "lh" 0x8400_0000 MEMORY;
-    "lwl" 0x8800_0000 MEMORY;
-    "lw" 0x8C00_0000 MEMORY;
-    "lbu" 0x9000_0000 MEMORY;
-    "lhu" 0x9400_0000 MEMORY;
-    "lwr" 0x9800_0000 MEMORY;
-    "sb" 0xA000_0000 MEMORY;
-    "sh" 0xA400_0000 MEMORY;
-    "swl" 0xA800_0000 MEMORY;
-    "sw" 0xAC00_0000 MEMORY;
-    "swr" 0xB800_0000 MEMORY;
-    "mfc0" 0x4000_0000 SYSTEM;
-    "mtc0" 0x4080_0000 SYSTEM;
-    "tlbr" 0x4200_0001 NONE;
-    "tlbwi" 0x4200_0002 NONE;
-    "tlbwr" 0x4200_0006 NONE;
-    "tlbp" 0x4200_0008 NONE;
-    "rfe" 0x4200_0010 NONE;
-};
+static FORMS: [Form; 66] = instruction_table!(form_rows);
 
 /// The form of a name.
 pub(crate) fn form_named(name: &[u8]) -> Option<&'static Form>

@@ -2,10 +2,8 @@
 ghost use Rattle.std.specs.Prelude.{◌≡◌, ◌≤◌, ◌↔◌, IsTrue, [], length};
 ghost use Rattle.ds_asm.specs.Images.{part_of};
 
+use ds_word::PAGE_SIZE;
 use std::marker::Model;
-
-/// How many bytes a page has.
-const PAGE_BYTES: usize = 4096;
 
 /// The bytes of a source that was assembled, 65,536 at most.
 #[derive(Drop)]
@@ -53,9 +51,9 @@ impl Image {
         requires { length page.old ≡ 4096 }
         ensures { page.new ≡ part_of self.now part }
     {
-        let start = (PAGE_BYTES * part as usize).min(self.bytes.len());
+        let start = (PAGE_SIZE * part as usize).min(self.bytes.len());
         let rest = &self.bytes[start..];
-        let count = rest.len().min(PAGE_BYTES);
+        let count = rest.len().min(PAGE_SIZE);
         page.fill(0);
         page[..count].copy_from_slice(&rest[..count]);
     }

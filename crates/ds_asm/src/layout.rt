@@ -6,7 +6,7 @@ ghost use Rattle.ds_asm.specs.Assembly as assembly;
 ghost use Rattle.ds_asm.specs.Lines.{line_of};
 ghost use Rattle.ds_asm.specs.Plain.{plain_statement};
 
-use crate::fault::AsmFault;
+use crate::fault::{AsmFault, SourceFault};
 use crate::labels::Labels;
 use crate::line::{MOST_BYTES, Statement, line_of};
 use crate::source::first_line;
@@ -59,7 +59,7 @@ impl<'a> Layout<'a> {
     {
         let line = match line_of(line) {
             Some(line) => line,
-            None => return Err(AsmFault::Syntax(number)),
+            None => return Err(AsmFault::Source(SourceFault::Syntax(number))),
         };
         self.add_label(number, line.label)?;
         self.size = sized(number, self.size, line.statement)?;
@@ -77,7 +77,7 @@ impl<'a> Layout<'a> {
             None => return Ok(()),
         };
         if self.labels.address_of(name).is_some() {
-            return Err(AsmFault::DoubleLabel(number));
+            return Err(AsmFault::Source(SourceFault::DoubleLabel(number)));
         }
         self.labels.insert(name, ORIGIN + self.size)?;
         Ok(())
@@ -95,11 +95,11 @@ fn sized(number: u64, at: u32, statement: Option<Statement<'_>>) -> Result<u32, 
         None => return Ok(at),
     };
     if !(statement.is_in_range() && statement.is_aligned(at)) {
-        return Err(AsmFault::Range(number));
+        return Err(AsmFault::Source(SourceFault::Range(number)));
     }
     let end = u64::from(at) + statement.size();
     if end > MOST_BYTES {
-        return Err(AsmFault::TooLong(number));
+        return Err(AsmFault::Source(SourceFault::TooLong(number)));
     }
     Ok(end as u32)
 }

@@ -3,7 +3,6 @@
 #![tactic(auto)]
 
 mod assembler;
-mod bytes;
 mod characters;
 mod fault;
 mod form;
@@ -14,8 +13,9 @@ mod layout;
 mod line;
 mod number;
 mod register;
+mod second_pass;
 mod source;
 
 pub use assembler::assemble;
-pub use fault::AsmFault;
+pub use fault::{AsmFault, SourceFault};
 pub use image::Image;

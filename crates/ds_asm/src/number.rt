@@ -1,6 +1,8 @@
 //! Numbers of a source.
-ghost use Rattle.std.specs.Prelude.{◌≡◌, ◌<◌, ◌≤◌, ◌^◌, ◌-◌, ◌%◌, length, IfSome};
-ghost use Rattle.ds_asm.specs.Numbers.{digit_of, digits_from, decimal_of, hexadecimal_of, unsigned_of, number_of, is_within, as_word};
+ghost use Rattle.std.specs.Prelude.{◌≡◌};
+ghost use Rattle.ds_asm.specs.Numbers.{decimal_of, hexadecimal_of, unsigned_of, number_of, is_within, as_word};
+
+use ds_word::number_of_digits;
 
 /// A number as it is written: a sign and a magnitude.
 #[derive(Clone, Copy, Debug, PartialEq, Eq)]
@@ -49,7 +51,7 @@ fn decimal_of(text: &[u8]) -> Option<u64>
     ensures { result ≡ decimal_of text.now }
 {
     if text.len() >= 1 && text.len() <= 10 {
-        digits_in(10, MOST_DECIMAL, text)
+        number_of_digits(10, MOST_DECIMAL, text)
     } else {
         None
     }
@@ -59,42 +61,9 @@ fn hexadecimal_of(text: &[u8]) -> Option<u64>
     ensures { result ≡ hexadecimal_of text.now }
 {
     if text.len() >= 1 && text.len() <= 8 {
-        digits_in(16, u64::from(u32::MAX), text)
+        number_of_digits(16, u64::from(u32::MAX), text)
     } else {
         None
-    }
-}
-
-fn digits_in(base: u64, limit: u64, text: &[u8]) -> Option<u64>
-    requires base { base ≤ 16 }
-    requires limit { limit ≤ 9999999999 }
-    ensures { result ≡ digits_from base limit 0 text.now }
-{
-    let mut n = 0;
-    for c in text {
-        match digit_of(base, *c) {
-            Some(digit) => {
-                let next = n * base + digit;
-                if next > limit {
-                    return None;
-                }
-                n = next;
-            }
-            None => return None,
-        }
-    }
-    Some(n)
-}
-
-fn digit_of(base: u64, c: u8) -> Option<u64>
-    ensures exact { result ≡ digit_of base c }
-    ensures below { IfSome result (λ d. d < 16) }
-{
-    match c {
-        b'0'..=b'9' => Some(u64::from(c) - 48),
-        b'A'..=b'F' if base == 16 => Some(u64::from(c) - 55),
-        b'a'..=b'f' if base == 16 => Some(u64::from(c) - 87),
-        _ => None,
     }
 }
 

@@ -1,15 +1,23 @@
 //! What a source assembles to, where no run shows it.
-use ds_asm::{AsmFault, assemble};
+use ds_asm::{AsmFault, SourceFault, assemble};
 use std::test::*;
 
 #[test]
 fn faults_have_numbers_and_texts(rt: HostRuntime) -> Result<(), Fail> {
     for (fault, number, text) in [
-        (AsmFault::Syntax(2), 3, "3 Syntax 2"),
-        (AsmFault::UnknownLabel(1), 4, "4 UnknownLabel 1"),
-        (AsmFault::DoubleLabel(7), 5, "5 DoubleLabel 7"),
-        (AsmFault::Range(65), 6, "6 Range 65"),
-        (AsmFault::TooLong(2), 7, "7 TooLong 2"),
+        (AsmFault::Source(SourceFault::Syntax(2)), 3, "3 Syntax 2"),
+        (
+            AsmFault::Source(SourceFault::UnknownLabel(1)),
+            4,
+            "4 UnknownLabel 1",
+        ),
+        (
+            AsmFault::Source(SourceFault::DoubleLabel(7)),
+            5,
+            "5 DoubleLabel 7",
+        ),
+        (AsmFault::Source(SourceFault::Range(65)), 6, "6 Range 65"),
+        (AsmFault::Source(SourceFault::TooLong(2)), 7, "7 TooLong 2"),
         (AsmFault::Memory, 25, "25 Memory"),
     ] {
         assert_eq!(rt; fault.number(), number);

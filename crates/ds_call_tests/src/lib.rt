@@ -1,4 +1,4 @@
-//! Tests over the public calls of the policy, the assembler, the log and the program. They stand apart from those crates, so that
+//! Tests over the public calls of the policy, the assembler and the log. They stand apart from those crates, so that
 //! no proof of theirs needs a test.
 #![tactic(auto)]
 
@@ -10,8 +10,6 @@ mod log;
 mod memory;
 #[cfg(test)]
 mod policy;
-#[cfg(test)]
-mod program;
 #[cfg(test)]
 mod report;
 #[cfg(test)]

@@ -1,5 +1,5 @@
 //! Want of memory. These tests pass whichever growth is refused: `rt try --test --fail-alloc N`.
-use ds_policy::{Events, EventsFault, Grant, Policy, PolicyRule, Right, Table};
+use ds_policy::{Command, EventList, Events, EventsFault, Grant, Policy, PolicyRule, Right, Table};
 use std::alloc::Global;
 use std::process::Abort;
 use std::test::*;
@@ -93,4 +93,41 @@ fn for_want_of_memory_an_input_says_nothing_else(rt: HostRuntime) {
             Err(EventsFault::Memory) => {}
         }
     }
+}
+
+/// Stops unless the list has so many commands, one a tick, and so many characters, two a tick.
+fn check_list(rt: &impl Abort, list: &EventList, commands: usize, characters: usize) {
+    assert_eq!(rt; list.commands().len(), commands);
+    for (i, command) in list.commands().iter().enumerate() {
+        assert_eq!(rt; command.time, i as u64);
+        assert_eq!(rt; command.number as usize, i + 1);
+    }
+    assert_eq!(rt; list.characters().len(), characters);
+    for (i, character) in list.characters().iter().enumerate() {
+        assert_eq!(rt; character.time, i as u64 / 2);
+        assert_eq!(rt; character.line, 3);
+        assert_eq!(rt; character.byte, b'A' + (i % 2) as u8);
+    }
+}
+
+/// Both lists grow several times. Where a growth is refused, the list is as it was.
+#[test]
+fn for_want_of_memory_an_event_is_not_added(rt: HostRuntime) {
+    let mut list = EventList::new(rt.alloc());
+    for time in 0..9u32 {
+        let added = time as usize;
+        assert!(rt; list.follows(time));
+        if list
+            .add_command(time, Command::Stop { process: time })
+            .is_err()
+        {
+            return check_list(&rt, &list, added, 2 * added);
+        }
+        assert!(rt; list.follows(time));
+        if list.add_characters(time, 3, b"AB".as_slice()).is_err() {
+            return check_list(&rt, &list, added + 1, 2 * added);
+        }
+    }
+    assert!(rt; !list.follows(7));
+    check_list(&rt, &list, 9, 18);
 }

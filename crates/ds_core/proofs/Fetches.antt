@@ -1,12 +1,12 @@
 -- A fetch: the instruction that a place holds, and a buffer that remembers more than before.
 use Rattle.std.proofs.Common.{◌≡◌, ℕ, ◌<◌, ◌^◌, true, refl, sym, ap, ◌∙◌, arith}
 use Rattle.std.proofs.lemmas.Bool.Decides.{nat_tests}
-use Rattle.ds_mem.specs.Memory.{word_at}
+use Rattle.ds_word.specs.Bytes.{word_at}
 use Rattle.std.specs.Prelude.{List, Result, Ok, Err, nat_lt}
 use Rattle.ds_isa.specs.declared.instr.Instr.{Instr}
 use Rattle.ds_isa.specs.declared.instr.Size.TheVariants.{Word}
 use Rattle.ds_isa.specs.Instruction.{instruction_of}
-use Rattle.ds_amap.specs.declared.map.Access.TheVariants.{Fetch}
+use Rattle.ds_isa.specs.declared.instr.Kind.TheVariants.{Fetch}
 use Rattle.ds_amap.specs.declared.map.Physical.{Physical}
 use Rattle.ds_tlb.specs.declared.entry.Entry.{Entry}
 use Rattle.ds_cp0.specs.declared.exception.ExceptionCode.TheVariants.{FetchBus}

@@ -10,7 +10,7 @@ use Rattle.ds_isa.specs.Meaning as effects
 use Rattle.ds_isa.specs.Instruction.{instruction_of}
 use Rattle.ds_amap.specs.declared.map.Physical.{Physical}
 use Rattle.ds_amap.specs.declared.map.Fault.{Fault}
-use Rattle.ds_amap.specs.declared.map.Access.TheVariants.{Fetch, Load, Store}
+use Rattle.ds_isa.specs.declared.instr.Kind.TheVariants.{Fetch, Load, Store}
 use Rattle.ds_cp0.specs.declared.exception.ExceptionCode.TheVariants.{Interrupt}
 use Rattle.ds_cp0.specs.System.{is_pending}
 use Rattle.ds_dev.specs.declared.fault.BusError.{BusError}

@@ -1,39 +1,34 @@
 -- Fetches, loads and stores: alignment before the segment, that before the translation, and then the bus.
-use Rattle.std.specs.Prelude.{ℕ, ◌%◌, Bool, true, false, not, ◌==◌, if◌then◌else◌, Some, Result, Ok, Err}
+use Rattle.std.specs.Prelude.{ℕ, Bool, true, false, not, if◌then◌else◌, Some, Result, Ok, Err}
 use Rattle.ds_isa.specs.declared.instr.Size.{Size}
-use Rattle.ds_isa.specs.declared.instr.Size.TheVariants as size
+use Rattle.ds_isa.specs.declared.instr.Kind.{Kind}
+use Rattle.ds_isa.specs.declared.instr.Kind.TheVariants.{Load, Store}
+use Rattle.ds_isa.specs.Access.{is_store, is_aligned}
 use Rattle.ds_isa.specs.declared.instr.Instr.{Instr}
 use Rattle.ds_isa.specs.Instruction.{instruction_of}
 use Rattle.ds_isa.specs.Registers.{Registers, settled}
-use Rattle.ds_mem.specs.Memory.{word_at, with_word}
+use Rattle.ds_word.specs.Bytes.{word_at, with_word}
 use Rattle.ds_cp0.specs.declared.exception.Exception.{Exception}
 use Rattle.ds_cp0.specs.declared.exception.ExceptionCode.{ExceptionCode}
 use Rattle.ds_cp0.specs.declared.exception.ExceptionCode.TheVariants.{Modification, LoadMiss, StoreMiss, LoadAddress, StoreAddress, DataBus}
 use Rattle.ds_cp0.specs.System.{System, asid_of, is_user}
-use Rattle.ds_amap.specs.declared.map.Access.{Access}
-use Rattle.ds_amap.specs.declared.map.Access.TheVariants.{Load, Store}
 use Rattle.ds_amap.specs.declared.map.Mode.{Mode}
 use Rattle.ds_amap.specs.declared.map.Mode.TheVariants.{User, Kernel}
 use Rattle.ds_amap.specs.declared.map.Physical.{Physical}
 use Rattle.ds_amap.specs.declared.map.Fault.{Fault}
 use Rattle.ds_amap.specs.declared.map.Fault.TheVariants.{Address, Refill, Invalid, Modified}
-use Rattle.ds_amap.specs.Map.{is_store, translate}
+use Rattle.ds_amap.specs.Map.{translate}
 use Rattle.ds_dev.specs.declared.fault.BusError.{BusError}
 use Rattle.ds_dev.specs.Bus.{BusState, is_memory, answers, takes}
 use Rattle.ds_dev.specs.Bus as bus
-use Rattle.ds_core.specs.Core.{CoreState, Step, raised, trapped, gone}
+use Rattle.ds_core.specs.Core.{CoreState, Step, at_vector, trapped, at_next}
 
-abbrev pub is_aligned : Size → ℕ → Bool
-is_aligned size.Byte addr = true
-is_aligned size.Part addr = true
-is_aligned size.Half addr = addr % 2 == 0
-is_aligned size.Word addr = addr % 4 == 0
-
+-- the mode in which the processor is
 abbrev pub mode_of : System → Mode
 mode_of s = if is_user s then User else Kernel
 
 -- the physical address of an access, or why there is none
-abbrev pub reached : CoreState → Access → Size → ℕ → Result Physical Fault
+abbrev pub reached : CoreState → Kind → Size → ℕ → Result Physical Fault
 reached c access size addr =
     if not (is_aligned size addr) then Err Address
     else translate c.entries (asid_of c.system) (mode_of c.system) access addr
@@ -45,13 +40,15 @@ code_of Refill store = if store then StoreMiss else LoadMiss
 code_of Invalid store = if store then StoreMiss else LoadMiss
 code_of Modified store = Modification
 
+-- no entry matches
 abbrev pub is_refill : Fault → Bool
 is_refill Refill = true
 is_refill Address = false
 is_refill Invalid = false
 is_refill Modified = false
 
-abbrev pub refusal : CoreState → Access → ℕ → Fault → Exception
+-- the exception of an access that the address map refuses
+abbrev pub refusal : CoreState → Kind → ℕ → Fault → Exception
 refusal c access addr fault = record {
   code = code_of fault (is_store access);
   pc = c.pc;
@@ -61,8 +58,9 @@ refusal c access addr fault = record {
   miss = is_refill fault;
 }
 
-abbrev pub refused : CoreState → BusState → Access → ℕ → Fault → Step
-refused c b access addr fault = raised c b (refusal c access addr fault)
+-- the exception is raised, and nothing is done
+abbrev pub refused : CoreState → BusState → Kind → ℕ → Fault → Step
+refused c b access addr fault = at_vector c b (refusal c access addr fault)
 
 -- a load of the aligned word that holds a place in memory, whatever the size; devices answer to whole words alone
 abbrev pub aligned_load : BusState → ℕ → Size → Result ℕ BusError × BusState
@@ -80,8 +78,9 @@ aligned_store b place size w =
 -- what the bus answered to a load
 abbrev pub load_answered : CoreState → BusState → (ℕ → Registers) → Result ℕ BusError → Step
 load_answered c b after (Err e) = trapped c b DataBus
-load_answered c b after (Ok w) = gone c b (after w)
+load_answered c b after (Ok w) = at_next c b (after w)
 
+-- a load from the place that the address map gives, or its exception
 abbrev pub loaded_from : CoreState → BusState → Size → ℕ → (ℕ → Registers) → Result Physical Fault → Step
 loaded_from c b size addr after (Err fault) = refused c b Load addr fault
 loaded_from c b size addr after (Ok place) = (let r = aligned_load b place.0 size in load_answered c r.1 after r.0)
@@ -89,8 +88,9 @@ loaded_from c b size addr after (Ok place) = (let r = aligned_load b place.0 siz
 -- what the bus answered to a store
 abbrev pub store_answered : CoreState → BusState → Result (Unit {0}) BusError → Step
 store_answered c b (Err e) = trapped c b DataBus
-store_answered c b (Ok done) = gone c b (settled c.registers)
+store_answered c b (Ok done) = at_next c b (settled c.registers)
 
+-- a store to the place that the address map gives, or its exception
 abbrev pub stored_to : CoreState → BusState → Size → ℕ → (ℕ → ℕ) → Result Physical Fault → Step
 stored_to c b size addr after (Err fault) = refused c b Store addr fault
 stored_to c b size addr after (Ok place) = (let r = aligned_store b place.0 size (after (kept b place.0)) in store_answered c r.1 r.0)

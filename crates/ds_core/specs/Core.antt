@@ -14,6 +14,7 @@ use Rattle.ds_core.specs.declared.processor.Core.{Core}
 use Rattle.ds_core.specs.declared.event.Event.{Event}
 use Rattle.ds_core.specs.declared.event.Event.TheVariants.{Retired, Branched, Raised}
 
+-- the processor: registers, places of the program, system coprocessor, translation buffer
 pub record CoreState : Type 0 where
   pub registers : Registers
   pub pc : ℕ
@@ -25,6 +26,7 @@ pub record CoreState : Type 0 where
   pub entries : List Entry
   pub random : ℕ
 
+-- its registers as one record
 abbrev pub registers_of : {L : Type 0} → Core L → Registers
 registers_of c = record { general = c.registers; hi = c.hi; lo = c.lo; late = c.late }
 
@@ -51,26 +53,29 @@ abbrev pub exception : CoreState → ExceptionCode → Exception
 exception c code = record { code = code; pc = c.pc; slot = c.slot; unit = 0; addr = None; miss = false }
 
 -- at the exception's vector; a late load is finished
-abbrev pub raised_core : CoreState → Exception → CoreState
-raised_core c e = record c { registers = settled c.registers; pc = vector e; next = word (vector e + 4); slot = false; system = entered c.system e }
+abbrev pub core_at_vector : CoreState → Exception → CoreState
+core_at_vector c e = record c { registers = settled c.registers; pc = vector e; next = word (vector e + 4); slot = false; system = entered c.system e }
 
-abbrev pub raised : CoreState → BusState → Exception → Step
-raised c b e = record { event = Raised e.code; core = raised_core c e; bus = b }
+-- the exception is raised, and the bus is as it was
+abbrev pub at_vector : CoreState → BusState → Exception → Step
+at_vector c b e = record { event = Raised e.code; core = core_at_vector c e; bus = b }
 
+-- the exception of this code is raised
 abbrev pub trapped : CoreState → BusState → ExceptionCode → Step
-trapped c b code = raised c b (exception c code)
+trapped c b code = at_vector c b (exception c code)
 
-abbrev pub gone_core : CoreState → Registers → CoreState
-gone_core c r = record c { registers = r; pc = c.next; next = word (c.next + 4); slot = false }
+-- the processor at the next instruction, with these registers
+abbrev pub core_at_next : CoreState → Registers → CoreState
+core_at_next c r = record c { registers = r; pc = c.next; next = word (c.next + 4); slot = false }
 
 -- on behind the instruction
-abbrev pub gone : CoreState → BusState → Registers → Step
-gone c b r = record { event = Retired; core = gone_core c r; bus = b }
+abbrev pub at_next : CoreState → BusState → Registers → Step
+at_next c b r = record { event = Retired; core = core_at_next c r; bus = b }
 
 -- the registers behind a branch, with the address behind its slot in the one that links
-abbrev pub linked : Option ℕ → ℕ → Registers → Registers
-linked None pc r = settled r
-linked (Some n) pc r = written r n (behind_slot pc)
+abbrev pub with_link : Option ℕ → ℕ → Registers → Registers
+with_link None pc r = settled r
+with_link (Some n) pc r = written r n (behind_slot pc)
 
 -- on into the slot, and behind it at the target
 abbrev pub branched_core : CoreState → Registers → ℕ → CoreState

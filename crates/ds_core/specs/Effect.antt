@@ -7,12 +7,12 @@ use Rattle.ds_isa.specs.Meaning.{Effect, Goes, Branches, Loads, Stores, Faults, 
 use Rattle.ds_cp0.specs.declared.exception.ExceptionCode.{ExceptionCode}
 use Rattle.ds_cp0.specs.declared.exception.ExceptionCode.TheVariants.{Interrupt, FetchBus, SystemCall, Breakpoint, ReservedInstruction, Overflow}
 use Rattle.ds_cp0.specs.System.{is_pending}
-use Rattle.ds_amap.specs.declared.map.Access.TheVariants.{Fetch, Load, Store}
+use Rattle.ds_isa.specs.declared.instr.Kind.TheVariants.{Fetch, Load, Store}
 use Rattle.ds_amap.specs.declared.map.Physical.{Physical}
 use Rattle.ds_amap.specs.declared.map.Fault.{Fault}
 use Rattle.ds_dev.specs.declared.fault.BusError.{BusError}
 use Rattle.ds_dev.specs.Bus.{BusState, lines}
-use Rattle.ds_core.specs.Core.{CoreState, Step, trapped, gone, branched, with_tick}
+use Rattle.ds_core.specs.Core.{CoreState, Step, trapped, at_next, branched, with_tick}
 use Rattle.ds_core.specs.Access.{reached, refused, aligned_load, loaded_from, stored_to}
 use Rattle.ds_core.specs.Coprocessor.{privileged}
 
@@ -20,8 +20,9 @@ use Rattle.ds_core.specs.Coprocessor.{privileged}
 abbrev pub fault_code : ℕ → ExceptionCode
 fault_code code = if code == 9 then Breakpoint else if code == 12 then Overflow else ReservedInstruction
 
+-- what an instruction's effect makes of processor and bus
 abbrev pub effect : CoreState → BusState → Instr → Effect → Step
-effect c b i (Goes after) = gone c b after
+effect c b i (Goes after) = at_next c b after
 effect c b i (Branches after target) = branched c.slot c b after target
 effect c b i (Loads size addr after) = loaded_from c b size addr after (reached c Load size addr)
 effect c b i (Stores size addr after) = stored_to c b size addr after (reached c Store size addr)
@@ -38,6 +39,7 @@ abbrev pub fetch_answered : CoreState → BusState → Result ℕ BusError → S
 fetch_answered c b (Err e) = trapped c b FetchBus
 fetch_answered c b (Ok w) = executed c b (instruction_of w)
 
+-- the instruction at the place that the address map gives, or the exception of its fetch
 abbrev pub fetched_from : CoreState → BusState → Result Physical Fault → Step
 fetched_from c b (Err fault) = refused c b Fetch c.pc fault
 fetched_from c b (Ok place) = (let r = aligned_load b place.0 Word in fetch_answered c r.1 r.0)

@@ -1,7 +1,8 @@
 -- The nine words of the refill handler, run by the processor after a miss at 00410000 whose page-table entry stands in a
 -- page that an entry of kseg2 maps to frame 1.
-use Rattle.std.specs.Prelude.{◌≡◌, ℕ, zero, suc, ◌+◌, ◌-◌, ◌/◌, ◌%◌, ◌^◌, true, false, List, [], ◌∷◌, ◌++◌, map, replicate, slice_index, refl, Some, None}
+use Rattle.std.specs.Prelude.{◌≡◌, ℕ, zero, suc, ◌+◌, ◌-◌, ◌^◌, true, false, List, [], ◌∷◌, ◌++◌, map, replicate, slice_index, refl, Some, None}
 use Rattle.std.specs.List.{range_with_len}
+use Rattle.ds_word.specs.Bytes.{bytes_of_words}
 use Rattle.ds_tlb.specs.declared.entry.Entry.{Entry}
 use Rattle.ds_tlb.specs.Entries.{find, empty_entry}
 use Rattle.ds_cp0.specs.declared.exception.ExceptionCode.TheVariants.{LoadMiss}
@@ -11,25 +12,24 @@ use Rattle.ds_dev.specs.Bus as bus
 use Rattle.ds_core.specs.Core.{CoreState}
 use Rattle.ds_core.specs.Effect.{step}
 
--- the bytes of words, the lowest first
-abbrev pub bytes_of : List ℕ → List ℕ
-bytes_of [] = []
-bytes_of (w ∷ ws) = (w % 2 ^ 8) ∷ (w / 2 ^ 8 % 2 ^ 8) ∷ (w / 2 ^ 16 % 2 ^ 8) ∷ (w / 2 ^ 24) ∷ bytes_of ws
-
 -- so many steps
 abbrev pub steps : ℕ → CoreState → BusState → CoreState
 steps zero c b = c
 steps (suc n) c b = (let s = step c b in steps n s.core s.bus)
 
+-- the bytes of the nine words
 abbrev handler : List ℕ
-handler = bytes_of (0x401A2000 ∷ 0x401B7000 ∷ 0x8F5A0000 ∷ 0 ∷ 0x409A1000 ∷ 0x0000D021 ∷ 0x42000006 ∷ 0x03600008 ∷ 0x42000010 ∷ [])
+handler = bytes_of_words (0x401A2000 ∷ 0x401B7000 ∷ 0x8F5A0000 ∷ 0 ∷ 0x409A1000 ∷ 0x0000D021 ∷ 0x42000006 ∷ 0x03600008 ∷ 0x42000010 ∷ [])
 
+-- memory with the handler at 0, and a page table with the entry at 1040
 abbrev bus_at_miss : BusState
-bus_at_miss = bus.at_start (handler ++ (replicate (4096 + 0x40 - 36) 0 ++ bytes_of (0x2200 ∷ [])))
+bus_at_miss = bus.at_start (handler ++ (replicate (4096 + 0x40 - 36) 0 ++ bytes_of_words (0x2200 ∷ [])))
 
+-- the entry that maps the table's page
 abbrev table_page : Entry
 table_page = record { vpn = 0xC0001; asid = 1; pfn = 1; n = false; d = false; v = true; g = false }
 
+-- the processor at the handler's first word, behind a load that missed
 abbrev core_at_miss : CoreState
 core_at_miss = record {
   registers = record { general = 0 ∷ replicate 31 7; hi = 0; lo = 0; late = None };
@@ -41,6 +41,7 @@ core_at_miss = record {
   random = 63;
 }
 
+-- the processor nine steps later
 abbrev core_after : CoreState
 core_after = steps 9 core_at_miss bus_at_miss
 

@@ -9,7 +9,8 @@ use Rattle.ds_core.specs.declared.event.Event.{Event}
 use Rattle.ds_core.specs.declared.event.Event.TheVariants.{Retired, Branched, Raised}
 use Rattle.ds_core.specs.Core.{CoreState, Step}
 use Rattle.ds_core.specs.Effect.{step}
-use Rattle.ds_core.specs.Refilled.{bytes_of, steps}
+use Rattle.ds_word.specs.Bytes.{bytes_of_words}
+use Rattle.ds_core.specs.Refilled.{steps}
 
 -- the kernel at 80000000, registers 1 to 31 with 7 but the eighth
 abbrev kernel : ℕ → CoreState
@@ -23,14 +24,16 @@ kernel eighth = record {
   random = 63;
 }
 
-abbrev over : List ℕ → BusState
-over words = bus.at_start (bytes_of words)
+-- a bus whose memory begins with these words
+abbrev bus_with : List ℕ → BusState
+bus_with words = bus.at_start (bytes_of_words words)
 
+-- general register n
 abbrev general : CoreState → ℕ → ℕ
 general c n = slice_index c.registers.general n
 
 -- a load is late for the instruction behind it, whose own write wins
-pub late : general (steps 2 (kernel 0x80000008) (over (0x8D090000 ∷ 0x01202021 ∷ 0x55 ∷ []))) 4 ∷ general (steps 2 (kernel 0x80000008) (over (0x8D090000 ∷ 0x24090001 ∷ 0x55 ∷ []))) 9 ∷ [] ≡ 7 ∷ 1 ∷ []
+pub late : general (steps 2 (kernel 0x80000008) (bus_with (0x8D090000 ∷ 0x01202021 ∷ 0x55 ∷ []))) 4 ∷ general (steps 2 (kernel 0x80000008) (bus_with (0x8D090000 ∷ 0x24090001 ∷ 0x55 ∷ []))) 9 ∷ [] ≡ 7 ∷ 1 ∷ []
 late = refl
 
 -- the code of an exception, 100 for a branch and 200 for what is done
@@ -55,6 +58,7 @@ absent = record { vpn = 0x401; asid = 1; pfn = 0; n = false; d = true; v = false
 abbrev nowhere : Entry
 nowhere = record { vpn = 0x402; asid = 1; pfn = 0x800; n = false; d = true; v = true; g = false }
 
+-- a processor in user mode with this value in register 8
 abbrev user : ℕ → CoreState
 user eighth = record (kernel eighth) {
   pc = 0x400000;
@@ -65,7 +69,7 @@ user eighth = record (kernel eighth) {
 
 -- the step of a user over a word
 abbrev of_user : ℕ → ℕ → List ℕ
-of_user eighth w = row (step (user eighth) (over (w ∷ [])))
+of_user eighth w = row (step (user eighth) (bus_with (w ∷ [])))
 
 -- loads: off four, in the kernel's half, of a page that no entry names, that is not valid, where nothing is
 pub loads :
@@ -107,13 +111,13 @@ abbrev in_slot : CoreState → CoreState
 in_slot c = record c { slot = true }
 
 pub slots :
-    row (step (in_slot (user 0)) (over (0x0000000C ∷ []))) ∷ row (step (in_slot (user 0)) (over (0x10000001 ∷ []))) ∷ []
+    row (step (in_slot (user 0)) (bus_with (0x0000000C ∷ []))) ∷ row (step (in_slot (user 0)) (bus_with (0x10000001 ∷ []))) ∷ []
     ≡ (8 ∷ 0x3FFFFC ∷ 0 ∷ 0x40 ∷ 0x80000020 ∷ 62 ∷ 0x80000080 ∷ []) ∷ (10 ∷ 0x3FFFFC ∷ 0 ∷ 0x40 ∷ 0x80000028 ∷ 62 ∷ 0x80000080 ∷ []) ∷ []
 slots = refl
 
 -- fetches: off four before the segment, the kernel's half, a miss, a page that is not valid, where nothing is
 abbrev from : ℕ → List ℕ
-from pc = row (step (record (user 0) { pc = pc }) (over []))
+from pc = row (step (record (user 0) { pc = pc }) (bus_with []))
 
 pub fetches :
     from 0x80000002 ∷ from 0x80000000 ∷ from 0x403000 ∷ from 0x401000 ∷ from 0x402000 ∷ []
@@ -131,9 +135,9 @@ abbrev asked : CoreState → CoreState
 asked c = record c { system = record c.system { status = 0x101; cause = 0x100 } }
 
 pub interrupts :
-    row (step (asked (in_slot (kernel 0))) (over (0 ∷ [])))
-    ∷ row (step (record (kernel 0x101) { system = record at_start { cause = 0x100 } }) (over (0x40886000 ∷ [])))
-    ∷ row (step (steps 1 (record (kernel 0x101) { system = record at_start { cause = 0x100 } }) (over (0x40886000 ∷ 0 ∷ []))) (over (0x40886000 ∷ 0 ∷ [])))
+    row (step (asked (in_slot (kernel 0))) (bus_with (0 ∷ [])))
+    ∷ row (step (record (kernel 0x101) { system = record at_start { cause = 0x100 } }) (bus_with (0x40886000 ∷ [])))
+    ∷ row (step (steps 1 (record (kernel 0x101) { system = record at_start { cause = 0x100 } }) (bus_with (0x40886000 ∷ 0 ∷ []))) (bus_with (0x40886000 ∷ 0 ∷ [])))
     ∷ []
     ≡ (0 ∷ 0x7FFFFFFC ∷ 0 ∷ 0 ∷ 0x80000100 ∷ 63 ∷ 0x80000080 ∷ [])
     ∷ (200 ∷ 0 ∷ 0 ∷ 0 ∷ 0x100 ∷ 62 ∷ 0x80000004 ∷ [])

@@ -1,10 +1,6 @@
 //! The processor and its step.
-ghost use Rattle.std.specs.Prelude.{◌≡◌};
-ghost use Rattle.ds_tlb.specs.Entries.{ticked};
-ghost use Rattle.ds_cp0.specs.System.{is_pending};
-ghost use Rattle.ds_dev.specs.Bus.{lines};
-ghost use Rattle.ds_core.specs.Core.{state_of};
-ghost use Rattle.ds_core.specs.Effect.{instruction, step};
+ghost use Rattle.std.specs.Prelude.{◌≡◌, ◌<◌, slice_index};
+ghost use Rattle.std.specs.Option.{ForSome};
 
 mod access;
 mod ahead;
@@ -23,14 +19,15 @@ use ds_dev::Bus;
 use ds_isa::{Late, Size};
 use ds_tlb::Lookaside;
 
-/// The processor's registers, its system coprocessor and its translation buffer.
+/// The processor's registers, its system coprocessor and its translation buffer. Register 0 reads 0
+/// in every processor that there is: code that puts anything else there is refused.
 #[derive(Drop)]
 pub struct Core<L> {
     /// The general registers; register 0 holds 0.
     pub registers: [u32; 32],
     pub hi: u32,
     pub lo: u32,
-    /// The register whose load is late.
+    /// The register whose load is late, from 1 to 31.
     pub late: Option<Late>,
     pub pc: u32,
     /// Where the program goes on behind the instruction at `pc`.
@@ -39,9 +36,17 @@ pub struct Core<L> {
     pub slot: bool,
     pub cp0: Cp0,
     pub tlb: L,
+    pub ghost nought: { slice_index registers 0 ≡ 0 },
+    pub ghost late_register: { ForSome late (λ l. (0 < l.register) × (l.register < 32)) },
 }
 
 impl<L: Lookaside> Core<L> {
+    ghost use Rattle.ds_tlb.specs.Entries.{ticked};
+    ghost use Rattle.ds_cp0.specs.System.{is_pending};
+    ghost use Rattle.ds_dev.specs.Bus.{lines};
+    ghost use Rattle.ds_core.specs.Core.{state_of};
+    ghost use Rattle.ds_core.specs.Effect.{instruction, step};
+
     /// A step: takes an interrupt that is pending, or does the instruction at `pc`.
     #[inline(always)]
     fn proceed(&mut self, bus: &mut Bus) -> Event

@@ -35,7 +35,8 @@ fn main(rt: HostRuntime) -> io::Result<ExitCode> {
         let mut plain: Machine<Indexed<64, 8>> = Machine::new(rt.alloc(), &image)?;
         let mut ahead: Machine<Tlb<64, 8>> = Machine::new(rt.alloc(), &image)?;
         if over_indexed && go_alike(&mut plain, &mut ahead) {
-            println!(rt; "{name}: alike, {} wrong", plain.core.registers[17])?;
+            let wrong = plain.core.registers[17];
+            println!(rt; "{name}: alike, {wrong} wrong")?;
         } else {
             println!(rt; "{name}: not alike")?;
             status = ExitCode::FAILURE;

@@ -1,6 +1,6 @@
 -- The system coprocessor's registers, and what exceptions and writes make of them (Kane and Heinrich, chapters 4 and 5).
 use Rattle.std.specs.Prelude.{ℕ, ◌+◌, ◌-◌, ◌*◌, ◌/◌, ◌%◌, ◌^◌, Bool, false, ◌&&◌, not, nat_lt, ◌==◌, if◌then◌else◌, Option, Some, None, bit_and}
-use Rattle.ds_word.specs.Word.{word, bits}
+use Rattle.ds_word.specs.Word.{word, bits, bit}
 use Rattle.ds_cp0.specs.declared.exception.Exception.{Exception}
 use Rattle.ds_cp0.specs.Codes.{number_of, is_translation}
 
@@ -18,10 +18,6 @@ pub record System : Type 0 where
 -- all zero
 abbrev pub at_start : System
 at_start = record { index = 0; entry_lo = 0; context = 0; bad_vaddr = 0; entry_hi = 0; status = 0; cause = 0; epc = 0 }
-
--- a bit of a word
-abbrev pub flag : ℕ → Bool → ℕ
-flag at set = if set then 2 ^ at else 0
 
 -- w with so many bits from lo on replaced
 abbrev pub with_field : ℕ → ℕ → ℕ → ℕ → ℕ
@@ -56,7 +52,7 @@ with_address c e (Some a) =
 abbrev pub cause_of : ℕ → Exception → ℕ
 cause_of cause e =
     let unit = if number_of e.code == 11 then e.unit % 4 else bits cause 28 2 in
-    flag 31 e.slot + unit * 2 ^ 28 + bits cause 8 2 * 2 ^ 8 + number_of e.code * 2 ^ 2
+    bit 31 e.slot + unit * 2 ^ 28 + bits cause 8 2 * 2 ^ 8 + number_of e.code * 2 ^ 2
 
 -- the place at which the program goes on later: in a slot its branch
 abbrev pub epc_of : Exception → ℕ
@@ -111,4 +107,4 @@ is_user c = bits c.status 1 1 == 1
 
 -- whether interrupts are on and an enabled one is asked for, by software or by a device
 abbrev pub is_pending : System → Bool → Bool → Bool
-is_pending c ip2 ip3 = (bits c.status 0 1 == 1) && not (bit_and (bits c.status 8 8) (bits c.cause 8 2 + flag 2 ip2 + flag 3 ip3) == 0)
+is_pending c ip2 ip3 = (bits c.status 0 1 == 1) && not (bit_and (bits c.status 8 8) (bits c.cause 8 2 + bit 2 ip2 + bit 3 ip3) == 0)

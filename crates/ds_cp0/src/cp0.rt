@@ -5,9 +5,10 @@ ghost use Rattle.ds_cp0.specs.System.{at_start, vector, with_address, entered, r
 use crate::exception::Exception;
 use crate::register;
 use crate::words::{
-    bit, cause_of, epc_of, popped, pushed, vector, with_base, with_page, with_requests, with_vpn,
+    cause_of, epc_of, popped, pushed, vector, with_base, with_page, with_requests, with_vpn,
     writable_index, writable_status,
 };
+use ds_word::bit;
 use std::marker::Model;
 
 /// What PRId reads.
@@ -75,7 +76,7 @@ impl Cp0 {
         ensures { result ≡ is_pending self.now ip2 ip3 }
     {
         let mask = (self.status >> 8) & 0xff;
-        let requests = ((self.cause >> 8) & 3) + bit(4, ip2) + bit(8, ip3);
+        let requests = ((self.cause >> 8) & 3) + bit(2, ip2) + bit(3, ip3);
         self.status & 1 == 1 && mask & requests != 0
     }
 

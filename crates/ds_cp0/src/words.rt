@@ -1,7 +1,7 @@
 //! What exceptions and writes make of a register's word.
-ghost use Rattle.std.specs.Prelude.{◌≡◌, ◌+◌, ◌^◌, ◌<◌, if◌then◌else◌};
-ghost use Rattle.ds_word.specs.Word.{bits};
-ghost use Rattle.ds_cp0.specs.System.{flag, pushed, popped, with_field, cause_of, epc_of, vector, writable_index, writable_status};
+ghost use Rattle.std.specs.Prelude.{◌≡◌, ◌+◌, ◌^◌, ◌<◌};
+ghost use Rattle.ds_word.specs.Word.{bits, bit};
+ghost use Rattle.ds_cp0.specs.System.{pushed, popped, with_field, cause_of, epc_of, vector, writable_index, writable_status};
 
 use crate::exception::{Exception, ExceptionCode};
 
@@ -88,17 +88,9 @@ pub(crate) fn cause_of(cause: u32, exception: &Exception) -> u32
 /// Cause with BD above its other bits.
 fn delayed(slot: bool, rest: u32) -> u32
     requires { rest < 2 ^ 31 }
-    ensures { result ≡ flag 31 slot + rest }
+    ensures { result ≡ bit 31 slot + rest }
 {
     if slot { 0x8000_0000 | rest } else { rest }
-}
-
-/// The value of a bit.
-#[inline(always)]
-pub(crate) fn bit(value: u32, set: bool) -> u32
-    ensures { result ≡ (if set then value else 0) }
-{
-    if set { value } else { 0 }
 }
 
 /// Where the program goes on later: in a slot its branch.

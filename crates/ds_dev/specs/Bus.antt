@@ -1,14 +1,15 @@
 -- The bus: memory, the serial lines, the clock and the system register, each at its place.
 use Rattle.std.specs.Prelude.{ℕ, ◌+◌, ◌*◌, ◌/◌, ◌%◌, ◌^◌, Bool, true, false, ◌&&◌, nat_lt, nat_le, ◌==◌, if◌then◌else◌, List, slice_index, slice_set, Result, Ok, Err}
-use Rattle.ds_word.specs.Word.{bits}
+use Rattle.ds_word.specs.Word.{bits, bit}
 use Rattle.ds_isa.specs.declared.instr.Size.{Size}
 use Rattle.ds_isa.specs.declared.instr.Size.TheVariants.{Byte, Half, Word, Part}
-use Rattle.ds_mem.specs.Memory.{word_at, with_word}
-use Rattle.ds_dev.specs.Words.{flag, is_set}
+use Rattle.ds_word.specs.Bytes.{word_at, with_word}
+use Rattle.ds_dev.specs.Words.{is_set}
 use Rattle.ds_dev.specs.Serial.{SerialState, serial_at_start, serial_requests, control_word, with_control, with_enables, read_silo, transmitted}
 use Rattle.ds_dev.specs.Clock.{ClockState, clock_at_start, clock_after, clock_requests, read_flags, with_rate, with_enable}
 use Rattle.ds_dev.specs.declared.fault.BusError.{BusError}
 
+-- memory and the registers of the devices
 pub record BusState : Type 0 where
   -- the bytes of memory
   pub memory : List ℕ
@@ -67,7 +68,7 @@ is_enabled system = is_set system 7
 
 -- what the system register reads: the serial lines' request in bit 7, the enables in 23 to 16
 abbrev pub system_word : BusState → ℕ
-system_word b = flag 7 (serial_requests b.serial) + b.system * 2 ^ 16
+system_word b = bit 7 (serial_requests b.serial) + b.system * 2 ^ 16
 
 -- the requests to IP2 and to IP3
 abbrev pub lines : BusState → Bool × Bool
@@ -101,7 +102,7 @@ register_load b a =
     if a == 0x1FE00010 then answers b b.serial.enables else
     if a == 0x1FE00018 then answers b 0 else
     if a == 0x1FE80028 then answers b b.clock.rate else
-    if a == 0x1FE8002C then answers b (flag 6 b.clock.enabled) else
+    if a == 0x1FE8002C then answers b (bit 6 b.clock.enabled) else
     if a == 0x1FE80030 then clock_answers b (read_flags b.clock) else
     if a == 0x1FF00000 then answers b (system_word b) else
     if is_clock a then answers b 0 else nothing_answers b

@@ -1,7 +1,9 @@
 -- The clock, which asks for an interrupt once in a period of its rate.
 use Rattle.std.specs.Prelude.{ℕ, ◌+◌, ◌/◌, ◌%◌, ◌^◌, Bool, false, ◌&&◌, ◌||◌, nat_lt, nat_le}
-use Rattle.ds_dev.specs.Words.{flag, is_set}
+use Rattle.ds_word.specs.Word.{bit}
+use Rattle.ds_dev.specs.Words.{is_set}
 
+-- the clock's registers and its time
 pub record ClockState : Type 0 where
   -- 0 to 15; a rate r from 3 up has a period of 2^(r + 2) ticks, a lower one none
   pub rate : ℕ
@@ -29,7 +31,7 @@ clock_requests c = c.flagged && c.enabled
 
 -- what the register of flags reads
 abbrev pub flags_word : ClockState → ℕ
-flags_word c = flag 7 (clock_requests c) + flag 6 c.flagged
+flags_word c = bit 7 (clock_requests c) + bit 6 c.flagged
 
 -- reading the flags clears them
 abbrev pub read_flags : ClockState → ℕ × ClockState

@@ -1,8 +1,10 @@
 -- The serial lines: four lines that share a silo of received characters.
 use Rattle.std.specs.Prelude.{ℕ, ◌+◌, ◌*◌, ◌%◌, ◌^◌, Bool, true, false, ◌&&◌, not, nat_lt, nat_le, ◌==◌, if◌then◌else◌, List, [], ◌∷◌, ◌++◌, length, drop, slice_get, Option, Some, None}
-use Rattle.ds_dev.specs.Words.{flag, is_set}
+use Rattle.ds_word.specs.Word.{bit}
+use Rattle.ds_dev.specs.Words.{is_set}
 use Rattle.ds_dev.specs.declared.serial.Character.{Character}
 
+-- the registers of the serial lines, and what came in
 pub record SerialState : Type 0 where
   -- whether a received character asks for an interrupt
   pub receiver_interrupts : Bool
@@ -43,7 +45,7 @@ serial_requests d = has_received d && d.receiver_interrupts
 
 -- what the control register reads
 abbrev pub control_word : SerialState → ℕ
-control_word d = flag 15 (is_ready d) + line_of d.enables * 2 ^ 8 + flag 7 (has_received d) + flag 6 d.receiver_interrupts + flag 5 d.master_scan
+control_word d = bit 15 (is_ready d) + line_of d.enables * 2 ^ 8 + bit 7 (has_received d) + bit 6 d.receiver_interrupts + bit 5 d.master_scan
 
 -- the lines after a write of the control register
 abbrev pub with_control : SerialState → ℕ → SerialState
@@ -55,7 +57,7 @@ with_enables d v = record d { enables = v % 2 ^ 4 }
 
 -- what a received character is read as
 abbrev pub received_word : Bool → Character → ℕ
-received_word overrun c = 2 ^ 15 + flag 14 overrun + c.line * 2 ^ 8 + c.byte
+received_word overrun c = 2 ^ 15 + bit 14 overrun + c.line * 2 ^ 8 + c.byte
 
 -- what is read of the silo, given its oldest character, and the lines after it
 abbrev pub taken : SerialState → Option Character → ℕ × SerialState

@@ -5,6 +5,7 @@ use Rattle.ds_dev.specs.Serial.{received, sent}
 use Rattle.ds_dev.specs.Bus.{BusState, at_start, with_serial, load, store, lines, after_ticks}
 use Rattle.ds_dev.specs.declared.fault.BusError.{BusError}
 
+-- the value that is read, or that nothing is there
 abbrev Answer : Type 0
 Answer = Result ℕ BusError
 
@@ -12,9 +13,11 @@ Answer = Result ℕ BusError
 abbrev stored : BusState → ℕ → ℕ → BusState
 stored b a v = (store b a Word v).1
 
+-- what a load of a word answers
 abbrev read : BusState → ℕ → Answer
 read b a = (load b a Word).0
 
+-- the bus behind that load
 abbrev after_read : BusState → ℕ → BusState
 after_read b a = (load b a Word).1
 
@@ -46,6 +49,7 @@ overrun = refl
 abbrev enabled : BusState
 enabled = stored scanned 0x1FE00010 4
 
+-- a bus with a character that waits to leave
 abbrev sending : BusState
 sending = stored enabled 0x1FE00018 0x141
 
@@ -59,6 +63,7 @@ leaves = refl
 abbrev ticking : BusState
 ticking = after_ticks (stored (stored (at_start []) 0x1FE80028 3) 0x1FE8002C 0x40) 31
 
+-- a bus whose clock has ended a period
 abbrev rung : BusState
 rung = after_ticks ticking 2
 

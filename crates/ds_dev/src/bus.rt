@@ -2,7 +2,7 @@
 ghost use Rattle.std.specs.Prelude.{◌≡◌, ◌%◌, ◌<◌, ◌≤◌, OnErr};
 ghost use Rattle.std.specs.Borrow.{sem};
 ghost use Rattle.ds_isa.specs.Instruction.{instruction_of};
-ghost use Rattle.ds_mem.specs.Memory.{word_at};
+ghost use Rattle.ds_word.specs.Bytes.{word_at};
 ghost use Rattle.ds_dev.specs.Bus.{at_start, alignment, load, store, register_load, register_store, after_ticks, lines, with_serial};
 ghost use Rattle.ds_dev.specs.Serial.{received, sent};
 ghost use Rattle.ds_dev.specs.Lending.{LendsMemory};

@@ -7,11 +7,11 @@
 //! | 1FE80030 | flags | 7 an interrupt is asked for, 6 a period has ended; reading clears them, a write does nothing |
 //! | 1FE80000 to 1FE800FC, else | | reads 0, a write does nothing |
 ghost use Rattle.std.specs.Prelude.{◌≡◌, ◌+◌, ◌/◌, ◌^◌, ◌&&◌, ◌<◌, ◌≤◌, nat_le, nat_lt, if◌then◌else◌};
-ghost use Rattle.ds_dev.specs.Words.{flag};
+ghost use Rattle.ds_word.specs.Word.{bit};
 ghost use Rattle.ds_dev.specs.Bus.{is_clock};
 ghost use Rattle.ds_dev.specs.Clock.{clock_at_start, clock_after, clock_requests, read_flags, with_rate, with_enable};
 
-use crate::serial::bit;
+use ds_word::bit;
 use std::marker::Model;
 
 /// The address of the clock's first register.
@@ -92,9 +92,9 @@ impl Clock {
 
     /// What the register of the enable reads.
     pub(crate) fn enable(&self) -> u32
-        ensures { result ≡ flag 6 self.now.enabled }
+        ensures { result ≡ bit 6 self.now.enabled }
     {
-        bit(0x40, self.enabled)
+        bit(6, self.enabled)
     }
 
     /// What the flags read, which clears them.
@@ -102,7 +102,7 @@ impl Clock {
         ensures value { result ≡ (read_flags self.old).0 }
         ensures state { self.new ≡ (read_flags self.old).1 }
     {
-        let flags = bit(0x80, self.flagged && self.enabled) + bit(0x40, self.flagged);
+        let flags = bit(7, self.flagged && self.enabled) + bit(6, self.flagged);
         self.flagged = false;
         flags
     }

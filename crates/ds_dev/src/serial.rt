@@ -8,11 +8,12 @@
 //! | 1FE00008, written | line parameters | none |
 //! | 1FE00010 | enables | 3 to 0, one a line |
 //! | 1FE00018, written | character to send | 7 to 0; reads 0 |
-ghost use Rattle.std.specs.Prelude.{◌≡◌, if◌then◌else◌};
+ghost use Rattle.std.specs.Prelude.{◌≡◌};
 ghost use Rattle.ds_word.specs.Word.{bits};
 ghost use Rattle.ds_dev.specs.Serial.{serial_at_start, line_of, is_ready, has_received, serial_requests, control_word, with_control, with_enables, read_silo, received, transmitted, sent};
 
 use arrayvec::ArrayVec;
+use ds_word::bit;
 use std::marker::Model;
 
 /// The control register's address.
@@ -80,11 +81,11 @@ impl SerialLines {
     pub(crate) fn control(&self) -> u32
         ensures { result ≡ control_word self.now }
     {
-        bit(0x8000, self.is_ready())
+        bit(15, self.is_ready())
             + self.line() * 0x100
-            + bit(0x80, !self.silo.is_empty())
-            + bit(0x40, self.receiver_interrupts)
-            + bit(0x20, self.master_scan)
+            + bit(7, !self.silo.is_empty())
+            + bit(6, self.receiver_interrupts)
+            + bit(5, self.master_scan)
     }
 
     /// The enabled lines, one bit each.
@@ -119,7 +120,7 @@ impl SerialLines {
                 let lost = self.overrun;
                 self.overrun = false;
                 0x8000
-                    + bit(0x4000, lost)
+                    + bit(14, lost)
                     + u32::from(character.line) * 0x100
                     + u32::from(character.byte)
             }
@@ -194,12 +195,4 @@ impl SerialLines {
             0
         }
     }
-}
-
-/// The value of a bit.
-#[inline(always)]
-pub(crate) fn bit(value: u32, set: bool) -> u32
-    ensures { result ≡ (if set then value else 0) }
-{
-    if set { value } else { 0 }
 }

@@ -4,11 +4,10 @@
 //! |---|---|
 //! | 1FF00000 | 7 to 0 requests, read only, of which 7 is that of the serial lines; 23 to 16 their enables |
 ghost use Rattle.std.specs.Prelude.{◌≡◌, ◌+◌, ◌*◌, ◌^◌, ◌&&◌};
-ghost use Rattle.ds_word.specs.Word.{bits};
-ghost use Rattle.ds_dev.specs.Words.{flag};
+ghost use Rattle.ds_word.specs.Word.{bits, bit};
 ghost use Rattle.ds_dev.specs.Bus.{is_enabled};
 
-use crate::serial::bit;
+use ds_word::bit;
 
 /// Its address.
 pub(crate) const ENABLES: u32 = 0x1ff0_0000;
@@ -29,9 +28,9 @@ impl SystemRegister {
 
     /// What it reads, while the serial lines ask for an interrupt or not.
     pub(crate) fn word(&self, request: bool) -> u32
-        ensures { result ≡ flag 7 request + self.now.enables * 2 ^ 16 }
+        ensures { result ≡ bit 7 request + self.now.enables * 2 ^ 16 }
     {
-        bit(0x80, request) + u32::from(self.enables) * 0x1_0000
+        bit(7, request) + u32::from(self.enables) * 0x1_0000
     }
 
     /// Writes the enables.

@@ -1,14 +1,14 @@
 -- What was read of the files is what they hold.
 use Rattle.std.proofs.Common.{◌≡◌, ◌∙◌, ℕ, List, [], ◌∷◌, map, refl, sym, ap, subst}
-use Rattle.std.specs.Prelude.{Option, Result, Ok, Err, All}
+use Rattle.std.specs.Prelude.{Result, Ok, Err, All}
 use Rattle.std.proofs.lemmas.List.Elements.{All-map, All-weaker}
 use Rattle.ds_policy.specs.PolicyText.{policy_of}
 use Rattle.ds_policy.specs.PolicyParts.{sources_of}
 use Rattle.ds_policy.specs.Value.{PolicyValue}
 use Rattle.ds_policy.specs.Refusal.{PolicyRefusal}
-use Rattle.ds_pagemap.specs.Inputs.{Sources, inputs}
-use Rattle.ds_station.specs.Headline.{EndsBy}
-use Rattle.ds_station.specs.declared.fault.Fault.{Fault}
+use Rattle.ds_pagemap.specs.Machine.{State}
+use Rattle.ds_pagemap.specs.Inputs.{Refusal, Sources, inputs, inputs_under}
+use Rattle.ds_station.proofs.Preparing.{under_policy}
 use Rattle.ds_drive.specs.declared.words.Request.{Request}
 use Rattle.ds_drive.specs.declared.run.SourceText.{SourceText}
 use Rattle.ds_drive.specs.Failures.{AreHeld}
@@ -40,10 +40,10 @@ are_held holds later request policy input texts sources value first second kept 
   sources_named = λ v is. ap (map (λ (s : List ℕ × List ℕ). s.0)) lent ∙ (names_of texts ∙ (names ∙ ap (λ (x : PolicyValue). sources_of x.pages) (same_value (policy_of policy) value v read is)));
 }
 
--- a fault of the run of the same texts
-pub ends_same : (fault : Fault) (p q : List ℕ) (s t : Sources) (i j : List ℕ) (n random : ℕ) (old new : Option (List ℕ))
-    → p ≡ q → s ≡ t → i ≡ j → EndsBy fault (inputs p s i n random) old new n → EndsBy fault (inputs q t j n random) old new n
-ends_same fault p q s t i j n random old new e f g ends =
-    subst (λ (x : List ℕ). EndsBy fault (inputs q t x n random) old new n) g
-    (subst (λ (x : Sources). EndsBy fault (inputs q x i n random) old new n) f
-    (subst (λ (x : List ℕ). EndsBy fault (inputs x s i n random) old new n) e ends))
+-- what holds of the inputs under the policy's value holds of those of the texts
+pub of_texts : (P : Result State Refusal → Type 0) (value : PolicyValue) (text : List ℕ) (s t : Sources) (i j : List ℕ) (n random : ℕ)
+    → policy_of text ≡ Ok value → s ≡ t → i ≡ j → P (inputs_under value s i n random) → P (inputs text t j n random)
+of_texts P value text s t i j n random read e f h =
+    subst P (sym (under_policy value text t j n random read))
+    (subst (λ (x : List ℕ). P (inputs_under value t x n random)) f
+    (subst (λ (x : Sources). P (inputs_under value x i n random)) e h))

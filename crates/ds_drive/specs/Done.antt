@@ -1,10 +1,11 @@
--- What the program has done where it tells of no fault.
+-- What the program has done.
 use Rattle.std.specs.Prelude.{◌⊎◌, ℕ, List, Option}
+use Rattle.std.specs.Io.KnownBytes.{Keeps}
 use Rattle.clap.specs.Words.{Text}
-use Rattle.ds_station.specs.Headline.{Begins, Writes}
+use Rattle.ds_station.specs.Headline.{Begins, Writes, WritesPart}
 use Rattle.ds_drive.specs.declared.words.Request.{Request}
 use Rattle.ds_drive.specs.Demo.{demo_inputs}
-use Rattle.ds_drive.specs.Failures.{RunsFiles}
+use Rattle.ds_drive.specs.Failures.{RunsFiles, CutsFiles}
 use Rattle.ds_drive.specs.Words.{AsksForDemo, AsksForRun}
 
 -- the words ask for the demonstration or for a run of files
@@ -16,3 +17,11 @@ abbrev pub IsDone : List Text → (List ℕ → List ℕ → Type 0) → Option 
 IsDone words holds old new =
     (AsksForDemo words × Begins demo_inputs (Writes old new 100))
     ⊎ ((request : Request) × AsksForRun words request × RunsFiles holds request old new)
+
+-- nothing is written; or what the words ask for was run, and a front of the text of a run that was
+-- cut short between two turns, or has ended, is written and nothing else
+abbrev pub IsCutShort : List Text → (List ℕ → List ℕ → Type 0) → Option (List ℕ) → Option (List ℕ) → Type 0
+IsCutShort words holds old new =
+    Keeps old new
+    ⊎ ((AsksForDemo words × Begins demo_inputs (WritesPart old new 100))
+    ⊎ ((request : Request) × AsksForRun words request × CutsFiles holds request old new))

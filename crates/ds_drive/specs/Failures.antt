@@ -1,12 +1,13 @@
 -- Why the program could not do what its words ask for, and what was written then.
-use Rattle.std.specs.Prelude.{◌≡◌, ◌⊎◌, ℕ, List, map, Option, Ok, All}
+use Rattle.std.specs.Prelude.{◌≡◌, ◌⊎◌, ℕ, List, map, Option, Result, Ok, All}
 use Rattle.std.specs.Io.KnownBytes.{Keeps}
 use Rattle.ds_policy.specs.PolicyText.{policy_of}
 use Rattle.ds_policy.specs.PolicyParts.{sources_of}
 use Rattle.ds_policy.specs.Value.{PolicyValue}
-use Rattle.ds_pagemap.specs.Inputs.{Sources, inputs}
+use Rattle.ds_pagemap.specs.Machine.{State}
+use Rattle.ds_pagemap.specs.Inputs.{Refusal, Sources, inputs}
 use Rattle.ds_station.specs.Faults.{number_of}
-use Rattle.ds_station.specs.Headline.{Begins, Writes, EndsBy}
+use Rattle.ds_station.specs.Headline.{Begins, Writes, WritesPart, EndsBy}
 use Rattle.ds_station.specs.declared.fault.Fault.{Fault}
 use Rattle.ds_station.specs.declared.fault.Fault.TheVariants.{Memory}
 use Rattle.ds_drive.specs.declared.words.Request.{Request}
@@ -19,6 +20,7 @@ failure_number (failure.UnreadableFile name) = 26
 failure_number (failure.UnreadableSource name) = 26
 failure_number (failure.Fault fault) = number_of fault
 
+-- the failure for want of memory
 abbrev pub memory_failure : Failure
 memory_failure = failure.Fault Memory
 
@@ -29,21 +31,25 @@ pub record AreHeld (holds : List ℕ → List ℕ → Type 0) (request : Request
   pub sources_held : All (λ s. holds s.0 s.1) sources
   pub sources_named : (value : PolicyValue) → policy_of policy ≡ Ok value → map (λ s. s.0) sources ≡ sources_of value.pages
 
--- such texts were run as the words ask for it, and the text of that run is written
-pub record RunsFiles (holds : List ℕ → List ℕ → Type 0) (request : Request) (old new : Option (List ℕ)) : Type 0 where
+-- of such texts, read as a run is asked for by the words, this holds
+pub record OfHeld (holds : List ℕ → List ℕ → Type 0) (request : Request) (P : Result State Refusal → Type 0) : Type 0 where
   pub policy : List ℕ
   pub sources : Sources
   pub input : List ℕ
   pub held : AreHeld holds request policy sources input
-  pub written : Begins (inputs policy sources input request.most_time request.random) (Writes old new request.most_time)
+  pub so : P (inputs policy sources input request.most_time request.random)
 
--- a run of such texts was refused or ended by a fault
-pub record StopsFiles (fault : Fault) (holds : List ℕ → List ℕ → Type 0) (request : Request) (old new : Option (List ℕ)) : Type 0 where
-  pub policy : List ℕ
-  pub sources : Sources
-  pub input : List ℕ
-  pub held : AreHeld holds request policy sources input
-  pub ends : EndsBy fault (inputs policy sources input request.most_time request.random) old new request.most_time
+-- they were run, and the text of that run is written
+abbrev pub RunsFiles : (List ℕ → List ℕ → Type 0) → Request → Option (List ℕ) → Option (List ℕ) → Type 0
+RunsFiles holds request old new = OfHeld holds request (λ read. Begins read (Writes old new request.most_time))
+
+-- their run was refused or ended by a fault
+abbrev pub StopsFiles : Fault → (List ℕ → List ℕ → Type 0) → Request → Option (List ℕ) → Option (List ℕ) → Type 0
+StopsFiles fault holds request old new = OfHeld holds request (λ read. EndsBy fault read old new request.most_time)
+
+-- their run was cut short between two turns or ended, and a front of its text is written
+abbrev pub CutsFiles : (List ℕ → List ℕ → Type 0) → Request → Option (List ℕ) → Option (List ℕ) → Type 0
+CutsFiles holds request old new = OfHeld holds request (λ read. Begins read (WritesPart old new request.most_time))
 
 -- what each failure leaves: nothing is written before all files are read
 abbrev pub StopsBy : Failure → (List ℕ → List ℕ → Type 0) → Request → Option (List ℕ) → Option (List ℕ) → Type 0

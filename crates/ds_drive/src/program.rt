@@ -1,7 +1,7 @@
-//! All of the program but the handing over of its words, files and streams.
+//! The whole program, which takes its words, files and streams from its caller.
 ghost use Rattle.std.specs.Prelude.{◌≡◌, ◌≢◌, ◌≤◌, ◌⊎◌, ◌∷◌, List, [], ℕ, codes, map, string_bytes};
 ghost use Rattle.std.specs.Io.KnownBytes.{Keeps};
-ghost use Rattle.ds_drive.specs.Done.{AsksForSomething, IsDone};
+ghost use Rattle.ds_drive.specs.Done.{AsksForSomething, IsCutShort, IsDone};
 ghost use Rattle.ds_drive.specs.Failures.{failure_number};
 ghost use Rattle.ds_drive.specs.Statuses.{fault_status};
 ghost use Rattle.ds_drive.specs.Words.{AsksForDemo};
@@ -19,7 +19,7 @@ use std::io::{ErrorKind, Write};
 /// Does what the words ask for, the program's own name first, and answers the status: 0 done; 1 the
 /// words were refused for another cause than memory, or ask for help; 2 refused input; 3 a fault of
 /// the run. What was refused is told on `err`; that a write there fails changes no status.
-#[tactic(auto, using(crate::proofs::WordLemmas::alone))]
+#[tactic(auto, using(crate::proofs::WordLemmas::alone, crate::proofs::Cuts::nothing_written, crate::proofs::Cuts::demo_cut, crate::proofs::Cuts::run_cut))]
 pub fn drive<F: Files, W: Write, E: Write>(
     alloc: Global,
     words: &[String],
@@ -34,6 +34,8 @@ pub fn drive<F: Files, W: Write, E: Write>(
         → result ≢ 1 }
     ensures refused { result ≡ 1 → W.contents out.new ≡ W.contents out.old }
     ensures done { result ≡ 0 → IsDone (map string_bytes words.now) (F.holds files.old) (W.contents out.old) (W.contents out.new) }
+    ensures cut { result ≡ 3 → IsCutShort (map string_bytes words.now) (F.holds files.old)
+        (W.contents out.old) (W.contents out.new) }
     ensures unread { result ≡ 2 → Keeps (W.contents out.old) (W.contents out.new) }
     ensures silent { result ≡ 0 → E.contents err.new ≡ E.contents err.old }
     ensures kept { (file bytes : List ℕ) → F.holds files.new file bytes → F.holds files.old file bytes }

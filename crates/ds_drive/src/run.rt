@@ -7,7 +7,7 @@ use crate::failure::Failure;
 use crate::files::{FileFault, Files};
 use crate::words::Request;
 use ds_policy::{Policy, Text};
-use ds_station::{Fault, run_files};
+use ds_station::{Fault, run_policy};
 use std::alloc::{AllocError, Global};
 use std::io::Write;
 
@@ -38,9 +38,9 @@ pub fn run_request<'a, F: Files, W: Write>(
     };
     let texts = source_texts(alloc, files, policy.sources())?;
     let sources = lent(alloc, texts.as_slice())?;
-    match run_files(
+    match run_policy(
         alloc,
-        policy_text.as_slice(),
+        &policy,
         sources.as_slice(),
         input.as_slice(),
         request.most_time,

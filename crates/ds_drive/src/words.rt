@@ -151,8 +151,9 @@ fn request_of<'a>(found: &ArgMatches<'a>) -> Option<Request<'a>>
 }
 
 /// What `words` ask for, the program's own name first. An error is clap's: a mistake in the words,
-/// a call for help or the version, or memory that ran out. `None` stands for words that clap takes
-/// and that name no command or leave a word out, which it does not let through.
+/// a call for help or the version, or memory that ran out. `None` would stand for words that clap
+/// accepts although they name no command or leave an argument out. It is not reached, since clap
+/// rejects such words; that it does is not proved.
 pub fn wish_of<'a>(alloc: Global, words: &'a [String]) -> Result<Option<Wish<'a>>, Error>
     ensures refused { FailsBy (fault_of dsmon_app (map string_bytes words.entry.now)) result }
     ensures named { IfOk result (λ wish. (wish ≡ Some Wish.Demo)

@@ -43,6 +43,7 @@ none_of w (f ∷ fs) gs hf hg =
 abbrev apart : Row → Row → Bool
 apart r s = list_any (λ f. list_any (clash f) s.fixed) r.fixed
 
+-- a word has all that a row fixes
 abbrev fixed_fit : Row → ℕ → Bool
 fixed_fit r w = list_all (holds w) r.fixed
 

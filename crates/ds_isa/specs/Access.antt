@@ -1,26 +1,30 @@
--- The size of the access that an instruction makes.
-use Rattle.std.specs.Prelude.{Option, Some, None}
+-- Accesses: what they do, which addresses suit them, and which size an instruction asks for.
+use Rattle.std.specs.Prelude.{ℕ, ◌%◌, ◌==◌, Bool, true, false, Option, Some, None}
 use Rattle.ds_isa.specs.declared.instr.Size.{Size}
 use Rattle.ds_isa.specs.declared.instr.Size.TheVariants.{Byte, Half, Word, Part}
+use Rattle.ds_isa.specs.declared.instr.Kind.{Kind}
+use Rattle.ds_isa.specs.declared.instr.Kind.TheVariants.{Fetch, Load, Store}
 use Rattle.ds_isa.specs.declared.instr.Instr.{Instr}
-use Rattle.ds_isa.specs.declared.instr.Instr.TheVariants as instr
+use Rattle.ds_isa.specs.Encoding.{uses}
+use Rattle.ds_isa.specs.Shapes.{size_of}
 use Rattle.ds_isa.specs.Meaning.{Effect, Loads, Stores}
+
+-- whether an access writes bytes
+abbrev pub is_store : Kind → Bool
+is_store Fetch = false
+is_store Load = false
+is_store Store = true
+
+-- whether an address suits the size of an access
+abbrev pub is_aligned : Size → ℕ → Bool
+is_aligned Byte address = true
+is_aligned Half address = address % 2 == 0
+is_aligned Word address = address % 4 == 0
+is_aligned Part address = true
 
 -- the size of the load or the store that an instruction is, if it is one
 abbrev pub access_size : Instr → Option Size
-access_size (instr.Lb rt rs i) = Some Byte
-access_size (instr.Lh rt rs i) = Some Half
-access_size (instr.Lwl rt rs i) = Some Part
-access_size (instr.Lw rt rs i) = Some Word
-access_size (instr.Lbu rt rs i) = Some Byte
-access_size (instr.Lhu rt rs i) = Some Half
-access_size (instr.Lwr rt rs i) = Some Part
-access_size (instr.Sb rt rs i) = Some Byte
-access_size (instr.Sh rt rs i) = Some Half
-access_size (instr.Swl rt rs i) = Some Part
-access_size (instr.Sw rt rs i) = Some Word
-access_size (instr.Swr rt rs i) = Some Part
-access_size other = None
+access_size i = size_of (uses i).shape
 
 -- the size of the load or the store that an effect asks for, if it asks for one
 abbrev pub size_asked : Effect → Option Size

@@ -1,147 +1,106 @@
--- The word of an instruction, and the registers that it uses.
-use Rattle.std.specs.Prelude.{ℕ, [], ◌∷◌, Some, None}
+-- The word of an instruction and the registers that it uses, as its row has them.
+use Rattle.std.specs.Prelude.{ℕ, List, [], ◌∷◌, None}
 use Rattle.ds_isa.specs.declared.instr.Instr.{Instr}
 use Rattle.ds_isa.specs.declared.instr.Instr.TheVariants as instr
 use Rattle.ds_isa.specs.declared.uses.Uses.{Uses}
 use Rattle.ds_isa.specs.Instruction as table
-use Rattle.ds_isa.specs.Instruction.{word_of, straight, branching, no_uses}
+use Rattle.ds_isa.specs.Instruction.{Row, word_of, uses_by, of_system, trapping}
+
+-- what the table has of an instruction
+pub data Entry : Type 0 where
+  -- its row, and the values of its operands in their order
+  InRow : (row : Row) (values : List ℕ) → Entry
+  -- a word of a coprocessor that has no row
+  OfCoprocessor : (word : ℕ) → Entry
+  -- a word that is no instruction
+  OfNone : (word : ℕ) → Entry
+
+-- an instruction's entry in the table
+abbrev pub entry : Instr → Entry
+entry (instr.Sll rd rt shamt) = InRow table.sll (rd ∷ rt ∷ shamt ∷ [])
+entry (instr.Srl rd rt shamt) = InRow table.srl (rd ∷ rt ∷ shamt ∷ [])
+entry (instr.Sra rd rt shamt) = InRow table.sra (rd ∷ rt ∷ shamt ∷ [])
+entry (instr.Sllv rd rt rs) = InRow table.sllv (rd ∷ rt ∷ rs ∷ [])
+entry (instr.Srlv rd rt rs) = InRow table.srlv (rd ∷ rt ∷ rs ∷ [])
+entry (instr.Srav rd rt rs) = InRow table.srav (rd ∷ rt ∷ rs ∷ [])
+entry (instr.Jr rs) = InRow table.jr (rs ∷ [])
+entry (instr.Jalr rd rs) = InRow table.jalr (rd ∷ rs ∷ [])
+entry (instr.Syscall code) = InRow table.syscall (code ∷ [])
+entry (instr.Break code) = InRow table.break (code ∷ [])
+entry (instr.Mfhi rd) = InRow table.mfhi (rd ∷ [])
+entry (instr.Mthi rs) = InRow table.mthi (rs ∷ [])
+entry (instr.Mflo rd) = InRow table.mflo (rd ∷ [])
+entry (instr.Mtlo rs) = InRow table.mtlo (rs ∷ [])
+entry (instr.Mult rs rt) = InRow table.mult (rs ∷ rt ∷ [])
+entry (instr.Multu rs rt) = InRow table.multu (rs ∷ rt ∷ [])
+entry (instr.Div rs rt) = InRow table.div (rs ∷ rt ∷ [])
+entry (instr.Divu rs rt) = InRow table.divu (rs ∷ rt ∷ [])
+entry (instr.Add rd rs rt) = InRow table.add (rd ∷ rs ∷ rt ∷ [])
+entry (instr.Addu rd rs rt) = InRow table.addu (rd ∷ rs ∷ rt ∷ [])
+entry (instr.Sub rd rs rt) = InRow table.sub (rd ∷ rs ∷ rt ∷ [])
+entry (instr.Subu rd rs rt) = InRow table.subu (rd ∷ rs ∷ rt ∷ [])
+entry (instr.And rd rs rt) = InRow table.and (rd ∷ rs ∷ rt ∷ [])
+entry (instr.Or rd rs rt) = InRow table.or (rd ∷ rs ∷ rt ∷ [])
+entry (instr.Xor rd rs rt) = InRow table.xor (rd ∷ rs ∷ rt ∷ [])
+entry (instr.Nor rd rs rt) = InRow table.nor (rd ∷ rs ∷ rt ∷ [])
+entry (instr.Slt rd rs rt) = InRow table.slt (rd ∷ rs ∷ rt ∷ [])
+entry (instr.Sltu rd rs rt) = InRow table.sltu (rd ∷ rs ∷ rt ∷ [])
+entry (instr.Bltz rs i) = InRow table.bltz (rs ∷ i ∷ [])
+entry (instr.Bgez rs i) = InRow table.bgez (rs ∷ i ∷ [])
+entry (instr.Bltzal rs i) = InRow table.bltzal (rs ∷ i ∷ [])
+entry (instr.Bgezal rs i) = InRow table.bgezal (rs ∷ i ∷ [])
+entry (instr.J target) = InRow table.j (target ∷ [])
+entry (instr.Jal target) = InRow table.jal (target ∷ [])
+entry (instr.Beq rs rt i) = InRow table.beq (rs ∷ rt ∷ i ∷ [])
+entry (instr.Bne rs rt i) = InRow table.bne (rs ∷ rt ∷ i ∷ [])
+entry (instr.Blez rs i) = InRow table.blez (rs ∷ i ∷ [])
+entry (instr.Bgtz rs i) = InRow table.bgtz (rs ∷ i ∷ [])
+entry (instr.Addi rt rs i) = InRow table.addi (rt ∷ rs ∷ i ∷ [])
+entry (instr.Addiu rt rs i) = InRow table.addiu (rt ∷ rs ∷ i ∷ [])
+entry (instr.Slti rt rs i) = InRow table.slti (rt ∷ rs ∷ i ∷ [])
+entry (instr.Sltiu rt rs i) = InRow table.sltiu (rt ∷ rs ∷ i ∷ [])
+entry (instr.Andi rt rs i) = InRow table.andi (rt ∷ rs ∷ i ∷ [])
+entry (instr.Ori rt rs i) = InRow table.ori (rt ∷ rs ∷ i ∷ [])
+entry (instr.Xori rt rs i) = InRow table.xori (rt ∷ rs ∷ i ∷ [])
+entry (instr.Lui rt i) = InRow table.lui (rt ∷ i ∷ [])
+entry (instr.Lb rt rs i) = InRow table.lb (rt ∷ rs ∷ i ∷ [])
+entry (instr.Lh rt rs i) = InRow table.lh (rt ∷ rs ∷ i ∷ [])
+entry (instr.Lwl rt rs i) = InRow table.lwl (rt ∷ rs ∷ i ∷ [])
+entry (instr.Lw rt rs i) = InRow table.lw (rt ∷ rs ∷ i ∷ [])
+entry (instr.Lbu rt rs i) = InRow table.lbu (rt ∷ rs ∷ i ∷ [])
+entry (instr.Lhu rt rs i) = InRow table.lhu (rt ∷ rs ∷ i ∷ [])
+entry (instr.Lwr rt rs i) = InRow table.lwr (rt ∷ rs ∷ i ∷ [])
+entry (instr.Sb rt rs i) = InRow table.sb (rt ∷ rs ∷ i ∷ [])
+entry (instr.Sh rt rs i) = InRow table.sh (rt ∷ rs ∷ i ∷ [])
+entry (instr.Swl rt rs i) = InRow table.swl (rt ∷ rs ∷ i ∷ [])
+entry (instr.Sw rt rs i) = InRow table.sw (rt ∷ rs ∷ i ∷ [])
+entry (instr.Swr rt rs i) = InRow table.swr (rt ∷ rs ∷ i ∷ [])
+entry (instr.Mfc0 rt rd) = InRow table.mfc0 (rt ∷ rd ∷ [])
+entry (instr.Mtc0 rt rd) = InRow table.mtc0 (rt ∷ rd ∷ [])
+entry instr.Tlbr = InRow table.tlbr []
+entry instr.Tlbwi = InRow table.tlbwi []
+entry instr.Tlbwr = InRow table.tlbwr []
+entry instr.Tlbp = InRow table.tlbp []
+entry instr.Rfe = InRow table.rfe []
+entry (instr.Cop unit w) = OfCoprocessor w
+entry (instr.Reserved w) = OfNone w
+
+-- the word of an entry
+abbrev pub word_in : Entry → ℕ
+word_in (InRow row values) = word_of row values
+word_in (OfCoprocessor w) = w
+word_in (OfNone w) = w
+
+-- what an entry uses
+abbrev pub uses_in : Entry → Uses
+uses_in (InRow row values) = uses_by row values
+uses_in (OfCoprocessor w) = of_system None None
+uses_in (OfNone w) = trapping
 
 -- the word of an instruction; of operands that are too large their low bits
 abbrev pub encoded : Instr → ℕ
-encoded (instr.Sll rd rt shamt) = word_of table.sll (rd ∷ rt ∷ shamt ∷ [])
-encoded (instr.Srl rd rt shamt) = word_of table.srl (rd ∷ rt ∷ shamt ∷ [])
-encoded (instr.Sra rd rt shamt) = word_of table.sra (rd ∷ rt ∷ shamt ∷ [])
-encoded (instr.Sllv rd rt rs) = word_of table.sllv (rd ∷ rt ∷ rs ∷ [])
-encoded (instr.Srlv rd rt rs) = word_of table.srlv (rd ∷ rt ∷ rs ∷ [])
-encoded (instr.Srav rd rt rs) = word_of table.srav (rd ∷ rt ∷ rs ∷ [])
-encoded (instr.Jr rs) = word_of table.jr (rs ∷ [])
-encoded (instr.Jalr rd rs) = word_of table.jalr (rd ∷ rs ∷ [])
-encoded (instr.Syscall code) = word_of table.syscall (code ∷ [])
-encoded (instr.Break code) = word_of table.break (code ∷ [])
-encoded (instr.Mfhi rd) = word_of table.mfhi (rd ∷ [])
-encoded (instr.Mthi rs) = word_of table.mthi (rs ∷ [])
-encoded (instr.Mflo rd) = word_of table.mflo (rd ∷ [])
-encoded (instr.Mtlo rs) = word_of table.mtlo (rs ∷ [])
-encoded (instr.Mult rs rt) = word_of table.mult (rs ∷ rt ∷ [])
-encoded (instr.Multu rs rt) = word_of table.multu (rs ∷ rt ∷ [])
-encoded (instr.Div rs rt) = word_of table.div (rs ∷ rt ∷ [])
-encoded (instr.Divu rs rt) = word_of table.divu (rs ∷ rt ∷ [])
-encoded (instr.Add rd rs rt) = word_of table.add (rd ∷ rs ∷ rt ∷ [])
-encoded (instr.Addu rd rs rt) = word_of table.addu (rd ∷ rs ∷ rt ∷ [])
-encoded (instr.Sub rd rs rt) = word_of table.sub (rd ∷ rs ∷ rt ∷ [])
-encoded (instr.Subu rd rs rt) = word_of table.subu (rd ∷ rs ∷ rt ∷ [])
-encoded (instr.And rd rs rt) = word_of table.and (rd ∷ rs ∷ rt ∷ [])
-encoded (instr.Or rd rs rt) = word_of table.or (rd ∷ rs ∷ rt ∷ [])
-encoded (instr.Xor rd rs rt) = word_of table.xor (rd ∷ rs ∷ rt ∷ [])
-encoded (instr.Nor rd rs rt) = word_of table.nor (rd ∷ rs ∷ rt ∷ [])
-encoded (instr.Slt rd rs rt) = word_of table.slt (rd ∷ rs ∷ rt ∷ [])
-encoded (instr.Sltu rd rs rt) = word_of table.sltu (rd ∷ rs ∷ rt ∷ [])
-encoded (instr.Bltz rs i) = word_of table.bltz (rs ∷ i ∷ [])
-encoded (instr.Bgez rs i) = word_of table.bgez (rs ∷ i ∷ [])
-encoded (instr.Bltzal rs i) = word_of table.bltzal (rs ∷ i ∷ [])
-encoded (instr.Bgezal rs i) = word_of table.bgezal (rs ∷ i ∷ [])
-encoded (instr.J target) = word_of table.j (target ∷ [])
-encoded (instr.Jal target) = word_of table.jal (target ∷ [])
-encoded (instr.Beq rs rt i) = word_of table.beq (rs ∷ rt ∷ i ∷ [])
-encoded (instr.Bne rs rt i) = word_of table.bne (rs ∷ rt ∷ i ∷ [])
-encoded (instr.Blez rs i) = word_of table.blez (rs ∷ i ∷ [])
-encoded (instr.Bgtz rs i) = word_of table.bgtz (rs ∷ i ∷ [])
-encoded (instr.Addi rt rs i) = word_of table.addi (rt ∷ rs ∷ i ∷ [])
-encoded (instr.Addiu rt rs i) = word_of table.addiu (rt ∷ rs ∷ i ∷ [])
-encoded (instr.Slti rt rs i) = word_of table.slti (rt ∷ rs ∷ i ∷ [])
-encoded (instr.Sltiu rt rs i) = word_of table.sltiu (rt ∷ rs ∷ i ∷ [])
-encoded (instr.Andi rt rs i) = word_of table.andi (rt ∷ rs ∷ i ∷ [])
-encoded (instr.Ori rt rs i) = word_of table.ori (rt ∷ rs ∷ i ∷ [])
-encoded (instr.Xori rt rs i) = word_of table.xori (rt ∷ rs ∷ i ∷ [])
-encoded (instr.Lui rt i) = word_of table.lui (rt ∷ i ∷ [])
-encoded (instr.Lb rt rs i) = word_of table.lb (rt ∷ rs ∷ i ∷ [])
-encoded (instr.Lh rt rs i) = word_of table.lh (rt ∷ rs ∷ i ∷ [])
-encoded (instr.Lwl rt rs i) = word_of table.lwl (rt ∷ rs ∷ i ∷ [])
-encoded (instr.Lw rt rs i) = word_of table.lw (rt ∷ rs ∷ i ∷ [])
-encoded (instr.Lbu rt rs i) = word_of table.lbu (rt ∷ rs ∷ i ∷ [])
-encoded (instr.Lhu rt rs i) = word_of table.lhu (rt ∷ rs ∷ i ∷ [])
-encoded (instr.Lwr rt rs i) = word_of table.lwr (rt ∷ rs ∷ i ∷ [])
-encoded (instr.Sb rt rs i) = word_of table.sb (rt ∷ rs ∷ i ∷ [])
-encoded (instr.Sh rt rs i) = word_of table.sh (rt ∷ rs ∷ i ∷ [])
-encoded (instr.Swl rt rs i) = word_of table.swl (rt ∷ rs ∷ i ∷ [])
-encoded (instr.Sw rt rs i) = word_of table.sw (rt ∷ rs ∷ i ∷ [])
-encoded (instr.Swr rt rs i) = word_of table.swr (rt ∷ rs ∷ i ∷ [])
-encoded (instr.Mfc0 rt rd) = word_of table.mfc0 (rt ∷ rd ∷ [])
-encoded (instr.Mtc0 rt rd) = word_of table.mtc0 (rt ∷ rd ∷ [])
-encoded instr.Tlbr = word_of table.tlbr []
-encoded instr.Tlbwi = word_of table.tlbwi []
-encoded instr.Tlbwr = word_of table.tlbwr []
-encoded instr.Tlbp = word_of table.tlbp []
-encoded instr.Rfe = word_of table.rfe []
-encoded (instr.Cop unit w) = w
-encoded (instr.Reserved w) = w
+encoded i = word_in (entry i)
 
--- the registers that an instruction uses
+-- the registers that an instruction uses, and the shape of what it does
 abbrev pub uses : Instr → Uses
-uses (instr.Sll rd rt shamt) = straight None (Some rt) (Some rd)
-uses (instr.Srl rd rt shamt) = straight None (Some rt) (Some rd)
-uses (instr.Sra rd rt shamt) = straight None (Some rt) (Some rd)
-uses (instr.Sllv rd rt rs) = straight (Some rs) (Some rt) (Some rd)
-uses (instr.Srlv rd rt rs) = straight (Some rs) (Some rt) (Some rd)
-uses (instr.Srav rd rt rs) = straight (Some rs) (Some rt) (Some rd)
-uses (instr.Jr rs) = branching (Some rs) None None
-uses (instr.Jalr rd rs) = branching (Some rs) None (Some rd)
-uses (instr.Syscall code) = no_uses
-uses (instr.Break code) = no_uses
-uses (instr.Mfhi rd) = straight None None (Some rd)
-uses (instr.Mthi rs) = straight (Some rs) None None
-uses (instr.Mflo rd) = straight None None (Some rd)
-uses (instr.Mtlo rs) = straight (Some rs) None None
-uses (instr.Mult rs rt) = straight (Some rs) (Some rt) None
-uses (instr.Multu rs rt) = straight (Some rs) (Some rt) None
-uses (instr.Div rs rt) = straight (Some rs) (Some rt) None
-uses (instr.Divu rs rt) = straight (Some rs) (Some rt) None
-uses (instr.Add rd rs rt) = straight (Some rs) (Some rt) (Some rd)
-uses (instr.Addu rd rs rt) = straight (Some rs) (Some rt) (Some rd)
-uses (instr.Sub rd rs rt) = straight (Some rs) (Some rt) (Some rd)
-uses (instr.Subu rd rs rt) = straight (Some rs) (Some rt) (Some rd)
-uses (instr.And rd rs rt) = straight (Some rs) (Some rt) (Some rd)
-uses (instr.Or rd rs rt) = straight (Some rs) (Some rt) (Some rd)
-uses (instr.Xor rd rs rt) = straight (Some rs) (Some rt) (Some rd)
-uses (instr.Nor rd rs rt) = straight (Some rs) (Some rt) (Some rd)
-uses (instr.Slt rd rs rt) = straight (Some rs) (Some rt) (Some rd)
-uses (instr.Sltu rd rs rt) = straight (Some rs) (Some rt) (Some rd)
-uses (instr.Bltz rs i) = branching (Some rs) None None
-uses (instr.Bgez rs i) = branching (Some rs) None None
-uses (instr.Bltzal rs i) = branching (Some rs) None (Some 31)
-uses (instr.Bgezal rs i) = branching (Some rs) None (Some 31)
-uses (instr.J target) = branching None None None
-uses (instr.Jal target) = branching None None (Some 31)
-uses (instr.Beq rs rt i) = branching (Some rs) (Some rt) None
-uses (instr.Bne rs rt i) = branching (Some rs) (Some rt) None
-uses (instr.Blez rs i) = branching (Some rs) None None
-uses (instr.Bgtz rs i) = branching (Some rs) None None
-uses (instr.Addi rt rs i) = straight (Some rs) None (Some rt)
-uses (instr.Addiu rt rs i) = straight (Some rs) None (Some rt)
-uses (instr.Slti rt rs i) = straight (Some rs) None (Some rt)
-uses (instr.Sltiu rt rs i) = straight (Some rs) None (Some rt)
-uses (instr.Andi rt rs i) = straight (Some rs) None (Some rt)
-uses (instr.Ori rt rs i) = straight (Some rs) None (Some rt)
-uses (instr.Xori rt rs i) = straight (Some rs) None (Some rt)
-uses (instr.Lui rt i) = straight None None (Some rt)
-uses (instr.Lb rt rs i) = straight (Some rs) None (Some rt)
-uses (instr.Lh rt rs i) = straight (Some rs) None (Some rt)
-uses (instr.Lwl rt rs i) = straight (Some rs) (Some rt) (Some rt)
-uses (instr.Lw rt rs i) = straight (Some rs) None (Some rt)
-uses (instr.Lbu rt rs i) = straight (Some rs) None (Some rt)
-uses (instr.Lhu rt rs i) = straight (Some rs) None (Some rt)
-uses (instr.Lwr rt rs i) = straight (Some rs) (Some rt) (Some rt)
-uses (instr.Sb rt rs i) = straight (Some rs) (Some rt) None
-uses (instr.Sh rt rs i) = straight (Some rs) (Some rt) None
-uses (instr.Swl rt rs i) = straight (Some rs) (Some rt) None
-uses (instr.Sw rt rs i) = straight (Some rs) (Some rt) None
-uses (instr.Swr rt rs i) = straight (Some rs) (Some rt) None
-uses (instr.Mfc0 rt rd) = straight None None (Some rt)
-uses (instr.Mtc0 rt rd) = straight None (Some rt) None
-uses instr.Tlbr = no_uses
-uses instr.Tlbwi = no_uses
-uses instr.Tlbwr = no_uses
-uses instr.Tlbp = no_uses
-uses instr.Rfe = no_uses
-uses (instr.Cop unit w) = no_uses
-uses (instr.Reserved w) = no_uses
+uses i = uses_in (entry i)

@@ -1,6 +1,6 @@
 -- The fields of an instruction's word, what a row fixes in them, and what stands in their places in
 -- a source text.
-use Rattle.std.specs.Prelude.{ℕ, ◌+◌, ◌*◌, ◌%◌, ◌^◌, List, [], ◌∷◌, map}
+use Rattle.std.specs.Prelude.{ℕ, ◌+◌, ◌*◌, ◌%◌, ◌^◌, ◌&&◌, ◌==◌, if◌then◌else◌, List, [], ◌∷◌, map}
 use Rattle.ds_word.specs.Word.{bits}
 
 -- a field of a word: its lowest bit, and how many bits
@@ -8,33 +8,43 @@ pub record Field : Type 0 where
   pub lo : ℕ
   pub width : ℕ
 
+-- the field of a lowest bit and a width
 abbrev pub field : ℕ → ℕ → Field
 field lo width = record { lo = lo; width = width }
 
+-- the operation of a word, its top six bits
 abbrev pub op : Field
 op = field 26 6
 
+-- the number of the first source register
 abbrev pub rs : Field
 rs = field 21 5
 
+-- the number of the second source register, or of the destination
 abbrev pub rt : Field
 rt = field 16 5
 
+-- the number of the destination register
 abbrev pub rd : Field
 rd = field 11 5
 
+-- the number of bits to shift by
 abbrev pub shamt : Field
 shamt = field 6 5
 
+-- the function, which tells words of operation 0 apart
 abbrev pub funct : Field
 funct = field 0 6
 
+-- the immediate, the low half of a word
 abbrev pub imm : Field
 imm = field 0 16
 
+-- the target of a jump, as the number of a word
 abbrev pub target : Field
 target = field 0 26
 
+-- the code of a call or a breakpoint
 abbrev pub code : Field
 code = field 6 20
 
@@ -59,9 +69,11 @@ pub record Fixed : Type 0 where
   pub field : Field
   pub value : ℕ
 
+-- a field with the value that it has to have
 abbrev pub fix : Field → ℕ → Fixed
 fix f value = record { field = f; value = value }
 
+-- these fields, each with the value 0
 abbrev pub zeros_in : List Field → List Fixed
 zeros_in fields = map (λ f. fix f 0) fields
 
@@ -101,3 +113,9 @@ abbrev pub filled : List Field → List ℕ → ℕ
 filled [] values = 0
 filled (f ∷ more) [] = 0
 filled (f ∷ more) (v ∷ values) = v % 2 ^ f.width * 2 ^ f.lo + filled more values
+
+-- the value in a field, of fields that are filled with values; 0 in any other
+abbrev pub value_in : List Field → List ℕ → Field → ℕ
+value_in [] values f = 0
+value_in (g ∷ more) [] f = 0
+value_in (g ∷ more) (v ∷ values) f = if (g.lo == f.lo) && (g.width == f.width) then v else value_in more values f

@@ -1,6 +1,6 @@
 -- What each instruction does (Kane and Heinrich, appendix A), apart from where its bytes come from.
 use Rattle.std.specs.Prelude.{ℕ, ◌+◌, ◌-◌, ◌*◌, ◌/◌, ◌%◌, ◌^◌, Bool, not, ◌||◌, nat_lt, ◌==◌, if◌then◌else◌, slice_index, Option, Some, None, bit_and, bit_or, bit_xor}
-use Rattle.ds_word.specs.Word.{word, bits, sign_extended, is_negative, minus, signed_lt}
+use Rattle.ds_word.specs.Word.{word, bits, sign_extended, is_negative, minus, signed_lt, truth}
 use Rattle.ds_word.specs.Arithmetic.{shifted_arithmetic, signed_sum, signed_difference}
 use Rattle.ds_word.specs.Merge.{merged_left, merged_right, with_bits, stored_left, stored_right}
 use Rattle.ds_word.specs.Product.{halves, product_signed, quotient_signed, quotient_unsigned}
@@ -23,9 +23,6 @@ pub data Effect : Type 0 where
   Calls : Effect
   -- an instruction of the system coprocessor
   Privileged : Effect
-
-abbrev pub flag : Bool → ℕ
-flag b = if b then 1 else 0
 
 -- the exception code of an overflow
 abbrev pub overflow : ℕ
@@ -104,8 +101,8 @@ meaning (instr.And rd rs rt) pc r = Goes (written r rd (bit_and (read r rs) (rea
 meaning (instr.Or rd rs rt) pc r = Goes (written r rd (bit_or (read r rs) (read r rt)))
 meaning (instr.Xor rd rs rt) pc r = Goes (written r rd (bit_xor (read r rs) (read r rt)))
 meaning (instr.Nor rd rs rt) pc r = Goes (written r rd (2 ^ 32 - 1 - bit_or (read r rs) (read r rt)))
-meaning (instr.Slt rd rs rt) pc r = Goes (written r rd (flag (signed_lt (read r rs) (read r rt))))
-meaning (instr.Sltu rd rs rt) pc r = Goes (written r rd (flag (nat_lt (read r rs) (read r rt))))
+meaning (instr.Slt rd rs rt) pc r = Goes (written r rd (truth (signed_lt (read r rs) (read r rt))))
+meaning (instr.Sltu rd rs rt) pc r = Goes (written r rd (truth (nat_lt (read r rs) (read r rt))))
 meaning (instr.Bltz rs i) pc r = branches r (is_negative (read r rs)) pc i
 meaning (instr.Bgez rs i) pc r = branches r (not (is_negative (read r rs))) pc i
 meaning (instr.Bltzal rs i) pc r = links_and_branches r (is_negative (read r rs)) pc i
@@ -118,8 +115,8 @@ meaning (instr.Blez rs i) pc r = branches r (is_negative (read r rs) || (read r 
 meaning (instr.Bgtz rs i) pc r = branches r (not (is_negative (read r rs) || (read r rs == 0))) pc i
 meaning (instr.Addi rt rs i) pc r = written_or_trap r rt (signed_sum (read r rs) (sign_extended 16 i))
 meaning (instr.Addiu rt rs i) pc r = Goes (written r rt (word (read r rs + sign_extended 16 i)))
-meaning (instr.Slti rt rs i) pc r = Goes (written r rt (flag (signed_lt (read r rs) (sign_extended 16 i))))
-meaning (instr.Sltiu rt rs i) pc r = Goes (written r rt (flag (nat_lt (read r rs) (sign_extended 16 i))))
+meaning (instr.Slti rt rs i) pc r = Goes (written r rt (truth (signed_lt (read r rs) (sign_extended 16 i))))
+meaning (instr.Sltiu rt rs i) pc r = Goes (written r rt (truth (nat_lt (read r rs) (sign_extended 16 i))))
 meaning (instr.Andi rt rs i) pc r = Goes (written r rt (bit_and (read r rs) i))
 meaning (instr.Ori rt rs i) pc r = Goes (written r rt (bit_or (read r rs) i))
 meaning (instr.Xori rt rs i) pc r = Goes (written r rt (bit_xor (read r rs) i))

@@ -2,6 +2,7 @@
 use Rattle.std.specs.Prelude.{ℕ, ◌%◌, ◌==◌, if◌then◌else◌, List, replicate, slice_index, slice_set, Option, Some, None}
 use Rattle.ds_isa.specs.declared.instr.Late.{Late}
 
+-- the 32 general registers, HI and LO
 pub record Registers : Type 0 where
   pub general : List ℕ
   pub hi : ℕ
@@ -9,9 +10,11 @@ pub record Registers : Type 0 where
   -- the register whose load is late: the next instruction still reads its old value
   pub late : Option Late
 
+-- all registers 0, and no load late
 abbrev pub zero_registers : Registers
 zero_registers = record { general = replicate 32 0; hi = 0; lo = 0; late = None }
 
+-- what register n reads, where it holds now: its old value if its load is late
 abbrev pub late_or : Option Late → ℕ → ℕ → ℕ
 late_or None n now = now
 late_or (Some l) n now = if l.register == n then l.old else now

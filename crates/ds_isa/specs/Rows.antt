@@ -2,7 +2,7 @@
 use Rattle.std.specs.Prelude.{ℕ, ◌≡◌, [], ◌∷◌, Option, Some, None, slice_set, codes, map, refl}
 use Rattle.ds_isa.specs.declared.instr.Instr.TheVariants as instr
 use Rattle.ds_isa.specs.declared.instr.Size.TheVariants as size
-use Rattle.ds_isa.specs.Instruction.{instruction_of, uses_of, straight, branching, rows}
+use Rattle.ds_isa.specs.Instruction.{instruction_of, uses_of, storing, loading, branching, rows}
 use Rattle.ds_isa.specs.Encoding.{encoded}
 use Rattle.ds_isa.specs.Registers.{Registers, zero_registers, read, settled, written, loaded}
 use Rattle.ds_isa.specs.Meaning.{Effect, meaning, Goes, Branches, Loads, Stores, Faults, Calls, Privileged}
@@ -64,7 +64,7 @@ pub word_of_a_call : encoded (instr.Syscall 0x12345) ≡ 0x0048_D14C
 word_of_a_call = refl
 
 -- sw $31,-32768($29) reads both and writes none
-pub uses_of_a_store : uses_of 0xAFBF_8000 ≡ straight (Some 29) (Some 31) None
+pub uses_of_a_store : uses_of 0xAFBF_8000 ≡ storing size.Word (Some 29) (Some 31)
 uses_of_a_store = refl
 
 -- jalr $5,$6 links in register 5
@@ -72,27 +72,30 @@ pub uses_of_a_call : uses_of 0x00C0_2809 ≡ branching (Some 6) None (Some 5)
 uses_of_a_call = refl
 
 -- lwl $2,4($3) merges into register 2, and so reads it
-pub uses_of_a_part : uses_of 0x8862_0004 ≡ straight (Some 3) (Some 2) (Some 2)
+pub uses_of_a_part : uses_of 0x8862_0004 ≡ loading size.Part (Some 3) (Some 2) (Some 2)
 uses_of_a_part = refl
 
--- mfc2 $4,$5, a word of coprocessor 2, and swc1 $31,-4($31), one of coprocessor 1
+-- mfc2 $4,$5, a word of coprocessor 2
 pub of_coprocessor_2 : instruction_of 0x4804_2800 ≡ instr.Cop 2 0x4804_2800
 of_coprocessor_2 = refl
 
+-- swc1 $31,-4($31), a word of coprocessor 1
 pub of_coprocessor_1 : instruction_of 0xE7FF_FFFC ≡ instr.Cop 1 0xE7FF_FFFC
 of_coprocessor_1 = refl
 
--- tlbwr, and the same with a bit between the top of rs and the function
+-- tlbwr
 pub write_at_random : instruction_of 0x4200_0006 ≡ instr.Tlbwr
 write_at_random = refl
 
+-- the same with a bit between the top of rs and the function
 pub operation_with_a_bit : instruction_of 0x4200_0046 ≡ instr.Cop 0 0x4200_0046
 operation_with_a_bit = refl
 
--- a load of coprocessor 0, and bgezal $31,.+12
+-- a load of coprocessor 0
 pub load_of_coprocessor_0 : instruction_of 0xC000_0000 ≡ instr.Reserved 0xC000_0000
 load_of_coprocessor_0 = refl
 
+-- bgezal $31,.+12
 pub link_of_what_it_links : instruction_of 0x07F1_0002 ≡ instr.Reserved 0x07F1_0002
 link_of_what_it_links = refl
 
@@ -192,36 +195,43 @@ link_without_branch = refl
 abbrev pub two : ℕ → ℕ → Registers
 two x y = written (written zero_registers 4 x) 5 y
 
--- mult, multu, div and divu of registers 4 and 5
+-- mult $4,$5 of the lowest number and 2
 pub product_of_the_lowest : meaning (instruction_of 0x0085_0018) 0 (two 0x8000_0000 2) ≡ Goes (record (two 0x8000_0000 2) { hi = 0xFFFF_FFFF; lo = 0 })
 product_of_the_lowest = refl
 
+-- multu $4,$5
 pub unsigned_product : meaning (instruction_of 0x0085_0019) 0 (two 0x8000_0000 2) ≡ Goes (record (two 0x8000_0000 2) { hi = 1; lo = 0 })
 unsigned_product = refl
 
+-- div $4,$5 of -7 and 2
 pub quotient_cut_toward_zero : meaning (instruction_of 0x0085_001A) 0 (two 0xFFFF_FFF9 2) ≡ Goes (record (two 0xFFFF_FFF9 2) { hi = 0xFFFF_FFFF; lo = 0xFFFF_FFFD })
 quotient_cut_toward_zero = refl
 
+-- divu $4,$5 by 0
 pub quotient_by_zero : meaning (instruction_of 0x0085_001B) 0 (two 5 0) ≡ Goes (record (two 5 0) { hi = 5; lo = 0 })
 quotient_by_zero = refl
 
+-- div $4,$5 of the lowest number and -1
 pub lowest_by_minus_one : meaning (instruction_of 0x0085_001A) 0 (two 0x8000_0000 0xFFFF_FFFF) ≡ Goes (record (two 0x8000_0000 0xFFFF_FFFF) { hi = 0; lo = 0x8000_0000 })
 lowest_by_minus_one = refl
 
--- add $2,$4,$5 and sub $2,$4,$5 past the ends, and add across 0
+-- add $2,$4,$5 above the greatest number
 pub sum_overflows : meaning (instruction_of 0x0085_1020) 0 (two 0x7FFF_FFFF 1) ≡ Faults 12
 sum_overflows = refl
 
+-- sub $2,$4,$5 below the lowest number
 pub difference_overflows : meaning (instruction_of 0x0085_1022) 0 (two 0x8000_0000 1) ≡ Faults 12
 difference_overflows = refl
 
+-- add $2,$4,$5 of -1 and 1
 pub sum_across_zero : meaning (instruction_of 0x0085_1020) 0 (two 0xFFFF_FFFF 1) ≡ Goes (written (two 0xFFFF_FFFF 1) 2 0)
 sum_across_zero = refl
 
--- slt $2,$4,$5 and sltu $2,$4,$5 of -1 and 1
+-- slt $2,$4,$5 of -1 and 1
 pub signed_order : meaning (instruction_of 0x0085_102A) 0 (two 0xFFFF_FFFF 1) ≡ Goes (written (two 0xFFFF_FFFF 1) 2 1)
 signed_order = refl
 
+-- sltu $2,$4,$5 of the greatest word and 1
 pub unsigned_order : meaning (instruction_of 0x0085_102B) 0 (two 0xFFFF_FFFF 1) ≡ Goes (written (two 0xFFFF_FFFF 1) 2 0)
 unsigned_order = refl
 
@@ -229,26 +239,31 @@ unsigned_order = refl
 pub shift_copies_the_sign : meaning (instruction_of 0x0004_1103) 0 (two 0x8000_0010 0) ≡ Goes (written (two 0x8000_0010 0) 2 0xF800_0001)
 shift_copies_the_sign = refl
 
--- what is loaded where memory has a word, and what is stored over it
+-- the registers behind a load of a word, if an effect is one
 abbrev pub loaded_from : ℕ → Effect → Option Registers
 loaded_from w e = elim e [ Goes _ ↦ None | Branches _ _ ↦ None | Loads _ _ after ↦ Some (after w) | Stores _ _ _ ↦ None | Faults _ ↦ None | Calls ↦ None | Privileged ↦ None ]
 
+-- the word that a store makes of a word, if an effect is one
 abbrev pub stored_over : ℕ → Effect → Option ℕ
 stored_over w e = elim e [ Goes _ ↦ None | Branches _ _ ↦ None | Loads _ _ _ ↦ None | Stores _ _ after ↦ Some (after w) | Faults _ ↦ None | Calls ↦ None | Privileged ↦ None ]
 
--- lwl, lwr, swl, swr of register 9 at the second byte of the word at 0x0041_0000
+-- register 9 with a word whose bytes differ, to be merged at the second byte of the word at 0x0041_0000
 abbrev pub merging : Registers
 merging = written before 9 0xAABB_CCDD
 
+-- lwl $9,1($8)
 pub merges_left : loaded_from 0x4433_2211 (meaning (instruction_of 0x8909_0001) 0 merging) ≡ Some (loaded merging 9 0x2211_CCDD)
 merges_left = refl
 
+-- lwr $9,1($8)
 pub merges_right : loaded_from 0x4433_2211 (meaning (instruction_of 0x9909_0001) 0 merging) ≡ Some (loaded merging 9 0xAA44_3322)
 merges_right = refl
 
+-- swl $9,1($8)
 pub stores_left : stored_over 0x4433_2211 (meaning (instruction_of 0xA909_0001) 0 merging) ≡ Some 0x4433_AABB
 stores_left = refl
 
+-- swr $9,1($8)
 pub stores_right : stored_over 0x4433_2211 (meaning (instruction_of 0xB909_0001) 0 merging) ≡ Some 0xBBCC_DD11
 stores_right = refl
 
@@ -256,10 +271,11 @@ stores_right = refl
 pub merges_with_the_late : loaded_from 0x4433_2211 (meaning (instruction_of 0x8909_0001) 0 late) ≡ Some (loaded late 9 0x2211_0041)
 merges_with_the_late = refl
 
--- lh $9,2($8) carries the sign; sb $9,1($8) changes one byte
+-- lh $9,2($8) carries the sign
 pub half_carries_its_sign : loaded_from 0x8001_2211 (meaning (instruction_of 0x8509_0002) 0 before) ≡ Some (loaded before 9 0xFFFF_8001)
 half_carries_its_sign = refl
 
+-- sb $9,1($8) changes one byte
 pub byte_is_stored : stored_over 0x4433_2211 (meaning (instruction_of 0xA109_0001) 0 before) ≡ Some 0x4433_4211
 byte_is_stored = refl
 
@@ -271,9 +287,10 @@ breakpoint_faults = refl
 pub coprocessor_is_asked : meaning (instruction_of 0x4804_2800) 0x0040_0000 before ≡ Privileged
 coprocessor_is_asked = refl
 
--- syscall and a reserved word
+-- syscall
 pub call_calls : meaning (instruction_of 0x0000_000C) 0x0040_0000 before ≡ Calls
 call_calls = refl
 
+-- a reserved word
 pub reserved_faults : meaning (instruction_of 0x00A0_2809) 0x0040_0000 before ≡ Faults 10
 reserved_faults = refl

@@ -5,7 +5,7 @@ ghost use Rattle.ds_isa.specs.Instruction.{instruction_of, rows_of, uses_of};
 ghost use Rattle.ds_isa.specs.Encoding.{encoded, uses};
 
 use crate::instr::Instr;
-use crate::table::instruction_table;
+use crate::instruction_table;
 
 /// The bits of a word below rd.
 #[inline(always)]
@@ -64,7 +64,7 @@ macro_rules! meeting {
 
 macro_rules! decode_special {
     ($word:ident
-     special { $($code:literal $name:ident [$($field:ident)*] zero [$($zero:ident)*] $(given $condition:tt)? uses $uses:tt;)* }
+     special { $($code:literal $name:ident [$($field:ident)*] zero [$($zero:ident)*] $(given $condition:tt)? uses $uses:tt written $text:tt;)* }
      $($rest:tt)*) => {
         match ds_word::funct($word) {
             $($code => fitting!([$($zero)*] $word
@@ -77,7 +77,7 @@ macro_rules! decode_special {
 
 macro_rules! decode_regimm {
     ($word:ident special $special:tt
-     regimm { $($code:literal $name:ident [$($field:ident)*] zero [] $(given $condition:tt)? uses $uses:tt;)* }
+     regimm { $($code:literal $name:ident [$($field:ident)*] zero [] $(given $condition:tt)? uses $uses:tt written $text:tt;)* }
      $($rest:tt)*) => {
         match ds_word::rt($word) {
             $($code => meeting!($word $($condition)? Instr::$name { $($field: operand!($field $word)),* }),)*
@@ -88,7 +88,7 @@ macro_rules! decode_regimm {
 
 macro_rules! decode_transfer {
     ($word:ident special $special:tt regimm $regimm:tt major $major:tt
-     transfer { $($code:literal $name:ident [$($field:ident)*] zero [$($zero:ident)*] uses $uses:tt;)* }
+     transfer { $($code:literal $name:ident [$($field:ident)*] zero [$($zero:ident)*] uses $uses:tt written $text:tt;)* }
      $($rest:tt)*) => {
         match ds_word::rs($word) {
             $($code => fitting!([$($zero)*] $word
@@ -101,7 +101,7 @@ macro_rules! decode_transfer {
 
 macro_rules! decode_operation {
     ($word:ident special $special:tt regimm $regimm:tt major $major:tt transfer $transfer:tt
-     operation { $($code:literal $name:ident [] zero [] uses $uses:tt;)* }) => {
+     operation { $($code:literal $name:ident [] zero [] uses $uses:tt written $text:tt;)* }) => {
         match ds_word::funct($word) {
             $($code => Instr::$name,)*
             _ => Instr::Cop { unit: 0, word: $word },
@@ -111,7 +111,7 @@ macro_rules! decode_operation {
 
 macro_rules! decode_major {
     ($word:ident special $special:tt regimm $regimm:tt
-     major { $($code:literal $name:ident [$($field:ident)*] zero [$($zero:ident)*] uses $uses:tt;)* }
+     major { $($code:literal $name:ident [$($field:ident)*] zero [$($zero:ident)*] uses $uses:tt written $text:tt;)* }
      $($rest:tt)*) => {
         match ds_word::op($word) {
             0 => special($word),

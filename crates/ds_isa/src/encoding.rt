@@ -3,7 +3,7 @@ ghost use Rattle.std.specs.Prelude.{◌≡◌, ◌*◌, ◌%◌, ◌^◌};
 ghost use Rattle.ds_isa.specs.Encoding.{encoded};
 
 use crate::instr::Instr;
-use crate::table::instruction_table;
+use crate::instruction_table;
 
 /// A register's number in rs, cut to five bits.
 #[inline(always)]
@@ -66,11 +66,11 @@ macro_rules! placed {
 
 macro_rules! encode_rows {
     ($instr:ident
-     special { $($funct:literal $special:ident [$($field:ident)*] zero $zero:tt $(given $condition:tt)? uses $uses:tt;)* }
-     regimm { $($sign:literal $regimm:ident [$($place:ident)*] zero $none:tt $(given $need:tt)? uses $using:tt;)* }
-     major { $($op:literal $major:ident [$($part:ident)*] zero $nought:tt uses $used:tt;)* }
-     transfer { $($way:literal $transfer:ident [$($end:ident)*] zero $nil:tt uses $using_these:tt;)* }
-     operation { $($number:literal $operation:ident [] zero [] uses $using_none:tt;)* }) => {
+     special { $($funct:literal $special:ident [$($field:ident)*] zero $zero:tt $(given $condition:tt)? uses $uses:tt written $text:tt;)* }
+     regimm { $($sign:literal $regimm:ident [$($place:ident)*] zero $none:tt $(given $need:tt)? uses $using:tt written $line:tt;)* }
+     major { $($op:literal $major:ident [$($part:ident)*] zero $nought:tt uses $used:tt written $form:tt;)* }
+     transfer { $($way:literal $transfer:ident [$($end:ident)*] zero $nil:tt uses $using_these:tt written $words:tt;)* }
+     operation { $($number:literal $operation:ident [] zero [] uses $using_none:tt written $name:tt;)* }) => {
         match *$instr {
             $(Instr::$special { $($field),* } => $funct $(+ placed!($field $field))*,)*
             $(Instr::$regimm { $($place),* } => 0x400_0000 + $sign * 0x1_0000 $(+ placed!($place $place))*,)*

@@ -149,6 +149,17 @@ pub enum Size {
     Part,
 }
 
+/// What an access does.
+#[derive(Clone, Copy, Debug, PartialEq, Eq)]
+pub enum Kind {
+    /// An instruction is fetched.
+    Fetch,
+    /// Bytes are read.
+    Load,
+    /// Bytes are written.
+    Store,
+}
+
 /// A register that was loaded, with the value that the next instruction still reads there
 /// (Kane and Heinrich, chapter 1, load delay).
 #[derive(Clone, Copy, Debug, PartialEq, Eq)]

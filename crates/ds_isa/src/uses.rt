@@ -1,12 +1,13 @@
-//! The registers that an instruction reads, writes and links, and whether it is a branch.
+//! The registers that an instruction reads, writes and links, and the shape of what it does.
 //!
 //! A register is the number in its field: register 0 counts as one that is read or written, though
 //! it reads 0 and keeps 0.
 ghost use Rattle.std.specs.Prelude.{◌≡◌};
 ghost use Rattle.ds_isa.specs.Encoding.{uses};
+ghost use Rattle.ds_isa.specs.Shapes.{is_branch};
 
-use crate::instr::Instr;
-use crate::table::instruction_table;
+use crate::instr::{Instr, Size};
+use crate::instruction_table;
 
 /// The source registers of an instruction, by the fields that name them.
 #[derive(Clone, Copy, Debug, PartialEq, Eq)]
@@ -15,21 +16,31 @@ pub struct Sources {
     pub rt: Option<u8>,
 }
 
-/// What an instruction does with registers, and whether it is a branch or a jump.
+/// What the effect of an instruction is like, whatever the registers hold.
+#[derive(Clone, Copy)]
+pub(crate) enum Shape {
+    /// It goes on behind the instruction, or traps on an overflow.
+    Straight,
+    /// A branch or a jump.
+    Branch,
+    /// A load of that size.
+    Load(Size),
+    /// A store of that size.
+    Store(Size),
+    /// A system call, a breakpoint, or a word that is no instruction.
+    Trap,
+    /// A word of a coprocessor.
+    System,
+}
+
+/// What an instruction does with registers, and the shape of its effect.
 #[derive(Clone, Copy)]
 pub(crate) struct Uses {
     reads: Sources,
     writes: Option<u8>,
     links: Option<u8>,
-    is_branch: bool,
+    shape: Shape,
 }
-
-const NO_USES: Uses = Uses {
-    reads: Sources { rs: None, rt: None },
-    writes: None,
-    links: None,
-    is_branch: false,
-};
 
 /// A register that may be missing.
 macro_rules! register {
@@ -46,49 +57,62 @@ macro_rules! sources {
     ([rs rt] [$rs:ident $rt:ident]) => { Sources { rs: Some($rs), rt: Some($rt) } };
 }
 
+/// The shape that a row gives, or `Straight`.
+macro_rules! shape {
+    () => { Shape::Straight };
+    (branch) => { Shape::Branch };
+    (load $size:ident) => { Shape::Load(Size::$size) };
+    (store $size:ident) => { Shape::Store(Size::$size) };
+    (trap) => { Shape::Trap };
+    (system) => { Shape::System };
+}
+
+/// What a row says of the registers and the shape.
 macro_rules! used {
-    (reads [$($source:ident)*] $(writes [$written:tt])? $(links [$linked:tt])? branch) => {
+    (reads [$($source:ident)*] $(writes [$written:tt])? $(links [$linked:tt])? $(is [$($shape:ident)*])?) => {
         Uses {
             reads: sources!([$($source)*] [$($source)*]),
             writes: register!($($written)?),
             links: register!($($linked)?),
-            is_branch: true,
-        }
-    };
-    (reads [$($source:ident)*] $(writes [$written:tt])?) => {
-        Uses {
-            reads: sources!([$($source)*] [$($source)*]),
-            writes: register!($($written)?),
-            links: None,
-            is_branch: false,
+            shape: shape!($($($shape)*)?),
         }
     };
 }
 
+/// The pass for what instructions use.
 macro_rules! use_rows {
     ($instr:ident
-     special { $($funct:literal $special:ident [$($field:ident)*] zero $zero:tt $(given $condition:tt)? uses { $($use:tt)* };)* }
-     regimm { $($sign:literal $regimm:ident [$($place:ident)*] zero $none:tt $(given $need:tt)? uses { $($using:tt)* };)* }
-     major { $($op:literal $major:ident [$($part:ident)*] zero $nought:tt uses { $($used:tt)* };)* }
-     transfer { $($way:literal $transfer:ident [$($end:ident)*] zero $nil:tt uses { $($using_these:tt)* };)* }
-     operation { $($number:literal $operation:ident [] zero [] uses { reads [] };)* }) => {
+     special { $($funct:literal $special:ident [$($field:ident)*] zero $zero:tt $(given $condition:tt)? uses { $($use:tt)* } written $text:tt;)* }
+     regimm { $($sign:literal $regimm:ident [$($place:ident)*] zero $none:tt $(given $need:tt)? uses { $($using:tt)* } written $line:tt;)* }
+     major { $($op:literal $major:ident [$($part:ident)*] zero $nought:tt uses { $($used:tt)* } written $form:tt;)* }
+     transfer { $($way:literal $transfer:ident [$($end:ident)*] zero $nil:tt uses { $($using_these:tt)* } written $words:tt;)* }
+     operation { $($number:literal $operation:ident [] zero [] uses { $($using_none:tt)* } written $name:tt;)* }) => {
         match *$instr {
             $(Instr::$special { $($field),* } => used!($($use)*),)*
             $(Instr::$regimm { $($place),* } => used!($($using)*),)*
             $(Instr::$major { $($part),* } => used!($($used)*),)*
             $(Instr::$transfer { $($end),* } => used!($($using_these)*),)*
-            $(Instr::$operation => NO_USES,)*
-            Instr::Cop { .. } => NO_USES,
-            Instr::Reserved(_) => NO_USES,
+            $(Instr::$operation => used!($($using_none)*),)*
+            Instr::Cop { .. } => used!(reads [] is [system]),
+            Instr::Reserved(_) => used!(reads [] is [trap]),
         }
     };
 }
 
+/// What an instruction does with registers, and its shape.
 #[inline(always)]
 fn used_by(instr: &Instr) -> Uses
     ensures { result ≡ uses instr.now }
 {
     instruction_table!(use_rows instr)
+}
+
+/// The shape of what an instruction does.
+#[inline(always)]
+pub(crate) fn shape_of(instr: &Instr) -> Shape
+    ensures { result ≡ (uses instr.now).shape }
+{
+    used_by(instr).shape
 }
 
 /// The registers that an instruction reads. A system call reads none.
@@ -118,7 +142,7 @@ pub fn links(instr: &Instr) -> Option<u8>
 /// Whether an instruction is a branch or a jump, behind which stands a delay slot.
 #[inline(always)]
 pub fn is_branch(instr: &Instr) -> bool
-    ensures { result ≡ (uses instr.now).is_branch }
+    ensures { result ≡ is_branch (uses instr.now).shape }
 {
-    used_by(instr).is_branch
+    matches!(shape_of(instr), Shape::Branch)
 }

@@ -1,4 +1,4 @@
--- Writes one after another: what goes out is the text, or a front of it.
+-- Writes one after another: what goes out is the text, or a prefix of it.
 use Rattle.std.proofs.Common.{◌≡◌, ℕ, ◌+◌, ◌<◌, List, [], ◌∷◌, ◌++◌, take, drop, length, refl, sym, ◌∙◌, ap, subst, arith, append_assoc, append-nil, get_or, suc, zero}
 use Rattle.std.proofs.lemmas.List.{take-append-drop}
 use Rattle.std.specs.Prelude.{Option, Some, None, flat_map, Result, Ok, Err, OnOk, OnErr}
@@ -25,7 +25,7 @@ appends_kept (Some xs0) None d xs p q = absurd p
 appends_kept (Some xs0) (Some bs) None xs p q = q
 appends_kept (Some xs0) (Some bs) (Some ds) xs p q = q ∙ p
 
--- a front of the text is on its way
+-- a prefix of the text is on its way
 pub part_of_text : (old new : Option (List ℕ)) (text : List ℕ) (n : ℕ) → Appends old new (take n text) → AppendsPart old new text
 part_of_text old new text n a = record { part = take n text; rest = drop n text; whole = take-append-drop n text; appends = a }
 
@@ -53,7 +53,7 @@ flat_map_at f [] i d h = absurd (omega arith)
 flat_map_at f (x ∷ xs) zero d h = refl
 flat_map_at f (x ∷ xs) (suc i) d h = append_assoc (f x) (flat_map f (take i xs)) _ ∙ ap (λ ys. f x ++ ys) (flat_map_at f xs i d (omega arith))
 
--- a front, and a front of what is left
+-- a prefix, and a prefix of what is left
 pub take_both : (s n : ℕ) (xs : List ℕ) → take s xs ++ take n (drop s xs) ≡ take (s + n) xs
 take_both s n xs = sym (take-add s n xs)
 

@@ -7,6 +7,7 @@ use Rattle.ds_log.specs.declared.line.Line.TheVariants.{Denial, Refused}
 use Rattle.ds_log.specs.declared.line.Denied.{Denied}
 use Rattle.ds_log.specs.declared.line.Denied.TheVariants as denied
 
+-- the upper-case hexadecimal digit of n below 16
 abbrev pub hex_digit : ℕ → ℕ
 hex_digit n = if nat_lt n 10 then 48 + n else 55 + n
 
@@ -15,9 +16,11 @@ abbrev pub hex_digits : ℕ → ℕ → List ℕ
 hex_digits zero n = []
 hex_digits (suc k) n = hex_digits k (n / 16) ++ hex_digit (n % 16) ∷ []
 
+-- eight hexadecimal digits
 abbrev pub hex8 : ℕ → List ℕ
 hex8 n = hex_digits 8 n
 
+-- the word for what was denied
 abbrev pub kind_text : Denied → List ℕ
 kind_text denied.Fetch = codes "fetch"
 kind_text denied.Load = codes "load"
@@ -25,12 +28,14 @@ kind_text denied.Store = codes "store"
 kind_text denied.Exec = codes "exec"
 kind_text denied.Give = codes "give"
 
+-- the rule that denied it
 abbrev pub rule_text : Rule → List ℕ
 rule_text (Number n) = codes "r" ++ decimal n
 rule_text K = codes "K"
 rule_text A = codes "A"
 rule_text I = codes "I"
 
+-- a space
 abbrev pub sp : List ℕ
 sp = 32 ∷ []
 

@@ -51,7 +51,7 @@ fn send_log<W: Write>(lines: u64, log: &[u8], time: u64, out: &mut W) -> Result<
 /// Hands the text of a state to the writer: the consoles of the four lines, the log with the count
 /// of its lines, and the time in ticks. It takes no memory.
 ///
-/// Where a write fails, or takes nothing, it is `WriteFailed`, and the writer has taken a front of
+/// Where a write fails, or takes nothing, it is `WriteFailed`, and the writer has taken a prefix of
 /// that text.
 pub fn send_report<W: Write>(
     consoles: &[&[u8]; 4],

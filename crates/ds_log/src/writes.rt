@@ -1,4 +1,4 @@
-//! Bytes on their way to a writer: all of them, or a front of them and a failure.
+//! Bytes on their way to a writer: all of them, or a prefix of them and a failure.
 ghost use Rattle.std.specs.Prelude.{OnOk, OnErr, flat_map};
 ghost use Rattle.std.specs.Io.KnownBytes.{Appends};
 ghost use Rattle.ds_log.specs.Sent.{AppendsPart};

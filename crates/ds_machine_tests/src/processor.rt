@@ -105,6 +105,14 @@ const HANDLER: [u32; 9] = [
     0x4200_0010,
 ];
 
+/// Puts the place of the page table into Context, and its page into the buffer.
+fn put_table<L: Lookaside>(core: &mut Core<L>)
+    requires { L.SLOTS ≡ 64 }
+{
+    core.cp0.write(register::CONTEXT, 0xc000_0000);
+    core.tlb.write(0, page(0xc0001, 3, false, true));
+}
+
 /// From a miss at 00410000, whose entry's word is 00002600 (frame 2, writable) in a table page in frame
 /// 3: the address behind the handler, register 26, what a probe leaves in Index, and Random.
 fn refilled<L: Lookaside>(bus: &mut Bus) -> Result<(u32, u32, u32, usize), BadRandom>
@@ -115,8 +123,7 @@ fn refilled<L: Lookaside>(bus: &mut Bus) -> Result<(u32, u32, u32, usize), BadRa
     put_words(bus, 0x3040, &[0x2600]);
     put_words(bus, PLACE, &[0x8d09_0000]);
     let mut core: Core<L> = new_core(3, PROGRAM, 0x41_0000)?;
-    core.cp0.write(register::CONTEXT, 0xc000_0000);
-    core.tlb.write(0, page(0xc0001, 3, false, true));
+    put_table(&mut core);
     for _ in 0..10 {
         core.step(bus);
     }

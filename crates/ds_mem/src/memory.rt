@@ -2,11 +2,13 @@
 
 ghost use Rattle.std.specs.Prelude.{◌≡◌, ◌%◌, ◌<◌, length, vec_len, IfOk};
 ghost use Rattle.std.specs.Borrow.{sem};
-ghost use Rattle.ds_mem.specs.Memory.{zeros, word_at, with_word, frame_of, with_frame};
+ghost use Rattle.ds_word.specs.Bytes.{word_at, with_word};
+ghost use Rattle.ds_mem.specs.Memory.{zeros, frame_of, with_frame};
 ghost use Rattle.ds_mem.specs.Lending.{LendsFrame};
 
 use crate::fault::OutOfMemory;
 use byteorder::{ByteOrder, LittleEndian};
+use ds_word::PAGE_SIZE;
 use std::alloc::Global;
 use std::marker::Model;
 
@@ -14,7 +16,7 @@ use std::marker::Model;
 pub const SIZE: usize = 8_388_608;
 
 /// The bytes of a frame.
-pub const FRAME_SIZE: usize = 4096;
+pub const FRAME_SIZE: usize = PAGE_SIZE;
 
 /// The frames of memory, numbered from 0.
 pub const FRAMES: usize = 2048;

@@ -4,7 +4,7 @@ use Rattle.std.proofs.lemmas.Bool.{cases_Bool}
 use Rattle.std.specs.Prelude.{is_some}
 use Rattle.ds_pagemap.specs.Machine.{State, touched}
 use Rattle.ds_pagemap.specs.Unit.{unit}
-use Rattle.ds_pagemap.specs.Run.{is_over, half, goes_on, go, after, Reaches}
+use Rattle.ds_pagemap.specs.Run.{is_over, half_turn, goes_on, go, after, Reaches}
 use Rattle.ds_pagemap.specs.Laws.{Extends, IsOneOrTwoLater}
 use Rattle.ds_pagemap.proofs.Lists.{extends_itself, extends_again, extends_by_a_line}
 use Rattle.ds_pagemap.proofs.Touches.{touched-time, touched-log}
@@ -27,31 +27,31 @@ has_time false n t is on = ltb-true t.time n (front (nat_lt t.time n) _ on)
     front true b e = refl
     front false b e = e
 
-half_time : (n : ℕ) (touch : Bool) (t : State) → goes_on n t ≡ true → t.time ≤ n + 1 → (half touch t).time ≤ n + 1
-unfolding half
+half_time : (n : ℕ) (touch : Bool) (t : State) → goes_on n t ≡ true → t.time ≤ n + 1 → (half_turn touch t).time ≤ n + 1
+unfolding half_turn
 half_time n touch t on within = elim (cases_Bool (is_some t.owed)) [
   | inl owed ↦ rw owed (omega (arith, boundary_time (touched touch t), touched-time touch t))
   | inr none ↦ rw none (at_most_two n t.time (unit (touched touch t)).time (has_time (is_some t.owed) n t none on)
       (subst (λ time. IsOneOrTwoLater time (unit (touched touch t)).time) (touched-time touch t) (unit_time (touched touch t))))
 ]
 
-half_log : (touch : Bool) (t : State) → Extends t.log (half touch t).log
-unfolding half
-half_log touch t = subst (λ log. Extends log (half touch t).log) (touched-log touch t) (elim (cases_Bool (is_some t.owed)) [
+half_log : (touch : Bool) (t : State) → Extends t.log (half_turn touch t).log
+unfolding half_turn
+half_log touch t = subst (λ log. Extends log (half_turn touch t).log) (touched-log touch t) (elim (cases_Bool (is_some t.owed)) [
   | inl owed ↦ rw owed (boundary_log (touched touch t))
   | inr none ↦ rw none (extends_by_a_line (touched touch t).log (unit (touched touch t)).log (unit_log (touched touch t)))
 ])
 
 go_time : (n : ℕ) (touch : Bool) (t : State) → t.time ≤ n + 1 → (go n touch t).time ≤ n + 1
 go_time n touch t within = elim (cases_Bool (goes_on n t)) [
-  | inl on ↦ subst (λ b. (cond b (half touch t) t).time ≤ n + 1) (sym on) (half_time n touch t on within)
-  | inr over ↦ subst (λ b. (cond b (half touch t) t).time ≤ n + 1) (sym over) within
+  | inl on ↦ subst (λ b. (cond b (half_turn touch t) t).time ≤ n + 1) (sym on) (half_time n touch t on within)
+  | inr over ↦ subst (λ b. (cond b (half_turn touch t) t).time ≤ n + 1) (sym over) within
 ]
 
 go_log : (n : ℕ) (touch : Bool) (t : State) → Extends t.log (go n touch t).log
 go_log n touch t = elim (cases_Bool (goes_on n t)) [
-  | inl on ↦ subst (λ b. Extends t.log (cond b (half touch t) t).log) (sym on) (half_log touch t)
-  | inr over ↦ subst (λ b. Extends t.log (cond b (half touch t) t).log) (sym over) (extends_itself t.log)
+  | inl on ↦ subst (λ b. Extends t.log (cond b (half_turn touch t) t).log) (sym on) (half_log touch t)
+  | inr over ↦ subst (λ b. Extends t.log (cond b (half_turn touch t) t).log) (sym over) (extends_itself t.log)
 ]
 
 after_time : (n : ℕ) (choices : List Bool) (m : State) → m.time ≤ n + 1 → (after n choices m).time ≤ n + 1

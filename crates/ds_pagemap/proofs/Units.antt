@@ -1,12 +1,13 @@
 -- What a unit leaves of the log, the time, the pages and the table.
 use Rattle.std.proofs.Common.{◌≡◌, ◌≢◌, ℕ, ◌+◌, List, [], ◌∷◌, Result, Ok, Err, inl, inr, refl, ap, ◌∙◌, subst}
-use Rattle.ds_policy.specs.declared.access.Kind.{Kind}
+use Rattle.ds_isa.specs.declared.instr.Kind.{Kind}
 use Rattle.ds_policy.specs.declared.access.Verdict.{Verdict}
 use Rattle.ds_policy.specs.declared.access.Verdict.TheVariants as verdict
 use Rattle.ds_policy.specs.Grants.{PageState, give, take, drop_own}
-use Rattle.ds_policy.specs.Pages.{decide, word_at, bytes_of}
+use Rattle.ds_word.specs.Bytes.{word_at}
+use Rattle.ds_policy.specs.Pages.{decide, bytes_of}
 use Rattle.ds_isa.specs.declared.instr.Size.TheVariants.{Word}
-use Rattle.ds_policy.specs.declared.access.Kind.TheVariants as kind
+use Rattle.ds_isa.specs.declared.instr.Kind.TheVariants as kind
 use Rattle.ds_word.specs.Word.{word}
 use Rattle.ds_isa.specs.Instruction.{instruction_of}
 use Rattle.ds_isa.specs.Meaning.{Effect, Goes, Branches, Loads, Stores, Faults, Calls, Privileged, meaning}

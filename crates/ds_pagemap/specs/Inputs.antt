@@ -1,12 +1,13 @@
 -- What a run is asked for: its first state, or the first refusal.
 use Rattle.std.specs.Prelude.{codes, ℕ, Bool, true, false, ◌&&◌, nat_le, nat_lt, bytes_eq, if◌then◌else◌, List, [], ◌∷◌, ◌++◌, Option, Some, None, Result, Ok, Err}
+use Rattle.ds_word.specs.ResultBinding.{◌>>=◌}
 use Rattle.ds_policy.specs.Value.{PolicyValue, InputValue}
 use Rattle.ds_policy.specs.Refusal.{PolicyRefusal, bad_toml, limit, bad_rule}
 use Rattle.ds_policy.specs.PolicyParts.{sources_of}
 use Rattle.ds_policy.specs.PolicyText.{policy_of}
 use Rattle.ds_policy.specs.InputText.{input_of}
-use Rattle.ds_asm.specs.Assembly.{Fault, assembled}
-use Rattle.ds_asm.specs.Assembly as source
+use Rattle.ds_asm.specs.declared.fault.SourceFault.{SourceFault}
+use Rattle.ds_asm.specs.Assembly.{assembled}
 use Rattle.ds_pagemap.specs.Machine.{State}
 use Rattle.ds_pagemap.specs.First.{first_state}
 
@@ -16,24 +17,14 @@ pub data Refusal : Type 0 where
   Limit : (name : List ℕ) → Refusal
   BadRule : (number : ℕ) → Refusal
   NoSource : (name : List ℕ) → Refusal
-  -- faults of the source of this name, in this line
-  Syntax : (name : List ℕ) (line : ℕ) → Refusal
-  UnknownLabel : (name : List ℕ) (line : ℕ) → Refusal
-  DoubleLabel : (name : List ℕ) (line : ℕ) → Refusal
-  Range : (name : List ℕ) (line : ℕ) → Refusal
-  TooLong : (name : List ℕ) (line : ℕ) → Refusal
+  -- a fault of the source of this name
+  InSource : (name : List ℕ) (fault : SourceFault) → Refusal
   InputFault : (line : ℕ) → Refusal
   BadRandom : Refusal
 
 -- a source's name and its text
 abbrev pub Sources : Type 0
 Sources = List (List ℕ × List ℕ)
-
-infixl 10 ◌>>=◌
--- the first refusal, or what comes of the value
-abbrev pub ◌>>=◌ : {A B : Type 0} → Result A Refusal → (A → Result B Refusal) → Result B Refusal
-(Ok x) >>= f = f x
-(Err refusal) >>= f = Err refusal
 
 -- goes on only where it holds
 abbrev pub check : Bool → Refusal → Result Bool Refusal
@@ -58,13 +49,9 @@ text_named [] name = None
 text_named (source ∷ rest) name = if bytes_eq source.0 name then Some source.1 else text_named rest name
 
 -- an image, or its refusal as one of these
-abbrev pub source_read : List ℕ → Result (List ℕ) Fault → Result (List ℕ) Refusal
+abbrev pub source_read : List ℕ → Result (List ℕ) SourceFault → Result (List ℕ) Refusal
 source_read name (Ok bytes) = Ok bytes
-source_read name (Err (source.Syntax line)) = Err (Syntax name line)
-source_read name (Err (source.UnknownLabel line)) = Err (UnknownLabel name line)
-source_read name (Err (source.DoubleLabel line)) = Err (DoubleLabel name line)
-source_read name (Err (source.Range line)) = Err (Range name line)
-source_read name (Err (source.TooLong line)) = Err (TooLong name line)
+source_read name (Err fault) = Err (InSource name fault)
 
 -- the image of a source's text, if there is one
 abbrev pub image_read : List ℕ → Option (List ℕ) → Result (List ℕ) Refusal

@@ -4,7 +4,8 @@ use Rattle.ds_log.specs.declared.line.Line.{Line}
 use Rattle.ds_policy.specs.declared.command.Command.{Command}
 use Rattle.ds_policy.specs.declared.command.Command.TheVariants as command
 use Rattle.ds_policy.specs.declared.command.TimedCommand.{TimedCommand}
-use Rattle.ds_policy.specs.Pages.{Pages, bytes_of, word_at}
+use Rattle.ds_word.specs.Bytes.{word_at}
+use Rattle.ds_policy.specs.Pages.{Pages, bytes_of}
 use Rattle.ds_pagemap.specs.Machine.{State}
 
 -- the log is as it was, or has one line more

@@ -13,7 +13,9 @@ use Rattle.ds_policy.specs.Value.{PolicyValue}
 use Rattle.ds_policy.specs.InputLines.{timed_event_of}
 use Rattle.ds_policy.specs.InputText.{with_line as with_input_line, with_lines}
 use Rattle.ds_asm.specs.Images.{part_of}
-use Rattle.ds_asm.specs.Assembly.{Fault, assembled}
+use Rattle.ds_asm.specs.declared.fault.SourceFault.{SourceFault}
+use Rattle.ds_asm.specs.declared.fault.SourceFault.TheVariants.{Syntax, UnknownLabel, DoubleLabel, Range, TooLong}
+use Rattle.ds_asm.specs.Assembly.{assembled}
 use Rattle.ds_asm.specs.OnLiterals.{asm_on_literals}
 use Rattle.ds_log.specs.declared.line.Line.{Line}
 use Rattle.ds_log.specs.declared.line.Line.TheVariants.{Denial, Refused}
@@ -21,9 +23,8 @@ use Rattle.ds_log.specs.declared.line.Denied.TheVariants as denied
 use Rattle.ds_pagemap.specs.Machine.{State}
 use Rattle.ds_pagemap.specs.Unit.{instruction, unit}
 use Rattle.ds_pagemap.specs.Boundary.{boundary, all_queued}
-use Rattle.ds_pagemap.specs.Run.{half, after, goes_on}
-use Rattle.ds_pagemap.specs.Inputs.{Sources, Refusal, Limit, NoSource, InputFault, BadRandom, images_from, inputs_under}
-use Rattle.ds_pagemap.specs.Inputs as inputs
+use Rattle.ds_pagemap.specs.Run.{half_turn, after, goes_on}
+use Rattle.ds_pagemap.specs.Inputs.{Sources, Refusal, Limit, NoSource, InSource, InputFault, BadRandom, images_from, inputs_under}
 use Rattle.ds_pagemap.specs.First.{first_state}
 
 -- lines as a text
@@ -34,10 +35,11 @@ source lines = flat_map (λ line. codes line ++ 10 ∷ []) lines
 
 -- What an answer unfolds to compute a run on a literal.
 unfoldable pub run_on_literals : ⊤
-unfolding half unit boundary instruction after asm_on_literals
+unfolding half_turn unit boundary instruction after asm_on_literals
 run_on_literals = tt
 
-abbrev image_or_none : Result (List ℕ) Fault → List ℕ
+-- the image, empty where a source has none
+abbrev image_or_none : Result (List ℕ) SourceFault → List ℕ
 image_or_none (Ok image) = image
 image_or_none (Err fault) = []
 
@@ -66,6 +68,7 @@ shown n halves touch m = seen (after n (replicate halves touch) m)
     seen : State → Bool × List (List ℕ) × List Line × ℕ
     seen t = (goes_on n t, t.consoles, t.log, t.time)
 
+-- these bytes on console 0, and none on the others
 abbrev pub on_line_0 : List ℕ → List (List ℕ)
 on_line_0 bytes = bytes ∷ [] ∷ [] ∷ [] ∷ []
 
@@ -233,6 +236,7 @@ two rate = record {
 abbrev waits_and_puts : ℕ → String → List String
 waits_and_puts n digit = replicate n "nop" ++ digit ∷ "addiu $2,$0,1" ∷ "syscall" ∷ "addiu $2,$0,0" ∷ "syscall" ∷ []
 
+-- process 1 puts 1 behind 35 words of nop, process 2 puts 2 at once
 abbrev one_and_two : ℕ → State
 one_and_two rate = first_state (two rate) (image_or_none (assembled (source (waits_and_puts 35 "addiu $4,$0,49"))) ∷ image_or_none (assembled (source (waits_and_puts 0 "addiu $4,$0,50"))) ∷ []) (record { commands = []; characters = [] })
 
@@ -249,6 +253,7 @@ a_rate_lets_the_next_process_run false = refl
 
 -- Characters.
 
+-- the letter A n times for line 0, all at time 1
 abbrev keys : ℕ → List Character
 keys n = replicate n (record { time = 1; line = 0; byte = 65 })
 
@@ -284,6 +289,7 @@ a_part_is_a_page_of_the_image = refl
 abbrev good : String → List ℕ × List ℕ
 good name = (codes name, codes "syscall")
 
+-- a source of this name whose second line is wrong
 abbrev bad : String → List ℕ × List ℕ
 bad name = (codes name, source ("syscall" ∷ "lw $1" ∷ []))
 
@@ -299,23 +305,23 @@ pub a_source_is_missed_by_its_name : under (good "two.s" ∷ []) "" 100 63 ≡ E
 unfolding inputs_under images_from
 a_source_is_missed_by_its_name = refl
 
-pub of_two_sources_of_a_name_the_first_counts : under (bad "one.s" ∷ good "one.s" ∷ []) "" 100 63 ≡ Err (inputs.Syntax (codes "one.s") 2)
+pub of_two_sources_of_a_name_the_first_counts : under (bad "one.s" ∷ good "one.s" ∷ []) "" 100 63 ≡ Err (InSource (codes "one.s") (Syntax 2))
 unfolding inputs_under images_from asm_on_literals
 of_two_sources_of_a_name_the_first_counts = refl
 
-pub a_label_that_stands_nowhere_is_told : under ((codes "one.s", codes "nop\nj y") ∷ []) "" 100 63 ≡ Err (inputs.UnknownLabel (codes "one.s") 2)
+pub a_label_that_stands_nowhere_is_told : under ((codes "one.s", codes "nop\nj y") ∷ []) "" 100 63 ≡ Err (InSource (codes "one.s") (UnknownLabel 2))
 unfolding inputs_under images_from asm_on_literals
 a_label_that_stands_nowhere_is_told = refl
 
-pub a_label_that_stands_twice_is_told : under ((codes "one.s", codes "x: nop\nx: nop") ∷ []) "" 100 63 ≡ Err (inputs.DoubleLabel (codes "one.s") 2)
+pub a_label_that_stands_twice_is_told : under ((codes "one.s", codes "x: nop\nx: nop") ∷ []) "" 100 63 ≡ Err (InSource (codes "one.s") (DoubleLabel 2))
 unfolding inputs_under images_from asm_on_literals
 a_label_that_stands_twice_is_told = refl
 
-pub a_number_out_of_range_is_told : under ((codes "one.s", codes "addiu $1,$0,40000") ∷ []) "" 100 63 ≡ Err (inputs.Range (codes "one.s") 1)
+pub a_number_out_of_range_is_told : under ((codes "one.s", codes "addiu $1,$0,40000") ∷ []) "" 100 63 ≡ Err (InSource (codes "one.s") (Range 1))
 unfolding inputs_under images_from asm_on_literals
 a_number_out_of_range_is_told = refl
 
-pub one_statement_too_many_is_told : under ((codes "one.s", codes ".space 65536\nnop") ∷ []) "" 100 63 ≡ Err (inputs.TooLong (codes "one.s") 2)
+pub one_statement_too_many_is_told : under ((codes "one.s", codes ".space 65536\nnop") ∷ []) "" 100 63 ≡ Err (InSource (codes "one.s") (TooLong 2))
 unfolding inputs_under images_from asm_on_literals
 one_statement_too_many_is_told = refl
 
@@ -323,7 +329,7 @@ pub a_source_that_no_page_names_is_not_read : under (bad "two.s" ∷ good "one.s
 unfolding inputs_under images_from asm_on_literals with_lines with_input_line
 a_source_that_no_page_names_is_not_read = refl
 
-pub a_source_is_refused_before_the_input : under (bad "one.s" ∷ []) "?" 1000000001 7 ≡ Err (inputs.Syntax (codes "one.s") 2)
+pub a_source_is_refused_before_the_input : under (bad "one.s" ∷ []) "?" 1000000001 7 ≡ Err (InSource (codes "one.s") (Syntax 2))
 unfolding inputs_under images_from asm_on_literals
 a_source_is_refused_before_the_input = refl
 

@@ -10,8 +10,8 @@ abbrev pub is_over : State → Bool
 is_over m = list_all (λ q. has_ended q.standing) m.processes
 
 -- Half a turn: the boundary that is owed, or else a unit; before it the process that runs may be touched.
-unfoldable pub half : Bool → State → State
-half touch m = if is_some m.owed then boundary (touched touch m) else unit (touched touch m)
+unfoldable pub half_turn : Bool → State → State
+half_turn touch m = if is_some m.owed then boundary (touched touch m) else unit (touched touch m)
 
 -- a run for n ticks goes on
 abbrev pub goes_on : ℕ → State → Bool
@@ -19,7 +19,7 @@ goes_on n m = is_some m.owed || (nat_lt m.time n && not (is_over m))
 
 -- half a turn, if the run goes on
 abbrev pub go : ℕ → Bool → State → State
-go n touch m = if goes_on n m then half touch m else m
+go n touch m = if goes_on n m then half_turn touch m else m
 
 -- what a run for n ticks has come to by these choices, the newest first
 unfoldable pub after : ℕ → List Bool → State → State

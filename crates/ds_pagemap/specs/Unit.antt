@@ -1,7 +1,7 @@
 -- A unit: one user instruction, or a branch or jump with its delay slot.
 use Rattle.std.specs.Prelude.{ℕ, ◌+◌, List, [], ◌∷◌, slice_set, Some}
-use Rattle.ds_policy.specs.declared.access.Kind.{Kind}
-use Rattle.ds_policy.specs.declared.access.Kind.TheVariants as kind
+use Rattle.ds_isa.specs.declared.instr.Kind.{Kind}
+use Rattle.ds_isa.specs.declared.instr.Kind.TheVariants as kind
 use Rattle.ds_isa.specs.declared.instr.Size.{Size}
 use Rattle.ds_isa.specs.declared.instr.Size.TheVariants.{Word}
 use Rattle.ds_procs.specs.declared.process.Standing.TheVariants.{Parked}
@@ -16,7 +16,8 @@ use Rattle.ds_isa.specs.Registers.{Registers, settled}
 use Rattle.ds_isa.specs.Meaning.{Effect, Goes, Branches, Loads, Stores, Faults, Calls, Privileged, meaning}
 use Rattle.ds_policy.specs.declared.access.Verdict.{Verdict}
 use Rattle.ds_policy.specs.declared.access.Verdict.TheVariants as verdict
-use Rattle.ds_policy.specs.Pages.{decide, word_at, with_word, bytes_of}
+use Rattle.ds_word.specs.Bytes.{word_at, with_word}
+use Rattle.ds_policy.specs.Pages.{decide, bytes_of}
 use Rattle.ds_pagemap.specs.Machine.{State, process_of, with_process, made_unready, logged, first}
 use Rattle.ds_pagemap.specs.Calls.{served}
 use Rattle.ds_procs.specs.Calls.{call_of}

@@ -1,6 +1,7 @@
 //! A store on the bytes of a page.
 ghost use Rattle.std.specs.Prelude.{◌≡◌, length};
-ghost use Rattle.ds_pagemap.specs.Store.{stored_where_allowed, is_allowed, LiesInPage};
+ghost use Rattle.ds_policy.specs.FirstTable.{IsWithinPage};
+ghost use Rattle.ds_pagemap.specs.Store.{stored_where_allowed, is_allowed};
 
 use ds_policy::Verdict;
 
@@ -8,7 +9,7 @@ use ds_policy::Verdict;
 /// goes to the aligned place of the verdict's offset, its lowest byte first.
 pub fn store_word_where_allowed(page: &mut [u8], verdict: Verdict, word: u32) -> bool
     requires page_long { length page.old ≡ 4096 }
-    requires in_page { LiesInPage verdict }
+    requires in_page { IsWithinPage verdict }
     ensures done { result ≡ is_allowed verdict }
     ensures bytes { page.new ≡ stored_where_allowed page.old verdict word }
 {

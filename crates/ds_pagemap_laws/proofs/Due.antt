@@ -1,4 +1,4 @@
--- Of events in order, what is due is a front, and what comes later is the rest.
+-- Of events in order, those that are due are a prefix, and those that come later the rest.
 use Rattle.std.proofs.Common.{◌≡◌, ℕ, suc, ◌+◌, ◌≤◌, Bool, true, false, cond, not, nat_le, List, [], ◌∷◌, take, drop, filter, refl, ap, ◌∙◌, arith}
 use Rattle.std.specs.List.{All}
 use Rattle.std.specs.List.Sorted.{IsNonDecreasingBy}

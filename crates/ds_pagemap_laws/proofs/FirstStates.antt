@@ -1,9 +1,10 @@
 -- What good inputs make, and that the first state of a run is lawful.
 use Rattle.std.proofs.Common.{◌≡◌, ℕ, zero, suc, ◌+◌, ◌-◌, ◌<◌, ◌≤◌, false, nat_le, nat_lt, ◌&&◌, List, [], ◌∷◌, length, length-set, map, Result, Ok, Err, refl, sym, ap, ◌∙◌, subst, arith, get_or, codes}
 use Rattle.std.specs.List.{All}
-use Rattle.std.specs.Result.{result_map_both}
 use Rattle.std.proofs.lemmas.List.{length-map, length-replicate}
 use Rattle.std.proofs.lemmas.List.Elements.{All-nil, All-cons, All-head, All-tail}
+use Rattle.ds_word.proofs.ResultBinding.{bind_ok}
+use Rattle.ds_word.specs.ResultBinding.{◌>>=◌}
 use Rattle.ds_procs.specs.declared.process.Standing.TheVariants.{Ready}
 use Rattle.ds_policy.specs.declared.policy.PolicyProcess.{PolicyProcess}
 use Rattle.ds_policy.specs.declared.policy.PolicyRule.{PolicyRule}
@@ -18,12 +19,12 @@ use Rattle.ds_policy.specs.PolicyParts.{sources_of}
 use Rattle.ds_policy.specs.PolicyText.{policy_of, says}
 use Rattle.ds_policy.specs.InputFacts.{IsGoodInput}
 use Rattle.ds_policy.specs.InputText.{Said, input_of, input_in, as_input, is_served, with_lines, nothing_said, lines_of}
-use Rattle.ds_policy.proofs.Binds as policies
 use Rattle.ds_policy.proofs.PolicyRead.{says_good}
 use Rattle.ds_policy.proofs.GoodInput.{good_input}
 use Rattle.ds_pagemap.specs.Machine.{State, no_process}
 use Rattle.ds_pagemap.specs.First.{first_process, first_state, numbers}
-use Rattle.ds_pagemap.specs.Inputs.{Refusal, Sources, Limit, BadRandom, ◌>>=◌, check, policy_read, input_read, images_from, inputs, inputs_by, inputs_under_by}
+use Rattle.ds_pagemap.specs.Inputs.{Refusal, Sources, Limit, BadRandom, check, policy_read, input_read, images_from, inputs, inputs_by, inputs_under_by}
+use Rattle.ds_pagemap_laws.specs.Further.{further}
 use Rattle.ds_pagemap_laws.specs.Due.{IsInOrder}
 use Rattle.ds_pagemap_laws.specs.Lawful.{IsProcess, IsReady, IsLawful}
 use Rattle.ds_pagemap_laws.proofs.Asleep.{has_woken}
@@ -76,10 +77,6 @@ first_lawful policy images input few good =
 
 -- Inputs.
 
-bind_ok : {A B : Type 0} (r : Result A Refusal) (f : A → Result B Refusal) (y : B) → (r >>= f) ≡ Ok y → (x : A) × (r ≡ Ok x) × (f x ≡ Ok y)
-bind_ok (Err e) f y h = cc
-bind_ok (Ok x) f y h = (x, refl, h)
-
 policy_said : (r : Result PolicyValue PolicyRefusal) (p : PolicyValue) → policy_read r ≡ Ok p → r ≡ Ok p
 policy_said (Ok q) p h = let same : q ≡ p = cc in ap Ok same
 policy_said (Err bad_toml) p h = cc
@@ -112,17 +109,13 @@ made make text sources input n random x h =
 
 -- Of two things made of the same inputs.
 
--- what is made further of an answer
-abbrev further : {A B : Type 0} → (A → B) → Result A Refusal → Result B Refusal
-further f r = result_map_both f (λ refusal. refusal) r
-
 bind_alike : {X A B : Type 0} (r : Result X Refusal) (g : X → Result A Refusal) (h : X → Result B Refusal) (f : A → B) → ((x : X) → h x ≡ further f (g x)) → (r >>= h) ≡ further f (r >>= g)
 bind_alike (Ok x) g h f e = e x
 bind_alike (Err refusal) g h f e = refl
 
 -- what is made further of it may be made at the end of the chain, or behind it
 pub made_alike : (A B : Type 0) (f : A → B) (make : PolicyValue → List (List ℕ) → InputValue → A) (text : List ℕ) (sources : Sources) (input : List ℕ) (n random : ℕ)
-    → inputs_by (λ policy images events. f (make policy images events)) text sources input n random ≡ result_map_both f (λ refusal. refusal) (inputs_by make text sources input n random)
+    → inputs_by (λ policy images events. f (make policy images events)) text sources input n random ≡ further f (inputs_by make text sources input n random)
 unfolding inputs_by inputs_under_by
 made_alike A B f make text sources input n random =
     bind_alike (policy_read (policy_of text)) _ _ f (λ policy.
@@ -136,14 +129,14 @@ unfolding inputs
 inputs_made text sources input n random = refl
 
 pub made_further : (f : State → State) (text : List ℕ) (sources : Sources) (input : List ℕ) (n random : ℕ)
-    → inputs_by (λ policy images events. f (first_state policy images events)) text sources input n random ≡ result_map_both f (λ refusal. refusal) (inputs text sources input n random)
+    → inputs_by (λ policy images events. f (first_state policy images events)) text sources input n random ≡ further f (inputs text sources input n random)
 unfolding inputs
 made_further f text sources input n random = made_alike State State f first_state text sources input n random
 
 text_good : (text : List ℕ) (p : PolicyValue) → policy_of text ≡ Ok p → IsGoodPolicy p
 unfolding policy_of
 text_good text p h =
-    let (ms, h1, a) = policies.bind_ok (reading.or_else (document text) bad_toml) says p h in
+    let (ms, h1, a) = bind_ok (reading.or_else (document text) bad_toml) says p h in
     says_good ms p a
 
 said_in : (r : Result Said ℕ) (e : InputValue) → as_input r ≡ Ok e → (s : Said) × (r ≡ Ok s) × (input_in s ≡ e)

@@ -4,7 +4,7 @@ use Rattle.std.specs.Prelude.{is_some}
 use Rattle.ds_pagemap.specs.Machine.{State, touched}
 use Rattle.ds_pagemap.specs.Unit.{unit}
 use Rattle.ds_pagemap.specs.Boundary.{boundary}
-use Rattle.ds_pagemap.specs.Run.{half, goes_on, after, Reaches}
+use Rattle.ds_pagemap.specs.Run.{half_turn, goes_on, after, Reaches}
 use Rattle.ds_pagemap_laws.specs.Lawful.{IsLawful}
 use Rattle.ds_pagemap_laws.proofs.LawfulBoundaries.{boundary_lawful}
 use Rattle.ds_pagemap_laws.proofs.LawfulUnits.{unit_lawful, touched_lawful}
@@ -16,11 +16,11 @@ half_by false m k = unit_lawful m k
 half_of : (owed b : Bool) (m : State) → IsLawful m → IsLawful (cond owed (boundary (touched b m)) (unit (touched b m)))
 half_of owed b m k = half_by owed (touched b m) (touched_lawful b m k)
 
-pub half_lawful : (b : Bool) (m : State) → IsLawful m → IsLawful (half b m)
-unfolding half
+pub half_lawful : (b : Bool) (m : State) → IsLawful m → IsLawful (half_turn b m)
+unfolding half_turn
 half_lawful b m k = half_of (is_some m.owed) b m k
 
-go_by : (on b : Bool) (m : State) → IsLawful m → IsLawful (cond on (half b m) m)
+go_by : (on b : Bool) (m : State) → IsLawful m → IsLawful (cond on (half_turn b m) m)
 go_by true b m k = half_lawful b m k
 go_by false b m k = k
 

@@ -11,10 +11,11 @@ use Rattle.ds_isa.specs.declared.instr.Instr.TheVariants as instr
 use Rattle.ds_isa.specs.Registers.{Registers, settled, written, loaded}
 use Rattle.ds_isa.specs.Meaning.{Effect, Goes, Branches, Loads, Stores, Faults, Calls, Privileged, meaning, written_or_trap, with_hi_lo}
 use Rattle.ds_isa.specs.Instruction.{instruction_of}
-use Rattle.ds_policy.specs.declared.access.Kind.TheVariants.{Fetch, Load, Store}
+use Rattle.ds_isa.specs.declared.instr.Kind.TheVariants.{Fetch, Load, Store}
 use Rattle.ds_policy.specs.declared.access.Verdict.{Verdict}
 use Rattle.ds_policy.specs.declared.access.Verdict.TheVariants.{Allowed, Denied}
-use Rattle.ds_policy.specs.Pages.{decide, word_at, bytes_of}
+use Rattle.ds_word.specs.Bytes.{word_at}
+use Rattle.ds_policy.specs.Pages.{decide, bytes_of}
 use Rattle.ds_isa.specs.declared.instr.Size.TheVariants.{Word}
 use Rattle.ds_procs.specs.declared.process.Standing.TheVariants.{Parked}
 use Rattle.ds_procs.specs.Calls.{call_of}
@@ -71,72 +72,7 @@ trap_good r n (Some v) k = written_good r n v k
 
 meaning_good : (i : Instr) (pc : ℕ) (r : Registers) → AreRegisters r → Keeps (meaning i pc r)
 meaning_good (instr.Sll rd rt shamt) pc r k = written_good r rd _ k
-meaning_good (instr.Srl rd rt shamt) pc r k = written_good r rd _ k
-meaning_good (instr.Sra rd rt shamt) pc r k = written_good r rd _ k
-meaning_good (instr.Sllv rd rt rs) pc r k = written_good r rd _ k
-meaning_good (instr.Srlv rd rt rs) pc r k = written_good r rd _ k
-meaning_good (instr.Srav rd rt rs) pc r k = written_good r rd _ k
-meaning_good (instr.Jr rs) pc r k = settled_good r k
-meaning_good (instr.Jalr rd rs) pc r k = written_good r rd _ k
-meaning_good (instr.Syscall code) pc r k = tt
-meaning_good (instr.Break code) pc r k = tt
-meaning_good (instr.Mfhi rd) pc r k = written_good r rd _ k
-meaning_good (instr.Mthi rs) pc r k = hi_lo_good r _ k
-meaning_good (instr.Mflo rd) pc r k = written_good r rd _ k
-meaning_good (instr.Mtlo rs) pc r k = hi_lo_good r _ k
-meaning_good (instr.Mult rs rt) pc r k = hi_lo_good r _ k
-meaning_good (instr.Multu rs rt) pc r k = hi_lo_good r _ k
-meaning_good (instr.Div rs rt) pc r k = hi_lo_good r _ k
-meaning_good (instr.Divu rs rt) pc r k = hi_lo_good r _ k
-meaning_good (instr.Add rd rs rt) pc r k = trap_good r rd _ k
-meaning_good (instr.Addu rd rs rt) pc r k = written_good r rd _ k
-meaning_good (instr.Sub rd rs rt) pc r k = trap_good r rd _ k
-meaning_good (instr.Subu rd rs rt) pc r k = written_good r rd _ k
-meaning_good (instr.And rd rs rt) pc r k = written_good r rd _ k
-meaning_good (instr.Or rd rs rt) pc r k = written_good r rd _ k
-meaning_good (instr.Xor rd rs rt) pc r k = written_good r rd _ k
-meaning_good (instr.Nor rd rs rt) pc r k = written_good r rd _ k
-meaning_good (instr.Slt rd rs rt) pc r k = written_good r rd _ k
-meaning_good (instr.Sltu rd rs rt) pc r k = written_good r rd _ k
-meaning_good (instr.Bltz rs i) pc r k = settled_good r k
-meaning_good (instr.Bgez rs i) pc r k = settled_good r k
-meaning_good (instr.Bltzal rs i) pc r k = written_good r 31 _ k
-meaning_good (instr.Bgezal rs i) pc r k = written_good r 31 _ k
-meaning_good (instr.J target) pc r k = settled_good r k
-meaning_good (instr.Jal target) pc r k = written_good r 31 _ k
-meaning_good (instr.Beq rs rt i) pc r k = settled_good r k
-meaning_good (instr.Bne rs rt i) pc r k = settled_good r k
-meaning_good (instr.Blez rs i) pc r k = settled_good r k
-meaning_good (instr.Bgtz rs i) pc r k = settled_good r k
-meaning_good (instr.Addi rt rs i) pc r k = trap_good r rt _ k
-meaning_good (instr.Addiu rt rs i) pc r k = written_good r rt _ k
-meaning_good (instr.Slti rt rs i) pc r k = written_good r rt _ k
-meaning_good (instr.Sltiu rt rs i) pc r k = written_good r rt _ k
-meaning_good (instr.Andi rt rs i) pc r k = written_good r rt _ k
-meaning_good (instr.Ori rt rs i) pc r k = written_good r rt _ k
-meaning_good (instr.Xori rt rs i) pc r k = written_good r rt _ k
-meaning_good (instr.Lui rt i) pc r k = written_good r rt _ k
-meaning_good (instr.Lb rt rs i) pc r k = λ w. loaded_good r rt _ k
-meaning_good (instr.Lh rt rs i) pc r k = λ w. loaded_good r rt _ k
-meaning_good (instr.Lwl rt rs i) pc r k = λ w. loaded_good r rt _ k
-meaning_good (instr.Lw rt rs i) pc r k = λ w. loaded_good r rt _ k
-meaning_good (instr.Lbu rt rs i) pc r k = λ w. loaded_good r rt _ k
-meaning_good (instr.Lhu rt rs i) pc r k = λ w. loaded_good r rt _ k
-meaning_good (instr.Lwr rt rs i) pc r k = λ w. loaded_good r rt _ k
-meaning_good (instr.Sb rt rs i) pc r k = tt
-meaning_good (instr.Sh rt rs i) pc r k = tt
-meaning_good (instr.Swl rt rs i) pc r k = tt
-meaning_good (instr.Sw rt rs i) pc r k = tt
-meaning_good (instr.Swr rt rs i) pc r k = tt
-meaning_good (instr.Mfc0 rt rd) pc r k = tt
-meaning_good (instr.Mtc0 rt rd) pc r k = tt
-meaning_good instr.Tlbr pc r k = tt
-meaning_good instr.Tlbwi pc r k = tt
-meaning_good instr.Tlbwr pc r k = tt
-meaning_good instr.Tlbp pc r k = tt
-meaning_good instr.Rfe pc r k = tt
-meaning_good (instr.Cop unit w) pc r k = tt
-meaning_good (instr.Reserved w) pc r k = tt
+meaning_good other pc r k = search (written_good, settled_good, hi_lo_good, trap_good, loaded_good, k)
 
 -- Instructions.
 

@@ -12,3 +12,4 @@ pub mod FirstStates
 pub mod LawfulUnits
 pub mod LawfulRuns
 pub mod Ordered
+pub mod LawfulRows

@@ -1,4 +1,5 @@
 pub mod Settled
 pub mod Due
 pub mod Lawful
+pub mod Further
 pub mod Rows

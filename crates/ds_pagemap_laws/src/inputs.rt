@@ -1,6 +1,5 @@
 //! What inputs make: the first states of runs, and events in order.
 ghost use Rattle.std.specs.Prelude.{◌≡◌, ℕ, List, length, Ok};
-ghost use Rattle.std.specs.Result.{result_map_both};
 ghost use Rattle.std.specs.List.Sorted.{IsNonDecreasingBy};
 ghost use Rattle.ds_policy.specs.declared.command.TimedCommand.{TimedCommand};
 ghost use Rattle.ds_policy.specs.declared.command.Character.{Character};
@@ -9,6 +8,7 @@ ghost use Rattle.ds_pagemap.specs.Machine.{State, process_of};
 ghost use Rattle.ds_pagemap.specs.Boundary.{boundary};
 ghost use Rattle.ds_pagemap.specs.Inputs.{Sources, inputs, inputs_by};
 ghost use Rattle.ds_pagemap.specs.First.{first_state};
+ghost use Rattle.ds_pagemap_laws.specs.Further.{further};
 ghost use Rattle.ds_pagemap_laws.specs.Due.{IsInOrder, SplitsAt, due_count};
 ghost use Rattle.ds_pagemap_laws.specs.Lawful.{IsLawful};
 
@@ -33,10 +33,10 @@ pub fn inputs_make_first_states()
         (n random : ℕ) →
         inputs_by (λ policy images events. f (first_state policy images events))
         text sources input n random
-        ≡ result_map_both f (λ refusal. refusal) (inputs text sources input n random) }
+        ≡ further f (inputs text sources input n random) }
 {}
 
-/// Of events in order, what is due at a time is a front, and what comes later is the rest.
+/// Of events in order, those that are due at a time are a prefix, and the later ones are the rest.
 pub fn what_is_due_is_a_front()
     ensures commands { (now : ℕ) (cs : List TimedCommand) → IsNonDecreasingBy has_time cs →
         SplitsAt has_time now cs (due_count has_time now cs) }

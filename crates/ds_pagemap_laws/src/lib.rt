@@ -1,6 +1,6 @@
 //! Laws of the page-map machine on which the station rests: late loads may be finished before or
-//! after anything that the monitor does, lawful states stay lawful, and what is due is a front of
-//! what is left.
+//! after anything that the monitor does, lawful states stay lawful, and the events that are due are
+//! a prefix of those that are left.
 #![tactic(auto)]
 
 mod inputs;

@@ -2,7 +2,8 @@
 use Rattle.std.proofs.Common.{◌≡◌, ℕ, ◌≤◌, ◌+◌, pos, Bool, true, false, not, List, Option, Some, None, option_and_then, Result, Ok, Err, refl, arith, nat_le, ◌&&◌, if◌then◌else◌, negsuc, ◌++◌, ◌∷◌, [], subst, length, length-append}
 use Rattle.std.proofs.lemmas.Bool.Decides.{nat_tests}
 use Rattle.toml.specs.Data.{Data, string, integer, float, boolean, datetime, array, table, Items, no_items, item, Members, get_member, as_array}
-use Rattle.ds_policy.specs.Refusal.{PolicyRefusal, or_else, check, ◌>>=◌}
+use Rattle.ds_word.specs.ResultBinding.{◌>>=◌}
+use Rattle.ds_policy.specs.Refusal.{PolicyRefusal, or_else, check}
 use Rattle.ds_policy.specs.Document.{when, number_in, number_at, item_count, items_between, items_if}
 use Rattle.ds_policy.specs.PolicyText.{each_of}
 
@@ -17,10 +18,6 @@ when_true false c h = cc
 pub when_false : (b c : Bool) → when (not b) ≡ Some c → b ≡ false
 when_false false c h = refl
 when_false true c h = cc
-
-pub bind_ok : {A B : Type 0} (r : Result A PolicyRefusal) (f : A → Result B PolicyRefusal) (y : B) → (r >>= f) ≡ Ok y → (x : A) × (r ≡ Ok x) × (f x ≡ Ok y)
-bind_ok (Err e) f y h = cc
-bind_ok (Ok x) f y h = (x, refl, h)
 
 pub or_else_ok : {A : Type 0} (o : Option A) (e : PolicyRefusal) (x : A) → or_else o e ≡ Ok x → o ≡ Some x
 or_else_ok None e x h = cc

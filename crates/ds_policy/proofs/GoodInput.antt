@@ -14,7 +14,8 @@ use Rattle.ds_policy.specs.declared.events.event.Event.{Event}
 use Rattle.ds_policy.specs.declared.events.event.Event.TheVariants.{Order, Input}
 use Rattle.ds_policy.specs.declared.events.event.TimedEvent.{TimedEvent}
 use Rattle.ds_policy.specs.declared.policy.PolicyPage.{PolicyPage}
-use Rattle.ds_policy.specs.InputNumbers.{digit_of, digits_from, decimal_of, bytes_of}
+use Rattle.ds_word.specs.Digits.{digit_of, digits_from}
+use Rattle.ds_policy.specs.InputNumbers.{decimal_of, bytes_of}
 use Rattle.ds_policy.specs.InputLines.{words_of, line_of, keys_of, command_of, event_of, timed_event_of}
 use Rattle.ds_policy.specs.InputText.{Said, nothing_said, is_served, characters_of, with_event, may_follow, follows, is_skipped, with_line, with_lines, or_fault, input_in}
 use Rattle.ds_policy.specs.InputFacts.{has_time, comes_at, IsGoodCharacter, AreNumbered, IsGoodInput, IsNothingYet}

@@ -17,7 +17,7 @@ use Rattle.ds_policy.specs.declared.grant.Right.TheVariants.{Nothing, Read, Writ
 use Rattle.ds_policy.specs.Refusal.{limit, bad_rule}
 use Rattle.ds_policy.specs.Grants.{is_some_right, region, count_distinct}
 use Rattle.ds_policy.specs.Document.{when, has_only, number_at, text_at}
-use Rattle.ds_policy.specs.PolicyParts.{process_of, is_name, is_source_name, source_of, page_of, new_page, right_named, page_number, flag_of, grant_of, has_same_name, regions_of, rule_of, has_same_place, new_rule}
+use Rattle.ds_policy.specs.PolicyParts.{process_of, is_name, is_source_name, source_of, page_of, new_page, right_named, page_named, flag_of, grant_of, has_same_name, regions_of, rule_of, has_same_place, new_rule}
 use Rattle.ds_policy.specs.PolicyServed.{serves_rule}
 use Rattle.ds_policy.specs.PolicyText.{processes_from, pages_from, rules_from}
 use Rattle.ds_policy.specs.PolicyFacts.{IsGoodProcess, IsGoodSource, IsGoodPage, IsGoodRule, AreGoodPages, AreGoodRules, HasFewRules, HasFewRegions}
@@ -99,7 +99,7 @@ processes_good ds processes e =
     each_keeps (λ before d. process_of d) (λ before. limit (codes "process")) (All IsGoodProcess)
     (λ before d p good is. All-push IsGoodProcess before p good (process_good d p is)) [] ds processes (λ k d h. absurd (omega arith)) e
 
-page_within : (pages : List PolicyPage) (name : List ℕ) (n : ℕ) → page_number pages name ≡ Some n → n < length pages
+page_within : (pages : List PolicyPage) (name : List ℕ) (n : ℕ) → page_named pages name ≡ Some n → n < length pages
 page_within [] name n h = cc
 page_within (p ∷ pages) name n h = (position-Some (λ (q : PolicyPage). bytes_eq q.name name) (p ∷ pages) n p h).0
 
@@ -111,7 +111,7 @@ unfolding grant_of
 page_granted pages ms g h =
     let (known, h1, a) = bind_some (when (has_only (codes "process" ∷ codes "address" ∷ codes "right" ∷ codes "page" ∷ codes "give" ∷ []) ms)) _ g h in
     let (name, h2, b) = bind_some (text_at (codes "page") ms) _ g a in
-    let (page, h3, c) = bind_some (page_number pages name) _ g b in
+    let (page, h3, c) = bind_some (page_named pages name) _ g b in
     let (give, h4, q) = bind_some (flag_of (get_member (codes "give") ms)) _ g c in
     let at = page_within pages name page h3 in
     subst (λ (o : Option (Option ℕ × Bool)). IfSome o (grants (length pages) Read)) q (at, refl)

@@ -1,16 +1,7 @@
--- One step over the digits of a word, for the reading of an input.
-use Rattle.std.proofs.Common.{◌≡◌, sym, ap, refl, ℕ, ◌+◌, ◌*◌, ◌<◌, ◌≤◌, nat_le, List, [], ◌∷◌, ◌++◌, length, get_or, drop, Option, Some, None, option_and_then, option_map, arith, if◌then◌else◌, append_assoc, append-nil, length-append, take, ◌-◌}
-use Rattle.std.proofs.lemmas.List.{drop_all, drop_more, take_all}
-use Rattle.ds_policy.specs.InputNumbers.{digit_of, digits_from, pair_of, pairs_of}
-
-pub digits_step : (base limit n : ℕ) (cs : List ℕ) (i : ℕ) → i < length cs
-    → digits_from base limit n (drop i cs) ≡ option_and_then (λ d. if nat_le (n * base + d) limit then digits_from base limit (n * base + d) (drop (i + 1) cs) else None) (digit_of base (get_or cs i 0))
-unfolding digits_from
-digits_step base limit n cs i h = rw (drop_more cs i 0 h)
-
-pub digits_end : (base limit n : ℕ) (cs : List ℕ) (i : ℕ) → length cs ≤ i → digits_from base limit n (drop i cs) ≡ Some n
-unfolding digits_from
-digits_end base limit n cs i h = rw (drop_all i cs h)
+-- One step over the pairs of digits of a word, for the reading of an input.
+use Rattle.std.proofs.Common.{◌≡◌, sym, ap, refl, ℕ, ◌+◌, ◌*◌, ◌<◌, ◌≤◌, List, [], ◌∷◌, ◌++◌, length, get_or, drop, Option, Some, None, option_map, arith, append_assoc, append-nil, length-append, take, ◌-◌}
+use Rattle.std.proofs.lemmas.List.{take_all}
+use Rattle.ds_policy.specs.InputNumbers.{pair_of, pairs_of}
 
 -- bytes before those that were read
 abbrev pub behind : List ℕ → Option (List ℕ) → Option (List ℕ)

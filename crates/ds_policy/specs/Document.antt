@@ -2,12 +2,9 @@
 use Rattle.std.specs.Prelude.{ℕ, pos, Bool, true, ◌&&◌, ◌+◌, nat_le, bytes_eq, List, Option, Some, None, option_and_then, if◌then◌else◌}
 use Rattle.std.specs.Str.{is_utf8}
 use Rattle.std.specs.List.{list_any}
+use Rattle.ds_word.specs.OptionBinding.{◌>>=◌}
 use Rattle.toml.specs.Data.{Data, integer, Items, no_items, item, Members, no_members, member, get_member, as_array, as_str}
 use Rattle.toml.specs.Parse.{parse_document}
-
-infixl 10 ◌>>=◌
-abbrev pub ◌>>=◌ : {A B : Type 0} → Option A → (A → Option B) → Option B
-o >>= f = option_and_then f o
 
 -- goes on only where it holds
 abbrev pub when : Bool → Option Bool
@@ -39,6 +36,7 @@ number_at key low high ms = option_and_then (number_in low high) (get_member key
 abbrev pub text_at : List ℕ → Members → Option (List ℕ)
 text_at key ms = option_and_then as_str (get_member key ms)
 
+-- how many items there are
 abbrev pub item_count : Items → ℕ
 item_count no_items = 0
 item_count (item d ds) = item_count ds + 1

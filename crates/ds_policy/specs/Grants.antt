@@ -6,6 +6,7 @@ use Rattle.ds_policy.specs.declared.grant.Right.TheVariants.{Nothing, Read, Writ
 use Rattle.ds_policy.specs.declared.grant.Grant.{Grant}
 use Rattle.ds_policy.specs.Pages.{Pages, Table, entries_of, entry_at, with_entry, without_entry, bytes_of, count_live, fresh, kept}
 
+-- the pages that live, and the permission table over them
 pub record PageState : Type 0 where
   pub pages : Pages
   pub table : Table
@@ -18,23 +19,28 @@ abbrev pub ◌or_else◌ : Option ℕ → Result PageState ℕ → Result PageSt
 None or_else next = next
 (Some number) or_else next = Err number
 
+-- refused by this number where it holds
 abbrev pub refused : ℕ → Bool → Option ℕ
 refused number b = if b then Some number else None
 
+-- it lets a process read or write
 abbrev pub is_some_right : Right → Bool
 is_some_right Nothing = false
 is_some_right Read = true
 is_some_right Write = true
 
+-- it lets a process write
 abbrev pub is_write : Right → Bool
 is_write Write = true
 is_write Read = false
 is_write Nothing = false
 
+-- there is an entry, and it lets a process read or write
 abbrev pub has_right : Option Grant → Bool
 has_right None = false
 has_right (Some g) = is_some_right g.right
 
+-- what stands for an entry where there is none: no right, no page, rule 0
 abbrev pub no_grant : Grant
 no_grant = record { right = Nothing; page = None; rule = 0; give = false; giver = 0 }
 
@@ -42,12 +48,15 @@ no_grant = record { right = Nothing; page = None; rule = 0; give = false; giver 
 abbrev pub not_page : ℕ → Option ℕ
 not_page address = refused 13 (not (address % 4096 == 0) || nat_le (2 ^ 31) address)
 
+-- refused where no entry with a right stands at the address
 abbrev pub no_right : PageState → ℕ → ℕ → Option ℕ
 no_right s p address = refused 14 (not (has_right (entry_at s.table p address)))
 
+-- refused where no entry stands at the address
 abbrev pub no_entry : PageState → ℕ → ℕ → Option ℕ
 no_entry s p address = refused 14 (not (is_some (entry_at s.table p address)))
 
+-- refused where the process has 256 entries, none of them at the address
 abbrev pub table_full : PageState → ℕ → ℕ → Option ℕ
 table_full s p address = refused 17 (nat_le 256 (length (entries_of s.table p)) && not (is_some (entry_at s.table p address)))
 
@@ -55,13 +64,16 @@ table_full s p address = refused 17 (nat_le 256 (length (entries_of s.table p)) 
 abbrev pub region : ℕ → ℕ
 region address = address / 2 ^ 22
 
+-- how many different numbers are in the list
 abbrev pub count_distinct : List ℕ → ℕ
 count_distinct [] = 0
 count_distinct (a ∷ rest) = if list_any (λ b. b == a) rest then count_distinct rest else count_distinct rest + 1
 
+-- refused where the address would be in a fifth region of the process
 abbrev pub fifth_region : PageState → ℕ → ℕ → Option ℕ
 fifth_region s p address = refused 11 (nat_lt 4 (count_distinct (region address ∷ map (λ e. region e.address) (entries_of s.table p))))
 
+-- a copy is refused where as many pages live as may
 abbrev pub no_frames : PageState → ℕ → Option ℕ
 no_frames s mode = refused 18 ((mode == 3) && nat_le (length s.pages) (count_live s.pages))
 
@@ -69,15 +81,19 @@ no_frames s mode = refused 18 ((mode == 3) && nat_le (length s.pages) (count_liv
 abbrev pub live_only : PageState → PageState
 live_only s = record s { pages = kept s.pages s.table s.named 0 }
 
+-- with this entry at the address
 abbrev pub granted : PageState → ℕ → ℕ → Grant → PageState
 granted s p address g = record s { table = with_entry s.table p address g }
 
+-- without the entry at the address, and without a copy that no entry names any more
 abbrev pub removed : PageState → ℕ → ℕ → PageState
 removed s p address = live_only (record s { table = without_entry s.table p address })
 
+-- no such mode, no leave to give, or to be shared for writing with the right to read alone
 abbrev pub may_not_give : Grant → ℕ → Bool
 may_not_give g mode = (not (nat_lt 0 mode && nat_lt mode 4) || not g.give) || ((mode == 2) && not (is_write g.right))
 
+-- with a new page of the same bytes, under the least number that no live page has
 abbrev pub copied : PageState → Option ℕ → PageState
 copied s page = record s { pages = slice_set s.pages (fresh s.pages) (Some (bytes_of s.pages (unwrap_or page 0))) }
 
@@ -103,6 +119,7 @@ give lives s caller address receiver to mode =
     no_frames s mode or_else
     Ok (given s caller g receiver to mode)
 
+-- the giver takes back what it gave
 abbrev pub take : (ℕ → Bool) → PageState → ℕ → ℕ → ℕ → Result PageState ℕ
 take lives s caller p address =
     refused 12 (not (lives p)) or_else
@@ -111,9 +128,11 @@ take lives s caller p address =
     refused 19 (not ((unwrap_or (entry_at s.table p address) no_grant).giver == caller)) or_else
     Ok (removed s p address)
 
+-- a process drops an entry of its own
 abbrev pub drop_own : PageState → ℕ → ℕ → Result PageState ℕ
 drop_own s caller address = not_page address or_else no_right s caller address or_else Ok (removed s caller address)
 
+-- the operator grants a named page
 abbrev pub grant : (ℕ → Bool) → PageState → ℕ → ℕ → ℕ → Right → Bool → ℕ → Result PageState ℕ
 grant lives s p address page right may_give rule =
     refused 12 (not (lives p)) or_else
@@ -123,11 +142,13 @@ grant lives s p address page right may_give rule =
     fifth_region s p address or_else
     Ok (granted s p address (record { right = right; page = Some page; rule = rule; give = may_give; giver = 0 }))
 
+-- the operator narrows an entry to reading
 abbrev pub narrow : (ℕ → Bool) → PageState → ℕ → ℕ → Result PageState ℕ
 narrow lives s p address =
     refused 12 (not (lives p)) or_else not_page address or_else no_right s p address or_else
     Ok (granted s p address (record (unwrap_or (entry_at s.table p address) no_grant) { right = Read }))
 
+-- the operator takes an entry's right, and leaves the entry with the command's rule
 abbrev pub revoke : (ℕ → Bool) → PageState → ℕ → ℕ → ℕ → Result PageState ℕ
 revoke lives s p address rule =
     refused 12 (not (lives p)) or_else not_page address or_else no_right s p address or_else

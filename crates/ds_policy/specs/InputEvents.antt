@@ -8,10 +8,12 @@ use Rattle.ds_policy.specs.declared.events.event.Event.TheVariants.{Order, Input
 use Rattle.ds_policy.specs.declared.events.event.TimedEvent.{TimedEvent}
 use Rattle.ds_policy.specs.declared.grant.Right.TheVariants.{Read, Write}
 use Rattle.ds_policy.specs.declared.policy.PolicyPage.{PolicyPage}
-use Rattle.ds_policy.specs.InputNumbers.{digits_from, pairs_of}
+use Rattle.ds_word.specs.Digits.{digits_from}
+use Rattle.ds_policy.specs.InputNumbers.{pairs_of}
 use Rattle.ds_policy.specs.InputLines.{words_of, command_of, keys_of, timed_event_of}
 use Rattle.ds_policy.specs.InputText.{nothing_said, follows, with_line, with_lines, lines_of}
 
+-- the pages `code` and `data`
 abbrev two_pages : List PolicyPage
 two_pages = record { name = codes "code"; source = None } ∷ record { name = codes "data"; source = None } ∷ []
 
@@ -19,9 +21,11 @@ two_pages = record { name = codes "code"; source = None } ∷ record { name = co
 abbrev said_by : List ℕ → Option TimedEvent
 said_by line = timed_event_of two_pages (words_of line)
 
+-- a command at a time
 abbrev order : ℕ → Command → Option TimedEvent
 order time command = Some (record { time = time; event = Order command })
 
+-- characters for a line at a time
 abbrev input : ℕ → ℕ → List ℕ → Option TimedEvent
 input time line keys = Some (record { time = time; event = Input line keys })
 
@@ -138,9 +142,11 @@ pub an_event_comes_neither_before_the_last_one_nor_as_the_4097th :
     ≡ true ∷ false ∷ true ∷ true ∷ false ∷ true ∷ true ∷ false ∷ false ∷ []
 an_event_comes_neither_before_the_last_one_nor_as_the_4097th = refl
 
+-- a command to stop the process whose number is the time
 abbrev stop_at : ℕ → TimedCommand
 stop_at time = record { time = time; number = time + 1; command = Stop time }
 
+-- the characters A and B for line 3 at a time
 abbrev pair_at : ℕ → List Character
 pair_at time = record { time = time; line = 3; byte = 65 } ∷ record { time = time; line = 3; byte = 66 } ∷ []
 

@@ -6,9 +6,11 @@ use Rattle.ds_policy.specs.declared.command.TimedCommand.{TimedCommand}
 use Rattle.ds_policy.specs.declared.command.Character.{Character}
 use Rattle.ds_policy.specs.Value.{InputValue}
 
+-- when the command is due
 abbrev pub has_time : TimedCommand → ℕ
 has_time c = c.time
 
+-- when the character comes
 abbrev pub comes_at : Character → ℕ
 comes_at c = c.time
 
@@ -21,6 +23,7 @@ pub record IsGoodCharacter (c : Character) : Type 0 where
 abbrev pub AreNumbered : List TimedCommand → Type 0
 AreNumbered commands = (k : ℕ) (d : TimedCommand) → k < length commands → (slice_index_or commands k d).number ≡ k + 1
 
+-- in bounds and in order
 pub record IsGoodInput (i : InputValue) : Type 0 where
   pub count : length i.commands ≤ 4096
   pub due : All (λ c. has_time c ≤ 1000000000) i.commands

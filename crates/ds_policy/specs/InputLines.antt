@@ -1,6 +1,7 @@
 -- What a line of an input says.
-use Rattle.std.specs.Prelude.{codes, ℕ, ◌-◌, ◌^◌, Bool, true, false, ◌&&◌, ◌==◌, nat_le, bytes_eq, position, List, [], ◌∷◌, Option, Some, None, option_and_then, option_map, if◌then◌else◌}
+use Rattle.std.specs.Prelude.{codes, ℕ, ◌-◌, ◌^◌, Bool, true, false, ◌&&◌, ◌==◌, nat_le, bytes_eq, List, [], ◌∷◌, Option, Some, None, option_map, if◌then◌else◌}
 use Rattle.std.specs.List.{slice_split}
+use Rattle.ds_word.specs.OptionBinding.{◌>>=◌}
 use Rattle.ds_policy.specs.declared.command.Command.{Command}
 use Rattle.ds_policy.specs.declared.command.Command.TheVariants.{Grant, Narrow, Revoke, Drop, Resume, Stop}
 use Rattle.ds_policy.specs.declared.events.event.Event.{Event}
@@ -10,19 +11,13 @@ use Rattle.ds_policy.specs.declared.grant.Right.{Right}
 use Rattle.ds_policy.specs.declared.grant.Right.TheVariants.{Read, Write}
 use Rattle.ds_policy.specs.declared.policy.PolicyPage.{PolicyPage}
 use Rattle.ds_policy.specs.InputNumbers.{decimal_of, address_of, bytes_of}
-
-infixl 10 ◌>>=◌
-abbrev pub ◌>>=◌ : {A B : Type 0} → Option A → (A → Option B) → Option B
-o >>= f = option_and_then f o
+use Rattle.ds_policy.specs.PolicyParts.{page_named}
 
 -- the words of a line, with one space between
 abbrev pub words_of : List ℕ → List (List ℕ)
 words_of line = slice_split (λ b. b == 32) line
 
--- the place of the page that has this name
-abbrev pub page_named : List PolicyPage → List ℕ → Option ℕ
-page_named pages name = position (λ (p : PolicyPage). bytes_eq p.name name) pages
-
+-- the process number that a word writes
 abbrev pub process_of : List ℕ → Option ℕ
 process_of word = decimal_of (2 ^ 32 - 1) word
 
@@ -31,6 +26,7 @@ abbrev pub line_of : List ℕ → Option ℕ
 line_of (c ∷ []) = if nat_le 48 c && nat_le c 51 then Some (c - 48) else None
 line_of _ = None
 
+-- the right that a command's word names
 abbrev pub right_of : List ℕ → Option Right
 right_of word = if bytes_eq word (codes "read") then Some Read else if bytes_eq word (codes "write") then Some Write else None
 
@@ -79,6 +75,7 @@ keys_of (l ∷ digits ∷ []) = do
   Some (Input line keys)
 keys_of _ = None
 
+-- the event that a verb and the words behind it make
 abbrev pub event_of : List PolicyPage → List ℕ → List (List ℕ) → Option Event
 event_of pages verb words = if bytes_eq verb (codes "key") then keys_of words else option_map (λ c. Order c) (command_of pages verb words)
 

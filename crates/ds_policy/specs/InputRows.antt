@@ -3,7 +3,8 @@ use Rattle.std.specs.Prelude.{codes, refl, ◌≡◌, true, List, [], ◌∷◌,
 use Rattle.ds_policy.specs.declared.command.Command.TheVariants.{Grant}
 use Rattle.ds_policy.specs.declared.grant.Right.TheVariants.{Read}
 use Rattle.ds_policy.specs.declared.policy.PolicyPage.{PolicyPage}
-use Rattle.ds_policy.specs.InputNumbers.{digits_from, pairs_of}
+use Rattle.ds_word.specs.Digits.{digits_from}
+use Rattle.ds_policy.specs.InputNumbers.{pairs_of}
 use Rattle.ds_policy.specs.InputLines.{command_of, keys_of, timed_event_of}
 use Rattle.ds_policy.specs.InputText.{with_line, with_lines, input_by, input_of}
 

@@ -1,6 +1,8 @@
 -- What an input says: its commands and characters, or the first line that is wrong.
 use Rattle.std.specs.Prelude.{◌≡◌, ℕ, ◌+◌, Bool, false, ◌&&◌, ◌||◌, ◌==◌, nat_le, nat_lt, slice_index, List, [], ◌∷◌, ◌++◌, length, map, Option, Some, None, Result, Ok, Err, if◌then◌else◌}
 use Rattle.std.specs.List.{slice_split}
+use Rattle.ds_word.specs.OptionBinding.{◌>>=◌}
+use Rattle.ds_policy.specs.declared.command.Command.{Command}
 use Rattle.ds_policy.specs.declared.command.TimedCommand.{TimedCommand}
 use Rattle.ds_policy.specs.declared.command.Character.{Character}
 use Rattle.ds_policy.specs.declared.events.event.Event.{Event}
@@ -10,7 +12,7 @@ use Rattle.ds_policy.specs.declared.events.fault.EventsFault.{EventsFault}
 use Rattle.ds_policy.specs.declared.events.fault.EventsFault.TheVariants.{InputFault, Memory}
 use Rattle.ds_policy.specs.declared.policy.PolicyPage.{PolicyPage}
 use Rattle.ds_policy.specs.Value.{InputValue}
-use Rattle.ds_policy.specs.InputLines.{◌>>=◌, words_of, timed_event_of}
+use Rattle.ds_policy.specs.InputLines.{words_of, timed_event_of}
 
 -- what lines have said so far: the time of the last event, how many events there were, and what they come to
 pub record Said : Type 0 where
@@ -19,6 +21,7 @@ pub record Said : Type 0 where
   pub commands : List TimedCommand
   pub characters : List Character
 
+-- what has been read before the first line
 abbrev pub nothing_said : Said
 nothing_said = record { latest = 0; events = 0; commands = []; characters = [] }
 
@@ -27,18 +30,27 @@ abbrev pub is_served : Event → Bool
 is_served (Order command) = false
 is_served (Input line keys) = false
 
+-- the bytes of a `key` line as characters
 abbrev pub characters_of : ℕ → ℕ → List ℕ → List Character
 characters_of time line keys = map (λ (b : ℕ). record { time = time; line = line; byte = b }) keys
 
--- commands are numbered from 1
+-- with a command behind the others, numbered from 1
+abbrev pub with_command : Said → ℕ → Command → Said
+with_command s time c = record s { latest = time; events = s.events + 1; commands = s.commands ++ record { time = time; number = length s.commands + 1; command = c } ∷ [] }
+
+-- with characters behind the others, which come in on a line together
+abbrev pub with_characters : Said → ℕ → ℕ → List ℕ → Said
+with_characters s time line keys = record s { latest = time; events = s.events + 1; characters = s.characters ++ characters_of time line keys }
+
 abbrev pub with_event : Said → ℕ → Event → Said
-with_event s time (Order c) = record s { latest = time; events = s.events + 1; commands = s.commands ++ record { time = time; number = length s.commands + 1; command = c } ∷ [] }
-with_event s time (Input line keys) = record s { latest = time; events = s.events + 1; characters = s.characters ++ characters_of time line keys }
+with_event s time (Order c) = with_command s time c
+with_event s time (Input line keys) = with_characters s time line keys
 
 -- an event isn't before the last one, nor the 4,097th
 abbrev pub follows : Said → ℕ → Bool
 follows s time = nat_le s.latest time && nat_lt s.events 4096
 
+-- the event is one that is served, and may come behind what was read
 abbrev pub may_follow : (Event → Bool) → Said → TimedEvent → Bool
 may_follow served s e = served e.event && follows s e.time
 
@@ -52,6 +64,7 @@ with_line served pages s line =
     if is_skipped line then Some s
     else timed_event_of pages (words_of line) >>= (λ e. if may_follow served s e then Some (with_event s e.time e.event) else None)
 
+-- goes on with the value, or names the wrong line where there is none
 abbrev pub or_fault : {A B : Type 0} → Option A → ℕ → (A → Result B ℕ) → Result B ℕ
 or_fault None n f = Err n
 or_fault (Some x) n f = f x
@@ -65,13 +78,16 @@ with_lines served pages s n (line ∷ lines) = or_fault (with_line served pages 
 abbrev pub lines_of : List ℕ → List (List ℕ)
 lines_of text = slice_split (λ b. b == 10) text
 
+-- the input that has been read
 abbrev pub input_in : Said → InputValue
 input_in s = record { commands = s.commands; characters = s.characters }
 
+-- the input, or its first wrong line
 abbrev pub as_input : Result Said ℕ → Result InputValue ℕ
 as_input (Ok s) = Ok (input_in s)
 as_input (Err line) = Err line
 
+-- the input that a text says, where these events are served
 abbrev pub input_by : (Event → Bool) → List PolicyPage → List ℕ → Result InputValue ℕ
 input_by served pages text = as_input (with_lines served pages nothing_said 1 (lines_of text))
 

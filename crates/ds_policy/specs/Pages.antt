@@ -1,12 +1,12 @@
 -- Pages, the permission table, and what it answers to an access.
-use Rattle.std.specs.Prelude.{ℕ, ◌+◌, ◌-◌, ◌*◌, ◌/◌, ◌%◌, ◌^◌, Bool, true, false, ◌||◌, not, nat_lt, nat_le, ◌==◌, if◌then◌else◌, List, [], ◌∷◌, ◌++◌, take, drop, filter, slice_index, slice_set, slice_index_or, Option, Some, None}
+use Rattle.std.specs.Prelude.{ℕ, ◌+◌, ◌-◌, ◌%◌, ◌^◌, Bool, true, false, ◌||◌, not, nat_lt, nat_le, ◌==◌, if◌then◌else◌, List, [], ◌∷◌, filter, slice_set, slice_index_or, Option, Some, None}
 use Rattle.std.specs.List.{list_any}
 use Rattle.ds_policy.specs.declared.grant.Right.{Right}
 use Rattle.ds_policy.specs.declared.grant.Right.TheVariants.{Nothing, Read, Write}
-use Rattle.ds_policy.specs.declared.access.Kind.{Kind}
-use Rattle.ds_policy.specs.declared.access.Kind.TheVariants.{Fetch, Load, Store}
+use Rattle.ds_isa.specs.declared.instr.Kind.{Kind}
+use Rattle.ds_isa.specs.declared.instr.Kind.TheVariants.{Fetch, Load, Store}
 use Rattle.ds_isa.specs.declared.instr.Size.{Size}
-use Rattle.ds_isa.specs.declared.instr.Size.TheVariants.{Byte, Half, Word, Part}
+use Rattle.ds_isa.specs.Access.{is_aligned}
 use Rattle.ds_policy.specs.declared.access.Rule.TheVariants.{Number, K, A}
 use Rattle.ds_policy.specs.declared.grant.Grant.{Grant}
 use Rattle.ds_policy.specs.declared.grant.Entry.{Entry}
@@ -21,26 +21,33 @@ Table = List (List Entry)
 abbrev pub Pages : Type 0
 Pages = List (Option (List ℕ))
 
+-- the entries of process p
 abbrev pub entries_of : Table → ℕ → List Entry
 entries_of table p = slice_index_or table (p - 1) []
 
+-- what the entries grant at an address
 abbrev pub found : List Entry → ℕ → Option Grant
 found [] address = None
 found (e ∷ rest) address = if e.address == address then Some e.grant else found rest address
 
+-- the entries with this grant at an address: in place of the one there, or behind them
 abbrev pub put : List Entry → ℕ → Grant → List Entry
 put [] address g = record { address = address; grant = g } ∷ []
 put (e ∷ rest) address g = if e.address == address then record { address = address; grant = g } ∷ rest else e ∷ put rest address g
 
+-- what the table grants process p at an address
 abbrev pub entry_at : Table → ℕ → ℕ → Option Grant
 entry_at table p address = found (entries_of table p) address
 
+-- the table with this grant of process p at an address
 abbrev pub with_entry : Table → ℕ → ℕ → Grant → Table
 with_entry table p address g = slice_set table (p - 1) (put (entries_of table p) address g)
 
+-- the table without an entry of process p at an address
 abbrev pub without_entry : Table → ℕ → ℕ → Table
 without_entry table p address = slice_set table (p - 1) (filter (λ e. not (e.address == address)) (entries_of table p))
 
+-- it names this page
 abbrev pub names : ℕ → Option ℕ → Bool
 names page None = false
 names page (Some q) = q == page
@@ -49,20 +56,17 @@ names page (Some q) = q == page
 abbrev pub is_named_by : Table → ℕ → Bool
 is_named_by table page = list_any (λ es. list_any (λ e. names page e.grant.page) es) table
 
+-- where the page of an address begins
 abbrev pub page_address : ℕ → ℕ
 page_address address = address - address % 4096
 
-abbrev pub is_aligned : Size → ℕ → Bool
-is_aligned Word address = address % 4 == 0
-is_aligned Half address = address % 2 == 0
-is_aligned Byte address = true
-is_aligned Part address = true
-
+-- the exception code of an address that may not be used: AdES 5, else AdEL 4
 abbrev pub address_code : Kind → ℕ
 address_code Store = 5
 address_code Load = 4
 address_code Fetch = 4
 
+-- the exception code where nothing is granted: TLBS 3, else TLBL 2
 abbrev pub miss_code : Kind → ℕ
 miss_code Store = 3
 miss_code Load = 2
@@ -73,6 +77,7 @@ abbrev pub allowed_on : Option ℕ → ℕ → Verdict
 allowed_on (Some page) offset = Allowed page offset
 allowed_on None offset = Denied (Number 0) 0
 
+-- what a grant answers, by its right
 abbrev pub by_right : Right → Kind → Grant → ℕ → Verdict
 by_right Nothing kind g offset = Denied (Number g.rule) (miss_code kind)
 by_right Read Store g offset = Denied (Number g.rule) 1
@@ -80,6 +85,7 @@ by_right Read Load g offset = allowed_on g.page offset
 by_right Read Fetch g offset = allowed_on g.page offset
 by_right Write kind g offset = allowed_on g.page offset
 
+-- what the entry at the address answers, if there is one
 abbrev pub by_entry : Option Grant → Kind → ℕ → Verdict
 by_entry None kind offset = Denied (Number 0) (miss_code kind)
 by_entry (Some g) kind offset = by_right g.right kind g offset
@@ -91,6 +97,7 @@ decide table p kind size address =
     else if nat_le (2 ^ 31) address then Denied K (address_code kind)
     else by_entry (entry_at table p (page_address address)) kind (address % 4096)
 
+-- the bytes of page n, none where it doesn't live
 abbrev pub bytes_of : Pages → ℕ → List ℕ
 bytes_of pages n = bytes (slice_index_or pages n None)
   where
@@ -98,6 +105,7 @@ bytes_of pages n = bytes (slice_index_or pages n None)
     bytes None = []
     bytes (Some b) = b
 
+-- how many pages live
 abbrev pub count_live : Pages → ℕ
 count_live [] = 0
 count_live (None ∷ rest) = count_live rest
@@ -113,14 +121,3 @@ fresh (Some b ∷ rest) = fresh rest + 1
 abbrev pub kept : Pages → Table → ℕ → ℕ → Pages
 kept [] table named at = []
 kept (b ∷ rest) table named at = (if nat_lt at named || is_named_by table at then b else None) ∷ kept rest table named (at + 1)
-
--- the aligned word at an offset of a page
-abbrev pub word_at : List ℕ → ℕ → ℕ
-word_at bytes offset =
-    let o = offset - offset % 4 in
-    slice_index bytes o + 2 ^ 8 * slice_index bytes (o + 1) + 2 ^ 16 * slice_index bytes (o + 2) + 2 ^ 24 * slice_index bytes (o + 3)
-
-abbrev pub with_word : List ℕ → ℕ → ℕ → List ℕ
-with_word bytes offset w =
-    let o = offset - offset % 4 in
-    take o bytes ++ ((w % 2 ^ 8) ∷ (w / 2 ^ 8 % 2 ^ 8) ∷ (w / 2 ^ 16 % 2 ^ 8) ∷ (w / 2 ^ 24) ∷ drop (o + 4) bytes)

@@ -38,6 +38,7 @@ a_boolean_is_no_rate = refl
 pub a_float_is_no_rate : (x : Float) → rate_of (Some (float x)) ≡ None
 a_float_is_no_rate x = refl
 
+-- a process's table in the document, with this start
 abbrev process_from : ℕ → Data
 process_from start = table (member (codes "line") (integer (pos 3)) (member (codes "start") (integer (pos start)) no_members))
 
@@ -50,11 +51,13 @@ pub there_are_1_to_100_processes : map processes (0 ∷ 1 ∷ 100 ∷ 101 ∷ []
 unfolding process_of each_of processes_of
 there_are_1_to_100_processes = refl
 
-abbrev digit_of : ℕ → ℕ
-digit_of n = if nat_lt n 10 then 48 + n else 87 + n
+-- one of 36 characters, the decimal digits and then the letters from a
+abbrev character_of : ℕ → ℕ
+character_of n = if nat_lt n 10 then 48 + n else 87 + n
 
+-- a page's table in the document, with a name of two characters made of n
 abbrev page_from : ℕ → Data
-page_from n = table (member (codes "name") (string (digit_of (n / 36) ∷ digit_of (n % 36) ∷ [])) no_members)
+page_from n = table (member (codes "name") (string (character_of (n / 36) ∷ character_of (n % 36) ∷ [])) no_members)
 
 -- under so many frames so many pages, each with a name of its own
 abbrev pages : ℕ → ℕ → Result ℕ PolicyRefusal
@@ -75,12 +78,15 @@ an_array_may_have_999_items_where_that_is_its_limit = refl
 
 -- Rules, each with its process and its address.
 
+-- the page `data`
 abbrev data_page : List PolicyPage
 data_page = record { name = codes "data"; source = None } ∷ []
 
+-- a rule's table in the document, of a process at an address
 abbrev rule_at : ℕ × ℕ → Data
 rule_at place = table (member (codes "address") (integer (pos place.1)) (member (codes "page") (string (codes "data")) (member (codes "process") (integer (pos place.0)) (member (codes "right") (string (codes "read")) no_members))))
 
+-- rules of these processes at these addresses
 abbrev rules_at : List (ℕ × ℕ) → Items
 rules_at [] = no_items
 rules_at (place ∷ places) = item (rule_at place) (rules_at places)
@@ -99,6 +105,7 @@ pub no_rule_is_the_257th_of_its_process : map (λ last. rules (places_from 0 256
 unfolding grant_of rule_of new_rule each_of
 no_rule_is_the_257th_of_its_process = refl
 
+-- places of process 1 in four regions
 abbrev four_regions : List (ℕ × ℕ)
 four_regions = (1, 0) ∷ (1, 0x00400000) ∷ (1, 0x7FFFF000) ∷ (1, 0x00BFF000) ∷ []
 

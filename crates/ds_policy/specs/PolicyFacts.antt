@@ -14,10 +14,12 @@ pub record IsGoodProcess (p : PolicyProcess) : Type 0 where
   pub start : p.start < 2 ^ 32
   pub line : p.line ≤ 3
 
+-- a name and a part in bounds
 pub record IsGoodSource (s : Source) : Type 0 where
   pub name : is_source_name s.name ≡ true
   pub part : s.part ≤ 15
 
+-- a good name, and a good source if there is one
 pub record IsGoodPage (p : PolicyPage) : Type 0 where
   pub name : is_name p.name ≡ true
   pub source : IfSome p.source IsGoodSource
@@ -38,10 +40,12 @@ HasFewRules rules = (p : ℕ) → count_by (λ (r : PolicyRule). r.process == p)
 abbrev pub HasFewRegions : List PolicyRule → Type 0
 HasFewRegions rules = (p : ℕ) → count_distinct (regions_of p rules) ≤ 4
 
+-- each page is good, and no two have one name
 pub record AreGoodPages (pages : List PolicyPage) : Type 0 where
   pub good : All IsGoodPage pages
   pub names : IsDistinct has_same_name pages
 
+-- each rule is good, no two are about one place, and no process has too many
 pub record AreGoodRules (processes pages : ℕ) (rules : List PolicyRule) : Type 0 where
   pub good : All (IsGoodRule processes pages) rules
   pub places : IsDistinct has_same_place rules
@@ -53,6 +57,7 @@ pub record IsServedYet (p : PolicyValue) : Type 0 where
   pub rate : p.rate ≡ 0
   pub processes : length p.processes ≤ 1
 
+-- all of a policy is within its bounds
 pub record IsGoodPolicy (p : PolicyValue) : Type 0 where
   pub frames : (1 ≤ p.frames) × (p.frames ≤ 1024)
   pub rate : (p.rate ≤ 15) × (0 < p.rate → 3 ≤ p.rate)

@@ -1,8 +1,9 @@
 -- What the parts of a policy's document mean.
 use Rattle.std.specs.Prelude.{codes, ℕ, pos, Bool, false, not, ◌&&◌, ◌||◌, ◌==◌, ◌%◌, ◌^◌, ◌-◌, nat_le, nat_lt, bytes_eq, List, [], ◌∷◌, ◌++◌, length, map, filter, Option, Some, None, count_by, position, if◌then◌else◌}
 use Rattle.std.specs.List.{list_any, list_all}
+use Rattle.ds_word.specs.OptionBinding.{◌>>=◌}
 use Rattle.toml.specs.Data.{Data, integer, Members, get_member, as_table, as_bool}
-use Rattle.ds_policy.specs.Document.{◌>>=◌, when, is_among, has_only, number_in, number_at, text_at}
+use Rattle.ds_policy.specs.Document.{when, is_among, has_only, number_in, number_at, text_at}
 use Rattle.ds_policy.specs.Grants.{region, count_distinct}
 use Rattle.ds_policy.specs.PolicyServed.{serves_rule}
 use Rattle.ds_policy.specs.declared.policy.PolicyProcess.{PolicyProcess}
@@ -21,6 +22,7 @@ process_of d = do
   line ← number_at (codes "line") 0 3 ms
   Some (record { start = start; line = line })
 
+-- it is the integer 0
 abbrev pub is_zero : Data → Bool
 is_zero (integer (pos n)) = n == 0
 is_zero _ = false
@@ -66,6 +68,7 @@ page_of d = do
   source ← source_of ms
   Some (record { name = name; source = source })
 
+-- two pages have one name
 abbrev pub has_same_name : PolicyPage → PolicyPage → Bool
 has_same_name p q = bytes_eq p.name q.name
 
@@ -77,9 +80,10 @@ new_page before d = do
   Some p
 
 -- the number of the page of this name
-abbrev pub page_number : List PolicyPage → List ℕ → Option ℕ
-page_number pages name = position (λ (p : PolicyPage). bytes_eq p.name name) pages
+abbrev pub page_named : List PolicyPage → List ℕ → Option ℕ
+page_named pages name = position (λ (p : PolicyPage). bytes_eq p.name name) pages
 
+-- the right that a rule's text names
 abbrev pub right_named : List ℕ → Option Right
 right_named text = if bytes_eq text (codes "none") then Some Nothing else if bytes_eq text (codes "read") then Some Read else if bytes_eq text (codes "write") then Some Write else None
 
@@ -96,7 +100,7 @@ grant_of pages Nothing ms = do
 grant_of pages right ms = do
   known ← when (has_only (codes "process" ∷ codes "address" ∷ codes "right" ∷ codes "page" ∷ codes "give" ∷ []) ms)
   name ← text_at (codes "page") ms
-  page ← page_number pages name
+  page ← page_named pages name
   give ← flag_of (get_member (codes "give") ms)
   Some (Some page, give)
 
@@ -117,6 +121,7 @@ rule_of processes pages d = do
   grant ← grant_of pages right ms
   Some (record { process = process; address = address; right = right; page = grant.0; give = grant.1 })
 
+-- two rules are about one process and one address
 abbrev pub has_same_place : PolicyRule → PolicyRule → Bool
 has_same_place r s = r.process == s.process && r.address == s.address
 
@@ -139,6 +144,7 @@ abbrev pub first_mentions : List (List ℕ) → List (List ℕ)
 first_mentions [] = []
 first_mentions (x ∷ xs) = x ∷ filter (λ y. not (bytes_eq x y)) (first_mentions xs)
 
+-- a source's name in front of others
 abbrev pub with_name : Option Source → List (List ℕ) → List (List ℕ)
 with_name None names = names
 with_name (Some s) names = s.name ∷ names

@@ -3,14 +3,16 @@ use Rattle.std.specs.Prelude.{codes, refl, ◌≡◌, ℕ, pos, false, List, [],
 use Rattle.toml.specs.Data.{Data, string, integer, table, member, no_members}
 use Rattle.toml.specs.Parse.{parse_document}
 use Rattle.toml.proofs.OnLiterals.{toml_on_literals}
+use Rattle.ds_word.specs.ResultBinding.{◌>>=◌}
 use Rattle.ds_policy.specs.declared.policy.PolicyPage.{PolicyPage}
 use Rattle.ds_policy.specs.declared.policy.PolicyRule.{PolicyRule}
 use Rattle.ds_policy.specs.declared.grant.Right.TheVariants.{Read}
 use Rattle.ds_policy.specs.Value.{PolicyValue}
-use Rattle.ds_policy.specs.Refusal.{PolicyRefusal, bad_toml, limit, bad_rule, or_else, ◌>>=◌}
+use Rattle.ds_policy.specs.Refusal.{PolicyRefusal, bad_toml, limit, bad_rule, or_else}
 use Rattle.ds_policy.specs.PolicyParts.{process_of, source_of, page_of, new_page, grant_of, rule_of, new_rule, sources_of}
 use Rattle.ds_policy.specs.PolicyText.{each_of, processes_of, pages_of, rules_of, says}
 
+-- what a text says of a policy, with any number of processes and pages
 abbrev said : List ℕ → Result PolicyValue PolicyRefusal
 said text = or_else (parse_document text) bad_toml >>= says
 
@@ -18,6 +20,7 @@ said text = or_else (parse_document text) bad_toml >>= says
 abbrev sample : List ℕ
 sample = codes "version = 1\nframes = 16\n[[process]]\nstart = 0x00400000\nline = 0\n[[page]]\nname = \"code\"\nsource = \"one.s\"\npart = 0\n[[page]]\nname = \"data\"\n"
 
+-- the text of a rule that lets process 1 read page `code` at an address
 abbrev rule_at : List ℕ → List ℕ
 rule_at address = codes "[[rule]]\nprocess = 1\naddress = " ++ address ++ codes "\nright = \"read\"\npage = \"code\"\n"
 
@@ -43,17 +46,19 @@ pub one_rule : said (sample ++ rule_at (codes "0x00400000")) ≡ Ok (record {
 unfolding toml_on_literals process_of source_of page_of new_page grant_of rule_of new_rule each_of processes_of pages_of rules_of says
 one_rule = refl
 
--- rules as they stand and as they come
-
+-- the page `data`
 abbrev data_page : List PolicyPage
 data_page = record { name = codes "data"; source = None } ∷ []
 
+-- the rule that lets process 1 read page 0 at an address
 abbrev rule_for : ℕ → PolicyRule
 rule_for address = record { process = 1; address = address; right = Read; page = Some 0; give = false }
 
+-- rules of process 1 in four regions
 abbrev four_regions : List PolicyRule
 four_regions = rule_for 0 ∷ rule_for 0x400000 ∷ rule_for 0x800000 ∷ rule_for 0xC00000 ∷ []
 
+-- a rule's table in the document, of process 1 at an address
 abbrev rule_data : ℕ → Data
 rule_data address = table (member (codes "process") (integer (pos 1)) (member (codes "address") (integer (pos address)) (member (codes "right") (string (codes "read")) (member (codes "page") (string (codes "data")) no_members))))
 

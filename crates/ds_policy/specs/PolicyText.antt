@@ -1,7 +1,8 @@
 -- What a policy text says, or its first refusal.
 use Rattle.std.specs.Prelude.{codes, ℕ, ◌+◌, List, [], ◌∷◌, ◌++◌, length, Option, option_and_then, Result, Ok}
 use Rattle.toml.specs.Data.{Data, Items, no_items, item, Members, get_member}
-use Rattle.ds_policy.specs.Refusal.{PolicyRefusal, bad_toml, limit, bad_rule, ◌>>=◌, or_else, check}
+use Rattle.ds_word.specs.ResultBinding.{◌>>=◌}
+use Rattle.ds_policy.specs.Refusal.{PolicyRefusal, bad_toml, limit, bad_rule, or_else, check}
 use Rattle.ds_policy.specs.Document.{document, has_only, number_at, items_between, items_if}
 use Rattle.ds_policy.specs.PolicyParts.{rate_of, process_of, new_page, new_rule}
 use Rattle.ds_policy.specs.PolicyServed.{serves_rate, serves_processes, serves_pages, serves_rules}
@@ -10,11 +11,12 @@ use Rattle.ds_policy.specs.declared.policy.PolicyProcess.{PolicyProcess}
 use Rattle.ds_policy.specs.declared.policy.PolicyPage.{PolicyPage}
 use Rattle.ds_policy.specs.declared.policy.PolicyRule.{PolicyRule}
 
--- the values before, and those of the items, each of which is one beside those before it
+-- reads the items in order; what an item says may depend on the values of those before it
 unfoldable pub each_of : {X : Type 0} → (List X → Data → Option X) → (List X → PolicyRefusal) → List X → Items → Result (List X) PolicyRefusal
 each_of one refuse before no_items = Ok before
 each_of one refuse before (item d ds) = or_else (one before d) (refuse before) >>= (λ x. each_of one refuse (before ++ x ∷ []) ds)
 
+-- the processes of an array's items
 abbrev pub processes_from : Items → Result (List PolicyProcess) PolicyRefusal
 processes_from ds = each_of (λ before d. process_of d) (λ before. limit (codes "process")) [] ds
 
@@ -22,6 +24,7 @@ processes_from ds = each_of (λ before d. process_of d) (λ before. limit (codes
 unfoldable pub processes_of : Option Data → Result (List PolicyProcess) PolicyRefusal
 processes_of found = or_else (option_and_then (items_between 1 100) found) (limit (codes "process")) >>= processes_from
 
+-- the pages of an array's items, no two with one name
 abbrev pub pages_from : Items → Result (List PolicyPage) PolicyRefusal
 pages_from ds = each_of new_page (λ before. limit (codes "page")) [] ds
 

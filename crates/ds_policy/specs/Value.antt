@@ -6,6 +6,7 @@ use Rattle.ds_policy.specs.declared.policy.PolicyRule.{PolicyRule}
 use Rattle.ds_policy.specs.declared.command.TimedCommand.{TimedCommand}
 use Rattle.ds_policy.specs.declared.command.Character.{Character}
 
+-- what a policy says: frames, rate, processes, pages, rules
 pub record PolicyValue : Type 0 where
   pub frames : ℕ
   pub rate : ℕ

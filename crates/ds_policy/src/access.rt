@@ -1,14 +1,6 @@
 //! An access of a process, and what the permission table answers.
 
-use ds_isa::Size;
-
-/// What an access does.
-#[derive(Clone, Copy, Debug, PartialEq, Eq)]
-pub enum Kind {
-    Fetch,
-    Load,
-    Store,
-}
+use ds_isa::{Kind, Size};
 
 /// An access, but for its address.
 #[derive(Clone, Copy, Debug, PartialEq, Eq)]

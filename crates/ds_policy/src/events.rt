@@ -8,15 +8,19 @@ mod event;
 mod fault;
 mod keys;
 mod line;
+mod list;
 mod reading;
 
 use crate::command::{Character, TimedCommand};
-use crate::events::reading::Reading;
 use crate::policy::{Policy, PolicyPage};
 pub use digits::address_of;
 pub use fault::EventsFault;
+pub use list::EventList;
 use std::alloc::Global;
 use std::marker::Model;
+
+/// The latest time at which an event can be due, in ticks, and the most ticks of a run.
+pub const MOST_TICKS: u64 = 1_000_000_000;
 
 /// The commands and characters of an input, in order.
 #[derive(Drop)]
@@ -78,7 +82,7 @@ fn events_of(alloc: Global, text: &[u8], pages: &[PolicyPage]) -> Result<Events,
     requires { length pages.now ≤ 1024 }
     ensures { Gives result (input_of pages.now text.now) }
 {
-    let mut reading = Reading::new(alloc);
+    let mut reading = EventList::new(alloc);
     let mut number = 0;
     let mut left = text;
     while !left.is_empty() {

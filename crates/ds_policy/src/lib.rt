@@ -13,10 +13,10 @@ mod table;
 mod table_fault;
 mod text;
 
-pub use access::{Access, Kind, Rule, Verdict};
+pub use access::{Access, Rule, Verdict};
 pub use command::{Character, Command, TimedCommand};
-pub use ds_isa::Size;
-pub use events::{Events, EventsFault, address_of};
+pub use ds_isa::{Kind, Size};
+pub use events::{EventList, Events, EventsFault, MOST_TICKS, address_of};
 pub use fault::PolicyFault;
 pub use grant::{Entry, Grant, Right};
 pub use policy::{Policy, PolicyPage, PolicyProcess, PolicyRule, Source};

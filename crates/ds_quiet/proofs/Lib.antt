@@ -5,3 +5,4 @@ pub mod Boundaries
 pub mod Runs
 pub mod Found
 pub mod Inputs
+pub mod QuietRows

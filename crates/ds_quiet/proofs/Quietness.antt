@@ -3,7 +3,7 @@ use Rattle.std.proofs.Common.{◌≡◌, ◌≢◌, ℕ, ◌+◌, ◌*◌, ◌/�
 use Rattle.std.specs.Prelude.{◌==◌, ◌&&◌, ◌||◌, not, nat_lt, slice_index, length, Option, Some, None, bit_and, bit_or, bit_xor, ◌-◌}
 use Rattle.std.proofs.lemmas.Bool.Decides.{nat_tests}
 use Rattle.std.proofs.lemmas.List.{get_or-set_same, get_or-set_other}
-use Rattle.ds_word.specs.Word.{word, bits, sign_extended, is_negative, minus, signed_lt}
+use Rattle.ds_word.specs.Word.{word, bits, sign_extended, is_negative, minus, signed_lt, truth}
 use Rattle.ds_word.specs.Arithmetic.{shifted_arithmetic, signed_sum, signed_difference}
 use Rattle.ds_word.specs.Merge.{merged_left, merged_right, with_bits, stored_left, stored_right}
 use Rattle.ds_word.specs.Product.{halves, product_signed, quotient_signed, quotient_unsigned}
@@ -12,7 +12,7 @@ use Rattle.ds_isa.specs.declared.instr.Instr.TheVariants as instr
 use Rattle.ds_isa.specs.declared.instr.Late.{Late}
 use Rattle.ds_isa.specs.Encoding.{uses}
 use Rattle.ds_isa.specs.Registers.{Registers, late_or, read, settled, written, loaded}
-use Rattle.ds_isa.specs.Meaning.{meaning, written_or_trap, with_hi_lo, branch_target, newest, flag}
+use Rattle.ds_isa.specs.Meaning.{meaning, written_or_trap, with_hi_lo, branch_target, newest}
 use Rattle.ds_quiet.specs.Alike.{is_kernel_register, is_late, is_quiet_operand, is_quiet_merge, merges, is_quiet, AreLateAlike, AreAlike, DoAlike}
 
 both : (a b : Bool) → (a && b) ≡ true → (a ≡ true) × (b ≡ true)
@@ -136,8 +136,8 @@ quiet (instr.And rd rs rt) pc r s k q = written_alike r s rd _ _ k (ap₂ (λ (x
 quiet (instr.Or rd rs rt) pc r s k q = written_alike r s rd _ _ k (ap₂ (λ (x y : ℕ). (bit_or (x) (y))) (same_read r s rs k (parts r (instr.Or rd rs rt) q).0) (same_read r s rt k (parts r (instr.Or rd rs rt) q).1))
 quiet (instr.Xor rd rs rt) pc r s k q = written_alike r s rd _ _ k (ap₂ (λ (x y : ℕ). (bit_xor (x) (y))) (same_read r s rs k (parts r (instr.Xor rd rs rt) q).0) (same_read r s rt k (parts r (instr.Xor rd rs rt) q).1))
 quiet (instr.Nor rd rs rt) pc r s k q = written_alike r s rd _ _ k (ap₂ (λ (x y : ℕ). (2 ^ 32 - 1 - bit_or (x) (y))) (same_read r s rs k (parts r (instr.Nor rd rs rt) q).0) (same_read r s rt k (parts r (instr.Nor rd rs rt) q).1))
-quiet (instr.Slt rd rs rt) pc r s k q = written_alike r s rd _ _ k (ap₂ (λ (x y : ℕ). (flag (signed_lt (x) (y)))) (same_read r s rs k (parts r (instr.Slt rd rs rt) q).0) (same_read r s rt k (parts r (instr.Slt rd rs rt) q).1))
-quiet (instr.Sltu rd rs rt) pc r s k q = written_alike r s rd _ _ k (ap₂ (λ (x y : ℕ). (flag (nat_lt (x) (y)))) (same_read r s rs k (parts r (instr.Sltu rd rs rt) q).0) (same_read r s rt k (parts r (instr.Sltu rd rs rt) q).1))
+quiet (instr.Slt rd rs rt) pc r s k q = written_alike r s rd _ _ k (ap₂ (λ (x y : ℕ). (truth (signed_lt (x) (y)))) (same_read r s rs k (parts r (instr.Slt rd rs rt) q).0) (same_read r s rt k (parts r (instr.Slt rd rs rt) q).1))
+quiet (instr.Sltu rd rs rt) pc r s k q = written_alike r s rd _ _ k (ap₂ (λ (x y : ℕ). (truth (nat_lt (x) (y)))) (same_read r s rs k (parts r (instr.Sltu rd rs rt) q).0) (same_read r s rt k (parts r (instr.Sltu rd rs rt) q).1))
 quiet (instr.Bltz rs i) pc r s k q = (settled_alike r s k, (ap (λ (x : ℕ). branch_target ((is_negative (x))) pc i) (same_read r s rs k (parts r (instr.Bltz rs i) q).0)))
 quiet (instr.Bgez rs i) pc r s k q = (settled_alike r s k, (ap (λ (x : ℕ). branch_target ((not (is_negative (x)))) pc i) (same_read r s rs k (parts r (instr.Bgez rs i) q).0)))
 quiet (instr.Bltzal rs i) pc r s k q = (written_alike r s 31 _ _ k refl, (ap (λ (x : ℕ). branch_target ((is_negative (x))) pc i) (same_read r s rs k (parts r (instr.Bltzal rs i) q).0)))
@@ -150,8 +150,8 @@ quiet (instr.Blez rs i) pc r s k q = (settled_alike r s k, (ap (λ (x : ℕ). br
 quiet (instr.Bgtz rs i) pc r s k q = (settled_alike r s k, (ap (λ (x : ℕ). branch_target ((not (is_negative (x) || (x == 0)))) pc i) (same_read r s rs k (parts r (instr.Bgtz rs i) q).0)))
 quiet (instr.Addi rt rs i) pc r s k q = trap_alike r s rt _ _ k (ap (λ (x : ℕ). (signed_sum (x) (sign_extended 16 i))) (same_read r s rs k (parts r (instr.Addi rt rs i) q).0))
 quiet (instr.Addiu rt rs i) pc r s k q = written_alike r s rt _ _ k (ap (λ (x : ℕ). (word (x + sign_extended 16 i))) (same_read r s rs k (parts r (instr.Addiu rt rs i) q).0))
-quiet (instr.Slti rt rs i) pc r s k q = written_alike r s rt _ _ k (ap (λ (x : ℕ). (flag (signed_lt (x) (sign_extended 16 i)))) (same_read r s rs k (parts r (instr.Slti rt rs i) q).0))
-quiet (instr.Sltiu rt rs i) pc r s k q = written_alike r s rt _ _ k (ap (λ (x : ℕ). (flag (nat_lt (x) (sign_extended 16 i)))) (same_read r s rs k (parts r (instr.Sltiu rt rs i) q).0))
+quiet (instr.Slti rt rs i) pc r s k q = written_alike r s rt _ _ k (ap (λ (x : ℕ). (truth (signed_lt (x) (sign_extended 16 i)))) (same_read r s rs k (parts r (instr.Slti rt rs i) q).0))
+quiet (instr.Sltiu rt rs i) pc r s k q = written_alike r s rt _ _ k (ap (λ (x : ℕ). (truth (nat_lt (x) (sign_extended 16 i)))) (same_read r s rs k (parts r (instr.Sltiu rt rs i) q).0))
 quiet (instr.Andi rt rs i) pc r s k q = written_alike r s rt _ _ k (ap (λ (x : ℕ). (bit_and (x) i)) (same_read r s rs k (parts r (instr.Andi rt rs i) q).0))
 quiet (instr.Ori rt rs i) pc r s k q = written_alike r s rt _ _ k (ap (λ (x : ℕ). (bit_or (x) i)) (same_read r s rs k (parts r (instr.Ori rt rs i) q).0))
 quiet (instr.Xori rt rs i) pc r s k q = written_alike r s rt _ _ k (ap (λ (x : ℕ). (bit_xor (x) i)) (same_read r s rs k (parts r (instr.Xori rt rs i) q).0))

@@ -10,11 +10,11 @@ use Rattle.ds_isa.specs.Registers.{Registers}
 use Rattle.ds_pagemap.specs.Machine.{State, Process, no_process, has_ended, touched_process, touch_first, touched}
 use Rattle.ds_pagemap.specs.Unit.{unit}
 use Rattle.ds_pagemap.specs.Boundary.{boundary}
-use Rattle.ds_pagemap.specs.Run.{half, goes_on, go, after, Ends}
+use Rattle.ds_pagemap.specs.Run.{half_turn, goes_on, go, after, Ends}
 use Rattle.ds_pagemap.specs.Text.{text_of}
 use Rattle.ds_quiet.specs.Alike.{is_kernel_register, AreLateAlike, AreAlike}
 use Rattle.ds_quiet.specs.Twins.{IsTwinProcess, AreTwins, IsTwin, HaveRegisters}
-use Rattle.ds_quiet.specs.Quiet.{quiet_first, is_quiet_half, IsQuiet}
+use Rattle.ds_quiet.specs.Quiet.{quiet_first, is_quiet_half_turn, IsQuiet}
 use Rattle.ds_quiet.proofs.Twins.{twin, same, twins_set}
 use Rattle.ds_quiet.proofs.Units.{unit_alike}
 use Rattle.ds_quiet.proofs.Boundaries.{boundary_alike}
@@ -67,7 +67,7 @@ half_by : (m : State) (qs : List Process) (owed : Bool) → AreTwins m.processes
 half_by m qs true k q = boundary_alike m qs k
 half_by m qs false k q = unit_alike m qs k q
 
-turn_by : (m t : State) → IsTwin m t → is_quiet_half m ≡ true → IsTwin (cond (is_some m.owed) (boundary m) (unit m)) (cond (is_some t.owed) (boundary t) (unit t))
+turn_by : (m t : State) → IsTwin m t → is_quiet_half_turn m ≡ true → IsTwin (cond (is_some m.owed) (boundary m) (unit m)) (cond (is_some t.owed) (boundary t) (unit t))
 turn_by m t k q = subst (λ (s : State). IsTwin (cond (is_some m.owed) (boundary m) (unit m)) (cond (is_some s.owed) (boundary s) (unit s))) (sym k.is) (half_by m k.processes (is_some m.owed) k.twins q)
 
 same_owed : (t : State) (b : Bool) → is_some (touched b t).owed ≡ is_some t.owed
@@ -78,8 +78,8 @@ same_owed t true = touch_owed t t.ready
     touch_owed s (p ∷ rest) = refl
 same_owed t false = refl
 
-pub half_alike : (m t : State) (b : Bool) → IsTwin m t → is_quiet_half m ≡ true → IsTwin (half false m) (half b t)
-unfolding half
+pub half_alike : (m t : State) (b : Bool) → IsTwin m t → is_quiet_half_turn m ≡ true → IsTwin (half_turn false m) (half_turn b t)
+unfolding half_turn
 half_alike m t b k q =
     subst (λ (o : Bool). IsTwin (cond (is_some m.owed) (boundary m) (unit m)) (cond o (boundary (touched b t)) (unit (touched b t)))) (same_owed t b)
     (turn_by m (touched b t) (touched_alike m t b k) q)
@@ -99,12 +99,12 @@ goes_on_by n m qs k = ap (λ (b : Bool). is_some m.owed || (nat_lt m.time n && n
 pub goes_on_alike : (n : ℕ) (m t : State) → IsTwin m t → goes_on n m ≡ goes_on n t
 goes_on_alike n m t k = goes_on_by n m k.processes k.twins ∙ ap (goes_on n) (sym k.is)
 
-go_by : (m t : State) (b on : Bool) → IsTwin m t → (on ≡ true → is_quiet_half m ≡ true) → IsTwin (cond on (half false m) m) (cond on (half b t) t)
+go_by : (m t : State) (b on : Bool) → IsTwin m t → (on ≡ true → is_quiet_half_turn m ≡ true) → IsTwin (cond on (half_turn false m) m) (cond on (half_turn b t) t)
 go_by m t b true k q = half_alike m t b k (q refl)
 go_by m t b false k q = k
 
-go_alike : (n : ℕ) (m t : State) (b : Bool) → IsTwin m t → (goes_on n m ≡ true → is_quiet_half m ≡ true) → IsTwin (go n false m) (go n b t)
-go_alike n m t b k q = subst (λ (on : Bool). IsTwin (go n false m) (cond on (half b t) t)) (goes_on_alike n m t k) (go_by m t b (goes_on n m) k q)
+go_alike : (n : ℕ) (m t : State) (b : Bool) → IsTwin m t → (goes_on n m ≡ true → is_quiet_half_turn m ≡ true) → IsTwin (go n false m) (go n b t)
+go_alike n m t b k q = subst (λ (on : Bool). IsTwin (go n false m) (cond on (half_turn b t) t)) (goes_on_alike n m t k) (go_by m t b (goes_on n m) k q)
 
 -- Runs.
 
@@ -143,7 +143,7 @@ stays n m k zero h e is = ap (λ (i : ℕ). after n (replicate i false) m) (is �
     nothing_more i = omega arith
 stays n m k (suc d) h zero is = absurd (omega arith)
 stays n m k (suc d) h (suc e) is =
-    ap (go n false) (stays n m k d h e (omega arith)) ∙ ap (λ (b : Bool). cond b (half false (after n (replicate k false) m)) (after n (replicate k false) m)) h
+    ap (go n false) (stays n m k d h e (omega arith)) ∙ ap (λ (b : Bool). cond b (half_turn false (after n (replicate k false) m)) (after n (replicate k false) m)) h
 
 one_end : (n : ℕ) (m : State) (j k : ℕ) → goes_on n (after n (replicate j false) m) ≡ false → goes_on n (after n (replicate k false) m) ≡ false → after n (replicate j false) m ≡ after n (replicate k false) m
 one_end n m j k a b = elim (cases_lt j k) [

@@ -13,10 +13,11 @@ use Rattle.ds_procs.specs.declared.call.Call.{Call}
 use Rattle.ds_procs.specs.declared.call.Call.TheVariants as call
 use Rattle.ds_procs.specs.Calls.{call_of}
 use Rattle.ds_log.specs.declared.line.Line.TheVariants.{Denial}
-use Rattle.ds_policy.specs.declared.access.Kind.TheVariants.{Fetch, Load, Store}
+use Rattle.ds_isa.specs.declared.instr.Kind.TheVariants.{Fetch, Load, Store}
 use Rattle.ds_policy.specs.declared.access.Verdict.{Verdict}
 use Rattle.ds_policy.specs.declared.access.Verdict.TheVariants.{Allowed, Denied}
-use Rattle.ds_policy.specs.Pages.{decide, word_at, with_word, bytes_of}
+use Rattle.ds_word.specs.Bytes.{word_at, with_word}
+use Rattle.ds_policy.specs.Pages.{decide, bytes_of}
 use Rattle.ds_policy.specs.Grants.{PageState, give, take, drop_own, end_process}
 use Rattle.ds_pagemap.specs.Machine.{State, Process, process_of, has_ended, lives, first}
 use Rattle.ds_pagemap.specs.Calls.{with_pages, ended, answered, or_number, or_denied, queue_of, after_put, after_get, after_wait, served}

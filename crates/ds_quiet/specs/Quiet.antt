@@ -3,10 +3,11 @@ use Rattle.std.specs.Prelude.{◌≡◌, ℕ, zero, suc, ◌+◌, Bool, true, fa
 use Rattle.ds_isa.specs.declared.instr.Size.TheVariants.{Word}
 use Rattle.ds_isa.specs.Instruction.{instruction_of}
 use Rattle.ds_word.specs.Word.{word}
-use Rattle.ds_policy.specs.declared.access.Kind.TheVariants.{Fetch}
+use Rattle.ds_isa.specs.declared.instr.Kind.TheVariants.{Fetch}
 use Rattle.ds_policy.specs.declared.access.Verdict.{Verdict}
 use Rattle.ds_policy.specs.declared.access.Verdict.TheVariants.{Allowed, Denied}
-use Rattle.ds_policy.specs.Pages.{decide, word_at, bytes_of}
+use Rattle.ds_word.specs.Bytes.{word_at}
+use Rattle.ds_policy.specs.Pages.{decide, bytes_of}
 use Rattle.ds_pagemap.specs.Machine.{State, process_of}
 use Rattle.ds_pagemap.specs.Unit.{Outcome, Went, Branched, Called, Stopped, instruction}
 use Rattle.ds_pagemap.specs.Run.{goes_on, go, after}
@@ -34,14 +35,14 @@ quiet_first m [] = true
 quiet_first m (p ∷ rest) = let pc = (process_of m p).pc in quiet_at m p pc && quiet_behind p pc (instruction m p pc)
 
 -- the unit that comes next, if one does, is quiet
-abbrev pub is_quiet_half : State → Bool
-is_quiet_half m = is_some m.owed || quiet_first m m.ready
+abbrev pub is_quiet_half_turn : State → Bool
+is_quiet_half_turn m = is_some m.owed || quiet_first m m.ready
 
 -- the first so many half turns of a run for n ticks that never touches are quiet
 abbrev pub quiet_halves : ℕ → ℕ → State → Bool
 quiet_halves n zero m = true
-quiet_halves n (suc k) m = (not (goes_on n m) || is_quiet_half m) && quiet_halves n k (go n false m)
+quiet_halves n (suc k) m = (not (goes_on n m) || is_quiet_half_turn m) && quiet_halves n k (go n false m)
 
 -- a run for n ticks that never touches is quiet along its whole way
 pub record IsQuiet (n : ℕ) (m : State) : Type 0 where
-  pub halves : (k : ℕ) → goes_on n (after n (replicate k false) m) ≡ true → is_quiet_half (after n (replicate k false) m) ≡ true
+  pub halves : (k : ℕ) → goes_on n (after n (replicate k false) m) ≡ true → is_quiet_half_turn (after n (replicate k false) m) ≡ true

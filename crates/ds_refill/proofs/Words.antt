@@ -4,8 +4,10 @@ use Rattle.std.proofs.Math.Seq.{take-suc}
 use Rattle.std.proofs.lemmas.List.{length-take-le}
 use Rattle.std.specs.Prelude.{slice_index, nat_lt, ◌&&◌}
 use Rattle.std.proofs.lemmas.Bool.Decides.{nat_tests}
-use Rattle.ds_mem.specs.Memory.{word_at, with_word, frame_of}
-use Rattle.ds_mem.proofs.Words.{word_at-with_word, word_at-with_word_apart, frame_of-with_word_apart, length-with_word, long-with_word}
+use Rattle.ds_word.specs.Bytes.{word_at, with_word}
+use Rattle.ds_mem.specs.Memory.{frame_of}
+use Rattle.ds_word.proofs.Bytes.{word_at-with_word, word_at-with_word_apart, length-with_word, long-with_word}
+use Rattle.ds_mem.proofs.Words.{frame_of-with_word_apart}
 use Rattle.ds_refill.specs.Handler.{words, with_words, HasWords}
 
 -- whether each is a word

@@ -1,6 +1,6 @@
 -- The refill handler in memory (Kane and Heinrich, chapters 4 and 6).
 use Rattle.std.specs.Prelude.{◌≡◌, ℕ, ◌+◌, ◌-◌, ◌*◌, ◌/◌, ◌%◌, ◌<◌, ◌==◌, ◌&&◌, nat_le, nat_lt, if◌then◌else◌, List, [], ◌∷◌, slice_index, Option, Some, None}
-use Rattle.ds_mem.specs.Memory.{word_at, with_word}
+use Rattle.ds_word.specs.Bytes.{word_at, with_word}
 
 -- mfc0 $26,$4; mfc0 $27,$14; lw $26,0($26); nop; mtc0 $26,$2; addu $26,$0,$0; tlbwr; jr $27; rfe
 abbrev pub words : List ℕ

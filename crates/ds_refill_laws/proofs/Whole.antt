@@ -8,10 +8,10 @@ use Rattle.ds_isa.specs.declared.instr.Late.{Late}
 use Rattle.ds_isa.specs.Registers.{Registers, loaded}
 use Rattle.ds_tlb.specs.declared.entry.Entry.{Entry}
 use Rattle.ds_tlb.specs.Entries.{ticked}
-use Rattle.ds_mem.specs.Memory.{word_at}
+use Rattle.ds_word.specs.Bytes.{word_at}
 use Rattle.ds_cp0.specs.declared.exception.ExceptionCode.TheVariants.{LoadMiss}
 use Rattle.ds_cp0.specs.System.{System, asid_of, entered, returned}
-use Rattle.ds_amap.specs.declared.map.Access.TheVariants.{Load}
+use Rattle.ds_isa.specs.declared.instr.Kind.TheVariants.{Load}
 use Rattle.ds_amap.specs.declared.map.Mode.TheVariants.{User, Kernel}
 use Rattle.ds_amap.specs.declared.map.Physical.{Physical}
 use Rattle.ds_amap.specs.declared.map.Fault.{Fault}
@@ -19,9 +19,9 @@ use Rattle.ds_amap.specs.declared.map.Fault.TheVariants.{Address, Refill}
 use Rattle.ds_amap.specs.Map.{translate, at_physical}
 use Rattle.ds_dev.specs.Bus.{BusState, is_memory, answers, load}
 use Rattle.ds_core.specs.declared.event.Event.TheVariants.{Branched, Raised}
-use Rattle.ds_core.specs.Core.{gone, with_tick}
+use Rattle.ds_core.specs.Core.{at_next, with_tick}
 use Rattle.ds_core.specs.Access.{mode_of, reached, load_answered, loaded_from}
-use Rattle.ds_core.specs.Coprocessor.{entry_of}
+use Rattle.ds_tlb.specs.Words.{entry_of}
 use Rattle.ds_core.specs.Effect.{step}
 use Rattle.ds_refill.specs.Handler.{HasWords}
 use Rattle.ds_refill_laws.specs.Refill.{late_of, table_miss, IsKernel, lent, at_word, later, went, RunsBy, handler_events}
@@ -84,7 +84,7 @@ word_2 r x y old s es random place w b h k size within aligned reach here is =
     ∙ ap (λ (u : Bool). with_tick (loaded_from c b Word x (λ v. loaded c.registers 26 v) (translate es (asid_of s) (cond u User Kernel) Load x))) k.mode
     ∙ ap (λ (p : Result Physical Fault). with_tick (loaded_from c b Word x (λ v. loaded c.registers 26 v) p)) reach
     ∙ ap (λ (p : Bool). with_tick (let a = cond p (answers b (word_at b.memory place)) (load b place Word) in load_answered c a.1 (λ v. loaded c.registers 26 v) a.0)) here
-    ∙ ap (λ (v : ℕ). with_tick (gone c b (loaded c.registers 26 v))) is
+    ∙ ap (λ (v : ℕ). with_tick (at_next c b (loaded c.registers 26 v))) is
     ∙ ap₂ (λ (g : List ℕ) (before : ℕ). went (at_word 0x8000000C 0x80000010 false (record r { general = g; late = late_of 26 before }) s es (ticked 64 8 random)) b)
     (lend_26 r.general x y w) (in_26 r.general x y size)
 

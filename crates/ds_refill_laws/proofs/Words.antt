@@ -2,14 +2,14 @@
 use Rattle.std.proofs.Common.{◌≡◌, ℕ, ◌+◌, ◌%◌, Bool, true, false, cond, List, refl, ap, ◌∙◌}
 use Rattle.std.proofs.Math.Dec.{lit<}
 use Rattle.std.specs.Prelude.{◌==◌, ◌&&◌, ◌||◌, not, bit_and, Ok, Err}
-use Rattle.ds_word.specs.Word.{bits}
+use Rattle.ds_word.specs.Word.{bits, bit}
 use Rattle.ds_isa.specs.declared.instr.Size.TheVariants.{Word}
 use Rattle.ds_isa.specs.declared.instr.Instr.{Instr}
 use Rattle.ds_isa.specs.declared.instr.Instr.TheVariants as instr
 use Rattle.ds_isa.specs.Instruction.{instruction_of}
-use Rattle.ds_mem.specs.Memory.{word_at}
-use Rattle.ds_cp0.specs.System.{System, is_user, asid_of, is_pending, flag}
-use Rattle.ds_amap.specs.declared.map.Access.TheVariants.{Fetch}
+use Rattle.ds_word.specs.Bytes.{word_at}
+use Rattle.ds_cp0.specs.System.{System, is_user, asid_of, is_pending}
+use Rattle.ds_isa.specs.declared.instr.Kind.TheVariants.{Fetch}
 use Rattle.ds_amap.specs.declared.map.Mode.TheVariants.{User, Kernel}
 use Rattle.ds_amap.specs.declared.map.Fault.TheVariants.{Address}
 use Rattle.ds_tlb.specs.declared.entry.Entry.{Entry}
@@ -26,7 +26,7 @@ use Rattle.ds_refill_laws.specs.Refill as refill
 
 -- no interrupt where they are off
 off : (s : System) (p q : Bool) → bits s.status 0 1 ≡ 0 → is_pending s p q ≡ false
-off s p q e = ap (λ (n : ℕ). (n == 1) && not (bit_and (bits s.status 8 8) (bits s.cause 8 2 + flag 2 p + flag 3 q) == 0)) e
+off s p q e = ap (λ (n : ℕ). (n == 1) && not (bit_and (bits s.status 8 8) (bits s.cause 8 2 + bit 2 p + bit 3 q) == 0)) e
 
 -- the word at a place of the first page is fetched and done
 at_place : (c : CoreState) (b : BusState) (pc place w : ℕ) → IsKernel c.system → c.pc ≡ pc

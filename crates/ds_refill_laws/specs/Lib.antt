@@ -1,1 +1,2 @@
 pub mod Refill
+pub mod Rows

@@ -8,14 +8,14 @@ use Rattle.ds_isa.specs.Meaning.{address_of}
 use Rattle.ds_cp0.specs.declared.exception.Exception.{Exception}
 use Rattle.ds_cp0.specs.declared.exception.ExceptionCode.TheVariants.{LoadMiss}
 use Rattle.ds_cp0.specs.System.{System, is_user, returned}
-use Rattle.ds_amap.specs.declared.map.Access.TheVariants.{Load}
+use Rattle.ds_isa.specs.declared.instr.Kind.TheVariants.{Load}
 use Rattle.ds_dev.specs.Bus.{BusState}
 use Rattle.ds_tlb.specs.declared.entry.Entry.{Entry}
 use Rattle.ds_tlb.specs.Entries.{ticked}
 use Rattle.ds_core.specs.declared.event.Event.{Event}
 use Rattle.ds_core.specs.declared.event.Event.TheVariants.{Retired, Branched}
 use Rattle.ds_core.specs.Effect.{step}
-use Rattle.ds_core.specs.Core.{CoreState, Step, gone, branched, with_tick}
+use Rattle.ds_core.specs.Core.{CoreState, Step, at_next, branched, with_tick}
 use Rattle.ds_core.specs.Access.{reached, loaded_from}
 use Rattle.ds_core.specs.Coprocessor.{with_entry}
 
@@ -24,33 +24,43 @@ pub record IsKernel (s : System) : Type 0 where
   pub mode : is_user s ≡ false
   pub off : bits s.status 0 1 ≡ 0
 
--- what each word makes of the processor
+-- What each word makes of the processor.
+
+-- the first word: register 26 is late with Context, where the page table entry stands
 abbrev pub context_read : CoreState → BusState → Step
-context_read c b = with_tick (gone c b (loaded c.registers 26 c.system.context))
+context_read c b = with_tick (at_next c b (loaded c.registers 26 c.system.context))
 
+-- the second: register 27 is late with EPC
 abbrev pub address_read : CoreState → BusState → Step
-address_read c b = with_tick (gone c b (loaded c.registers 27 c.system.epc))
+address_read c b = with_tick (at_next c b (loaded c.registers 27 c.system.epc))
 
+-- the third: register 26 is late with the page table entry, or the load misses
 abbrev pub entry_loaded : CoreState → BusState → Step
 entry_loaded c b = let addr = address_of c.registers 26 0 in with_tick (loaded_from c b Word addr (λ w. loaded c.registers 26 w) (reached c Load Word addr))
 
+-- the fourth, a nop: late loads come in
 abbrev pub passed : CoreState → BusState → Step
-passed c b = with_tick (gone c b (settled c.registers))
+passed c b = with_tick (at_next c b (settled c.registers))
 
+-- the fifth: EntryLo has the page table entry
 abbrev pub entry_moved : CoreState → BusState → Step
-entry_moved c b = with_tick (gone (record c { system = record c.system { entry_lo = bits (read c.registers 26) 8 24 * 2 ^ 8 } }) b (settled c.registers))
+entry_moved c b = with_tick (at_next (record c { system = record c.system { entry_lo = bits (read c.registers 26) 8 24 * 2 ^ 8 } }) b (settled c.registers))
 
+-- the sixth: register 26 is 0
 abbrev pub cleared : CoreState → BusState → Step
-cleared c b = with_tick (gone c b (written c.registers 26 (word (read c.registers 0 + read c.registers 0))))
+cleared c b = with_tick (at_next c b (written c.registers 26 (word (read c.registers 0 + read c.registers 0))))
 
+-- the seventh: the slot that Random names has the entry
 abbrev pub entry_written : CoreState → BusState → Step
 entry_written c b = with_tick (with_entry c b c.random)
 
+-- the eighth: on to where register 27 says, behind a slot
 abbrev pub jumped : CoreState → BusState → Step
 jumped c b = with_tick (branched c.slot c b (settled c.registers) (read c.registers 27))
 
+-- the ninth, in that slot: the mode is what it was before the miss
 abbrev pub came_back : CoreState → BusState → Step
-came_back c b = with_tick (gone (record c { system = returned c.system }) b (settled c.registers))
+came_back c b = with_tick (at_next (record c { system = returned c.system }) b (settled c.registers))
 
 -- A whole refill.
 

@@ -1,5 +1,6 @@
 //! The nine words, and what a processor does with them.
-ghost use Rattle.std.specs.Prelude.{◌≡◌};
+ghost use Rattle.std.specs.Prelude.{◌≡◌, ◌<◌};
+ghost use Rattle.std.specs.Option.{ForSome};
 
 use ds_asm::assemble;
 use ds_core::{Core, Event};
@@ -97,7 +98,9 @@ fn new_bus(alloc: Global) -> Result<(Bus, u32), OutOfMemory> {
 
 /// Registers 26 and 27, what is late, and EntryLo, as the handler has left them before each of its
 /// words.
-fn lent(place: usize) -> (u32, u32, Option<Late>, u32) {
+fn lent(place: usize) -> (u32, u32, Option<Late>, u32)
+    ensures { ForSome result.2 (λ l. (0 < l.register) × (l.register < 32)) }
+{
     let context = pte_address(MISSED);
     match place {
         0 => (7, 7, None, 0),

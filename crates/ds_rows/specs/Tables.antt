@@ -26,6 +26,7 @@ Meets (Some expected.Done) came = IsExpected came (codes "0") came.told.items
 Meets (Some (expected.Writes text)) came = IsExpected came (codes "0") text.items
 Meets (Some (expected.Refused refusal)) came = IsExpected came (codes "2") (refusal_line (string_bytes refusal))
 
+-- a case came to what was expected of it
 abbrev pub CameAs : Case → Came → Type 0
 CameAs case came = Meets case.expected came
 

@@ -38,7 +38,7 @@ impl Came {
         }
     }
 
-    /// Compared with a status in decimal digits and a text, beside which nothing is written.
+    /// The outcome, where this status (in decimal digits) and this text are expected, and no more.
     pub fn compared(&self, alloc: Global, status: &str, text: &[u8]) -> Result<Outcome, AllocError>
         ensures expected { IfOk result (λ outcome. (outcome ≡ Outcome.AsExpected)
             ↔ IsExpected self.now status.now text.now) }

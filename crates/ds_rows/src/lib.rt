@@ -13,6 +13,3 @@ mod words;
 
 pub use row::run_rows;
 pub use table::run_tables;
-
-#[cfg(test)]
-mod tests;

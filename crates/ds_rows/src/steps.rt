@@ -4,14 +4,11 @@ ghost use Rattle.std.specs.Prelude.{◌≡◌};
 use ds_asm::{Image, assemble};
 use ds_drive::{Files, Request, Wish, wish_of};
 use ds_policy::{Events, Policy};
-use ds_station::{Station, Step};
+use ds_station::{MOST_TICKS, Station, Step};
 use ds_tlb::{Indexed, Lookaside, Tlb};
 use std::alloc::Global;
 use std::io;
 use std::io::Write;
-
-/// The most ticks of a run.
-const MOST_TICKS: u64 = 1_000_000_000;
 
 /// The most steps that a station is stepped.
 const MOST_STEPS: u32 = 1_000_000;

@@ -11,7 +11,7 @@ use Rattle.ds_procs.specs.declared.process.Standing.TheVariants.{Ready}
 use Rattle.ds_procs.specs.declared.call.Call.{Call}
 use Rattle.ds_procs.specs.declared.call.Call.TheVariants as call
 use Rattle.ds_policy.specs.declared.access.Access.{Access}
-use Rattle.ds_policy.specs.declared.access.Kind.TheVariants as kind
+use Rattle.ds_isa.specs.declared.instr.Kind.TheVariants as kind
 use Rattle.ds_policy.specs.declared.access.Rule.{Rule}
 use Rattle.ds_policy.specs.declared.access.Rule.TheVariants.{I}
 use Rattle.ds_policy.specs.declared.access.Verdict.{Verdict}
@@ -29,7 +29,8 @@ use Rattle.ds_user.specs.Memory.{load_word}
 use Rattle.ds_station.specs.Held.{Held}
 use Rattle.ds_station.specs.Parts.{IsOrderly}
 use Rattle.ds_station.specs.Services.{after_event, step_of, ticks_of, begun, failed, denied_held, by_verdict, step_by, called_held, called_or_fault, own_address, exited, answered_held, idled, bounded}
-use Rattle.ds_station.specs.Steps.{Counted, Moves, flag}
+use Rattle.ds_word.specs.Word.{truth}
+use Rattle.ds_station.specs.Steps.{Counted, Moves}
 
 -- An instruction that is done leaves the processor in the program; an exception leaves the slot.
 
@@ -141,11 +142,11 @@ bounded_orderly h o = record { begun = λ b. refl; failed = λ f. refl; raised =
 
 -- The count and the clock.
 
-left_served : (k : Bool) (s : ℕ) → k ≡ true → 2 * (64 - s) + flag false < 2 * (64 - s) + flag k
+left_served : (k : Bool) (s : ℕ) → k ≡ true → 2 * (64 - s) + truth false < 2 * (64 - s) + truth k
 left_served true s e = omega arith
 left_served false s e = absurd (cc)
 
-served_spent : (k : Bool) (s : ℕ) → k ≡ true → s ≡ s + flag (not k)
+served_spent : (k : Bool) (s : ℕ) → k ≡ true → s ≡ s + truth (not k)
 served_spent true s e = omega arith
 served_spent false s e = absurd (cc)
 
@@ -181,11 +182,11 @@ event_counted event.Retired h t = (refl, refl, refl, refl)
 event_counted event.Branched h t = (refl, refl, refl, refl)
 event_counted event.Raised h t = (refl, refl, refl, refl)
 
-begun_spent : (k : Bool) (s : ℕ) → k ≡ false → s + 1 ≡ s + flag (not k)
+begun_spent : (k : Bool) (s : ℕ) → k ≡ false → s + 1 ≡ s + truth (not k)
 begun_spent false s e = refl
 begun_spent true s e = absurd (cc)
 
-begun_left : (k b : Bool) (s : ℕ) → k ≡ false → s + 1 ≤ 64 → 2 * (64 - (s + 1)) + flag b < 2 * (64 - s) + flag k
+begun_left : (k b : Bool) (s : ℕ) → k ≡ false → s + 1 ≤ 64 → 2 * (64 - (s + 1)) + truth b < 2 * (64 - s) + truth k
 begun_left false true s e few = omega arith
 begun_left false false s e few = omega arith
 begun_left true b s e few = absurd (cc)
@@ -193,7 +194,7 @@ begun_left true b s e few = absurd (cc)
 -- an instruction that began counts
 pub begun_moves : (s : Step) (slots wired : ℕ) (h new : Held) → h.outside.owed ≡ None → h.cpu.kernel ≡ false → h.own.spent + 1 ≤ 64 → Counted s (begun slots wired h) new → Moves s h new
 begun_moves step.Inside slots wired h new owed user few c =
-    let less : 2 * (64 - new.own.spent) + flag new.cpu.kernel < 2 * (64 - h.own.spent) + flag h.cpu.kernel = subst (λ (n : ℕ). 2 * (64 - n) + flag new.cpu.kernel < 2 * (64 - h.own.spent) + flag h.cpu.kernel) (sym c.2) (begun_left h.cpu.kernel new.cpu.kernel h.own.spent user few) in
+    let less : 2 * (64 - new.own.spent) + truth new.cpu.kernel < 2 * (64 - h.own.spent) + truth h.cpu.kernel = subst (λ (n : ℕ). 2 * (64 - n) + truth new.cpu.kernel < 2 * (64 - h.own.spent) + truth h.cpu.kernel) (sym c.2) (begun_left h.cpu.kernel new.cpu.kernel h.own.spent user few) in
     (owed, c.0 ∙ owed, c.1, c.2 ∙ begun_spent h.cpu.kernel h.own.spent user, omega (arith, c.2, few), less, c.3)
 begun_moves step.Unit slots wired h new owed user few c = (owed, c.0, c.1, c.2, c.3)
 begun_moves step.Boundary slots wired h new owed user few c = absurd c
@@ -210,7 +211,7 @@ owing h o owed = elim (cases_lt 0 h.own.spent) [
 ]
 
 pub bounded_moves : (h : Held) → IsOrderly h → IsSome h.outside.owed → Moves step.Boundary h (bounded h)
-bounded_moves h o owed = (refl, owing h o owed, sym (add-zero h.outside.time) ∙ ap (λ (b : Bool). h.outside.time + flag (not b)) (sym owed), refl)
+bounded_moves h o owed = (refl, owing h o owed, sym (add-zero h.outside.time) ∙ ap (λ (b : Bool). h.outside.time + truth (not b)) (sym owed), refl)
 
 pub idled_moves : (h : Held) → IsOrderly h → h.outside.owed ≡ None → h.outside.process.state ≢ Ready → Moves step.Boundary h (idled h)
-idled_moves h o owed rest = (refl, resting h o rest, ap (λ (x : Option Turn). h.outside.time + flag (not (is_some x))) (sym owed), refl)
+idled_moves h o owed rest = (refl, resting h o rest, ap (λ (x : Option Turn). h.outside.time + truth (not (is_some x))) (sym owed), refl)

@@ -7,7 +7,8 @@ use Rattle.std.proofs.Math.Seq.{length-sets}
 use Rattle.std.proofs.Math.Nat.{zero-mul, suc-mul}
 use Rattle.std.specs.List.{flat_map}
 use Rattle.std.specs.Prelude.{Some, None, slice_index_or, slice_set, ◌==◌, nat_lt, nat_le}
-use Rattle.ds_policy.specs.Pages.{Pages, Table, bytes_of, kept, word_at, with_word}
+use Rattle.ds_word.specs.Bytes.{word_at, with_word}
+use Rattle.ds_policy.specs.Pages.{Pages, Table, bytes_of, kept}
 use Rattle.ds_policy.specs.Grants.{PageState, live_only, end_process}
 use Rattle.ds_user.specs.Memory.{load_word, store_word}
 use Rattle.ds_station.specs.Frames.{FramesHold}

@@ -17,7 +17,6 @@ use Rattle.ds_station.specs.Headline.{held_text, Writes, WritesPrefix, WritesPar
 use Rattle.ds_station.specs.Faults.{IsNewFault, IsFaultAfter}
 use Rattle.ds_station.specs.declared.fault.Fault.{Fault}
 use Rattle.ds_station.specs.declared.fault.Fault.TheVariants as fault
-use Rattle.ds_station.proofs.Reports.{report_of_state}
 
 -- the text of what is held is that of each state that it stands for
 pub text_alike : (h : Held) (m : State) → Stands h m → held_text h ≡ text_of m
@@ -25,8 +24,7 @@ text_alike h m k =
     ap (λ (cs : List (List ℕ)). report_text cs h.outside.lines h.outside.log h.outside.time) (sym k.outside.consoles)
     ∙ (ap (λ (n : ℕ). report_text m.consoles n h.outside.log h.outside.time) (sym k.outside.lines)
     ∙ (ap (λ (l : List ℕ). report_text m.consoles (length m.log) l h.outside.time) (sym k.outside.log)
-    ∙ (ap (λ (t : ℕ). report_text m.consoles (length m.log) (flat_map line_text m.log) t) (sym k.outside.time)
-    ∙ report_of_state m)))
+    ∙ ap (λ (t : ℕ). report_text m.consoles (length m.log) (flat_map line_text m.log) t) (sym k.outside.time)))
 
 -- the report of the four consoles, each read by itself
 pub report_of_consoles : (cs : List (List ℕ)) (a b d e : List ℕ) (lines lines' : ℕ) (log log' : List ℕ) (time time' : ℕ) → a ≡ slice_index_or cs 0 [] → b ≡ slice_index_or cs 1 [] → d ≡ slice_index_or cs 2 [] → e ≡ slice_index_or cs 3 [] → lines ≡ lines' → log ≡ log' → time ≡ time' → report_text (a ∷ b ∷ d ∷ e ∷ []) lines log time ≡ report_text cs lines' log' time'
@@ -63,37 +61,15 @@ module _ (old new : Option (List ℕ)) (n : ℕ) (first : State) (s t : Held) (b
 pub fault_written : (f : Fault) (read : Result State Refusal) (old new : Option (List ℕ)) (n : ℕ) → IsNewFault f → Begins read (WritesPrefix old new n) → EndsBy f read old new n
 fault_written fault.Stuck read old new n i b = b
 fault_written fault.Memory read old new n i b = inr b
-fault_written fault.Failed read old new n i b = absurd i
-fault_written fault.BadRandom read old new n i b = absurd i
-fault_written (fault.Syntax name line) read old new n i b = absurd i
-fault_written (fault.UnknownLabel name line) read old new n i b = absurd i
-fault_written (fault.DoubleLabel name line) read old new n i b = absurd i
-fault_written (fault.Range name line) read old new n i b = absurd i
-fault_written (fault.TooLong name line) read old new n i b = absurd i
-fault_written fault.BadToml read old new n i b = absurd i
-fault_written (fault.BadRule rule) read old new n i b = absurd i
-fault_written (fault.Limit key) read old new n i b = absurd i
-fault_written (fault.InputFault line) read old new n i b = absurd i
-fault_written fault.WriteFault read old new n i b = absurd i
-fault_written (fault.NoSource name) read old new n i b = absurd i
+fault_written f read old new n i b = absurd i
 
 -- what refused inputs end by
 pub refused_unwritten : (f : Fault) (read : Result State Refusal) (old new : Option (List ℕ)) (n : ℕ) → Refuses f read → Keeps old new → EndsBy f read old new n
-refused_unwritten fault.Stuck read old new n i k = absurd i
 refused_unwritten fault.Memory read old new n i k = inl k
-refused_unwritten fault.Failed read old new n i k = absurd i
-refused_unwritten fault.BadRandom read old new n i k = (i, k)
-refused_unwritten (fault.Syntax name line) read old new n i k = (i, k)
-refused_unwritten (fault.UnknownLabel name line) read old new n i k = (i, k)
-refused_unwritten (fault.DoubleLabel name line) read old new n i k = (i, k)
-refused_unwritten (fault.Range name line) read old new n i k = (i, k)
-refused_unwritten (fault.TooLong name line) read old new n i k = (i, k)
-refused_unwritten fault.BadToml read old new n i k = (i, k)
-refused_unwritten (fault.BadRule rule) read old new n i k = (i, k)
-refused_unwritten (fault.Limit key) read old new n i k = (i, k)
-refused_unwritten (fault.InputFault line) read old new n i k = (i, k)
+refused_unwritten fault.Stuck read old new n i k = absurd i
 refused_unwritten fault.WriteFault read old new n i k = absurd i
-refused_unwritten (fault.NoSource name) read old new n i k = (i, k)
+refused_unwritten fault.Failed read old new n i k = absurd i
+refused_unwritten f read old new n i k = (i, k)
 
 -- how a run that fell short ends
 pub ran_short : {T : Type 0} (r : Result T Fault) (failed : Bool) (n : ℕ) (s t : Held) (read : Result State Refusal) (old new : Option (List ℕ)) → failed ≡ false → IfErr r (IsFaultAfter failed) → OnErr r (RunsWithin n s t) → OnErr r (t.outside.owed ≡ None) → Begins read (Stands s) → Appends old new (held_text t) → IfErr r (λ f. EndsBy f read old new n)
@@ -106,22 +82,12 @@ begun_not : (read : Result State Refusal) (P : State → Type 0) (r : Refusal) �
 begun_not read P r b e = let no : Ok b.0 ≡ Err r = sym b.1 ∙ e in cc
 
 ends_refused : (f : Fault) (read : Result State Refusal) (old new : Option (List ℕ)) (n : ℕ) (r : Refusal) → read ≡ Err r → EndsBy f read old new n → Refuses f read × Keeps old new
-ends_refused fault.Stuck read old new n r e w = absurd (begun_not read _ r w e)
 ends_refused fault.Memory read old new n r e (inl k) = (tt, k)
 ends_refused fault.Memory read old new n r e (inr w) = absurd (begun_not read _ r w e)
-ends_refused fault.Failed read old new n r e w = absurd w
+ends_refused fault.Stuck read old new n r e w = absurd (begun_not read _ r w e)
 ends_refused fault.WriteFault read old new n r e w = absurd (begun_not read _ r w e)
-ends_refused fault.BadRandom read old new n r e w = w
-ends_refused (fault.Syntax name line) read old new n r e w = w
-ends_refused (fault.UnknownLabel name line) read old new n r e w = w
-ends_refused (fault.DoubleLabel name line) read old new n r e w = w
-ends_refused (fault.Range name line) read old new n r e w = w
-ends_refused (fault.TooLong name line) read old new n r e w = w
-ends_refused fault.BadToml read old new n r e w = w
-ends_refused (fault.BadRule number) read old new n r e w = w
-ends_refused (fault.Limit key) read old new n r e w = w
-ends_refused (fault.InputFault line) read old new n r e w = w
-ends_refused (fault.NoSource name) read old new n r e w = w
+ends_refused fault.Failed read old new n r e w = absurd w
+ends_refused f read old new n r e w = w
 
 -- an answer that is good for any inputs refuses those that are refused
 pub refused_only : {T : Type 0} (result : Result T Fault) (read : Result State Refusal) (old new : Option (List ℕ)) (n : ℕ) → OnOk result (Begins read (Writes old new n)) → IfErr result (λ f. EndsBy f read old new n) → (r : Refusal) → read ≡ Err r → IsRefused result r old new

@@ -11,5 +11,4 @@ pub mod Runs
 pub mod Headlines
 pub mod NamedTexts
 pub mod Preparing
-pub mod Reports
 pub mod Firsts

@@ -13,11 +13,12 @@ use Rattle.ds_isa.specs.Fields.{in_word}
 use Rattle.ds_isa.specs.Instruction.{Row, rows, jalr, fits, by_rows, of_no_row, is_coprocessor, instruction_of}
 use Rattle.ds_isa.specs.Registers.{Registers, late_or, read, settled, written}
 use Rattle.ds_isa.specs.Meaning.{Effect, Goes, Branches, Loads, Stores, Faults, Calls, Privileged, meaning, written_or_trap, behind_slot, branch_target, jump_target}
-use Rattle.ds_policy.specs.declared.access.Kind.{Kind}
-use Rattle.ds_policy.specs.declared.access.Kind.TheVariants.{Fetch, Load, Store}
+use Rattle.ds_isa.specs.declared.instr.Kind.{Kind}
+use Rattle.ds_isa.specs.declared.instr.Kind.TheVariants.{Fetch, Load, Store}
 use Rattle.ds_policy.specs.declared.access.Verdict.{Verdict}
 use Rattle.ds_policy.specs.declared.access.Verdict.TheVariants.{Allowed, Denied}
-use Rattle.ds_policy.specs.Pages.{decide, bytes_of, word_at}
+use Rattle.ds_word.specs.Bytes.{word_at}
+use Rattle.ds_policy.specs.Pages.{decide, bytes_of}
 use Rattle.ds_policy.specs.Grants.{PageState}
 use Rattle.ds_pagemap.specs.Machine.{State, Process, process_of, touched_process}
 use Rattle.ds_pagemap.specs.Unit.{Went, Branched, instruction, done, where_allowed}
@@ -77,34 +78,10 @@ trap_stays r n (Some v) = tt
 
 -- each instruction is a branch or stays in line, whatever the registers hold
 kind_of : (i : Instr) (pc : ℕ) → IsApart i → IsBranch i pc ⊎ ((r : Registers) → StaysInLine (meaning i pc r))
-kind_of (instr.Sll rd rt shamt) pc a = inr (λ r. tt)
-kind_of (instr.Srl rd rt shamt) pc a = inr (λ r. tt)
-kind_of (instr.Sra rd rt shamt) pc a = inr (λ r. tt)
-kind_of (instr.Sllv rd rt rs) pc a = inr (λ r. tt)
-kind_of (instr.Srlv rd rt rs) pc a = inr (λ r. tt)
-kind_of (instr.Srav rd rt rs) pc a = inr (λ r. tt)
 kind_of (instr.Jr rs) pc a = inl (record { link = 0; to = λ r. read r rs; is = λ r. refl; same = λ r v e. read_same r rs v e })
 kind_of (instr.Jalr rd rs) pc a = inl (record { link = rd; to = λ r. read r rs; is = λ r. refl; same = λ r v e. read_apart r rd rs v e a })
-kind_of (instr.Syscall code) pc a = inr (λ r. tt)
-kind_of (instr.Break code) pc a = inr (λ r. tt)
-kind_of (instr.Mfhi rd) pc a = inr (λ r. tt)
-kind_of (instr.Mthi rs) pc a = inr (λ r. tt)
-kind_of (instr.Mflo rd) pc a = inr (λ r. tt)
-kind_of (instr.Mtlo rs) pc a = inr (λ r. tt)
-kind_of (instr.Mult rs rt) pc a = inr (λ r. tt)
-kind_of (instr.Multu rs rt) pc a = inr (λ r. tt)
-kind_of (instr.Div rs rt) pc a = inr (λ r. tt)
-kind_of (instr.Divu rs rt) pc a = inr (λ r. tt)
 kind_of (instr.Add rd rs rt) pc a = inr (λ r. trap_stays r _ _)
-kind_of (instr.Addu rd rs rt) pc a = inr (λ r. tt)
 kind_of (instr.Sub rd rs rt) pc a = inr (λ r. trap_stays r _ _)
-kind_of (instr.Subu rd rs rt) pc a = inr (λ r. tt)
-kind_of (instr.And rd rs rt) pc a = inr (λ r. tt)
-kind_of (instr.Or rd rs rt) pc a = inr (λ r. tt)
-kind_of (instr.Xor rd rs rt) pc a = inr (λ r. tt)
-kind_of (instr.Nor rd rs rt) pc a = inr (λ r. tt)
-kind_of (instr.Slt rd rs rt) pc a = inr (λ r. tt)
-kind_of (instr.Sltu rd rs rt) pc a = inr (λ r. tt)
 kind_of (instr.Bltz rs i) pc a = inl (record { link = 0; to = λ r. branch_target (is_negative (read r rs)) pc i; is = λ r. refl; same = λ r v e. ap (λ (x : ℕ). branch_target (is_negative (x)) pc i) (read_same r rs v e) })
 kind_of (instr.Bgez rs i) pc a = inl (record { link = 0; to = λ r. branch_target (not (is_negative (read r rs))) pc i; is = λ r. refl; same = λ r v e. ap (λ (x : ℕ). branch_target (not (is_negative (x))) pc i) (read_same r rs v e) })
 kind_of (instr.Bltzal rs i) pc a = inl (record { link = 31; to = λ r. branch_target (is_negative (read r rs)) pc i; is = λ r. refl; same = λ r v e. ap (λ (x : ℕ). branch_target (is_negative (x)) pc i) (read_apart r 31 rs v e a) })
@@ -116,34 +93,7 @@ kind_of (instr.Bne rs rt i) pc a = inl (record { link = 0; to = λ r. branch_tar
 kind_of (instr.Blez rs i) pc a = inl (record { link = 0; to = λ r. branch_target (is_negative (read r rs) || (read r rs == 0)) pc i; is = λ r. refl; same = λ r v e. ap (λ (x : ℕ). branch_target (is_negative (x) || (x == 0)) pc i) (read_same r rs v e) })
 kind_of (instr.Bgtz rs i) pc a = inl (record { link = 0; to = λ r. branch_target (not (is_negative (read r rs) || (read r rs == 0))) pc i; is = λ r. refl; same = λ r v e. ap (λ (x : ℕ). branch_target (not (is_negative (x) || (x == 0))) pc i) (read_same r rs v e) })
 kind_of (instr.Addi rt rs i) pc a = inr (λ r. trap_stays r _ _)
-kind_of (instr.Addiu rt rs i) pc a = inr (λ r. tt)
-kind_of (instr.Slti rt rs i) pc a = inr (λ r. tt)
-kind_of (instr.Sltiu rt rs i) pc a = inr (λ r. tt)
-kind_of (instr.Andi rt rs i) pc a = inr (λ r. tt)
-kind_of (instr.Ori rt rs i) pc a = inr (λ r. tt)
-kind_of (instr.Xori rt rs i) pc a = inr (λ r. tt)
-kind_of (instr.Lui rt i) pc a = inr (λ r. tt)
-kind_of (instr.Lb rt rs i) pc a = inr (λ r. tt)
-kind_of (instr.Lh rt rs i) pc a = inr (λ r. tt)
-kind_of (instr.Lwl rt rs i) pc a = inr (λ r. tt)
-kind_of (instr.Lw rt rs i) pc a = inr (λ r. tt)
-kind_of (instr.Lbu rt rs i) pc a = inr (λ r. tt)
-kind_of (instr.Lhu rt rs i) pc a = inr (λ r. tt)
-kind_of (instr.Lwr rt rs i) pc a = inr (λ r. tt)
-kind_of (instr.Sb rt rs i) pc a = inr (λ r. tt)
-kind_of (instr.Sh rt rs i) pc a = inr (λ r. tt)
-kind_of (instr.Swl rt rs i) pc a = inr (λ r. tt)
-kind_of (instr.Sw rt rs i) pc a = inr (λ r. tt)
-kind_of (instr.Swr rt rs i) pc a = inr (λ r. tt)
-kind_of (instr.Mfc0 rt rd) pc a = inr (λ r. tt)
-kind_of (instr.Mtc0 rt rd) pc a = inr (λ r. tt)
-kind_of instr.Tlbr pc a = inr (λ r. tt)
-kind_of instr.Tlbwi pc a = inr (λ r. tt)
-kind_of instr.Tlbwr pc a = inr (λ r. tt)
-kind_of instr.Tlbp pc a = inr (λ r. tt)
-kind_of instr.Rfe pc a = inr (λ r. tt)
-kind_of (instr.Cop unit w) pc a = inr (λ r. tt)
-kind_of (instr.Reserved w) pc a = inr (λ r. tt)
+kind_of other pc a = inr (λ r. tt)
 
 -- The table has no branch that reads its link.
 

@@ -6,18 +6,19 @@ use Rattle.std.proofs.lemmas.List.Quantifiers.{position-Some}
 use Rattle.std.proofs.Common.{get_or}
 use Rattle.std.proofs.lemmas.Bool.Decides.{nat_tests}
 use Rattle.ds_isa.specs.declared.instr.Size.{Size}
-use Rattle.ds_policy.specs.declared.access.Kind.{Kind}
-use Rattle.ds_policy.specs.declared.access.Kind.TheVariants.{Fetch, Load, Store}
+use Rattle.ds_isa.specs.declared.instr.Kind.{Kind}
+use Rattle.ds_isa.specs.declared.instr.Kind.TheVariants.{Fetch, Load, Store}
+use Rattle.ds_isa.specs.Access.{is_store, is_aligned}
 use Rattle.ds_policy.specs.declared.access.Verdict.TheVariants.{Allowed, Denied}
 use Rattle.ds_policy.specs.declared.access.Rule.TheVariants.{K, A}
 use Rattle.ds_policy.specs.declared.grant.Grant.{Grant}
 use Rattle.ds_policy.specs.declared.grant.Right.{Right}
 use Rattle.ds_policy.specs.declared.grant.Right.TheVariants.{Nothing, Read, Write}
-use Rattle.ds_policy.specs.Pages.{Table, decide, is_aligned, address_code, allowed_on, by_right, by_entry, entry_at, page_address}
+use Rattle.ds_policy.specs.Pages.{Table, decide, address_code, allowed_on, by_right, by_entry, entry_at, page_address}
 use Rattle.ds_policy.specs.Grants.{is_write}
 use Rattle.ds_tlb.specs.declared.entry.Entry.{Entry}
 use Rattle.ds_tlb.specs.Entries.{matches, find}
-use Rattle.ds_user.specs.Processor.{translate, by_slot, entry_in, is_store}
+use Rattle.ds_user.specs.Processor.{translate, by_slot, entry_in}
 use Rattle.ds_station.specs.Stands.{IsBacked, BufferHolds}
 
 both : (a b : Bool) → (a && b) ≡ true → (a ≡ true) × (b ≡ true)

@@ -6,15 +6,17 @@ use Rattle.ds_isa.specs.declared.instr.Size.TheVariants.{Word}
 use Rattle.ds_isa.specs.Registers.{Registers, settled}
 use Rattle.ds_isa.specs.Instruction.{instruction_of}
 use Rattle.ds_isa.specs.Meaning.{Effect, Goes, Branches, Loads, Stores, Faults, Calls, Privileged, meaning}
-use Rattle.ds_policy.specs.declared.access.Kind.{Kind}
-use Rattle.ds_policy.specs.declared.access.Kind.TheVariants as kind
+use Rattle.ds_isa.specs.declared.instr.Kind.{Kind}
+use Rattle.ds_isa.specs.declared.instr.Kind.TheVariants as kind
+use Rattle.ds_isa.specs.Access.{is_aligned}
 use Rattle.ds_policy.specs.declared.access.Rule.{Rule}
 use Rattle.ds_policy.specs.declared.access.Rule.TheVariants.{K, A}
 use Rattle.ds_policy.specs.declared.access.Verdict.TheVariants as verdict
 use Rattle.ds_policy.specs.declared.grant.Grant.{Grant}
 use Rattle.ds_policy.specs.declared.grant.Right.{Right}
 use Rattle.ds_policy.specs.declared.grant.Right.TheVariants.{Nothing, Read, Write}
-use Rattle.ds_policy.specs.Pages.{Pages, Table, decide, is_aligned, address_code, allowed_on, by_right, by_entry, entry_at, page_address, bytes_of, word_at, with_word}
+use Rattle.ds_word.specs.Bytes.{word_at, with_word}
+use Rattle.ds_policy.specs.Pages.{Pages, Table, decide, address_code, allowed_on, by_right, by_entry, entry_at, page_address, bytes_of}
 use Rattle.ds_pagemap.specs.Machine.{State, Process}
 use Rattle.ds_pagemap.specs.Unit.{Outcome, Went, Branched, Called, Stopped, instruction, done, where_allowed, denied_as, fault, stored}
 use Rattle.ds_user.specs.Memory.{load_word, store_word}

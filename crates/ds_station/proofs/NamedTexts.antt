@@ -3,7 +3,8 @@ use Rattle.std.proofs.Common.{◌≡◌, ℕ, suc, ◌+◌, ◌<◌, ◌≤◌, 
 use Rattle.std.specs.Prelude.{Some, None, bytes_eq}
 use Rattle.std.proofs.Math.Seq.{drop-cons}
 use Rattle.std.proofs.Math.ListN.{drop_of_length-le}
-use Rattle.ds_pagemap.specs.Inputs.{Refusal, Sources, text_named, image_read, images_from, ◌>>=◌}
+use Rattle.ds_word.specs.ResultBinding.{◌>>=◌}
+use Rattle.ds_pagemap.specs.Inputs.{Refusal, Sources, text_named, image_read, images_from}
 use Rattle.ds_station.specs.Headline.{sources_seen, Refuses}
 use Rattle.ds_station.specs.declared.fault.Fault.{Fault}
 use Rattle.ds_station.specs.declared.fault.Fault.TheVariants as fault
@@ -26,21 +27,11 @@ named_end s i name past = rw (drop_of_length-le s past) refl
 
 -- what refuses a part of the inputs refuses them
 pub refuses_then : {A B : Type 0} (f : Fault) (read : Result A Refusal) (next : A → Result B Refusal) → Refuses f read → Refuses f (read >>= next)
-refuses_then fault.Stuck read next r = r
 refuses_then fault.Memory read next r = tt
+refuses_then fault.Stuck read next r = r
 refuses_then fault.Failed read next r = r
 refuses_then fault.WriteFault read next r = r
-refuses_then fault.BadRandom read next r = ap (λ x. x >>= next) r
-refuses_then (fault.Syntax name line) read next r = ap (λ x. x >>= next) r
-refuses_then (fault.UnknownLabel name line) read next r = ap (λ x. x >>= next) r
-refuses_then (fault.DoubleLabel name line) read next r = ap (λ x. x >>= next) r
-refuses_then (fault.Range name line) read next r = ap (λ x. x >>= next) r
-refuses_then (fault.TooLong name line) read next r = ap (λ x. x >>= next) r
-refuses_then fault.BadToml read next r = ap (λ x. x >>= next) r
-refuses_then (fault.BadRule number) read next r = ap (λ x. x >>= next) r
-refuses_then (fault.Limit key) read next r = ap (λ x. x >>= next) r
-refuses_then (fault.InputFault line) read next r = ap (λ x. x >>= next) r
-refuses_then (fault.NoSource name) read next r = ap (λ x. x >>= next) r
+refuses_then f read next r = ap (λ x. x >>= next) r
 
 pub images_at : (s : Sources) (done names : List (List ℕ)) (i : ℕ) (name : List ℕ) → name ≡ get_or names i name → i < length names → images_from s done (drop i names) ≡ (image_read name (text_named s name) >>= (λ bytes. images_from s (done ++ bytes ∷ []) (drop (i + 1) names)))
 unfolding images_from

@@ -3,6 +3,7 @@ use Rattle.std.proofs.Common.{◌≡◌, ℕ, ◌<◌, ◌≤◌, true, false, L
 use Rattle.std.proofs.lemmas.Bool.{cases_lt}
 use Rattle.std.proofs.lemmas.Bool.Decides.{nat_tests}
 use Rattle.std.specs.Prelude.{IsErrOf, nat_le, nat_lt, ◌&&◌, codes}
+use Rattle.ds_word.specs.ResultBinding.{◌>>=◌}
 use Rattle.ds_policy.specs.Value.{PolicyValue, InputValue}
 use Rattle.ds_policy.specs.Refusal.{PolicyRefusal, bad_toml, limit, bad_rule}
 use Rattle.ds_policy.specs.Refusal as policies
@@ -16,7 +17,7 @@ use Rattle.ds_policy.specs.declared.events.fault.EventsFault.{EventsFault}
 use Rattle.ds_policy.specs.declared.events.fault.EventsFault.TheVariants as events_fault
 use Rattle.ds_pagemap.specs.Machine.{State}
 use Rattle.ds_pagemap.specs.First.{first_state}
-use Rattle.ds_pagemap.specs.Inputs.{Refusal, Sources, policy_read, input_read, check, images_from, inputs_under, inputs, ◌>>=◌}
+use Rattle.ds_pagemap.specs.Inputs.{Refusal, Sources, policy_read, input_read, check, images_from, inputs_under, inputs}
 use Rattle.ds_pagemap.specs.Inputs as refusal
 use Rattle.ds_station.specs.Held.{Held}
 use Rattle.ds_station.specs.Stands.{Stands}
@@ -112,16 +113,4 @@ prepared s read policy images e random is stands bad = elim (start_cases random)
 pub unprepared_by : (f : Fault) (read : Result State Refusal) (policy : PolicyValue) (images : List (List ℕ)) (e : InputValue) (random : ℕ) → read ≡ with_ticks policy images e random → IsStartFault random f → Refuses f read
 unprepared_by fault.BadRandom read policy images e random is bad = is ∙ bad_start policy images e random bad
 unprepared_by fault.Memory read policy images e random is bad = tt
-unprepared_by fault.Stuck read policy images e random is bad = bad
-unprepared_by fault.Failed read policy images e random is bad = bad
-unprepared_by fault.WriteFault read policy images e random is bad = bad
-unprepared_by (fault.Syntax name line) read policy images e random is bad = absurd bad
-unprepared_by (fault.UnknownLabel name line) read policy images e random is bad = absurd bad
-unprepared_by (fault.DoubleLabel name line) read policy images e random is bad = absurd bad
-unprepared_by (fault.Range name line) read policy images e random is bad = absurd bad
-unprepared_by (fault.TooLong name line) read policy images e random is bad = absurd bad
-unprepared_by fault.BadToml read policy images e random is bad = absurd bad
-unprepared_by (fault.BadRule number) read policy images e random is bad = absurd bad
-unprepared_by (fault.Limit key) read policy images e random is bad = absurd bad
-unprepared_by (fault.InputFault line) read policy images e random is bad = absurd bad
-unprepared_by (fault.NoSource name) read policy images e random is bad = absurd bad
+unprepared_by f read policy images e random is bad = absurd bad

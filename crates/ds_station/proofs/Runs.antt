@@ -7,14 +7,15 @@ use Rattle.ds_pagemap.specs.declared.turn.Turn.{Turn}
 use Rattle.ds_pagemap.specs.Machine.{State, Process, has_ended}
 use Rattle.ds_pagemap.specs.Unit.{unit}
 use Rattle.ds_pagemap.specs.Boundary.{boundary}
-use Rattle.ds_pagemap.specs.Run.{half, goes_on, is_over, Reaches}
+use Rattle.ds_pagemap.specs.Run.{half_turn, goes_on, is_over, Reaches}
 use Rattle.ds_pagemap.proofs.Runs.{reaches_start, reaches_half, reaches_touch}
 use Rattle.ds_station.specs.declared.parts.Step.{Step}
 use Rattle.ds_station.specs.declared.parts.Step.TheVariants.{Inside, Unit, Boundary, Over}
 use Rattle.ds_station.specs.Held.{Held}
 use Rattle.ds_station.specs.Stands.{Stands, IsSound}
 use Rattle.ds_station.specs.Services.{ticks_of}
-use Rattle.ds_station.specs.Steps.{StepTo, HalfTo, Follows, Stays, Moves, left, flag}
+use Rattle.ds_word.specs.Word.{truth}
+use Rattle.ds_station.specs.Steps.{StepTo, HalfTo, Follows, Stays, Moves, left}
 use Rattle.ds_station.specs.Sound.{RunsTo, RunsWithin, Goes, held_goes_on}
 use Rattle.ds_station.proofs.Turns.{sound_after}
 
@@ -45,22 +46,22 @@ stops n m o e g =
     never (nat_lt m.time n) (sym f ∙ g)
 
 -- an idle turn owes its boundary
-idle_owes : (m : State) → m.owed ≡ None → is_some (half false m).owed ≡ true
-unfolding half unit
+idle_owes : (m : State) → m.owed ≡ None → is_some (half_turn false m).owed ≡ true
+unfolding half_turn unit
 idle_owes m o = ap (λ (x : Option Turn). is_some (cond (is_some x) (boundary m) (unit m)).owed) o
 
 owes_goes_on : (n : ℕ) (m : State) → is_some m.owed ≡ true → goes_on n m ≡ true
 owes_goes_on n m o = ap (λ (b : Bool). b || (nat_lt m.time n && not (is_over m))) o
 
 reached_half : (n : ℕ) (s m t : State) → Reaches n s m → goes_on n m ≡ true → HalfTo m t → Reaches n s t
-reached_half n s m t r g f = subst (Reaches n s) (sym f.2) (reaches_touch n s (half f.0 m) f.1 (reaches_half n s m f.0 r g))
+reached_half n s m t r g f = subst (Reaches n s) (sym f.2) (reaches_touch n s (half_turn f.0 m) f.1 (reaches_half n s m f.0 r g))
 
 -- a step of a run that goes on
 pub reached_after : (step : Step) (n : ℕ) (s m t : State) → Reaches n s m → goes_on n m ≡ true → StepTo step m t → Reaches n s t
 reached_after Inside n s m t r g f = subst (Reaches n s) (sym f.1) (reaches_touch n s m f.0 r)
 reached_after Unit n s m t r g f = reached_half n s m t r g f.1
 reached_after Boundary n s m t r g (inl f) = reached_half n s m t r g f.1
-reached_after Boundary n s m t r g (inr f) = reached_half n s (half false m) t (reaches_half n s m false r g) (owes_goes_on n (half false m) (idle_owes m f.0)) f.2
+reached_after Boundary n s m t r g (inr f) = reached_half n s (half_turn false m) t (reaches_half n s m false r g) (owes_goes_on n (half_turn false m) (idle_owes m f.0)) f.2
 reached_after Over n s m t r g f = absurd (stops n m f.0 f.1 g)
 
 pub within_step : (step : Step) (n : ℕ) (a b d : Held) → RunsWithin n a b → held_goes_on n b ≡ true → Follows step b d → RunsWithin n a d
@@ -81,7 +82,7 @@ to_end n a b w g = record { runs = λ m k. let u = w.runs m k in (u.0, record { 
 abbrev pub rank : ℕ → Held → ℕ
 rank n h = 131 * (n - h.outside.time) + cond (is_some h.outside.owed) 130 (left h)
 
-flag_most : (b : Bool) → flag b ≤ 1
+flag_most : (b : Bool) → truth b ≤ 1
 flag_most true = omega arith
 flag_most false = omega arith
 
@@ -98,7 +99,7 @@ early n t o e g f = let h : (nat_lt t n && e) ≡ true = subst (λ (x : Option T
 rank_owed : (n : ℕ) (h : Held) → h.outside.owed ≡ None → rank n h ≡ 131 * (n - h.outside.time) + left h
 rank_owed n h o = ap (λ (x : Option Turn). 131 * (n - h.outside.time) + cond (is_some x) 130 (left h)) o
 
-boundary_falls : (o : Option Turn) (n t : ℕ) (old new : ℕ) (e : Bool) → (is_some o || (nat_lt t n && e)) ≡ true → new ≤ 129 → 131 * (n - (t + flag (not (is_some o)))) + new < 131 * (n - t) + cond (is_some o) 130 old
+boundary_falls : (o : Option Turn) (n t : ℕ) (old new : ℕ) (e : Bool) → (is_some o || (nat_lt t n && e)) ≡ true → new ≤ 129 → 131 * (n - (t + truth (not (is_some o)))) + new < 131 * (n - t) + cond (is_some o) 130 old
 boundary_falls (Some turn) n t old new e g l = omega arith
 boundary_falls None n t old new e g l = let k : t < n = grind (arith, nat_tests) in omega arith
 

@@ -12,7 +12,7 @@ use Rattle.ds_pagemap.specs.declared.turn.Turn.{Turn}
 use Rattle.ds_pagemap.specs.Machine.{State, Process}
 use Rattle.ds_pagemap.specs.Boundary.{boundary}
 use Rattle.ds_pagemap.specs.Unit.{Outcome, Went, Branched, Called, Stopped, Stop, unit, instruction, after_instruction, after_slot, after_call, fault, at_pc, ticked}
-use Rattle.ds_pagemap.specs.Run.{half}
+use Rattle.ds_pagemap.specs.Run.{half_turn}
 use Rattle.ds_user.specs.declared.processor.Cause.{Cause}
 use Rattle.ds_user.specs.declared.processor.Cause.TheVariants as cause
 use Rattle.ds_user.specs.declared.processor.Event.{Event}
@@ -29,8 +29,8 @@ use Rattle.ds_station.proofs.Meets.{Meets, MeetsBy, Leaves, step_meets, with_pag
 use Rattle.ds_station.proofs.Links.{runs, branches_again, linked_settled}
 
 -- half a turn where no boundary is owed is a unit
-pub half_unit : (m t : State) → m.owed ≡ None → unit m ≡ t → half false m ≡ t
-unfolding half
+pub half_unit : (m t : State) → m.owed ≡ None → unit m ≡ t → half_turn false m ≡ t
+unfolding half_turn
 half_unit m t o e = ap (λ (x : Option Turn). cond (is_some x) (boundary m) (unit m)) o ∙ e
 
 -- a unit of the process that runs

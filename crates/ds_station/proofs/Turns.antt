@@ -11,7 +11,7 @@ use Rattle.ds_pagemap.specs.declared.turn.Turn.{Turn}
 use Rattle.ds_pagemap.specs.Machine.{State, Process, has_ended}
 use Rattle.ds_pagemap.specs.Boundary.{boundary}
 use Rattle.ds_pagemap.specs.Unit.{unit}
-use Rattle.ds_pagemap.specs.Run.{half, is_over}
+use Rattle.ds_pagemap.specs.Run.{half_turn, is_over}
 use Rattle.ds_station.specs.declared.parts.Step.{Step}
 use Rattle.ds_station.specs.declared.parts.Step.TheVariants.{Boundary, Over}
 use Rattle.ds_user.specs.Processor.{Cpu}
@@ -41,11 +41,11 @@ bounded_quiet Parked m q ready turn e n = subst (λ (s : Standing). boundary (qu
 bounded_quiet Ended m q ready turn e n = subst (λ (s : Standing). boundary (quiet m (record q { standing = s }) ready (Some turn)) ≡ quiet m (record q { standing = s }) ready None) (sym e) refl
 
 -- half a turn where a boundary is owed is that boundary
-half_boundary : (m : State) (turn : Turn) → m.owed ≡ Some turn → half false m ≡ boundary m
-unfolding half
+half_boundary : (m : State) (turn : Turn) → m.owed ≡ Some turn → half_turn false m ≡ boundary m
+unfolding half_turn
 half_boundary m turn o = ap (λ (x : Option Turn). cond (is_some x) (boundary m) (unit m)) o
 
-half_unit_of : (m : State) → m.owed ≡ None → half false m ≡ unit m
+half_unit_of : (m : State) → m.owed ≡ None → half_turn false m ≡ unit m
 half_unit_of m o = half_unit m (unit m) o refl
 
 not_waiting : (s : Standing) (c : Cpu) (kept : saved.Process) (q : Process) (m : State) → RunningBy s c kept q m → s ≡ Waiting → ⊥
@@ -118,7 +118,7 @@ pub bounds : (h : Held) → IsSome h.outside.owed → Follows Boundary h (bounde
 bounds h some = let turn = (some_turn h.outside.owed some).0 in let owed = (some_turn h.outside.owed some).1 in record {
   follows = λ m k.
       let o = k.outside.owed ∙ owed in
-      let is : half false m ≡ record m { owed = None } = half_boundary m turn o ∙ boundary_of h m turn k o in
+      let is : half_turn false m ≡ record m { owed = None } = half_boundary m turn o ∙ boundary_of h m turn k o in
       (record m { owed = None }, inl (λ (e : m.owed ≡ None). (let no : Some turn ≡ None = sym o ∙ e in cc), (false, false, sym is)), bounds_to h m turn k o);
 }
 
@@ -179,11 +179,11 @@ idles h owed rest = record {
       let none : m.ready ≡ [] = k.running.ready ∙ none_ready h.outside.process.state rest in
       let turn : Turn = record { began = m.time; runner = None } in
       let m' : State = record m { time = m.time + 1; owed = Some turn } in
-      let first : half false m ≡ m' = half_unit_of m o ∙ unit_rests m none in
+      let first : half_turn false m ≡ m' = half_unit_of m o ∙ unit_rests m none in
       let k' = waits h m k rest in
-      let second : half false m' ≡ record m' { owed = None } = half_boundary m' turn refl ∙ boundary_of (waited h) m' turn k' refl in
+      let second : half_turn false m' ≡ record m' { owed = None } = half_boundary m' turn refl ∙ boundary_of (waited h) m' turn k' refl in
       let s = bounds_to (waited h) m' turn k' refl in
-      (record m' { owed = None }, inr (o, none, (false, false, sym (ap (half false) first ∙ second))), s);
+      (record m' { owed = None }, inr (o, none, (false, false, sym (ap (half_turn false) first ∙ second))), s);
 }
 
 -- nothing is left to do

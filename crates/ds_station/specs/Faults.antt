@@ -6,17 +6,14 @@ use Rattle.ds_policy.specs.declared.events.fault.EventsFault.{EventsFault}
 use Rattle.ds_policy.specs.declared.events.fault.EventsFault.TheVariants as events
 use Rattle.ds_asm.specs.declared.fault.AsmFault.{AsmFault}
 use Rattle.ds_asm.specs.declared.fault.AsmFault.TheVariants as asm
+use Rattle.ds_asm.specs.Assembling.{source_fault_number}
 use Rattle.ds_station.specs.declared.fault.Fault.{Fault}
-use Rattle.ds_station.specs.declared.fault.Fault.TheVariants.{BadRandom, Syntax, UnknownLabel, DoubleLabel, Range, TooLong, BadToml, BadRule, Limit, InputFault, Stuck, Failed, WriteFault, NoSource, Memory}
+use Rattle.ds_station.specs.declared.fault.Fault.TheVariants.{BadRandom, InSource, BadToml, BadRule, Limit, InputFault, Stuck, Failed, WriteFault, NoSource, Memory}
 
 -- the fault's number among the refusals
 abbrev pub number_of : Fault → ℕ
 number_of BadRandom = 1
-number_of (Syntax name line) = 3
-number_of (UnknownLabel name line) = 4
-number_of (DoubleLabel name line) = 5
-number_of (Range name line) = 6
-number_of (TooLong name line) = 7
+number_of (InSource name fault) = source_fault_number fault
 number_of BadToml = 8
 number_of (BadRule rule) = 9
 number_of (Limit key) = 10
@@ -39,32 +36,16 @@ abbrev pub of_events : EventsFault → Fault
 of_events (events.InputFault line) = InputFault line
 of_events events.Memory = Memory
 
--- what a fault of the source of this name is to a run
+-- what the assembler answers for the source of this name is to a run
 abbrev pub in_source : List ℕ → AsmFault → Fault
-in_source name (asm.Syntax line) = Syntax name line
-in_source name (asm.UnknownLabel line) = UnknownLabel name line
-in_source name (asm.DoubleLabel line) = DoubleLabel name line
-in_source name (asm.Range line) = Range name line
-in_source name (asm.TooLong line) = TooLong name line
+in_source name (asm.Source fault) = InSource name fault
 in_source name asm.Memory = Memory
 
 -- a fault that comes of a step, and not of an earlier failure
 abbrev pub IsNewFault : Fault → Type 0
 IsNewFault Stuck = Unit {0}
 IsNewFault Memory = Unit {0}
-IsNewFault Failed = ⊥
-IsNewFault BadRandom = ⊥
-IsNewFault (Syntax name line) = ⊥
-IsNewFault (UnknownLabel name line) = ⊥
-IsNewFault (DoubleLabel name line) = ⊥
-IsNewFault (Range name line) = ⊥
-IsNewFault (TooLong name line) = ⊥
-IsNewFault BadToml = ⊥
-IsNewFault (BadRule rule) = ⊥
-IsNewFault (Limit key) = ⊥
-IsNewFault (InputFault line) = ⊥
-IsNewFault WriteFault = ⊥
-IsNewFault (NoSource name) = ⊥
+IsNewFault _ = ⊥
 
 -- where a failure stands, the answer is that, and else a new fault
 abbrev pub IsFaultAfter : Bool → Fault → Type 0
@@ -75,16 +56,4 @@ IsFaultAfter false f = IsNewFault f
 abbrev pub IsStartFault : ℕ → Fault → Type 0
 IsStartFault start BadRandom = (start < 8) ⊎ (64 ≤ start)
 IsStartFault start Memory = Unit {0}
-IsStartFault start Stuck = ⊥
-IsStartFault start Failed = ⊥
-IsStartFault start (Syntax name line) = ⊥
-IsStartFault start (UnknownLabel name line) = ⊥
-IsStartFault start (DoubleLabel name line) = ⊥
-IsStartFault start (Range name line) = ⊥
-IsStartFault start (TooLong name line) = ⊥
-IsStartFault start BadToml = ⊥
-IsStartFault start (BadRule rule) = ⊥
-IsStartFault start (Limit key) = ⊥
-IsStartFault start (InputFault line) = ⊥
-IsStartFault start WriteFault = ⊥
-IsStartFault start (NoSource name) = ⊥
+IsStartFault start _ = ⊥

@@ -33,7 +33,7 @@ pub record WritesPrefix (old new : Option (List ℕ)) (n : ℕ) (first : State) 
   pub prefix : IsPrefix n first last
   pub written : Appends old new (text_of last)
 
--- of the text of a run that has ended or was cut short a front is written
+-- a prefix of the text is written, of a run that has ended or was cut short between two turns
 pub record WritesPart (old new : Option (List ℕ)) (n : ℕ) (first : State) : Type 0 where
   pub last : State
   pub prefix : IsPrefix n first last
@@ -45,11 +45,7 @@ Refuses fault.BadToml read = read ≡ Err inputs.BadToml
 Refuses (fault.Limit key) read = read ≡ Err (inputs.Limit key.now)
 Refuses (fault.BadRule number) read = read ≡ Err (inputs.BadRule number)
 Refuses (fault.NoSource name) read = read ≡ Err (inputs.NoSource name)
-Refuses (fault.Syntax name line) read = read ≡ Err (inputs.Syntax name line)
-Refuses (fault.UnknownLabel name line) read = read ≡ Err (inputs.UnknownLabel name line)
-Refuses (fault.DoubleLabel name line) read = read ≡ Err (inputs.DoubleLabel name line)
-Refuses (fault.Range name line) read = read ≡ Err (inputs.Range name line)
-Refuses (fault.TooLong name line) read = read ≡ Err (inputs.TooLong name line)
+Refuses (fault.InSource name f) read = read ≡ Err (inputs.InSource name f)
 Refuses (fault.InputFault line) read = read ≡ Err (inputs.InputFault line)
 Refuses fault.BadRandom read = read ≡ Err inputs.BadRandom
 Refuses fault.Memory read = Unit {0}
@@ -57,7 +53,7 @@ Refuses fault.Stuck read = ⊥
 Refuses fault.Failed read = ⊥
 Refuses fault.WriteFault read = ⊥
 
--- what was returned, seen by view, is what was read, or why nothing was
+-- a value that is returned is, through `seen`, the one that was read; a fault is why there is none
 abbrev pub Reads : {X Y : Type 0} → (X → Y) → Result X Fault → Result Y Refusal → Type 0
 Reads seen (Ok x) read = read ≡ Ok (seen x)
 Reads seen (Err f) read = Refuses f read
@@ -66,23 +62,13 @@ Reads seen (Err f) read = Refuses f read
 abbrev pub Begins : Result State Refusal → (State → Type 0) → Type 0
 Begins read P = (first : State) × (read ≡ Ok first) × P first
 
--- when each fault comes, and what is written then
+-- when each fault comes, and what is written then: nothing where it refuses the inputs
 abbrev pub EndsBy : Fault → Result State Refusal → Option (List ℕ) → Option (List ℕ) → ℕ → Type 0
-EndsBy fault.BadToml read old new n = (read ≡ Err inputs.BadToml) × Keeps old new
-EndsBy (fault.Limit key) read old new n = (read ≡ Err (inputs.Limit key.now)) × Keeps old new
-EndsBy (fault.BadRule number) read old new n = (read ≡ Err (inputs.BadRule number)) × Keeps old new
-EndsBy (fault.NoSource name) read old new n = (read ≡ Err (inputs.NoSource name)) × Keeps old new
-EndsBy (fault.Syntax name line) read old new n = (read ≡ Err (inputs.Syntax name line)) × Keeps old new
-EndsBy (fault.UnknownLabel name line) read old new n = (read ≡ Err (inputs.UnknownLabel name line)) × Keeps old new
-EndsBy (fault.DoubleLabel name line) read old new n = (read ≡ Err (inputs.DoubleLabel name line)) × Keeps old new
-EndsBy (fault.Range name line) read old new n = (read ≡ Err (inputs.Range name line)) × Keeps old new
-EndsBy (fault.TooLong name line) read old new n = (read ≡ Err (inputs.TooLong name line)) × Keeps old new
-EndsBy (fault.InputFault line) read old new n = (read ≡ Err (inputs.InputFault line)) × Keeps old new
-EndsBy fault.BadRandom read old new n = (read ≡ Err inputs.BadRandom) × Keeps old new
 EndsBy fault.Memory read old new n = Keeps old new ⊎ Begins read (WritesPrefix old new n)
 EndsBy fault.Stuck read old new n = Begins read (WritesPrefix old new n)
 EndsBy fault.WriteFault read old new n = Begins read (WritesPart old new n)
 EndsBy fault.Failed read old new n = ⊥
+EndsBy f read old new n = Refuses f read × Keeps old new
 
 -- inputs that are refused are refused by that, or for want of memory, and nothing is written
 abbrev pub IsRefused : {T : Type 0} → Result T Fault → Refusal → Option (List ℕ) → Option (List ℕ) → Type 0

@@ -8,11 +8,11 @@ use Rattle.ds_station.specs.Steps.{Follows, Moves}
 use Rattle.ds_station.specs.declared.parts.Step.{Step}
 use Rattle.ds_station.specs.declared.parts.Step.TheVariants.{Inside, Unit, Boundary, Over}
 
--- whatever state was held, a run for n from it ends in the state held now
+-- from each machine state that the station stood for, a run for n ends in one it stands for now
 pub record RunsTo (n : ℕ) (old new : Held) : Type 0 where
   pub runs : (m : State) → Stands old m → (t : State) × Ends n m t × Stands new t
 
--- or has come to it
+-- or has reached one that it stands for now
 pub record RunsWithin (n : ℕ) (old new : Held) : Type 0 where
   pub runs : (m : State) → Stands old m → (t : State) × Reaches n m t × Stands new t
 

@@ -147,7 +147,7 @@ pub record Stands (h : Held) (m : State) : Type 0 where
   pub running : RunningIs h.cpu h.outside.process h.outside.line m
   pub outside : OutsideIs h.outside m
 
--- some machine state is what is held
+-- there is a machine state that the station stands for
 pub record IsSound (h : Held) : Type 0 where
   pub state : State
   pub stands : Stands h state

@@ -3,7 +3,7 @@ ghost use Rattle.std.specs.Prelude.{◌≡◌};
 ghost use Rattle.ds_station.specs.Faults.{number_of, of_policy, of_events, in_source};
 ghost use Rattle.ds_station.specs.declared.fault.Fault.TheVariants as fault;
 
-use ds_asm::AsmFault;
+use ds_asm::{AsmFault, SourceFault};
 use ds_log::{OutOfMemory, WriteFailed};
 use ds_policy::{EventsFault, PolicyFault, Text};
 use ds_tlb::BadRandom;
@@ -18,22 +18,9 @@ pub enum Fault {
     /// Random can't start there.
     #[error("1 BadRandom")]
     BadRandom,
-    /// A line of a source, from 1, is neither blank nor a label nor a statement.
-    #[error("3 Syntax {} {line}", .name.as_str())]
-    Syntax { name: Text<64>, line: u64 },
-    /// A line of a source, from 1, names a label that stands nowhere.
-    #[error("4 UnknownLabel {} {line}", .name.as_str())]
-    UnknownLabel { name: Text<64>, line: u64 },
-    /// The label of a line of a source, from 1, stands on an earlier line too.
-    #[error("5 DoubleLabel {} {line}", .name.as_str())]
-    DoubleLabel { name: Text<64>, line: u64 },
-    /// A line of a source, from 1, has a number, a place, a target or a pair of registers that its
-    /// statement may not have.
-    #[error("6 Range {} {line}", .name.as_str())]
-    Range { name: Text<64>, line: u64 },
-    /// The line of a source, from 1, that passes 65,536 bytes.
-    #[error("7 TooLong {} {line}", .name.as_str())]
-    TooLong { name: Text<64>, line: u64 },
+    /// What is wrong in the text of the source of this name.
+    #[error("{} {} {} {}", .fault.number(), .fault.name(), .name.as_str(), .fault.line())]
+    InSource { name: Text<64>, fault: SourceFault },
     /// The policy is no TOML.
     #[error("8 BadToml")]
     BadToml,
@@ -76,11 +63,7 @@ impl Fault {
     {
         match self {
             Fault::BadRandom => 1,
-            Fault::Syntax { .. } => 3,
-            Fault::UnknownLabel { .. } => 4,
-            Fault::DoubleLabel { .. } => 5,
-            Fault::Range { .. } => 6,
-            Fault::TooLong { .. } => 7,
+            Fault::InSource { fault, .. } => fault.number(),
             Fault::BadToml => 8,
             Fault::BadRule(_) => 9,
             Fault::Limit(_) => 10,
@@ -93,17 +76,15 @@ impl Fault {
         }
     }
 
-    /// The fault of the source of this name.
+    /// What the assembler answers for the source of this name, as a fault of the run.
     pub fn in_source(name: &Text<64>, fault: AsmFault) -> Fault
         ensures { result ≡ in_source name.now fault }
     {
-        let name = Text::of(name.as_str());
         match fault {
-            AsmFault::Syntax(line) => Fault::Syntax { name, line },
-            AsmFault::UnknownLabel(line) => Fault::UnknownLabel { name, line },
-            AsmFault::DoubleLabel(line) => Fault::DoubleLabel { name, line },
-            AsmFault::Range(line) => Fault::Range { name, line },
-            AsmFault::TooLong(line) => Fault::TooLong { name, line },
+            AsmFault::Source(fault) => Fault::InSource {
+                name: Text::of(name.as_str()),
+                fault,
+            },
             AsmFault::Memory => Fault::Memory,
         }
     }

@@ -3,7 +3,7 @@ ghost use Rattle.std.specs.Prelude.{◌≡◌, ℕ, ◌≤◌, List, map, length
 ghost use Rattle.std.specs.Io.KnownBytes.{Appends};
 ghost use Rattle.ds_policy.specs.PolicyParts.{sources_of};
 ghost use Rattle.ds_log.specs.Sent.{AppendsPart};
-ghost use Rattle.ds_pagemap.specs.Inputs.{Refusal, inputs, text_named, image_read, images_from};
+ghost use Rattle.ds_pagemap.specs.Inputs.{Refusal, inputs, inputs_under, text_named, image_read, images_from};
 ghost use Rattle.ds_station.specs.Headline.{Writes, Begins, Reads, Refuses, EndsBy, IsRefused, held_text, sources_seen};
 ghost use Rattle.ds_station.specs.Stands.{Stands};
 
@@ -11,13 +11,10 @@ use crate::fault::Fault;
 use crate::station::Station;
 use ds_asm::{Image, assemble};
 use ds_log::{WriteFailed, send_report};
-use ds_policy::{Events, Policy, Text};
+use ds_policy::{Events, MOST_TICKS, Policy, Text};
 use ds_tlb::{Indexed, Lookaside};
 use std::alloc::Global;
 use std::io::Write;
-
-/// The most ticks of a run.
-const MOST_TICKS: u64 = 1_000_000_000;
 
 /// The text of a source; of two of one name the first counts.
 fn text_named<'a>(sources: &[(&str, &'a [u8])], name: &str) -> Option<&'a [u8]>
@@ -63,36 +60,32 @@ fn images_of(
     Ok(images)
 }
 
-/// A station at the beginning of the run that the texts ask for.
+/// A station at the beginning of the run that the texts ask for under a policy.
 fn prepare(
     alloc: Global,
-    policy: &[u8],
+    policy: &Policy,
     sources: &[(&str, &[u8])],
     input: &[u8],
     n: u64,
     random: u8,
 ) -> Result<Station<Indexed<64, 8>>, Fault>
-    ensures ok { IfOk result (λ s. Begins (inputs policy.now (sources_seen sources.now) input.now n random) (Stands s)) }
+    ensures ok { IfOk result (λ s. Begins (inputs_under policy.now (sources_seen sources.now) input.now n random) (Stands s)) }
     ensures working { IfOk result (λ s. s.own.failed ≡ false) }
     ensures few { OnOk result (n ≤ 1000000000) }
-    ensures err { IfErr result (λ f. Refuses f (inputs policy.now (sources_seen sources.now) input.now n random)) }
+    ensures err { IfErr result (λ f. Refuses f (inputs_under policy.now (sources_seen sources.now) input.now n random)) }
 {
-    let policy = match Policy::read(alloc, policy) {
-        Ok(policy) => policy,
-        Err(fault) => return Err(Fault::from(fault)),
-    };
     let images = match images_of(alloc, policy.sources(), sources) {
         Ok(images) => images,
         Err(refused) => return Err(refused),
     };
-    let events = match Events::read(alloc, input, &policy) {
+    let events = match Events::read(alloc, input, policy) {
         Ok(events) => events,
         Err(wrong) => return Err(Fault::from(wrong)),
     };
     if n > MOST_TICKS {
         return Err(Fault::Limit("n"));
     }
-    match Station::<Indexed<64, 8>>::new(alloc, &policy, &images, events, random as usize) {
+    match Station::<Indexed<64, 8>>::new(alloc, policy, &images, events, random as usize) {
         Ok(station) => Ok(station),
         Err(refused) => Err(refused),
     }
@@ -138,6 +131,31 @@ pub fn run_files<W: Write>(
     ensures ok { OnOk result (Begins (inputs policy.now (sources_seen sources.now) input.now n random) (Writes (W.contents out.old) (W.contents out.new) n)) }
     ensures err { IfErr result (λ f. EndsBy f (inputs policy.now (sources_seen sources.now) input.now n random) (W.contents out.old) (W.contents out.new) n) }
     ensures refused { (refusal : Refusal) → inputs policy.now (sources_seen sources.now) input.now n random ≡ Err refusal → IsRefused result refusal (W.contents out.old) (W.contents out.new) }
+{
+    let policy = match Policy::read(alloc, policy) {
+        Ok(policy) => policy,
+        Err(fault) => return Err(Fault::from(fault)),
+    };
+    run_policy(alloc, &policy, sources, input, n, random, out)
+}
+
+/// As `run_files`, under a policy that was read before.
+pub fn run_policy<W: Write>(
+    alloc: Global,
+    policy: &Policy,
+    sources: &[(&str, &[u8])],
+    input: &[u8],
+    n: u64,
+    random: u8,
+    out: &mut W,
+) -> Result<(), Fault>
+    ensures ok { OnOk result (Begins (inputs_under policy.now (sources_seen sources.now) input.now n random)
+        (Writes (W.contents out.old) (W.contents out.new) n)) }
+    ensures err { IfErr result (λ f. EndsBy f (inputs_under policy.now (sources_seen sources.now) input.now n random)
+        (W.contents out.old) (W.contents out.new) n) }
+    ensures refused { (refusal : Refusal)
+        → inputs_under policy.now (sources_seen sources.now) input.now n random ≡ Err refusal
+        → IsRefused result refusal (W.contents out.old) (W.contents out.new) }
 {
     let mut station = match prepare(alloc, policy, sources, input, n, random) {
         Ok(station) => station,

@@ -20,11 +20,8 @@ use ds_policy::{Events, Policy, PolicyPage, PolicyProcess, Source, Table, Text};
 use ds_procs::Process;
 use ds_tlb::Lookaside;
 use ds_user::{Cause, Core, Memo, Windows};
-use ds_word::wrapping_sum;
+use ds_word::{PAGE_SIZE, wrapping_sum};
 use std::alloc::{AllocError, Global};
-
-/// How many bytes a page has.
-const PAGE_BYTES: usize = 4096;
 
 /// Where this name stands among the names.
 fn place_of(names: &[Text<64>], name: &str) -> Option<usize>
@@ -70,7 +67,7 @@ fn put_pages(
     ensures { IfOk result (λ _. memory.new.items ≡ bytes_of_pages names.now images.now pages.now) }
 {
     for page in pages {
-        let mut bytes = [0; PAGE_BYTES];
+        let mut bytes = [0; PAGE_SIZE];
         fill_page(names, images, &page.source, &mut bytes);
         memory.extend_from_slice(&bytes)?;
     }
@@ -82,7 +79,7 @@ fn first_frames(alloc: Global, policy: &Policy, images: &[Image]) -> Result<Vec<
     requires { length images.now ≡ length (sources_of policy.now.pages) }
     ensures { IfOk result (λ v. v.items ≡ first_frames policy.now images.now) }
 {
-    let size = policy.frames() as usize * PAGE_BYTES;
+    let size = policy.frames() as usize * PAGE_SIZE;
     let mut memory = Vec::with_capacity(alloc, size)?;
     put_pages(policy.sources(), images, policy.pages(), &mut memory)?;
     memory.resize(size, 0)?;

@@ -1,7 +1,8 @@
 //! Laws of pages in frames: each is the contract of a function with an empty body.
 
 ghost use Rattle.std.specs.Prelude.{◌≡◌, ℕ, ◌+◌, ◌*◌, ◌<◌, ◌≤◌, List, [], ◌++◌, length, map, flat_map, replicate, take, drop, slice_index_or, slice_set, Some, None};
-ghost use Rattle.ds_policy.specs.Pages.{Table, bytes_of, word_at, with_word};
+ghost use Rattle.ds_word.specs.Bytes.{word_at, with_word};
+ghost use Rattle.ds_policy.specs.Pages.{Table, bytes_of};
 ghost use Rattle.ds_policy.specs.Grants.{PageState, live_only, end_process};
 ghost use Rattle.ds_user.specs.Memory.{load_word, store_word};
 ghost use Rattle.ds_station.specs.Frames.{FramesHold};

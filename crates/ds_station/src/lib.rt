@@ -13,8 +13,9 @@ mod station;
 mod step;
 mod turn;
 
+pub use ds_policy::MOST_TICKS;
 pub use fault::Fault;
-pub use files::run_files;
+pub use files::{run_files, run_policy};
 pub use parts::Step;
 pub use station::Station;
 

@@ -8,15 +8,13 @@ ghost use Rattle.ds_user.specs.Windows.{AreRight};
 
 use crate::halt::Halt;
 use crate::parts::{Parts, Step};
+use ds_log::LINE_ROOM;
 use ds_pagemap::Turn;
 use ds_tlb::Lookaside;
 use ds_user::Event;
 
 /// The most machine instructions of one unit.
 pub const MOST_SPENT: u32 = 64;
-
-/// The room in bytes that one line of the log needs at most.
-pub const LINE_ROOM: usize = 64;
 
 impl<L: Lookaside> Parts<L> {
     /// Makes room for what one unit may write, if it can.

@@ -3,10 +3,12 @@ use Rattle.std.proofs.Common.{◌≡◌, ◌≢◌, ◌⊎◌, ℕ, ◌+◌, ◌
 use Rattle.std.specs.Prelude.{Some, None, Option, nat_lt, ◌==◌, ◌&&◌, ◌||◌, is_some}
 use Rattle.std.proofs.lemmas.Bool.{cases_Bool}
 use Rattle.std.proofs.lemmas.Bool.Decides.{nat_tests}
-use Rattle.ds_mem.specs.Memory.{word_at, with_word, frame_of, with_frame, zeros}
+use Rattle.ds_word.specs.Bytes.{word_at, with_word}
+use Rattle.ds_mem.specs.Memory.{frame_of, with_frame, zeros}
 use Rattle.ds_mem.proofs.Frames.{frame_of-with_frame, frame_of-with_frame_apart}
 use Rattle.ds_mem.proofs.Zeros.{length-zeros}
-use Rattle.ds_mem.proofs.Words.{word_at-with_word, word_at-with_word_apart, word_at-zero_frame, word_at-same_frame, frame_of-with_word_apart, length-with_frame, long-with_word, long-with_frame}
+use Rattle.ds_word.proofs.Bytes.{word_at-with_word, word_at-with_word_apart, long-with_word}
+use Rattle.ds_mem.proofs.Words.{word_at-zero_frame, word_at-same_frame, frame_of-with_word_apart, length-with_frame, long-with_frame}
 use Rattle.ds_tables.specs.Places.{Places, ArePlaces, region_of, place_of, free_place, has_place, frame_of_place, table_frame, page_of_table, with_place, opened_by, opened, closed}
 use Rattle.ds_tables.specs.Tables.{word_place, entry_word, HasEmptyTable, with_table_by, with_table, with_entry_word, with_entry, word_once_put, word_once_closed}
 use Rattle.ds_tables.proofs.PlaceLemmas.{IsPlace, is_place, IsFree, is_free_place, one_region, unused_frame, place_of-new, place_of-other, placed, page_of_table-none, place_of-closed, place_of-kept}

@@ -1,6 +1,7 @@
 -- Page tables in memory: for each process a map from addresses to page-table words.
 use Rattle.std.specs.Prelude.{◌≡◌, ℕ, ◌+◌, ◌*◌, ◌/◌, ◌%◌, ◌^◌, ◌==◌, ◌&&◌, if◌then◌else◌, List, Option, Some, None}
-use Rattle.ds_mem.specs.Memory.{word_at, with_word, frame_of, with_frame, zeros}
+use Rattle.ds_word.specs.Bytes.{word_at, with_word}
+use Rattle.ds_mem.specs.Memory.{frame_of, with_frame, zeros}
 use Rattle.ds_tables.specs.Places.{Places, region_of, place_of, free_place, has_place, page_of_table, table_frame, opened}
 
 -- where the word of an address stands in the frame of its table

@@ -1,15 +1,7 @@
 -- The frame that a buffer names for a page.
-use Rattle.std.specs.Prelude.{ℕ, ◌*◌, ◌%◌, ◌^◌, Bool, true, false, not, ◌&&◌, ◌||◌, if◌then◌else◌, List, slice_get, Option, Some, None}
+use Rattle.std.specs.Prelude.{ℕ, ◌*◌, ◌%◌, ◌^◌, Bool, not, ◌&&◌, ◌||◌, if◌then◌else◌, List, slice_get, Option, Some, None}
 use Rattle.ds_tlb.specs.declared.entry.Entry.{Entry}
-use Rattle.ds_tlb.specs.declared.purpose.Purpose.{Purpose}
-use Rattle.ds_tlb.specs.declared.purpose.Purpose.TheVariants.{Fetch, Load, Store}
 use Rattle.ds_tlb.specs.Entries.{find}
-
--- whether bytes are written, for which a page has to be dirty
-abbrev pub writes : Purpose → Bool
-writes Store = true
-writes Load = false
-writes Fetch = false
 
 -- the first physical address of an entry's frame, where the entry is valid and, for a store, dirty
 abbrev pub base_in : Bool → Option Entry → Option ℕ

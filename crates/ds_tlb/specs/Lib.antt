@@ -2,3 +2,4 @@ pub mod Entries
 pub mod Frames
 pub mod Singles
 pub mod Buckets
+pub mod Words

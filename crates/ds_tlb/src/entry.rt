@@ -1,9 +1,12 @@
 //! An entry of the buffer.
 ghost use Rattle.std.specs.Prelude.{◌≡◌, ◌<◌, ◌≤◌, ◌%◌, IfSome, Some};
+ghost use Rattle.ds_isa.specs.Access.{is_store};
 ghost use Rattle.ds_tlb.specs.Entries.{matches, empty_entry, empty_entries};
-ghost use Rattle.ds_tlb.specs.Frames.{writes, base_in};
+ghost use Rattle.ds_tlb.specs.Frames.{base_in};
+ghost use Rattle.ds_tlb.specs.Words.{hi_word, lo_word, entry_of};
 
-use crate::purpose::Purpose;
+use ds_isa::Kind;
+use ds_word::bit;
 
 /// One entry: a virtual page of an address space and what it is mapped to, as EntryHi and EntryLo
 /// carry it (Kane and Heinrich, chapter 4).
@@ -36,19 +39,48 @@ impl Entry {
 
     /// The first physical address of the frame, where the entry is valid and, for a store, dirty.
     #[inline(always)]
-    pub(crate) fn base_for(&self, purpose: Purpose) -> Option<u32>
-        ensures base { result ≡ base_in (writes purpose) (Some self.now) }
+    pub(crate) fn base_for(&self, kind: Kind) -> Option<u32>
+        ensures base { result ≡ base_in (is_store kind) (Some self.now) }
         ensures whole { IfSome result (λ base. base % 4096 ≡ 0) }
     {
-        let store = match purpose {
-            Purpose::Fetch | Purpose::Load => false,
-            Purpose::Store => true,
-        };
-        if self.v && (!store || self.d) {
+        if self.v && (!kind.is_store() || self.d) {
             Some(self.pfn % 0x10_0000 * 0x1000)
         } else {
             None
         }
+    }
+
+    /// The entry of an EntryHi and an EntryLo.
+    pub fn of_words(hi: u32, lo: u32) -> Entry
+        ensures { result ≡ entry_of hi lo }
+    {
+        Entry {
+            vpn: (hi >> 12) & 0xf_ffff,
+            asid: ((hi >> 6) & 0x3f) as u8,
+            pfn: (lo >> 12) & 0xf_ffff,
+            n: (lo >> 11) & 1 == 1,
+            d: (lo >> 10) & 1 == 1,
+            v: (lo >> 9) & 1 == 1,
+            g: (lo >> 8) & 1 == 1,
+        }
+    }
+
+    /// The EntryHi of the entry: VPN 31 to 12, ASID 11 to 6. Each is cut to its bits.
+    pub fn hi_word(&self) -> u32
+        ensures { result ≡ hi_word self.now }
+    {
+        self.vpn % 0x10_0000 * 0x1000 + u32::from(self.asid % 64) * 64
+    }
+
+    /// The EntryLo of the entry: PFN 31 to 12, cut to these bits, N 11, D 10, V 9, G 8.
+    pub fn lo_word(&self) -> u32
+        ensures { result ≡ lo_word self.now }
+    {
+        self.pfn % 0x10_0000 * 0x1000
+            + bit(11, self.n)
+            + bit(10, self.d)
+            + bit(9, self.v)
+            + bit(8, self.g)
     }
 
     /// What the slot holds at the start: page 80000 + slot (hexadecimal), all else zero. No access

@@ -1,14 +1,15 @@
 //! A buffer that is searched by an index from virtual pages to slots.
 ghost use Rattle.std.specs.Prelude.{◌≡◌, ◌<◌, ◌≤◌, ◌%◌, ◌^◌, length, Some, IfSome, true, false};
 ghost use Rattle.std.proofs.Props.{props};
-ghost use Rattle.ds_tlb.specs.Frames.{writes, base_of};
+ghost use Rattle.ds_isa.specs.Access.{is_store};
+ghost use Rattle.ds_tlb.specs.Frames.{base_of};
 ghost use Rattle.ds_tlb.specs.Entries.{find, empty_entries};
 ghost use Rattle.ds_tlb.specs.Buckets.{bucket_of, IsBucketOf, IsIndexOf};
 
 use crate::entry::{Entry, empty_entries};
 use crate::lookaside::{BadRandom, Lookaside, index_word_of};
-use crate::purpose::Purpose;
 use crate::window::Window;
+use ds_isa::Kind;
 
 /// The number of buckets, which the low six bits of a virtual page number tell apart, and whether
 /// it lies in the upper half of the addresses.
@@ -21,7 +22,7 @@ pub struct Indexed<const N: usize, const WIRED: usize> {
     entries: [Entry; N],
     buckets: [u64; BUCKETS],
     random: usize,
-    // The last page for each purpose that a search found. Each write drops all three.
+    // The last page for each kind of access that a search found. Each write drops all three.
     code: Window,
     loads: Window,
     stores: Window,
@@ -118,18 +119,18 @@ impl<const N: usize, const WIRED: usize> Lookaside for Indexed<N, WIRED> {
     }
 
     #[inline(always)]
-    fn recalled(&self, purpose: Purpose, vpn: u32, asid: u8) -> Option<u32> {
-        match purpose {
-            Purpose::Fetch => self.code.frame(vpn, asid),
-            Purpose::Load => self.loads.frame(vpn, asid),
-            Purpose::Store => self.stores.frame(vpn, asid),
+    fn recalled(&self, kind: Kind, vpn: u32, asid: u8) -> Option<u32> {
+        match kind {
+            Kind::Fetch => self.code.frame(vpn, asid),
+            Kind::Load => self.loads.frame(vpn, asid),
+            Kind::Store => self.stores.frame(vpn, asid),
         }
     }
 
-    fn base(&mut self, purpose: Purpose, vpn: u32, asid: u8) -> Option<u32> {
-        let base = self.searched(purpose, vpn, asid)?;
+    fn base(&mut self, kind: Kind, vpn: u32, asid: u8) -> Option<u32> {
+        let base = self.searched(kind, vpn, asid)?;
         if let Some(window) = Window::of(vpn, asid, base) {
-            self.remember(purpose, window);
+            self.remember(kind, window);
         }
         Some(base)
     }
@@ -137,26 +138,26 @@ impl<const N: usize, const WIRED: usize> Lookaside for Indexed<N, WIRED> {
 
 impl<const N: usize, const WIRED: usize> Indexed<N, WIRED> {
     /// Searches for a page.
-    fn searched(&self, purpose: Purpose, vpn: u32, asid: u8) -> Option<u32>
-        ensures base { result ≡ base_of self.now.entries (writes purpose) vpn asid }
+    fn searched(&self, kind: Kind, vpn: u32, asid: u8) -> Option<u32>
+        ensures base { result ≡ base_of self.now.entries (is_store kind) vpn asid }
         ensures whole { IfSome result (λ base. base % 4096 ≡ 0) }
     {
         match first_match(&self.entries, self.buckets[bucket_of(vpn)], vpn, asid) {
-            Some(slot) => self.entries[slot].base_for(purpose),
+            Some(slot) => self.entries[slot].base_for(kind),
             None => None,
         }
     }
 
-    /// Remembers what was found, in place of what was remembered for the purpose.
-    fn remember(&mut self, purpose: Purpose, window: Window)
-        requires { base_of self.now.entries (writes purpose) window.vpn window.asid ≡ Some window.base }
+    /// Remembers what was found, in place of what was remembered for the kind.
+    fn remember(&mut self, kind: Kind, window: Window)
+        requires { base_of self.now.entries (is_store kind) window.vpn window.asid ≡ Some window.base }
         ensures entries { self.new.entries ≡ self.old.entries }
         ensures random { self.new.random ≡ self.old.random }
     {
-        match purpose {
-            Purpose::Fetch => self.code = window,
-            Purpose::Load => self.loads = window,
-            Purpose::Store => self.stores = window,
+        match kind {
+            Kind::Fetch => self.code = window,
+            Kind::Load => self.loads = window,
+            Kind::Store => self.stores = window,
         }
     }
 }

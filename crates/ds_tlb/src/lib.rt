@@ -5,12 +5,10 @@
 mod entry;
 mod indexed;
 mod lookaside;
-mod purpose;
 mod tlb;
 mod window;
 
 pub use entry::Entry;
 pub use indexed::Indexed;
 pub use lookaside::{BadRandom, Lookaside};
-pub use purpose::Purpose;
 pub use tlb::Tlb;

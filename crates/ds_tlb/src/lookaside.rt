@@ -1,11 +1,12 @@
 //! What every translation lookaside buffer does, whichever way it is searched.
 ghost use Rattle.std.specs.Prelude.{◌≡◌, ℕ, ◌+◌, ◌%◌, ◌^◌, ◌<◌, ◌≤◌, ◌↔◌, All, List, length, slice_get, slice_set, IsTrue, IsOk, IfOk, IsNone, IfSome, not};
+ghost use Rattle.ds_isa.specs.Access.{is_store};
 ghost use Rattle.ds_tlb.specs.Entries.{matches, find, empty_entries, ticked, index_word};
-ghost use Rattle.ds_tlb.specs.Frames.{writes, base_of};
+ghost use Rattle.ds_tlb.specs.Frames.{base_of};
 ghost use Rattle.ds_tlb.specs.Singles.{IsSingle, IsOnlyMatch, MatchesAt};
 
 use crate::entry::Entry;
-use crate::purpose::Purpose;
+use ds_isa::Kind;
 use thiserror::Error;
 
 /// Random can't start at a wired slot, nor past the last slot.
@@ -96,12 +97,12 @@ pub trait Lookaside: Drop {
     fn probe(&self, vpn: u32, asid: u8) -> u32
         ensures { result ≡ index_word (find (entries self.now) vpn asid) };
 
-    /// The first physical address of the frame that a page of an address space has for the purpose,
-    /// where the buffer remembers it. What is remembered lies in memory, the first 8 MiB, and never
-    /// in a device.
+    /// The first physical address of the frame that a page of an address space has for an access of
+    /// this kind, where the buffer remembers it. What is remembered lies in memory, the first 8 MiB,
+    /// and never in a device.
     #[inline(always)]
-    fn recalled(&self, purpose: Purpose, vpn: u32, asid: u8) -> Option<u32>
-        ensures base { IfSome result (λ base. base_of (entries self.now) (writes purpose) vpn asid ≡ Some base) }
+    fn recalled(&self, kind: Kind, vpn: u32, asid: u8) -> Option<u32>
+        ensures base { IfSome result (λ base. base_of (entries self.now) (is_store kind) vpn asid ≡ Some base) }
         ensures inside { IfSome result (λ base. base + 4096 ≤ 2 ^ 23) }
     {
         None
@@ -109,14 +110,14 @@ pub trait Lookaside: Drop {
 
     /// The first physical address of the frame that a page of an address space has, where its entry
     /// is valid and, for a store, dirty. The buffer may remember what it finds.
-    fn base(&mut self, purpose: Purpose, vpn: u32, asid: u8) -> Option<u32>
-        ensures base { result ≡ base_of (entries self.old) (writes purpose) vpn asid }
+    fn base(&mut self, kind: Kind, vpn: u32, asid: u8) -> Option<u32>
+        ensures base { result ≡ base_of (entries self.old) (is_store kind) vpn asid }
         ensures whole { IfSome result (λ base. base % 4096 ≡ 0) }
         ensures same { entries self.new ≡ entries self.old }
         ensures random { random_place self.new ≡ random_place self.old }
     {
         match self.find(vpn, asid) {
-            Some(slot) => self.read(slot).base_for(purpose),
+            Some(slot) => self.read(slot).base_for(kind),
             None => None,
         }
     }

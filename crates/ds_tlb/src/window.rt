@@ -1,6 +1,8 @@
 //! A translation that is remembered.
 ghost use Rattle.std.specs.Prelude.{◌≡◌, ◌≢◌, ◌+◌, ◌≤◌, ◌^◌, IfSome};
 
+use ds_word::PAGE_SIZE;
+
 /// The first physical address behind memory. Devices lie behind it.
 const MEMORY_END: u32 = 0x80_0000;
 
@@ -33,7 +35,7 @@ impl Window {
     pub fn of(vpn: u32, asid: u8, base: u32) -> Option<Window>
         ensures { IfSome result (λ window. (window.vpn ≡ vpn) × (window.asid ≡ asid) × (window.base ≡ base)) }
     {
-        if base > MEMORY_END - 4096 {
+        if base > MEMORY_END - PAGE_SIZE as u32 {
             return None;
         }
         Some(Window {

@@ -7,13 +7,13 @@ use Rattle.ds_isa.specs.declared.instr.Size.TheVariants.{Byte, Half, Word, Part}
 use Rattle.ds_isa.specs.Instruction.{instruction_of}
 use Rattle.ds_isa.specs.Meaning.{Effect, Goes, Branches, Loads, Stores, Faults, Calls, Privileged, meaning}
 use Rattle.ds_isa.specs.Registers.{Registers}
-use Rattle.ds_policy.specs.declared.access.Kind.{Kind}
-use Rattle.ds_policy.specs.declared.access.Kind.TheVariants.{Fetch, Load, Store}
-use Rattle.ds_policy.specs.Pages.{is_aligned}
+use Rattle.ds_isa.specs.declared.instr.Kind.{Kind}
+use Rattle.ds_isa.specs.declared.instr.Kind.TheVariants.{Fetch, Load, Store}
+use Rattle.ds_isa.specs.Access.{is_store, is_aligned}
 use Rattle.ds_tlb.specs.declared.entry.Entry.{Entry}
 use Rattle.ds_tlb.specs.Entries.{find}
 use Rattle.ds_user.specs.Memory.{load_word}
-use Rattle.ds_user.specs.Processor.{Cpu, translate, by_slot, entry_in, is_store, process_step, fetched, effect, branched, loaded_from, stored_to}
+use Rattle.ds_user.specs.Processor.{Cpu, translate, by_slot, entry_in, process_step, fetched, effect, branched, loaded_from, stored_to}
 use Rattle.ds_user.specs.Windows.{IsRight}
 use Rattle.ds_user.specs.declared.processor.window.Window.{Window}
 

@@ -6,7 +6,7 @@ use Rattle.std.proofs.Math.Seq.{take-set-lt}
 use Rattle.std.proofs.lemmas.Bool.Decides.{nat_tests}
 use Rattle.std.specs.Prelude.{slice_index, true, nat_le}
 use borrow.Rule.Slice.PartMut.{put_mid}
-use Rattle.ds_policy.specs.Pages.{word_at, with_word}
+use Rattle.ds_word.specs.Bytes.{word_at, with_word}
 use Rattle.ds_user.specs.Memory.{store_word}
 
 -- the bytes of a word, the lowest first

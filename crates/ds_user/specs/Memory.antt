@@ -1,6 +1,6 @@
 -- Memory as bytes, read and written by aligned words.
 use Rattle.std.specs.Prelude.{ℕ, ◌+◌, ◌-◌, ◌%◌, nat_le, if◌then◌else◌, List, length}
-use Rattle.ds_policy.specs.Pages.{word_at, with_word}
+use Rattle.ds_word.specs.Bytes.{word_at, with_word}
 
 -- the aligned word at a place of memory; 0 where there is no memory
 abbrev pub load_word : List ℕ → ℕ → ℕ

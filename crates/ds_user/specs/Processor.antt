@@ -6,9 +6,9 @@ use Rattle.ds_isa.specs.declared.instr.Size.TheVariants.{Word}
 use Rattle.ds_isa.specs.Registers.{Registers, settled, written}
 use Rattle.ds_isa.specs.Instruction.{instruction_of}
 use Rattle.ds_isa.specs.Meaning.{Effect, Goes, Branches, Loads, Stores, Faults, Calls, Privileged, behind_slot, meaning}
-use Rattle.ds_policy.specs.declared.access.Kind.{Kind}
-use Rattle.ds_policy.specs.declared.access.Kind.TheVariants.{Fetch, Load, Store}
-use Rattle.ds_policy.specs.Pages.{is_aligned}
+use Rattle.ds_isa.specs.declared.instr.Kind.{Kind}
+use Rattle.ds_isa.specs.declared.instr.Kind.TheVariants.{Fetch, Load, Store}
+use Rattle.ds_isa.specs.Access.{is_store, is_aligned}
 use Rattle.ds_tlb.specs.declared.entry.Entry.{Entry}
 use Rattle.ds_tlb.specs.Entries.{find}
 use Rattle.ds_user.specs.Memory.{load_word, store_word}
@@ -58,11 +58,6 @@ pub record Stepped : Type 0 where
   pub event : Event
   pub cpu : Cpu
   pub memory : List ℕ
-
-abbrev pub is_store : Kind → Bool
-is_store Fetch = false
-is_store Load = false
-is_store Store = true
 
 -- a valid entry lets an access go, a store only where it is dirty
 abbrev pub by_slot : Kind → ℕ → Option Entry → Option ℕ

@@ -1,9 +1,9 @@
 -- Pages that the buffer lets go.
 use Rattle.std.specs.Prelude.{◌≡◌, ℕ, ◌+◌, ◌%◌, ◌<◌, ◌≤◌, ◌^◌, true, List, Some}
 use Rattle.ds_isa.specs.declared.instr.Size.{Size}
-use Rattle.ds_policy.specs.declared.access.Kind.{Kind}
-use Rattle.ds_policy.specs.declared.access.Kind.TheVariants.{Fetch, Load, Store}
-use Rattle.ds_policy.specs.Pages.{is_aligned}
+use Rattle.ds_isa.specs.declared.instr.Kind.{Kind}
+use Rattle.ds_isa.specs.declared.instr.Kind.TheVariants.{Fetch, Load, Store}
+use Rattle.ds_isa.specs.Access.{is_aligned}
 use Rattle.ds_tlb.specs.declared.entry.Entry.{Entry}
 use Rattle.ds_user.specs.Processor.{translate}
 use Rattle.ds_user.specs.declared.processor.window.Window.{Window}

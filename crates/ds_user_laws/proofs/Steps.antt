@@ -12,8 +12,8 @@ use Rattle.ds_isa.specs.Meaning.{Effect, Goes, Branches, Loads, Stores, Faults, 
 use Rattle.ds_word.specs.Arithmetic.{signed_sum, signed_difference}
 use Rattle.ds_word.specs.Word.{sign_extended}
 use Rattle.ds_isa.specs.Registers.{read}
-use Rattle.ds_policy.specs.declared.access.Kind.TheVariants as kind
-use Rattle.ds_mem.specs.Memory.{word_at, with_word}
+use Rattle.ds_isa.specs.declared.instr.Kind.TheVariants as kind
+use Rattle.ds_word.specs.Bytes.{word_at, with_word}
 use Rattle.ds_amap.specs.declared.map.Physical.{Physical}
 use Rattle.ds_amap.specs.declared.map.Fault.{Fault}
 use Rattle.ds_cp0.specs.declared.exception.ExceptionCode.{ExceptionCode}
@@ -49,73 +49,12 @@ known_trap r n None = refl
 known_trap r n (Some v) = tt
 
 known : (i : Instr) (pc : ℕ) (r : Registers) → KnownFault (meaning i pc r)
-known (instr.Sll rd rt shamt) pc r = tt
-known (instr.Srl rd rt shamt) pc r = tt
-known (instr.Sra rd rt shamt) pc r = tt
-known (instr.Sllv rd rt rs) pc r = tt
-known (instr.Srlv rd rt rs) pc r = tt
-known (instr.Srav rd rt rs) pc r = tt
-known (instr.Jr rs) pc r = tt
-known (instr.Jalr rd rs) pc r = tt
-known (instr.Syscall code) pc r = tt
 known (instr.Break code) pc r = refl
-known (instr.Mfhi rd) pc r = tt
-known (instr.Mthi rs) pc r = tt
-known (instr.Mflo rd) pc r = tt
-known (instr.Mtlo rs) pc r = tt
-known (instr.Mult rs rt) pc r = tt
-known (instr.Multu rs rt) pc r = tt
-known (instr.Div rs rt) pc r = tt
-known (instr.Divu rs rt) pc r = tt
 known (instr.Add rd rs rt) pc r = known_trap r rd (signed_sum (read r rs) (read r rt))
-known (instr.Addu rd rs rt) pc r = tt
 known (instr.Sub rd rs rt) pc r = known_trap r rd (signed_difference (read r rs) (read r rt))
-known (instr.Subu rd rs rt) pc r = tt
-known (instr.And rd rs rt) pc r = tt
-known (instr.Or rd rs rt) pc r = tt
-known (instr.Xor rd rs rt) pc r = tt
-known (instr.Nor rd rs rt) pc r = tt
-known (instr.Slt rd rs rt) pc r = tt
-known (instr.Sltu rd rs rt) pc r = tt
-known (instr.Bltz rs i) pc r = tt
-known (instr.Bgez rs i) pc r = tt
-known (instr.Bltzal rs i) pc r = tt
-known (instr.Bgezal rs i) pc r = tt
-known (instr.J target) pc r = tt
-known (instr.Jal target) pc r = tt
-known (instr.Beq rs rt i) pc r = tt
-known (instr.Bne rs rt i) pc r = tt
-known (instr.Blez rs i) pc r = tt
-known (instr.Bgtz rs i) pc r = tt
 known (instr.Addi rt rs i) pc r = known_trap r rt (signed_sum (read r rs) (sign_extended 16 i))
-known (instr.Addiu rt rs i) pc r = tt
-known (instr.Slti rt rs i) pc r = tt
-known (instr.Sltiu rt rs i) pc r = tt
-known (instr.Andi rt rs i) pc r = tt
-known (instr.Ori rt rs i) pc r = tt
-known (instr.Xori rt rs i) pc r = tt
-known (instr.Lui rt i) pc r = tt
-known (instr.Lb rt rs i) pc r = tt
-known (instr.Lh rt rs i) pc r = tt
-known (instr.Lwl rt rs i) pc r = tt
-known (instr.Lw rt rs i) pc r = tt
-known (instr.Lbu rt rs i) pc r = tt
-known (instr.Lhu rt rs i) pc r = tt
-known (instr.Lwr rt rs i) pc r = tt
-known (instr.Sb rt rs i) pc r = tt
-known (instr.Sh rt rs i) pc r = tt
-known (instr.Swl rt rs i) pc r = tt
-known (instr.Sw rt rs i) pc r = tt
-known (instr.Swr rt rs i) pc r = tt
-known (instr.Mfc0 rt rd) pc r = tt
-known (instr.Mtc0 rt rd) pc r = tt
-known instr.Tlbr pc r = tt
-known instr.Tlbwi pc r = tt
-known instr.Tlbwr pc r = tt
-known instr.Tlbp pc r = tt
-known instr.Rfe pc r = tt
-known (instr.Cop unit w) pc r = tt
 known (instr.Reserved w) pc r = refl
+known other pc r = tt
 
 -- The two memories.
 
@@ -137,10 +76,10 @@ same_store memory place w size small = rw (within memory place size small) refl
 module _ (c : CoreState) (b : BusState) (u : Cpu) (runs : RunsUser c) (maps : MapsMemory c b) where
   left : (code : ExceptionCode) (unit : ℕ) (addr : Option ℕ) (miss : Bool) (why : Cause) (bad : ℕ)
       → Tells why bad (record { code = code; pc = c.pc; slot = c.slot; unit = unit; addr = addr; miss = miss })
-      → Agrees c b (user.raised (user_of c u) b.memory why bad) (with_tick (core.raised c b (record { code = code; pc = c.pc; slot = c.slot; unit = unit; addr = addr; miss = miss })))
+      → Agrees c b (user.raised (user_of c u) b.memory why bad) (with_tick (core.at_vector c b (record { code = code; pc = c.pc; slot = c.slot; unit = unit; addr = addr; miss = miss })))
   left code unit addr miss why bad tells = record { agrees = record { exception = _; raised = refl; why = tells; epc = refl; delayed = refl; registers = refl; memory = refl } }
 
-  goes : (memory : List ℕ) (after : Registers) → Agrees c b (user.gone (user_of c u) memory after) (with_tick (core.gone c (record b { memory = memory }) after))
+  goes : (memory : List ℕ) (after : Registers) → Agrees c b (user.gone (user_of c u) memory after) (with_tick (core.at_next c (record b { memory = memory }) after))
   goes memory after = record { agrees = record { on = refl } }
 
   branch_alike : (slot : Bool) (after : Registers) (target : ℕ) → Agrees c b (user.branched slot (user_of c u) b.memory after target) (with_tick (core.branched slot c b after target))

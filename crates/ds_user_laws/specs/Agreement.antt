@@ -1,5 +1,6 @@
 -- How the station's processor and the whole one agree where a user runs.
 use Rattle.std.specs.Prelude.{◌≡◌, ℕ, ◌<◌, ◌^◌, Bool, true, false, length, slice_get, Some, None}
+use Rattle.ds_isa.specs.Access.{is_store}
 use Rattle.ds_isa.specs.Registers.{settled}
 use Rattle.ds_tlb.specs.declared.entry.Entry.{Entry}
 use Rattle.ds_cp0.specs.declared.exception.Exception.{Exception}
@@ -10,14 +11,14 @@ use Rattle.ds_amap.specs.declared.map.Fault.{Fault}
 use Rattle.ds_dev.specs.Bus.{BusState}
 use Rattle.ds_core.specs.declared.event.Event as core
 use Rattle.ds_core.specs.declared.event.Event.TheVariants as went
-use Rattle.ds_core.specs.Core.{CoreState, Step, raised, with_tick}
+use Rattle.ds_core.specs.Core.{CoreState, Step, at_vector, with_tick}
 use Rattle.ds_core.specs.Access.{code_of}
 use Rattle.ds_core.specs.Coprocessor.{is_usable}
 use Rattle.ds_user.specs.declared.processor.Cause.{Cause}
 use Rattle.ds_user.specs.declared.processor.Cause.TheVariants as cause
 use Rattle.ds_user.specs.declared.processor.Event.{Event}
 use Rattle.ds_user.specs.declared.processor.Event.TheVariants.{Retired, Branched, Raised}
-use Rattle.ds_user.specs.Processor.{Cpu, Stepped, is_store}
+use Rattle.ds_user.specs.Processor.{Cpu, Stepped}
 
 -- a user runs in address space 1, whatever the devices ask for
 pub record RunsUser (c : CoreState) : Type 0 where
@@ -52,17 +53,19 @@ pub record GoesOn (c : CoreState) (b : BusState) (event : core.Event) (t : Stepp
 -- an exception leaves the program, and nothing of the instruction is done
 pub record LeavesBy (c : CoreState) (b : BusState) (t : Stepped) (s : Step) : Type 0 where
   pub exception : Exception
-  pub raised : s ≡ with_tick (raised c b exception)
+  pub raised : s ≡ with_tick (at_vector c b exception)
   pub why : Tells t.cpu.cause t.cpu.bad exception
   pub epc : epc_of exception ≡ t.cpu.epc
   pub delayed : exception.slot ≡ t.cpu.delayed
   pub registers : t.cpu.registers ≡ settled c.registers
   pub memory : t.memory ≡ b.memory
 
+-- two steps agree, by what the first came to
 abbrev pub AgreesBy : Event → CoreState → BusState → Stepped → Step → Type 0
 AgreesBy Retired c b t s = GoesOn c b went.Retired t s
 AgreesBy Branched c b t s = GoesOn c b went.Branched t s
 AgreesBy Raised c b t s = LeavesBy c b t s
 
+-- two steps agree
 pub record Agrees (c : CoreState) (b : BusState) (t : Stepped) (s : Step) : Type 0 where
   pub agrees : AgreesBy t.event c b t s

@@ -1,5 +1,9 @@
 pub mod Arithmetic
+pub mod Bytes
+pub mod Digits
 pub mod Merge
+pub mod OptionBinding
 pub mod Product
+pub mod ResultBinding
 pub mod Rows
 pub mod Word

@@ -1,5 +1,7 @@
--- Worked rows: merges of the word 44332211 with the register AABBCCDD, products and quotients.
-use Rattle.std.specs.Prelude.{◌≡◌, refl, ℕ, ◌*◌, List, [], ◌∷◌, map, true, Some, None}
+-- Worked rows: merges of the word 44332211 with the register AABBCCDD, products and quotients, bytes and digits.
+use Rattle.std.specs.Prelude.{codes, ◌≡◌, refl, ℕ, ◌*◌, List, [], ◌∷◌, map, true, Some, None}
+use Rattle.ds_word.specs.Bytes.{bytes_of_word, bytes_of_words, word_at, with_word}
+use Rattle.ds_word.specs.Digits.{digits_from}
 use Rattle.ds_word.specs.Word.{sign_extended, signed_lt}
 use Rattle.ds_word.specs.Arithmetic.{shifted_arithmetic, signed_sum, signed_difference}
 use Rattle.ds_word.specs.Merge.{merged_left, merged_right, stored_left, stored_right, with_bits}
@@ -81,3 +83,25 @@ lowest_is_less = refl
 
 pub byte_below_zero : sign_extended 8 0x80 ≡ 0xFFFFFF80
 byte_below_zero = refl
+
+pub lowest_byte_first : bytes_of_word 0x44332211 ≡ 0x11 ∷ 0x22 ∷ 0x33 ∷ 0x44 ∷ []
+lowest_byte_first = refl
+
+pub word_in_which_a_place_lies : word_at (bytes_of_words (1 ∷ 0x44332211 ∷ 2 ∷ [])) 6 ≡ 0x44332211
+word_in_which_a_place_lies = refl
+
+pub only_that_word_is_replaced : with_word (bytes_of_words (1 ∷ 3 ∷ 2 ∷ [])) 7 0x44332211
+    ≡ bytes_of_words (1 ∷ 0x44332211 ∷ 2 ∷ [])
+only_that_word_is_replaced = refl
+
+pub letters_of_either_case : digits_from 16 0xFFFFFFFF 0 (codes "00fFfF10") ≡ Some 0xFFFF10
+unfolding digits_from
+letters_of_either_case = refl
+
+pub up_to_the_limit : map (λ limit. digits_from 10 limit 0 (codes "120")) (119 ∷ 120 ∷ []) ≡ None ∷ Some 120 ∷ []
+unfolding digits_from
+up_to_the_limit = refl
+
+pub no_letter_in_base_ten : digits_from 10 99 0 (codes "1a") ≡ None
+unfolding digits_from
+no_letter_in_base_ten = refl

@@ -86,9 +86,7 @@ pub fn entry_behind<L: Lookaside>(
     let Ok(mut core) = new_core::<L>(0, KERNEL, 0) else {
         return Ok(None);
     };
-    core.cp0.write(register::INDEX, *index);
-    core.cp0.write(register::ENTRY_HI, *high);
-    core.cp0.write(register::ENTRY_LO, *low);
+    put_entry(&mut core, *index, *high, *low);
     for _ in words {
         core.step(bus);
     }
@@ -97,4 +95,11 @@ pub fn entry_behind<L: Lookaside>(
     let low = core.cp0.read(register::ENTRY_LO);
     let ninth = core.registers[9];
     Ok(Some(format!(in alloc; "{index:08x} {high:08x} {low:08x} {ninth:08x}")?))
+}
+
+/// Puts words into Index, EntryHi and EntryLo.
+fn put_entry<L: Lookaside>(core: &mut Core<L>, index: u32, high: u32, low: u32) {
+    core.cp0.write(register::INDEX, index);
+    core.cp0.write(register::ENTRY_HI, high);
+    core.cp0.write(register::ENTRY_LO, low);
 }

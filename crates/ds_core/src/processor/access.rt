@@ -1,10 +1,11 @@
 //! Fetches, loads and stores: an address through the translation buffer, and then the bus.
 ghost use Rattle.std.specs.Prelude.{◌≡◌, ◌≤◌};
+ghost use Rattle.ds_isa.specs.Access.{is_store};
 ghost use Rattle.ds_dev.specs.Bus.{load, store};
-ghost use Rattle.ds_amap.specs.Map.{is_store, translate};
+ghost use Rattle.ds_amap.specs.Map.{translate};
 ghost use Rattle.ds_cp0.specs.System.{asid_of};
-ghost use Rattle.ds_core.specs.Core.{state_of, raised_core};
-ghost use Rattle.ds_core.specs.Access.{is_aligned, mode_of, reached, decoded, code_of, refusal, aligned_load, kept, aligned_store, store_answered};
+ghost use Rattle.ds_core.specs.Core.{state_of, core_at_vector};
+ghost use Rattle.ds_core.specs.Access.{mode_of, reached, decoded, code_of, refusal, aligned_load, kept, aligned_store, store_answered};
 
 use super::Core;
 use crate::event::Event;
@@ -14,18 +15,6 @@ use ds_dev::{Bus, BusError};
 use ds_isa::{Instr, Size, decode};
 use ds_mem::SIZE;
 use ds_tlb::Lookaside;
-
-/// Whether an address suits the size of an access.
-#[inline(always)]
-fn is_aligned(size: Size, address: u32) -> bool
-    ensures { result ≡ is_aligned size address }
-{
-    match size {
-        Size::Byte | Size::Part => true,
-        Size::Half => address % 2 == 0,
-        Size::Word => address % 4 == 0,
-    }
-}
 
 /// The mode of the processor.
 #[inline(always)]
@@ -153,7 +142,7 @@ impl<L: Lookaside> Core<L> {
         ensures entries { L.entries self.new.tlb ≡ L.entries self.old.tlb }
         ensures random { L.random_place self.new.tlb ≡ L.random_place self.old.tlb }
     {
-        if !is_aligned(size, address) {
+        if !size.is_aligned(address) {
             return Err(Fault::Address);
         }
         match recalled(address, access, &self.tlb, self.cp0.asid()) {
@@ -181,11 +170,10 @@ impl<L: Lookaside> Core<L> {
     #[inline(never)]
     pub(super) fn refuse(&mut self, access: Access, address: u32, fault: Fault) -> Event
         ensures event { result ≡ Event.Raised (code_of fault (is_store access)) }
-        ensures core { state_of L.entries L.random_place self.new ≡ raised_core (state_of L.entries L.random_place self.old) (refusal (state_of L.entries L.random_place self.old) access address fault) }
+        ensures core { state_of L.entries L.random_place self.new ≡ core_at_vector (state_of L.entries L.random_place self.old) (refusal (state_of L.entries L.random_place self.old) access address fault) }
     {
-        let store = matches!(access, Access::Store);
         self.raise(Exception {
-            code: code_of(fault, store),
+            code: code_of(fault, access.is_store()),
             pc: self.pc,
             slot: self.slot,
             unit: 0,

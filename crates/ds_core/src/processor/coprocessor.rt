@@ -1,7 +1,8 @@
 //! The instructions of the system coprocessor, the translation buffer's among them.
-ghost use Rattle.std.specs.Prelude.{◌≡◌, ◌<◌, if◌then◌else◌};
-ghost use Rattle.ds_core.specs.Core.{state_of, raised_core};
-ghost use Rattle.ds_core.specs.Coprocessor.{is_usable, unusable, unusable_exception, requests, system_reads, entry_hi, entry_lo, entry_of, indexed, usable, unit_of, privileged};
+ghost use Rattle.std.specs.Prelude.{◌≡◌, ◌<◌};
+ghost use Rattle.ds_tlb.specs.Words.{entry_of};
+ghost use Rattle.ds_core.specs.Core.{state_of, core_at_vector};
+ghost use Rattle.ds_core.specs.Coprocessor.{is_usable, unusable, unusable_exception, requests, system_reads, indexed, usable, unit_of, privileged};
 
 use super::Core;
 use crate::event::Event;
@@ -9,55 +10,23 @@ use ds_cp0::{Cp0, Exception, ExceptionCode, register};
 use ds_dev::Bus;
 use ds_isa::Instr;
 use ds_tlb::{Entry, Lookaside};
-
-/// A bit of a word.
-fn bit(value: u32, set: bool) -> u32
-    ensures { result ≡ (if set then value else 0) }
-{
-    if set { value } else { 0 }
-}
+use ds_word::bit;
 
 /// The requests of the devices, as Cause shows them: bit 10 and bit 11.
 fn requests(bus: &Bus) -> u32
     ensures { result ≡ requests bus.now }
 {
     let (system, clock) = bus.lines();
-    bit(0x400, system) + bit(0x800, clock)
+    bit(10, system) + bit(11, clock)
 }
 
-/// The EntryHi of an entry: VPN 31 to 12, ASID 11 to 6.
-fn entry_hi(entry: Entry) -> u32
-    ensures { result ≡ entry_hi entry }
-{
-    entry.vpn % 0x10_0000 * 0x1000 + u32::from(entry.asid % 64) * 64
-}
-
-/// The EntryLo of an entry: PFN 31 to 12, N 11, D 10, V 9, G 8.
-fn entry_lo(entry: Entry) -> u32
-    ensures { result ≡ entry_lo entry }
-{
-    entry.pfn % 0x10_0000 * 0x1000
-        + bit(0x800, entry.n)
-        + bit(0x400, entry.d)
-        + bit(0x200, entry.v)
-        + bit(0x100, entry.g)
-}
-
-/// The entry of the two words.
+/// The entry that EntryHi and EntryLo have.
 fn entry_of(cp0: &Cp0) -> Entry
     ensures { result ≡ entry_of cp0.now.entry_hi cp0.now.entry_lo }
 {
     let hi = cp0.read(register::ENTRY_HI);
     let lo = cp0.read(register::ENTRY_LO);
-    Entry {
-        vpn: (hi >> 12) & 0xf_ffff,
-        asid: ((hi >> 6) & 0x3f) as u8,
-        pfn: (lo >> 12) & 0xf_ffff,
-        n: (lo >> 11) & 1 == 1,
-        d: (lo >> 10) & 1 == 1,
-        v: (lo >> 9) & 1 == 1,
-        g: (lo >> 8) & 1 == 1,
-    }
+    Entry::of_words(hi, lo)
 }
 
 /// The slot that Index names.
@@ -91,7 +60,7 @@ impl<L: Lookaside> Core<L> {
     /// Enters the exception of a coprocessor that can't be used.
     fn unusable(&mut self, unit: u8) -> Event
         ensures event { result ≡ Event.Raised ExceptionCode.CoprocessorUnusable }
-        ensures core { state_of L.entries L.random_place self.new ≡ raised_core (state_of L.entries L.random_place self.old) (unusable_exception (state_of L.entries L.random_place self.old) unit) }
+        ensures core { state_of L.entries L.random_place self.new ≡ core_at_vector (state_of L.entries L.random_place self.old) (unusable_exception (state_of L.entries L.random_place self.old) unit) }
     {
         self.raise(Exception {
             code: ExceptionCode::CoprocessorUnusable,
@@ -132,8 +101,8 @@ impl<L: Lookaside> Core<L> {
             }
             Instr::Tlbr => {
                 let entry = self.tlb.read(indexed(&self.cp0));
-                self.cp0.write(register::ENTRY_HI, entry_hi(entry));
-                self.cp0.write(register::ENTRY_LO, entry_lo(entry));
+                self.cp0.write(register::ENTRY_HI, entry.hi_word());
+                self.cp0.write(register::ENTRY_LO, entry.lo_word());
                 self.retire_settled()
             }
             Instr::Tlbwi => {

@@ -1,7 +1,7 @@
 //! Runs, a step at a time.
 ghost use Rattle.std.specs.Prelude.{◌≡◌, ◌+◌, ◌≤◌, ℕ, [], Bool, true};
 ghost use Rattle.ds_pagemap.specs.Machine.{State, touched};
-ghost use Rattle.ds_pagemap.specs.Run.{after, goes_on, half, Reaches};
+ghost use Rattle.ds_pagemap.specs.Run.{after, goes_on, half_turn, Reaches};
 ghost use Rattle.ds_pagemap.specs.Laws.{Extends};
 
 /// A run that has made no choice has gone nowhere.
@@ -13,7 +13,7 @@ pub fn a_run_begins_where_it_begins()
 /// A run that goes on takes half a turn, with a touch before it or none.
 #[tactic(auto, using(crate::proofs::Runs::reaches_half))]
 pub fn a_run_goes_on_by_half_turns()
-    ensures { (n : ℕ) (m t : State) (touch : Bool) → Reaches n m t → goes_on n t ≡ true → Reaches n m (half touch t) }
+    ensures { (n : ℕ) (m t : State) (touch : Bool) → Reaches n m t → goes_on n t ≡ true → Reaches n m (half_turn touch t) }
 {}
 
 /// The process that runs next may be touched already.

@@ -1,12 +1,13 @@
 //! What a unit does to the log, the time and the pages.
 ghost use Rattle.std.specs.Prelude.{◌≡◌, ◌-◌, ◌+◌, ◌%◌, ◌<◌, ◌≤◌, ℕ, length, ◌∷◌, List};
-ghost use Rattle.ds_policy.specs.declared.access.Kind.{Kind};
-ghost use Rattle.ds_policy.specs.declared.access.Kind.TheVariants as kind;
+ghost use Rattle.ds_isa.specs.declared.instr.Kind.{Kind};
+ghost use Rattle.ds_isa.specs.declared.instr.Kind.TheVariants as kind;
 ghost use Rattle.ds_policy.specs.declared.access.Rule.{Rule};
 ghost use Rattle.ds_policy.specs.declared.access.Verdict.TheVariants.{Allowed, Denied};
 ghost use Rattle.ds_isa.specs.declared.instr.Size.{Size};
 ghost use Rattle.ds_word.specs.Word.{word};
-ghost use Rattle.ds_policy.specs.Pages.{decide, bytes_of, word_at};
+ghost use Rattle.ds_word.specs.Bytes.{word_at};
+ghost use Rattle.ds_policy.specs.Pages.{decide, bytes_of};
 ghost use Rattle.ds_pagemap.specs.Machine.{State, process_of};
 ghost use Rattle.ds_pagemap.specs.Unit.{Outcome, Branched, Stopped, Stop, access, denied_as, instruction, stored, unit};
 ghost use Rattle.ds_pagemap.specs.Laws.{GrowsByALineAtMost, IsOneOrTwoLater, StoresOnly};

@@ -1,9 +1,11 @@
 //! The event that a line of an input is.
 ghost use Rattle.std.specs.Prelude.{◌≡◌, ◌<◌, ◌≤◌, ◌==◌, ◌^◌, length, map, position, bytes_eq, IfSome, IfOk};
 ghost use Rattle.std.specs.List.{slice_split};
-ghost use Rattle.ds_policy.specs.InputLines.{words_of, page_named, process_of, line_of, right_of, give_of, of_process, of_entry, command_of, keys_of, event_of, timed_event_of};
+ghost use Rattle.ds_policy.specs.PolicyParts.{page_named};
+ghost use Rattle.ds_policy.specs.InputLines.{words_of, process_of, line_of, right_of, give_of, of_process, of_entry, command_of, keys_of, event_of, timed_event_of};
 
 use crate::command::Command;
+use crate::events::MOST_TICKS;
 use crate::events::digits::{address_of, bytes_of, decimal_of};
 use crate::events::event::{Event, TimedEvent};
 use crate::grant::Right;
@@ -11,7 +13,7 @@ use crate::policy::PolicyPage;
 use std::alloc::{AllocError, Global};
 
 /// The latest time at which an event can be due, in ticks.
-const LATEST: u32 = 1_000_000_000;
+const LATEST: u32 = MOST_TICKS as u32;
 
 /// The words of a line, with one space between.
 pub(crate) fn words_of<'a>(alloc: Global, line: &'a [u8]) -> Result<Vec<&'a [u8]>, AllocError>

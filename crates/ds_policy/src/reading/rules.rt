@@ -4,7 +4,7 @@ ghost use Rattle.std.specs.List.{list_any};
 ghost use Rattle.toml.specs.View.{view, table_view, items_view};
 ghost use Rattle.ds_policy.specs.Refusal.{Gives};
 ghost use Rattle.ds_policy.specs.Grants.{region, count_distinct};
-ghost use Rattle.ds_policy.specs.PolicyParts.{right_named, page_number, flag_of, grant_of, rule_of, has_same_place, new_rule, regions_of};
+ghost use Rattle.ds_policy.specs.PolicyParts.{right_named, page_named, flag_of, grant_of, rule_of, has_same_place, new_rule, regions_of};
 ghost use Rattle.ds_policy.specs.PolicyText.{rules_from, rules_of};
 
 use crate::fault::PolicyFault;
@@ -138,15 +138,15 @@ fn grant_of(pages: &[PolicyPage], right: Right, table: &Table) -> Option<(Option
                 return None;
             }
             let name = text_at(table, "page")?;
-            let page = page_number(pages, name)?;
+            let page = page_named(pages, name)?;
             let give = flag_of(value_at(table, "give"))?;
             Some((Some(page as u32), give))
         }
     }
 }
 
-fn page_number(pages: &[PolicyPage], name: &str) -> Option<usize>
-    ensures { result ≡ page_number pages.now name.now }
+fn page_named(pages: &[PolicyPage], name: &str) -> Option<usize>
+    ensures { result ≡ page_named pages.now name.now }
 {
     pages.iter().position(|page| page.name.as_str() == name)
 }

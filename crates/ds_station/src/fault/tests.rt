@@ -34,23 +34,23 @@ fn a_fault_of_a_source_is_told_with_its_name_and_line(rt: HostRuntime) -> Result
     let name = Text::of("one.s");
     for (fault, text) in [
         (
-            Fault::in_source(&name, AsmFault::Syntax(2)),
+            Fault::in_source(&name, AsmFault::Source(SourceFault::Syntax(2))),
             "3 Syntax one.s 2",
         ),
         (
-            Fault::in_source(&name, AsmFault::UnknownLabel(1)),
+            Fault::in_source(&name, AsmFault::Source(SourceFault::UnknownLabel(1))),
             "4 UnknownLabel one.s 1",
         ),
         (
-            Fault::in_source(&name, AsmFault::DoubleLabel(7)),
+            Fault::in_source(&name, AsmFault::Source(SourceFault::DoubleLabel(7))),
             "5 DoubleLabel one.s 7",
         ),
         (
-            Fault::in_source(&name, AsmFault::Range(4_294_967_296)),
+            Fault::in_source(&name, AsmFault::Source(SourceFault::Range(4_294_967_296))),
             "6 Range one.s 4294967296",
         ),
         (
-            Fault::in_source(&name, AsmFault::TooLong(16385)),
+            Fault::in_source(&name, AsmFault::Source(SourceFault::TooLong(16385))),
             "7 TooLong one.s 16385",
         ),
         (Fault::in_source(&name, AsmFault::Memory), "25 Memory"),

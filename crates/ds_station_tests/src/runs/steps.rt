@@ -3,11 +3,8 @@
 use super::*;
 use ds_asm::assemble;
 use ds_policy::{Events, Policy};
-use ds_station::{Station, Step};
+use ds_station::{MOST_TICKS, Station, Step};
 use ds_tlb::Tlb;
-
-/// The most ticks of a run.
-const MOST_TICKS: u64 = 1_000_000_000;
 
 /// A station at the beginning of a run of a source.
 fn station_of(alloc: Global, source: &str) -> Result<Station<Tlb<64, 8>>, Fail> {

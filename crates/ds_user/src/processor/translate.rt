@@ -1,10 +1,10 @@
 //! Addresses through the translation buffer.
 ghost use Rattle.std.specs.Prelude.{◌≡◌, ◌<◌, ◌^◌, IfSome, IsNone, IsTrue};
-ghost use Rattle.ds_policy.specs.Pages.{is_aligned};
+ghost use Rattle.ds_isa.specs.Access.{is_aligned};
 ghost use Rattle.ds_user.specs.Processor.{cpu_of, translate, raised_cpu};
 ghost use Rattle.ds_user.specs.Windows.{AreRight};
 
-use super::window::{Window, Windows, is_aligned};
+use super::window::{Window, Windows};
 use super::{ASID, Cause, Core};
 use ds_isa::Size;
 use ds_policy::{Access, Kind};
@@ -16,7 +16,7 @@ fn translate<L: Lookaside>(tlb: &L, kind: Kind, size: Size, address: u32) -> Opt
     ensures place { result ≡ translate (L.entries tlb.now) kind size address }
     ensures aligned { IfSome result (λ _. IsTrue (is_aligned size address)) }
 {
-    if !is_aligned(size, u64::from(address)) || address >= 0x8000_0000 {
+    if !size.is_aligned(address) || address >= 0x8000_0000 {
         return None;
     }
     let slot = tlb.find(address / 4096, ASID)?;

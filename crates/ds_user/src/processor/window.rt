@@ -1,25 +1,13 @@
 //! The pages that were fetched from, loaded from and stored to last.
 ghost use Rattle.std.specs.Prelude.{◌≡◌, List, IfSome, Some, IsTrue};
 ghost use Rattle.ds_isa.specs.declared.instr.Size.{Size};
-ghost use Rattle.ds_policy.specs.Pages.{is_aligned};
+ghost use Rattle.ds_isa.specs.Access.{is_aligned};
 ghost use Rattle.ds_tlb.specs.declared.entry.Entry.{Entry};
 ghost use Rattle.ds_user.specs.Processor.{translate};
 ghost use Rattle.ds_user.specs.Windows.{IsRight, AreRight};
 
 use ds_isa::Size;
 use ds_policy::Kind;
-
-/// Whether an address, or a distance from the start of a page, suits the size of an access.
-#[inline(always)]
-pub fn is_aligned(size: Size, address: u64) -> bool
-    ensures { result ≡ is_aligned size address }
-{
-    match size {
-        Size::Byte | Size::Part => true,
-        Size::Half => address % 2 == 0,
-        Size::Word => address % 4 == 0,
-    }
-}
 
 /// A page that the buffer lets go: its first address, and its place in memory. No address is 2^32 or
 /// more, so a window that starts there has none.
@@ -57,7 +45,7 @@ impl Window {
         ensures place { (entries : List Entry) (kind : Kind) → IsRight entries kind self.now → IfSome result (λ place. translate entries kind size address ≡ Some place) }
     {
         let offset = u64::from(address).wrapping_sub(self.start);
-        if offset < 4096 && is_aligned(size, offset) {
+        if offset < 4096 && size.is_aligned(offset as u32) {
             self.base.checked_add(offset as usize)
         } else {
             None

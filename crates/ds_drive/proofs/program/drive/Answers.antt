@@ -1,6 +1,15 @@
 use Rattle.std.proofs.Common.{rules}
+use Rattle.ds_drive.proofs.Cuts.{demo_cut, run_cut}
 use Rattle.ds_drive.proofs.WordLemmas.{alone, fails_for_memory}
 use Rattle.ds_drive.proofs.program.drive.Goals as goal
+
+pub returns-in-Err-run_demo-clause-cut : goal.returns-in-Err-run_demo-clause-cut
+returns-in-Err-run_demo-clause-cut g c three =
+    demo_cut _ (g.F.Files.holds c.args.files.now) c.in-Err-run_demo.fault (g.W.Write.contents c.args.out.now) (g.W.Write.contents c.run_demo.new.out) (search rules) c.in-Err-run_demo.ensures.err
+
+pub returns-in-Err-run_request-clause-cut : goal.returns-in-Err-run_request-clause-cut
+returns-in-Err-run_request-clause-cut g c three =
+    run_cut _ (g.F.Files.holds c.args.files.now) _ c.in-Err-run_request.failure (g.W.Write.contents c.args.out.now) (g.W.Write.contents c.run_request.new.out) (search rules) c.in-Err-run_request.ensures.err
 
 pub returns-in-Err-2-clause-alone : goal.returns-in-Err-2-clause-alone
 returns-in-Err-2-clause-alone g c program same =

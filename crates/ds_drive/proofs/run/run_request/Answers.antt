@@ -1,11 +1,11 @@
 use Rattle.std.proofs.Common.{◌∙◌, map, ap, inr, rules}
-use Rattle.ds_station.specs.Headline.{sources_seen}
+use Rattle.ds_station.specs.Headline.{sources_seen, Begins, Writes, EndsBy}
 use Rattle.ds_drive.specs.declared.run.SourceText.{SourceText}
-use Rattle.ds_drive.proofs.HeldFiles.{are_held, ends_same}
+use Rattle.ds_drive.proofs.HeldFiles.{are_held, of_texts}
 use Rattle.ds_drive.proofs.run.run_request.Goals as goal
 
-pub returns-in-Ok-run_files-clause-ok : goal.returns-in-Ok-run_files-clause-ok
-returns-in-Ok-run_files-clause-ok g c = record {
+pub returns-in-Ok-run_policy-clause-ok : goal.returns-in-Ok-run_policy-clause-ok
+returns-in-Ok-run_policy-clause-ok g c = record {
   policy = c.in_ok-policy_text.policy_text.items;
   sources = sources_seen c.in_ok-sources.sources.items;
   input = c.in_ok-input.input.items;
@@ -17,7 +17,9 @@ returns-in-Ok-run_files-clause-ok g c = record {
       (c.in_ok-texts.ensures.names ∙ c.sources.ensures.all)
       (search rules)
       (c.in_ok-sources.ensures ∙ ap (map (λ (s : SourceText). (s.name, s.text.items))) c.as_slice-2.ensures.value);
-  written = search rules;
+  so = of_texts (λ read. Begins read (Writes (g.W.Write.contents c.args.out.now) (g.W.Write.contents c.run_policy.new.out) c.args.request.now.most_time))
+      c.in-Ok.policy c.in_ok-policy_text.policy_text.items _ _ _ _ c.args.request.now.most_time c.args.request.now.random
+      (search rules) (ap sources_seen c.as_slice-3.ensures.value) c.as_slice-4.ensures.value c.in-Ok-run_policy.ensures.ok;
 }
 
 pub returns-clause-err : goal.returns-clause-err
@@ -33,5 +35,7 @@ returns-clause-err g c = inr (record {
       (c.in_ok-texts.ensures.names ∙ c.sources.ensures.all)
       (search rules)
       (c.in_ok-sources.ensures ∙ ap (map (λ (s : SourceText). (s.name, s.text.items))) c.as_slice-2.ensures.value);
-  ends = ends_same c.in-Err-run_files.fault _ _ _ _ _ _ c.args.request.now.most_time c.args.request.now.random _ _ c.as_slice-3.ensures.value (ap sources_seen c.as_slice-4.ensures.value) c.as_slice-5.ensures.value c.in-Err-run_files.ensures.err;
+  so = of_texts (λ read. EndsBy c.in-Err-run_policy.fault read (g.W.Write.contents c.args.out.now) (g.W.Write.contents c.run_policy.new.out) c.args.request.now.most_time)
+      c.in-Ok.policy c.in_ok-policy_text.policy_text.items _ _ _ _ c.args.request.now.most_time c.args.request.now.random
+      (search rules) (ap sources_seen c.as_slice-3.ensures.value) c.as_slice-4.ensures.value c.in-Err-run_policy.ensures.err;
 })

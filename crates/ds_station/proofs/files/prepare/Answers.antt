@@ -4,54 +4,47 @@ use Rattle.ds_station.specs.Faults.{of_events}
 use Rattle.ds_station.specs.declared.fault.Fault.TheVariants.{BadRandom}
 use Rattle.ds_station.specs.Stands.{Stands}
 use Rattle.ds_pagemap.specs.First.{first_state}
-use Rattle.ds_pagemap.specs.Inputs.{inputs, images_from}
+use Rattle.ds_pagemap.specs.Inputs.{inputs_under, images_from}
 use Rattle.ds_station.specs.Headline.{sources_seen, Refuses}
-use Rattle.ds_station.proofs.Preparing.{refused_by_policy, under_policy, refused_by_image, under_images, refused_by_input, under_input, refused_by_ticks, under_ticks, with_ticks, prepared, unprepared_by, ok_is_no_err}
+use Rattle.ds_station.proofs.Preparing.{refused_by_image, under_images, refused_by_input, under_input, refused_by_ticks, under_ticks, with_ticks, prepared, unprepared_by, ok_is_no_err}
 use Rattle.ds_station.proofs.files.prepare.Goals as goal
 
 pub returns-in-Err-clause-err : goal.returns-in-Err-clause-err
-returns-in-Err-clause-err c = rw c.from.ensures (refused_by_policy c.in-Err.fault c.args.policy.now (sources_seen c.args.sources.now) c.args.input.now c.args.n c.args.random c.in-Err.ensures)
-
-pub returns-in-Err-images_of-clause-err : goal.returns-in-Err-images_of-clause-err
-returns-in-Err-images_of-clause-err c =
+returns-in-Err-clause-err c =
     let s = sources_seen c.args.sources.now in
-    subst (Refuses c.in-Err-images_of.refused) (sym (under_policy c.in-Ok.policy c.args.policy.now s c.args.input.now c.args.n c.args.random c.in-Ok.ensures))
-    (refused_by_image c.in-Err-images_of.refused c.in-Ok.policy s c.args.input.now c.args.n c.args.random (subst (λ (names : List (List ℕ)). Refuses c.in-Err-images_of.refused (images_from s [] names)) c.sources.ensures.all c.in-Err-images_of.ensures.images))
+    refused_by_image c.in-Err.refused c.args.policy.now s c.args.input.now c.args.n c.args.random (subst (λ (names : List (List ℕ)). Refuses c.in-Err.refused (images_from s [] names)) c.sources.ensures.all c.in-Err.ensures.images)
 
 pub returns-in-Err-read-clause-err : goal.returns-in-Err-read-clause-err
 returns-in-Err-read-clause-err c =
     let s = sources_seen c.args.sources.now in
-    let images : images_from s [] (sources_of c.in-Ok.policy.pages) ≡ Ok c.in-Ok-images_of.images.items = subst (λ (names : List (List ℕ)). images_from s [] names ≡ Ok c.in-Ok-images_of.images.items) c.sources.ensures.all c.in-Ok-images_of.ensures.images in
-    let is = under_policy c.in-Ok.policy c.args.policy.now s c.args.input.now c.args.n c.args.random c.in-Ok.ensures ∙ under_images c.in-Ok.policy c.in-Ok-images_of.images.items s c.args.input.now c.args.n c.args.random images in
-    rw c.from-in-Err-read.ensures (subst (Refuses (of_events c.in-Err-read.wrong)) (sym is) (refused_by_input c.in-Err-read.wrong c.in-Ok.policy c.in-Ok-images_of.images.items c.args.input.now c.args.n c.args.random c.in-Err-read.ensures))
+    let images : images_from s [] (sources_of c.args.policy.now.pages) ≡ Ok c.in-Ok.images.items = subst (λ (names : List (List ℕ)). images_from s [] names ≡ Ok c.in-Ok.images.items) c.sources.ensures.all c.in-Ok.ensures.images in
+    let is = under_images c.args.policy.now c.in-Ok.images.items s c.args.input.now c.args.n c.args.random images in
+    rw c.from.ensures (subst (Refuses (of_events c.in-Err-read.wrong)) (sym is) (refused_by_input c.in-Err-read.wrong c.args.policy.now c.in-Ok.images.items c.args.input.now c.args.n c.args.random c.in-Err-read.ensures))
 
 pub returns-then-n-gt-MOST_TICKS-clause-err : goal.returns-then-n-gt-MOST_TICKS-clause-err
 returns-then-n-gt-MOST_TICKS-clause-err c =
     let s = sources_seen c.args.sources.now in
-    let images : images_from s [] (sources_of c.in-Ok.policy.pages) ≡ Ok c.in-Ok-images_of.images.items = subst (λ (names : List (List ℕ)). images_from s [] names ≡ Ok c.in-Ok-images_of.images.items) c.sources.ensures.all c.in-Ok-images_of.ensures.images in
-    under_policy c.in-Ok.policy c.args.policy.now s c.args.input.now c.args.n c.args.random c.in-Ok.ensures
-    ∙ (under_images c.in-Ok.policy c.in-Ok-images_of.images.items s c.args.input.now c.args.n c.args.random images
-    ∙ (under_input c.in-Ok.policy c.in-Ok-images_of.images.items c.in-Ok-read.events c.args.input.now c.args.n c.args.random c.in-Ok-read.ensures
-    ∙ refused_by_ticks c.in-Ok.policy c.in-Ok-images_of.images.items c.in-Ok-read.events c.args.n c.args.random c.if-n-gt-MOST_TICKS.true))
+    let images : images_from s [] (sources_of c.args.policy.now.pages) ≡ Ok c.in-Ok.images.items = subst (λ (names : List (List ℕ)). images_from s [] names ≡ Ok c.in-Ok.images.items) c.sources.ensures.all c.in-Ok.ensures.images in
+    under_images c.args.policy.now c.in-Ok.images.items s c.args.input.now c.args.n c.args.random images
+    ∙ (under_input c.args.policy.now c.in-Ok.images.items c.in-Ok-read.events c.args.input.now c.args.n c.args.random c.in-Ok-read.ensures
+    ∙ refused_by_ticks c.args.policy.now c.in-Ok.images.items c.in-Ok-read.events c.args.n c.args.random c.if-n-gt-MOST_TICKS.true)
 
 pub returns-in-Ok-new-clause-ok : goal.returns-in-Ok-new-clause-ok
 returns-in-Ok-new-clause-ok c =
     let s = sources_seen c.args.sources.now in
-    let images : images_from s [] (sources_of c.in-Ok.policy.pages) ≡ Ok c.in-Ok-images_of.images.items = subst (λ (names : List (List ℕ)). images_from s [] names ≡ Ok c.in-Ok-images_of.images.items) c.sources.ensures.all c.in-Ok-images_of.ensures.images in
-    let is : inputs c.args.policy.now s c.args.input.now c.args.n c.args.random ≡ with_ticks c.in-Ok.policy c.in-Ok-images_of.images.items c.in-Ok-read.events c.args.random =
-    under_policy c.in-Ok.policy c.args.policy.now s c.args.input.now c.args.n c.args.random c.in-Ok.ensures
-    ∙ (under_images c.in-Ok.policy c.in-Ok-images_of.images.items s c.args.input.now c.args.n c.args.random images
-    ∙ (under_input c.in-Ok.policy c.in-Ok-images_of.images.items c.in-Ok-read.events c.args.input.now c.args.n c.args.random c.in-Ok-read.ensures
-    ∙ under_ticks c.in-Ok.policy c.in-Ok-images_of.images.items c.in-Ok-read.events c.args.n c.args.random c.if-n-gt-MOST_TICKS.false)) in
-    prepared c.in-Ok-new.station _ c.in-Ok.policy c.in-Ok-images_of.images.items c.in-Ok-read.events c.args.random is (subst (λ (xs : List (List ℕ)). Stands c.in-Ok-new.station (first_state c.in-Ok.policy xs c.in-Ok-read.events)) c.deref.ensures.value c.in-Ok-new.ensures.first) (λ b. ok_is_no_err c.in-Ok-new.station BadRandom (c.in-Ok-new.ensures.refused b))
+    let images : images_from s [] (sources_of c.args.policy.now.pages) ≡ Ok c.in-Ok.images.items = subst (λ (names : List (List ℕ)). images_from s [] names ≡ Ok c.in-Ok.images.items) c.sources.ensures.all c.in-Ok.ensures.images in
+    let is : inputs_under c.args.policy.now s c.args.input.now c.args.n c.args.random ≡ with_ticks c.args.policy.now c.in-Ok.images.items c.in-Ok-read.events c.args.random =
+    under_images c.args.policy.now c.in-Ok.images.items s c.args.input.now c.args.n c.args.random images
+    ∙ (under_input c.args.policy.now c.in-Ok.images.items c.in-Ok-read.events c.args.input.now c.args.n c.args.random c.in-Ok-read.ensures
+    ∙ under_ticks c.args.policy.now c.in-Ok.images.items c.in-Ok-read.events c.args.n c.args.random c.if-n-gt-MOST_TICKS.false) in
+    prepared c.in-Ok-new.station _ c.args.policy.now c.in-Ok.images.items c.in-Ok-read.events c.args.random is (subst (λ (xs : List (List ℕ)). Stands c.in-Ok-new.station (first_state c.args.policy.now xs c.in-Ok-read.events)) c.deref.ensures.value c.in-Ok-new.ensures.first) (λ b. ok_is_no_err c.in-Ok-new.station BadRandom (c.in-Ok-new.ensures.refused b))
 
 pub returns-clause-err : goal.returns-clause-err
 returns-clause-err c =
     let s = sources_seen c.args.sources.now in
-    let images : images_from s [] (sources_of c.in-Ok.policy.pages) ≡ Ok c.in-Ok-images_of.images.items = subst (λ (names : List (List ℕ)). images_from s [] names ≡ Ok c.in-Ok-images_of.images.items) c.sources.ensures.all c.in-Ok-images_of.ensures.images in
-    let is : inputs c.args.policy.now s c.args.input.now c.args.n c.args.random ≡ with_ticks c.in-Ok.policy c.in-Ok-images_of.images.items c.in-Ok-read.events c.args.random =
-    under_policy c.in-Ok.policy c.args.policy.now s c.args.input.now c.args.n c.args.random c.in-Ok.ensures
-    ∙ (under_images c.in-Ok.policy c.in-Ok-images_of.images.items s c.args.input.now c.args.n c.args.random images
-    ∙ (under_input c.in-Ok.policy c.in-Ok-images_of.images.items c.in-Ok-read.events c.args.input.now c.args.n c.args.random c.in-Ok-read.ensures
-    ∙ under_ticks c.in-Ok.policy c.in-Ok-images_of.images.items c.in-Ok-read.events c.args.n c.args.random c.if-n-gt-MOST_TICKS.false)) in
-    unprepared_by c.in-Err-new.refused _ c.in-Ok.policy c.in-Ok-images_of.images.items c.in-Ok-read.events c.args.random is c.in-Err-new.ensures.faults
+    let images : images_from s [] (sources_of c.args.policy.now.pages) ≡ Ok c.in-Ok.images.items = subst (λ (names : List (List ℕ)). images_from s [] names ≡ Ok c.in-Ok.images.items) c.sources.ensures.all c.in-Ok.ensures.images in
+    let is : inputs_under c.args.policy.now s c.args.input.now c.args.n c.args.random ≡ with_ticks c.args.policy.now c.in-Ok.images.items c.in-Ok-read.events c.args.random =
+    under_images c.args.policy.now c.in-Ok.images.items s c.args.input.now c.args.n c.args.random images
+    ∙ (under_input c.args.policy.now c.in-Ok.images.items c.in-Ok-read.events c.args.input.now c.args.n c.args.random c.in-Ok-read.ensures
+    ∙ under_ticks c.args.policy.now c.in-Ok.images.items c.in-Ok-read.events c.args.n c.args.random c.if-n-gt-MOST_TICKS.false) in
+    unprepared_by c.in-Err-new.refused _ c.args.policy.now c.in-Ok.images.items c.in-Ok-read.events c.args.random is c.in-Err-new.ensures.faults

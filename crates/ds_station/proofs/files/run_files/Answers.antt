@@ -1,28 +1,27 @@
-use Rattle.std.proofs.Common.{◌≡◌, subst, sym, ◌∙◌, Ok, Err}
-use Rattle.std.proofs.lemmas.Result.{on_ok_weaker}
-use Rattle.ds_station.specs.Headline.{Refuses}
-use Rattle.ds_station.proofs.Headlines.{writes_whole, ran_short, part_written, refused_only, keeps_same}
+use Rattle.std.proofs.Common.{Err}
+use Rattle.ds_pagemap.specs.Inputs.{inputs}
+use Rattle.ds_station.specs.Faults.{of_policy}
+use Rattle.ds_station.specs.Headline.{sources_seen}
+use Rattle.ds_station.proofs.Headlines.{refused_unwritten, refused_only, keeps_same}
+use Rattle.ds_station.proofs.Preparing.{refused_by_policy, under_policy}
 use Rattle.ds_station.proofs.files.run_files.Goals as goal
 
-pub returns-in-Ok-deliver-clause-ok : goal.returns-in-Ok-deliver-clause-ok
-returns-in-Ok-deliver-clause-ok g c =
-    let b = c.in-Ok.ensures.ok in
-    on_ok_weaker c.run-ran.result (λ r. (b.0, b.1, writes_whole _ _ c.args.n b.0 c.in-Ok.station c.run-ran.new.self b.2 r c.in-Ok-deliver.ensures.ok)) c.run-ran.ensures.ok
+pub returns-in-Err-clause-err : goal.returns-in-Err-clause-err
+returns-in-Err-clause-err g c = rw c.from.ensures (refused_unwritten (of_policy c.in-Err.fault)
+    (inputs c.args.policy.now (sources_seen c.args.sources.now) c.args.input.now c.args.n c.args.random) (g.W.Write.contents c.args.out.now) (g.W.Write.contents c.args.out.now) c.args.n
+    (refused_by_policy c.in-Err.fault c.args.policy.now (sources_seen c.args.sources.now) c.args.input.now c.args.n c.args.random c.in-Err.ensures)
+    (keeps_same (g.W.Write.contents c.args.out.now)))
 
-pub returns-in-Ok-deliver-clause-err : goal.returns-in-Ok-deliver-clause-err
-returns-in-Ok-deliver-clause-err g c =
-    ran_short c.run-ran.result c.in-Ok.station.own.failed c.args.n c.in-Ok.station c.run-ran.new.self _ _ _ c.in-Ok.ensures.working c.run-ran.ensures.faults c.run-ran.ensures.err c.run-ran.ensures.whole c.in-Ok.ensures.ok c.in-Ok-deliver.ensures.ok
+pub returns-in-Err-clause-refused : goal.returns-in-Err-clause-refused
+returns-in-Err-clause-refused g c = refused_only {T = Unit {0}} (Err c.from.result) _ _ _ c.args.n tt (returns-in-Err-clause-err g c)
+
+pub returns-clause-ok : goal.returns-clause-ok
+returns-clause-ok g c =
+    rw (under_policy c.in-Ok.policy c.args.policy.now (sources_seen c.args.sources.now) c.args.input.now c.args.n c.args.random c.in-Ok.ensures) c.run_policy.ensures.ok
 
 pub returns-clause-err : goal.returns-clause-err
 returns-clause-err g c =
-    let b = c.in-Ok.ensures.ok in
-    (b.0, b.1, part_written _ _ c.args.n b.0 c.in-Ok.station c.run-ran.new.self b.2 c.run-ran.result c.run-ran.ensures.ok c.run-ran.ensures.err c.run-ran.ensures.whole c.in-Err-deliver.ensures.err)
-
-pub returns-in-Err-clause-refused : goal.returns-in-Err-clause-refused
-returns-in-Err-clause-refused g c = λ r e. (subst (Refuses c.in-Err.refused) e c.in-Err.ensures.err, keeps_same (g.W.Write.contents c.args.out.now))
-
-pub returns-in-Ok-deliver-clause-refused : goal.returns-in-Ok-deliver-clause-refused
-returns-in-Ok-deliver-clause-refused g c = refused_only c.run-ran.result _ _ _ c.args.n (returns-in-Ok-deliver-clause-ok g c) (returns-in-Ok-deliver-clause-err g c)
+    rw (under_policy c.in-Ok.policy c.args.policy.now (sources_seen c.args.sources.now) c.args.input.now c.args.n c.args.random c.in-Ok.ensures) c.run_policy.ensures.err
 
 pub returns-clause-refused : goal.returns-clause-refused
-returns-clause-refused g c = λ r e. (let b = returns-clause-err g c in absurd (let no : Ok b.0 ≡ Err r = sym b.1 ∙ e in cc))
+returns-clause-refused g c = refused_only c.run_policy.result _ _ _ c.args.n (returns-clause-ok g c) (returns-clause-err g c)

@@ -1,4 +1,4 @@
-use Rattle.ds_policy.specs.declared.access.Kind.TheVariants.{Fetch, Load, Store}
+use Rattle.ds_isa.specs.declared.instr.Kind.TheVariants.{Fetch, Load, Store}
 use Rattle.ds_user.proofs.processor.window.Windows.none.Goals as goal
 
 pub returns : goal.returns

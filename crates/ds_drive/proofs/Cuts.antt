@@ -1,0 +1,67 @@
+-- What is left on the writer where a run is refused or cut short.
+use Rattle.std.proofs.Common.{◌≡◌, ◌⊎◌, inl, inr, ℕ, List, [], append-nil}
+use Rattle.std.specs.Prelude.{Option, Result}
+use Rattle.std.specs.Io.KnownBytes.{Keeps}
+use Rattle.clap.specs.Words.{Text}
+use Rattle.ds_pagemap.specs.Machine.{State}
+use Rattle.ds_pagemap.specs.Text.{text_of}
+use Rattle.ds_pagemap.specs.Inputs.{Refusal, inputs}
+use Rattle.ds_station.specs.Headline.{Begins, WritesPrefix, WritesPart, EndsBy}
+use Rattle.ds_station.specs.declared.fault.Fault.{Fault}
+use Rattle.ds_station.specs.declared.fault.Fault.TheVariants as fault
+use Rattle.ds_station.proofs.Headlines.{keeps_same}
+use Rattle.ds_drive.specs.declared.failure.Failure.{Failure}
+use Rattle.ds_drive.specs.declared.failure.Failure.TheVariants as failure
+use Rattle.ds_drive.specs.declared.words.Request.{Request}
+use Rattle.ds_drive.specs.Demo.{demo_inputs}
+use Rattle.ds_drive.specs.Done.{IsCutShort}
+use Rattle.ds_drive.specs.Failures.{CutsFiles, StopsBy}
+use Rattle.ds_drive.specs.Words.{AsksForDemo, AsksForRun}
+
+-- a whole text is a front of it
+part_of_prefix : (old new : Option (List ℕ)) (n : ℕ) (first : State) → WritesPrefix old new n first → WritesPart old new n first
+part_of_prefix old new n first w = record {
+  last = w.last;
+  prefix = w.prefix;
+  written = record { part = text_of w.last; rest = []; whole = append-nil (text_of w.last); appends = w.written };
+}
+
+-- whatever the fault, nothing is written, or a front of the text of a run
+cut_by : (f : Fault) (read : Result State Refusal) (old new : Option (List ℕ)) (n : ℕ) → EndsBy f read old new n
+    → Keeps old new ⊎ Begins read (WritesPart old new n)
+cut_by fault.Memory read old new n (inl kept) = inl kept
+cut_by fault.Memory read old new n (inr b) = inr (b.0, b.1, part_of_prefix old new n b.0 b.2)
+cut_by fault.Stuck read old new n b = inr (b.0, b.1, part_of_prefix old new n b.0 b.2)
+cut_by fault.WriteFault read old new n b = inr b
+cut_by fault.Failed read old new n w = absurd w
+cut_by f read old new n w = inl w.1
+
+-- of a run of files
+files_cut_by : (f : Failure) (holds : List ℕ → List ℕ → Type 0) (request : Request) (old new : Option (List ℕ)) → StopsBy f holds request old new
+    → Keeps old new ⊎ CutsFiles holds request old new
+files_cut_by (failure.UnreadableFile name) holds request old new kept = inl kept
+files_cut_by (failure.UnreadableSource name) holds request old new kept = inl kept
+files_cut_by (failure.Fault f) holds request old new (inl kept) = inl kept
+files_cut_by (failure.Fault f) holds request old new (inr stops) =
+    elim (cut_by f (inputs stops.policy stops.sources stops.input request.most_time request.random) old new request.most_time stops.so) [
+      | inl kept ↦ inl kept
+      | inr cut ↦ inr (record { policy = stops.policy; sources = stops.sources; input = stops.input; held = stops.held; so = cut })
+    ]
+
+-- where nothing was begun, nothing is written
+pub nothing_written : (words : List Text) (holds : List ℕ → List ℕ → Type 0) (known : Option (List ℕ)) → IsCutShort words holds known known
+nothing_written words holds known = inl (keeps_same known)
+
+-- the demonstration's fault
+pub demo_cut : (words : List Text) (holds : List ℕ → List ℕ → Type 0) (f : Fault) (old new : Option (List ℕ)) → AsksForDemo words → EndsBy f demo_inputs old new 100 → IsCutShort words holds old new
+demo_cut words holds f old new asks ends = elim (cut_by f demo_inputs old new 100 ends) [
+  | inl kept ↦ inl kept
+  | inr cut ↦ inr (inl (asks, cut))
+]
+
+-- a failure of a run of files
+pub run_cut : (words : List Text) (holds : List ℕ → List ℕ → Type 0) (request : Request) (f : Failure) (old new : Option (List ℕ)) → AsksForRun words request → StopsBy f holds request old new → IsCutShort words holds old new
+run_cut words holds request f old new asks stops = elim (files_cut_by f holds request old new stops) [
+  | inl kept ↦ inl kept
+  | inr cut ↦ inr (inr (request, asks, cut))
+]

@@ -1,0 +1,169 @@
+//! Rows and tables whose files stand in memory.
+use ds_drive::{FileFault, Files};
+use ds_rows::{run_rows, run_tables};
+use std::alloc::Global;
+use std::process::Abort;
+use std::test::Fail;
+
+/// Files in memory: names with their texts.
+#[derive(Clone, Copy)]
+struct Held<'a> {
+    files: &'a [(&'a str, &'a str)],
+}
+
+impl<'a> Files for Held<'a> {
+    fn read(&mut self, alloc: Global, name: &str) -> Result<Vec<u8>, FileFault> {
+        for (held, text) in self.files {
+            if *held == name && text.len() <= 16_777_216 {
+                return match text.as_bytes().to_vec(alloc) {
+                    Ok(bytes) => Ok(bytes),
+                    Err(_) => Err(FileFault::Memory),
+                };
+            }
+        }
+        Err(FileFault::Unreadable)
+    }
+}
+
+/// One process that has no page at all.
+const POLICY: &str = "version = 1
+frames = 1
+[[process]]
+start = 0
+line = 0
+";
+
+/// What is written of it where it runs for 20 ticks.
+const WRITTEN: &str = "console 0 0
+
+console 1 0
+
+console 2 0
+
+console 3 0
+
+log 1
+0 1 00000000 fetch 00000000 r0 2
+time 20
+";
+
+/// Runs what an index says, by one of the two calls, and compares status and text.
+fn check<'a>(
+    rt: &impl Abort,
+    alloc: Global,
+    index: &'a str,
+    cases: &'a str,
+    status: u8,
+    wanted: &str,
+) -> Result<(), Fail> {
+    let held = [
+        ("index", index),
+        ("a/policy", POLICY),
+        ("a/nothing", ""),
+        ("a/key", "1 key 0 41\n"),
+        ("a/written", WRITTEN),
+        ("a/refused", "dsmon: 20 InputFault 1\n"),
+        ("a/cases", cases),
+    ];
+    let files = Held { files: &held };
+    let mut out: Vec<u8> = Vec::new(alloc);
+    let mut err: Vec<u8> = Vec::new(alloc);
+    let came = if cases.is_empty() {
+        run_rows(alloc, "index", files, &mut out, &mut err)?
+    } else {
+        run_tables(alloc, "index", files, &mut out, &mut err)?
+    };
+    assert_eq!(rt; std::str::from_utf8(&out)?, wanted);
+    assert_eq!(rt; came, status);
+    Ok(())
+}
+
+#[test]
+fn rows_that_come_to_status_and_text_are_as_expected(rt: HostRuntime) -> Result<(), Fail> {
+    let index = "a 0 written run policy nothing 20\na 2 refused run policy key 20\n";
+    let wanted = "\
+a 0 written run policy nothing 20: as expected
+a 2 refused run policy key 20: as expected
+";
+    check(&rt, rt.alloc(), index, "", 0, wanted)
+}
+
+#[test]
+fn each_other_row_is_told(rt: HostRuntime) -> Result<(), Fail> {
+    let index = "\
+a 0 refused run policy key 20
+a 2 written run policy nothing 20
+a 0 policy run policy nothing 20
+a 0 written run policy nothing 2
+a 0 missing run policy nothing 20
+a 0
+a 0 written run policy nothing 20
+";
+    let wanted = "\
+a 0 refused run policy key 20: the status is 2
+a 2 written run policy nothing 20: the status is 0
+a 0 policy run policy nothing 20: the first 0 bytes are as expected, and no more
+a 0 written run policy nothing 2: the first 97 bytes are as expected, and no more
+a 0 missing run policy nothing 20: a file can't be read
+a 0: words are missing, or the cases have no form
+a 0 written run policy nothing 20: as expected
+";
+    check(&rt, rt.alloc(), index, "", 1, wanted)
+}
+
+#[test]
+fn the_cases_of_a_table_are_counted(rt: HostRuntime) -> Result<(), Fail> {
+    let cases = "# Inputs.
+
+== a key
+1 key 0 41
+-- 20 InputFault 1
+
+== nothing
+-- ok
+== a comment
+# nothing
+--
+console 0 0
+
+console 1 0
+
+console 2 0
+
+console 3 0
+
+log 1
+0 1 00000000 fetch 00000000 r0 2
+time 20
+";
+    let index = "a input cases run policy input 20\n";
+    let wanted = "a input cases run policy input 20: 3 as expected\n";
+    check(&rt, rt.alloc(), index, cases, 0, wanted)
+}
+
+#[test]
+fn each_other_case_is_told(rt: HostRuntime) -> Result<(), Fail> {
+    let cases = "\
+== a key that is served
+1 key 0 41
+-- ok
+== a comment that is refused
+# nothing
+-- 20 InputFault 1
+== a comment that writes something
+# nothing
+--
+console 0 1
+== nothing is said of it
+== well
+-- ok
+";
+    let wanted = "\
+a key that is served: the status is 2
+a comment that is refused: the status is 0
+a comment that writes something: the first 10 bytes are as expected, and no more
+nothing is said of it: words are missing, or the cases have no form
+";
+    let index = "a input cases run policy input 20\n";
+    check(&rt, rt.alloc(), index, cases, 1, wanted)
+}

@@ -1,0 +1,123 @@
+//! The events of an input, one behind the other.
+ghost use Rattle.std.specs.Prelude.{◌≡◌, ◌≤◌, ◌<◌, ◌+◌, ◌++◌, length, OnOk, OnErr, true, vec_len, vec_capacity};
+ghost use Rattle.ds_policy.specs.InputText.{nothing_said, follows, with_command, with_characters, characters_of};
+
+use crate::command::{Character, Command, TimedCommand};
+use std::alloc::{AllocError, Global};
+use std::marker::Model;
+
+/// How many lines of an input can be events.
+const MOST_EVENTS: u32 = 4096;
+
+/// The events of an input as far as it was read, in order of time and at most 4096. `Events::read`
+/// adds each line's event to one.
+#[derive(Drop)]
+pub struct EventList {
+    /// The time of the last event.
+    latest: u32,
+    /// How many events there were.
+    events: u32,
+    pub(crate) commands: Vec<TimedCommand>,
+    pub(crate) characters: Vec<Character>,
+}
+
+impl Model for EventList {
+    ghost use Rattle.std.specs.Prelude.{◌≤◌, length};
+    ghost use Rattle.ds_policy.specs.InputText.{Said};
+
+    ghost Value = { Said };
+
+    ghost view = { λ r. record { latest = r.latest; events = r.events; commands = r.commands.items; characters = r.characters.items } };
+
+    ghost invariant = { λ r. (length r.commands.items ≤ r.events) × (r.events ≤ 4096) };
+}
+
+impl EventList {
+    /// No events.
+    pub fn new(alloc: Global) -> EventList
+        ensures { result ≡ nothing_said }
+    {
+        EventList {
+            latest: 0,
+            events: 0,
+            commands: Vec::new(alloc),
+            characters: Vec::new(alloc),
+        }
+    }
+
+    /// Whether an event at this time, in ticks, is neither before the last one nor one too many.
+    pub fn follows(&self, time: u32) -> bool
+        ensures { result ≡ follows self.now time }
+    {
+        self.latest <= time && self.events < MOST_EVENTS
+    }
+
+    /// Adds a command that is due at a time, in ticks, with the next number. For want of memory
+    /// nothing is added.
+    pub fn add_command(&mut self, time: u32, command: Command) -> Result<(), AllocError>
+        requires { follows self.old time ≡ true }
+        ensures added { OnOk result (self.new ≡ with_command self.old time command) }
+        ensures kept { OnErr result (self.new ≡ self.old) }
+    {
+        let number = self.commands.len() as u32 + 1;
+        self.commands.push(TimedCommand {
+            time: time as u64,
+            number,
+            command,
+        })?;
+        self.latest = time;
+        self.events += 1;
+        Ok(())
+    }
+
+    /// Adds characters that come in on a line at a time, in ticks, as one event. For want of memory
+    /// none of them is added.
+    pub fn add_characters(&mut self, time: u32, line: u8, bytes: &[u8]) -> Result<(), AllocError>
+        requires { follows self.old time ≡ true }
+        ensures added { OnOk result (self.new ≡ with_characters self.old time line bytes.now) }
+        ensures kept { OnErr result (self.new ≡ self.old) }
+    {
+        append(&mut self.characters, time as u64, line, bytes)?;
+        self.latest = time;
+        self.events += 1;
+        Ok(())
+    }
+
+    /// The commands, each with its time and its number.
+    pub fn commands(&self) -> &[TimedCommand]
+        ensures { result.now ≡ self.now.commands }
+    {
+        &self.commands
+    }
+
+    /// The characters, each with its time and its line.
+    pub fn characters(&self) -> &[Character]
+        ensures { result.now ≡ self.now.characters }
+    {
+        &self.characters
+    }
+}
+
+/// Appends characters that come in on a line, or none where memory runs out.
+fn append(
+    characters: &mut Vec<Character>,
+    time: u64,
+    line: u8,
+    bytes: &[u8],
+) -> Result<(), AllocError>
+    ensures ok { OnOk result (characters.new.items
+        ≡ characters.old.items ++ characters_of time line bytes.now) }
+    ensures err { OnErr result (characters.new.items ≡ characters.old.items) }
+{
+    characters.reserve(bytes.len())?;
+    for byte in bytes {
+        characters
+            .push(Character {
+                time,
+                line,
+                byte: *byte,
+            })
+            .unwrap();
+    }
+    Ok(())
+}

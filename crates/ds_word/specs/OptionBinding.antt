@@ -1,0 +1,7 @@
+-- `do` over options.
+use Rattle.std.specs.Prelude.{Option, option_and_then}
+
+-- nothing, or what comes of the value
+infixl 10 ◌>>=◌
+abbrev pub ◌>>=◌ : {A B : Type 0} → Option A → (A → Option B) → Option B
+o >>= f = option_and_then f o
