@@ -61,6 +61,14 @@ impl Row {
         self.entries.len()
     }
 
+    /// The entries.
+    pub(crate) fn entries(&self) -> &[Entry]
+        ensures all { result.now ≡ self.now }
+        ensures few { length result.now ≤ 256 }
+    {
+        self.entries.as_slice()
+    }
+
     /// What is granted at an address.
     pub(crate) fn get(&self, address: u32) -> Option<Grant>
         ensures { result ≡ found self.now address }
