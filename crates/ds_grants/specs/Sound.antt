@@ -1,0 +1,36 @@
+-- What is true of the grants whenever a call begins or ends.
+use Rattle.std.specs.Prelude.{◌≡◌, ℕ, ◌≤◌, List, length, is_some, slice_index}
+use Rattle.std.specs.List.{All, sum_by, count_by}
+use Rattle.ds_policy.specs.declared.grant.Entry.{Entry}
+use Rattle.ds_policy.specs.Pages.{Table, names}
+use Rattle.ds_policy.specs.Grants.{is_some_right}
+use Rattle.ds_grants.specs.State.{GrantsState}
+
+-- how many entries of a process name a page
+abbrev pub holders_in : ℕ → List Entry → ℕ
+holders_in page entries = count_by (λ e. names page e.grant.page) entries
+
+-- how many entries of the table name a page
+abbrev pub holders_of : Table → ℕ → ℕ
+holders_of table page = sum_by (holders_in page) table
+
+-- the list has of each page how many entries name it, and no entry names a page behind it
+abbrev pub AreCounted : Table → List ℕ → Type 0
+AreCounted table holders = (page : ℕ) → slice_index holders page ≡ holders_of table page
+
+-- an entry has a page exactly where it has a right
+abbrev pub IsWhole : Entry → Type 0
+IsWhole e = is_some e.grant.page ≡ is_some_right e.grant.right
+
+-- the entries of a process: no more than 256, each of which is whole
+pub record IsGoodRow (entries : List Entry) : Type 0 where
+  pub few : length entries ≤ 256
+  pub whole : All IsWhole entries
+
+-- all is within its bounds
+pub record IsSound (g : GrantsState) : Type 0 where
+  pub rows : All IsGoodRow g.table
+  pub processes : length g.table ≤ 100
+  pub ended : length g.ended ≡ length g.table
+  pub named : g.named ≤ g.frames
+  pub frames : g.frames ≤ 1024

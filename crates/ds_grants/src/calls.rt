@@ -1,0 +1,165 @@
+//! What a process may do with what it was granted: give it, take back what it gave, and drop it.
+ghost use Rattle.std.specs.Prelude.{◌≡◌, ℕ, ◌<◌, ◌≤◌, ◌%◌, ◌^◌, List, true, false, length, if◌then◌else◌, Some, is_some, IsNone, IfSome, OnErr};
+ghost use Rattle.ds_policy.specs.declared.grant.Right.TheVariants.{Write};
+ghost use Rattle.ds_policy.specs.Pages.{entries_of, entry_at, fresh};
+ghost use Rattle.ds_policy.specs.Grants.{is_some_right, granted, copied, give, take, drop_own, drop_by_command};
+ghost use Rattle.ds_grants.specs.State.{Does, is_live, lives_in, page_state, pages_in};
+ghost use Rattle.ds_grants.specs.Free.{IsFirstFree};
+ghost use Rattle.ds_grants.specs.Buffer.{BufferHolds, IsOneSpace};
+
+use crate::fault::GrantFault;
+use crate::grants::{Grants, frame_of_page};
+use ds_mem::Memory;
+use ds_policy::{Grant, Right};
+use ds_tlb::Lookaside;
+
+impl Grants {
+    /// Gives what a process has at an address to another process: by mode 1 the page for reading, by 2
+    /// for writing, by 3 a copy of it, in a frame of its own at once. Refused, nothing changes.
+    pub fn give<L: Lookaside>(
+        &mut self,
+        caller: u32,
+        addr: u32,
+        receiver: u32,
+        to: u32,
+        mode: u32,
+        memory: &mut Memory,
+        tlb: &mut L,
+    ) -> Result<(), GrantFault>
+        requires low { 0 < caller }
+        requires high { caller ≤ length self.old.table }
+        ensures does { Does (page_state self.old memory.old) (page_state self.new memory.new) result (give (lives_in self.old) (page_state self.old memory.old) caller addr receiver to mode) }
+        ensures same { (self.new.frames ≡ self.old.frames) × (self.new.ended ≡ self.old.ended) }
+        ensures refused { OnErr result ((self.new ≡ self.old) × (memory.new ≡ memory.old) × (L.entries tlb.new ≡ L.entries tlb.old)) }
+        ensures buffer { (numbers : ℕ → ℕ) → IsOneSpace numbers → BufferHolds (L.entries tlb.old) numbers self.old → BufferHolds (L.entries tlb.new) numbers self.new }
+        ensures random { L.random_place tlb.new ≡ L.random_place tlb.old }
+    {
+        let grant = self.may_give(caller, addr, receiver, to, mode)?;
+        match mode {
+            1 => self.share(grant, Right::Read, caller, receiver, to, tlb),
+            2 => self.share(grant, Right::Write, caller, receiver, to, tlb),
+            _ => self.give_copy(grant, caller, receiver, to, memory, tlb),
+        }
+        Ok(())
+    }
+
+    /// Gives a page that a process has, with this right.
+    fn share<L: Lookaside>(
+        &mut self,
+        grant: Grant,
+        right: Right,
+        caller: u32,
+        receiver: u32,
+        to: u32,
+        tlb: &mut L,
+    )
+        requires low { 0 < receiver }
+        requires high { receiver ≤ length self.old.table }
+        requires page_address { to % 4096 ≡ 0 }
+        requires user { to < 2 ^ 31 }
+        requires room { length (entries_of self.old.table receiver) < 256 }
+        requires free { IsNone (entry_at self.old.table receiver to) }
+        requires right { is_some_right right ≡ true }
+        requires lives { IfSome grant.page (λ q. is_live self.old q ≡ true) }
+        requires some { is_some grant.page ≡ true }
+        ensures state { (memory : List ℕ) → page_state self.new memory ≡ granted (page_state self.old memory) receiver to (record grant { right = right; giver = caller }) }
+        ensures same { (self.new.frames ≡ self.old.frames) × (self.new.ended ≡ self.old.ended) }
+        ensures buffer { (numbers : ℕ → ℕ) → IsOneSpace numbers → BufferHolds (L.entries tlb.old) numbers self.old → BufferHolds (L.entries tlb.new) numbers self.new }
+        ensures random { L.random_place tlb.new ≡ L.random_place tlb.old }
+    {
+        let shared = Grant {
+            right,
+            giver: caller,
+            ..grant
+        };
+        self.put(receiver, to, shared, tlb);
+    }
+
+    /// Gives a copy of a page that a process has.
+    fn give_copy<L: Lookaside>(
+        &mut self,
+        grant: Grant,
+        caller: u32,
+        receiver: u32,
+        to: u32,
+        memory: &mut Memory,
+        tlb: &mut L,
+    )
+        requires low { 0 < receiver }
+        requires high { receiver ≤ length self.old.table }
+        requires page_address { to % 4096 ≡ 0 }
+        requires user { to < 2 ^ 31 }
+        requires room { length (entries_of self.old.table receiver) < 256 }
+        requires free { IsNone (entry_at self.old.table receiver to) }
+        requires right { is_some_right grant.right ≡ true }
+        requires lives { IfSome grant.page (λ q. is_live self.old q ≡ true) }
+        requires some { is_some grant.page ≡ true }
+        requires frame { (page : ℕ) × IsFirstFree self.old page }
+        ensures state { page_state self.new memory.new ≡ granted (copied (page_state self.old memory.old) grant.page) receiver to (record grant { right = Write; page = Some (fresh (pages_in self.old memory.old)); giver = caller }) }
+        ensures same { (self.new.frames ≡ self.old.frames) × (self.new.ended ≡ self.old.ended) }
+        ensures buffer { (numbers : ℕ → ℕ) → IsOneSpace numbers → BufferHolds (L.entries tlb.old) numbers self.old → BufferHolds (L.entries tlb.new) numbers self.new }
+        ensures random { L.random_place tlb.new ≡ L.random_place tlb.old }
+    {
+        if let (Some(page), Some(free)) = (grant.page, self.free_page()) {
+            memory.copy_frame(frame_of_page(page), frame_of_page(free));
+            let copy = Grant {
+                right: Right::Write,
+                page: Some(free),
+                giver: caller,
+                ..grant
+            };
+            self.put(receiver, to, copy, tlb);
+        }
+    }
+
+    /// Takes back from a process what the caller gave it at an address. Refused, nothing changes.
+    pub fn take<L: Lookaside>(
+        &mut self,
+        caller: u32,
+        process: u32,
+        addr: u32,
+        memory: &mut Memory,
+        tlb: &mut L,
+    ) -> Result<(), GrantFault>
+        ensures does { Does (page_state self.old memory.old) (page_state self.new memory.new) result (take (lives_in self.old) (page_state self.old memory.old) caller process addr) }
+        ensures memory { memory.new ≡ memory.old }
+        ensures same { (self.new.frames ≡ self.old.frames) × (self.new.ended ≡ self.old.ended) }
+        ensures refused { OnErr result ((self.new ≡ self.old) × (L.entries tlb.new ≡ L.entries tlb.old)) }
+        ensures buffer { (numbers : ℕ → ℕ) → IsOneSpace numbers → BufferHolds (L.entries tlb.old) numbers self.old → BufferHolds (L.entries tlb.new) numbers self.new }
+        ensures random { L.random_place tlb.new ≡ L.random_place tlb.old }
+    {
+        let grant = self.granted_to(process, addr)?;
+        if grant.giver != caller {
+            return Err(GrantFault::NotGiven);
+        }
+        self.remove(process, addr, tlb);
+        Ok(())
+    }
+
+    /// Drops an entry of a process: by a command of the operator's also one whose right is none, or else
+    /// by the process itself. Refused, nothing changes.
+    pub fn drop_page<L: Lookaside>(
+        &mut self,
+        process: u32,
+        addr: u32,
+        by_command: bool,
+        memory: &mut Memory,
+        tlb: &mut L,
+    ) -> Result<(), GrantFault>
+        requires process { by_command ≡ false → (0 < process) × (process ≤ length self.old.table) }
+        ensures does { Does (page_state self.old memory.old) (page_state self.new memory.new) result (if by_command then drop_by_command (lives_in self.old) (page_state self.old memory.old) process addr else drop_own (page_state self.old memory.old) process addr) }
+        ensures memory { memory.new ≡ memory.old }
+        ensures same { (self.new.frames ≡ self.old.frames) × (self.new.ended ≡ self.old.ended) }
+        ensures refused { OnErr result ((self.new ≡ self.old) × (L.entries tlb.new ≡ L.entries tlb.old)) }
+        ensures buffer { (numbers : ℕ → ℕ) → IsOneSpace numbers → BufferHolds (L.entries tlb.old) numbers self.old → BufferHolds (L.entries tlb.new) numbers self.new }
+        ensures random { L.random_place tlb.new ≡ L.random_place tlb.old }
+    {
+        if by_command {
+            self.may_be_dropped(process, addr)?;
+        } else {
+            self.granted_page(process, addr)?;
+        }
+        self.remove(process, addr, tlb);
+        Ok(())
+    }
+}

@@ -1,0 +1,125 @@
+//! What an operator may do with what is granted, and what an end of a process leaves of it.
+ghost use Rattle.std.specs.Prelude.{◌≡◌, ℕ, ◌<◌, ◌≤◌, ◌-◌, List, true, length, slice_set, OnErr};
+ghost use Rattle.ds_policy.specs.Grants.{is_some_right, grant, narrow, revoke, end_process};
+ghost use Rattle.ds_grants.specs.State.{Does, lives_in, page_state};
+ghost use Rattle.ds_grants.specs.Buffer.{BufferHolds, IsOneSpace};
+
+use crate::fault::GrantFault;
+use crate::grants::Grants;
+use ds_mem::Memory;
+use ds_policy::{Grant, Right};
+use ds_tlb::Lookaside;
+
+impl Grants {
+    /// Grants a process a page that the policy names, where the process has no entry or one with no
+    /// right. Refused, nothing changes.
+    pub fn grant<L: Lookaside>(
+        &mut self,
+        process: u32,
+        addr: u32,
+        page: u32,
+        right: Right,
+        give: bool,
+        rule: u32,
+        memory: &mut Memory,
+        tlb: &mut L,
+    ) -> Result<(), GrantFault>
+        requires named { page < self.old.named }
+        requires right { is_some_right right ≡ true }
+        ensures does { Does (page_state self.old memory.old) (page_state self.new memory.new) result (grant (lives_in self.old) (page_state self.old memory.old) process addr page right give rule) }
+        ensures memory { memory.new ≡ memory.old }
+        ensures same { (self.new.frames ≡ self.old.frames) × (self.new.ended ≡ self.old.ended) }
+        ensures refused { OnErr result ((self.new ≡ self.old) × (L.entries tlb.new ≡ L.entries tlb.old)) }
+        ensures buffer { (numbers : ℕ → ℕ) → IsOneSpace numbers → BufferHolds (L.entries tlb.old) numbers self.old → BufferHolds (L.entries tlb.new) numbers self.new }
+        ensures random { L.random_place tlb.new ≡ L.random_place tlb.old }
+    {
+        self.may_be_granted(process, addr)?;
+        let grant = Grant {
+            right,
+            page: Some(page),
+            rule,
+            give,
+            giver: 0,
+        };
+        self.put(process, addr, grant, tlb);
+        Ok(())
+    }
+
+    /// Leaves a process the right to read what it has at an address. Refused, nothing changes.
+    pub fn narrow<L: Lookaside>(
+        &mut self,
+        process: u32,
+        addr: u32,
+        memory: &mut Memory,
+        tlb: &mut L,
+    ) -> Result<(), GrantFault>
+        ensures does { Does (page_state self.old memory.old) (page_state self.new memory.new) result (narrow (lives_in self.old) (page_state self.old memory.old) process addr) }
+        ensures memory { memory.new ≡ memory.old }
+        ensures same { (self.new.frames ≡ self.old.frames) × (self.new.ended ≡ self.old.ended) }
+        ensures refused { OnErr result ((self.new ≡ self.old) × (L.entries tlb.new ≡ L.entries tlb.old)) }
+        ensures buffer { (numbers : ℕ → ℕ) → IsOneSpace numbers → BufferHolds (L.entries tlb.old) numbers self.old → BufferHolds (L.entries tlb.new) numbers self.new }
+        ensures random { L.random_place tlb.new ≡ L.random_place tlb.old }
+    {
+        let grant = self.granted_to(process, addr)?;
+        let narrowed = Grant {
+            right: Right::Read,
+            ..grant
+        };
+        self.put(process, addr, narrowed, tlb);
+        Ok(())
+    }
+
+    /// Takes all right from what a process has at an address, by this rule. Refused, nothing changes.
+    pub fn revoke<L: Lookaside>(
+        &mut self,
+        process: u32,
+        addr: u32,
+        rule: u32,
+        memory: &mut Memory,
+        tlb: &mut L,
+    ) -> Result<(), GrantFault>
+        ensures does { Does (page_state self.old memory.old) (page_state self.new memory.new) result (revoke (lives_in self.old) (page_state self.old memory.old) process addr rule) }
+        ensures memory { memory.new ≡ memory.old }
+        ensures same { (self.new.frames ≡ self.old.frames) × (self.new.ended ≡ self.old.ended) }
+        ensures refused { OnErr result ((self.new ≡ self.old) × (L.entries tlb.new ≡ L.entries tlb.old)) }
+        ensures buffer { (numbers : ℕ → ℕ) → IsOneSpace numbers → BufferHolds (L.entries tlb.old) numbers self.old → BufferHolds (L.entries tlb.new) numbers self.new }
+        ensures random { L.random_place tlb.new ≡ L.random_place tlb.old }
+    {
+        self.granted_to(process, addr)?;
+        let revoked = Grant {
+            right: Right::Nothing,
+            page: None,
+            rule,
+            give: false,
+            giver: 0,
+        };
+        self.put(process, addr, revoked, tlb);
+        Ok(())
+    }
+
+    /// Removes all entries of a process, which has ended from now on. What it gave stays.
+    pub fn end_process<L: Lookaside>(&mut self, process: u32, memory: &mut Memory, tlb: &mut L)
+        requires low { 0 < process }
+        requires high { process ≤ length self.old.table }
+        ensures does { page_state self.new memory.new ≡ end_process (page_state self.old memory.old) process }
+        ensures memory { memory.new ≡ memory.old }
+        ensures frames { self.new.frames ≡ self.old.frames }
+        ensures ended { self.new.ended ≡ slice_set self.old.ended (process - 1) true }
+        ensures buffer { (numbers : ℕ → ℕ) → IsOneSpace numbers → BufferHolds (L.entries tlb.old) numbers self.old → BufferHolds (L.entries tlb.new) numbers self.new }
+        ensures random { L.random_place tlb.new ≡ L.random_place tlb.old }
+    {
+        while let Some(addr) = self.first_address(process) {
+            self.remove(process, addr, tlb);
+        }
+        self.ended[process as usize - 1] = true;
+    }
+
+    /// The address of a process's first entry, if it has one.
+    fn first_address(&self, process: u32) -> Option<u32>
+        requires low { 0 < process }
+        requires high { process ≤ length self.now.table }
+    {
+        let first = self.table.entries(process).first()?;
+        Some(first.address)
+    }
+}

@@ -1,0 +1,54 @@
+//! How many entries name each page.
+ghost use Rattle.std.specs.Prelude.{◌≡◌, ℕ, ◌+◌, ◌<◌, ◌≤◌, ◌^◌, ◌==◌, ◌&&◌, length, slice_index, IfSome};
+ghost use Rattle.std.specs.List.{count_by};
+ghost use Rattle.ds_policy.specs.Pages.{names};
+ghost use Rattle.ds_grants.specs.Sound.{holders_in};
+ghost use Rattle.ds_grants.specs.Counts.{one_if_named, holders_at, AreOneMore, AreOneFewer};
+
+use ds_policy::Entry;
+
+/// Counts one entry more that names this page, if it names one.
+pub(crate) fn hold(holders: &mut [u32], page: Option<u32>)
+    requires within { IfSome page (λ q. q < length holders.old) }
+    requires few { IfSome page (λ q. slice_index holders.old q + 1 < 2 ^ 32) }
+    ensures { AreOneMore page holders.old holders.new }
+{
+    if let Some(page) = page {
+        holders[page as usize] += 1;
+    }
+}
+
+/// Counts one entry fewer that names this page, if it names one.
+pub(crate) fn release(holders: &mut [u32], page: Option<u32>)
+    requires { IfSome page (λ q. 0 < slice_index holders.old q) }
+    ensures { AreOneFewer page holders.old holders.new }
+{
+    if let Some(page) = page {
+        holders[page as usize] -= 1;
+    }
+}
+
+/// Counts the entries of a process at an address no more.
+pub(crate) fn release_at(holders: &mut [u32], entries: &[Entry], addr: u32)
+    requires { (page : ℕ) → holders_in page entries.now ≤ slice_index holders.old page }
+    ensures fewer { (page : ℕ) → slice_index holders.new page + holders_at page addr entries.now ≡ slice_index holders.old page }
+    ensures size { length holders.new ≡ length holders.old }
+{
+    for entry in entries {
+        if entry.address == addr {
+            release(holders, entry.grant.page);
+        }
+    }
+}
+
+/// Counts all entries of a process.
+pub(crate) fn hold_all(holders: &mut [u32], entries: &[Entry])
+    requires within { (page : ℕ) → length holders.old ≤ page → holders_in page entries.now ≡ 0 }
+    requires few { (page : ℕ) → slice_index holders.old page + length entries.now < 2 ^ 32 }
+    ensures more { (page : ℕ) → slice_index holders.new page ≡ slice_index holders.old page + holders_in page entries.now }
+    ensures size { length holders.new ≡ length holders.old }
+{
+    for entry in entries {
+        hold(holders, entry.grant.page);
+    }
+}

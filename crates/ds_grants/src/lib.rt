@@ -1,0 +1,20 @@
+//! The permission table, its pages and their frames: who may touch what, and each call and command that
+//! changes it. Every change is that of the page state which lies in memory, or a refusal that leaves all
+//! as it was.
+#![tactic(auto)]
+
+mod calls;
+mod commands;
+mod fault;
+mod first;
+mod grants;
+mod holders;
+mod order;
+mod regions;
+mod tests_of_calls;
+mod translation;
+
+pub use fault::GrantFault;
+pub use first::fill_page;
+pub use grants::Grants;
+pub use order::refusals_have_one_order;

@@ -1,0 +1,34 @@
+//! The regions of 4 MiB in which a process's entries lie.
+ghost use Rattle.std.specs.Prelude.{◌≡◌, ◌/◌, ◌^◌, ◌∷◌, map, nat_lt};
+ghost use Rattle.ds_policy.specs.Grants.{region, count_distinct};
+
+use arrayvec::ArrayVec;
+use ds_policy::Entry;
+
+/// How many regions a process's entries may lie in.
+const MOST_REGIONS: usize = 4;
+
+/// Whether an entry at the address would be in a fifth region.
+pub(crate) fn is_in_fifth_region(entries: &[Entry], addr: u32) -> bool
+    ensures { result ≡ nat_lt 4 (count_distinct (region addr ∷ map (λ e. region e.address) entries.now)) }
+{
+    let mut regions = ArrayVec::<u32, MOST_REGIONS>::new();
+    regions.push(region_of(addr));
+    for entry in entries {
+        let region = region_of(entry.address);
+        if !regions.contains(&region) {
+            if regions.is_full() {
+                return true;
+            }
+            regions.push(region);
+        }
+    }
+    false
+}
+
+/// The region in which an address lies.
+fn region_of(addr: u32) -> u32
+    ensures { result ≡ region addr }
+{
+    addr >> 22
+}
