@@ -1,0 +1,6 @@
+pub mod HolderCounts
+pub mod Images
+pub mod Living
+pub mod RegionsSeen
+pub mod Sizes
+pub mod Translations

@@ -1,18 +1,11 @@
 -- What is true of the grants whenever a call begins or ends.
 use Rattle.std.specs.Prelude.{◌≡◌, ℕ, ◌≤◌, List, length, is_some, slice_index}
-use Rattle.std.specs.List.{All, sum_by, count_by}
+use Rattle.std.specs.List.{All}
 use Rattle.ds_policy.specs.declared.grant.Entry.{Entry}
-use Rattle.ds_policy.specs.Pages.{Table, names}
+use Rattle.ds_policy.specs.Pages.{Table}
 use Rattle.ds_policy.specs.Grants.{is_some_right}
+use Rattle.ds_grants.specs.Counts.{holders_of}
 use Rattle.ds_grants.specs.State.{GrantsState}
-
--- how many entries of a process name a page
-abbrev pub holders_in : ℕ → List Entry → ℕ
-holders_in page entries = count_by (λ e. names page e.grant.page) entries
-
--- how many entries of the table name a page
-abbrev pub holders_of : Table → ℕ → ℕ
-holders_of table page = sum_by (holders_in page) table
 
 -- the list has of each page how many entries name it, and no entry names a page behind it
 abbrev pub AreCounted : Table → List ℕ → Type 0

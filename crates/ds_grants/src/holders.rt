@@ -1,11 +1,29 @@
 //! How many entries name each page.
-ghost use Rattle.std.specs.Prelude.{◌≡◌, ℕ, ◌+◌, ◌<◌, ◌≤◌, ◌^◌, ◌==◌, ◌&&◌, length, slice_index, IfSome};
-ghost use Rattle.std.specs.List.{count_by};
-ghost use Rattle.ds_policy.specs.Pages.{names};
-ghost use Rattle.ds_grants.specs.Sound.{holders_in};
-ghost use Rattle.ds_grants.specs.Counts.{one_if_named, holders_at, AreOneMore, AreOneFewer};
+ghost use Rattle.std.specs.Prelude.{◌≡◌, ℕ, ◌+◌, ◌<◌, ◌≤◌, ◌^◌, length, slice_index, IfSome};
+ghost use Rattle.ds_grants.specs.Counts.{page_of, page_at, holders_in, holders_at, AreOneMore, AreOneFewer};
 
-use ds_policy::Entry;
+use ds_policy::{Entry, Grant};
+
+/// The page that is granted, if one is.
+pub(crate) fn page_of(grant: Option<Grant>) -> Option<u32>
+    ensures { result ≡ page_of grant }
+{
+    match grant {
+        Some(grant) => grant.page,
+        None => None,
+    }
+}
+
+/// The page that an entry names, where it is one at the address.
+fn page_at(addr: u32, entry: &Entry) -> Option<u32>
+    ensures { result ≡ page_at addr entry.now }
+{
+    if entry.address == addr {
+        entry.grant.page
+    } else {
+        None
+    }
+}
 
 /// Counts one entry more that names this page, if it names one.
 pub(crate) fn hold(holders: &mut [u32], page: Option<u32>)
@@ -35,9 +53,7 @@ pub(crate) fn release_at(holders: &mut [u32], entries: &[Entry], addr: u32)
     ensures size { length holders.new ≡ length holders.old }
 {
     for entry in entries {
-        if entry.address == addr {
-            release(holders, entry.grant.page);
-        }
+        release(holders, page_at(addr, entry));
     }
 }
 

@@ -11,6 +11,7 @@ mod grants;
 mod holders;
 mod order;
 mod regions;
+mod tally;
 mod tests_of_calls;
 mod translation;
 
