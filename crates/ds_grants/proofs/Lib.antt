@@ -1,3 +1,4 @@
+pub mod Chains
 pub mod HolderCounts
 pub mod Images
 pub mod Living

@@ -128,3 +128,9 @@ revoked_state g p a grant memory low high none =
       let all = holders_with g.table p a grant q (omega (arith, low, high)) in
       let nothing : one_if_named q grant.page ≡ 0 = rw none refl in
       omega arith)
+
+-- a page that the policy doesn't name lives by its holders
+pub unnamed_live : (g : GrantsState) (q n : ℕ) → n ≡ holders_of g.table q → g.named ≤ q → nat_lt 0 n ≡ is_live g q
+unnamed_live g q n counted above =
+    let unnamed : nat_lt q g.named ≡ false = grind (arith, nat_tests) in
+    ap (nat_lt 0) counted ∙ (sym (named_by_holders g.table q) ∙ ap (λ b. b || is_named_by g.table q) (sym unnamed))
