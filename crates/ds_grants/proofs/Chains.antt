@@ -1,16 +1,26 @@
 -- Tests that don't hold, in front of the tests that follow.
-use Rattle.std.proofs.Common.{◌≡◌, ℕ, ◌==◌, Bool, true, false, not, List, Option, Some, None, Result, Ok, Err, IfErr, OnOk, IfOk, refl, sym, ap, ◌∙◌}
+use Rattle.std.proofs.Common.{◌≡◌, ℕ, ◌&&◌, nat_le, length, is_some, unwrap_or, subst, ◌==◌, Bool, true, false, not, List, Option, Some, None, Result, Ok, Err, IfErr, OnOk, IfOk, refl, sym, ap, ◌∙◌}
+use Rattle.std.proofs.lemmas.Bool.{false≢true}
 use Rattle.ds_policy.specs.declared.grant.Grant.{Grant}
 use Rattle.ds_policy.specs.declared.grant.Right.{Right}
-use Rattle.ds_policy.specs.Pages.{entry_at}
-use Rattle.ds_policy.specs.Grants.{PageState, ◌or_else◌, refused, not_page, no_right, table_full, fifth_region, has_right, granted, grant}
+use Rattle.ds_policy.specs.Pages.{entry_at, count_live}
+use Rattle.ds_policy.specs.Grants.{PageState, ◌or_else◌, refused, not_page, no_right, no_frames, table_full, fifth_region, has_right, may_not_give, no_grant, given, granted, give, grant}
 use Rattle.ds_grants.specs.declared.fault.GrantFault.{GrantFault}
-use Rattle.ds_grants.specs.State.{GrantsState, number_of, lives_in, page_state}
+use Rattle.ds_grants.specs.State.{GrantsState, number_of, lives_in, pages_in, page_state, Does}
 use Rattle.ds_grants.specs.Order.{is_no_page}
 
 -- a test that doesn't hold
 pub passed : (number : ℕ) (b : Bool) (next result : Result PageState ℕ) → b ≡ false → next ≡ result → (refused number b or_else next) ≡ result
 passed number b next result fails is = rw fails is
+
+-- what follows a test that doesn't hold
+unpassed : (number : ℕ) (b : Bool) (next result : Result PageState ℕ) → b ≡ false → (refused number b or_else next) ≡ result → next ≡ result
+unpassed number false next result fails is = is
+unpassed number true next result fails is = absurd (false≢true (sym fails))
+
+-- what holds of the error that there is
+pub at_err : {T E : Type 0} (r : Result T E) (e : E) (P : E → Type 0) → r ≡ Err e → P e → IfErr r P
+at_err {T = T} {E = E} r e P is h = subst (λ (x : Result T E). IfErr x P) (sym is) h
 
 denied : (b : Bool) → b ≡ true → not b ≡ false
 denied b is = rw is refl
@@ -44,3 +54,62 @@ module _ (g : GrantsState) (p a : ℕ) (lives : lives_in g p ≡ true) (page : i
       → OnOk r ((memory : List ℕ) (q : ℕ) (right : Right) (may_give : Bool) (rule : ℕ) → grant (lives_in g) (page_state g memory) p a q right may_give rule ≡ Ok (granted (page_state g memory) p a (record { right = right; page = Some q; rule = rule; give = may_give; giver = 0 })))
   room_ok (Ok x) h = λ memory q right may_give rule. granted_as memory q right may_give rule _ (h memory _)
   room_ok (Err x) h = tt
+
+abbrev as_done : PageState → Result PageState ℕ
+as_done s = Ok s
+
+-- what a gift comes to, where the receiver lives and both addresses are those of pages
+module _ (g : GrantsState) (caller addr receiver to mode : ℕ) (lives : lives_in g receiver ≡ true) (from : is_no_page addr ≡ false) (there : is_no_page to ≡ false) (memory : List ℕ) where
+  what : Grant
+  what = unwrap_or (entry_at g.table caller addr) no_grant
+
+  abbrev last : Result PageState ℕ
+  last = no_frames (page_state g memory) mode or_else Ok (given (page_state g memory) caller (unwrap_or (entry_at g.table caller addr) no_grant) receiver to mode)
+
+  abbrev room : Result PageState ℕ
+  room = table_full (page_state g memory) receiver to or_else fifth_region (page_state g memory) receiver to or_else last
+
+  abbrev pub later : Result PageState ℕ
+  later = refused 15 (may_not_give (unwrap_or (entry_at g.table caller addr) no_grant) mode) or_else refused 16 (is_some (entry_at g.table receiver to)) or_else room
+
+  -- as the tests of the caller's entry, and those behind them
+  pub given_as : (result : Result PageState ℕ) → (not_page addr or_else no_right (page_state g memory) caller addr or_else later) ≡ result → give (lives_in g) (page_state g memory) caller addr receiver to mode ≡ result
+  given_as result is =
+      passed 12 (not (lives_in g receiver)) (not_page addr or_else not_page to or_else no_right (page_state g memory) caller addr or_else later) result (denied (lives_in g receiver) lives)
+      (passed 13 (is_no_page addr) (not_page to or_else no_right (page_state g memory) caller addr or_else later) result from
+      (passed 13 (is_no_page to) (no_right (page_state g memory) caller addr or_else later) result there
+      (unpassed 13 (is_no_page addr) (no_right (page_state g memory) caller addr or_else later) result from is)))
+
+  -- as the tests of the room, where the gift is allowed and the place free
+  pub later_as : (result : Result PageState ℕ) → may_not_give (unwrap_or (entry_at g.table caller addr) no_grant) mode ≡ false → is_some (entry_at g.table receiver to) ≡ false → room ≡ result → later ≡ result
+  later_as result allowed free is =
+      passed 15 (may_not_give (unwrap_or (entry_at g.table caller addr) no_grant) mode) (refused 16 (is_some (entry_at g.table receiver to)) or_else room) result allowed
+      (passed 16 (is_some (entry_at g.table receiver to)) room result free is)
+
+  -- as the tests of the room, behind the caller's entry
+  pub room_as : (result : Result PageState ℕ) → ((memory : List ℕ) (next : Result PageState ℕ) → (not_page addr or_else no_right (page_state g memory) caller addr or_else next) ≡ next)
+      → (grant : Grant) → entry_at g.table caller addr ≡ Some grant → may_not_give grant mode ≡ false → is_some (entry_at g.table receiver to) ≡ false → room ≡ result
+      → give (lives_in g) (page_state g memory) caller addr receiver to mode ≡ result
+  room_as result entry grant is allowed free next =
+      given_as result (entry memory later ∙ later_as result (subst (λ (o : Option Grant). may_not_give (unwrap_or o no_grant) mode ≡ false) (sym is) allowed) free next)
+
+  -- refused for want of a frame, or done
+  pub last_err : ((mode == 3) && nat_le (length (pages_in g memory)) (count_live (pages_in g memory))) ≡ true → last ≡ Err 18
+  last_err lacks = rw lacks refl
+
+  pub last_ok : (grant : Grant) → entry_at g.table caller addr ≡ Some grant → ((mode == 3) && nat_le (length (pages_in g memory)) (count_live (pages_in g memory))) ≡ false → last ≡ Ok (given (page_state g memory) caller grant receiver to mode)
+  last_ok grant is has = passed 18 ((mode == 3) && nat_le (length (pages_in g memory)) (count_live (pages_in g memory))) (Ok (given (page_state g memory) caller (unwrap_or (entry_at g.table caller addr) no_grant) receiver to mode)) _ has
+      (ap (λ (o : Option Grant). as_done (given (page_state g memory) caller (unwrap_or o no_grant) receiver to mode)) is)
+
+-- a call or a command that is refused leaves the page state
+pub refused_by : {T : Type 0} (s : PageState) (r : Result T GrantFault) (e : GrantFault) (meant : Result PageState ℕ) → r ≡ Err e → meant ≡ Err (number_of e) → Does s s r meant
+refused_by {T = T} s r e meant is refusal = subst (λ (x : Result T GrantFault). Does s s x meant) (sym is) (refusal, refl)
+
+-- an entry that somebody else gave isn't taken back
+pub not_given : (s : PageState) (caller p a : ℕ) (grant : Grant) (next : Result PageState ℕ) → entry_at s.table p a ≡ Some grant → (grant.giver == caller) ≡ false
+    → (refused 19 (not ((unwrap_or (entry_at s.table p a) no_grant).giver == caller)) or_else next) ≡ Err 19
+not_given s caller p a grant next is other = rw (is, other) refl
+
+pub was_given : (s : PageState) (caller p a : ℕ) (grant : Grant) (next : Result PageState ℕ) → entry_at s.table p a ≡ Some grant → (grant.giver == caller) ≡ true
+    → (refused 19 (not ((unwrap_or (entry_at s.table p a) no_grant).giver == caller)) or_else next) ≡ next
+was_given s caller p a grant next is own = rw (is, own) refl

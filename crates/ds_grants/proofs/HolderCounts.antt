@@ -55,7 +55,7 @@ holders_without t p a q within =
     omega arith
 
 -- the holders among a process's entries are holders
-row_holders : (t : Table) (i q : ℕ) → holders_in q (get_or t i []) ≤ holders_of t q
+pub row_holders : (t : Table) (i q : ℕ) → holders_in q (get_or t i []) ≤ holders_of t q
 row_holders [] i q = omega arith
 row_holders (row ∷ t) zero q = omega arith
 row_holders (row ∷ t) (suc i) q = let rest = row_holders t i q in omega arith
@@ -115,7 +115,7 @@ at_address q a (e ∷ es) = elim (cases_Bool (e.address == a)) [
 at_step : (q a : ℕ) (es : List Entry) (i : ℕ) (d : Entry) → i < length es → holders_at q a (drop i es) ≡ one_if_named q (page_at a (get_or es i d)) + holders_at q a (drop (i + 1) es)
 at_step q a es i d h = at_drop_more (holders_at q a) es i d h
 
-itself : (q : ℕ) → (q == q) ≡ true
+pub itself : (q : ℕ) → (q == q) ≡ true
 itself q = grind (arith, nat_tests)
 
 -- a page that has as many holders as one that is named has some

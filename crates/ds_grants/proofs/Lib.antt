@@ -1,4 +1,6 @@
 pub mod Chains
+pub mod Copies
+pub mod Fills
 pub mod HolderCounts
 pub mod Images
 pub mod Living

@@ -13,7 +13,7 @@ use Rattle.ds_policy.specs.Grants.{PageState, granted, copied, removed, live_onl
 use Rattle.ds_grants.specs.State.{GrantsState, is_live, frame_of_page, page_in, pages_in, page_state, with_grant, without_grant}
 use Rattle.ds_grants.specs.Counts.{one_if_named, page_of, holders_of, holders_at}
 use Rattle.ds_grants.specs.Free.{IsFirstFree}
-use Rattle.ds_grants.proofs.HolderCounts.{holders_with, holders_without, named_by_holders}
+use Rattle.ds_grants.proofs.HolderCounts.{holders_with, holders_without, named_by_holders, found_holds, row_holders}
 
 -- pages are the same where the same pages live
 pages_from_same : (g g' : GrantsState) (memory : List ℕ) (at n : ℕ) → ((q : ℕ) → is_live g' q ≡ is_live g q) → map (page_in g' memory) (range_with_len at n) ≡ map (page_in g memory) (range_with_len at n)
@@ -43,14 +43,14 @@ both_some (suc h) zero down up = let impossible = up (omega arith) in absurd (om
 both_some (suc h) (suc h') down up = grind (arith, nat_tests)
 
 -- where a page is named, it counts as one
-one_named : (q : ℕ) (o : Option ℕ) → names q o ≡ true → one_if_named q o ≡ 1
+pub one_named : (q : ℕ) (o : Option ℕ) → names q o ≡ true → one_if_named q o ≡ 1
 one_named q o h = rw h refl
 
 none_named : (q : ℕ) (o : Option ℕ) → names q o ≡ false → one_if_named q o ≡ 0
 none_named q o h = rw h refl
 
 -- a page lives or not, whatever the policy names, by its holders
-live_same : (g g' : GrantsState) (q : ℕ) → g'.named ≡ g.named → (nat_lt q g.named ≡ false → nat_lt 0 (holders_of g'.table q) ≡ nat_lt 0 (holders_of g.table q)) → is_live g' q ≡ is_live g q
+pub live_same : (g g' : GrantsState) (q : ℕ) → g'.named ≡ g.named → (nat_lt q g.named ≡ false → nat_lt 0 (holders_of g'.table q) ≡ nat_lt 0 (holders_of g.table q)) → is_live g' q ≡ is_live g q
 live_same g g' q named same = elim (cases_Bool (nat_lt q g.named)) [
   | inl is ↦ rw (named, is) refl
   | inr not-named ↦ rw (named, not-named) (named_by_holders g'.table q ∙ (same not-named ∙ sym (named_by_holders g.table q)))
@@ -79,6 +79,10 @@ put_live g p a grant low high lives keeps q =
               | inr another ↦ let fewer = none_named q (page_of (entry_at g.table p a)) another in both_some (holders_of g.table q) (holders_of (with_entry g.table p a grant) q) (λ h. omega arith) (λ h. omega arith)
             ]
       ])
+
+pub or_true : (b : Bool) → (b || true) ≡ true
+or_true true = refl
+or_true false = refl
 
 -- so the page state is that of the table with the entry
 pub put_state : (g : GrantsState) (p a : ℕ) (grant : Grant) (memory : List ℕ) → 0 < p → p ≤ length g.table
@@ -134,3 +138,14 @@ pub unnamed_live : (g : GrantsState) (q n : ℕ) → n ≡ holders_of g.table q 
 unnamed_live g q n counted above =
     let unnamed : nat_lt q g.named ≡ false = grind (arith, nat_tests) in
     ap (nat_lt 0) counted ∙ (sym (named_by_holders g.table q) ∙ ap (λ b. b || is_named_by g.table q) (sym unnamed))
+
+-- what an entry of the table names lives
+pub found_lives : (g : GrantsState) (p a : ℕ) (grant : Grant) (q : ℕ) → entry_at g.table p a ≡ Some grant → names q grant.page ≡ true → is_live g q ≡ true
+found_lives g p a grant q is named =
+    let one = one_named q grant.page named in
+    let found = found_holds q (entries_of g.table p) a in
+    let as_found : one_if_named q (page_of (entry_at g.table p a)) ≡ one_if_named q grant.page = ap (λ o. one_if_named q (page_of o)) is in
+    let row = row_holders g.table (p - 1) q in
+    let some : nat_lt 0 (holders_of g.table q) ≡ true = grind (arith, nat_tests) in
+    let by_table : is_named_by g.table q ≡ true = named_by_holders g.table q ∙ some in
+    rw by_table (or_true (nat_lt q g.named))

@@ -6,13 +6,15 @@ use Rattle.std.proofs.lemmas.List.Elements.{All-head, All-tail, All-cons, All-se
 use Rattle.std.proofs.lemmas.List.Sums.{length-filter, count_by-le-length}
 use Rattle.ds_policy.specs.declared.grant.Entry.{Entry}
 use Rattle.ds_policy.specs.declared.grant.Grant.{Grant}
-use Rattle.ds_policy.specs.Pages.{Table, found, put, entries_of, entry_at, with_entry, without_entry}
+use Rattle.ds_policy.specs.Pages.{Table, names, found, put, entries_of, entry_at, with_entry, without_entry}
 use Rattle.ds_policy.specs.Grants.{is_some_right}
 use Rattle.ds_policy.proofs.Filling.{length_put}
 use Rattle.ds_grants.specs.State.{GrantsState, with_grant, without_grant}
 use Rattle.ds_grants.specs.Sound.{AreCounted, IsWhole, IsGoodRow, IsSound}
-use Rattle.ds_grants.specs.Counts.{page_of, holders_at, AreOneMore, AreOneFewer}
-use Rattle.ds_grants.proofs.HolderCounts.{put_counts, remove_counts}
+use Rattle.ds_grants.specs.Counts.{one_if_named, page_of, holders_at, AreOneMore, AreOneFewer}
+use Rattle.ds_grants.proofs.HolderCounts.{put_counts, remove_counts, itself, found_holds, row_holders, counted_within}
+use Rattle.ds_grants.proofs.Living.{one_named, found_lives}
+use Rattle.ds_grants.specs.Free.{HasPage}
 
 -- an entry in the place of another leaves as many, and one behind the others has room
 put_length : (es : List Entry) (a : ℕ) (g : Grant) (before : ℕ) → before + length es ≤ 256 → (IsNone (found es a) → before + length es < 256) → before + length (put es a g) ≤ 256
@@ -93,3 +95,33 @@ put_sound t holders middle new named ended p a grant low high room whole known f
 pub done : {E : Type 0} (r : Result (Unit {0}) E) (o : Option Grant) (P : Type 0) → OnOk r P → (IsErr r ↔ IsNone o) → is_some o ≡ true → P
 done (Ok x) o P did absent there = did
 done (Err e) o P did absent there = absurd (false≢true (sym (absent.0 refl) ∙ there))
+
+-- what is found among good entries is whole
+found_whole : (es : List Entry) (a : ℕ) (grant : Grant) → All IsWhole es → found es a ≡ Some grant → is_some grant.page ≡ is_some_right grant.right
+found_whole [] a grant all is = absurd (cc)
+found_whole (e ∷ es) a grant all is = elim (cases_Bool (e.address == a)) [
+  | inl here ↦
+      let same : Some e.grant ≡ Some grant = rw here at is in
+      let is_it : e.grant ≡ grant = cc in
+      subst (λ (g : Grant). is_some g.page ≡ is_some_right g.right) is_it (All-head IsWhole e es all)
+  | inr there ↦ found_whole es a grant (All-tail IsWhole e es all) (rw there at is)
+]
+
+some_page : (o : Option ℕ) → is_some o ≡ true → (q : ℕ) × (o ≡ Some q)
+some_page None h = absurd (false≢true h)
+some_page (Some q) h = (q, refl)
+
+-- what is granted with a right has a page, which lives
+pub has_page : (g : GrantsState) (holders : List ℕ) (p a : ℕ) (grant : Grant) → 0 < p → p ≤ length g.table → g.frames ≡ length holders → AreCounted g.table holders → All IsGoodRow g.table
+    → entry_at g.table p a ≡ Some grant → is_some_right grant.right ≡ true → HasPage g grant
+has_page g holders p a grant low high frames counted rows is right =
+    let row = good_row g.table p low high rows in
+    let (q, named) = some_page grant.page (found_whole (entries_of g.table p) a grant row.whole is ∙ right) in
+    let names_it : names q grant.page ≡ true = ap (names q) named ∙ itself q in
+    let one = one_named q grant.page names_it in
+    let found = found_holds q (entries_of g.table p) a in
+    let as_found : one_if_named q (page_of (entry_at g.table p a)) ≡ one_if_named q grant.page = ap (λ o. one_if_named q (page_of o)) is in
+    let among = row_holders g.table (p - 1) q in
+    let count = counted q in
+    let within = counted_within holders q (omega arith) in
+    record { page = q; named = named; within = omega arith; lives = found_lives g p a grant q is names_it }

@@ -79,8 +79,8 @@ page_of_address : (address vpn : ℕ) → vpn * 2 ^ 12 ≡ address → vpn ≡ a
 page_of_address address vpn is = omega arith
 
 module _ (entries : List Entry) (numbers : ℕ → ℕ) (g h : GrantsState) (process address : ℕ)
-         (elsewhere : (q a : ℕ) → 0 < q → (q ≡ process → a ≢ address) → entry_at h.table q a ≡ entry_at g.table q a)
-         (one : IsOneSpace numbers) (k : BufferHolds entries numbers g) where
+    (elsewhere : (q a : ℕ) → 0 < q → (q ≡ process → a ≢ address) → entry_at h.table q a ≡ entry_at g.table q a)
+    (one : IsOneSpace numbers) (k : BufferHolds entries numbers g) where
   -- an entry of another page is backed as before
   still_backed : (slot : ℕ) (e : Entry) (q : ℕ) → slice_get entries slot ≡ Some e → 0 < q → 0 < e.asid → numbers q ≡ e.asid → e.vpn * 2 ^ 12 ≢ address → IsBacked h q e
   still_backed slot e q at live some is other =
@@ -103,6 +103,7 @@ module _ (entries : List Entry) (numbers : ℕ → ℕ) (g h : GrantsState) (pro
       let m : matches (address / 2 ^ 12) 1 e ≡ true = subst (λ (v : ℕ). matches v 1 e ≡ true) page (of_one_space e space) in
       missed (found_there entries (address / 2 ^ 12) 1 slot e (find entries (address / 2 ^ 12) 1) k.single refl at m)
 
+  -- what is found for the address, if anything, is cleared, and the rest is backed as before
   forgotten_by : (found : Option ℕ) → found ≡ find entries (address / 2 ^ 12) 1 → BufferHolds (cleared entries found) numbers h
   forgotten_by None is = record {
     single = k.single;

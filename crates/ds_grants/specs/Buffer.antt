@@ -1,5 +1,5 @@
 -- What a translation lookaside buffer may hold of what is granted.
-use Rattle.std.specs.Prelude.{◌≡◌, ◌⊎◌, ℕ, ◌+◌, ◌*◌, ◌^◌, ◌<◌, ◌≤◌, true, false, List, slice_get, slice_set, Option, Some, None}
+use Rattle.std.specs.Prelude.{◌≡◌, ◌⊎◌, ℕ, ◌+◌, ◌*◌, ◌^◌, ◌<◌, ◌≤◌, true, false, List, slice_get, slice_set, Option, Some, None, unwrap_or}
 use Rattle.ds_word.specs.Word.{bit}
 use Rattle.ds_tlb.specs.declared.entry.Entry.{Entry}
 use Rattle.ds_tlb.specs.Entries.{find, empty_entry}
@@ -46,3 +46,23 @@ cleared entries (Some slot) = slice_set entries slot (empty_entry slot)
 -- without what the one address space has for a page
 abbrev pub forgotten : List Entry → ℕ → List Entry
 forgotten entries vpn = cleared entries (find entries vpn 1)
+
+-- EntryHi of a page in the one address space
+abbrev pub space_word : ℕ → ℕ
+space_word vpn = vpn * 2 ^ 12 + 2 ^ 6
+
+-- the entry that maps a page to the one address space, as far as a right goes
+abbrev pub translation : GrantsState → ℕ → ℕ → Right → Entry
+translation g vpn page right = entry_of (space_word vpn) (page_word g page right)
+
+-- with this entry in the place of what the one address space has for a page, or in this slot where it has nothing
+abbrev pub filled : List Entry → ℕ → ℕ → Entry → List Entry
+filled entries vpn slot e = slice_set entries (unwrap_or (find entries vpn 1) slot) e
+
+-- no other process has the one address space, and this one is granted a page, with a right, at this page of a user's
+pub record IsMappable (numbers : ℕ → ℕ) (g : GrantsState) (process vpn page : ℕ) (grant : Grant) : Type 0 where
+  pub owner : (q : ℕ) → 0 < q → numbers q ≡ 1 → q ≡ process
+  pub user : vpn < 2 ^ 19
+  pub granted : entry_at g.table process (vpn * 2 ^ 12) ≡ Some grant
+  pub right : is_some_right grant.right ≡ true
+  pub named : grant.page ≡ Some page

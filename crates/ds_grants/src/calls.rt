@@ -1,10 +1,10 @@
 //! What a process may do with what it was granted: give it, take back what it gave, and drop it.
-ghost use Rattle.std.specs.Prelude.{◌≡◌, ℕ, ◌<◌, ◌≤◌, ◌%◌, ◌^◌, List, true, false, length, if◌then◌else◌, Some, is_some, IsNone, IfSome, OnErr};
+ghost use Rattle.std.specs.Prelude.{◌≡◌, ℕ, ◌<◌, ◌≤◌, ◌%◌, ◌^◌, List, true, false, length, if◌then◌else◌, Some, IsNone, OnErr};
 ghost use Rattle.ds_policy.specs.declared.grant.Right.TheVariants.{Write};
 ghost use Rattle.ds_policy.specs.Pages.{entries_of, entry_at, fresh};
 ghost use Rattle.ds_policy.specs.Grants.{is_some_right, granted, copied, give, take, drop_own, drop_by_command};
-ghost use Rattle.ds_grants.specs.State.{Does, is_live, lives_in, page_state, pages_in};
-ghost use Rattle.ds_grants.specs.Free.{IsFirstFree};
+ghost use Rattle.ds_grants.specs.State.{Does, lives_in, page_state, pages_in};
+ghost use Rattle.ds_grants.specs.Free.{HasPage, IsFirstFree};
 ghost use Rattle.ds_grants.specs.Buffer.{BufferHolds, IsOneSpace};
 
 use crate::fault::GrantFault;
@@ -60,8 +60,7 @@ impl Grants {
         requires room { length (entries_of self.old.table receiver) < 256 }
         requires free { IsNone (entry_at self.old.table receiver to) }
         requires right { is_some_right right ≡ true }
-        requires lives { IfSome grant.page (λ q. is_live self.old q ≡ true) }
-        requires some { is_some grant.page ≡ true }
+        requires names { HasPage self.old grant }
         ensures state { (memory : List ℕ) → page_state self.new memory ≡ granted (page_state self.old memory) receiver to (record grant { right = right; giver = caller }) }
         ensures same { (self.new.frames ≡ self.old.frames) × (self.new.ended ≡ self.old.ended) }
         ensures buffer { (numbers : ℕ → ℕ) → IsOneSpace numbers → BufferHolds (L.entries tlb.old) numbers self.old → BufferHolds (L.entries tlb.new) numbers self.new }
@@ -91,9 +90,7 @@ impl Grants {
         requires user { to < 2 ^ 31 }
         requires room { length (entries_of self.old.table receiver) < 256 }
         requires free { IsNone (entry_at self.old.table receiver to) }
-        requires right { is_some_right grant.right ≡ true }
-        requires lives { IfSome grant.page (λ q. is_live self.old q ≡ true) }
-        requires some { is_some grant.page ≡ true }
+        requires names { HasPage self.old grant }
         requires frame { (page : ℕ) × IsFirstFree self.old page }
         ensures state { page_state self.new memory.new ≡ granted (copied (page_state self.old memory.old) grant.page) receiver to (record grant { right = Write; page = Some (fresh (pages_in self.old memory.old)); giver = caller }) }
         ensures same { (self.new.frames ≡ self.old.frames) × (self.new.ended ≡ self.old.ended) }

@@ -3,6 +3,7 @@
 //! as it was.
 #![tactic(auto)]
 
+mod buffer_laws;
 mod calls;
 mod commands;
 mod fault;
@@ -15,6 +16,7 @@ mod tally;
 mod tests_of_calls;
 mod translation;
 
+pub use buffer_laws::{a_filled_buffer_holds, a_translation_has_fields, an_empty_buffer_holds};
 pub use fault::GrantFault;
 pub use first::fill_page;
 pub use grants::Grants;

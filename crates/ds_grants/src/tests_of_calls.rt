@@ -1,10 +1,10 @@
 //! What speaks against a call or a command, in the one order of the refusals.
-ghost use Rattle.std.specs.Prelude.{◌≡◌, ℕ, ◌<◌, ◌≤◌, Bool, true, false, not, List, length, Result, Some, Ok, Err, is_some, IfOk, IfErr, OnOk, IsNone};
+ghost use Rattle.std.specs.Prelude.{◌≡◌, ℕ, ◌<◌, ◌≤◌, Bool, true, false, not, ◌==◌, ◌&&◌, nat_le, List, length, Result, Some, Ok, Err, is_some, IfOk, IfErr, OnOk, IsNone};
 ghost use Rattle.ds_policy.specs.declared.grant.Right.{Right};
-ghost use Rattle.ds_policy.specs.Pages.{entries_of, entry_at};
+ghost use Rattle.ds_policy.specs.Pages.{entries_of, entry_at, count_live};
 ghost use Rattle.ds_policy.specs.Grants.{PageState, ◌or_else◌, refused, has_right, is_some_right, not_page, no_right, table_full, fifth_region, may_not_give, given, granted, removed, give, grant, drop_by_command};
-ghost use Rattle.ds_grants.specs.State.{number_of, lives_in, page_state};
-ghost use Rattle.ds_grants.specs.Free.{IsFirstFree};
+ghost use Rattle.ds_grants.specs.State.{number_of, lives_in, pages_in, page_state};
+ghost use Rattle.ds_grants.specs.Free.{HasPage, IsFirstFree};
 ghost use Rattle.ds_grants.specs.Order.{is_no_page};
 
 use crate::fault::GrantFault;
@@ -51,6 +51,7 @@ impl Grants {
         ensures ok { OnOk result ((memory : List ℕ) (next : Result PageState ℕ) → (not_page addr or_else no_right (page_state self.now memory) process addr or_else next) ≡ next) }
         ensures there { IfOk result (λ g. entry_at self.now.table process addr ≡ Some g) }
         ensures right { IfOk result (λ g. is_some_right g.right ≡ true) }
+        ensures names { IfOk result (λ g. HasPage self.now g) }
         ensures page { OnOk result (is_no_page addr ≡ false) }
     {
         if is_no_page(addr) {
@@ -68,6 +69,7 @@ impl Grants {
         ensures ok { OnOk result ((memory : List ℕ) (next : Result PageState ℕ) → (refused 12 (not (lives_in self.now process)) or_else not_page addr or_else no_right (page_state self.now memory) process addr or_else next) ≡ next) }
         ensures there { IfOk result (λ g. entry_at self.now.table process addr ≡ Some g) }
         ensures right { IfOk result (λ g. is_some_right g.right ≡ true) }
+        ensures names { IfOk result (λ g. HasPage self.now g) }
         ensures page { OnOk result (is_no_page addr ≡ false) }
         ensures within { OnOk result ((0 < process) × (process ≤ length self.now.table)) }
     {
@@ -137,6 +139,14 @@ impl Grants {
         self.has_room(process, addr)
     }
 
+    /// Whether giving by this mode needs a frame, and none is free.
+    fn lacks_frame(&self, mode: u32) -> bool
+        ensures value { (memory : List ℕ) → result ≡ ((mode == 3) && nat_le (length (pages_in self.now memory)) (count_live (pages_in self.now memory))) }
+        ensures frame { result ≡ false → mode ≡ 3 → (page : ℕ) × IsFirstFree self.now page }
+    {
+        mode == 3 && self.free_page().is_none()
+    }
+
     /// What a process gives to another at an address there.
     pub(crate) fn may_give(
         &self,
@@ -152,6 +162,7 @@ impl Grants {
         ensures ok { IfOk result (λ g. (memory : List ℕ) → give (lives_in self.now) (page_state self.now memory) caller addr receiver to mode ≡ Ok (given (page_state self.now memory) caller g receiver to mode)) }
         ensures there { IfOk result (λ g. entry_at self.now.table caller addr ≡ Some g) }
         ensures right { IfOk result (λ g. is_some_right g.right ≡ true) }
+        ensures names { IfOk result (λ g. HasPage self.now g) }
         ensures free { OnOk result (IsNone (entry_at self.now.table receiver to)) }
         ensures page { OnOk result (is_no_page to ≡ false) }
         ensures within { OnOk result ((0 < receiver) × (receiver ≤ length self.now.table)) }
@@ -172,7 +183,7 @@ impl Grants {
             return Err(GrantFault::Taken);
         }
         self.has_room(receiver, to)?;
-        if mode == 3 && self.free_page().is_none() {
+        if self.lacks_frame(mode) {
             return Err(GrantFault::NoFrames);
         }
         Ok(grant)
