@@ -3,6 +3,7 @@ use Rattle.std.proofs.Common.{◌≡◌, ℕ, ◌&&◌, nat_le, length, is_some,
 use Rattle.std.proofs.lemmas.Bool.{false≢true}
 use Rattle.ds_policy.specs.declared.grant.Grant.{Grant}
 use Rattle.ds_policy.specs.declared.grant.Right.{Right}
+use Rattle.ds_policy.specs.declared.grant.Right.TheVariants.{Read}
 use Rattle.ds_policy.specs.Pages.{entry_at, count_live}
 use Rattle.ds_policy.specs.Grants.{PageState, ◌or_else◌, refused, not_page, no_right, no_frames, table_full, fifth_region, has_right, may_not_give, no_grant, given, granted, give, grant}
 use Rattle.ds_grants.specs.declared.fault.GrantFault.{GrantFault}
@@ -113,3 +114,7 @@ not_given s caller p a grant next is other = rw (is, other) refl
 pub was_given : (s : PageState) (caller p a : ℕ) (grant : Grant) (next : Result PageState ℕ) → entry_at s.table p a ≡ Some grant → (grant.giver == caller) ≡ true
     → (refused 19 (not ((unwrap_or (entry_at s.table p a) no_grant).giver == caller)) or_else next) ≡ next
 was_given s caller p a grant next is own = rw (is, own) refl
+
+-- what is narrowed is the grant that is there
+pub narrowed_as : (s : PageState) (p a : ℕ) (g : Grant) → entry_at s.table p a ≡ Some g → granted s p a (record (unwrap_or (entry_at s.table p a) no_grant) { right = Read }) ≡ granted s p a (record g { right = Read })
+narrowed_as s p a g is = ap (λ (o : Option Grant). granted s p a (record (unwrap_or o no_grant) { right = Read })) is

@@ -8,6 +8,7 @@ use Rattle.std.proofs.lemmas.List.FromFn.{length-map-range_with_len, get_or-map-
 use Rattle.ds_mem.specs.Memory.{frame_of, with_frame}
 use Rattle.ds_policy.specs.declared.grant.Entry.{Entry}
 use Rattle.ds_policy.specs.declared.grant.Grant.{Grant}
+use Rattle.ds_policy.specs.declared.grant.Right.TheVariants.{Read}
 use Rattle.ds_policy.specs.Pages.{Table, Pages, names, entry_at, entries_of, with_entry, without_entry, is_named_by, kept, bytes_of, count_live, fresh}
 use Rattle.ds_policy.specs.Grants.{PageState, granted, copied, removed, live_only, end_process, is_some_right}
 use Rattle.ds_grants.specs.State.{GrantsState, is_live, frame_of_page, page_in, pages_in, page_state, with_grant, without_grant}
@@ -149,3 +150,24 @@ found_lives g p a grant q is named =
     let some : nat_lt 0 (holders_of g.table q) ≡ true = grind (arith, nat_tests) in
     let by_table : is_named_by g.table q ≡ true = named_by_holders g.table q ∙ some in
     rw by_table (or_true (nat_lt q g.named))
+
+-- an entry that keeps its page
+pub narrowed_state : (g : GrantsState) (p a : ℕ) (grant : Grant) (memory : List ℕ) → 0 < p → p ≤ length g.table → entry_at g.table p a ≡ Some grant
+    → page_state (with_grant g p a (record grant { right = Read })) memory ≡ granted (page_state g memory) p a (record grant { right = Read })
+narrowed_state g p a grant memory low high is =
+    put_state g p a (record grant { right = Read }) memory low high (λ q named. found_lives g p a grant q is named) (λ q named. subst (λ (o : Option Grant). names q (page_of o) ≡ true) is named)
+
+-- an entry where none was, of a page that lives
+pub shared_state : (g : GrantsState) (p a : ℕ) (grant : Grant) (memory : List ℕ) → 0 < p → p ≤ length g.table → page_of (entry_at g.table p a) ≡ None
+    → ((q : ℕ) → names q grant.page ≡ true → is_live g q ≡ true)
+    → page_state (with_grant g p a grant) memory ≡ granted (page_state g memory) p a grant
+shared_state g p a grant memory low high none lives =
+    put_state g p a grant memory low high lives (λ q named. absurd (false≢true (subst (λ (o : Option ℕ). names q o ≡ true) none named)))
+
+-- the page that has this number is the one that is named
+named_only : (q page : ℕ) → names q (Some page) ≡ true → page ≡ q
+named_only q page named = grind (arith, nat_tests)
+
+-- a page that is named alone lives where it does
+pub one_lives : (g : GrantsState) (named : Option ℕ) (page : ℕ) → named ≡ Some page → is_live g page ≡ true → (q : ℕ) → names q named ≡ true → is_live g q ≡ true
+one_lives g named page is lives q names_it = subst (λ n. is_live g n ≡ true) (named_only q page (subst (λ (o : Option ℕ). names q o ≡ true) is names_it)) lives

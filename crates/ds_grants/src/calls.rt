@@ -151,11 +151,7 @@ impl Grants {
         ensures buffer { (numbers : ℕ → ℕ) → IsOneSpace numbers → BufferHolds (L.entries tlb.old) numbers self.old → BufferHolds (L.entries tlb.new) numbers self.new }
         ensures random { L.random_place tlb.new ≡ L.random_place tlb.old }
     {
-        if by_command {
-            self.may_be_dropped(process, addr)?;
-        } else {
-            self.granted_page(process, addr)?;
-        }
+        self.may_drop(process, addr, by_command)?;
         self.remove(process, addr, tlb);
         Ok(())
     }

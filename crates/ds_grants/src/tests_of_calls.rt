@@ -1,8 +1,8 @@
 //! What speaks against a call or a command, in the one order of the refusals.
-ghost use Rattle.std.specs.Prelude.{◌≡◌, ℕ, ◌<◌, ◌≤◌, Bool, true, false, not, ◌==◌, ◌&&◌, nat_le, List, length, Result, Some, Ok, Err, is_some, IfOk, IfErr, OnOk, IsNone};
+ghost use Rattle.std.specs.Prelude.{◌≡◌, ℕ, ◌<◌, ◌≤◌, Bool, true, false, not, if◌then◌else◌, ◌==◌, ◌&&◌, nat_le, List, length, Result, Some, Ok, Err, is_some, IfOk, IfErr, OnOk, IsNone};
 ghost use Rattle.ds_policy.specs.declared.grant.Right.{Right};
 ghost use Rattle.ds_policy.specs.Pages.{entries_of, entry_at, count_live};
-ghost use Rattle.ds_policy.specs.Grants.{PageState, ◌or_else◌, refused, has_right, is_some_right, not_page, no_right, table_full, fifth_region, may_not_give, given, granted, removed, give, grant, drop_by_command};
+ghost use Rattle.ds_policy.specs.Grants.{PageState, ◌or_else◌, refused, has_right, is_some_right, not_page, no_right, table_full, fifth_region, may_not_give, given, granted, removed, give, grant, drop_own, drop_by_command};
 ghost use Rattle.ds_grants.specs.State.{number_of, lives_in, pages_in, page_state};
 ghost use Rattle.ds_grants.specs.Free.{HasPage, IsFirstFree};
 ghost use Rattle.ds_grants.specs.Order.{is_no_page};
@@ -97,6 +97,27 @@ impl Grants {
             Some(_) => Ok(()),
             None => Err(GrantFault::NoGrant),
         }
+    }
+
+    /// Whether an operator, or else the process itself, may drop the entry of a process at an address.
+    pub(crate) fn may_drop(
+        &self,
+        process: u32,
+        addr: u32,
+        by_command: bool,
+    ) -> Result<(), GrantFault>
+        requires process { by_command ≡ false → (0 < process) × (process ≤ length self.now.table) }
+        ensures err { IfErr result (λ r. (memory : List ℕ) → (if by_command then drop_by_command (lives_in self.now) (page_state self.now memory) process addr else drop_own (page_state self.now memory) process addr) ≡ Err (number_of r)) }
+        ensures ok { OnOk result ((memory : List ℕ) → (if by_command then drop_by_command (lives_in self.now) (page_state self.now memory) process addr else drop_own (page_state self.now memory) process addr) ≡ Ok (removed (page_state self.now memory) process addr)) }
+        ensures there { OnOk result (is_some (entry_at self.now.table process addr) ≡ true) }
+        ensures page { OnOk result (is_no_page addr ≡ false) }
+        ensures within { OnOk result ((0 < process) × (process ≤ length self.now.table)) }
+    {
+        if by_command {
+            return self.may_be_dropped(process, addr);
+        }
+        self.granted_page(process, addr)?;
+        Ok(())
     }
 
     /// Whether a process has room for an entry at an address: no more than 256 entries, in no more than
