@@ -1,5 +1,5 @@
 -- The first page that is free, and the page state with a copy in its frame.
-use Rattle.std.proofs.Common.{zero, suc, ◌≡◌, ◌≢◌, ◌⊎◌, ℕ, ◌+◌, ◌-◌, ◌*◌, ◌<◌, ◌≤◌, ◌==◌, ◌||◌, Bool, true, false, cond, nat_lt, nat_le, List, [], ◌∷◌, length, map, get_or, is_some, unwrap_or, Option, Some, None, refl, sym, ap, subst, ◌∙◌, inl, inr, arith, slice_set, length-set, IfSome, IsNone, is_none, not}
+use Rattle.std.proofs.Common.{zero, suc, ◌≡◌, ◌≢◌, ◌⊎◌, ℕ, ◌+◌, ◌-◌, ◌*◌, ◌<◌, ◌≤◌, ◌==◌, ◌||◌, Bool, true, false, cond, nat_lt, nat_le, List, [], ◌∷◌, length, map, get_or, is_some, unwrap_or, Option, Some, None, refl, sym, ap, subst, ◌∙◌, inl, inr, arith, slice_set, length-set, IfSome, IsNone, is_none, not, drop}
 use Rattle.std.specs.List.{range_with_len}
 use Rattle.std.proofs.lemmas.Bool.{cases_Bool, cases_eq, false≢true}
 use Rattle.std.proofs.lemmas.Bool.Decides.{nat_tests}
@@ -8,13 +8,14 @@ use Rattle.std.proofs.lemmas.List.FromFn.{length-map-range_with_len, get_or-map-
 use Rattle.ds_mem.specs.Memory.{frame_of, with_frame}
 use Rattle.ds_mem.proofs.Frames.{frame_of-with_frame, frame_of-with_frame_apart}
 use Rattle.ds_policy.specs.declared.grant.Grant.{Grant}
+use Rattle.ds_policy.specs.declared.grant.Right.TheVariants.{Write}
 use Rattle.ds_policy.specs.Pages.{Table, Pages, names, entry_at, with_entry, is_named_by, bytes_of, count_live, fresh}
 use Rattle.ds_policy.specs.Grants.{PageState, granted, copied}
 use Rattle.ds_grants.specs.State.{GrantsState, is_live, frame_of_page, page_in, pages_in, page_state, with_grant}
 use Rattle.ds_grants.specs.Counts.{one_if_named, page_of, holders_of}
 use Rattle.ds_grants.specs.Free.{IsFirstFree}
-use Rattle.ds_grants.proofs.HolderCounts.{holders_with, named_by_holders}
-use Rattle.ds_grants.proofs.Living.{live_same}
+use Rattle.ds_grants.proofs.HolderCounts.{holders_with, named_by_holders, itself}
+use Rattle.ds_grants.proofs.Living.{live_same, or_true}
 
 -- the pages from one number on, of which the n-th is the first that doesn't live
 fresh_from : (g : GrantsState) (memory : List ℕ) (size at n : ℕ) → n < size → is_live g (at + n) ≡ false → ((q : ℕ) → at ≤ q → q < at + n → is_live g q ≡ true)
@@ -82,3 +83,82 @@ none_told None true h = refl
 none_told None false h = absurd (false≢true h)
 none_told (Some n) true h = absurd (false≢true (sym h))
 none_told (Some n) false h = refl
+
+apart_either : (j n : ℕ) → j ≢ n → (j < n) ⊎ (n < j)
+apart_either zero zero apart = absurd (apart refl)
+apart_either zero (suc n) apart = inl (omega arith)
+apart_either (suc j) zero apart = inr (omega arith)
+apart_either (suc j) (suc n) apart = elim (apart_either j n (λ same. apart (ap suc same))) [ inl below ↦ inl (omega arith) | inr above ↦ inr (omega arith) ]
+
+-- the pages with a copy in the frame of one that was free
+pub pages_copied : (g h : GrantsState) (memory : List ℕ) (k n : ℕ) → h.frames ≡ g.frames → g.frames ≤ 1024 → 8388608 ≤ length memory → k < g.frames → is_live g k ≡ true → n < g.frames → is_live h n ≡ true
+    → ((q : ℕ) → q ≢ n → is_live h q ≡ is_live g q)
+    → pages_in h (with_frame memory (n + 402) (frame_of memory (k + 402))) ≡ slice_set (pages_in g memory) n (Some (bytes_of (pages_in g memory) k))
+pages_copied g h memory k n size few large source lives target born others =
+    let new : List ℕ = with_frame memory (n + 402) (frame_of memory (k + 402)) in
+    let long = length-map-range_with_len (page_in g memory) 0 g.frames in
+    let long' = length-map-range_with_len (page_in h new) 0 h.frames in
+    let set_long = length-set (pages_in g memory) n (Some (bytes_of (pages_in g memory) k)) in
+    let frame : length (frame_of memory (k + 402)) ≡ 4096 = length-take-le 4096 (drop ((k + 402) * 4096) memory) (let rest = length-drop ((k + 402) * 4096) memory in omega arith) in
+    let page : get_or (pages_in g memory) k None ≡ Some (frame_of memory (k + 402)) = get_or-map-range_with_len (page_in g memory) 0 g.frames k k None source (omega arith) ∙ rw lives refl in
+    let bytes : bytes_of (pages_in g memory) k ≡ frame_of memory (k + 402) = rw page refl in
+    same_lists (pages_in h new) (slice_set (pages_in g memory) n (Some (bytes_of (pages_in g memory) k))) (omega arith)
+    (λ j d within.
+      let inside : j < h.frames = omega arith in
+      let left : get_or (pages_in h new) j d ≡ page_in h new j = get_or-map-range_with_len (page_in h new) 0 h.frames j j d inside (omega arith) in
+      elim (cases_eq j n) [
+        | inl here ↦
+            let right : get_or (slice_set (pages_in g memory) n (Some (bytes_of (pages_in g memory) k))) j d ≡ Some (frame_of memory (k + 402)) =
+              ap (λ i. get_or (slice_set (pages_in g memory) n (Some (bytes_of (pages_in g memory) k))) i d) here
+              ∙ get_or-set_same (pages_in g memory) n (Some (bytes_of (pages_in g memory) k)) d (omega arith)
+              ∙ ap (λ (b : List ℕ). Some b) bytes in
+            let now : page_in h new n ≡ Some (frame_of memory (k + 402)) = rw born (ap (λ (b : List ℕ). Some b) (frame_of-with_frame memory (frame_of memory (k + 402)) (n + 402) frame (omega arith))) in
+            left ∙ ap (page_in h new) here ∙ now ∙ sym right
+        | inr apart ↦
+            let right : get_or (slice_set (pages_in g memory) n (Some (bytes_of (pages_in g memory) k))) j d ≡ page_in g memory j =
+              get_or-set_other (pages_in g memory) n j (Some (bytes_of (pages_in g memory) k)) d apart
+              ∙ get_or-map-range_with_len (page_in g memory) 0 g.frames j j d (omega arith) (omega arith) in
+            let same : frame_of new (j + 402) ≡ frame_of memory (j + 402) = frame_of-with_frame_apart memory (frame_of memory (k + 402)) (n + 402) (j + 402) frame (omega arith) (elim (apart_either j n apart) [ inl below ↦ inl (omega arith) | inr above ↦ inr (omega arith) ]) in
+            left ∙ (rw (others j apart) (ap (λ (b : List ℕ). cond (is_live g j) (Some b) None) same)) ∙ sym right
+      ])
+
+module _ (g : GrantsState) (p a : ℕ) (grant : Grant) (n : ℕ) (low : 0 < p) (high : p ≤ length g.table) (none : entry_at g.table p a ≡ None) (named : grant.page ≡ Some n) where
+  abbrev after : GrantsState
+  after = with_grant g p a grant
+
+  counts : (q : ℕ) → holders_of after.table q ≡ holders_of g.table q + one_if_named q (Some n)
+  counts q =
+      let all = holders_with g.table p a grant q (omega (arith, low, high)) in
+      let nothing : one_if_named q (page_of (entry_at g.table p a)) ≡ 0 = ap (λ (o : Option Grant). one_if_named q (page_of o)) none in
+      let as_named : one_if_named q grant.page ≡ one_if_named q (Some n) = ap (one_if_named q) named in
+      omega arith
+
+  -- the page that is named for the first time lives
+  pub born_lives : is_live after n ≡ true
+  born_lives =
+      let count = counts n in
+      let one : one_if_named n (Some n) ≡ 1 = rw (itself n) refl in
+      let some : nat_lt 0 (holders_of after.table n) ≡ true = grind (arith, nat_tests) in
+      let by_table : is_named_by after.table n ≡ true = named_by_holders after.table n ∙ some in
+      rw by_table (or_true (nat_lt n g.named))
+
+  -- and all others as they did
+  pub others_live : (q : ℕ) → q ≢ n → is_live after q ≡ is_live g q
+  others_live q apart =
+      live_same g after q refl (λ unnamed.
+        let count = counts q in
+        let not_it : (n == q) ≡ false = grind (arith, nat_tests) in
+        let none_more : one_if_named q (Some n) ≡ 0 = rw not_it refl in
+        ap (nat_lt 0) (let same : holders_of after.table q ≡ holders_of g.table q = omega arith in same))
+
+-- the page state with a copy
+pub copied_state : (g : GrantsState) (p a : ℕ) (grant : Grant) (k n caller : ℕ) (memory : List ℕ) → 0 < p → p ≤ length g.table → entry_at g.table p a ≡ None
+    → grant.page ≡ Some k → k < g.frames → is_live g k ≡ true → IsFirstFree g n → g.frames ≤ 1024 → 8388608 ≤ length memory
+    → page_state (with_grant g p a (record grant { right = Write; page = Some n; giver = caller })) (with_frame memory (n + 402) (frame_of memory (k + 402)))
+    ≡ granted (copied (page_state g memory) grant.page) p a (record grant { right = Write; page = Some (fresh (pages_in g memory)); giver = caller })
+copied_state g p a grant k n caller memory low high none named source lives free few large =
+    let given : Grant = record grant { right = Write; page = Some n; giver = caller } in
+    let number = fresh_is g memory n free in
+    let pages = pages_copied g (with_grant g p a (record grant { right = Write; page = Some n; giver = caller })) memory k n refl few large source lives free.within
+      (born_lives g p a (record grant { right = Write; page = Some n; giver = caller }) n low high none refl) (others_live g p a (record grant { right = Write; page = Some n; giver = caller }) n low high none refl) in
+    rw (number, named) (ap (λ (ps : Pages). granted (record { pages = ps; table = g.table; named = g.named }) p a (record grant { right = Write; page = Some n; giver = caller })) pages)

@@ -1,6 +1,9 @@
 pub mod Chains
 pub mod Copies
 pub mod Fills
+pub mod FirstGrants
+pub mod FirstPages
+pub mod HeldByAll
 pub mod HolderCounts
 pub mod Images
 pub mod Living

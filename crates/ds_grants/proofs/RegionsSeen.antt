@@ -9,6 +9,7 @@ use Rattle.ds_policy.specs.declared.grant.Entry.{Entry}
 use Rattle.ds_policy.specs.Grants.{region, count_distinct}
 use Rattle.ds_policy.proofs.DistinctCounts.{count_last}
 
+-- the number is in the list
 abbrev has : ℕ → List ℕ → Bool
 has a xs = list_any (λ b. b == a) xs
 
@@ -36,14 +37,15 @@ pub record HasSeen (address : ℕ) (entries : List Entry) (at : ℕ) (seen : Lis
 pub seen_first : (address : ℕ) (entries : List Entry) → HasSeen address entries 0 (region address ∷ [])
 seen_first address entries = record { same = count_last (region address) (regions_of entries); different = refl; few = omega arith }
 
-step : (entries : List Entry) (at r : ℕ) (d : Entry) (seen : List ℕ) → at < length entries → r ≡ region (get_or entries at d).address → regions_of (drop at entries) ++ seen ≡ r ∷ regions_of (drop (at + 1) entries) ++ seen
-step entries at r d seen within is = ap (λ es. regions_of es ++ seen) (drop_more entries at d within) ∙ ap (λ (x : ℕ). x ∷ regions_of (drop (at + 1) entries) ++ seen) (sym is)
+-- the entry at a place is the first of those from there on
+first_left : (entries : List Entry) (at r : ℕ) (d : Entry) (seen : List ℕ) → at < length entries → r ≡ region (get_or entries at d).address → regions_of (drop at entries) ++ seen ≡ r ∷ regions_of (drop (at + 1) entries) ++ seen
+first_left entries at r d seen within is = ap (λ es. regions_of es ++ seen) (drop_more entries at d within) ∙ ap (λ (x : ℕ). x ∷ regions_of (drop (at + 1) entries) ++ seen) (sym is)
 
 -- an entry in a region that was seen adds none
 pub seen_already : (address : ℕ) (entries : List Entry) (at r : ℕ) (d : Entry) (seen : List ℕ) → at < length entries → r ≡ region (get_or entries at d).address → has r seen ≡ true → HasSeen address entries at seen → HasSeen address entries (at + 1) seen
 seen_already address entries at r d seen within is there before =
     let again = has_behind r (regions_of (drop (at + 1) entries)) seen there in
-    let whole = sym (ap count_distinct (step entries at r d seen within is)) ∙ before.same in
+    let whole = sym (ap count_distinct (first_left entries at r d seen within is)) ∙ before.same in
     record { same = rw again at whole; different = before.different; few = before.few }
 
 -- a region that was not seen is one more that is
@@ -58,7 +60,7 @@ push_last a left seen = ap count_distinct (sym (append_assoc left seen (a ∷ []
 
 -- the different ones of all, where a region is seen that was not
 all_with : (address : ℕ) (entries : List Entry) (at r : ℕ) (d : Entry) (seen : List ℕ) → at < length entries → r ≡ region (get_or entries at d).address → HasSeen address entries at seen → count_distinct (regions_of (drop (at + 1) entries) ++ (seen ++ r ∷ [])) ≡ count_distinct (region address ∷ regions_of entries)
-all_with address entries at r d seen within is before = push_last r (regions_of (drop (at + 1) entries)) seen ∙ sym (ap count_distinct (step entries at r d seen within is)) ∙ before.same
+all_with address entries at r d seen within is before = push_last r (regions_of (drop (at + 1) entries)) seen ∙ sym (ap count_distinct (first_left entries at r d seen within is)) ∙ before.same
 
 -- an entry in a region that was not seen
 pub seen_new : (address : ℕ) (entries : List Entry) (at r : ℕ) (d : Entry) (seen : List ℕ) → at < length entries → r ≡ region (get_or entries at d).address → has r seen ≡ false → length seen < 4 → HasSeen address entries at seen → HasSeen address entries (at + 1) (seen ++ r ∷ [])

@@ -7,7 +7,7 @@ use Rattle.std.proofs.lemmas.List.Sums.{length-filter, count_by-le-length}
 use Rattle.ds_policy.specs.declared.grant.Entry.{Entry}
 use Rattle.ds_policy.specs.declared.grant.Grant.{Grant}
 use Rattle.ds_policy.specs.Pages.{Table, names, found, put, entries_of, entry_at, with_entry, without_entry}
-use Rattle.ds_policy.specs.Grants.{is_some_right}
+use Rattle.ds_policy.specs.Grants.{is_some_right, has_right}
 use Rattle.ds_policy.proofs.Filling.{length_put}
 use Rattle.ds_grants.specs.State.{GrantsState, with_grant, without_grant}
 use Rattle.ds_grants.specs.Sound.{AreCounted, IsWhole, IsGoodRow, IsSound}
@@ -125,3 +125,15 @@ has_page g holders p a grant low high frames counted rows is right =
     let count = counted q in
     let within = counted_within holders q (omega arith) in
     record { page = q; named = named; within = omega arith; lives = found_lives g p a grant q is names_it }
+
+-- where no right is granted, no page is
+no_page_in : (es : List Entry) (a : ℕ) → All IsWhole es → (o : Option Grant) → found es a ≡ o → has_right o ≡ false → page_of o ≡ None
+no_page_in es a all None is no_right = refl
+no_page_in es a all (Some grant) is no_right = no_some grant.page (found_whole es a grant all is ∙ no_right)
+  where
+    no_some : (o : Option ℕ) → is_some o ≡ false → o ≡ None
+    no_some None h = refl
+    no_some (Some q) h = absurd (false≢true (sym h))
+
+pub no_page : (t : Table) (p a : ℕ) → 0 < p → p ≤ length t → All IsGoodRow t → has_right (entry_at t p a) ≡ false → page_of (entry_at t p a) ≡ None
+no_page t p a low high rows no_right = no_page_in (entries_of t p) a (good_row t p low high rows).whole (entry_at t p a) refl no_right

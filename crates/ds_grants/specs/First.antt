@@ -1,5 +1,5 @@
 -- The grants that a policy begins with.
-use Rattle.std.specs.Prelude.{ℕ, false, List, [], length, replicate}
+use Rattle.std.specs.Prelude.{ℕ, false, [], length, replicate}
 use Rattle.ds_policy.specs.Value.{PolicyValue}
 use Rattle.ds_policy.specs.FirstTable.{table_of}
 use Rattle.ds_grants.specs.State.{GrantsState}

@@ -1,5 +1,5 @@
 //! What is granted at the beginning of a run.
-ghost use Rattle.std.specs.Prelude.{◌≡◌, ℕ, ◌<◌, ◌≤◌, length, position, bytes_eq, IfSome, IfOk, OnErr};
+ghost use Rattle.std.specs.Prelude.{◌≡◌, ℕ, ◌+◌, ◌<◌, ◌≤◌, false, length, replicate, position, bytes_eq, slice_index_or, map, [], IfSome, IfOk, OnErr};
 ghost use Rattle.ds_mem.specs.Memory.{frame_of};
 ghost use Rattle.ds_asm.specs.Images.{part_of};
 ghost use Rattle.ds_policy.specs.PolicyParts.{sources_of};
@@ -7,10 +7,13 @@ ghost use Rattle.ds_pagemap.specs.First.{image_named, source_bytes, first_pages}
 ghost use Rattle.ds_grants.specs.State.{pages_in};
 ghost use Rattle.ds_grants.specs.First.{no_grants, first_grants};
 
-use crate::grants::{Grants, PROCESSES};
+use crate::grants::{Grants, PROCESSES, frame_of_page};
+use crate::holders::hold_table;
+use crate::tally::Tally;
+use arrayvec::ArrayVec;
 use ds_asm::Image;
-use ds_mem::OutOfMemory;
-use ds_policy::{Source, Table, Text};
+use ds_mem::{Memory, OutOfMemory};
+use ds_policy::{Policy, PolicyPage, Source, Table, Text};
 use std::alloc::Global;
 
 /// Where this name stands among the names.
@@ -43,5 +46,115 @@ pub fn fill_page(names: &[Text<64>], images: &[Image], source: &Option<Source>, 
     match source {
         Some(source) => fill_part(names, images, source, page),
         None => page.fill(0),
+    }
+}
+
+/// Fills the frame of each page with its part of the image of its source, or with zeros where it has none.
+fn fill_pages(names: &[Text<64>], images: &[Image], pages: &[PolicyPage], memory: &mut Memory)
+    requires images { length images.now ≡ length names.now }
+    requires few { length pages.now ≤ 1024 }
+    ensures each { (q : ℕ) → q < length pages.now → frame_of memory.new (q + 402) ≡ slice_index_or (map (λ page. source_bytes names.now images.now page.source) pages.now) q [] }
+    ensures elsewhere { (f : ℕ) → f < 402 → frame_of memory.new f ≡ frame_of memory.old f }
+{
+    for (i, page) in pages.iter().enumerate() {
+        fill_page(
+            names,
+            images,
+            &page.source,
+            memory.frame_mut(frame_of_page(i as u32)),
+        );
+    }
+}
+
+/// So many zeros.
+fn zeros(alloc: Global, count: usize) -> Result<Vec<u32>, OutOfMemory>
+    ensures { IfOk result (λ zeros. zeros.items ≡ replicate count 0) }
+{
+    match vec![in alloc; 0u32; count] {
+        Ok(zeros) => Ok(zeros),
+        Err(_) => Err(OutOfMemory),
+    }
+}
+
+/// So many processes, of which none has ended.
+fn none_ended(processes: usize) -> ArrayVec<bool, PROCESSES>
+    requires { processes ≤ 100 }
+    ensures { result.items ≡ replicate processes false }
+{
+    let mut ended = ArrayVec::new();
+    for _ in 0..processes {
+        ended.push(false);
+    }
+    ended
+}
+
+impl Grants {
+    /// The grants of so many processes that have none, over frames for so many pages, of which the first
+    /// are named.
+    pub fn empty(
+        alloc: Global,
+        processes: usize,
+        frames: u32,
+        named: u32,
+    ) -> Result<Grants, OutOfMemory>
+        requires processes { processes ≤ 100 }
+        requires named { named ≤ frames }
+        requires frames { frames ≤ 1024 }
+        ensures { IfOk result (λ g. g ≡ no_grants processes frames named) }
+    {
+        let holders = zeros(alloc, frames as usize)?;
+        match Table::empty(alloc, processes) {
+            Ok(table) => Ok(Grants {
+                table,
+                holders: Tally::of(holders),
+                named,
+                ended: none_ended(processes),
+            }),
+            Err(_) => Err(OutOfMemory),
+        }
+    }
+
+    /// What a policy's rules grant.
+    fn first(alloc: Global, policy: &Policy) -> Result<Grants, OutOfMemory>
+        ensures { IfOk result (λ g. g ≡ first_grants policy.now) }
+    {
+        // The rules are those of a policy that was read.
+        prove!(policy.rules().len() <= 999);
+        let mut holders = zeros(alloc, policy.frames() as usize)?;
+        let named = policy.pages().len() as u32;
+        let ended = none_ended(policy.processes().len());
+        match Table::new(alloc, policy) {
+            Ok(table) => {
+                hold_table(&mut holders, &table);
+                Ok(Grants {
+                    table,
+                    holders: Tally::of(holders),
+                    named,
+                    ended,
+                })
+            }
+            Err(_) => Err(OutOfMemory),
+        }
+    }
+
+    /// The grants that a policy begins with, and its pages in their frames of memory. There is one image
+    /// for each source name of the policy, in their order. Refused, memory is as it was.
+    pub fn new(
+        alloc: Global,
+        policy: &Policy,
+        images: &[Image],
+        memory: &mut Memory,
+    ) -> Result<Grants, OutOfMemory>
+        requires images { length images.now ≡ length (sources_of policy.now.pages) }
+        ensures state { IfOk result (λ g. g ≡ first_grants policy.now) }
+        ensures pages { IfOk result (λ g. pages_in g memory.new ≡ first_pages policy.now images.now) }
+        ensures elsewhere { (f : ℕ) → f < 402 → frame_of memory.new f ≡ frame_of memory.old f }
+        ensures refused { OnErr result (memory.new ≡ memory.old) }
+    {
+        let grants = Grants::first(alloc, policy)?;
+        // They name no page that the policy doesn't.
+        prove!(policy.rules().len() <= 999);
+        fill_pages(policy.sources(), images, policy.pages(), memory);
+        Ok(grants)
     }
 }

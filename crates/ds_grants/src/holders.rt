@@ -1,8 +1,10 @@
 //! How many entries name each page.
 ghost use Rattle.std.specs.Prelude.{◌≡◌, ℕ, ◌+◌, ◌<◌, ◌≤◌, ◌^◌, length, slice_index, IfSome};
-ghost use Rattle.ds_grants.specs.Counts.{page_of, page_at, holders_in, holders_at, AreOneMore, AreOneFewer};
+ghost use Rattle.std.specs.List.{All};
+ghost use Rattle.ds_grants.specs.Sound.{IsGoodRow};
+ghost use Rattle.ds_grants.specs.Counts.{page_of, page_at, holders_in, holders_of, holders_at, AreOneMore, AreOneFewer};
 
-use ds_policy::{Entry, Grant};
+use ds_policy::{Entry, Grant, Table};
 
 /// The page that is granted, if one is.
 pub(crate) fn page_of(grant: Option<Grant>) -> Option<u32>
@@ -66,5 +68,19 @@ pub(crate) fn hold_all(holders: &mut [u32], entries: &[Entry])
 {
     for entry in entries {
         hold(holders, entry.grant.page);
+    }
+}
+
+/// Counts all entries of a table, where none is counted.
+pub(crate) fn hold_table(holders: &mut [u32], table: &Table)
+    requires none { (page : ℕ) → slice_index holders.old page ≡ 0 }
+    requires within { (page : ℕ) → length holders.old ≤ page → holders_of table.now page ≡ 0 }
+    requires rows { All IsGoodRow table.now }
+    requires processes { length table.now ≤ 100 }
+    ensures all { (page : ℕ) → slice_index holders.new page ≡ holders_of table.now page }
+    ensures size { length holders.new ≡ length holders.old }
+{
+    for place in 0..table.processes() {
+        hold_all(holders, table.entries(place as u32 + 1));
     }
 }

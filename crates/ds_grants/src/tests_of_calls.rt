@@ -1,9 +1,10 @@
 //! What speaks against a call or a command, in the one order of the refusals.
-ghost use Rattle.std.specs.Prelude.{◌≡◌, ℕ, ◌<◌, ◌≤◌, Bool, true, false, not, if◌then◌else◌, ◌==◌, ◌&&◌, nat_le, List, length, Result, Some, Ok, Err, is_some, IfOk, IfErr, OnOk, IsNone};
+ghost use Rattle.std.specs.Prelude.{◌≡◌, ℕ, ◌<◌, ◌≤◌, Bool, true, false, not, if◌then◌else◌, ◌==◌, ◌&&◌, nat_le, List, length, Result, Some, None, Ok, Err, is_some, IfOk, IfErr, OnOk, IsNone};
 ghost use Rattle.ds_policy.specs.declared.grant.Right.{Right};
 ghost use Rattle.ds_policy.specs.Pages.{entries_of, entry_at, count_live};
 ghost use Rattle.ds_policy.specs.Grants.{PageState, ◌or_else◌, refused, has_right, is_some_right, not_page, no_right, table_full, fifth_region, may_not_give, given, granted, removed, give, grant, drop_own, drop_by_command};
 ghost use Rattle.ds_grants.specs.State.{number_of, lives_in, pages_in, page_state};
+ghost use Rattle.ds_grants.specs.Counts.{page_of};
 ghost use Rattle.ds_grants.specs.Free.{HasPage, IsFirstFree};
 ghost use Rattle.ds_grants.specs.Order.{is_no_page};
 
@@ -143,7 +144,8 @@ impl Grants {
     pub(crate) fn may_be_granted(&self, process: u32, addr: u32) -> Result<(), GrantFault>
         ensures err { IfErr result (λ r. (memory : List ℕ) (page : ℕ) (right : Right) (may_give : Bool) (rule : ℕ) → grant (lives_in self.now) (page_state self.now memory) process addr page right may_give rule ≡ Err (number_of r)) }
         ensures ok { OnOk result ((memory : List ℕ) (page : ℕ) (right : Right) (may_give : Bool) (rule : ℕ) → grant (lives_in self.now) (page_state self.now memory) process addr page right may_give rule ≡ Ok (granted (page_state self.now memory) process addr (record { right = right; page = Some page; rule = rule; give = may_give; giver = 0 }))) }
-        ensures free { OnOk result (has_right (entry_at self.now.table process addr) ≡ false) }
+        ensures free { OnOk result (page_of (entry_at self.now.table process addr) ≡ None) }
+        ensures named { OnOk result (self.now.named ≤ self.now.frames) }
         ensures page { OnOk result (is_no_page addr ≡ false) }
         ensures within { OnOk result ((0 < process) × (process ≤ length self.now.table)) }
         ensures room { OnOk result (IsNone (entry_at self.now.table process addr) → length (entries_of self.now.table process) < 256) }

@@ -1,7 +1,7 @@
-use Rattle.std.proofs.Common.{◌≡◌, ◌∙◌, sym, ap, subst, arith, ℕ, false, true, length, List, ◌<◌, ◌∷◌, ◌++◌, [], ◌==◌}
+use Rattle.std.proofs.Common.{◌≡◌, ◌∙◌, sym, ap, arith, ℕ, false, true, length, ◌<◌, ◌==◌}
 use Rattle.std.specs.List.{list_any}
 use Rattle.std.proofs.lemmas.Bool.Decides.{nat_tests}
-use Rattle.ds_grants.proofs.RegionsSeen.{HasSeen, seen_first, seen_already, seen_new, seen_fifth}
+use Rattle.ds_grants.proofs.RegionsSeen.{seen_first, seen_already, seen_new, seen_fifth}
 use Rattle.ds_grants.proofs.regions.is_in_fifth_region.Goals as goal
 use Rattle.ds_grants.proofs.regions.is_in_fifth_region.Goals.{then-not-contains+else-is_full, else-not-contains}
 

@@ -7,3 +7,6 @@ returns-clause-err c = room_err c.args.self.now c.args.process c.args.addr (sear
 
 pub returns-clause-ok : goal.returns-clause-ok
 returns-clause-ok c = room_ok c.args.self.now c.args.process c.args.addr (search rules) (search rules) (search rules) c.has_room.result c.has_room.ensures.ok
+
+pub returns-clause-free : goal.returns-clause-free
+returns-clause-free c = ?
