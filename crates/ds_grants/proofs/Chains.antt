@@ -23,6 +23,11 @@ unpassed number true next result fails is = absurd (false≢true (sym fails))
 pub at_err : {T E : Type 0} (r : Result T E) (e : E) (P : E → Type 0) → r ≡ Err e → P e → IfErr r P
 at_err {T = T} {E = E} r e P is h = subst (λ (x : Result T E). IfErr x P) (sym is) h
 
+-- what holds anyway holds where it is done
+pub at_ok : {T E P : Type 0} (r : Result T E) → P → OnOk r P
+at_ok (Ok x) p = p
+at_ok (Err e) p = tt
+
 denied : (b : Bool) → b ≡ true → not b ≡ false
 denied b is = rw is refl
 

@@ -1,9 +1,9 @@
 -- The first page that is free, and the page state with a copy in its frame.
-use Rattle.std.proofs.Common.{zero, suc, ◌≡◌, ◌≢◌, ◌⊎◌, ℕ, ◌+◌, ◌-◌, ◌*◌, ◌<◌, ◌≤◌, ◌==◌, ◌||◌, Bool, true, false, cond, nat_lt, nat_le, List, [], ◌∷◌, length, map, get_or, is_some, unwrap_or, Option, Some, None, refl, sym, ap, subst, ◌∙◌, inl, inr, arith, slice_set, length-set, IfSome, IsNone, is_none, not, drop}
+use Rattle.std.proofs.Common.{zero, suc, ◌≡◌, ◌≢◌, ◌⊎◌, ℕ, ◌+◌, ◌-◌, ◌*◌, ◌<◌, ◌≤◌, ◌==◌, ◌||◌, Bool, true, false, cond, nat_lt, nat_le, List, [], ◌∷◌, length, map, get_or, is_some, unwrap_or, Option, Some, None, refl, sym, ap, subst, ◌∙◌, inl, inr, arith, slice_set, length-set, IfSome, IsNone, is_none, not, drop, take, ◌++◌}
 use Rattle.std.specs.List.{range_with_len}
 use Rattle.std.proofs.lemmas.Bool.{cases_Bool, cases_eq, false≢true}
 use Rattle.std.proofs.lemmas.Bool.Decides.{nat_tests}
-use Rattle.std.proofs.lemmas.List.{same_lists, get_or-set_same, get_or-set_other, length-take-le, length-drop}
+use Rattle.std.proofs.lemmas.List.{same_lists, get_or-set_same, get_or-set_other, length-take, length-take-le, length-drop}
 use Rattle.std.proofs.lemmas.List.FromFn.{length-map-range_with_len, get_or-map-range_with_len}
 use Rattle.ds_mem.specs.Memory.{frame_of, with_frame}
 use Rattle.ds_mem.proofs.Frames.{frame_of-with_frame, frame_of-with_frame_apart}
@@ -162,3 +162,14 @@ copied_state g p a grant k n caller memory low high none named source lives free
     let pages = pages_copied g (with_grant g p a (record grant { right = Write; page = Some n; giver = caller })) memory k n refl few large source lives free.within
       (born_lives g p a (record grant { right = Write; page = Some n; giver = caller }) n low high none refl) (others_live g p a (record grant { right = Write; page = Some n; giver = caller }) n low high none refl) in
     rw (number, named) (ap (λ (ps : Pages). granted (record { pages = ps; table = g.table; named = g.named }) p a (record grant { right = Write; page = Some n; giver = caller })) pages)
+
+-- there is none
+pub none_there : (o : Option Grant) → IsNone o → o ≡ None
+none_there None h = refl
+none_there (Some g) h = absurd (false≢true (sym h))
+
+-- memory was as large as it is
+pub large_before : (memory bytes : List ℕ) (f n : ℕ) → length (with_frame memory f bytes) ≡ n → n ≤ length memory
+large_before memory bytes f n size =
+    let most = length-take (length memory) (take (f * 4096) memory ++ (bytes ++ drop (f * 4096 + length bytes) memory)) in
+    omega arith

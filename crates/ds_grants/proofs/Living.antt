@@ -171,3 +171,7 @@ named_only q page named = grind (arith, nat_tests)
 -- a page that is named alone lives where it does
 pub one_lives : (g : GrantsState) (named : Option ℕ) (page : ℕ) → named ≡ Some page → is_live g page ≡ true → (q : ℕ) → names q named ≡ true → is_live g q ≡ true
 one_lives g named page is lives q names_it = subst (λ n. is_live g n ≡ true) (named_only q page (subst (λ (o : Option ℕ). names q o ≡ true) is names_it)) lives
+
+-- what the policy names lives
+pub named_lives : (g : GrantsState) (page : ℕ) → page < g.named → is_live g page ≡ true
+named_lives g page named = let is : nat_lt page g.named ≡ true = grind (arith, nat_tests) in rw is refl

@@ -133,9 +133,9 @@ pub buffer_forgotten : (entries : List Entry) (numbers : ℕ → ℕ) (g h : Gra
 buffer_forgotten entries numbers g h process address elsewhere one k = forgotten_by entries numbers g h process address elsewhere one k (find entries (address / 2 ^ 12) 1) refl
 
 -- a grant is put, and the buffer forgets its page
-pub put_buffer : (entries : List Entry) (numbers : ℕ → ℕ) (g : GrantsState) (p a : ℕ) (grant : Grant) → 0 < p → a % 4096 ≡ 0 → a < 2 ^ 31 → IsOneSpace numbers → BufferHolds entries numbers g → BufferHolds (forgotten entries (a / 2 ^ 12)) numbers (with_grant g p a grant)
-put_buffer entries numbers g p a grant low _ _ one k = buffer_forgotten entries numbers g (with_grant g p a grant) p a (λ q b live apart. entry_at-with_entry g.table p a grant q b low live apart) one k
+pub put_buffer : (entries : List Entry) (numbers : ℕ → ℕ) (g : GrantsState) (p a : ℕ) (grant : Grant) → 0 < p → IsOneSpace numbers → BufferHolds entries numbers g → BufferHolds (forgotten entries (a / 2 ^ 12)) numbers (with_grant g p a grant)
+put_buffer entries numbers g p a grant low one k = buffer_forgotten entries numbers g (with_grant g p a grant) p a (λ q b live apart. entry_at-with_entry g.table p a grant q b low live apart) one k
 
 -- a grant is removed, and the buffer forgets its page
-pub remove_buffer : (entries : List Entry) (numbers : ℕ → ℕ) (g : GrantsState) (p a : ℕ) → 0 < p → a % 4096 ≡ 0 → a < 2 ^ 31 → IsOneSpace numbers → BufferHolds entries numbers g → BufferHolds (forgotten entries (a / 2 ^ 12)) numbers (without_grant g p a)
-remove_buffer entries numbers g p a low _ _ one k = buffer_forgotten entries numbers g (without_grant g p a) p a (λ q b live apart. entry_at-without_entry g.table p a q b low live apart) one k
+pub remove_buffer : (entries : List Entry) (numbers : ℕ → ℕ) (g : GrantsState) (p a : ℕ) → 0 < p → IsOneSpace numbers → BufferHolds entries numbers g → BufferHolds (forgotten entries (a / 2 ^ 12)) numbers (without_grant g p a)
+remove_buffer entries numbers g p a low one k = buffer_forgotten entries numbers g (without_grant g p a) p a (λ q b live apart. entry_at-without_entry g.table p a q b low live apart) one k

@@ -1,5 +1,5 @@
 -- What is granted, the page state that it has in a memory, and what a call answers.
-use Rattle.std.specs.Prelude.{◌≡◌, ℕ, ◌+◌, ◌-◌, Bool, true, not, ◌&&◌, ◌||◌, nat_lt, if◌then◌else◌, List, map, slice_index_or, Option, Some, None, Result, Ok, Err}
+use Rattle.std.specs.Prelude.{◌≡◌, ℕ, ◌+◌, ◌-◌, Bool, true, not, ◌&&◌, ◌||◌, nat_lt, if◌then◌else◌, List, length, map, slice_index_or, Option, Some, None, Result, Ok, Err}
 use Rattle.std.specs.List.{range_with_len}
 use Rattle.ds_mem.specs.Memory.{frame_of}
 use Rattle.ds_policy.specs.declared.grant.Grant.{Grant}
@@ -49,6 +49,12 @@ with_grant g process address grant = record g { table = with_entry g.table proce
 -- without the entry of a process at an address
 abbrev pub without_grant : GrantsState → ℕ → ℕ → GrantsState
 without_grant g process address = record g { table = without_entry g.table process address }
+
+-- as many processes, as many pages that may live, and as many that the policy names
+pub record IsAsLarge (old new : GrantsState) : Type 0 where
+  pub processes : length new.table ≡ length old.table
+  pub frames : new.frames ≡ old.frames
+  pub named : new.named ≡ old.named
 
 -- a refusal's number
 abbrev pub number_of : GrantFault → ℕ

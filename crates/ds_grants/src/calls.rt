@@ -3,7 +3,7 @@ ghost use Rattle.std.specs.Prelude.{◌≡◌, ℕ, ◌<◌, ◌≤◌, ◌%◌,
 ghost use Rattle.ds_policy.specs.declared.grant.Right.TheVariants.{Write};
 ghost use Rattle.ds_policy.specs.Pages.{entries_of, entry_at, fresh};
 ghost use Rattle.ds_policy.specs.Grants.{is_some_right, granted, copied, give, take, drop_own, drop_by_command};
-ghost use Rattle.ds_grants.specs.State.{Does, lives_in, page_state, pages_in};
+ghost use Rattle.ds_grants.specs.State.{Does, IsAsLarge, lives_in, page_state, pages_in};
 ghost use Rattle.ds_grants.specs.Free.{HasPage, IsFirstFree};
 ghost use Rattle.ds_grants.specs.Buffer.{BufferHolds, IsOneSpace};
 
@@ -29,7 +29,8 @@ impl Grants {
         requires low { 0 < caller }
         requires high { caller ≤ length self.old.table }
         ensures does { Does (page_state self.old memory.old) (page_state self.new memory.new) result (give (lives_in self.old) (page_state self.old memory.old) caller addr receiver to mode) }
-        ensures same { (self.new.frames ≡ self.old.frames) × (self.new.ended ≡ self.old.ended) }
+        ensures same { IsAsLarge self.old self.new }
+        ensures ended { self.new.ended ≡ self.old.ended }
         ensures refused { OnErr result ((self.new ≡ self.old) × (memory.new ≡ memory.old) × (L.entries tlb.new ≡ L.entries tlb.old)) }
         ensures buffer { (numbers : ℕ → ℕ) → IsOneSpace numbers → BufferHolds (L.entries tlb.old) numbers self.old → BufferHolds (L.entries tlb.new) numbers self.new }
         ensures random { L.random_place tlb.new ≡ L.random_place tlb.old }
@@ -55,14 +56,13 @@ impl Grants {
     )
         requires low { 0 < receiver }
         requires high { receiver ≤ length self.old.table }
-        requires page_address { to % 4096 ≡ 0 }
-        requires user { to < 2 ^ 31 }
         requires room { length (entries_of self.old.table receiver) < 256 }
         requires free { IsNone (entry_at self.old.table receiver to) }
         requires right { is_some_right right ≡ true }
         requires names { HasPage self.old grant }
         ensures state { (memory : List ℕ) → page_state self.new memory ≡ granted (page_state self.old memory) receiver to (record grant { right = right; giver = caller }) }
-        ensures same { (self.new.frames ≡ self.old.frames) × (self.new.ended ≡ self.old.ended) }
+        ensures same { IsAsLarge self.old self.new }
+        ensures ended { self.new.ended ≡ self.old.ended }
         ensures buffer { (numbers : ℕ → ℕ) → IsOneSpace numbers → BufferHolds (L.entries tlb.old) numbers self.old → BufferHolds (L.entries tlb.new) numbers self.new }
         ensures random { L.random_place tlb.new ≡ L.random_place tlb.old }
     {
@@ -86,14 +86,13 @@ impl Grants {
     )
         requires low { 0 < receiver }
         requires high { receiver ≤ length self.old.table }
-        requires page_address { to % 4096 ≡ 0 }
-        requires user { to < 2 ^ 31 }
         requires room { length (entries_of self.old.table receiver) < 256 }
         requires free { IsNone (entry_at self.old.table receiver to) }
         requires names { HasPage self.old grant }
         requires frame { (page : ℕ) × IsFirstFree self.old page }
         ensures state { page_state self.new memory.new ≡ granted (copied (page_state self.old memory.old) grant.page) receiver to (record grant { right = Write; page = Some (fresh (pages_in self.old memory.old)); giver = caller }) }
-        ensures same { (self.new.frames ≡ self.old.frames) × (self.new.ended ≡ self.old.ended) }
+        ensures same { IsAsLarge self.old self.new }
+        ensures ended { self.new.ended ≡ self.old.ended }
         ensures buffer { (numbers : ℕ → ℕ) → IsOneSpace numbers → BufferHolds (L.entries tlb.old) numbers self.old → BufferHolds (L.entries tlb.new) numbers self.new }
         ensures random { L.random_place tlb.new ≡ L.random_place tlb.old }
     {
@@ -120,7 +119,8 @@ impl Grants {
     ) -> Result<(), GrantFault>
         ensures does { Does (page_state self.old memory.old) (page_state self.new memory.new) result (take (lives_in self.old) (page_state self.old memory.old) caller process addr) }
         ensures memory { memory.new ≡ memory.old }
-        ensures same { (self.new.frames ≡ self.old.frames) × (self.new.ended ≡ self.old.ended) }
+        ensures same { IsAsLarge self.old self.new }
+        ensures ended { self.new.ended ≡ self.old.ended }
         ensures refused { OnErr result ((self.new ≡ self.old) × (L.entries tlb.new ≡ L.entries tlb.old)) }
         ensures buffer { (numbers : ℕ → ℕ) → IsOneSpace numbers → BufferHolds (L.entries tlb.old) numbers self.old → BufferHolds (L.entries tlb.new) numbers self.new }
         ensures random { L.random_place tlb.new ≡ L.random_place tlb.old }
@@ -146,7 +146,8 @@ impl Grants {
         requires process { by_command ≡ false → (0 < process) × (process ≤ length self.old.table) }
         ensures does { Does (page_state self.old memory.old) (page_state self.new memory.new) result (if by_command then drop_by_command (lives_in self.old) (page_state self.old memory.old) process addr else drop_own (page_state self.old memory.old) process addr) }
         ensures memory { memory.new ≡ memory.old }
-        ensures same { (self.new.frames ≡ self.old.frames) × (self.new.ended ≡ self.old.ended) }
+        ensures same { IsAsLarge self.old self.new }
+        ensures ended { self.new.ended ≡ self.old.ended }
         ensures refused { OnErr result ((self.new ≡ self.old) × (L.entries tlb.new ≡ L.entries tlb.old)) }
         ensures buffer { (numbers : ℕ → ℕ) → IsOneSpace numbers → BufferHolds (L.entries tlb.old) numbers self.old → BufferHolds (L.entries tlb.new) numbers self.new }
         ensures random { L.random_place tlb.new ≡ L.random_place tlb.old }

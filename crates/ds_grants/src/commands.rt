@@ -1,7 +1,8 @@
 //! What an operator may do with what is granted, and what an end of a process leaves of it.
-ghost use Rattle.std.specs.Prelude.{◌≡◌, ℕ, ◌<◌, ◌≤◌, ◌-◌, List, true, length, slice_set, OnErr};
+ghost use Rattle.std.specs.Prelude.{◌≡◌, ℕ, ◌<◌, ◌≤◌, ◌-◌, List, [], true, length, slice_set, is_some, IfSome, IsNone, OnErr};
+ghost use Rattle.ds_policy.specs.Pages.{entries_of, entry_at};
 ghost use Rattle.ds_policy.specs.Grants.{is_some_right, grant, narrow, revoke, end_process};
-ghost use Rattle.ds_grants.specs.State.{Does, lives_in, page_state};
+ghost use Rattle.ds_grants.specs.State.{Does, IsAsLarge, lives_in, page_state};
 ghost use Rattle.ds_grants.specs.Buffer.{BufferHolds, IsOneSpace};
 
 use crate::fault::GrantFault;
@@ -28,7 +29,8 @@ impl Grants {
         requires right { is_some_right right ≡ true }
         ensures does { Does (page_state self.old memory.old) (page_state self.new memory.new) result (grant (lives_in self.old) (page_state self.old memory.old) process addr page right give rule) }
         ensures memory { memory.new ≡ memory.old }
-        ensures same { (self.new.frames ≡ self.old.frames) × (self.new.ended ≡ self.old.ended) }
+        ensures same { IsAsLarge self.old self.new }
+        ensures ended { self.new.ended ≡ self.old.ended }
         ensures refused { OnErr result ((self.new ≡ self.old) × (L.entries tlb.new ≡ L.entries tlb.old)) }
         ensures buffer { (numbers : ℕ → ℕ) → IsOneSpace numbers → BufferHolds (L.entries tlb.old) numbers self.old → BufferHolds (L.entries tlb.new) numbers self.new }
         ensures random { L.random_place tlb.new ≡ L.random_place tlb.old }
@@ -55,7 +57,8 @@ impl Grants {
     ) -> Result<(), GrantFault>
         ensures does { Does (page_state self.old memory.old) (page_state self.new memory.new) result (narrow (lives_in self.old) (page_state self.old memory.old) process addr) }
         ensures memory { memory.new ≡ memory.old }
-        ensures same { (self.new.frames ≡ self.old.frames) × (self.new.ended ≡ self.old.ended) }
+        ensures same { IsAsLarge self.old self.new }
+        ensures ended { self.new.ended ≡ self.old.ended }
         ensures refused { OnErr result ((self.new ≡ self.old) × (L.entries tlb.new ≡ L.entries tlb.old)) }
         ensures buffer { (numbers : ℕ → ℕ) → IsOneSpace numbers → BufferHolds (L.entries tlb.old) numbers self.old → BufferHolds (L.entries tlb.new) numbers self.new }
         ensures random { L.random_place tlb.new ≡ L.random_place tlb.old }
@@ -80,7 +83,8 @@ impl Grants {
     ) -> Result<(), GrantFault>
         ensures does { Does (page_state self.old memory.old) (page_state self.new memory.new) result (revoke (lives_in self.old) (page_state self.old memory.old) process addr rule) }
         ensures memory { memory.new ≡ memory.old }
-        ensures same { (self.new.frames ≡ self.old.frames) × (self.new.ended ≡ self.old.ended) }
+        ensures same { IsAsLarge self.old self.new }
+        ensures ended { self.new.ended ≡ self.old.ended }
         ensures refused { OnErr result ((self.new ≡ self.old) × (L.entries tlb.new ≡ L.entries tlb.old)) }
         ensures buffer { (numbers : ℕ → ℕ) → IsOneSpace numbers → BufferHolds (L.entries tlb.old) numbers self.old → BufferHolds (L.entries tlb.new) numbers self.new }
         ensures random { L.random_place tlb.new ≡ L.random_place tlb.old }
@@ -103,7 +107,7 @@ impl Grants {
         requires high { process ≤ length self.old.table }
         ensures does { page_state self.new memory.new ≡ end_process (page_state self.old memory.old) process }
         ensures memory { memory.new ≡ memory.old }
-        ensures frames { self.new.frames ≡ self.old.frames }
+        ensures same { IsAsLarge self.old self.new }
         ensures ended { self.new.ended ≡ slice_set self.old.ended (process - 1) true }
         ensures buffer { (numbers : ℕ → ℕ) → IsOneSpace numbers → BufferHolds (L.entries tlb.old) numbers self.old → BufferHolds (L.entries tlb.new) numbers self.new }
         ensures random { L.random_place tlb.new ≡ L.random_place tlb.old }
@@ -118,6 +122,8 @@ impl Grants {
     fn first_address(&self, process: u32) -> Option<u32>
         requires low { 0 < process }
         requires high { process ≤ length self.now.table }
+        ensures some { IfSome result (λ a. is_some (entry_at self.now.table process a) ≡ true) }
+        ensures none { IsNone result → entries_of self.now.table process ≡ [] }
     {
         let first = self.table.entries(process).first()?;
         Some(first.address)

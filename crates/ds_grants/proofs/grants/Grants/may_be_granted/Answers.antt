@@ -1,5 +1,10 @@
-use Rattle.std.proofs.Common.{rules, ◌∙◌, sym}
-use Rattle.ds_grants.proofs.Chains.{room_err, room_ok}
+use Rattle.std.proofs.Common.{rules, ◌≡◌, ◌∙◌, ◌≤◌, length, false, None, OnOk, Result, sym, subst, ap}
+use Rattle.ds_policy.specs.Pages.{entry_at}
+use Rattle.ds_policy.specs.Grants.{has_right}
+use Rattle.ds_grants.specs.State.{GrantsState}
+use Rattle.ds_grants.specs.Counts.{page_of}
+use Rattle.ds_grants.proofs.Chains.{room_err, room_ok, at_ok}
+use Rattle.ds_grants.proofs.Sizes.{no_page}
 use Rattle.ds_grants.proofs.grants.Grants.may_be_granted.Goals as goal
 
 pub returns-clause-err : goal.returns-clause-err
@@ -9,4 +14,11 @@ pub returns-clause-ok : goal.returns-clause-ok
 returns-clause-ok c = room_ok c.args.self.now c.args.process c.args.addr (search rules) (search rules) (search rules) c.has_room.result c.has_room.ensures.ok
 
 pub returns-clause-free : goal.returns-clause-free
-returns-clause-free c = ?
+returns-clause-free c =
+    let lives = c.if-not-lives.ensures in
+    let low = lives.low (search rules) in
+    let high : c.args.process ≤ length c.self.inside.table = subst (λ (s : GrantsState). c.args.process ≤ length s.table) (sym c.self.view_is) (lives.high (search rules)) in
+    let none : has_right (entry_at c.self.inside.table c.args.process c.args.addr) ≡ false = search rules in
+    at_ok c.has_room.result
+    (subst (λ (s : GrantsState). page_of (entry_at s.table c.args.process c.args.addr) ≡ None) c.self.view_is
+    (no_page c.self.inside.table c.args.process c.args.addr low high c.self.invariant.1.rows none))
