@@ -1,11 +1,12 @@
 -- Tests that don't hold, in front of the tests that follow.
-use Rattle.std.proofs.Common.{◌≡◌, ℕ, ◌&&◌, nat_le, length, is_some, unwrap_or, subst, ◌==◌, Bool, true, false, not, List, Option, Some, None, Result, Ok, Err, IfErr, OnOk, IfOk, refl, sym, ap, ◌∙◌}
+use Rattle.std.proofs.Common.{arith, ◌≡◌, ℕ, ◌&&◌, nat_le, nat_lt, ◌≤◌, ◌||◌, length, is_some, unwrap_or, subst, ◌==◌, Bool, true, false, not, List, Option, Some, None, Result, Ok, Err, IfErr, OnOk, IfOk, refl, sym, ap, ◌∙◌}
 use Rattle.std.proofs.lemmas.Bool.{false≢true}
+use Rattle.std.proofs.lemmas.Bool.Decides.{nat_tests}
 use Rattle.ds_policy.specs.declared.grant.Grant.{Grant}
 use Rattle.ds_policy.specs.declared.grant.Right.{Right}
 use Rattle.ds_policy.specs.declared.grant.Right.TheVariants.{Read}
 use Rattle.ds_policy.specs.Pages.{entry_at, count_live}
-use Rattle.ds_policy.specs.Grants.{PageState, ◌or_else◌, refused, not_page, no_right, no_frames, table_full, fifth_region, has_right, may_not_give, no_grant, given, granted, give, grant}
+use Rattle.ds_policy.specs.Grants.{PageState, ◌or_else◌, refused, not_page, no_right, no_frames, table_full, fifth_region, has_right, may_not_give, is_write, no_grant, given, granted, give, grant}
 use Rattle.ds_grants.specs.declared.fault.GrantFault.{GrantFault}
 use Rattle.ds_grants.specs.State.{GrantsState, number_of, lives_in, pages_in, page_state, Does}
 use Rattle.ds_grants.specs.Order.{is_no_page}
@@ -123,3 +124,11 @@ was_given s caller p a grant next is own = rw (is, own) refl
 -- what is narrowed is the grant that is there
 pub narrowed_as : (s : PageState) (p a : ℕ) (g : Grant) → entry_at s.table p a ≡ Some g → granted s p a (record (unwrap_or (entry_at s.table p a) no_grant) { right = Read }) ≡ granted s p a (record g { right = Read })
 narrowed_as s p a g is = ap (λ (o : Option Grant). granted s p a (record (unwrap_or o no_grant) { right = Read })) is
+
+-- a mode that is allowed is one of the three
+pub allowed_mode : (g : Grant) (mode : ℕ) → may_not_give g mode ≡ false → (1 ≤ mode) × (mode ≤ 3)
+allowed_mode g mode allowed = let is : (nat_lt 0 mode && nat_lt mode 4) ≡ true = in_range (nat_lt 0 mode && nat_lt mode 4) g.give ((mode == 2) && not (is_write g.right)) allowed in (grind (arith, nat_tests), grind (arith, nat_tests))
+  where
+    in_range : (a b c : Bool) → ((not a || not b) || c) ≡ false → a ≡ true
+    in_range true b c h = refl
+    in_range false b c h = absurd (false≢true (sym h))

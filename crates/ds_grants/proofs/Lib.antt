@@ -1,5 +1,6 @@
 pub mod Chains
 pub mod Copies
+pub mod Endings
 pub mod Fills
 pub mod FirstGrants
 pub mod FirstPages

@@ -139,3 +139,21 @@ put_buffer entries numbers g p a grant low one k = buffer_forgotten entries numb
 -- a grant is removed, and the buffer forgets its page
 pub remove_buffer : (entries : List Entry) (numbers : ℕ → ℕ) (g : GrantsState) (p a : ℕ) → 0 < p → IsOneSpace numbers → BufferHolds entries numbers g → BufferHolds (forgotten entries (a / 2 ^ 12)) numbers (without_grant g p a)
 remove_buffer entries numbers g p a low one k = buffer_forgotten entries numbers g (without_grant g p a) p a (λ q b live apart. entry_at-without_entry g.table p a q b low live apart) one k
+
+-- what a buffer may hold depends on the table alone
+pub same_table : (entries : List Entry) (numbers : ℕ → ℕ) (g h : GrantsState) → h.table ≡ g.table → BufferHolds entries numbers g → BufferHolds entries numbers h
+same_table entries numbers g h same k = record {
+  single = k.single;
+  apart = k.apart;
+  own = k.own;
+  backed = λ slot e q at live some number.
+    let b = k.backed slot e q at live some number in
+    record {
+      grant = b.grant;
+      page = b.page;
+      granted = ap (λ t. entry_at t q (e.vpn * 2 ^ 12)) same ∙ b.granted;
+      right = b.right;
+      named = b.named;
+      words = b.words;
+    };
+}

@@ -3,6 +3,7 @@ ghost use Rattle.std.specs.Prelude.{◌≡◌, ℕ, ◌<◌, ◌≤◌, ◌-◌,
 ghost use Rattle.ds_policy.specs.Pages.{entries_of, entry_at};
 ghost use Rattle.ds_policy.specs.Grants.{is_some_right, grant, narrow, revoke, end_process};
 ghost use Rattle.ds_grants.specs.State.{Does, IsAsLarge, lives_in, page_state};
+ghost use Rattle.ds_grants.specs.Leaving.{IsEnding};
 ghost use Rattle.ds_grants.specs.Buffer.{BufferHolds, IsOneSpace};
 
 use crate::fault::GrantFault;
@@ -112,10 +113,22 @@ impl Grants {
         ensures buffer { (numbers : ℕ → ℕ) → IsOneSpace numbers → BufferHolds (L.entries tlb.old) numbers self.old → BufferHolds (L.entries tlb.new) numbers self.new }
         ensures random { L.random_place tlb.new ≡ L.random_place tlb.old }
     {
+        self.remove_all(process, tlb);
+        self.ended[process as usize - 1] = true;
+    }
+
+    /// Removes all entries of a process.
+    fn remove_all<L: Lookaside>(&mut self, process: u32, tlb: &mut L)
+        requires low { 0 < process }
+        requires high { process ≤ length self.old.table }
+        ensures gone { entries_of self.new.table process ≡ [] }
+        ensures ending { IsEnding self.old self.new process }
+        ensures buffer { (numbers : ℕ → ℕ) → IsOneSpace numbers → BufferHolds (L.entries tlb.old) numbers self.old → BufferHolds (L.entries tlb.new) numbers self.new }
+        ensures random { L.random_place tlb.new ≡ L.random_place tlb.old }
+    {
         while let Some(addr) = self.first_address(process) {
             self.remove(process, addr, tlb);
         }
-        self.ended[process as usize - 1] = true;
     }
 
     /// The address of a process's first entry, if it has one.

@@ -190,6 +190,7 @@ impl Grants {
         ensures page { OnOk result (is_no_page to ≡ false) }
         ensures within { OnOk result ((0 < receiver) × (receiver ≤ length self.now.table)) }
         ensures room { OnOk result (length (entries_of self.now.table receiver) < 256) }
+        ensures mode { OnOk result ((1 ≤ mode) × (mode ≤ 3)) }
         ensures frame { OnOk result (mode ≡ 3 → (page : ℕ) × IsFirstFree self.now page) }
     {
         if !self.lives(receiver) {
