@@ -12,7 +12,7 @@ use Rattle.ds_policy.specs.Value.{PolicyValue}
 use Rattle.ds_pagemap.specs.Machine.{State, Process, no_process, process_of}
 use Rattle.ds_pagemap.specs.First.{first_state}
 use Rattle.ds_pagemap_laws.specs.Due.{IsInOrder}
-use Rattle.ds_pagemap_laws.specs.Lawful.{AreRegisters, IsProcess, IsReady, IsLawful}
+use Rattle.ds_pagemap_laws.specs.Lawful.{AreRegisters, IsProcess, IsReady, HasSizes, IsLawful}
 use Rattle.ds_pagemap_laws.specs.Rows.{resting, loading, state_of}
 use Rattle.ds_pagemap_laws.proofs.Asleep.{has_woken}
 
@@ -49,20 +49,18 @@ two_of_two = omega arith
 first_ready : (m : State) → 1 ≤ length m.processes → (process_of m 1).standing ≡ Ready → All (IsReady m) (1 ∷ [])
 first_ready m there is = All-cons (IsReady m) 1 [] (omega arith, there, is) (All-nil (IsReady m))
 
--- a state of two processes is lawful where both are processes, nobody wakes and whoever is listed is ready
-two_lawful : (q r : Process) (ready waiting : List ℕ) → IsProcess q → IsProcess r
-    → has_woken (waiting ∷ [] ∷ [] ∷ [] ∷ []) q ≡ false → has_woken (waiting ∷ [] ∷ [] ∷ [] ∷ []) r ≡ false
-    → All (IsReady (state_of (q ∷ r ∷ []) ready waiting)) ready → IsLawful (state_of (q ∷ r ∷ []) ready waiting)
-two_lawful q r ready waiting good well one other are =
-    let few : 2 ≤ 100 = omega arith in
-    record {
-      formed = record {
-        ready = are;
-        processes = λ p. of_two IsProcess q r good well none_good (p - 1);
-        sizes = record { processes = few; queues = refl; consoles = refl; table = refl };
-      };
-      asleep = λ p. of_two (λ x. has_woken (waiting ∷ [] ∷ [] ∷ [] ∷ []) x ≡ false) q r one other refl (p - 1);
-    }
+-- the sizes of a state of two processes
+two_sizes : (q r : Process) (ready waiting : List ℕ) → HasSizes (state_of (q ∷ r ∷ []) ready waiting)
+two_sizes q r ready waiting = let few : 2 ≤ 100 = omega arith in record { processes = few; queues = refl; consoles = refl; table = refl }
+
+-- each place of two processes, the second of which rests, has a process
+two_good : (q : Process) (s : Standing) → IsProcess q → (i : ℕ) → IsProcess (slice_index_or (q ∷ stands s ∷ []) i no_process)
+two_good q s good i = of_two IsProcess q (stands s) good (rests_well (stands s) refl on_line_0) none_good i
+
+-- nobody of two processes wakes
+asleep_both : (q r : Process) (waiting : List ℕ) → has_woken (waiting ∷ [] ∷ [] ∷ [] ∷ []) q ≡ false → has_woken (waiting ∷ [] ∷ [] ∷ [] ∷ []) r ≡ false
+    → (i : ℕ) → has_woken (waiting ∷ [] ∷ [] ∷ [] ∷ []) (slice_index_or (q ∷ r ∷ []) i no_process) ≡ false
+asleep_both q r waiting one other i = of_two (λ x. has_woken (waiting ∷ [] ∷ [] ∷ [] ∷ []) x ≡ false) q r one other refl i
 
 -- What is lawful.
 
@@ -90,37 +88,76 @@ a_first_state_is_lawful =
         processes = λ p. of_two IsProcess resting other (rests_well resting refl on_line_0) (rests_well other refl last) none_good (p - 1);
         sizes = record { processes = few; queues = refl; consoles = refl; table = refl };
       };
-      asleep = λ p. of_two (λ x. has_woken ([] ∷ [] ∷ [] ∷ [] ∷ []) x ≡ false) resting other refl refl refl (p - 1);
+      asleep = λ p. asleep_both resting other [] refl refl (p - 1);
     }
 
-pub a_process_may_wait : IsLawful (state_of (resting ∷ stands Waiting ∷ []) (1 ∷ []) [])
-a_process_may_wait =
-    two_lawful resting (stands Waiting) (1 ∷ []) [] (rests_well resting refl on_line_0) (rests_well (stands Waiting) refl on_line_0) refl refl
-    (first_ready (state_of (resting ∷ stands Waiting ∷ []) (1 ∷ []) []) one_of_two refl)
+abbrev waits : State
+waits = state_of (resting ∷ stands Waiting ∷ []) (1 ∷ []) []
 
-pub a_process_may_have_ended : IsLawful (state_of (resting ∷ stands Ended ∷ []) (1 ∷ []) [])
-a_process_may_have_ended =
-    two_lawful resting (stands Ended) (1 ∷ []) [] (rests_well resting refl on_line_0) (rests_well (stands Ended) refl on_line_0) refl refl
-    (first_ready (state_of (resting ∷ stands Ended ∷ []) (1 ∷ []) []) one_of_two refl)
+pub a_process_may_wait : IsLawful waits
+a_process_may_wait = record {
+  formed = record {
+    ready = first_ready waits one_of_two refl;
+    processes = λ p. two_good resting Waiting (rests_well resting refl on_line_0) (p - 1);
+    sizes = two_sizes resting (stands Waiting) (1 ∷ []) [];
+  };
+  asleep = λ p. asleep_both resting (stands Waiting) [] refl refl (p - 1);
+}
+
+abbrev has_an_end : State
+has_an_end = state_of (resting ∷ stands Ended ∷ []) (1 ∷ []) []
+
+pub a_process_may_have_ended : IsLawful has_an_end
+a_process_may_have_ended = record {
+  formed = record {
+    ready = first_ready has_an_end one_of_two refl;
+    processes = λ p. two_good resting Ended (rests_well resting refl on_line_0) (p - 1);
+    sizes = two_sizes resting (stands Ended) (1 ∷ []) [];
+  };
+  asleep = λ p. asleep_both resting (stands Ended) [] refl refl (p - 1);
+}
 
 abbrev turned : State
 turned = state_of (resting ∷ resting ∷ []) (2 ∷ 1 ∷ []) []
 
 pub process_2_may_run_first : IsLawful turned
-process_2_may_run_first =
-    two_lawful resting resting (2 ∷ 1 ∷ []) [] (rests_well resting refl on_line_0) (rests_well resting refl on_line_0) refl refl
-    (All-cons (IsReady turned) 2 (1 ∷ []) (omega arith, two_of_two, refl) (first_ready turned one_of_two refl))
+process_2_may_run_first = record {
+  formed = record {
+    ready = All-cons (IsReady turned) 2 (1 ∷ []) (omega arith, two_of_two, refl) (first_ready turned one_of_two refl);
+    processes = λ p. two_good resting Ready (rests_well resting refl on_line_0) (p - 1);
+    sizes = two_sizes resting resting (2 ∷ 1 ∷ []) [];
+  };
+  asleep = λ p. asleep_both resting resting [] refl refl (p - 1);
+}
 
-pub a_character_may_wait_for_who_runs : IsLawful (state_of (resting ∷ stands Ended ∷ []) (1 ∷ []) (65 ∷ []))
-a_character_may_wait_for_who_runs =
-    two_lawful resting (stands Ended) (1 ∷ []) (65 ∷ []) (rests_well resting refl on_line_0) (rests_well (stands Ended) refl on_line_0) refl refl
-    (first_ready (state_of (resting ∷ stands Ended ∷ []) (1 ∷ []) (65 ∷ [])) one_of_two refl)
+abbrev typed : State
+typed = state_of (resting ∷ stands Ended ∷ []) (1 ∷ []) (65 ∷ [])
 
-pub a_load_may_be_late : IsLawful (state_of (loading ∷ stands Ended ∷ []) (1 ∷ []) [])
-a_load_may_be_late =
-    let of_these : 8 < 32 = omega arith in
-    two_lawful loading (stands Ended) (1 ∷ []) [] (record { registers = record { size = refl; nought = refl; late = of_these }; line = on_line_0 }) (rests_well (stands Ended) refl on_line_0) refl refl
-    (first_ready (state_of (loading ∷ stands Ended ∷ []) (1 ∷ []) []) one_of_two refl)
+pub a_character_may_wait_for_who_runs : IsLawful typed
+a_character_may_wait_for_who_runs = record {
+  formed = record {
+    ready = first_ready typed one_of_two refl;
+    processes = λ p. two_good resting Ended (rests_well resting refl on_line_0) (p - 1);
+    sizes = two_sizes resting (stands Ended) (1 ∷ []) (65 ∷ []);
+  };
+  asleep = λ p. asleep_both resting (stands Ended) (65 ∷ []) refl refl (p - 1);
+}
+
+pub these_are_registers_with_a_load_late : AreRegisters loading.registers
+these_are_registers_with_a_load_late = let of_these : 8 < 32 = omega arith in record { size = refl; nought = refl; late = of_these }
+
+abbrev loads : State
+loads = state_of (loading ∷ stands Ended ∷ []) (1 ∷ []) []
+
+pub a_load_may_be_late : IsLawful loads
+a_load_may_be_late = record {
+  formed = record {
+    ready = first_ready loads one_of_two refl;
+    processes = λ p. two_good loading Ended (record { registers = these_are_registers_with_a_load_late; line = on_line_0 }) (p - 1);
+    sizes = two_sizes loading (stands Ended) (1 ∷ []) [];
+  };
+  asleep = λ p. asleep_both loading (stands Ended) [] refl refl (p - 1);
+}
 
 -- What is not.
 
