@@ -120,7 +120,7 @@ abbrev pub by_verdict : Held → Access → Verdict → Held
 by_verdict h access (verdict.Allowed page offset) = filled_held h page
 by_verdict h access (verdict.Denied rule code) = denied_held h (denied_as access.kind) h.cpu.bad rule code
 
--- what the step comes to by the table's answer: the unit goes on where it allows, and ends where it denies
+-- what the step comes to by the table's answer: a denial ends the unit
 abbrev pub step_by : Verdict → Step
 step_by (verdict.Allowed page offset) = Inside
 step_by (verdict.Denied rule code) = Unit
@@ -148,7 +148,7 @@ answered_held h consoles value = record h {
 abbrev pub with_byte : Outside → ℕ → List (List ℕ)
 with_byte o byte = slice_set o.consoles o.line (slice_index_or o.consoles o.line [] ++ byte ∷ [])
 
--- what a call leaves: `exit` ends the process, `put` writes its byte and answers 0, any other answers all ones
+-- what a call leaves: `exit` ends the process, `put` writes its byte, any other answers all ones
 abbrev pub called_held : Held → Call → Held
 called_held h call.Exit = exited h
 called_held h (call.Put byte) = answered_held h (with_byte h.outside byte) 0

@@ -150,7 +150,8 @@ impl<const N: usize, const WIRED: usize> Indexed<N, WIRED> {
 
     /// Remembers what was found, in place of what was remembered for the kind.
     fn remember(&mut self, kind: Kind, window: Window)
-        requires { base_of self.now.entries (is_store kind) window.vpn window.asid ≡ Some window.base }
+        requires { base_of self.now.entries (is_store kind) window.vpn window.asid
+            ≡ Some window.base }
         ensures entries { self.new.entries ≡ self.old.entries }
         ensures random { self.new.random ≡ self.old.random }
     {

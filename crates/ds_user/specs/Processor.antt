@@ -18,7 +18,7 @@ use Rattle.ds_user.specs.declared.processor.Cause.TheVariants as cause
 use Rattle.ds_user.specs.declared.processor.Event.{Event}
 use Rattle.ds_user.specs.declared.processor.Event.TheVariants.{Retired, Branched, Raised}
 
--- the user's processor: its registers, places of the program, the exception that waits, and the translation buffer
+-- the processor: registers, places of the program, the exception that waits, translation buffer
 pub record Cpu : Type 0 where
   pub registers : Registers
   pub pc : ℕ

@@ -142,8 +142,8 @@ impl<L: Lookaside> Core<L> {
         }
     }
 
-    /// Goes on in the slot of a branch or jump, and behind that at the target; a register that links
-    /// gets the address behind the slot. In a slot it is reserved.
+    /// Goes on in the slot of a branch or jump, and behind that at the target; a register that
+    /// links gets the address behind the slot. In a slot it is reserved.
     #[inline(always)]
     pub(super) fn branch_to(&mut self, link: Option<u8>, target: u32) -> Event
         ensures { (bus : BusState) → (record { event = result; core = self.new; bus = bus })
