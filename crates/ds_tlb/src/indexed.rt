@@ -32,9 +32,12 @@ pub struct Indexed<const N: usize, const WIRED: usize> {
     ghost some_wired: { 1 ≤ WIRED },
     ghost few: { N ≤ 64 },
     ghost indexed: { IsIndexOf buckets entries },
-    ghost code_right: { code.vpn < 2 ^ 32 → base_of entries false code.vpn code.asid ≡ Some code.base } by { Prim.hlevel props },
-    ghost loads_right: { loads.vpn < 2 ^ 32 → base_of entries false loads.vpn loads.asid ≡ Some loads.base } by { Prim.hlevel props },
-    ghost stores_right: { stores.vpn < 2 ^ 32 → base_of entries true stores.vpn stores.asid ≡ Some stores.base } by { Prim.hlevel props },
+    ghost code_right: { code.vpn < 2 ^ 32 → base_of entries false code.vpn code.asid
+        ≡ Some code.base } by { Prim.hlevel props },
+    ghost loads_right: { loads.vpn < 2 ^ 32 → base_of entries false loads.vpn loads.asid
+        ≡ Some loads.base } by { Prim.hlevel props },
+    ghost stores_right: { stores.vpn < 2 ^ 32 → base_of entries true stores.vpn stores.asid
+        ≡ Some stores.base } by { Prim.hlevel props },
 }
 
 impl<const N: usize, const WIRED: usize> Lookaside for Indexed<N, WIRED> {
