@@ -172,6 +172,7 @@ class Recorded(unittest.TestCase):
 
     LOWER = "pub fn one() -> u32\n    ensures { result ≡ 1 }\n{\n    1\n}\n\nfn two() -> u32\n    ensures { result ≡ 2 }\n{\n    2\n}\n"
     UPPER = "use lower::one;\n\npub fn first() -> u32\n    ensures { result ≡ 1 }\n{\n    one()\n}\n"
+    FIRST_AND_SECOND = "abbrev pub first : ℕ\nfirst = 1\n\nabbrev pub second : ℕ\nsecond = 2\n"
     SUM = "sum"
 
     def setUp(self):
@@ -202,6 +203,29 @@ class Recorded(unittest.TestCase):
     def test_a_comment_changes_nothing(self):
         self.assertEqual(self.before, self.after("upper/src/lib.rt", "pub fn first", "/// The first.\npub fn first"))
         self.assertEqual(self.before, self.after("lower/src/lib.rt", "pub fn one", "/// One.\npub fn one"))
+
+    def test_a_comment_above_a_definition_or_a_lemma_changes_nothing(self):
+        paths = ("lower/specs/Ones.antt", "lower/proofs/Told.antt", "upper/specs/Twos.antt", "upper/proofs/Own.antt")
+        write(self.room.name, {f"crates/{it}": self.FIRST_AND_SECOND for it in paths})
+        self.before = self.sum()
+        for path in paths:
+            for name in ("first", "second"):
+                for comment in ("-- It is said.\n", "\n-- It is said.\n", "-- It is said.\n\n", "\n-- It is said,\n-- in two lines.\n\n"):
+                    with self.subTest(path=path, name=name, comment=comment):
+                        self.assertEqual(self.before, self.after(path, f"abbrev pub {name}", f"{comment}abbrev pub {name}"))
+                        write(self.room.name, {f"crates/{path}": self.FIRST_AND_SECOND})
+
+    def test_a_comment_within_a_record_changes_nothing(self):
+        path, said = "upper/specs/Twos.antt", "record Two : Type 0 where\n  pub low : ℕ\n  pub high : ℕ\n"
+        write(self.room.name, {f"crates/{path}": said})
+        self.before = self.sum()
+        self.assertEqual(self.before, self.after(path, "  pub high", "  -- the larger\n  pub high"))
+
+    def test_what_stands_behind_a_comment_changes_it(self):
+        path = "upper/specs/Twos.antt"
+        write(self.room.name, {f"crates/{path}": f"-- It is said.\n{self.FIRST_AND_SECOND}"})
+        self.before = self.sum()
+        self.assertNotEqual(self.before, self.after(path, "first = 1", "first = 2"))
 
     def test_a_test_changes_nothing(self):
         more = "\n#[cfg(test)]\nmod tests {\n    #[test]\n    fn it_is_one() {}\n}\n\n#[cfg(test)]\nmod more;\n"

@@ -9,6 +9,11 @@ from .sources import Sources
 NAMED_PROOF = r"\bRattle\.{name}\.proofs\.(\w+)"
 
 
+def without_comments(text):
+    """Returns the lines of a file of definitions or proofs that say something: none that is empty, and none that is a comment alone."""
+    return "".join(f"{it}\n" for it in text.split("\n") if it.strip() and not it.lstrip().startswith("--"))
+
+
 class Crate:
     """A crate, its sources and its wrong bodies."""
 
@@ -19,11 +24,10 @@ class Crate:
         self.edits = [Edit(it, self) for it in sorted(Path(self.folder, edits).glob("*.edit"))]
 
     def logic(self, part):
-        """Returns the definitions (specs) or proofs by their paths, with no line that is a comment alone, and no proof of a test."""
-        files = sorted(self.folder.glob(f"{part}/**/*.antt"))
+        """Returns the definitions (specs) or proofs by their paths, with no line that is empty or a comment alone, and no proof of a test."""
         tests = re.compile(r"proofs/(?:.*/)?\w*tests/")
-        found = {it.relative_to(self.folder).as_posix(): re.sub(r"(?m)^\s*--.*\n?", "", it.read_text("utf-8")) for it in files}
-        return {path: text for path, text in found.items() if not tests.match(path)}
+        files = {it.relative_to(self.folder).as_posix(): it for it in sorted(self.folder.glob(f"{part}/**/*.antt"))}
+        return {path: without_comments(it.read_text("utf-8")) for path, it in files.items() if not tests.match(path)}
 
     def lemmas(self, names):
         """Returns the lemma files of these names, and those that they name in turn."""

@@ -68,7 +68,8 @@ pub fn translate<L: Lookaside>(
 #[inline(always)]
 #[tactic(auto, using(crate::proofs::Bases::translate_by_base))]
 pub fn recalled<L: Lookaside>(addr: u32, access: Access, tlb: &L, asid: u8) -> Option<Physical>
-    ensures value { (mode : Mode) → IfSome result (λ place. translate (L.entries tlb.now) asid mode access addr ≡ Ok place) }
+    ensures value { (mode : Mode)
+        → IfSome result (λ place. translate (L.entries tlb.now) asid mode access addr ≡ Ok place) }
     ensures inside { IfSome result (λ place. place.0 < 2 ^ 23) }
 {
     if addr >= KSEG0 {
@@ -135,7 +136,8 @@ fn slot_of<L: Lookaside>(addr: u32, tlb: &L, asid: u8) -> Option<usize>
 fn find_for_kernel<L: Lookaside>(tlb: &L, vpn: u32, asid: u8) -> Option<usize>
     ensures lowest { result ≡ find (L.entries tlb.now) vpn asid }
     ensures in_range { IfSome result (λ slot. slot < L.SLOTS) }
-    ensures missed { IsNone result ↔ All (λ e. IsTrue (not (matches vpn asid e))) (L.entries tlb.now) }
+    ensures missed { IsNone result
+        ↔ All (λ e. IsTrue (not (matches vpn asid e))) (L.entries tlb.now) }
 {
     tlb.find(vpn, asid)
 }

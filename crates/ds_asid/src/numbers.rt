@@ -12,8 +12,8 @@ const PLACES: usize = 101;
 /// The address spaces that EntryHi can name. Number 0 is no process's.
 const SPACES: u8 = 64;
 
-/// The address space number of each process. Numbers are handed out from 1 to 63 in order; when all are
-/// used up, every process loses its number and the whole buffer is flushed.
+/// The address space number of each process. Numbers are handed out from 1 to 63 in order; when all
+/// are used up, every process loses its number and the whole buffer is flushed.
 #[derive(Drop)]
 pub struct Asids {
     numbers: [u8; PLACES],
@@ -53,9 +53,9 @@ impl Asids {
         }
     }
 
-    /// Hands out the next number to a process that has none. Where all are used up, every process loses
-    /// its number first, and the buffer is flushed: slot i then holds page 80000 + i (hexadecimal), and
-    /// all else of it is zero.
+    /// Hands out the next number to a process that has none. Where all are used up, every process
+    /// loses its number first, and the buffer is flushed: slot i then holds page 80000 + i
+    /// (hexadecimal), and all else of it is zero.
     #[tactic(auto, using(crate::proofs::Apart::start_apart, crate::proofs::Apart::none_at_start))]
     pub fn take<L: Lookaside>(&mut self, process: u32, tlb: &mut L) -> u8
         requires process { process ≤ 100 }
@@ -63,7 +63,8 @@ impl Asids {
         ensures value { self.new ≡ after_take self.old process }
         ensures number { result ≡ number_of self.new process }
         ensures range { (1 ≤ result) × (result < 64) }
-        ensures buffer { L.entries tlb.new ≡ (if nat_lt self.old.next 64 then L.entries tlb.old else empty_entries L.SLOTS) }
+        ensures buffer { L.entries tlb.new
+            ≡ (if nat_lt self.old.next 64 then L.entries tlb.old else empty_entries L.SLOTS) }
         ensures random { L.random_place tlb.new ≡ L.random_place tlb.old }
         ensures apart { AreApart self.new }
         ensures fresh { self.old.next < 64 → (q : ℕ) → number_of self.old q ≢ result }
@@ -92,8 +93,8 @@ impl Asids {
         number
     }
 
-    /// Takes its number from a process, where it has one. That number isn't handed out again before the
-    /// next flush.
+    /// Takes its number from a process, where it has one. That number isn't handed out again before
+    /// the next flush.
     #[tactic(auto, using(crate::proofs::Apart::given_up_apart, crate::proofs::Apart::given_up_none, crate::proofs::Apart::held_within))]
     pub fn give_up(&mut self, process: u32)
         ensures value { self.new ≡ given_up self.old process }

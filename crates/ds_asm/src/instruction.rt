@@ -37,7 +37,9 @@ pub(crate) fn instruction_of<'a>(
     operands: &[Operand],
     text: Option<&'a [u8]>,
 ) -> Option<Instruction<'a>>
-    ensures { option_map plain_instruction result ≡ with_operands (map operand_of operands.now) (option_map (λ t. t.now) text.entry) (bare word) }
+    ensures { option_map plain_instruction result
+        ≡ with_operands (map operand_of operands.now) (option_map (λ t. t.now) text.entry)
+        (bare word) }
 {
     Instruction::bare(word).with_operands(operands, text)
 }
@@ -57,7 +59,9 @@ impl<'a> Instruction<'a> {
     /// With all operands of what is left of the text.
     #[tactic(auto, unfolding(crate::specs::Operands::with_operands))]
     fn with_operands(self, operands: &[Operand], left: Option<&'a [u8]>) -> Option<Instruction<'a>>
-        ensures { option_map plain_instruction result ≡ with_operands (map operand_of operands.now) (option_map (λ t. t.now) left.entry) (plain_instruction self.entry) }
+        ensures { option_map plain_instruction result
+            ≡ with_operands (map operand_of operands.now) (option_map (λ t. t.now) left.entry)
+            (plain_instruction self.entry) }
     {
         match operands {
             [] => match left {
@@ -77,7 +81,9 @@ impl<'a> Instruction<'a> {
         operand: Operand,
         left: Option<&'a [u8]>,
     ) -> Option<(Option<&'a [u8]>, Instruction<'a>)>
-        ensures { option_map (λ p. (option_map (λ t. t.now) p.0, plain_instruction p.1)) result ≡ with_next (operand_of operand) (option_map (λ t. t.now) left.entry) (plain_instruction self.entry) }
+        ensures { option_map (λ p. (option_map (λ t. t.now) p.0, plain_instruction p.1)) result
+            ≡ with_next (operand_of operand) (option_map (λ t. t.now) left.entry)
+            (plain_instruction self.entry) }
     {
         match left {
             None => {
@@ -102,7 +108,8 @@ impl<'a> Instruction<'a> {
         operand: Operand,
         text: &'a [u8],
     ) -> Option<(Option<&'a [u8]>, Instruction<'a>)>
-        ensures { option_map (λ p. (option_map (λ t. t.now) p.0, plain_instruction p.1)) result ≡ with_first (operand_of operand) text.now (plain_instruction self.entry) }
+        ensures { option_map (λ p. (option_map (λ t. t.now) p.0, plain_instruction p.1)) result
+            ≡ with_first (operand_of operand) text.now (plain_instruction self.entry) }
     {
         let (front, behind) = split_at_first(b',', text);
         match self.with_operand(operand, trimmed(front)) {
@@ -113,7 +120,8 @@ impl<'a> Instruction<'a> {
 
     #[tactic(auto, unfolding(crate::specs::Operands::with_operand))]
     fn with_operand(self, operand: Operand, text: &'a [u8]) -> Option<Instruction<'a>>
-        ensures { option_map plain_instruction result ≡ with_operand (operand_of operand) text.now (plain_instruction self.entry) }
+        ensures { option_map plain_instruction result
+            ≡ with_operand (operand_of operand) text.now (plain_instruction self.entry) }
     {
         match operand {
             Operand::Register(place) => self.with_register(place, register_of(text)),
@@ -142,7 +150,8 @@ impl<'a> Instruction<'a> {
 
     #[tactic(auto, unfolding(crate::specs::Operands::with_indexed))]
     fn with_indexed(self, text: &[u8]) -> Option<Instruction<'a>>
-        ensures { option_map plain_instruction result ≡ with_indexed rs imm text.now (plain_instruction self.entry) }
+        ensures { option_map plain_instruction result
+            ≡ with_indexed rs imm text.now (plain_instruction self.entry) }
     {
         let (offset, behind) = split_at_first(b'(', text);
         let inner = before_close(behind?)?;
@@ -152,27 +161,31 @@ impl<'a> Instruction<'a> {
     }
 
     fn with_signed(self, text: &[u8]) -> Option<Instruction<'a>>
-        ensures { option_map plain_instruction result ≡ with_signed imm text.now (plain_instruction self.entry) }
+        ensures { option_map plain_instruction result
+            ≡ with_signed imm text.now (plain_instruction self.entry) }
     {
         let number = number_of(text)?;
         Some(self.with_number(Place::Immediate, 0x8000, 0x7FFF, &number))
     }
 
     fn with_unsigned(self, place: Place, text: &[u8]) -> Option<Instruction<'a>>
-        ensures { option_map plain_instruction result ≡ with_unsigned (field_of place) text.now (plain_instruction self.entry) }
+        ensures { option_map plain_instruction result
+            ≡ with_unsigned (field_of place) text.now (plain_instruction self.entry) }
     {
         let number = number_of(text)?;
         Some(self.with_number(place, 0, u64::from(place.most()), &number))
     }
 
     fn with_register(self, place: Place, register: Option<u32>) -> Option<Instruction<'a>>
-        ensures { option_map plain_instruction result ≡ with_register (field_of place) register (plain_instruction self.entry) }
+        ensures { option_map plain_instruction result
+            ≡ with_register (field_of place) register (plain_instruction self.entry) }
     {
         Some(self.with_value(place, register?))
     }
 
     fn with_number(self, place: Place, least: u64, most: u64, number: &Number) -> Instruction<'a>
-        ensures { plain_instruction result ≡ with_number (field_of place) least most number.now (plain_instruction self.entry) }
+        ensures { plain_instruction result
+            ≡ with_number (field_of place) least most number.now (plain_instruction self.entry) }
     {
         let next = self.with_value(place, number.as_word());
         Instruction {
@@ -183,7 +196,8 @@ impl<'a> Instruction<'a> {
 
     /// With a value added in its place.
     pub(crate) fn with_value(self, place: Place, value: u32) -> Instruction<'a>
-        ensures { plain_instruction result ≡ with_value (field_of place) value (plain_instruction self.entry) }
+        ensures { plain_instruction result
+            ≡ with_value (field_of place) value (plain_instruction self.entry) }
     {
         Instruction {
             word: self.word.wrapping_add(place.put(value)),
@@ -192,7 +206,8 @@ impl<'a> Instruction<'a> {
     }
 
     fn with_target(self, target: Target<'a>) -> Instruction<'a>
-        ensures { plain_instruction result ≡ with_target (plain_target target.entry) (plain_instruction self.entry) }
+        ensures { plain_instruction result
+            ≡ with_target (plain_target target.entry) (plain_instruction self.entry) }
     {
         Instruction { target, ..self }
     }

@@ -31,7 +31,8 @@ impl<'a> Labels<'a> {
 
     /// Adds a label.
     pub(crate) fn insert(&mut self, name: &'a [u8], address: u32) -> Result<(), AllocError>
-        ensures { OnOk result ((labels : assembly.Labels) → Holds self.old labels → Holds self.new ((name.now, address) ∷ labels)) }
+        ensures { OnOk result ((labels : assembly.Labels) → Holds self.old labels
+            → Holds self.new ((name.now, address) ∷ labels)) }
     {
         self.addresses.insert(name, address)?;
         Ok(())

@@ -54,7 +54,8 @@ impl<'a> Layout<'a> {
     /// Takes line `number`.
     fn add_line(&mut self, number: u64, line: &'a [u8]) -> Result<(), AsmFault>
         requires { self.old.size ≤ 65536 }
-        ensures said { (l : assembly.Layout) → IsLaid self.old l → Comes (λ _ m. IsLaid self.new m) result (with_line number (line_of line.now) l) }
+        ensures said { (l : assembly.Layout) → IsLaid self.old l
+            → Comes (λ _ m. IsLaid self.new m) result (with_line number (line_of line.now) l) }
         ensures fits { IfOk result (λ _. self.new.size ≤ 65536) }
     {
         let line = match line_of(line) {
@@ -69,7 +70,9 @@ impl<'a> Layout<'a> {
     /// Adds a label, where there is one, at the end of the image so far.
     fn add_label(&mut self, number: u64, label: Option<&'a [u8]>) -> Result<(), AsmFault>
         requires { self.old.size ≤ 65536 }
-        ensures said { (labels : assembly.Labels) → Holds self.old.labels labels → Comes (λ _ more. Holds self.new.labels more) result (labelled number self.old.size (option_map (λ t. t.now) label.entry) labels) }
+        ensures said { (labels : assembly.Labels) → Holds self.old.labels labels
+            → Comes (λ _ more. Holds self.new.labels more) result
+            (labelled number self.old.size (option_map (λ t. t.now) label.entry) labels) }
         ensures size { self.new.size ≡ self.old.size }
     {
         let name = match label {
@@ -87,7 +90,8 @@ impl<'a> Layout<'a> {
 /// The size of the image with a statement, where there is one.
 fn sized(number: u64, at: u32, statement: Option<Statement<'_>>) -> Result<u32, AsmFault>
     requires { at ≤ 65536 }
-    ensures said { Assembles (λ s. s) result (sized number at (option_map plain_statement statement.entry)) }
+    ensures said { Assembles (λ s. s) result
+        (sized number at (option_map plain_statement statement.entry)) }
     ensures fits { IfOk result (λ s. s ≤ 65536) }
 {
     let statement = match statement {

@@ -104,7 +104,8 @@ fn line_parts(text: &[u8]) -> Option<Line<'_>>
 }
 
 fn with_statement<'a>(label: Option<&'a [u8]>, text: &'a [u8]) -> Option<Line<'a>>
-    ensures { option_map plain_line result ≡ with_statement (option_map (λ t. t.now) label.entry) text.now }
+    ensures { option_map plain_line result
+        ≡ with_statement (option_map (λ t. t.now) label.entry) text.now }
 {
     if text.is_empty() {
         return Some(Line {
@@ -151,7 +152,8 @@ fn mnemonic_len(text: &[u8]) -> usize
 /// The statement of a mnemonic and of what stands behind it.
 #[tactic(auto, unfolding(crate::specs::Lines::statement_named))]
 fn statement_named<'a>(name: &[u8], left: Option<&'a [u8]>) -> Option<Statement<'a>>
-    ensures { option_map plain_statement result ≡ statement_named name.now (option_map (λ t. t.now) left.entry) }
+    ensures { option_map plain_statement result
+        ≡ statement_named name.now (option_map (λ t. t.now) left.entry) }
 {
     if name == b".word".as_slice() {
         word_statement(left?)
@@ -180,7 +182,8 @@ fn word_statement(text: &[u8]) -> Option<Statement<'_>>
 }
 
 fn instruction_named<'a>(name: &[u8], left: Option<&'a [u8]>) -> Option<Instruction<'a>>
-    ensures { option_map plain_instruction result ≡ instruction_named name.now (option_map (λ t. t.now) left.entry) }
+    ensures { option_map plain_instruction result
+        ≡ instruction_named name.now (option_map (λ t. t.now) left.entry) }
 {
     let form = form_named(name)?;
     instruction_of(form.word, form.operands, left)

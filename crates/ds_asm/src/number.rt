@@ -14,8 +14,8 @@ pub(crate) struct Number {
 /// The most that ten decimal digits say.
 const MOST_DECIMAL: u64 = 9_999_999_999;
 
-/// The number of a text: one to ten decimal digits, with or without `-` before them, or `0x` and one
-/// to eight hexadecimal digits.
+/// The number of a text: one to ten decimal digits, with or without `-` before them, or `0x` and
+/// one to eight hexadecimal digits.
 pub(crate) fn number_of(text: &[u8]) -> Option<Number>
     ensures { result ≡ number_of text.now }
 {

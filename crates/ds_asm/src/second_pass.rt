@@ -21,7 +21,8 @@ pub(crate) fn bytes_of<'a>(
     text: &'a [u8],
     labels: &Labels<'a>,
 ) -> Result<Vec<u8>, AsmFault>
-    ensures { Assembles (λ v. v.items) result (bytes_from 1 (held_address labels.now) [] (lines_of text.now)) }
+    ensures { Assembles (λ v. v.items) result
+        (bytes_from 1 (held_address labels.now) [] (lines_of text.now)) }
 {
     let mut bytes = Vec::new(alloc);
     let mut number = 0u64;
@@ -44,7 +45,8 @@ fn add_line<'a>(
     labels: &Labels<'a>,
     line: &'a [u8],
 ) -> Result<(), AsmFault>
-    ensures { Comes (λ _ more. bytes.new.items ≡ bytes.old.items ++ more) result (line_bytes number (held_address labels.now) (length bytes.old.items) (line_of line.now)) }
+    ensures { Comes (λ _ more. bytes.new.items ≡ bytes.old.items ++ more) result
+        (line_bytes number (held_address labels.now) (length bytes.old.items) (line_of line.now)) }
 {
     match line_of(line) {
         None => Ok(()),
@@ -61,7 +63,9 @@ fn add_statement<'a>(
     labels: &Labels<'a>,
     statement: &Statement<'a>,
 ) -> Result<(), AsmFault>
-    ensures { Comes (λ _ more. bytes.new.items ≡ bytes.old.items ++ more) result (statement_bytes number (held_address labels.now) (length bytes.old.items) (plain_statement statement.now)) }
+    ensures { Comes (λ _ more. bytes.new.items ≡ bytes.old.items ++ more) result
+        (statement_bytes number (held_address labels.now) (length bytes.old.items)
+        (plain_statement statement.now)) }
 {
     match statement {
         Statement::Instruction(instruction) => {
@@ -87,7 +91,9 @@ fn resolved<'a>(
     slot: u64,
     instruction: &Instruction<'a>,
 ) -> Result<u32, AsmFault>
-    ensures { Assembles (λ w. w) result (resolved number (held_address labels.now) slot (plain_instruction instruction.now) (plain_target instruction.now.target)) }
+    ensures { Assembles (λ w. w) result
+        (resolved number (held_address labels.now) slot (plain_instruction instruction.now)
+        (plain_target instruction.now.target)) }
 {
     let (place, field) = match instruction.target {
         Target::Nowhere => return Ok(instruction.word),

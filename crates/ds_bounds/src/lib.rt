@@ -1,5 +1,6 @@
-//! Laws by which a unit is short: what it has written into the translation buffer is still there when it
-//! ends, what it meets costs few instructions, and a copy that was put off finds a free frame.
+//! Laws by which a unit is short: what it has written into the translation buffer is still there
+//! when it ends, what it meets costs few instructions, and a copy that was put off finds a free
+//! frame.
 #![tactic(auto)]
 
 mod laws;

@@ -2,18 +2,16 @@
 use Rattle.std.proofs.Common.{◌≡◌, ℕ, ◌<◌, ◌^◌, true, refl, sym, ap, ◌∙◌, arith}
 use Rattle.std.proofs.lemmas.Bool.Decides.{nat_tests}
 use Rattle.ds_word.specs.Bytes.{word_at}
-use Rattle.std.specs.Prelude.{List, Result, Ok, Err, nat_lt}
+use Rattle.std.specs.Prelude.{Result, Ok, Err, nat_lt}
 use Rattle.ds_isa.specs.declared.instr.Instr.{Instr}
 use Rattle.ds_isa.specs.declared.instr.Size.TheVariants.{Word}
 use Rattle.ds_isa.specs.Instruction.{instruction_of}
 use Rattle.ds_isa.specs.declared.instr.Kind.TheVariants.{Fetch}
 use Rattle.ds_amap.specs.declared.map.Physical.{Physical}
-use Rattle.ds_tlb.specs.declared.entry.Entry.{Entry}
 use Rattle.ds_cp0.specs.declared.exception.ExceptionCode.TheVariants.{FetchBus}
 use Rattle.ds_dev.specs.declared.fault.BusError.{BusError}
 use Rattle.ds_dev.specs.Bus.{BusState}
-use Rattle.ds_core.specs.declared.processor.Core.{Core}
-use Rattle.ds_core.specs.Core.{CoreState, Step, state_of, trapped}
+use Rattle.ds_core.specs.Core.{CoreState, Step, trapped}
 use Rattle.ds_core.specs.Access.{reached, aligned_load, decoded}
 use Rattle.ds_core.specs.Effect.{executed, fetch_answered, fetched_from, instruction}
 
@@ -39,10 +37,6 @@ instruction_at c c1 b b2 p i s is same word bus done =
 pub refused_at : (c c1 : CoreState) (b b2 : BusState) (p : Physical) (e : BusError) (s : Step) → reached c Fetch Word c.pc ≡ Ok p → c1 ≡ c → Err e ≡ decoded (aligned_load b p.0 Word).0 → b2 ≡ (aligned_load b p.0 Word).1 → s ≡ trapped c1 b2 FetchBus → s ≡ instruction c b
 refused_at c c1 b b2 p e s is same word bus done =
     done ∙ (ap (λ k. trapped c1 k FetchBus) bus ∙ (refused c1 (aligned_load b p.0 Word).1 (aligned_load b p.0 Word).0 e (sym word) ∙ at_place c c1 b p is same))
-
--- a buffer that remembers something else, with the same entries and Random, makes no other processor
-pub same_state : {L : Type 0} → (entries : L → List Entry) (random : L → ℕ) (k k1 : Core L) → k1 ≡ record k { tlb = k1.tlb } → entries k1.tlb ≡ entries k.tlb → random k1.tlb ≡ random k.tlb → state_of entries random k1 ≡ state_of entries random k
-same_state entries random k k1 rest e r = rw rest (rw (e, r) refl)
 
 is_low : (place : ℕ) → place < 8388608 → nat_lt place (2 ^ 23) ≡ true
 is_low place low = grind (arith, nat_tests)

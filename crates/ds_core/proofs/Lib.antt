@@ -2,4 +2,3 @@ pub mod Fetches
 pub mod Advances
 pub mod Slots
 pub mod Users
-pub mod Nought

@@ -1,12 +1,10 @@
 -- Many steps, one behind the other.
-use Rattle.std.specs.Prelude.{◌≡◌, ℕ, zero, suc, ◌+◌, ◌<◌, Bool, true, false, if◌then◌else◌, List, Option, Some, None}
-use Rattle.ds_tlb.specs.declared.entry.Entry.{Entry}
+use Rattle.std.specs.Prelude.{◌≡◌, ℕ, zero, suc, ◌+◌, ◌<◌, Bool, true, false, if◌then◌else◌, Option, Some, None}
 use Rattle.ds_cp0.specs.declared.exception.ExceptionCode.{ExceptionCode}
 use Rattle.ds_dev.specs.Bus.{BusState}
-use Rattle.ds_core.specs.declared.processor.Core.{Core}
 use Rattle.ds_core.specs.declared.event.Event.{Event}
 use Rattle.ds_core.specs.declared.event.Event.TheVariants.{Retired, Branched, Raised}
-use Rattle.ds_core.specs.Core.{CoreState, Step, state_of}
+use Rattle.ds_core.specs.Core.{CoreState, Step}
 use Rattle.ds_core.specs.Effect.{step}
 
 -- a processor and its bus
@@ -14,9 +12,9 @@ pub record Hardware : Type 0 where
   pub core : CoreState
   pub bus : BusState
 
--- those of a program's values, by the entries and the Random of the translation buffer
-abbrev pub hardware_of : {L : Type 0} → (L → List Entry) → (L → ℕ) → Core L → BusState → Hardware
-hardware_of entries random c b = record { core = state_of entries random c; bus = b }
+-- the two together
+abbrev pub hardware_of : CoreState → BusState → Hardware
+hardware_of c b = record { core = c; bus = b }
 
 -- the next step
 abbrev pub step_of : Hardware → Step

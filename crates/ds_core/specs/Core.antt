@@ -10,7 +10,6 @@ use Rattle.ds_cp0.specs.declared.exception.ExceptionCode.{ExceptionCode}
 use Rattle.ds_cp0.specs.declared.exception.ExceptionCode.TheVariants.{ReservedInstruction}
 use Rattle.ds_cp0.specs.System.{System, vector, entered}
 use Rattle.ds_dev.specs.Bus.{BusState}
-use Rattle.ds_core.specs.declared.processor.Core.{Core}
 use Rattle.ds_core.specs.declared.event.Event.{Event}
 use Rattle.ds_core.specs.declared.event.Event.TheVariants.{Retired, Branched, Raised}
 
@@ -25,22 +24,6 @@ pub record CoreState : Type 0 where
   pub system : System
   pub entries : List Entry
   pub random : ℕ
-
--- its registers as one record
-abbrev pub registers_of : {L : Type 0} → Core L → Registers
-registers_of c = record { general = c.registers; hi = c.hi; lo = c.lo; late = c.late }
-
--- a processor, by the entries and the Random of its translation buffer
-abbrev pub state_of : {L : Type 0} → (L → List Entry) → (L → ℕ) → Core L → CoreState
-state_of entries random c = record {
-  registers = registers_of c;
-  pc = c.pc;
-  next = c.next;
-  slot = c.slot;
-  system = c.cp0;
-  entries = entries c.tlb;
-  random = random c.tlb;
-}
 
 -- an event, and the processor and its bus after it
 pub record Step : Type 0 where

@@ -1,9 +1,9 @@
-//! Laws of the processor and of many steps. Each is the contract of a function with an empty body.
+//! Laws of the processor and of many steps. Each is the contract of a function that does nothing.
 ghost use Rattle.std.specs.Prelude.{◌≡◌, ◌+◌, ℕ, false};
 ghost use Rattle.ds_isa.specs.Instruction.{instruction_of};
 ghost use Rattle.ds_isa.specs.Registers.{read, written};
 ghost use Rattle.ds_dev.specs.Bus.{BusState};
-ghost use Rattle.ds_core.specs.Core.{CoreState, registers_of, state_of, at_next};
+ghost use Rattle.ds_core.specs.Core.{CoreState, at_next};
 ghost use Rattle.ds_core.specs.Coprocessor.{is_usable};
 ghost use Rattle.ds_core.specs.Effect.{executed, step};
 ghost use Rattle.ds_core.specs.Ahead.{Hardware, Advances, is_raised, ticks, owed_tick};
@@ -13,11 +13,14 @@ use ds_tlb::Lookaside;
 
 /// Register 0 reads 0, whatever a caller put into the processor. So `addu $4, $0, $0` writes 0.
 pub fn register_0_reads_0<L: Lookaside>(core: &Core<L>)
-    ensures reads { read (registers_of core.now) 0 ≡ 0 }
+    ensures reads { read core.now.registers 0 ≡ 0 }
     ensures sum { (b : BusState)
-        → executed (state_of L.entries L.random_place core.now) b (instruction_of 0x00002021)
-        ≡ at_next (state_of L.entries L.random_place core.now) b (written (registers_of core.now) 4 0) }
-{}
+        → executed core.now b (instruction_of 0x00002021)
+        ≡ at_next core.now b (written core.now.registers 4 0) }
+{
+    // A field is looked at, so that what is true of every processor is known.
+    let _pc = core.pc;
+}
 
 /// Two stretches of calm steps are one.
 pub fn stretches_join()

@@ -1,6 +1,5 @@
 //! The processor and its step.
-ghost use Rattle.std.specs.Prelude.{◌≡◌, ◌<◌, slice_index};
-ghost use Rattle.std.specs.Option.{ForSome};
+ghost use Rattle.std.specs.Prelude.{◌≡◌};
 
 mod access;
 mod ahead;
@@ -18,11 +17,13 @@ use ds_cp0::{Cp0, ExceptionCode, register};
 use ds_dev::Bus;
 use ds_isa::{Late, Size};
 use ds_tlb::Lookaside;
+use std::marker::Model;
 
-/// The processor's registers, its system coprocessor and its translation buffer. Register 0 reads 0
-/// in every processor that there is: code that puts anything else there is refused.
+/// The processor's registers, its system coprocessor and its translation buffer; a contract sees
+/// them as a `CoreState`. Register 0 reads 0 in every processor that there is: code that puts
+/// anything else there is refused.
 #[derive(Drop)]
-pub struct Core<L> {
+pub struct Core<L: Lookaside> {
     /// The general registers; register 0 holds 0.
     pub registers: [u32; 32],
     pub hi: u32,
@@ -36,15 +37,33 @@ pub struct Core<L> {
     pub slot: bool,
     pub cp0: Cp0,
     pub tlb: L,
-    pub ghost nought: { slice_index registers 0 ≡ 0 },
-    pub ghost late_register: { ForSome late (λ l. (0 < l.register) × (l.register < 32)) },
+}
+
+impl<L: Lookaside> Model for Core<L> {
+    ghost use Rattle.std.specs.Prelude.{◌≡◌, ◌<◌, slice_index};
+    ghost use Rattle.std.specs.Option.{ForSome};
+    ghost use Rattle.ds_core.specs.Core.{CoreState};
+
+    ghost Value = { CoreState };
+
+    ghost view = { λ c. record {
+      registers = record { general = c.registers; hi = c.hi; lo = c.lo; late = c.late };
+      pc = c.pc;
+      next = c.next;
+      slot = c.slot;
+      system = c.cp0;
+      entries = L.entries c.tlb;
+      random = L.random_place c.tlb;
+    } };
+
+    ghost invariant = { λ c. (slice_index c.registers 0 ≡ 0)
+        × ForSome c.late (λ l. (0 < l.register) × (l.register < 32)) };
 }
 
 impl<L: Lookaside> Core<L> {
     ghost use Rattle.ds_tlb.specs.Entries.{ticked};
     ghost use Rattle.ds_cp0.specs.System.{is_pending};
     ghost use Rattle.ds_dev.specs.Bus.{lines};
-    ghost use Rattle.ds_core.specs.Core.{state_of};
     ghost use Rattle.ds_core.specs.Effect.{instruction, step};
 
     /// A step: takes an interrupt that is pending, or does the instruction at `pc`.
@@ -52,7 +71,8 @@ impl<L: Lookaside> Core<L> {
     fn proceed(&mut self, bus: &mut Bus) -> Event
         requires slots { L.SLOTS ≡ 64 }
         requires wired { L.WIRED ≡ 8 }
-        ensures { (record { event = result; core = state_of L.entries L.random_place self.new; bus = bus.new }) ≡ step (state_of L.entries L.random_place self.old) bus.old }
+        ensures { (record { event = result; core = self.new; bus = bus.new })
+            ≡ step self.old bus.old }
     {
         if self.is_interrupted(bus) {
             return self.trap(ExceptionCode::Interrupt);
@@ -70,7 +90,7 @@ impl<L: Lookaside> Core<L> {
     #[cold]
     #[inline(never)]
     fn tick_behind_exception(&mut self)
-        ensures { state_of L.entries L.random_place self.new ≡ record (state_of L.entries L.random_place self.old) { random = ticked L.SLOTS L.WIRED (L.random_place self.old.tlb) } }
+        ensures { self.new ≡ record self.old { random = ticked L.SLOTS L.WIRED self.old.random } }
     {
         self.tlb.tick();
     }
@@ -78,7 +98,7 @@ impl<L: Lookaside> Core<L> {
     /// Whether an interrupt is to be taken. Where Status lets none through, no device is asked.
     #[inline(always)]
     fn is_interrupted(&self, bus: &Bus) -> bool
-        ensures { result ≡ is_pending self.now.cp0 (lines bus.now).0 (lines bus.now).1 }
+        ensures { result ≡ is_pending self.now.system (lines bus.now).0 (lines bus.now).1 }
     {
         if self.cp0.read(register::STATUS) & 1 == 0 {
             return false;
@@ -93,7 +113,7 @@ impl<L: Lookaside> Core<L> {
     #[cold]
     #[inline(never)]
     fn is_let_through(&self, system: bool, clock: bool) -> bool
-        ensures { result ≡ is_pending self.now.cp0 system clock }
+        ensures { result ≡ is_pending self.now.system system clock }
     {
         self.cp0.pending(system, clock)
     }
@@ -102,7 +122,8 @@ impl<L: Lookaside> Core<L> {
     #[inline(always)]
     fn instruction(&mut self, bus: &mut Bus) -> Event
         requires { L.SLOTS ≡ 64 }
-        ensures { (record { event = result; core = state_of L.entries L.random_place self.new; bus = bus.new }) ≡ instruction (state_of L.entries L.random_place self.old) bus.old }
+        ensures { (record { event = result; core = self.new; bus = bus.new })
+            ≡ instruction self.old bus.old }
     {
         let place = match self.reach(Access::Fetch, Size::Word, self.pc) {
             Ok(Physical(place)) => place,

@@ -33,7 +33,16 @@ impl Model for Cp0 {
 
     ghost Value = { System };
 
-    ghost view = { λ c. record { index = c.index; entry_lo = c.entry_lo; context = c.context; bad_vaddr = c.bad_vaddr; entry_hi = c.entry_hi; status = c.status; cause = c.cause; epc = c.epc } };
+    ghost view = { λ c. record {
+      index = c.index;
+      entry_lo = c.entry_lo;
+      context = c.context;
+      bad_vaddr = c.bad_vaddr;
+      entry_hi = c.entry_hi;
+      status = c.status;
+      cause = c.cause;
+      epc = c.epc;
+    } };
 }
 
 impl Cp0 {

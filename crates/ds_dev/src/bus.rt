@@ -33,7 +33,12 @@ impl Model for Bus {
 
     ghost Value = { BusState };
 
-    ghost view = { λ b. record { memory = b.memory; serial = b.serial; clock = b.clock; system = b.system.enables } };
+    ghost view = { λ b. record {
+      memory = b.memory;
+      serial = b.serial;
+      clock = b.clock;
+      system = b.system.enables;
+    } };
 }
 
 impl Bus {

@@ -44,7 +44,12 @@ impl Model for Clock {
 
     ghost Value = { ClockState };
 
-    ghost view = { λ c. record { rate = c.rate; enabled = c.enabled; flagged = c.flagged; time = c.time } };
+    ghost view = { λ c. record {
+      rate = c.rate;
+      enabled = c.enabled;
+      flagged = c.flagged;
+      time = c.time;
+    } };
 
     ghost invariant = { λ c. (c.rate < 16) × (c.time < 2 ^ 17) };
 }
@@ -126,7 +131,8 @@ impl Clock {
 #[inline(always)]
 fn rings(rate: u8, before: u32, after: u32) -> bool
     requires rate { rate < 16 }
-    ensures { result ≡ (nat_le 3 rate && nat_lt (before / 2 ^ (rate + 2)) (after / 2 ^ (rate + 2))) }
+    ensures { result
+        ≡ (nat_le 3 rate && nat_lt (before / 2 ^ (rate + 2)) (after / 2 ^ (rate + 2))) }
 {
     rate >= 3 && before >> (rate + 2) < after >> (rate + 2)
 }

@@ -15,8 +15,8 @@ struct Known {
     ghost decoded: { instr ≡ instruction_of word },
 }
 
-/// Words with their instructions, by the place in a page where each was fetched last. Pages share the
-/// places: an entry is taken only for the word that it holds, wherever that word lies.
+/// Words with their instructions, by the place in a page where each was fetched last. Pages share
+/// the places: an entry is taken only for the word that it holds, wherever that word lies.
 #[derive(Drop)]
 pub(crate) struct Memo {
     entries: [Known; PAGE_WORDS],

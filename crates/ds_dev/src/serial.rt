@@ -51,7 +51,14 @@ impl Model for SerialLines {
 
     ghost Value = { SerialState };
 
-    ghost view = { λ d. record { receiver_interrupts = d.receiver_interrupts; master_scan = d.master_scan; enables = d.enables; silo = d.silo.items; overrun = d.overrun; waiting = d.waiting } };
+    ghost view = { λ d. record {
+      receiver_interrupts = d.receiver_interrupts;
+      master_scan = d.master_scan;
+      enables = d.enables;
+      silo = d.silo.items;
+      overrun = d.overrun;
+      waiting = d.waiting;
+    } };
 }
 
 impl SerialLines {

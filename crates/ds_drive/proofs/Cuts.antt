@@ -1,5 +1,5 @@
 -- What is left on the writer where a run is refused or cut short.
-use Rattle.std.proofs.Common.{◌≡◌, ◌⊎◌, inl, inr, ℕ, List, [], append-nil}
+use Rattle.std.proofs.Common.{◌⊎◌, inl, inr, ℕ, List, [], append-nil}
 use Rattle.std.specs.Prelude.{Option, Result}
 use Rattle.std.specs.Io.KnownBytes.{Keeps}
 use Rattle.clap.specs.Words.{Text}

@@ -28,7 +28,8 @@ pub trait Files {
     fn read(&mut self, alloc: Global, name: &str) -> Result<Vec<u8>, FileFault>
         ensures limit { IfOk result (λ bytes. vec_len bytes ≤ 16777216) }
         ensures found { IfOk result (λ bytes. holds self.old name.now bytes.items) }
-        ensures kept { (file bytes : List ℕ) → holds self.new file bytes → holds self.old file bytes };
+        ensures kept { (file bytes : List ℕ) → holds self.new file bytes
+            → holds self.old file bytes };
 }
 
 /// The files of the system.

@@ -33,12 +33,15 @@ pub fn drive<F: Files, W: Write, E: Write>(
     ensures alone { (program : List ℕ) → map string_bytes words.now ≡ program ∷ codes "demo" ∷ []
         → result ≢ 1 }
     ensures refused { result ≡ 1 → W.contents out.new ≡ W.contents out.old }
-    ensures done { result ≡ 0 → IsDone (map string_bytes words.now) (F.holds files.old) (W.contents out.old) (W.contents out.new) }
+    ensures done { result ≡ 0
+        → IsDone (map string_bytes words.now) (F.holds files.old) (W.contents out.old)
+        (W.contents out.new) }
     ensures cut { result ≡ 3 → IsCutShort (map string_bytes words.now) (F.holds files.old)
         (W.contents out.old) (W.contents out.new) }
     ensures unread { result ≡ 2 → Keeps (W.contents out.old) (W.contents out.new) }
     ensures silent { result ≡ 0 → E.contents err.new ≡ E.contents err.old }
-    ensures kept { (file bytes : List ℕ) → F.holds files.new file bytes → F.holds files.old file bytes }
+    ensures kept { (file bytes : List ℕ) → F.holds files.new file bytes
+        → F.holds files.old file bytes }
 {
     match wish_of(alloc, words) {
         Ok(Some(Wish::Demo)) => match run_demo(alloc, out) {

@@ -26,9 +26,12 @@ pub fn run_request<'a, F: Files, W: Write>(
     files: &mut F,
     out: &mut W,
 ) -> Result<(), Failure<'a>>
-    ensures ok { OnOk result (RunsFiles (F.holds files.old) request.now (W.contents out.old) (W.contents out.new)) }
-    ensures err { IfErr result (λ f. StopsBy f (F.holds files.old) request.now (W.contents out.old) (W.contents out.new)) }
-    ensures kept { (file bytes : List ℕ) → F.holds files.new file bytes → F.holds files.old file bytes }
+    ensures ok { OnOk result
+        (RunsFiles (F.holds files.old) request.now (W.contents out.old) (W.contents out.new)) }
+    ensures err { IfErr result
+        (λ f. StopsBy f (F.holds files.old) request.now (W.contents out.old) (W.contents out.new)) }
+    ensures kept { (file bytes : List ℕ) → F.holds files.new file bytes
+        → F.holds files.old file bytes }
 {
     let policy_text = named_file(alloc, files, request.policy)?;
     let input = named_file(alloc, files, request.input)?;
@@ -59,7 +62,8 @@ fn named_file<'a, F: Files>(
     name: &'a str,
 ) -> Result<Vec<u8>, Failure<'a>>
     ensures found { IfOk result (λ bytes. F.holds files.old name.entry.now bytes.items) }
-    ensures kept { (file bytes : List ℕ) → F.holds files.new file bytes → F.holds files.old file bytes }
+    ensures kept { (file bytes : List ℕ) → F.holds files.new file bytes
+        → F.holds files.old file bytes }
 {
     match files.read(alloc, name) {
         Ok(bytes) => Ok(bytes),
@@ -75,8 +79,10 @@ fn source_texts<'a, F: Files>(
     names: &[Text<64>],
 ) -> Result<Vec<SourceText>, Failure<'a>>
     ensures names { IfOk result (λ texts. map (λ s. s.name) texts.items ≡ names.now) }
-    ensures found { IfOk result (λ texts. All (λ s. F.holds files.old s.name s.text.items) texts.items) }
-    ensures kept { (file bytes : List ℕ) → F.holds files.new file bytes → F.holds files.old file bytes }
+    ensures found { IfOk result
+        (λ texts. All (λ s. F.holds files.old s.name s.text.items) texts.items) }
+    ensures kept { (file bytes : List ℕ) → F.holds files.new file bytes
+        → F.holds files.old file bytes }
 {
     let mut texts = Vec::new(alloc);
     for name in names {
@@ -92,7 +98,8 @@ fn source_texts<'a, F: Files>(
 
 /// The names and texts, lent.
 fn lent<'a>(alloc: Global, texts: &'a [SourceText]) -> Result<Vec<(&'a str, &'a [u8])>, AllocError>
-    ensures { IfOk result (λ sources. sources_seen sources.items ≡ map (λ s. (s.name, s.text.items)) texts.entry.now) }
+    ensures { IfOk result (λ sources. sources_seen sources.items
+        ≡ map (λ s. (s.name, s.text.items)) texts.entry.now) }
 {
     let mut sources = Vec::new(alloc);
     for source in texts {

@@ -11,8 +11,10 @@ use std::io::Write;
 /// Hands a console's number, the count of its bytes and the bytes to the writer.
 #[tactic(auto, unfolding(crate::specs::Report::console_text))]
 fn send_console<W: Write>(number: u32, bytes: &[u8], out: &mut W) -> Result<(), WriteFailed>
-    ensures ok { OnOk result (Appends (W.contents out.old) (W.contents out.new) (console_text number bytes.now)) }
-    ensures err { OnErr result (AppendsPart (W.contents out.old) (W.contents out.new) (console_text number bytes.now)) }
+    ensures ok { OnOk result
+        (Appends (W.contents out.old) (W.contents out.new) (console_text number bytes.now)) }
+    ensures err { OnErr result
+        (AppendsPart (W.contents out.old) (W.contents out.new) (console_text number bytes.now)) }
 {
     let mut numbers = Buffer::new();
     let mut counts = Buffer::new();
@@ -31,8 +33,10 @@ fn send_console<W: Write>(number: u32, bytes: &[u8], out: &mut W) -> Result<(), 
 /// Hands the count of the log's lines, the lines, and the time to the writer.
 #[tactic(auto, unfolding(crate::specs::Report::log_text))]
 fn send_log<W: Write>(lines: u64, log: &[u8], time: u64, out: &mut W) -> Result<(), WriteFailed>
-    ensures ok { OnOk result (Appends (W.contents out.old) (W.contents out.new) (log_text lines log.now time)) }
-    ensures err { OnErr result (AppendsPart (W.contents out.old) (W.contents out.new) (log_text lines log.now time)) }
+    ensures ok { OnOk result
+        (Appends (W.contents out.old) (W.contents out.new) (log_text lines log.now time)) }
+    ensures err { OnErr result
+        (AppendsPart (W.contents out.old) (W.contents out.new) (log_text lines log.now time)) }
 {
     let mut counts = Buffer::new();
     let mut times = Buffer::new();
@@ -60,8 +64,12 @@ pub fn send_report<W: Write>(
     time: u64,
     out: &mut W,
 ) -> Result<(), WriteFailed>
-    ensures ok { OnOk result (Appends (W.contents out.old) (W.contents out.new) (report_text (map (λ c. c.now) consoles.now) lines log.now time)) }
-    ensures err { OnErr result (AppendsPart (W.contents out.old) (W.contents out.new) (report_text (map (λ c. c.now) consoles.now) lines log.now time)) }
+    ensures ok { OnOk result
+        (Appends (W.contents out.old) (W.contents out.new)
+        (report_text (map (λ c. c.now) consoles.now) lines log.now time)) }
+    ensures err { OnErr result
+        (AppendsPart (W.contents out.old) (W.contents out.new)
+        (report_text (map (λ c. c.now) consoles.now) lines log.now time)) }
 {
     send_console(0, consoles[0], out)?;
     send_console(1, consoles[1], out)?;

@@ -15,7 +15,8 @@ use itoa::Buffer;
 pub fn append(text: &mut Vec<u8>, line: &Line) -> Result<(), OutOfMemory>
     ensures ok { OnOk result (text.new.items ≡ text.old.items ++ line_text line.now) }
     ensures err { OnErr result (text.new.items ≡ text.old.items) }
-    ensures room { vec_len text.old + length (line_text line.now) ≤ vec_capacity text.old → IsOk result }
+    ensures room { vec_len text.old + length (line_text line.now) ≤ vec_capacity text.old
+        → IsOk result }
     ensures capacity { vec_capacity text.old ≤ vec_capacity text.new }
 {
     match *line {
@@ -67,9 +68,12 @@ pub fn append(text: &mut Vec<u8>, line: &Line) -> Result<(), OutOfMemory>
 /// Appends pieces in a row, or nothing where memory runs out.
 fn append_pieces(text: &mut Vec<u8>, pieces: &[&[u8]]) -> Result<(), OutOfMemory>
     requires { length (flat_map (λ piece. piece.now) pieces.now) < 2 ^ 64 }
-    ensures ok { OnOk result (text.new.items ≡ text.old.items ++ flat_map (λ piece. piece.now) pieces.now) }
+    ensures ok { OnOk result
+        (text.new.items ≡ text.old.items ++ flat_map (λ piece. piece.now) pieces.now) }
     ensures err { OnErr result (text.new.items ≡ text.old.items) }
-    ensures room { vec_len text.old + length (flat_map (λ piece. piece.now) pieces.now) ≤ vec_capacity text.old → IsOk result }
+    ensures room { vec_len text.old + length (flat_map (λ piece. piece.now) pieces.now)
+        ≤ vec_capacity text.old
+        → IsOk result }
     ensures capacity { vec_capacity text.old ≤ vec_capacity text.new }
 {
     if text.reserve(total_length(pieces)).is_err() {

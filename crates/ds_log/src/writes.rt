@@ -29,8 +29,10 @@ fn send<W: Write>(out: &mut W, text: &[u8]) -> Result<(), WriteFailed>
 
 /// Hands the pieces of a text to the writer, one after another.
 pub(crate) fn send_all<W: Write>(out: &mut W, pieces: &[&[u8]]) -> Result<(), WriteFailed>
-    ensures ok { OnOk result (Appends (W.contents out.old) (W.contents out.new) (flat_map (λ p. p.now) pieces.now)) }
-    ensures err { OnErr result (AppendsPart (W.contents out.old) (W.contents out.new) (flat_map (λ p. p.now) pieces.now)) }
+    ensures ok { OnOk result
+        (Appends (W.contents out.old) (W.contents out.new) (flat_map (λ p. p.now) pieces.now)) }
+    ensures err { OnErr result
+        (AppendsPart (W.contents out.old) (W.contents out.new) (flat_map (λ p. p.now) pieces.now)) }
 {
     for piece in pieces {
         send(out, piece)?;

@@ -11,8 +11,8 @@ pub struct Turn {
 }
 
 impl Turn {
-    /// Whether the time passed or reached a multiple of the rate's period, 2^(rate + 2) ticks, since
-    /// the turn began. Rate 0 has no period.
+    /// Whether the time passed or reached a multiple of the rate's period, 2^(rate + 2) ticks,
+    /// since the turn began. Rate 0 has no period.
     pub fn ends_a_period(&self, rate: u32, now: u64) -> bool
         requires { rate ≤ 15 }
         ensures { result ≡ has_passed rate self.now.began now }

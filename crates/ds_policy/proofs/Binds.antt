@@ -1,5 +1,5 @@
 -- What was answered by each step of a definition that answered.
-use Rattle.std.proofs.Common.{◌≡◌, ℕ, ◌≤◌, ◌+◌, pos, Bool, true, false, not, List, Option, Some, None, option_and_then, Result, Ok, Err, refl, arith, nat_le, ◌&&◌, if◌then◌else◌, negsuc, ◌++◌, ◌∷◌, [], subst, length, length-append}
+use Rattle.std.proofs.Common.{◌≡◌, ℕ, ◌≤◌, ◌+◌, pos, Bool, true, false, not, List, Option, Some, None, option_and_then, Ok, refl, arith, nat_le, ◌&&◌, if◌then◌else◌, negsuc, ◌++◌, ◌∷◌, [], subst, length, length-append}
 use Rattle.std.proofs.lemmas.Bool.Decides.{nat_tests}
 use Rattle.toml.specs.Data.{Data, string, integer, float, boolean, datetime, array, table, Items, no_items, item, Members, get_member, as_array}
 use Rattle.ds_word.specs.ResultBinding.{◌>>=◌}

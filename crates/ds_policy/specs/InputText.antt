@@ -42,6 +42,7 @@ with_command s time c = record s { latest = time; events = s.events + 1; command
 abbrev pub with_characters : Said → ℕ → ℕ → List ℕ → Said
 with_characters s time line keys = record s { latest = time; events = s.events + 1; characters = s.characters ++ characters_of time line keys }
 
+-- with an event behind the others, a command or the characters of a line
 abbrev pub with_event : Said → ℕ → Event → Said
 with_event s time (Order c) = with_command s time c
 with_event s time (Input line keys) = with_characters s time line keys

@@ -1,5 +1,5 @@
 -- Pages, the permission table, and what it answers to an access.
-use Rattle.std.specs.Prelude.{ℕ, ◌+◌, ◌-◌, ◌%◌, ◌^◌, Bool, true, false, ◌||◌, not, nat_lt, nat_le, ◌==◌, if◌then◌else◌, List, [], ◌∷◌, filter, slice_set, slice_index_or, Option, Some, None}
+use Rattle.std.specs.Prelude.{ℕ, ◌+◌, ◌-◌, ◌%◌, ◌^◌, Bool, false, ◌||◌, not, nat_lt, nat_le, ◌==◌, if◌then◌else◌, List, [], ◌∷◌, filter, slice_set, slice_index_or, Option, Some, None}
 use Rattle.std.specs.List.{list_any}
 use Rattle.ds_policy.specs.declared.grant.Right.{Right}
 use Rattle.ds_policy.specs.declared.grant.Right.TheVariants.{Nothing, Read, Write}

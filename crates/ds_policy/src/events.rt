@@ -37,7 +37,9 @@ impl Model for Events {
 
     ghost view = { λ e. record { commands = e.commands.items; characters = e.characters.items } };
 
-    ghost invariant = { λ e. IsGoodInput (record { commands = e.commands.items; characters = e.characters.items }) × IsNothingYet (record { commands = e.commands.items; characters = e.characters.items }) };
+    ghost invariant = { λ e.
+        IsGoodInput (record { commands = e.commands.items; characters = e.characters.items })
+        × IsNothingYet (record { commands = e.commands.items; characters = e.characters.items }) };
 }
 
 impl Events {

@@ -55,9 +55,22 @@ impl Model for Policy {
 
     ghost Value = { PolicyValue };
 
-    ghost view = { λ p. record { frames = p.frames; rate = p.rate; processes = p.processes.items; pages = p.pages.items; rules = p.rules.items } };
+    ghost view = { λ p. record {
+      frames = p.frames;
+      rate = p.rate;
+      processes = p.processes.items;
+      pages = p.pages.items;
+      rules = p.rules.items;
+    } };
 
-    ghost invariant = { λ p. (p.sources.items ≡ sources_of p.pages.items) × IsGoodPolicy (record { frames = p.frames; rate = p.rate; processes = p.processes.items; pages = p.pages.items; rules = p.rules.items }) };
+    ghost invariant = { λ p. (p.sources.items ≡ sources_of p.pages.items)
+        × IsGoodPolicy (record {
+          frames = p.frames;
+          rate = p.rate;
+          processes = p.processes.items;
+          pages = p.pages.items;
+          rules = p.rules.items;
+        }) };
 }
 
 impl Policy {
@@ -111,7 +124,8 @@ impl Policy {
     pub fn rules(&self) -> &[PolicyRule]
         ensures all { result.now ≡ self.now.rules }
         ensures at_most { length self.now.rules ≤ 999 }
-        ensures good { All (IsGoodRule (length self.now.processes) (length self.now.pages)) self.now.rules }
+        ensures good { All (IsGoodRule (length self.now.processes) (length self.now.pages))
+            self.now.rules }
         ensures places { IsDistinct has_same_place self.now.rules }
         ensures few { HasFewRules self.now.rules }
         ensures regions { HasFewRegions self.now.rules }
@@ -124,7 +138,9 @@ impl Policy {
         ensures all { result.now ≡ sources_of self.now.pages }
         ensures few { length (sources_of self.now.pages) ≤ length self.now.pages }
         ensures distinct { IsDistinct bytes_eq (sources_of self.now.pages) }
-        ensures each { All (λ p. IfSome p.source (λ s. is_among (sources_of self.now.pages) s.name ≡ true)) self.now.pages }
+        ensures each { All
+            (λ p. IfSome p.source (λ s. is_among (sources_of self.now.pages) s.name ≡ true))
+            self.now.pages }
     {
         &self.sources
     }

@@ -27,7 +27,8 @@ pub struct Process {
 impl Process {
     /// A process that is ready at its start address, with all registers zero.
     pub fn new(start: u32) -> Process
-        ensures { result ≡ record { registers = replicate 32 0; hi = 0; lo = 0; pc = start; state = Ready } }
+        ensures { result
+            ≡ record { registers = replicate 32 0; hi = 0; lo = 0; pc = start; state = Ready } }
     {
         Process {
             registers: [0; 32],

@@ -1,4 +1,5 @@
-//! Laws of the refill handler: what its nine words make of the processor, word by word and together.
+//! Laws of the refill handler: what its nine words make of the processor, word by word and
+//! together.
 #![tactic(auto)]
 
 mod laws;

@@ -3,6 +3,7 @@
 #[cfg(test)]
 mod tests;
 
+use ds_word::digit_of;
 use std::alloc::{AllocError, Global};
 
 /// What a case is expected to come to.
@@ -90,7 +91,7 @@ enum Escape {
     /// Behind `\x`.
     Byte,
     /// Behind the first digit of a byte, which is this.
-    Digit(u8),
+    Digit(u64),
 }
 
 /// Adds a line to a text, with its escapes read, if it has no wrong one: `\\` is a backslash, `\r`
@@ -102,7 +103,7 @@ fn push_line(text: &mut Vec<u8>, line: &str) -> Result<bool, AllocError> {
         escape = match (escape, *byte) {
             (Escape::No, b'\\') => Escape::Begun,
             (Escape::Begun, b'x') => Escape::Byte,
-            (Escape::Byte, digit) => match hexadecimal(digit) {
+            (Escape::Byte, digit) => match digit_of(16, digit) {
                 Some(value) => Escape::Digit(value),
                 None => return Ok(false),
             },
@@ -128,19 +129,9 @@ fn meant(escape: Escape, byte: u8) -> Option<u8> {
         (Escape::Begun, b'\\') => Some(b'\\'),
         (Escape::Begun, b'r') => Some(b'\r'),
         (Escape::Digit(first), second) => {
-            let second = hexadecimal(second)?;
-            Some((first & 15) * 16 + (second & 15))
+            let second = digit_of(16, second)?;
+            Some(((first & 15) * 16 + second) as u8)
         }
-        _ => None,
-    }
-}
-
-/// The value of a hexadecimal digit.
-fn hexadecimal(digit: u8) -> Option<u8> {
-    match digit {
-        b'0'..=b'9' => Some(digit - b'0'),
-        b'a'..=b'f' => Some(digit - b'a' + 10),
-        b'A'..=b'F' => Some(digit - b'A' + 10),
         _ => None,
     }
 }

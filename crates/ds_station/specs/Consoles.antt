@@ -2,6 +2,7 @@
 use Rattle.std.specs.Prelude.{ℕ, ◌+◌, ◌≤◌, List, map, All, vec_len, vec_capacity}
 use Rattle.ds_station.specs.declared.consoles.Consoles.{Consoles}
 
+-- the texts of the consoles, in the order of their lines
 abbrev pub texts_of : Consoles → List (List ℕ)
 texts_of c = map (λ v. v.items) c.texts
 

@@ -24,6 +24,7 @@ pub record Own : Type 0 where
   pub failed : Bool
   pub spent : ℕ
 
+-- all that a station holds: the processor, its memory, what is beside them, and its own marks
 pub record Held : Type 0 where
   pub cpu : Cpu
   pub memory : List ℕ

@@ -9,6 +9,7 @@ use Rattle.ds_station.specs.Held.{Held}
 use Rattle.ds_station.specs.Stands.{IsSound}
 use Rattle.ds_station.specs.declared.parts.Parts.{Parts}
 
+-- the parts of a station as what it holds, by the entries and the Random of the translation buffer
 abbrev pub held : {L : Type 0} → (L → List Entry) → (L → ℕ) → Parts L → Held
 held entries random p = record {
   cpu = cpu_of entries random p.core;

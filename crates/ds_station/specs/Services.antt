@@ -37,6 +37,7 @@ over ticks o runner = record o { time = o.time + ticks; owed = Some (record { be
 abbrev pub ticks_of : Bool → ℕ
 ticks_of slot = if slot then 2 else 1
 
+-- no instruction of a unit has begun
 abbrev pub unspent : Own → Own
 unspent own = record own { spent = 0 }
 
@@ -50,6 +51,7 @@ after_event Retired h s = record h { cpu = s.cpu; memory = s.memory; outside = o
 after_event Branched h s = record h { cpu = s.cpu; memory = s.memory }
 after_event Raised h s = record h { cpu = s.cpu; memory = s.memory }
 
+-- what an instruction's step comes to: the end of its unit where it is done, else it stays inside
 abbrev pub step_of : Event → Step
 step_of Retired = Unit
 step_of Branched = Inside
@@ -75,6 +77,7 @@ denied_held h kind address rule code = record h {
   own = unspent h.own;
 }
 
+-- the unit ends in a fault of its instruction, and the log says so with the code of the fault
 abbrev pub fault_held : Held → ℕ → Held
 fault_held h code = denied_held h denied.Exec (own_address h.cpu) I code
 
@@ -86,6 +89,7 @@ back_at c pc = record c { pc = pc; next = word (pc + 4); slot = false; kernel = 
 abbrev pub touched_registers : Registers → ℕ → Registers
 touched_registers r pc = record (settled r) { general = slice_set (slice_set r.general 26 0) 27 pc }
 
+-- whether an entry of the table lets the process write; where there is none it does not
 abbrev pub has_write : Option Grant → Bool
 has_write None = false
 has_write (Some g) = is_write g.right
@@ -102,6 +106,7 @@ entry_for address page writes = record { vpn = address / 4096; asid = 1; pfn = p
 abbrev pub refilled : List Entry → ℕ → Entry → List Entry
 refilled entries random e = slice_set entries (unwrap_or (find entries e.vpn 1) random) e
 
+-- the buffer is refilled with the page of the address that was asked for, and the unit begins again
 abbrev pub filled_held : Held → ℕ → Held
 filled_held h page = record h {
   cpu = record (back_at h.cpu h.cpu.epc) {
@@ -115,6 +120,7 @@ abbrev pub by_verdict : Held → Access → Verdict → Held
 by_verdict h access (verdict.Allowed page offset) = filled_held h page
 by_verdict h access (verdict.Denied rule code) = denied_held h (denied_as access.kind) h.cpu.bad rule code
 
+-- what the step comes to by the table's answer: a denial ends the unit
 abbrev pub step_by : Verdict → Step
 step_by (verdict.Allowed page offset) = Inside
 step_by (verdict.Denied rule code) = Unit
@@ -138,9 +144,11 @@ answered_held h consoles value = record h {
   own = unspent h.own;
 }
 
+-- the consoles with a byte more on the line of the process
 abbrev pub with_byte : Outside → ℕ → List (List ℕ)
 with_byte o byte = slice_set o.consoles o.line (slice_index_or o.consoles o.line [] ++ byte ∷ [])
 
+-- what a call leaves: `exit` ends the process, `put` writes its byte, any other answers all ones
 abbrev pub called_held : Held → Call → Held
 called_held h call.Exit = exited h
 called_held h (call.Put byte) = answered_held h (with_byte h.outside byte) 0
@@ -159,5 +167,6 @@ idled h = record h { outside = record h.outside { time = h.outside.time + 1; owe
 abbrev pub bounded : Held → Held
 bounded h = record h { outside = record h.outside { owed = None } }
 
+-- the run has failed, and nothing else is changed
 abbrev pub failed : Held → Held
 failed h = record h { own = record h.own { failed = true } }

@@ -117,6 +117,7 @@ RunningBy Waiting c s q m = ⊥
 RunningBy Parked c s q m = IsSaved s q
 RunningBy Ended c s q m = IsSaved s q
 
+-- the machine has one process, and it stands and runs as the station's does
 pub record RunningIs (c : Cpu) (s : saved.Process) (number : ℕ) (m : State) : Type 0 where
   pub process : Process
   pub only : m.processes ≡ process ∷ []

@@ -1,5 +1,5 @@
-//! Page tables in memory: for each process a map from addresses to page-table words, which the refill
-//! handler reads through kseg2 (Kane and Heinrich, chapter 4).
+//! Page tables in memory: for each process a map from addresses to page-table words, which the
+//! refill handler reads through kseg2 (Kane and Heinrich, chapter 4).
 #![tactic(auto)]
 
 mod fault;

@@ -19,9 +19,9 @@ const EMPTY: u32 = 1;
 /// The frame of the first process's first table.
 const FIRST: u32 = 2;
 
-/// Where the page tables of processes stand in memory. Each process, numbered from 1, has four frames
-/// for tables, each for one region of 4 MiB. A region without a table reads as the empty table, which
-/// is frame 1 and all zero.
+/// Where the page tables of processes stand in memory. Each process, numbered from 1, has four
+/// frames for tables, each for one region of 4 MiB. A region without a table reads as the empty
+/// table, which is frame 1 and all zero.
 #[derive(Drop)]
 pub struct Tables {
     rows: ArrayVec<Places, PROCESSES>,
@@ -41,8 +41,10 @@ impl Tables {
     /// So many processes, at most 100, none of which has a table.
     #[tactic(auto, using(crate::proofs::Map::none_words, crate::proofs::PlaceLemmas::none_placed))]
     pub fn new(processes: usize) -> Tables
-        ensures value { result ≡ replicate (if nat_lt processes 100 then processes else 100) (replicate 4 None) }
-        ensures words { (memory : List ℕ) → HasEmptyTable memory → (q other : ℕ) → entry_word memory result q other ≡ 0 }
+        ensures value { result
+            ≡ replicate (if nat_lt processes 100 then processes else 100) (replicate 4 None) }
+        ensures words { (memory : List ℕ) → HasEmptyTable memory → (q other : ℕ)
+            → entry_word memory result q other ≡ 0 }
     {
         if processes < PROCESSES {
             Tables {
@@ -55,8 +57,9 @@ impl Tables {
         }
     }
 
-    /// Replaces a process's page-table word for the page of an address. The region gets a table, all
-    /// zero, where it has none; refused, and nothing changed, where the process has no place for it.
+    /// Replaces a process's page-table word for the page of an address. The region gets a table,
+    /// all zero, where it has none; refused, and nothing changed, where the process has no place
+    /// for it.
     #[tactic(auto, using(crate::proofs::Map::refused_entry, crate::proofs::Map::refused_table))]
     pub fn put_entry(
         &mut self,
@@ -68,8 +71,11 @@ impl Tables {
         ensures refused { IsErr result ↔ (has_place self.old process (region_of addr) ≡ false) }
         ensures places { self.new ≡ opened self.old process (region_of addr) }
         ensures memory { memory.new ≡ with_entry memory.old self.old process addr word }
-        ensures words { OnOk result (HasEmptyTable memory.old → (q other : ℕ) → entry_word memory.new self.new q other ≡ word_once_put memory.old self.old process addr word q other) }
-        ensures frames { (f : ℕ) → (f < 2) ⊎ (402 ≤ f) → frame_of memory.new f ≡ frame_of memory.old f }
+        ensures words { OnOk result (HasEmptyTable memory.old → (q other : ℕ)
+            → entry_word memory.new self.new q other
+            ≡ word_once_put memory.old self.old process addr word q other) }
+        ensures frames { (f : ℕ) → (f < 2) ⊎ (402 ≤ f)
+            → frame_of memory.new f ≡ frame_of memory.old f }
     {
         let region = region_of(addr);
         self.open(memory, process, region)?;
@@ -78,8 +84,8 @@ impl Tables {
         Ok(())
     }
 
-    /// A process's page-table word for the page of an address; 0 where its region has no table, as long
-    /// as the empty table is zero.
+    /// A process's page-table word for the page of an address; 0 where its region has no table, as
+    /// long as the empty table is zero.
     pub fn entry(&self, memory: &Memory, process: u32, addr: u32) -> u32
         ensures { result ≡ entry_word memory.now self.now process addr }
     {
@@ -91,7 +97,9 @@ impl Tables {
     #[tactic(auto, using(crate::proofs::PlaceLemmas::closed_short, crate::proofs::PlaceLemmas::closed_row, crate::proofs::PlaceLemmas::four_exactly))]
     pub fn close(&mut self, process: u32, region: u32)
         ensures value { self.new ≡ closed self.old process region }
-        ensures words { (memory : List ℕ) → HasEmptyTable memory → (q other : ℕ) → entry_word memory self.new q other ≡ word_once_closed memory self.old process region q other }
+        ensures words { (memory : List ℕ) → HasEmptyTable memory → (q other : ℕ)
+            → entry_word memory self.new q other
+            ≡ word_once_closed memory self.old process region q other }
     {
         let places = self.places(process);
         if places.len() < MOST {

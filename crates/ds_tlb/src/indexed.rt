@@ -32,9 +32,12 @@ pub struct Indexed<const N: usize, const WIRED: usize> {
     ghost some_wired: { 1 ≤ WIRED },
     ghost few: { N ≤ 64 },
     ghost indexed: { IsIndexOf buckets entries },
-    ghost code_right: { code.vpn < 2 ^ 32 → base_of entries false code.vpn code.asid ≡ Some code.base } by { Prim.hlevel props },
-    ghost loads_right: { loads.vpn < 2 ^ 32 → base_of entries false loads.vpn loads.asid ≡ Some loads.base } by { Prim.hlevel props },
-    ghost stores_right: { stores.vpn < 2 ^ 32 → base_of entries true stores.vpn stores.asid ≡ Some stores.base } by { Prim.hlevel props },
+    ghost code_right: { code.vpn < 2 ^ 32 → base_of entries false code.vpn code.asid
+        ≡ Some code.base } by { Prim.hlevel props },
+    ghost loads_right: { loads.vpn < 2 ^ 32 → base_of entries false loads.vpn loads.asid
+        ≡ Some loads.base } by { Prim.hlevel props },
+    ghost stores_right: { stores.vpn < 2 ^ 32 → base_of entries true stores.vpn stores.asid
+        ≡ Some stores.base } by { Prim.hlevel props },
 }
 
 impl<const N: usize, const WIRED: usize> Lookaside for Indexed<N, WIRED> {
@@ -150,7 +153,8 @@ impl<const N: usize, const WIRED: usize> Indexed<N, WIRED> {
 
     /// Remembers what was found, in place of what was remembered for the kind.
     fn remember(&mut self, kind: Kind, window: Window)
-        requires { base_of self.now.entries (is_store kind) window.vpn window.asid ≡ Some window.base }
+        requires { base_of self.now.entries (is_store kind) window.vpn window.asid
+            ≡ Some window.base }
         ensures entries { self.new.entries ≡ self.old.entries }
         ensures random { self.new.random ≡ self.old.random }
     {

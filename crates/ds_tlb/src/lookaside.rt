@@ -59,8 +59,10 @@ pub trait Lookaside: Drop {
         ensures lowest { result ≡ find (entries self.now) vpn asid }
         ensures in_range { IfSome result (λ slot. slot < SLOTS) }
         ensures found { IfSome result (λ slot. MatchesAt vpn asid (entries self.now) slot) }
-        ensures only { IsSingle (entries self.now) → IfSome result (λ slot. IsOnlyMatch vpn asid (entries self.now) slot) }
-        ensures missed { IsNone result ↔ All (λ e. IsTrue (not (matches vpn asid e))) (entries self.now) };
+        ensures only { IsSingle (entries self.now)
+            → IfSome result (λ slot. IsOnlyMatch vpn asid (entries self.now) slot) }
+        ensures missed { IsNone result
+            ↔ All (λ e. IsTrue (not (matches vpn asid e))) (entries self.now) };
 
     /// The entry of the slot.
     fn read(&self, slot: usize) -> Entry
@@ -98,11 +100,12 @@ pub trait Lookaside: Drop {
         ensures { result ≡ index_word (find (entries self.now) vpn asid) };
 
     /// The first physical address of the frame that a page of an address space has for an access of
-    /// this kind, where the buffer remembers it. What is remembered lies in memory, the first 8 MiB,
-    /// and never in a device.
+    /// this kind, where the buffer remembers it. What is remembered lies in memory, the first 8
+    /// MiB, and never in a device.
     #[inline(always)]
     fn recalled(&self, kind: Kind, vpn: u32, asid: u8) -> Option<u32>
-        ensures base { IfSome result (λ base. base_of (entries self.now) (is_store kind) vpn asid ≡ Some base) }
+        ensures base { IfSome result
+            (λ base. base_of (entries self.now) (is_store kind) vpn asid ≡ Some base) }
         ensures inside { IfSome result (λ base. base + 4096 ≤ 2 ^ 23) }
     {
         None

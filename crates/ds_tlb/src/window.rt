@@ -33,7 +33,8 @@ impl Window {
     /// The window of a page, where its frame lies in memory.
     #[inline(always)]
     pub fn of(vpn: u32, asid: u8, base: u32) -> Option<Window>
-        ensures { IfSome result (λ window. (window.vpn ≡ vpn) × (window.asid ≡ asid) × (window.base ≡ base)) }
+        ensures { IfSome result
+            (λ window. (window.vpn ≡ vpn) × (window.asid ≡ asid) × (window.base ≡ base)) }
     {
         if base > MEMORY_END - PAGE_SIZE as u32 {
             return None;
@@ -48,7 +49,8 @@ impl Window {
     /// The frame of a page of an address space, if it is the one that is remembered.
     #[inline(always)]
     pub fn frame(&self, vpn: u32, asid: u8) -> Option<u32>
-        ensures same { IfSome result (λ base. (self.now.vpn ≡ vpn) × (self.now.asid ≡ asid) × (self.now.base ≡ base)) }
+        ensures same { IfSome result
+            (λ base. (self.now.vpn ≡ vpn) × (self.now.asid ≡ asid) × (self.now.base ≡ base)) }
         ensures inside { IfSome result (λ base. base + 4096 ≤ 2 ^ 23) }
     {
         if self.vpn == u64::from(vpn) && self.asid == asid {

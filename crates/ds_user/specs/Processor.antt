@@ -18,6 +18,7 @@ use Rattle.ds_user.specs.declared.processor.Cause.TheVariants as cause
 use Rattle.ds_user.specs.declared.processor.Event.{Event}
 use Rattle.ds_user.specs.declared.processor.Event.TheVariants.{Retired, Branched, Raised}
 
+-- the processor: registers, places of the program, the exception that waits, translation buffer
 pub record Cpu : Type 0 where
   pub registers : Registers
   pub pc : ℕ
@@ -35,9 +36,11 @@ pub record Cpu : Type 0 where
   pub entries : List Entry
   pub random : ℕ
 
+-- its registers as one record
 abbrev pub registers_of : {L : Type 0} → Core L → Registers
 registers_of c = record { general = c.registers; hi = c.hi; lo = c.lo; late = c.late }
 
+-- a processor, by the entries and the Random of its translation buffer
 abbrev pub cpu_of : {L : Type 0} → (L → List Entry) → (L → ℕ) → Core L → Cpu
 cpu_of entries random c = record {
   registers = registers_of c;
@@ -64,6 +67,7 @@ abbrev pub by_slot : Kind → ℕ → Option Entry → Option ℕ
 by_slot kind address None = None
 by_slot kind address (Some e) = if e.v && (not (is_store kind) || e.d) then Some (e.pfn * 4096 + address % 4096) else None
 
+-- the entry of the slot that was found, if one was
 abbrev pub entry_in : List Entry → Option ℕ → Option Entry
 entry_in entries None = None
 entry_in entries (Some slot) = slice_get entries slot
@@ -82,12 +86,15 @@ unit_address c = if c.slot then minus c.pc 4 else c.pc
 abbrev pub raised_cpu : Cpu → Cause → ℕ → Cpu
 raised_cpu c why bad = record c { registers = settled c.registers; slot = false; kernel = true; epc = unit_address c; cause = why; bad = bad; delayed = c.slot }
 
+-- an exception is raised, and the memory is as it was
 abbrev pub raised : Cpu → List ℕ → Cause → ℕ → Stepped
 raised c m why bad = record { event = Raised; cpu = raised_cpu c why bad; memory = m }
 
+-- the processor at the next instruction, with these registers
 abbrev pub gone_cpu : Cpu → Registers → Cpu
 gone_cpu c r = record c { registers = r; pc = c.next; next = word (c.next + 4); slot = false }
 
+-- on behind the instruction
 abbrev pub gone : Cpu → List ℕ → Registers → Stepped
 gone c m r = record { event = Retired; cpu = gone_cpu c r; memory = m }
 
@@ -105,17 +112,21 @@ abbrev pub branched : Bool → Cpu → List ℕ → Registers → ℕ → Steppe
 branched true c m r target = raised c m (cause.Fault 10) 0
 branched false c m r target = record { event = Branched; cpu = branched_cpu c r target; memory = m }
 
+-- the exception of an access that the buffer does not let go
 abbrev pub denied : Cpu → List ℕ → Kind → Size → ℕ → Stepped
 denied c m kind size address = raised c m (cause.Access (record { kind = kind; size = size })) address
 
+-- a load from the place that the buffer gives, or its exception
 abbrev pub loaded_from : Cpu → List ℕ → Size → ℕ → (ℕ → Registers) → Option ℕ → Stepped
 loaded_from c m size address after None = denied c m Load size address
 loaded_from c m size address after (Some place) = gone c m (after (load_word m place))
 
+-- a store to the place that the buffer gives, or its exception
 abbrev pub stored_to : Cpu → List ℕ → Size → ℕ → (ℕ → ℕ) → Option ℕ → Stepped
 stored_to c m size address after None = denied c m Store size address
 stored_to c m size address after (Some place) = gone c (store_word m place (after (load_word m place))) (settled c.registers)
 
+-- what an instruction's effect makes of processor and memory
 abbrev pub effect : Cpu → List ℕ → Effect → Stepped
 effect c m (Goes after) = gone c m after
 effect c m (Branches after target) = branched c.slot c m after target
@@ -125,6 +136,7 @@ effect c m (Faults code) = raised c m (cause.Fault code) 0
 effect c m Calls = raised c m cause.Call 0
 effect c m Privileged = raised c m (cause.Fault 11) 0
 
+-- the instruction at the place that the buffer gives, or the exception of its fetch
 abbrev pub fetched : Cpu → List ℕ → Option ℕ → Stepped
 fetched c m None = denied c m Fetch Word c.pc
 fetched c m (Some place) = effect c m (meaning (instruction_of (load_word m place)) c.pc c.registers)

@@ -1,7 +1,4 @@
 //! Steps on the bus.
-ghost use Rattle.std.specs.Prelude.{◌≡◌, ◌%◌, true};
-ghost use Rattle.ds_dev.specs.Bus.{alignment};
-
 use ds_dev::Bus;
 use ds_isa::Size;
 use std::alloc::{AllocError, Global};
@@ -49,17 +46,6 @@ fn size_of(step: &str) -> Option<Size> {
     }
 }
 
-/// Whether an address is aligned for a size.
-fn is_aligned(address: u32, size: Size) -> bool
-    ensures { result ≡ true → address % alignment size ≡ 0 }
-{
-    match size {
-        Size::Word => address % 4 == 0,
-        Size::Half => address % 2 == 0,
-        Size::Byte | Size::Part => true,
-    }
-}
-
 /// Loads from an address, or stores the value behind it there.
 fn access(
     alloc: Global,
@@ -68,11 +54,11 @@ fn access(
     operands: &[u32],
 ) -> Result<Option<String>, AllocError> {
     match operands {
-        [address] if is_aligned(*address, size) => match bus.load(*address, size) {
+        [address] if size.is_aligned(*address) => match bus.load(*address, size) {
             Ok(value) => Ok(Some(format!(in alloc; "{value:08x}")?)),
             Err(_) => said(alloc, "refused"),
         },
-        [address, value] if is_aligned(*address, size) => {
+        [address, value] if size.is_aligned(*address) => {
             match bus.store(*address, size, *value) {
                 Ok(()) => said(alloc, "stored"),
                 Err(_) => said(alloc, "refused"),

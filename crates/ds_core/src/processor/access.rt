@@ -4,7 +4,7 @@ ghost use Rattle.ds_isa.specs.Access.{is_store};
 ghost use Rattle.ds_dev.specs.Bus.{load, store};
 ghost use Rattle.ds_amap.specs.Map.{translate};
 ghost use Rattle.ds_cp0.specs.System.{asid_of};
-ghost use Rattle.ds_core.specs.Core.{state_of, core_at_vector};
+ghost use Rattle.ds_core.specs.Core.{core_at_vector};
 ghost use Rattle.ds_core.specs.Access.{mode_of, reached, decoded, code_of, refusal, aligned_load, kept, aligned_store, store_answered};
 
 use super::Core;
@@ -137,10 +137,8 @@ impl<L: Lookaside> Core<L> {
         size: Size,
         address: u32,
     ) -> Result<Physical, Fault>
-        ensures value { result ≡ reached (state_of L.entries L.random_place self.old) access size address }
-        ensures rest { self.new ≡ record self.old { tlb = self.new.tlb } }
-        ensures entries { L.entries self.new.tlb ≡ L.entries self.old.tlb }
-        ensures random { L.random_place self.new.tlb ≡ L.random_place self.old.tlb }
+        ensures value { result ≡ reached self.old access size address }
+        ensures same { self.new ≡ self.old }
     {
         if !size.is_aligned(address) {
             return Err(Fault::Address);
@@ -155,10 +153,10 @@ impl<L: Lookaside> Core<L> {
     #[cold]
     #[inline(never)]
     fn search(&mut self, access: Access, address: u32) -> Result<Physical, Fault>
-        ensures value { result ≡ translate (L.entries self.old.tlb) (asid_of self.old.cp0) (mode_of self.old.cp0) access address }
-        ensures rest { self.new ≡ record self.old { tlb = self.new.tlb } }
-        ensures entries { L.entries self.new.tlb ≡ L.entries self.old.tlb }
-        ensures random { L.random_place self.new.tlb ≡ L.random_place self.old.tlb }
+        ensures value { result
+            ≡ translate self.old.entries (asid_of self.old.system) (mode_of self.old.system)
+            access address }
+        ensures same { self.new ≡ self.old }
     {
         let mode = mode_of(&self.cp0);
         let asid = self.cp0.asid();
@@ -170,7 +168,7 @@ impl<L: Lookaside> Core<L> {
     #[inline(never)]
     pub(super) fn refuse(&mut self, access: Access, address: u32, fault: Fault) -> Event
         ensures event { result ≡ Event.Raised (code_of fault (is_store access)) }
-        ensures core { state_of L.entries L.random_place self.new ≡ core_at_vector (state_of L.entries L.random_place self.old) (refusal (state_of L.entries L.random_place self.old) access address fault) }
+        ensures core { self.new ≡ core_at_vector self.old (refusal self.old access address fault) }
     {
         self.raise(Exception {
             code: code_of(fault, access.is_store()),
@@ -185,7 +183,9 @@ impl<L: Lookaside> Core<L> {
     /// Stores a word at a place, and is done with the instruction.
     #[inline(always)]
     pub(super) fn retire_store(&mut self, place: u32, size: Size, word: u32, bus: &mut Bus) -> Event
-        ensures { (record { event = result; core = state_of L.entries L.random_place self.new; bus = bus.new }) ≡ store_answered (state_of L.entries L.random_place self.old) (aligned_store bus.old place size word).1 (aligned_store bus.old place size word).0 }
+        ensures { (record { event = result; core = self.new; bus = bus.new })
+            ≡ store_answered self.old (aligned_store bus.old place size word).1
+            (aligned_store bus.old place size word).0 }
     {
         match store_aligned(bus, place, size, word) {
             Ok(()) => self.retire_settled(),

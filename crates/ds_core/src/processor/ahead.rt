@@ -1,6 +1,5 @@
 //! Steps, one by one and many at once.
 ghost use Rattle.std.specs.Prelude.{◌≡◌, ◌<◌, ◌+◌, if◌then◌else◌, IsNone, IfSome};
-ghost use Rattle.ds_core.specs.Core.{state_of};
 ghost use Rattle.ds_core.specs.Effect.{step};
 ghost use Rattle.ds_core.specs.Ahead.{hardware_of, AdvancesTo, ticks, owed_tick};
 
@@ -26,7 +25,8 @@ impl<L: Lookaside> Core<L> {
     pub fn step(&mut self, bus: &mut Bus) -> Event
         requires slots { L.SLOTS ≡ 64 }
         requires wired { L.WIRED ≡ 8 }
-        ensures { (record { event = result; core = state_of L.entries L.random_place self.new; bus = bus.new }) ≡ step (state_of L.entries L.random_place self.old) bus.old }
+        ensures { (record { event = result; core = self.new; bus = bus.new })
+            ≡ step self.old bus.old }
     {
         match self.run_ahead(bus, 1).raised {
             Some(code) => Event::Raised(code),
@@ -46,10 +46,10 @@ impl<L: Lookaside> Core<L> {
         ensures all { IsNone result.raised → result.steps ≡ limit }
         ensures fewer { IfSome result.raised (λ _. result.steps < limit) }
         ensures steps { AdvancesTo result.steps result.raised
-            (hardware_of L.entries L.random_place self.old bus.old)
-            (hardware_of L.entries L.random_place self.new bus.new) }
+            (hardware_of self.old bus.old)
+            (hardware_of self.new bus.new) }
         ensures ticks { IsNone result.raised
-            → ticks result.steps (hardware_of L.entries L.random_place self.old bus.old)
+            → ticks result.steps (hardware_of self.old bus.old)
             + owed_tick self.new.slot ≡ result.steps + owed_tick self.old.slot }
     {
         let mut steps = 0;

@@ -1,7 +1,7 @@
 //! The instructions of the system coprocessor, the translation buffer's among them.
 ghost use Rattle.std.specs.Prelude.{◌≡◌, ◌<◌};
 ghost use Rattle.ds_tlb.specs.Words.{entry_of};
-ghost use Rattle.ds_core.specs.Core.{state_of, core_at_vector};
+ghost use Rattle.ds_core.specs.Core.{core_at_vector};
 ghost use Rattle.ds_core.specs.Coprocessor.{is_usable, unusable, unusable_exception, requests, system_reads, indexed, usable, unit_of, privileged};
 
 use super::Core;
@@ -51,7 +51,7 @@ impl<L: Lookaside> Core<L> {
     /// Whether a coprocessor may be used: coprocessor 0 in kernel mode, else each by its bit in
     /// Status.
     fn is_usable(&self, unit: u8) -> bool
-        ensures { result ≡ is_usable (state_of L.entries L.random_place self.now) unit }
+        ensures { result ≡ is_usable self.now unit }
     {
         let enabled = (self.cp0.read(register::STATUS) >> (28 + unit % 4)) & 1 == 1;
         unit % 4 == 0 && !self.cp0.user() || enabled
@@ -60,7 +60,7 @@ impl<L: Lookaside> Core<L> {
     /// Enters the exception of a coprocessor that can't be used.
     fn unusable(&mut self, unit: u8) -> Event
         ensures event { result ≡ Event.Raised ExceptionCode.CoprocessorUnusable }
-        ensures core { state_of L.entries L.random_place self.new ≡ core_at_vector (state_of L.entries L.random_place self.old) (unusable_exception (state_of L.entries L.random_place self.old) unit) }
+        ensures core { self.new ≡ core_at_vector self.old (unusable_exception self.old unit) }
     {
         self.raise(Exception {
             code: ExceptionCode::CoprocessorUnusable,
@@ -75,7 +75,7 @@ impl<L: Lookaside> Core<L> {
     /// What a register of the coprocessor reads, Random and the requests of the devices included.
     fn system_reads(&self, number: u8, bus: &Bus) -> u32
         requires { L.SLOTS ≡ 64 }
-        ensures { result ≡ system_reads (state_of L.entries L.random_place self.now) bus.now number }
+        ensures { result ≡ system_reads self.now bus.now number }
     {
         match number {
             register::RANDOM => self.tlb.random() as u32 * 256,
@@ -87,7 +87,8 @@ impl<L: Lookaside> Core<L> {
     /// Carries out an instruction of a coprocessor that may be used.
     fn use_coprocessor(&mut self, instr: Instr, bus: &Bus) -> Event
         requires { L.SLOTS ≡ 64 }
-        ensures { (record { event = result; core = state_of L.entries L.random_place self.new; bus = bus.now }) ≡ usable (state_of L.entries L.random_place self.old) bus.now instr }
+        ensures { (record { event = result; core = self.new; bus = bus.now })
+            ≡ usable self.old bus.now instr }
     {
         match instr {
             Instr::Mfc0 { rt, rd } => {
@@ -131,7 +132,8 @@ impl<L: Lookaside> Core<L> {
     /// instruction that is passed to a call goes through memory, and costs each other instruction.
     fn privileged(&mut self, instr: Instr, bus: &Bus) -> Event
         requires { L.SLOTS ≡ 64 }
-        ensures { (record { event = result; core = state_of L.entries L.random_place self.new; bus = bus.now }) ≡ privileged (state_of L.entries L.random_place self.old) bus.now instr }
+        ensures { (record { event = result; core = self.new; bus = bus.now })
+            ≡ privileged self.old bus.now instr }
     {
         let unit = unit_of(instr);
         if self.is_usable(unit) {
@@ -146,7 +148,8 @@ impl<L: Lookaside> Core<L> {
     #[inline(never)]
     pub(super) fn mfc0(&mut self, rt: u8, rd: u8, bus: &Bus) -> Event
         requires { L.SLOTS ≡ 64 }
-        ensures { (record { event = result; core = state_of L.entries L.random_place self.new; bus = bus.now }) ≡ privileged (state_of L.entries L.random_place self.old) bus.now (Instr.Mfc0 rt rd) }
+        ensures { (record { event = result; core = self.new; bus = bus.now })
+            ≡ privileged self.old bus.now (Instr.Mfc0 rt rd) }
     {
         self.privileged(Instr::Mfc0 { rt, rd }, bus)
     }
@@ -156,7 +159,8 @@ impl<L: Lookaside> Core<L> {
     #[inline(never)]
     pub(super) fn mtc0(&mut self, rt: u8, rd: u8, bus: &Bus) -> Event
         requires { L.SLOTS ≡ 64 }
-        ensures { (record { event = result; core = state_of L.entries L.random_place self.new; bus = bus.now }) ≡ privileged (state_of L.entries L.random_place self.old) bus.now (Instr.Mtc0 rt rd) }
+        ensures { (record { event = result; core = self.new; bus = bus.now })
+            ≡ privileged self.old bus.now (Instr.Mtc0 rt rd) }
     {
         self.privileged(Instr::Mtc0 { rt, rd }, bus)
     }
@@ -166,7 +170,8 @@ impl<L: Lookaside> Core<L> {
     #[inline(never)]
     pub(super) fn tlbr(&mut self, bus: &Bus) -> Event
         requires { L.SLOTS ≡ 64 }
-        ensures { (record { event = result; core = state_of L.entries L.random_place self.new; bus = bus.now }) ≡ privileged (state_of L.entries L.random_place self.old) bus.now (Instr.Tlbr) }
+        ensures { (record { event = result; core = self.new; bus = bus.now })
+            ≡ privileged self.old bus.now (Instr.Tlbr) }
     {
         self.privileged(Instr::Tlbr, bus)
     }
@@ -176,7 +181,8 @@ impl<L: Lookaside> Core<L> {
     #[inline(never)]
     pub(super) fn tlbwi(&mut self, bus: &Bus) -> Event
         requires { L.SLOTS ≡ 64 }
-        ensures { (record { event = result; core = state_of L.entries L.random_place self.new; bus = bus.now }) ≡ privileged (state_of L.entries L.random_place self.old) bus.now (Instr.Tlbwi) }
+        ensures { (record { event = result; core = self.new; bus = bus.now })
+            ≡ privileged self.old bus.now (Instr.Tlbwi) }
     {
         self.privileged(Instr::Tlbwi, bus)
     }
@@ -186,7 +192,8 @@ impl<L: Lookaside> Core<L> {
     #[inline(never)]
     pub(super) fn tlbwr(&mut self, bus: &Bus) -> Event
         requires { L.SLOTS ≡ 64 }
-        ensures { (record { event = result; core = state_of L.entries L.random_place self.new; bus = bus.now }) ≡ privileged (state_of L.entries L.random_place self.old) bus.now (Instr.Tlbwr) }
+        ensures { (record { event = result; core = self.new; bus = bus.now })
+            ≡ privileged self.old bus.now (Instr.Tlbwr) }
     {
         self.privileged(Instr::Tlbwr, bus)
     }
@@ -196,7 +203,8 @@ impl<L: Lookaside> Core<L> {
     #[inline(never)]
     pub(super) fn tlbp(&mut self, bus: &Bus) -> Event
         requires { L.SLOTS ≡ 64 }
-        ensures { (record { event = result; core = state_of L.entries L.random_place self.new; bus = bus.now }) ≡ privileged (state_of L.entries L.random_place self.old) bus.now (Instr.Tlbp) }
+        ensures { (record { event = result; core = self.new; bus = bus.now })
+            ≡ privileged self.old bus.now (Instr.Tlbp) }
     {
         self.privileged(Instr::Tlbp, bus)
     }
@@ -206,7 +214,8 @@ impl<L: Lookaside> Core<L> {
     #[inline(never)]
     pub(super) fn rfe(&mut self, bus: &Bus) -> Event
         requires { L.SLOTS ≡ 64 }
-        ensures { (record { event = result; core = state_of L.entries L.random_place self.new; bus = bus.now }) ≡ privileged (state_of L.entries L.random_place self.old) bus.now (Instr.Rfe) }
+        ensures { (record { event = result; core = self.new; bus = bus.now })
+            ≡ privileged self.old bus.now (Instr.Rfe) }
     {
         self.privileged(Instr::Rfe, bus)
     }
@@ -216,7 +225,8 @@ impl<L: Lookaside> Core<L> {
     #[inline(never)]
     pub(super) fn cop(&mut self, unit: u8, word: u32, bus: &Bus) -> Event
         requires { L.SLOTS ≡ 64 }
-        ensures { (record { event = result; core = state_of L.entries L.random_place self.new; bus = bus.now }) ≡ privileged (state_of L.entries L.random_place self.old) bus.now (Instr.Cop unit word) }
+        ensures { (record { event = result; core = self.new; bus = bus.now })
+            ≡ privileged self.old bus.now (Instr.Cop unit word) }
     {
         self.privileged(Instr::Cop { unit, word }, bus)
     }

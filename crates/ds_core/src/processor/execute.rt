@@ -1,7 +1,6 @@
 //! One decoded instruction, as the table of instructions means it.
 ghost use Rattle.std.specs.Prelude.{◌≡◌, ◌%◌, ◌||◌, ◌==◌};
 ghost use Rattle.ds_word.specs.Word.{is_negative};
-ghost use Rattle.ds_core.specs.Core.{state_of};
 ghost use Rattle.ds_core.specs.Effect.{executed};
 
 use super::Core;
@@ -38,7 +37,8 @@ impl<L: Lookaside> Core<L> {
     #[inline(always)]
     pub(super) fn execute(&mut self, instr: Instr, bus: &mut Bus) -> Event
         requires { L.SLOTS ≡ 64 }
-        ensures { (record { event = result; core = state_of L.entries L.random_place self.new; bus = bus.new }) ≡ executed (state_of L.entries L.random_place self.old) bus.old instr }
+        ensures { (record { event = result; core = self.new; bus = bus.new })
+            ≡ executed self.old bus.old instr }
     {
         match instr {
             Instr::Sll { rd, rt, shamt } => self.retire(rd, shift_left(self.read(rt), shamt)),

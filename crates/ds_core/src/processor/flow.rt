@@ -3,7 +3,7 @@ ghost use Rattle.std.specs.Prelude.{◌≡◌};
 ghost use Rattle.ds_isa.specs.Registers.{settled, written, loaded};
 ghost use Rattle.ds_isa.specs.Meaning.{behind_slot, branch_target, jump_target, written_or_trap};
 ghost use Rattle.ds_dev.specs.Bus.{BusState};
-ghost use Rattle.ds_core.specs.Core.{state_of, registers_of, exception, core_at_vector, core_at_next, with_link, branched};
+ghost use Rattle.ds_core.specs.Core.{exception, core_at_vector, core_at_next, with_link, branched};
 ghost use Rattle.ds_core.specs.Effect.{effect};
 
 use super::Core;
@@ -49,7 +49,7 @@ impl<L: Lookaside> Core<L> {
     #[inline(never)]
     pub(super) fn raise(&mut self, exception: Exception) -> Event
         ensures event { result ≡ Event.Raised exception.code }
-        ensures core { state_of L.entries L.random_place self.new ≡ core_at_vector (state_of L.entries L.random_place self.old) exception }
+        ensures core { self.new ≡ core_at_vector self.old exception }
     {
         self.pc = self.cp0.enter(exception);
         self.next = wrapping_sum(self.pc, 4);
@@ -63,7 +63,7 @@ impl<L: Lookaside> Core<L> {
     #[inline(never)]
     pub(super) fn trap(&mut self, code: ExceptionCode) -> Event
         ensures event { result ≡ Event.Raised code }
-        ensures core { state_of L.entries L.random_place self.new ≡ core_at_vector (state_of L.entries L.random_place self.old) (exception (state_of L.entries L.random_place self.old) code) }
+        ensures core { self.new ≡ core_at_vector self.old (exception self.old code) }
     {
         self.raise(Exception {
             code,
@@ -79,7 +79,7 @@ impl<L: Lookaside> Core<L> {
     #[inline(always)]
     fn go(&mut self) -> Event
         ensures event { result ≡ Event.Retired }
-        ensures core { state_of L.entries L.random_place self.new ≡ core_at_next (state_of L.entries L.random_place self.old) (registers_of self.old) }
+        ensures core { self.new ≡ core_at_next self.old self.old.registers }
     {
         self.pc = self.next;
         self.next = wrapping_sum(self.next, 4);
@@ -91,7 +91,8 @@ impl<L: Lookaside> Core<L> {
     #[inline(always)]
     pub(super) fn retire(&mut self, register: u8, value: u32) -> Event
         ensures event { result ≡ Event.Retired }
-        ensures core { state_of L.entries L.random_place self.new ≡ core_at_next (state_of L.entries L.random_place self.old) (written (registers_of self.old) register value) }
+        ensures core { self.new
+            ≡ core_at_next self.old (written self.old.registers register value) }
     {
         self.write(register, value);
         self.go()
@@ -101,7 +102,7 @@ impl<L: Lookaside> Core<L> {
     #[inline(always)]
     pub(super) fn retire_load(&mut self, register: u8, value: u32) -> Event
         ensures event { result ≡ Event.Retired }
-        ensures core { state_of L.entries L.random_place self.new ≡ core_at_next (state_of L.entries L.random_place self.old) (loaded (registers_of self.old) register value) }
+        ensures core { self.new ≡ core_at_next self.old (loaded self.old.registers register value) }
     {
         self.write_late(register, value);
         self.go()
@@ -111,7 +112,7 @@ impl<L: Lookaside> Core<L> {
     #[inline(always)]
     pub(super) fn retire_settled(&mut self) -> Event
         ensures event { result ≡ Event.Retired }
-        ensures core { state_of L.entries L.random_place self.new ≡ core_at_next (state_of L.entries L.random_place self.old) (settled (registers_of self.old)) }
+        ensures core { self.new ≡ core_at_next self.old (settled self.old.registers) }
     {
         self.retire(0, 0)
     }
@@ -120,7 +121,8 @@ impl<L: Lookaside> Core<L> {
     #[inline(always)]
     pub(super) fn retire_hi_lo(&mut self, hi: u32, lo: u32) -> Event
         ensures event { result ≡ Event.Retired }
-        ensures core { state_of L.entries L.random_place self.new ≡ core_at_next (state_of L.entries L.random_place self.old) (record (registers_of self.old) { hi = hi; lo = lo; late = None }) }
+        ensures core { self.new
+            ≡ core_at_next self.old (record self.old.registers { hi = hi; lo = lo; late = None }) }
     {
         self.hi = hi;
         self.lo = lo;
@@ -130,7 +132,9 @@ impl<L: Lookaside> Core<L> {
     /// The instruction is done with its result in a register, or it overflowed and traps.
     #[inline(always)]
     pub(super) fn retire_or_trap(&mut self, register: u8, value: Option<u32>) -> Event
-        ensures { (bus : BusState) (instr : Instr) → (record { event = result; core = state_of L.entries L.random_place self.new; bus = bus }) ≡ effect (state_of L.entries L.random_place self.old) bus instr (written_or_trap (registers_of self.old) register value) }
+        ensures { (bus : BusState) (instr : Instr)
+            → (record { event = result; core = self.new; bus = bus })
+            ≡ effect self.old bus instr (written_or_trap self.old.registers register value) }
     {
         match value {
             Some(value) => self.retire(register, value),
@@ -138,11 +142,13 @@ impl<L: Lookaside> Core<L> {
         }
     }
 
-    /// Goes on in the slot of a branch or jump, and behind that at the target; a register that links
-    /// gets the address behind the slot. In a slot it is reserved.
+    /// Goes on in the slot of a branch or jump, and behind that at the target; a register that
+    /// links gets the address behind the slot. In a slot it is reserved.
     #[inline(always)]
     pub(super) fn branch_to(&mut self, link: Option<u8>, target: u32) -> Event
-        ensures { (bus : BusState) → (record { event = result; core = state_of L.entries L.random_place self.new; bus = bus }) ≡ branched self.old.slot (state_of L.entries L.random_place self.old) bus (with_link link self.old.pc (registers_of self.old)) target }
+        ensures { (bus : BusState) → (record { event = result; core = self.new; bus = bus })
+            ≡ branched self.old.slot self.old bus
+            (with_link link self.old.pc self.old.registers) target }
     {
         if self.slot {
             return self.trap(ExceptionCode::ReservedInstruction);
@@ -160,7 +166,9 @@ impl<L: Lookaside> Core<L> {
     /// A branch that may be taken.
     #[inline(always)]
     pub(super) fn branch(&mut self, taken: bool, immediate: u16) -> Event
-        ensures { (bus : BusState) → (record { event = result; core = state_of L.entries L.random_place self.new; bus = bus }) ≡ branched self.old.slot (state_of L.entries L.random_place self.old) bus (settled (registers_of self.old)) (branch_target taken self.old.pc immediate) }
+        ensures { (bus : BusState) → (record { event = result; core = self.new; bus = bus })
+            ≡ branched self.old.slot self.old bus (settled self.old.registers)
+            (branch_target taken self.old.pc immediate) }
     {
         self.branch_to(None, branch_target(taken, self.pc, immediate))
     }
@@ -168,7 +176,10 @@ impl<L: Lookaside> Core<L> {
     /// A branch that may be taken, and links in register 31 whether it is or not.
     #[inline(always)]
     pub(super) fn link_and_branch(&mut self, taken: bool, immediate: u16) -> Event
-        ensures { (bus : BusState) → (record { event = result; core = state_of L.entries L.random_place self.new; bus = bus }) ≡ branched self.old.slot (state_of L.entries L.random_place self.old) bus (written (registers_of self.old) 31 (behind_slot self.old.pc)) (branch_target taken self.old.pc immediate) }
+        ensures { (bus : BusState) → (record { event = result; core = self.new; bus = bus })
+            ≡ branched self.old.slot self.old bus
+            (written self.old.registers 31 (behind_slot self.old.pc))
+            (branch_target taken self.old.pc immediate) }
     {
         self.branch_to(Some(31), branch_target(taken, self.pc, immediate))
     }

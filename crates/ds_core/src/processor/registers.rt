@@ -2,7 +2,6 @@
 ghost use Rattle.std.specs.Prelude.{◌≡◌};
 ghost use Rattle.ds_isa.specs.Registers.{read, written, loaded};
 ghost use Rattle.ds_isa.specs.Meaning.{newest, address_of};
-ghost use Rattle.ds_core.specs.Core.{state_of, registers_of};
 
 use super::Core;
 use ds_isa::Late;
@@ -13,7 +12,7 @@ impl<L: Lookaside> Core<L> {
     /// A register, as an operand reads it: behind a load its old value.
     #[inline(always)]
     pub(super) fn read(&self, register: u8) -> u32
-        ensures { result ≡ read (registers_of self.now) register }
+        ensures { result ≡ read self.now.registers register }
     {
         let number = register % 32;
         match self.late {
@@ -25,7 +24,7 @@ impl<L: Lookaside> Core<L> {
     /// A register with the value that was loaded last, be it late or not.
     #[inline(always)]
     pub(super) fn newest(&self, register: u8) -> u32
-        ensures { result ≡ newest (registers_of self.now) register }
+        ensures { result ≡ newest self.now.registers register }
     {
         self.registers[(register % 32) as usize]
     }
@@ -33,7 +32,7 @@ impl<L: Lookaside> Core<L> {
     /// The address of a load or a store.
     #[inline(always)]
     pub(super) fn address_of(&self, base: u8, immediate: u16) -> u32
-        ensures { result ≡ address_of (registers_of self.now) base immediate }
+        ensures { result ≡ address_of self.now.registers base immediate }
     {
         wrapping_sum(self.read(base), sign16(immediate))
     }
@@ -41,7 +40,8 @@ impl<L: Lookaside> Core<L> {
     /// Writes a register; register 0 keeps 0.
     #[inline(always)]
     pub(super) fn write(&mut self, register: u8, value: u32)
-        ensures { state_of L.entries L.random_place self.new ≡ record (state_of L.entries L.random_place self.old) { registers = written (registers_of self.old) register value } }
+        ensures { self.new
+            ≡ record self.old { registers = written self.old.registers register value } }
     {
         let number = (register % 32) as usize;
         if number != 0 {
@@ -53,7 +53,8 @@ impl<L: Lookaside> Core<L> {
     /// Loads a register, whose old value the next instruction still reads.
     #[inline(always)]
     pub(super) fn write_late(&mut self, register: u8, value: u32)
-        ensures { state_of L.entries L.random_place self.new ≡ record (state_of L.entries L.random_place self.old) { registers = loaded (registers_of self.old) register value } }
+        ensures { self.new
+            ≡ record self.old { registers = loaded self.old.registers register value } }
     {
         let number = register % 32;
         if number == 0 {

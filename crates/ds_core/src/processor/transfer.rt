@@ -1,7 +1,6 @@
 //! Loads and stores of every size, through the aligned word that holds the address.
 ghost use Rattle.std.specs.Prelude.{◌≡◌};
 ghost use Rattle.ds_isa.specs.Meaning.{meaning};
-ghost use Rattle.ds_core.specs.Core.{state_of, registers_of};
 ghost use Rattle.ds_core.specs.Effect.{executed};
 
 use super::Core;
@@ -21,7 +20,8 @@ impl<L: Lookaside> Core<L> {
     /// Loads a byte with its sign.
     #[inline(always)]
     pub(super) fn load_byte(&mut self, rt: u8, rs: u8, immediate: u16, bus: &mut Bus) -> Event
-        ensures { (record { event = result; core = state_of L.entries L.random_place self.new; bus = bus.new }) ≡ executed (state_of L.entries L.random_place self.old) bus.old (Instr.Lb rt rs immediate) }
+        ensures { (record { event = result; core = self.new; bus = bus.new })
+            ≡ executed self.old bus.old (Instr.Lb rt rs immediate) }
     {
         let address = self.address_of(rs, immediate);
         let place = match self.reach(Access::Load, Size::Byte, address) {
@@ -43,7 +43,8 @@ impl<L: Lookaside> Core<L> {
         immediate: u16,
         bus: &mut Bus,
     ) -> Event
-        ensures { (record { event = result; core = state_of L.entries L.random_place self.new; bus = bus.new }) ≡ executed (state_of L.entries L.random_place self.old) bus.old (Instr.Lbu rt rs immediate) }
+        ensures { (record { event = result; core = self.new; bus = bus.new })
+            ≡ executed self.old bus.old (Instr.Lbu rt rs immediate) }
     {
         let address = self.address_of(rs, immediate);
         let place = match self.reach(Access::Load, Size::Byte, address) {
@@ -59,7 +60,8 @@ impl<L: Lookaside> Core<L> {
     /// Loads a half with its sign.
     #[inline(always)]
     pub(super) fn load_half(&mut self, rt: u8, rs: u8, immediate: u16, bus: &mut Bus) -> Event
-        ensures { (record { event = result; core = state_of L.entries L.random_place self.new; bus = bus.new }) ≡ executed (state_of L.entries L.random_place self.old) bus.old (Instr.Lh rt rs immediate) }
+        ensures { (record { event = result; core = self.new; bus = bus.new })
+            ≡ executed self.old bus.old (Instr.Lh rt rs immediate) }
     {
         let address = self.address_of(rs, immediate);
         let place = match self.reach(Access::Load, Size::Half, address) {
@@ -81,7 +83,8 @@ impl<L: Lookaside> Core<L> {
         immediate: u16,
         bus: &mut Bus,
     ) -> Event
-        ensures { (record { event = result; core = state_of L.entries L.random_place self.new; bus = bus.new }) ≡ executed (state_of L.entries L.random_place self.old) bus.old (Instr.Lhu rt rs immediate) }
+        ensures { (record { event = result; core = self.new; bus = bus.new })
+            ≡ executed self.old bus.old (Instr.Lhu rt rs immediate) }
     {
         let address = self.address_of(rs, immediate);
         let place = match self.reach(Access::Load, Size::Half, address) {
@@ -97,7 +100,8 @@ impl<L: Lookaside> Core<L> {
     /// Loads the upper part of an unaligned word.
     #[inline(never)]
     pub(super) fn load_left(&mut self, rt: u8, rs: u8, immediate: u16, bus: &mut Bus) -> Event
-        ensures { (record { event = result; core = state_of L.entries L.random_place self.new; bus = bus.new }) ≡ executed (state_of L.entries L.random_place self.old) bus.old (Instr.Lwl rt rs immediate) }
+        ensures { (record { event = result; core = self.new; bus = bus.new })
+            ≡ executed self.old bus.old (Instr.Lwl rt rs immediate) }
     {
         let address = self.address_of(rs, immediate);
         let place = match self.reach(Access::Load, Size::Part, address) {
@@ -113,7 +117,8 @@ impl<L: Lookaside> Core<L> {
     /// Loads a word.
     #[inline(always)]
     pub(super) fn load_whole(&mut self, rt: u8, rs: u8, immediate: u16, bus: &mut Bus) -> Event
-        ensures { (record { event = result; core = state_of L.entries L.random_place self.new; bus = bus.new }) ≡ executed (state_of L.entries L.random_place self.old) bus.old (Instr.Lw rt rs immediate) }
+        ensures { (record { event = result; core = self.new; bus = bus.new })
+            ≡ executed self.old bus.old (Instr.Lw rt rs immediate) }
     {
         let address = self.address_of(rs, immediate);
         let place = match self.reach(Access::Load, Size::Word, address) {
@@ -129,7 +134,8 @@ impl<L: Lookaside> Core<L> {
     /// Loads the lower part of an unaligned word.
     #[inline(never)]
     pub(super) fn load_right(&mut self, rt: u8, rs: u8, immediate: u16, bus: &mut Bus) -> Event
-        ensures { (record { event = result; core = state_of L.entries L.random_place self.new; bus = bus.new }) ≡ executed (state_of L.entries L.random_place self.old) bus.old (Instr.Lwr rt rs immediate) }
+        ensures { (record { event = result; core = self.new; bus = bus.new })
+            ≡ executed self.old bus.old (Instr.Lwr rt rs immediate) }
     {
         let address = self.address_of(rs, immediate);
         let place = match self.reach(Access::Load, Size::Part, address) {
@@ -145,7 +151,8 @@ impl<L: Lookaside> Core<L> {
     /// Stores the low byte of a register.
     #[inline(always)]
     pub(super) fn store_byte(&mut self, rt: u8, rs: u8, immediate: u16, bus: &mut Bus) -> Event
-        ensures { (record { event = result; core = state_of L.entries L.random_place self.new; bus = bus.new }) ≡ executed (state_of L.entries L.random_place self.old) bus.old (Instr.Sb rt rs immediate) }
+        ensures { (record { event = result; core = self.new; bus = bus.new })
+            ≡ executed self.old bus.old (Instr.Sb rt rs immediate) }
     {
         let address = self.address_of(rs, immediate);
         match self.reach(Access::Store, Size::Byte, address) {
@@ -165,7 +172,8 @@ impl<L: Lookaside> Core<L> {
     /// Stores the low half of a register.
     #[inline(always)]
     pub(super) fn store_half(&mut self, rt: u8, rs: u8, immediate: u16, bus: &mut Bus) -> Event
-        ensures { (record { event = result; core = state_of L.entries L.random_place self.new; bus = bus.new }) ≡ executed (state_of L.entries L.random_place self.old) bus.old (Instr.Sh rt rs immediate) }
+        ensures { (record { event = result; core = self.new; bus = bus.new })
+            ≡ executed self.old bus.old (Instr.Sh rt rs immediate) }
     {
         let address = self.address_of(rs, immediate);
         match self.reach(Access::Store, Size::Half, address) {
@@ -185,7 +193,8 @@ impl<L: Lookaside> Core<L> {
     /// Stores the upper part of an unaligned word.
     #[inline(never)]
     pub(super) fn store_left(&mut self, rt: u8, rs: u8, immediate: u16, bus: &mut Bus) -> Event
-        ensures { (record { event = result; core = state_of L.entries L.random_place self.new; bus = bus.new }) ≡ executed (state_of L.entries L.random_place self.old) bus.old (Instr.Swl rt rs immediate) }
+        ensures { (record { event = result; core = self.new; bus = bus.new })
+            ≡ executed self.old bus.old (Instr.Swl rt rs immediate) }
     {
         let address = self.address_of(rs, immediate);
         match self.reach(Access::Store, Size::Part, address) {
@@ -205,7 +214,8 @@ impl<L: Lookaside> Core<L> {
     /// Stores a word.
     #[inline(always)]
     pub(super) fn store_whole(&mut self, rt: u8, rs: u8, immediate: u16, bus: &mut Bus) -> Event
-        ensures { (record { event = result; core = state_of L.entries L.random_place self.new; bus = bus.new }) ≡ executed (state_of L.entries L.random_place self.old) bus.old (Instr.Sw rt rs immediate) }
+        ensures { (record { event = result; core = self.new; bus = bus.new })
+            ≡ executed self.old bus.old (Instr.Sw rt rs immediate) }
     {
         let address = self.address_of(rs, immediate);
         match self.reach(Access::Store, Size::Word, address) {
@@ -217,7 +227,8 @@ impl<L: Lookaside> Core<L> {
     /// Stores the lower part of an unaligned word.
     #[inline(never)]
     pub(super) fn store_right(&mut self, rt: u8, rs: u8, immediate: u16, bus: &mut Bus) -> Event
-        ensures { (record { event = result; core = state_of L.entries L.random_place self.new; bus = bus.new }) ≡ executed (state_of L.entries L.random_place self.old) bus.old (Instr.Swr rt rs immediate) }
+        ensures { (record { event = result; core = self.new; bus = bus.new })
+            ≡ executed self.old bus.old (Instr.Swr rt rs immediate) }
     {
         let address = self.address_of(rs, immediate);
         match self.reach(Access::Store, Size::Part, address) {

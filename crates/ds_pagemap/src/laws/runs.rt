@@ -13,7 +13,8 @@ pub fn a_run_begins_where_it_begins()
 /// A run that goes on takes half a turn, with a touch before it or none.
 #[tactic(auto, using(crate::proofs::Runs::reaches_half))]
 pub fn a_run_goes_on_by_half_turns()
-    ensures { (n : ℕ) (m t : State) (touch : Bool) → Reaches n m t → goes_on n t ≡ true → Reaches n m (half_turn touch t) }
+    ensures { (n : ℕ) (m t : State) (touch : Bool) → Reaches n m t → goes_on n t ≡ true
+        → Reaches n m (half_turn touch t) }
 {}
 
 /// The process that runs next may be touched already.

@@ -10,7 +10,8 @@ ghost use Rattle.ds_pagemap.specs.Laws.{due, NoneNames};
 /// In a unit only a call changes the table.
 #[tactic(auto, using(crate::proofs::Units::unit_no_call))]
 pub fn a_unit_that_is_no_call_leaves_the_table()
-    ensures { (m : State) (p : ℕ) (rest : List ℕ) → m.ready ≡ p ∷ rest → instruction m p (process_of m p).pc ≢ Called →
+    ensures { (m : State) (p : ℕ) (rest : List ℕ) → m.ready ≡ p ∷ rest
+        → instruction m p (process_of m p).pc ≢ Called →
         (unit m).memory.table ≡ m.memory.table }
 {}
 
@@ -18,8 +19,10 @@ pub fn a_unit_that_is_no_call_leaves_the_table()
 /// caller itself gave.
 #[tactic(auto, using(crate::proofs::Isolation::unit_keeps_entry))]
 pub fn a_process_keeps_what_the_caller_did_not_give()
-    ensures { (m : State) (p : ℕ) (rest : List ℕ) (q address : ℕ) (g : Grant) → m.ready ≡ p ∷ rest → 0 < p → 0 < q → q ≢ p →
-        g.giver ≢ p → entry_at m.memory.table q address ≡ Some g → entry_at (unit m).memory.table q address ≡ Some g }
+    ensures { (m : State) (p : ℕ) (rest : List ℕ) (q address : ℕ) (g : Grant) → m.ready ≡ p ∷ rest
+        → 0 < p → 0 < q → q ≢ p →
+        g.giver ≢ p → entry_at m.memory.table q address ≡ Some g →
+        entry_at (unit m).memory.table q address ≡ Some g }
 {}
 
 /// At a boundary only a command that names a process changes its entries.

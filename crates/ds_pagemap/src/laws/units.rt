@@ -26,9 +26,11 @@ pub fn a_unit_adds_at_most_a_line()
 
 /// An access that the table denies stops its instruction, with the table's rule and code.
 pub fn a_denied_access_stops()
-    ensures { (m : State) (p : ℕ) (kind : Kind) (size : Size) (address code : ℕ) (rule : Rule) (done : ℕ → ℕ → Outcome) →
+    ensures { (m : State) (p : ℕ) (kind : Kind) (size : Size) (address code : ℕ) (rule : Rule)
+        (done : ℕ → ℕ → Outcome) →
         decide m.memory.table p kind size address ≡ Denied rule code →
-        access m p kind size address done ≡ Stopped (record { kind = denied_as kind; address = address; rule = rule; code = code }) }
+        access m p kind size address done
+        ≡ Stopped (record { kind = denied_as kind; address = address; rule = rule; code = code }) }
 {}
 
 /// A unit that is stopped changes no page and no entry.
@@ -43,12 +45,14 @@ pub fn a_stopped_unit_leaves_the_pages()
 pub fn a_unit_stopped_in_its_slot_leaves_the_pages()
     ensures { (m t : State) (p target : ℕ) (rest : List ℕ) (stop : Stop) → m.ready ≡ p ∷ rest →
         instruction m p (process_of m p).pc ≡ Branched t target →
-        instruction t p (word ((process_of m p).pc + 4)) ≡ Stopped stop → (unit m).memory ≡ m.memory }
+        instruction t p (word ((process_of m p).pc + 4)) ≡ Stopped stop →
+        (unit m).memory ≡ m.memory }
 {}
 
 /// An access that the table allows is done, on the page and at the offset that the table names.
 pub fn an_allowed_access_is_done()
-    ensures { (m : State) (p : ℕ) (kind : Kind) (size : Size) (address page offset : ℕ) (done : ℕ → ℕ → Outcome) →
+    ensures { (m : State) (p : ℕ) (kind : Kind) (size : Size) (address page offset : ℕ)
+        (done : ℕ → ℕ → Outcome) →
         decide m.memory.table p kind size address ≡ Allowed page offset →
         access m p kind size address done ≡ done page offset }
 {}
@@ -56,6 +60,8 @@ pub fn an_allowed_access_is_done()
 /// A store changes one aligned word of one page.
 pub fn a_store_changes_one_word_of_one_page()
     ensures { (m : State) (page offset : ℕ) (after : ℕ → ℕ) →
-        page < length m.memory.pages → offset - offset % 4 + 4 ≤ length (bytes_of m.memory.pages page) →
-        StoresOnly m.memory.pages (stored m page offset after).memory.pages page offset (after (word_at (bytes_of m.memory.pages page) offset)) }
+        page < length m.memory.pages →
+        offset - offset % 4 + 4 ≤ length (bytes_of m.memory.pages page) →
+        StoresOnly m.memory.pages (stored m page offset after).memory.pages page offset
+        (after (word_at (bytes_of m.memory.pages page) offset)) }
 {}

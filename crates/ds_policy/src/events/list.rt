@@ -27,7 +27,12 @@ impl Model for EventList {
 
     ghost Value = { Said };
 
-    ghost view = { λ r. record { latest = r.latest; events = r.events; commands = r.commands.items; characters = r.characters.items } };
+    ghost view = { λ r. record {
+      latest = r.latest;
+      events = r.events;
+      commands = r.commands.items;
+      characters = r.characters.items;
+    } };
 
     ghost invariant = { λ r. (length r.commands.items ≤ r.events) × (r.events ≤ 4096) };
 }

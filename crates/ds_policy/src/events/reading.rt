@@ -18,7 +18,8 @@ impl EventList {
         line: &[u8],
     ) -> Result<bool, AllocError>
         requires { length pages.now ≤ 1024 }
-        ensures { IfOk result (λ good. with_line is_served pages.now self.old line.now ≡ (if good then Some self.new else None)) }
+        ensures { IfOk result (λ good. with_line is_served pages.now self.old line.now
+            ≡ (if good then Some self.new else None)) }
     {
         if is_skipped(line) {
             return Ok(true);

@@ -35,7 +35,9 @@ pub fn has_only(table: &Table, allowed: &[&str]) -> bool
 }
 
 fn all_are(table: &Table, allowed: &[&str]) -> bool
-    ensures { result ≡ list_all (λ k. is_among (map (λ x. x.now) allowed.now) (string_bytes k)) (keys table.now) }
+    ensures { result
+        ≡ list_all (λ k. is_among (map (λ x. x.now) allowed.now) (string_bytes k))
+        (keys table.now) }
 {
     table.keys().all(|key| is_among(allowed, key.as_str()))
 }
@@ -107,7 +109,8 @@ pub fn required(found: Option<u32>, key: &'static str) -> Result<u32, PolicyFaul
 /// The items of an array of at least `low` and at most `high` items.
 #[tactic(auto, using(crate::proofs::Documents::item_count_view))]
 pub fn items_between(value: &Value, low: usize, high: usize) -> Option<&[Value]>
-    ensures exact { option_map (λ v. items_view v.now) result ≡ items_between low high (view value.now) }
+    ensures exact { option_map (λ v. items_view v.now) result
+        ≡ items_between low high (view value.now) }
     ensures within { IfSome result (λ v. length v.now ≤ high) }
 {
     let values = value.as_array()?;

@@ -20,7 +20,8 @@ pub fn pages_of(
     frames: u32,
     found: Option<&Value>,
 ) -> Result<Vec<PolicyPage>, PolicyFault>
-    ensures exact { Gives (λ v. v.items) result (pages_of frames (option_map (λ v. view v.now) found.entry)) }
+    ensures exact { Gives (λ v. v.items) result
+        (pages_of frames (option_map (λ v. view v.now) found.entry)) }
     ensures fits { IfOk result (λ v. length v.items ≤ frames) }
 {
     match found {

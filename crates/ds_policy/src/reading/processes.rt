@@ -27,7 +27,8 @@ pub fn rate_of(found: Option<&Value>) -> Option<u32>
 /// The processes, of which there are 1 to 100.
 #[tactic(auto, unfolding(crate::specs::PolicyText::processes_of))]
 pub fn processes_of(alloc: Global, found: Option<&Value>) -> Result<Vec<PolicyProcess>, PolicyFault>
-    ensures exact { Gives (λ v. v.items) result (processes_of (option_map (λ v. view v.now) found.entry)) }
+    ensures exact { Gives (λ v. v.items) result
+        (processes_of (option_map (λ v. view v.now) found.entry)) }
     ensures fits { IfOk result (λ v. length v.items ≤ 100) }
 {
     let value = match found {

@@ -24,7 +24,8 @@ pub fn rules_of(
     found: Option<&Value>,
 ) -> Result<Vec<PolicyRule>, PolicyFault>
     requires { length pages.now ≤ 1024 }
-    ensures { Gives (λ v. v.items) result (rules_of processes pages.now (option_map (λ v. view v.now) found.entry)) }
+    ensures { Gives (λ v. v.items) result
+        (rules_of processes pages.now (option_map (λ v. view v.now) found.entry)) }
 {
     match found {
         Some(value) => match items_between(value, 0, 999) {
@@ -203,7 +204,8 @@ fn count_regions(rules: &[PolicyRule], process: u32) -> usize
 
 /// 1 where a rule of the process is in a region that none of the rest is in.
 fn new_regions(rule: &PolicyRule, rest: &[PolicyRule], process: u32) -> usize
-    ensures exact { result + count_distinct (regions_of process rest.now) ≡ count_distinct (regions_of process (rule.now ∷ rest.now)) }
+    ensures exact { result + count_distinct (regions_of process rest.now)
+        ≡ count_distinct (regions_of process (rule.now ∷ rest.now)) }
     ensures few { result ≤ 1 }
 {
     if rule.process == process && !has_region(rest, process, rule.address / 4_194_304) {
@@ -220,7 +222,8 @@ fn has_region(rules: &[PolicyRule], process: u32, number: u32) -> bool
 }
 
 fn any_in(rules: &[PolicyRule], process: u32, number: u32) -> bool
-    ensures { result ≡ list_any (λ r. r.process == process && region r.address == number) rules.now }
+    ensures { result
+        ≡ list_any (λ r. r.process == process && region r.address == number) rules.now }
 {
     rules.iter().any(|rule| rule.process == process && rule.address / 4_194_304 == number)
 }

@@ -21,7 +21,8 @@ pub fn check_rate(rate: u32) -> Result<(), PolicyFault>
 
 /// There is one process.
 pub fn check_processes(processes: &[PolicyProcess]) -> Result<(), PolicyFault>
-    ensures { Gives (λ _. true) result (check (serves_processes processes.now) (limit (codes "process"))) }
+    ensures { Gives (λ _. true) result
+        (check (serves_processes processes.now) (limit (codes "process"))) }
 {
     if processes.len() > 1 {
         return Err(PolicyFault::Limit("process"));
@@ -42,7 +43,8 @@ pub fn check_pages(pages: &[PolicyPage]) -> Result<(), PolicyFault>
 /// There are at most two rules.
 #[tactic(auto, using(crate::proofs::Documents::item_count_view))]
 pub fn check_rules(values: &[Value]) -> Result<(), PolicyFault>
-    ensures { Gives (λ _. true) result (check (serves_rules (items_view values.now)) (limit (codes "rule"))) }
+    ensures { Gives (λ _. true) result
+        (check (serves_rules (items_view values.now)) (limit (codes "rule"))) }
 {
     if values.len() > 2 {
         return Err(PolicyFault::Limit("rule"));

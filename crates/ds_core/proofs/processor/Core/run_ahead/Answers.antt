@@ -12,6 +12,6 @@ loop-steps-preserved g c = record {
 
 pub returns-clause-ticks : goal.returns-clause-ticks
 returns-clause-ticks g c = λ _. ticks_of_advance c.loop-steps.steps
-    (hardware_of g.L.Lookaside.entries g.L.Lookaside.random_place c.args.self.now c.args.bus.now)
-    (hardware_of g.L.Lookaside.entries g.L.Lookaside.random_place c.loop-steps.self c.loop-steps.bus)
+    (hardware_of c.args.self.now c.args.bus.now)
+    (hardware_of c.loop-steps.self c.loop-steps.bus)
     c.loop-steps.invariant.advances

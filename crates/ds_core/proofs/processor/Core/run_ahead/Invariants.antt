@@ -5,7 +5,7 @@ use Rattle.ds_core.proofs.processor.Core.run_ahead.Given as goal
 abbrev pub invariant-loop-steps : goal.invariant-loop-steps
 invariant-loop-steps g l = record {
   within : l.steps ≤ l.limit;
-  advances : Advances l.steps (hardware_of g.L.Lookaside.entries g.L.Lookaside.random_place l.fn.self l.fn.bus) (hardware_of g.L.Lookaside.entries g.L.Lookaside.random_place l.self l.bus);
+  advances : Advances l.steps (hardware_of l.fn.self l.fn.bus) (hardware_of l.self l.bus);
 }
 
 abbrev pub decreases-loop-steps : goal.decreases-loop-steps
