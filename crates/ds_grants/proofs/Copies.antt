@@ -104,23 +104,23 @@ pages_copied g h memory k n size few large source lives target born others =
     let bytes : bytes_of (pages_in g memory) k ≡ frame_of memory (k + 402) = rw page refl in
     same_lists (pages_in h new) (slice_set (pages_in g memory) n (Some (bytes_of (pages_in g memory) k))) (omega arith)
     (λ j d within.
-      let inside : j < h.frames = omega arith in
-      let left : get_or (pages_in h new) j d ≡ page_in h new j = get_or-map-range_with_len (page_in h new) 0 h.frames j j d inside (omega arith) in
-      elim (cases_eq j n) [
-        | inl here ↦
-            let right : get_or (slice_set (pages_in g memory) n (Some (bytes_of (pages_in g memory) k))) j d ≡ Some (frame_of memory (k + 402)) =
-              ap (λ i. get_or (slice_set (pages_in g memory) n (Some (bytes_of (pages_in g memory) k))) i d) here
-              ∙ get_or-set_same (pages_in g memory) n (Some (bytes_of (pages_in g memory) k)) d (omega arith)
-              ∙ ap (λ (b : List ℕ). Some b) bytes in
-            let now : page_in h new n ≡ Some (frame_of memory (k + 402)) = rw born (ap (λ (b : List ℕ). Some b) (frame_of-with_frame memory (frame_of memory (k + 402)) (n + 402) frame (omega arith))) in
-            left ∙ ap (page_in h new) here ∙ now ∙ sym right
-        | inr apart ↦
-            let right : get_or (slice_set (pages_in g memory) n (Some (bytes_of (pages_in g memory) k))) j d ≡ page_in g memory j =
-              get_or-set_other (pages_in g memory) n j (Some (bytes_of (pages_in g memory) k)) d apart
-              ∙ get_or-map-range_with_len (page_in g memory) 0 g.frames j j d (omega arith) (omega arith) in
-            let same : frame_of new (j + 402) ≡ frame_of memory (j + 402) = frame_of-with_frame_apart memory (frame_of memory (k + 402)) (n + 402) (j + 402) frame (omega arith) (elim (apart_either j n apart) [ inl below ↦ inl (omega arith) | inr above ↦ inr (omega arith) ]) in
-            left ∙ (rw (others j apart) (ap (λ (b : List ℕ). cond (is_live g j) (Some b) None) same)) ∙ sym right
-      ])
+    let inside : j < h.frames = omega arith in
+    let left : get_or (pages_in h new) j d ≡ page_in h new j = get_or-map-range_with_len (page_in h new) 0 h.frames j j d inside (omega arith) in
+    elim (cases_eq j n) [
+      | inl here ↦
+          let right : get_or (slice_set (pages_in g memory) n (Some (bytes_of (pages_in g memory) k))) j d ≡ Some (frame_of memory (k + 402)) =
+          ap (λ i. get_or (slice_set (pages_in g memory) n (Some (bytes_of (pages_in g memory) k))) i d) here
+          ∙ get_or-set_same (pages_in g memory) n (Some (bytes_of (pages_in g memory) k)) d (omega arith)
+          ∙ ap (λ (b : List ℕ). Some b) bytes in
+          let now : page_in h new n ≡ Some (frame_of memory (k + 402)) = rw born (ap (λ (b : List ℕ). Some b) (frame_of-with_frame memory (frame_of memory (k + 402)) (n + 402) frame (omega arith))) in
+          left ∙ ap (page_in h new) here ∙ now ∙ sym right
+      | inr apart ↦
+          let right : get_or (slice_set (pages_in g memory) n (Some (bytes_of (pages_in g memory) k))) j d ≡ page_in g memory j =
+          get_or-set_other (pages_in g memory) n j (Some (bytes_of (pages_in g memory) k)) d apart
+          ∙ get_or-map-range_with_len (page_in g memory) 0 g.frames j j d (omega arith) (omega arith) in
+          let same : frame_of new (j + 402) ≡ frame_of memory (j + 402) = frame_of-with_frame_apart memory (frame_of memory (k + 402)) (n + 402) (j + 402) frame (omega arith) (elim (apart_either j n apart) [ inl below ↦ inl (omega arith) | inr above ↦ inr (omega arith) ]) in
+          left ∙ (rw (others j apart) (ap (λ (b : List ℕ). cond (is_live g j) (Some b) None) same)) ∙ sym right
+    ])
 
 module _ (g : GrantsState) (p a : ℕ) (grant : Grant) (n : ℕ) (low : 0 < p) (high : p ≤ length g.table) (none : entry_at g.table p a ≡ None) (named : grant.page ≡ Some n) where
   abbrev after : GrantsState
@@ -146,10 +146,10 @@ module _ (g : GrantsState) (p a : ℕ) (grant : Grant) (n : ℕ) (low : 0 < p) (
   pub others_live : (q : ℕ) → q ≢ n → is_live after q ≡ is_live g q
   others_live q apart =
       live_same g after q refl (λ unnamed.
-        let count = counts q in
-        let not_it : (n == q) ≡ false = grind (arith, nat_tests) in
-        let none_more : one_if_named q (Some n) ≡ 0 = rw not_it refl in
-        ap (nat_lt 0) (let same : holders_of after.table q ≡ holders_of g.table q = omega arith in same))
+      let count = counts q in
+      let not_it : (n == q) ≡ false = grind (arith, nat_tests) in
+      let none_more : one_if_named q (Some n) ≡ 0 = rw not_it refl in
+      ap (nat_lt 0) (let same : holders_of after.table q ≡ holders_of g.table q = omega arith in same))
 
 -- the page state with a copy
 pub copied_state : (g : GrantsState) (p a : ℕ) (grant : Grant) (k n caller : ℕ) (memory : List ℕ) → 0 < p → p ≤ length g.table → entry_at g.table p a ≡ None
@@ -160,7 +160,7 @@ copied_state g p a grant k n caller memory low high none named source lives free
     let given : Grant = record grant { right = Write; page = Some n; giver = caller } in
     let number = fresh_is g memory n free in
     let pages = pages_copied g (with_grant g p a (record grant { right = Write; page = Some n; giver = caller })) memory k n refl few large source lives free.within
-      (born_lives g p a (record grant { right = Write; page = Some n; giver = caller }) n low high none refl) (others_live g p a (record grant { right = Write; page = Some n; giver = caller }) n low high none refl) in
+    (born_lives g p a (record grant { right = Write; page = Some n; giver = caller }) n low high none refl) (others_live g p a (record grant { right = Write; page = Some n; giver = caller }) n low high none refl) in
     rw (number, named) (ap (λ (ps : Pages). granted (record { pages = ps; table = g.table; named = g.named }) p a (record grant { right = Write; page = Some n; giver = caller })) pages)
 
 -- there is none

@@ -44,7 +44,7 @@ shorter (e ∷ es) a h = elim (cases_Bool (e.address == a)) [
 pub fewer_entries : (g h : GrantsState) (p a : ℕ) → 0 < p → p ≤ length g.table → h ≡ without_grant g p a → is_some (entry_at g.table p a) ≡ true → length (entries_of h.table p) < length (entries_of g.table p)
 fewer_entries g h p a low high is there =
     let row : entries_of h.table p ≡ filter (λ (e : Entry). not (e.address == a)) (entries_of g.table p) =
-      ap (λ (s : GrantsState). entries_of s.table p) is ∙ get_or-set_same g.table (p - 1) (filter (λ (e : Entry). not (e.address == a)) (entries_of g.table p)) [] (omega arith) in
+    ap (λ (s : GrantsState). entries_of s.table p) is ∙ get_or-set_same g.table (p - 1) (filter (λ (e : Entry). not (e.address == a)) (entries_of g.table p)) [] (omega arith) in
     rw row (shorter (entries_of g.table p) a there)
 
 -- where none is left, all have gone

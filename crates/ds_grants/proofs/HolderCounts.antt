@@ -130,11 +130,11 @@ AreReleased old new a es i = (q : ℕ) → slice_index new q + holders_at q a es
 pub release_asks : (old new : List ℕ) (a : ℕ) (es : List Entry) (i : ℕ) (d : Entry) → i < length es → ((q : ℕ) → holders_in q es ≤ slice_index old q) → AreReleased old new a es i → IfSome (page_at a (get_or es i d)) (λ q. 0 < slice_index new q)
 release_asks old new a es i d h enough so =
     some_held (page_at a (get_or es i d)) new (λ q.
-      let all = enough q in
-      let among = at_address q a es in
-      let left = so q in
-      let next = at_step q a es i d h in
-      omega arith)
+    let all = enough q in
+    let among = at_address q a es in
+    let left = so q in
+    let next = at_step q a es i d h in
+    omega arith)
 
 pub release_step : (old new newer : List ℕ) (a : ℕ) (es : List Entry) (i : ℕ) (d : Entry) → i < length es → AreReleased old new a es i → AreOneFewer (page_at a (get_or es i d)) new newer → AreReleased old newer a es (i + 1)
 release_step old new newer a es i d h so fewer q =
@@ -163,10 +163,10 @@ put_counts t p a g old middle new low high counted fewer more q =
 pub put_asks : (t : Table) (p a : ℕ) (old : List ℕ) → 0 < p → p ≤ length t → AreCounted t old → IfSome (page_of (entry_at t p a)) (λ q. 0 < slice_index old q)
 put_asks t p a old low high counted =
     some_held (page_of (entry_at t p a)) old (λ q.
-      let here = counted q in
-      let one = found_holds q (entries_of t p) a in
-      let row = row_holders t (p - 1) q in
-      omega arith)
+    let here = counted q in
+    let one = found_holds q (entries_of t p) a in
+    let row = row_holders t (p - 1) q in
+    omega arith)
 
 -- counts have room for one more
 pub few_held : (t : Table) (o o' : Option ℕ) (old middle : List ℕ) → All IsGoodRow t → length t ≤ 100 → AreCounted t old → AreOneFewer o old middle → IfSome o' (λ q. slice_index middle q + 1 < 2 ^ 32)

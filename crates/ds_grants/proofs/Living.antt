@@ -22,10 +22,10 @@ pages_from_same g g' memory at n same =
     same_lists (map (page_in g' memory) (range_with_len at n)) (map (page_in g memory) (range_with_len at n))
     (length-map-range_with_len (page_in g' memory) at n ∙ sym (length-map-range_with_len (page_in g memory) at n))
     (λ k d h.
-      let within : k < n = let size = length-map-range_with_len (page_in g' memory) at n in omega arith in
-      get_or-map-range_with_len (page_in g' memory) at n k (at + k) d within refl
-      ∙ ap (λ (b : Bool). cond b (Some (frame_of memory (at + k + 402))) None) (same (at + k))
-      ∙ sym (get_or-map-range_with_len (page_in g memory) at n k (at + k) d within refl))
+    let within : k < n = let size = length-map-range_with_len (page_in g' memory) at n in omega arith in
+    get_or-map-range_with_len (page_in g' memory) at n k (at + k) d within refl
+    ∙ ap (λ (b : Bool). cond b (Some (frame_of memory (at + k + 402))) None) (same (at + k))
+    ∙ sym (get_or-map-range_with_len (page_in g memory) at n k (at + k) d within refl))
 
 pub pages_same : (g g' : GrantsState) (memory : List ℕ) → g'.frames ≡ g.frames → ((q : ℕ) → is_live g' q ≡ is_live g q) → pages_in g' memory ≡ pages_in g memory
 pages_same g g' memory size same = ap (λ n. map (page_in g' memory) (range_with_len 0 n)) size ∙ pages_from_same g g' memory 0 g.frames same
@@ -64,22 +64,22 @@ pub put_live : (g : GrantsState) (p a : ℕ) (grant : Grant) → 0 < p → p ≤
     → (q : ℕ) → is_live (with_grant g p a grant) q ≡ is_live g q
 put_live g p a grant low high lives keeps q =
     live_same g (with_grant g p a grant) q refl (λ unnamed.
-      let all = holders_with g.table p a grant q (omega (arith, low, high)) in
-      elim (cases_Bool (names q grant.page)) [
-        | inl new ↦
-            let live : 0 < holders_of g.table q = some_of (holders_of g.table q) (sym (named_by_holders g.table q) ∙ subst (λ b. (b || is_named_by g.table q) ≡ true) unnamed (lives q new)) in
-            let more = one_named q grant.page new in
-            elim (cases_Bool (names q (page_of (entry_at g.table p a)))) [
-              | inl old ↦ let fewer = one_named q (page_of (entry_at g.table p a)) old in both_some (holders_of g.table q) (holders_of (with_entry g.table p a grant) q) (λ h. omega arith) (λ h. omega arith)
-              | inr other ↦ let fewer = none_named q (page_of (entry_at g.table p a)) other in both_some (holders_of g.table q) (holders_of (with_entry g.table p a grant) q) (λ h. omega arith) (λ h. omega arith)
-            ]
-        | inr other ↦
-            let more = none_named q grant.page other in
-            elim (cases_Bool (names q (page_of (entry_at g.table p a)))) [
-              | inl old ↦ absurd (false≢true (sym other ∙ keeps q old))
-              | inr another ↦ let fewer = none_named q (page_of (entry_at g.table p a)) another in both_some (holders_of g.table q) (holders_of (with_entry g.table p a grant) q) (λ h. omega arith) (λ h. omega arith)
-            ]
-      ])
+    let all = holders_with g.table p a grant q (omega (arith, low, high)) in
+    elim (cases_Bool (names q grant.page)) [
+      | inl new ↦
+          let live : 0 < holders_of g.table q = some_of (holders_of g.table q) (sym (named_by_holders g.table q) ∙ subst (λ b. (b || is_named_by g.table q) ≡ true) unnamed (lives q new)) in
+          let more = one_named q grant.page new in
+          elim (cases_Bool (names q (page_of (entry_at g.table p a)))) [
+            | inl old ↦ let fewer = one_named q (page_of (entry_at g.table p a)) old in both_some (holders_of g.table q) (holders_of (with_entry g.table p a grant) q) (λ h. omega arith) (λ h. omega arith)
+            | inr other ↦ let fewer = none_named q (page_of (entry_at g.table p a)) other in both_some (holders_of g.table q) (holders_of (with_entry g.table p a grant) q) (λ h. omega arith) (λ h. omega arith)
+          ]
+      | inr other ↦
+          let more = none_named q grant.page other in
+          elim (cases_Bool (names q (page_of (entry_at g.table p a)))) [
+            | inl old ↦ absurd (false≢true (sym other ∙ keeps q old))
+            | inr another ↦ let fewer = none_named q (page_of (entry_at g.table p a)) another in both_some (holders_of g.table q) (holders_of (with_entry g.table p a grant) q) (λ h. omega arith) (λ h. omega arith)
+          ]
+    ])
 
 pub or_true : (b : Bool) → (b || true) ≡ true
 or_true true = refl
@@ -118,9 +118,9 @@ pub fewer_state : (g : GrantsState) (t : Table) (memory : List ℕ) → ((q : �
 fewer_state g t memory fewer =
     ap (λ (ps : Pages). record { pages = ps; table = t; named = g.named })
     (sym (pages_kept g t memory g.frames 0 (λ q h.
-      let some : 0 < holders_of t q = some_of (holders_of t q) (sym (named_by_holders t q) ∙ h) in
-      let le = fewer q in
-      named_by_holders g.table q ∙ (let more : nat_lt 0 (holders_of g.table q) ≡ true = grind (arith, nat_tests) in more))))
+    let some : 0 < holders_of t q = some_of (holders_of t q) (sym (named_by_holders t q) ∙ h) in
+    let le = fewer q in
+    named_by_holders g.table q ∙ (let more : nat_lt 0 (holders_of g.table q) ≡ true = grind (arith, nat_tests) in more))))
 
 pub removed_state : (g : GrantsState) (p a : ℕ) (memory : List ℕ) → 0 < p → p ≤ length g.table → page_state (without_grant g p a) memory ≡ removed (page_state g memory) p a
 removed_state g p a memory low high =
@@ -130,9 +130,9 @@ removed_state g p a memory low high =
 pub revoked_state : (g : GrantsState) (p a : ℕ) (grant : Grant) (memory : List ℕ) → 0 < p → p ≤ length g.table → grant.page ≡ None → page_state (with_grant g p a grant) memory ≡ live_only (granted (page_state g memory) p a grant)
 revoked_state g p a grant memory low high none =
     fewer_state g (with_entry g.table p a grant) memory (λ q.
-      let all = holders_with g.table p a grant q (omega (arith, low, high)) in
-      let nothing : one_if_named q grant.page ≡ 0 = rw none refl in
-      omega arith)
+    let all = holders_with g.table p a grant q (omega (arith, low, high)) in
+    let nothing : one_if_named q grant.page ≡ 0 = rw none refl in
+    omega arith)
 
 -- a page that the policy doesn't name lives by its holders
 pub unnamed_live : (g : GrantsState) (q n : ℕ) → n ≡ holders_of g.table q → g.named ≤ q → nat_lt 0 n ≡ is_live g q

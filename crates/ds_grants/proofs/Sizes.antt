@@ -74,9 +74,9 @@ pub removed_sound : (t : Table) (holders new : List ℕ) (named : ℕ) (ended : 
     → ((q : ℕ) → slice_index new q + holders_at q a (entries_of t p) ≡ slice_index holders q) → length new ≡ length holders
     → AreCounted (without_entry t p a) new × IsSound (record { table = without_entry t p a; frames = length new; named = named; ended = ended })
 removed_sound t holders new named ended p a low high known fewer size = (
-    remove_counts t p a holders new low high known.0 fewer,
-    subst (λ n. IsSound (record { table = without_entry t p a; frames = n; named = named; ended = ended })) (sym size)
-    (sound_without (record { table = t; frames = length holders; named = named; ended = ended }) p a low high known.1),
+  remove_counts t p a holders new low high known.0 fewer,
+  subst (λ n. IsSound (record { table = without_entry t p a; frames = n; named = named; ended = ended })) (sym size)
+      (sound_without (record { table = t; frames = length holders; named = named; ended = ended }) p a low high known.1),
 )
 
 -- counts and bounds, when an entry was put
@@ -86,9 +86,9 @@ pub put_sound : (t : Table) (holders middle new : List ℕ) (named : ℕ) (ended
     → AreOneFewer (page_of (entry_at t p a)) holders middle → AreOneMore grant.page middle new
     → AreCounted (with_entry t p a grant) new × IsSound (record { table = with_entry t p a grant; frames = length new; named = named; ended = ended })
 put_sound t holders middle new named ended p a grant low high room whole known fewer more = (
-    put_counts t p a grant holders middle new low high known.0 fewer more,
-    subst (λ n. IsSound (record { table = with_entry t p a grant; frames = n; named = named; ended = ended })) (sym (more.size ∙ fewer.size))
-    (sound_put (record { table = t; frames = length holders; named = named; ended = ended }) p a grant low high room whole known.1),
+  put_counts t p a grant holders middle new low high known.0 fewer more,
+  subst (λ n. IsSound (record { table = with_entry t p a grant; frames = n; named = named; ended = ended })) (sym (more.size ∙ fewer.size))
+      (sound_put (record { table = t; frames = length holders; named = named; ended = ended }) p a grant low high room whole known.1),
 )
 
 -- what is done where there is something to be done

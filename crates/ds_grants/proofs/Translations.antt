@@ -147,13 +147,13 @@ same_table entries numbers g h same k = record {
   apart = k.apart;
   own = k.own;
   backed = λ slot e q at live some number.
-    let b = k.backed slot e q at live some number in
-    record {
-      grant = b.grant;
-      page = b.page;
-      granted = ap (λ t. entry_at t q (e.vpn * 2 ^ 12)) same ∙ b.granted;
-      right = b.right;
-      named = b.named;
-      words = b.words;
-    };
+      let b = k.backed slot e q at live some number in
+      record {
+        grant = b.grant;
+        page = b.page;
+        granted = ap (λ t. entry_at t q (e.vpn * 2 ^ 12)) same ∙ b.granted;
+        right = b.right;
+        named = b.named;
+        words = b.words;
+      };
 }

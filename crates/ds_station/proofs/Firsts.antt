@@ -134,16 +134,6 @@ first_frames_hold policy images table =
       length-map policy.pages (λ (page : PolicyPage). source_bytes (sources_of policy.pages) images page.source),
     ) at joined
 
--- the image of the source of a name that was found, and where none was
-pub image_found : (names images : List (List ℕ)) (name image : List ℕ) (place : ℕ) → Some place ≡ position (λ n. bytes_eq n name) names → image ≡ get_or images place image → place < length images → image ≡ image_named names images name
-image_found names images name image place at is within = is ∙ get_or_default images place image [] within ∙ ap (image_at images) at
-
-pub part_missed : (names images : List (List ℕ)) (name : List ℕ) (k : ℕ) → None ≡ position (λ n. bytes_eq n name) names → replicate 4096 0 ≡ part_of (image_named names images name) k
-part_missed names images name k at =
-    let none : [] ≡ image_named names images name = ap (image_at images) at in
-    subst (λ (image : List ℕ). replicate 4096 0 ≡ part_of image k) none
-    (rw (drop-nil {A = ℕ} (4096 * k), take_all {A = ℕ} 4096 (replicate 4096 0) (omega (arith, length-replicate {A = ℕ} 4096 0))) refl)
-
 one_row_names : (named : ℕ) (t : Table) → OneRow named t → ((address : ℕ) (g : Grant) (page : ℕ) → entry_at t 1 address ≡ Some g → g.page ≡ Some page → page < named) × (length t ≡ 1)
 one_row_names named t (row, is, within) = rw is (within, refl)
 

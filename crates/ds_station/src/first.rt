@@ -1,8 +1,7 @@
 //! The beginning of a run: the named pages in their frames, and the process at its start.
-ghost use Rattle.std.specs.Prelude.{◌≡◌, ◌≢◌, ◌*◌, ◌<◌, ◌≤◌, ◌⊎◌, ◌∷◌, [], length, replicate, position, bytes_eq, IfSome, IfOk, IfErr, IsErrOf, None, false};
+ghost use Rattle.std.specs.Prelude.{◌≡◌, ◌*◌, ◌<◌, ◌≤◌, ◌⊎◌, [], length, IfOk, IfErr, IsErrOf, None, false};
 ghost use Rattle.ds_policy.specs.PolicyParts.{sources_of};
-ghost use Rattle.ds_asm.specs.Images.{part_of};
-ghost use Rattle.ds_pagemap.specs.First.{image_named, source_bytes, first_state};
+ghost use Rattle.ds_pagemap.specs.First.{first_state};
 ghost use Rattle.ds_station.specs.Start.{no_input, first_cpu, bytes_of_pages, padded, first_frames};
 ghost use Rattle.ds_user.specs.Processor.{cpu_of};
 ghost use Rattle.ds_station.specs.Parts.{held};
@@ -16,44 +15,13 @@ use crate::fault::Fault;
 use crate::parts::Parts;
 use crate::station::Station;
 use ds_asm::Image;
-use ds_policy::{Events, Policy, PolicyPage, PolicyProcess, Source, Table, Text};
+use ds_grants::fill_page;
+use ds_policy::{Events, Policy, PolicyPage, PolicyProcess, Table, Text};
 use ds_procs::Process;
 use ds_tlb::Lookaside;
 use ds_user::{Cause, Core, Memo, Windows};
 use ds_word::{PAGE_SIZE, wrapping_sum};
 use std::alloc::{AllocError, Global};
-
-/// Where this name stands among the names.
-fn place_of(names: &[Text<64>], name: &str) -> Option<usize>
-    ensures exact { result ≡ position (λ n. bytes_eq n name.now) names.now }
-    ensures within { IfSome result (λ place. place < length names.now) }
-{
-    names.iter().position(|n| n.as_str() == name)
-}
-
-/// Fills a page with its part of the image of its source, of which there is one for each name.
-fn fill_part(names: &[Text<64>], images: &[Image], source: &Source, page: &mut [u8])
-    requires images { length images.now ≡ length names.now }
-    requires whole { length page.old ≡ 4096 }
-    ensures { page.new ≡ part_of (image_named names.now images.now source.now.name) source.now.part }
-{
-    match place_of(names, source.name.as_str()) {
-        Some(place) => images[place].page(source.part, page),
-        None => page.fill(0),
-    }
-}
-
-/// Fills a page with its part of the image of its source, or with zeros where it has none.
-fn fill_page(names: &[Text<64>], images: &[Image], source: &Option<Source>, page: &mut [u8])
-    requires images { length images.now ≡ length names.now }
-    requires whole { length page.old ≡ 4096 }
-    ensures { page.new ≡ source_bytes names.now images.now source.now }
-{
-    match source {
-        Some(source) => fill_part(names, images, source, page),
-        None => page.fill(0),
-    }
-}
 
 /// Puts the pages behind one another.
 fn put_pages(

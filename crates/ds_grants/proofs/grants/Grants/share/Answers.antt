@@ -17,4 +17,4 @@ pub returns-clause-state : goal.returns-clause-state
 returns-clause-state g c = λ memory.
     ap (λ (s : GrantsState). page_state s memory) c.put.ensures.value
     ∙ shared_state c.args.self.now c.args.receiver c.args.to _ memory c.requires.low c.requires.high (ap page_of (none_there (entry_at c.args.self.now.table c.args.receiver c.args.to) c.requires.free))
-      (one_lives c.args.self.now c.args.grant.page c.requires.names.page c.requires.names.named c.requires.names.lives)
+    (one_lives c.args.self.now c.args.grant.page c.requires.names.page c.requires.names.named c.requires.names.lives)

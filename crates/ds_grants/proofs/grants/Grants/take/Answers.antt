@@ -10,9 +10,9 @@ returns-in_err-grant-clause-does g c = refused_by (page_state c.args.self.now c.
 
 pub returns-then-grant-caller-clause-does : goal.returns-then-grant-caller-clause-does
 returns-then-grant-caller-clause-does g c = (
-    c.in_ok-grant.ensures.ok c.args.memory.now _
-    ∙ not_given (page_state c.args.self.now c.args.memory.now) c.args.caller c.args.process c.args.addr c.in_ok-grant.grant _ c.in_ok-grant.ensures.there (search rules),
-    refl,
+  c.in_ok-grant.ensures.ok c.args.memory.now _
+      ∙ not_given (page_state c.args.self.now c.args.memory.now) c.args.caller c.args.process c.args.addr c.in_ok-grant.grant _ c.in_ok-grant.ensures.there (search rules),
+  refl,
 )
 
 pub returns-clause-does : goal.returns-clause-does
