@@ -24,19 +24,27 @@ pub record IsBacked (g : GrantsState) (process : ℕ) (e : Entry) : Type 0 where
   pub named : grant.page ≡ Some page
   pub words : e ≡ entry_of (hi_word e) (page_word g page grant.right)
 
--- No two entries match, and each entry of a process's address space maps a page that is granted to the process;
+-- No two entries match, and each entry of a process's address space maps a page that is granted to
+-- the process;
 -- processes have address space numbers, or 0 where they have none.
 pub record BufferHolds (entries : List Entry) (numbers : ℕ → ℕ) (g : GrantsState) : Type 0 where
   pub single : IsSingle entries
   -- an entry is of a user's page, or it is what its slot holds at the start
-  pub apart : (slot : ℕ) (e : Entry) → slice_get entries slot ≡ Some e → (e.vpn < 2 ^ 19) ⊎ (e ≡ empty_entry slot)
+  pub apart : (slot : ℕ) (e : Entry) → slice_get entries slot ≡ Some e
+      → (e.vpn < 2 ^ 19) ⊎ (e ≡ empty_entry slot)
   -- no entry answers in each address space
   pub own : (slot : ℕ) (e : Entry) → slice_get entries slot ≡ Some e → e.g ≡ false
-  pub backed : (slot : ℕ) (e : Entry) (process : ℕ) → slice_get entries slot ≡ Some e → 0 < process → 0 < e.asid → numbers process ≡ e.asid → IsBacked g process e
+  pub backed : (slot : ℕ) (e : Entry) (process : ℕ) → slice_get entries slot ≡ Some e
+      → 0 < process → 0 < e.asid → numbers process ≡ e.asid → IsBacked g process e
 
 -- there is one address space, which at most some process has at a time
 abbrev pub IsOneSpace : (ℕ → ℕ) → Type 0
 IsOneSpace numbers = (process : ℕ) → numbers process ≤ 1
+
+-- what the buffer may hold before it may hold behind a change, whoever has the address space
+abbrev pub KeepsBuffer : List Entry → List Entry → GrantsState → GrantsState → Type 0
+KeepsBuffer old new before behind = (numbers : ℕ → ℕ) → IsOneSpace numbers
+    → BufferHolds old numbers before → BufferHolds new numbers behind
 
 -- the slot holds what it held at the start, if there is one
 abbrev pub cleared : List Entry → Option ℕ → List Entry
@@ -55,12 +63,15 @@ space_word vpn = vpn * 2 ^ 12 + 2 ^ 6
 abbrev pub translation : GrantsState → ℕ → ℕ → Right → Entry
 translation g vpn page right = entry_of (space_word vpn) (page_word g page right)
 
--- with this entry in the place of what the one address space has for a page, or in this slot where it has nothing
+-- with this entry in the place of what the one address space has for a page, or in this slot where
+-- it has nothing
 abbrev pub filled : List Entry → ℕ → ℕ → Entry → List Entry
 filled entries vpn slot e = slice_set entries (unwrap_or (find entries vpn 1) slot) e
 
--- no other process has the one address space, and this one is granted a page, with a right, at this page of a user's
-pub record IsMappable (numbers : ℕ → ℕ) (g : GrantsState) (process vpn page : ℕ) (grant : Grant) : Type 0 where
+-- no other process has the one address space, and this one is granted a page, with a right, at this
+-- page of a user's
+pub record IsMappable (numbers : ℕ → ℕ) (g : GrantsState)
+    (process vpn page : ℕ) (grant : Grant) : Type 0 where
   pub owner : (q : ℕ) → 0 < q → numbers q ≡ 1 → q ≡ process
   pub user : vpn < 2 ^ 19
   pub granted : entry_at g.table process (vpn * 2 ^ 12) ≡ Some grant

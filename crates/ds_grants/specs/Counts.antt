@@ -30,7 +30,8 @@ holders_of (entries ∷ rest) page = holders_in page entries + holders_of rest p
 -- how many of a process's entries at an address name a page
 abbrev pub holders_at : ℕ → ℕ → List Entry → ℕ
 holders_at page address [] = 0
-holders_at page address (e ∷ rest) = one_if_named page (page_at address e) + holders_at page address rest
+holders_at page address (e ∷ rest) =
+    one_if_named page (page_at address e) + holders_at page address rest
 
 -- one more for the page that is named, if one is
 pub record AreOneMore (named : Option ℕ) (old new : List ℕ) : Type 0 where

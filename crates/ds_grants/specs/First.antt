@@ -6,7 +6,12 @@ use Rattle.ds_grants.specs.State.{GrantsState}
 
 -- the grants of so many processes that have none
 abbrev pub no_grants : ℕ → ℕ → ℕ → GrantsState
-no_grants processes frames named = record { table = replicate processes []; frames = frames; named = named; ended = replicate processes false }
+no_grants processes frames named = record {
+  table = replicate processes [];
+  frames = frames;
+  named = named;
+  ended = replicate processes false;
+}
 
 -- what a policy's rules grant
 abbrev pub first_grants : PolicyValue → GrantsState

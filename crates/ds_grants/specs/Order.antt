@@ -19,7 +19,17 @@ pub record Tests : Type 0 where
 
 -- nothing speaks against it
 abbrev pub none : Tests
-none = record { no_process = false; not_page = false; lacks_grant = false; not_allowed = false; taken = false; table_full = false; regions = false; no_frames = false; not_given = false }
+none = record {
+  no_process = false;
+  not_page = false;
+  lacks_grant = false;
+  not_allowed = false;
+  taken = false;
+  table_full = false;
+  regions = false;
+  no_frames = false;
+  not_given = false;
+}
 
 -- the order of the refusals
 abbrev pub first_refusal : Tests → Result PageState ℕ → Result PageState ℕ
@@ -40,11 +50,13 @@ is_no_page address = not (address % 4096 == 0) || nat_le (2 ^ 31) address
 
 -- there is no room for one entry more
 abbrev pub is_full : PageState → ℕ → ℕ → Bool
-is_full s p address = nat_le 256 (length (entries_of s.table p)) && not (is_some (entry_at s.table p address))
+is_full s p address =
+    nat_le 256 (length (entries_of s.table p)) && not (is_some (entry_at s.table p address))
 
 -- an entry at the address would open a fifth region
 abbrev pub is_fifth : PageState → ℕ → ℕ → Bool
-is_fifth s p address = nat_lt 4 (count_distinct (region address ∷ map (λ e. region e.address) (entries_of s.table p)))
+is_fifth s p address =
+    nat_lt 4 (count_distinct (region address ∷ map (λ e. region e.address) (entries_of s.table p)))
 
 abbrev pub tests_of_give : (ℕ → Bool) → PageState → ℕ → ℕ → ℕ → ℕ → ℕ → Tests
 tests_of_give lives s caller address receiver to mode = record none {
@@ -99,14 +111,29 @@ tests_of_drop lives s p address = record none {
 -- Each call and command is refused by the first of its tests that holds, in the one order.
 pub record HaveOneOrder (lives : ℕ → Bool) (s : PageState) : Type 0 where
   pub of_give : (caller address receiver to mode : ℕ)
-      → give lives s caller address receiver to mode ≡ first_refusal (tests_of_give lives s caller address receiver to mode) (Ok (given s caller (unwrap_or (entry_at s.table caller address) no_grant) receiver to mode))
-  pub of_take : (caller p address : ℕ) → take lives s caller p address ≡ first_refusal (tests_of_take lives s caller p address) (Ok (removed s p address))
-  pub of_drop_own : (caller address : ℕ) → drop_own s caller address ≡ first_refusal (tests_of_drop_own s caller address) (Ok (removed s caller address))
+      → give lives s caller address receiver to mode
+      ≡ first_refusal (tests_of_give lives s caller address receiver to mode)
+      (Ok (given s caller (unwrap_or (entry_at s.table caller address) no_grant) receiver to mode))
+  pub of_take : (caller p address : ℕ)
+      → take lives s caller p address
+      ≡ first_refusal (tests_of_take lives s caller p address) (Ok (removed s p address))
+  pub of_drop_own : (caller address : ℕ)
+      → drop_own s caller address
+      ≡ first_refusal (tests_of_drop_own s caller address) (Ok (removed s caller address))
   pub of_grant : (p address page : ℕ) (right : Right) (may_give : Bool) (rule : ℕ)
       → grant lives s p address page right may_give rule
-      ≡ first_refusal (tests_of_grant lives s p address) (Ok (granted s p address (record { right = right; page = Some page; rule = rule; give = may_give; giver = 0 })))
+      ≡ first_refusal (tests_of_grant lives s p address)
+      (Ok (granted s p address
+      (record { right = right; page = Some page; rule = rule; give = may_give; giver = 0 })))
   pub of_narrow : (p address : ℕ)
-      → narrow lives s p address ≡ first_refusal (tests_of_change lives s p address) (Ok (granted s p address (record (unwrap_or (entry_at s.table p address) no_grant) { right = Read })))
+      → narrow lives s p address
+      ≡ first_refusal (tests_of_change lives s p address)
+      (Ok (granted s p address
+      (record (unwrap_or (entry_at s.table p address) no_grant) { right = Read })))
   pub of_revoke : (p address rule : ℕ)
-      → revoke lives s p address rule ≡ first_refusal (tests_of_change lives s p address) (Ok (live_only (granted s p address (record no_grant { rule = rule }))))
-  pub of_drop_by_command : (p address : ℕ) → drop_by_command lives s p address ≡ first_refusal (tests_of_drop lives s p address) (Ok (removed s p address))
+      → revoke lives s p address rule
+      ≡ first_refusal (tests_of_change lives s p address)
+      (Ok (live_only (granted s p address (record no_grant { rule = rule }))))
+  pub of_drop_by_command : (p address : ℕ)
+      → drop_by_command lives s p address
+      ≡ first_refusal (tests_of_drop lives s p address) (Ok (removed s p address))

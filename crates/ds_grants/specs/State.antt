@@ -28,7 +28,8 @@ frame_of_page g page = page + 402
 
 -- the bytes of a page in memory, where it lives
 abbrev pub page_in : GrantsState → List ℕ → ℕ → Option (List ℕ)
-page_in g memory page = if is_live g page then Some (frame_of memory (frame_of_page g page)) else None
+page_in g memory page =
+    if is_live g page then Some (frame_of memory (frame_of_page g page)) else None
 
 -- the pages that lie in memory, by their numbers
 abbrev pub pages_in : GrantsState → List ℕ → Pages
@@ -68,7 +69,9 @@ number_of Regions = 11
 number_of NoFrames = 18
 number_of NotGiven = 19
 
--- it came to the page state that was meant, or it was refused by the number that was meant and left the page state
-abbrev pub Does : {R : Type 0} → PageState → PageState → Result R GrantFault → Result PageState ℕ → Type 0
+-- it came to the page state that was meant, or it was refused by the number that was meant and left
+-- the page state
+abbrev pub Does : {R : Type 0} → PageState → PageState → Result R GrantFault
+    → Result PageState ℕ → Type 0
 Does old new (Ok x) meant = meant ≡ Ok new
 Does old new (Err refusal) meant = (meant ≡ Err (number_of refusal)) × (new ≡ old)

@@ -5,7 +5,7 @@ ghost use Rattle.ds_policy.specs.Pages.{entries_of, entry_at, fresh};
 ghost use Rattle.ds_policy.specs.Grants.{is_some_right, granted, copied, give, take, drop_own, drop_by_command};
 ghost use Rattle.ds_grants.specs.State.{Does, IsAsLarge, lives_in, page_state, pages_in};
 ghost use Rattle.ds_grants.specs.Free.{HasPage, IsFirstFree};
-ghost use Rattle.ds_grants.specs.Buffer.{BufferHolds, IsOneSpace};
+ghost use Rattle.ds_grants.specs.Buffer.{KeepsBuffer};
 
 use crate::fault::GrantFault;
 use crate::grants::{Grants, frame_of_page};
@@ -14,8 +14,9 @@ use ds_policy::{Grant, Right};
 use ds_tlb::Lookaside;
 
 impl Grants {
-    /// Gives what a process has at an address to another process: by mode 1 the page for reading, by 2
-    /// for writing, by 3 a copy of it, in a frame of its own at once. Refused, nothing changes.
+    /// Gives what a process has at an address to another process: by mode 1 the page for reading,
+    /// by 2 for writing, by 3 a copy of it, in a frame of its own at once. Refused, nothing
+    /// changes.
     pub fn give<L: Lookaside>(
         &mut self,
         caller: u32,
@@ -28,11 +29,14 @@ impl Grants {
     ) -> Result<(), GrantFault>
         requires low { 0 < caller }
         requires high { caller ≤ length self.old.table }
-        ensures does { Does (page_state self.old memory.old) (page_state self.new memory.new) result (give (lives_in self.old) (page_state self.old memory.old) caller addr receiver to mode) }
+        ensures does { Does (page_state self.old memory.old) (page_state self.new memory.new) result
+            (give (lives_in self.old)
+            (page_state self.old memory.old) caller addr receiver to mode) }
         ensures same { IsAsLarge self.old self.new }
         ensures ended { self.new.ended ≡ self.old.ended }
-        ensures refused { OnErr result ((self.new ≡ self.old) × (memory.new ≡ memory.old) × (L.entries tlb.new ≡ L.entries tlb.old)) }
-        ensures buffer { (numbers : ℕ → ℕ) → IsOneSpace numbers → BufferHolds (L.entries tlb.old) numbers self.old → BufferHolds (L.entries tlb.new) numbers self.new }
+        ensures refused { OnErr result ((self.new ≡ self.old) × (memory.new ≡ memory.old)
+            × (L.entries tlb.new ≡ L.entries tlb.old)) }
+        ensures buffer { KeepsBuffer (L.entries tlb.old) (L.entries tlb.new) self.old self.new }
         ensures random { L.random_place tlb.new ≡ L.random_place tlb.old }
     {
         let grant = self.may_give(caller, addr, receiver, to, mode)?;
@@ -60,10 +64,12 @@ impl Grants {
         requires free { IsNone (entry_at self.old.table receiver to) }
         requires right { is_some_right right ≡ true }
         requires names { HasPage self.old grant }
-        ensures state { (memory : List ℕ) → page_state self.new memory ≡ granted (page_state self.old memory) receiver to (record grant { right = right; giver = caller }) }
+        ensures state { (memory : List ℕ) → page_state self.new memory
+            ≡ granted (page_state self.old memory) receiver to
+            (record grant { right = right; giver = caller }) }
         ensures same { IsAsLarge self.old self.new }
         ensures ended { self.new.ended ≡ self.old.ended }
-        ensures buffer { (numbers : ℕ → ℕ) → IsOneSpace numbers → BufferHolds (L.entries tlb.old) numbers self.old → BufferHolds (L.entries tlb.new) numbers self.new }
+        ensures buffer { KeepsBuffer (L.entries tlb.old) (L.entries tlb.new) self.old self.new }
         ensures random { L.random_place tlb.new ≡ L.random_place tlb.old }
     {
         let shared = Grant {
@@ -90,10 +96,17 @@ impl Grants {
         requires free { IsNone (entry_at self.old.table receiver to) }
         requires names { HasPage self.old grant }
         requires frame { (page : ℕ) × IsFirstFree self.old page }
-        ensures state { page_state self.new memory.new ≡ granted (copied (page_state self.old memory.old) grant.page) receiver to (record grant { right = Write; page = Some (fresh (pages_in self.old memory.old)); giver = caller }) }
+        ensures state { page_state self.new memory.new
+            ≡ granted (copied (page_state self.old memory.old) grant.page) receiver to
+            (record grant {
+              right = Write;
+              page = Some
+                  (fresh (pages_in self.old memory.old));
+              giver = caller;
+            }) }
         ensures same { IsAsLarge self.old self.new }
         ensures ended { self.new.ended ≡ self.old.ended }
-        ensures buffer { (numbers : ℕ → ℕ) → IsOneSpace numbers → BufferHolds (L.entries tlb.old) numbers self.old → BufferHolds (L.entries tlb.new) numbers self.new }
+        ensures buffer { KeepsBuffer (L.entries tlb.old) (L.entries tlb.new) self.old self.new }
         ensures random { L.random_place tlb.new ≡ L.random_place tlb.old }
     {
         if let (Some(page), Some(free)) = (grant.page, self.free_page()) {
@@ -117,12 +130,14 @@ impl Grants {
         memory: &mut Memory,
         tlb: &mut L,
     ) -> Result<(), GrantFault>
-        ensures does { Does (page_state self.old memory.old) (page_state self.new memory.new) result (take (lives_in self.old) (page_state self.old memory.old) caller process addr) }
+        ensures does { Does (page_state self.old memory.old) (page_state self.new memory.new) result
+            (take (lives_in self.old) (page_state self.old memory.old) caller process addr) }
         ensures memory { memory.new ≡ memory.old }
         ensures same { IsAsLarge self.old self.new }
         ensures ended { self.new.ended ≡ self.old.ended }
-        ensures refused { OnErr result ((self.new ≡ self.old) × (L.entries tlb.new ≡ L.entries tlb.old)) }
-        ensures buffer { (numbers : ℕ → ℕ) → IsOneSpace numbers → BufferHolds (L.entries tlb.old) numbers self.old → BufferHolds (L.entries tlb.new) numbers self.new }
+        ensures refused { OnErr result ((self.new ≡ self.old)
+            × (L.entries tlb.new ≡ L.entries tlb.old)) }
+        ensures buffer { KeepsBuffer (L.entries tlb.old) (L.entries tlb.new) self.old self.new }
         ensures random { L.random_place tlb.new ≡ L.random_place tlb.old }
     {
         let grant = self.granted_to(process, addr)?;
@@ -133,8 +148,8 @@ impl Grants {
         Ok(())
     }
 
-    /// Drops an entry of a process: by a command of the operator's also one whose right is none, or else
-    /// by the process itself. Refused, nothing changes.
+    /// Drops an entry of a process: by a command of the operator's also one whose right is none, or
+    /// else by the process itself. Refused, nothing changes.
     pub fn drop_page<L: Lookaside>(
         &mut self,
         process: u32,
@@ -144,12 +159,16 @@ impl Grants {
         tlb: &mut L,
     ) -> Result<(), GrantFault>
         requires process { by_command ≡ false → (0 < process) × (process ≤ length self.old.table) }
-        ensures does { Does (page_state self.old memory.old) (page_state self.new memory.new) result (if by_command then drop_by_command (lives_in self.old) (page_state self.old memory.old) process addr else drop_own (page_state self.old memory.old) process addr) }
+        ensures does { Does (page_state self.old memory.old) (page_state self.new memory.new) result
+            (if by_command
+            then drop_by_command (lives_in self.old) (page_state self.old memory.old) process addr
+            else drop_own (page_state self.old memory.old) process addr) }
         ensures memory { memory.new ≡ memory.old }
         ensures same { IsAsLarge self.old self.new }
         ensures ended { self.new.ended ≡ self.old.ended }
-        ensures refused { OnErr result ((self.new ≡ self.old) × (L.entries tlb.new ≡ L.entries tlb.old)) }
-        ensures buffer { (numbers : ℕ → ℕ) → IsOneSpace numbers → BufferHolds (L.entries tlb.old) numbers self.old → BufferHolds (L.entries tlb.new) numbers self.new }
+        ensures refused { OnErr result ((self.new ≡ self.old)
+            × (L.entries tlb.new ≡ L.entries tlb.old)) }
+        ensures buffer { KeepsBuffer (L.entries tlb.old) (L.entries tlb.new) self.old self.new }
         ensures random { L.random_place tlb.new ≡ L.random_place tlb.old }
     {
         self.may_drop(process, addr, by_command)?;

@@ -4,7 +4,7 @@ ghost use Rattle.ds_policy.specs.Pages.{entries_of, entry_at};
 ghost use Rattle.ds_policy.specs.Grants.{is_some_right, grant, narrow, revoke, end_process};
 ghost use Rattle.ds_grants.specs.State.{Does, IsAsLarge, lives_in, page_state};
 ghost use Rattle.ds_grants.specs.Leaving.{IsEnding};
-ghost use Rattle.ds_grants.specs.Buffer.{BufferHolds, IsOneSpace};
+ghost use Rattle.ds_grants.specs.Buffer.{KeepsBuffer};
 
 use crate::fault::GrantFault;
 use crate::grants::Grants;
@@ -28,12 +28,15 @@ impl Grants {
     ) -> Result<(), GrantFault>
         requires named { page < self.old.named }
         requires right { is_some_right right ≡ true }
-        ensures does { Does (page_state self.old memory.old) (page_state self.new memory.new) result (grant (lives_in self.old) (page_state self.old memory.old) process addr page right give rule) }
+        ensures does { Does (page_state self.old memory.old) (page_state self.new memory.new) result
+            (grant (lives_in self.old)
+            (page_state self.old memory.old) process addr page right give rule) }
         ensures memory { memory.new ≡ memory.old }
         ensures same { IsAsLarge self.old self.new }
         ensures ended { self.new.ended ≡ self.old.ended }
-        ensures refused { OnErr result ((self.new ≡ self.old) × (L.entries tlb.new ≡ L.entries tlb.old)) }
-        ensures buffer { (numbers : ℕ → ℕ) → IsOneSpace numbers → BufferHolds (L.entries tlb.old) numbers self.old → BufferHolds (L.entries tlb.new) numbers self.new }
+        ensures refused { OnErr result ((self.new ≡ self.old)
+            × (L.entries tlb.new ≡ L.entries tlb.old)) }
+        ensures buffer { KeepsBuffer (L.entries tlb.old) (L.entries tlb.new) self.old self.new }
         ensures random { L.random_place tlb.new ≡ L.random_place tlb.old }
     {
         self.may_be_granted(process, addr)?;
@@ -56,12 +59,14 @@ impl Grants {
         memory: &mut Memory,
         tlb: &mut L,
     ) -> Result<(), GrantFault>
-        ensures does { Does (page_state self.old memory.old) (page_state self.new memory.new) result (narrow (lives_in self.old) (page_state self.old memory.old) process addr) }
+        ensures does { Does (page_state self.old memory.old) (page_state self.new memory.new) result
+            (narrow (lives_in self.old) (page_state self.old memory.old) process addr) }
         ensures memory { memory.new ≡ memory.old }
         ensures same { IsAsLarge self.old self.new }
         ensures ended { self.new.ended ≡ self.old.ended }
-        ensures refused { OnErr result ((self.new ≡ self.old) × (L.entries tlb.new ≡ L.entries tlb.old)) }
-        ensures buffer { (numbers : ℕ → ℕ) → IsOneSpace numbers → BufferHolds (L.entries tlb.old) numbers self.old → BufferHolds (L.entries tlb.new) numbers self.new }
+        ensures refused { OnErr result ((self.new ≡ self.old)
+            × (L.entries tlb.new ≡ L.entries tlb.old)) }
+        ensures buffer { KeepsBuffer (L.entries tlb.old) (L.entries tlb.new) self.old self.new }
         ensures random { L.random_place tlb.new ≡ L.random_place tlb.old }
     {
         let grant = self.granted_to(process, addr)?;
@@ -73,7 +78,8 @@ impl Grants {
         Ok(())
     }
 
-    /// Takes all right from what a process has at an address, by this rule. Refused, nothing changes.
+    /// Takes all right from what a process has at an address, by this rule. Refused, nothing
+    /// changes.
     pub fn revoke<L: Lookaside>(
         &mut self,
         process: u32,
@@ -82,12 +88,14 @@ impl Grants {
         memory: &mut Memory,
         tlb: &mut L,
     ) -> Result<(), GrantFault>
-        ensures does { Does (page_state self.old memory.old) (page_state self.new memory.new) result (revoke (lives_in self.old) (page_state self.old memory.old) process addr rule) }
+        ensures does { Does (page_state self.old memory.old) (page_state self.new memory.new) result
+            (revoke (lives_in self.old) (page_state self.old memory.old) process addr rule) }
         ensures memory { memory.new ≡ memory.old }
         ensures same { IsAsLarge self.old self.new }
         ensures ended { self.new.ended ≡ self.old.ended }
-        ensures refused { OnErr result ((self.new ≡ self.old) × (L.entries tlb.new ≡ L.entries tlb.old)) }
-        ensures buffer { (numbers : ℕ → ℕ) → IsOneSpace numbers → BufferHolds (L.entries tlb.old) numbers self.old → BufferHolds (L.entries tlb.new) numbers self.new }
+        ensures refused { OnErr result ((self.new ≡ self.old)
+            × (L.entries tlb.new ≡ L.entries tlb.old)) }
+        ensures buffer { KeepsBuffer (L.entries tlb.old) (L.entries tlb.new) self.old self.new }
         ensures random { L.random_place tlb.new ≡ L.random_place tlb.old }
     {
         self.granted_to(process, addr)?;
@@ -106,11 +114,12 @@ impl Grants {
     pub fn end_process<L: Lookaside>(&mut self, process: u32, memory: &mut Memory, tlb: &mut L)
         requires low { 0 < process }
         requires high { process ≤ length self.old.table }
-        ensures does { page_state self.new memory.new ≡ end_process (page_state self.old memory.old) process }
+        ensures does { page_state self.new memory.new
+            ≡ end_process (page_state self.old memory.old) process }
         ensures memory { memory.new ≡ memory.old }
         ensures same { IsAsLarge self.old self.new }
         ensures ended { self.new.ended ≡ slice_set self.old.ended (process - 1) true }
-        ensures buffer { (numbers : ℕ → ℕ) → IsOneSpace numbers → BufferHolds (L.entries tlb.old) numbers self.old → BufferHolds (L.entries tlb.new) numbers self.new }
+        ensures buffer { KeepsBuffer (L.entries tlb.old) (L.entries tlb.new) self.old self.new }
         ensures random { L.random_place tlb.new ≡ L.random_place tlb.old }
     {
         self.remove_all(process, tlb);
@@ -123,7 +132,7 @@ impl Grants {
         requires high { process ≤ length self.old.table }
         ensures gone { entries_of self.new.table process ≡ [] }
         ensures ending { IsEnding self.old self.new process }
-        ensures buffer { (numbers : ℕ → ℕ) → IsOneSpace numbers → BufferHolds (L.entries tlb.old) numbers self.old → BufferHolds (L.entries tlb.new) numbers self.new }
+        ensures buffer { KeepsBuffer (L.entries tlb.old) (L.entries tlb.new) self.old self.new }
         ensures random { L.random_place tlb.new ≡ L.random_place tlb.old }
     {
         while let Some(addr) = self.first_address(process) {

@@ -4,7 +4,8 @@ ghost use Rattle.ds_grants.specs.State.{number_of};
 
 use thiserror::Error;
 
-/// Why a call or a command is refused. The refusals are tested in the order in which they stand here.
+/// Why a call or a command is refused. The refusals are tested in the order in which they stand
+/// here.
 #[derive(Clone, Copy, Debug, PartialEq, Eq, Drop, Error)]
 pub enum GrantFault {
     /// There is no such process, or it has ended.
@@ -16,7 +17,8 @@ pub enum GrantFault {
     /// There is no entry at the address, or it has no right.
     #[error("14 NoGrant")]
     NoGrant,
-    /// There is no such mode of giving, the entry may not be given on, or writing is more than it allows.
+    /// There is no such mode of giving, the entry may not be given on, or writing is more than it
+    /// allows.
     #[error("15 NotAllowed")]
     NotAllowed,
     /// There is an entry already.

@@ -28,7 +28,8 @@ fn place_of(names: &[Text<64>], name: &str) -> Option<usize>
 fn fill_part(names: &[Text<64>], images: &[Image], source: &Source, page: &mut [u8])
     requires images { length images.now ≡ length names.now }
     requires whole { length page.old ≡ 4096 }
-    ensures { page.new ≡ part_of (image_named names.now images.now source.now.name) source.now.part }
+    ensures { page.new
+        ≡ part_of (image_named names.now images.now source.now.name) source.now.part }
 {
     match place_of(names, source.name.as_str()) {
         Some(place) => images[place].page(source.part, page),
@@ -36,8 +37,8 @@ fn fill_part(names: &[Text<64>], images: &[Image], source: &Source, page: &mut [
     }
 }
 
-/// Fills a page with its part of the image of its source, or with zeros where it has none. There is one
-/// image for each name.
+/// Fills a page with its part of the image of its source, or with zeros where it has none. There is
+/// one image for each name.
 pub fn fill_page(names: &[Text<64>], images: &[Image], source: &Option<Source>, page: &mut [u8])
     requires images { length images.now ≡ length names.now }
     requires whole { length page.old ≡ 4096 }
@@ -49,11 +50,14 @@ pub fn fill_page(names: &[Text<64>], images: &[Image], source: &Option<Source>, 
     }
 }
 
-/// Fills the frame of each page with its part of the image of its source, or with zeros where it has none.
+/// Fills the frame of each page with its part of the image of its source, or with zeros where it
+/// has none.
 fn fill_pages(names: &[Text<64>], images: &[Image], pages: &[PolicyPage], memory: &mut Memory)
     requires images { length images.now ≡ length names.now }
     requires few { length pages.now ≤ 1024 }
-    ensures each { (q : ℕ) → q < length pages.now → frame_of memory.new (q + 402) ≡ slice_index_or (map (λ page. source_bytes names.now images.now page.source) pages.now) q [] }
+    ensures each { (q : ℕ) → q < length pages.now → frame_of memory.new (q + 402)
+        ≡ slice_index_or (map
+        (λ page. source_bytes names.now images.now page.source) pages.now) q [] }
     ensures elsewhere { (f : ℕ) → f < 402 → frame_of memory.new f ≡ frame_of memory.old f }
 {
     for (i, page) in pages.iter().enumerate() {
@@ -89,8 +93,8 @@ fn none_ended(processes: usize) -> ArrayVec<bool, PROCESSES>
 }
 
 impl Grants {
-    /// The grants of so many processes that have none, over frames for so many pages, of which the first
-    /// are named.
+    /// The grants of so many processes that have none, over frames for so many pages, of which the
+    /// first are named.
     pub fn empty(
         alloc: Global,
         processes: usize,
@@ -137,8 +141,8 @@ impl Grants {
         }
     }
 
-    /// The grants that a policy begins with, and its pages in their frames of memory. There is one image
-    /// for each source name of the policy, in their order. Refused, memory is as it was.
+    /// The grants that a policy begins with, and its pages in their frames of memory. There is one
+    /// image for each source name of the policy, in their order. Refused, memory is as it was.
     pub fn new(
         alloc: Global,
         policy: &Policy,
@@ -147,7 +151,8 @@ impl Grants {
     ) -> Result<Grants, OutOfMemory>
         requires images { length images.now ≡ length (sources_of policy.now.pages) }
         ensures state { IfOk result (λ g. g ≡ first_grants policy.now) }
-        ensures pages { IfOk result (λ g. pages_in g memory.new ≡ first_pages policy.now images.now) }
+        ensures pages { IfOk result (λ g. pages_in g memory.new
+            ≡ first_pages policy.now images.now) }
         ensures elsewhere { (f : ℕ) → f < 402 → frame_of memory.new f ≡ frame_of memory.old f }
         ensures refused { OnErr result (memory.new ≡ memory.old) }
     {

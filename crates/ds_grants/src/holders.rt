@@ -51,7 +51,8 @@ pub(crate) fn release(holders: &mut [u32], page: Option<u32>)
 /// Counts the entries of a process at an address no more.
 pub(crate) fn release_at(holders: &mut [u32], entries: &[Entry], addr: u32)
     requires { (page : ℕ) → holders_in page entries.now ≤ slice_index holders.old page }
-    ensures fewer { (page : ℕ) → slice_index holders.new page + holders_at page addr entries.now ≡ slice_index holders.old page }
+    ensures fewer { (page : ℕ) → slice_index holders.new page + holders_at page addr entries.now
+        ≡ slice_index holders.old page }
     ensures size { length holders.new ≡ length holders.old }
 {
     for entry in entries {
@@ -63,7 +64,8 @@ pub(crate) fn release_at(holders: &mut [u32], entries: &[Entry], addr: u32)
 pub(crate) fn hold_all(holders: &mut [u32], entries: &[Entry])
     requires within { (page : ℕ) → length holders.old ≤ page → holders_in page entries.now ≡ 0 }
     requires few { (page : ℕ) → slice_index holders.old page + length entries.now < 2 ^ 32 }
-    ensures more { (page : ℕ) → slice_index holders.new page ≡ slice_index holders.old page + holders_in page entries.now }
+    ensures more { (page : ℕ) → slice_index holders.new page
+        ≡ slice_index holders.old page + holders_in page entries.now }
     ensures size { length holders.new ≡ length holders.old }
 {
     for entry in entries {

@@ -1,6 +1,6 @@
-//! The permission table, its pages and their frames: who may touch what, and each call and command that
-//! changes it. Every change is that of the page state which lies in memory, or a refusal that leaves all
-//! as it was.
+//! The permission table, its pages and their frames: who may touch what, and each call and command
+//! that changes it. Every change is that of the page state which lies in memory, or a refusal that
+//! leaves all as it was.
 #![tactic(auto)]
 
 mod buffer_laws;

@@ -10,7 +10,8 @@ const MOST_REGIONS: usize = 4;
 
 /// Whether an entry at the address would be in a fifth region.
 pub(crate) fn is_in_fifth_region(entries: &[Entry], addr: u32) -> bool
-    ensures { result ≡ nat_lt 4 (count_distinct (region addr ∷ map (λ e. region e.address) entries.now)) }
+    ensures { result
+        ≡ nat_lt 4 (count_distinct (region addr ∷ map (λ e. region e.address) entries.now)) }
 {
     let mut regions = ArrayVec::<u32, MOST_REGIONS>::new();
     regions.push(region_of(addr));

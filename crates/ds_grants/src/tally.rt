@@ -64,7 +64,8 @@ impl Tally {
     /// Counts the entries of a process at an address no more.
     pub(crate) fn release_at(&mut self, entries: &[Entry], addr: u32)
         requires { (page : ℕ) → holders_in page entries.now ≤ slice_index self.old page }
-        ensures fewer { (page : ℕ) → slice_index self.new page + holders_at page addr entries.now ≡ slice_index self.old page }
+        ensures fewer { (page : ℕ) → slice_index self.new page + holders_at page addr entries.now
+            ≡ slice_index self.old page }
         ensures size { length self.new ≡ length self.old }
     {
         release_at(&mut self.counts, entries, addr);

@@ -44,12 +44,17 @@ fn may_not_give(grant: Grant, mode: u32) -> bool
 }
 
 impl Grants {
-    /// What a process is granted at a page's address, with some right; whether it has ended isn't asked.
+    /// What a process is granted at a page's address, with some right; whether it has ended isn't
+    /// asked.
     pub(crate) fn granted_page(&self, process: u32, addr: u32) -> Result<Grant, GrantFault>
         requires low { 0 < process }
         requires high { process ≤ length self.now.table }
-        ensures err { IfErr result (λ r. (memory : List ℕ) (next : Result PageState ℕ) → (not_page addr or_else no_right (page_state self.now memory) process addr or_else next) ≡ Err (number_of r)) }
-        ensures ok { OnOk result ((memory : List ℕ) (next : Result PageState ℕ) → (not_page addr or_else no_right (page_state self.now memory) process addr or_else next) ≡ next) }
+        ensures err { IfErr result (λ r. (memory : List ℕ) (next : Result PageState ℕ)
+            → (not_page addr or_else no_right (page_state self.now memory) process addr
+            or_else next) ≡ Err (number_of r)) }
+        ensures ok { OnOk result ((memory : List ℕ) (next : Result PageState ℕ)
+            → (not_page addr or_else no_right (page_state self.now memory) process addr
+            or_else next) ≡ next) }
         ensures there { IfOk result (λ g. entry_at self.now.table process addr ≡ Some g) }
         ensures right { IfOk result (λ g. is_some_right g.right ≡ true) }
         ensures names { IfOk result (λ g. HasPage self.now g) }
@@ -66,8 +71,13 @@ impl Grants {
 
     /// What a process that lives is granted at a page's address, with some right.
     pub(crate) fn granted_to(&self, process: u32, addr: u32) -> Result<Grant, GrantFault>
-        ensures err { IfErr result (λ r. (memory : List ℕ) (next : Result PageState ℕ) → (refused 12 (not (lives_in self.now process)) or_else not_page addr or_else no_right (page_state self.now memory) process addr or_else next) ≡ Err (number_of r)) }
-        ensures ok { OnOk result ((memory : List ℕ) (next : Result PageState ℕ) → (refused 12 (not (lives_in self.now process)) or_else not_page addr or_else no_right (page_state self.now memory) process addr or_else next) ≡ next) }
+        ensures err { IfErr result (λ r. (memory : List ℕ) (next : Result PageState ℕ)
+            → (refused 12 (not (lives_in self.now process)) or_else not_page addr
+            or_else no_right (page_state self.now memory) process addr or_else next)
+            ≡ Err (number_of r)) }
+        ensures ok { OnOk result ((memory : List ℕ) (next : Result PageState ℕ)
+            → (refused 12 (not (lives_in self.now process)) or_else not_page addr
+            or_else no_right (page_state self.now memory) process addr or_else next) ≡ next) }
         ensures there { IfOk result (λ g. entry_at self.now.table process addr ≡ Some g) }
         ensures right { IfOk result (λ g. is_some_right g.right ≡ true) }
         ensures names { IfOk result (λ g. HasPage self.now g) }
@@ -82,8 +92,12 @@ impl Grants {
 
     /// Whether an operator may drop the entry of a process at an address, be its right none.
     pub(crate) fn may_be_dropped(&self, process: u32, addr: u32) -> Result<(), GrantFault>
-        ensures err { IfErr result (λ r. (memory : List ℕ) → drop_by_command (lives_in self.now) (page_state self.now memory) process addr ≡ Err (number_of r)) }
-        ensures ok { OnOk result ((memory : List ℕ) → drop_by_command (lives_in self.now) (page_state self.now memory) process addr ≡ Ok (removed (page_state self.now memory) process addr)) }
+        ensures err { IfErr result (λ r. (memory : List ℕ)
+            → drop_by_command (lives_in self.now) (page_state self.now memory) process addr
+            ≡ Err (number_of r)) }
+        ensures ok { OnOk result ((memory : List ℕ)
+            → drop_by_command (lives_in self.now) (page_state self.now memory) process addr
+            ≡ Ok (removed (page_state self.now memory) process addr)) }
         ensures there { OnOk result (is_some (entry_at self.now.table process addr) ≡ true) }
         ensures page { OnOk result (is_no_page addr ≡ false) }
         ensures within { OnOk result ((0 < process) × (process ≤ length self.now.table)) }
@@ -100,7 +114,8 @@ impl Grants {
         }
     }
 
-    /// Whether an operator, or else the process itself, may drop the entry of a process at an address.
+    /// Whether an operator, or else the process itself, may drop the entry of a process at an
+    /// address.
     pub(crate) fn may_drop(
         &self,
         process: u32,
@@ -108,8 +123,15 @@ impl Grants {
         by_command: bool,
     ) -> Result<(), GrantFault>
         requires process { by_command ≡ false → (0 < process) × (process ≤ length self.now.table) }
-        ensures err { IfErr result (λ r. (memory : List ℕ) → (if by_command then drop_by_command (lives_in self.now) (page_state self.now memory) process addr else drop_own (page_state self.now memory) process addr) ≡ Err (number_of r)) }
-        ensures ok { OnOk result ((memory : List ℕ) → (if by_command then drop_by_command (lives_in self.now) (page_state self.now memory) process addr else drop_own (page_state self.now memory) process addr) ≡ Ok (removed (page_state self.now memory) process addr)) }
+        ensures err { IfErr result (λ r. (memory : List ℕ)
+            → (if by_command
+            then drop_by_command (lives_in self.now) (page_state self.now memory) process addr
+            else drop_own (page_state self.now memory) process addr) ≡ Err (number_of r)) }
+        ensures ok { OnOk result ((memory : List ℕ)
+            → (if by_command
+            then drop_by_command (lives_in self.now) (page_state self.now memory) process addr
+            else drop_own (page_state self.now memory) process addr)
+            ≡ Ok (removed (page_state self.now memory) process addr)) }
         ensures there { OnOk result (is_some (entry_at self.now.table process addr) ≡ true) }
         ensures page { OnOk result (is_no_page addr ≡ false) }
         ensures within { OnOk result ((0 < process) × (process ≤ length self.now.table)) }
@@ -121,14 +143,20 @@ impl Grants {
         Ok(())
     }
 
-    /// Whether a process has room for an entry at an address: no more than 256 entries, in no more than
-    /// four regions.
+    /// Whether a process has room for an entry at an address: no more than 256 entries, in no more
+    /// than four regions.
     pub(crate) fn has_room(&self, process: u32, addr: u32) -> Result<(), GrantFault>
         requires low { 0 < process }
         requires high { process ≤ length self.now.table }
-        ensures err { IfErr result (λ r. (memory : List ℕ) (next : Result PageState ℕ) → (table_full (page_state self.now memory) process addr or_else fifth_region (page_state self.now memory) process addr or_else next) ≡ Err (number_of r)) }
-        ensures ok { OnOk result ((memory : List ℕ) (next : Result PageState ℕ) → (table_full (page_state self.now memory) process addr or_else fifth_region (page_state self.now memory) process addr or_else next) ≡ next) }
-        ensures room { OnOk result (IsNone (entry_at self.now.table process addr) → length (entries_of self.now.table process) < 256) }
+        ensures err { IfErr result (λ r. (memory : List ℕ) (next : Result PageState ℕ)
+            → (table_full (page_state self.now memory) process addr
+            or_else fifth_region (page_state self.now memory) process addr or_else next)
+            ≡ Err (number_of r)) }
+        ensures ok { OnOk result ((memory : List ℕ) (next : Result PageState ℕ)
+            → (table_full (page_state self.now memory) process addr
+            or_else fifth_region (page_state self.now memory) process addr or_else next) ≡ next) }
+        ensures room { OnOk result (IsNone (entry_at self.now.table process addr)
+            → length (entries_of self.now.table process) < 256) }
     {
         let entries = self.table.entries(process);
         if entries.len() >= MOST && self.table.entry(process, addr).is_none() {
@@ -142,13 +170,29 @@ impl Grants {
 
     /// Whether an operator may grant a process a page at an address.
     pub(crate) fn may_be_granted(&self, process: u32, addr: u32) -> Result<(), GrantFault>
-        ensures err { IfErr result (λ r. (memory : List ℕ) (page : ℕ) (right : Right) (may_give : Bool) (rule : ℕ) → grant (lives_in self.now) (page_state self.now memory) process addr page right may_give rule ≡ Err (number_of r)) }
-        ensures ok { OnOk result ((memory : List ℕ) (page : ℕ) (right : Right) (may_give : Bool) (rule : ℕ) → grant (lives_in self.now) (page_state self.now memory) process addr page right may_give rule ≡ Ok (granted (page_state self.now memory) process addr (record { right = right; page = Some page; rule = rule; give = may_give; giver = 0 }))) }
+        ensures err { IfErr result
+            (λ r. (memory : List ℕ) (page : ℕ) (right : Right) (may_give : Bool) (rule : ℕ)
+            → grant (lives_in self.now)
+            (page_state self.now memory) process addr page right may_give rule
+            ≡ Err (number_of r)) }
+        ensures ok { OnOk result
+            ((memory : List ℕ) (page : ℕ) (right : Right) (may_give : Bool) (rule : ℕ)
+            → grant (lives_in self.now)
+            (page_state self.now memory) process addr page right may_give rule
+            ≡ Ok (granted (page_state self.now memory) process addr
+            (record {
+              right = right;
+              page = Some page;
+              rule = rule;
+              give = may_give;
+              giver = 0;
+            }))) }
         ensures free { OnOk result (page_of (entry_at self.now.table process addr) ≡ None) }
         ensures named { OnOk result (self.now.named ≤ self.now.frames) }
         ensures page { OnOk result (is_no_page addr ≡ false) }
         ensures within { OnOk result ((0 < process) × (process ≤ length self.now.table)) }
-        ensures room { OnOk result (IsNone (entry_at self.now.table process addr) → length (entries_of self.now.table process) < 256) }
+        ensures room { OnOk result (IsNone (entry_at self.now.table process addr)
+            → length (entries_of self.now.table process) < 256) }
     {
         if !self.lives(process) {
             return Err(GrantFault::NoProcess);
@@ -164,7 +208,9 @@ impl Grants {
 
     /// Whether giving by this mode needs a frame, and none is free.
     fn lacks_frame(&self, mode: u32) -> bool
-        ensures value { (memory : List ℕ) → result ≡ ((mode == 3) && nat_le (length (pages_in self.now memory)) (count_live (pages_in self.now memory))) }
+        ensures value { (memory : List ℕ) → result
+            ≡ ((mode == 3) && nat_le (length (pages_in self.now memory))
+            (count_live (pages_in self.now memory))) }
         ensures frame { result ≡ false → mode ≡ 3 → (page : ℕ) × IsFirstFree self.now page }
     {
         mode == 3 && self.free_page().is_none()
@@ -181,8 +227,12 @@ impl Grants {
     ) -> Result<Grant, GrantFault>
         requires low { 0 < caller }
         requires high { caller ≤ length self.now.table }
-        ensures err { IfErr result (λ r. (memory : List ℕ) → give (lives_in self.now) (page_state self.now memory) caller addr receiver to mode ≡ Err (number_of r)) }
-        ensures ok { IfOk result (λ g. (memory : List ℕ) → give (lives_in self.now) (page_state self.now memory) caller addr receiver to mode ≡ Ok (given (page_state self.now memory) caller g receiver to mode)) }
+        ensures err { IfErr result (λ r. (memory : List ℕ)
+            → give (lives_in self.now) (page_state self.now memory) caller addr receiver to mode
+            ≡ Err (number_of r)) }
+        ensures ok { IfOk result (λ g. (memory : List ℕ)
+            → give (lives_in self.now) (page_state self.now memory) caller addr receiver to mode
+            ≡ Ok (given (page_state self.now memory) caller g receiver to mode)) }
         ensures there { IfOk result (λ g. entry_at self.now.table caller addr ≡ Some g) }
         ensures right { IfOk result (λ g. is_some_right g.right ≡ true) }
         ensures names { IfOk result (λ g. HasPage self.now g) }
