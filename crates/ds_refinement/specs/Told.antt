@@ -1,0 +1,46 @@
+-- What the coprocessor's registers tell of an exception, and of the access that was refused by it.
+use Rattle.std.specs.Prelude.{ℕ, ◌+◌, Bool, ◌==◌, ◌||◌, nat_le, if◌then◌else◌}
+use Rattle.ds_word.specs.Word.{word, bits}
+use Rattle.ds_isa.specs.declared.instr.Size.{Size}
+use Rattle.ds_isa.specs.declared.instr.Size.TheVariants.{Byte, Word}
+use Rattle.ds_isa.specs.declared.instr.Kind.{Kind}
+use Rattle.ds_isa.specs.declared.instr.Kind.TheVariants.{Fetch, Load, Store}
+use Rattle.ds_amap.specs.declared.map.Fault.{Fault}
+use Rattle.ds_cp0.specs.System.{System, entered}
+use Rattle.ds_core.specs.Core.{CoreState}
+use Rattle.ds_core.specs.Access.{refusal}
+
+-- the registers behind an access that the address map refused
+abbrev pub system_behind : CoreState → Kind → ℕ → Fault → System
+system_behind c access address fault = entered c.system (refusal c access address fault)
+
+-- the exception's code, in Cause
+abbrev pub code_in : System → ℕ
+code_in s = bits s.cause 2 4
+
+-- whether the instruction stood in the slot of a branch: BD of Cause
+abbrev pub is_delayed : System → Bool
+is_delayed s = bits s.cause 31 1 == 1
+
+-- the address of the instruction itself, which in a slot stands behind EPC
+abbrev pub own_in : System → ℕ
+own_in s = if is_delayed s then word (s.epc + 4) else s.epc
+
+-- whether the code is one of stores alone: Mod, TLBS, AdES
+abbrev pub is_store_code : ℕ → Bool
+is_store_code n = (n == 1) || ((n == 3) || (n == 5))
+
+-- the kind of access: a store by the code; else a fetch at its own address, a load elsewhere
+abbrev pub kind_told : System → Kind
+kind_told s =
+    if is_store_code (code_in s) then Store
+    else if s.bad_vaddr == own_in s then Fetch
+    else Load
+
+-- the size to ask the table for: up to code 3 any will do; then a fetch's or the instruction's
+abbrev pub size_told : System → Size → Size
+size_told s size =
+    if nat_le (code_in s) 3 then Byte
+    else if is_store_code (code_in s) then size
+    else if s.bad_vaddr == own_in s then Word
+    else size
