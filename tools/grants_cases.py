@@ -40,13 +40,15 @@ class File:
 
 # Of refusals.txt: process 1 gives, 2 takes, 3 has ended, 4 has 256 entries, 5 entries in four regions, and 6 both.
 OFF, KERNEL = 0x9001, 0x8000_0000
-SOURCES = {  # addresses of process 1
-    0x1000: "write", 0x2000: "read", 0x3000: "kept", 0x4000: "right none", 0x5000: "no entry", OFF: "", KERNEL: ""}
+SOURCES = [  # addresses of process 1: may be written, only read, not given on, right none, no entry, no page's
+    0x1000, 0x2000, 0x3000, 0x4000, 0x5000, OFF, KERNEL]
 PLACES = [  # process and address
-    (2, 0x1000), (2, 0x2000), (2, 0x3000), (2, 0x5000), (2, OFF), (2, KERNEL), (2, 0xFFFF_F000), (3, 0x1000), (3, OFF),
-    (4, 0x20_0000), (4, 0x1000), (4, OFF), (5, 0x100_0000), (5, 0x1000), (5, 0x2000),
-    (5, 0x100_0001), (6, 0x100_0000), (6, 0x20_0000),
-    (6, 0x1000), (6, 0x100_0001), (0, 0x5000), (0, OFF), (7, 0x5000), (7, KERNEL), (2**32 - 1, 0x5000)]
+    (2, 0x1000), (2, 0x2000), (2, 0x3000), (2, 0x5000), (2, OFF), (2, KERNEL), (2, 0xFFFF_F000),
+    (3, 0x1000), (3, OFF),
+    (4, 0x20_0000), (4, 0x1000), (4, 0x3000), (4, OFF),
+    (5, 0x100_0000), (5, 0x1000), (5, 0x2000), (5, 0x100_0001),
+    (6, 0x100_0000), (6, 0x20_0000), (6, 0x1000), (6, 0x100_0001),
+    (0, 0x5000), (0, OFF), (7, 0x5000), (7, KERNEL), (2**32 - 1, 0x5000)]
 
 
 def prepare(file, frames):
@@ -64,6 +66,7 @@ def prepare(file, frames):
     file.ask("end 3")
     for k in range(256):
         file.ask(f"grant 4 {0x1000 * (k + 1):08x} 0 read give 6")
+    file.ask("revoke 4 00003000 6")
     for k in range(4):
         file.ask(f"grant 5 {0x40_0000 * k + 0x1000:08x} 0 read give 7")
     for k in range(256):
