@@ -1,0 +1,47 @@
+#!/usr/bin/env python3
+"""Tests of tools/grants_model.py: by the stories, whose answers are written by hand, and of what the files hold."""
+import sys
+import unittest
+from itertools import combinations
+
+sys.dont_write_bytecode = True
+
+from grants_cases import DATA, files, refusals  # noqa: E402
+from grants_model import Model, answer  # noqa: E402
+
+TOGETHER = {  # what can speak against a call together
+    "give": "12-13 12-14 12-15 12-18 13-14 13-15 13-16 13-17 13-11 13-18 14-15 14-16 14-17 14-11 14-18 15-16 15-17 15-11 "
+            "15-18 16-18 17-11 17-18 11-18",
+    "grant": "12-13 13-17 13-11 17-11",
+    "take": "12-13 12-14 12-19 13-14 13-19 14-19",
+    "drop": "12-13 12-14 13-14", "narrow": "12-13 12-14 13-14", "revoke": "12-13 12-14 13-14"}
+# What can speak against a call alone: where there is no process, or no page, there is no entry either.
+ALONE = {
+    "give": {11, 12, 13, 15, 16, 17, 18}, "grant": {11, 12, 13, 16, 17}, "take": {19},
+    "drop": {14}, "narrow": {14}, "revoke": {14}}
+
+
+class Tests(unittest.TestCase):
+    def test_the_stories_come_to_what_is_written(self):
+        model = Model(0, 0, 0)
+        for number, line in enumerate((DATA / "stories.txt").read_text().splitlines(), 1):
+            asked, is_question, wanted = line.split("#")[0].partition("=")
+            if asked.strip():
+                model, came = answer(model, asked)
+                self.assertEqual(came, wanted.strip() if is_question else "ok", f"line {number}: {line}")
+
+    def test_each_refusal_is_asked_alone_and_with_each_other_that_can_hold(self):
+        asked = refusals().reasons
+        for call, pairs in TOGETHER.items():
+            sets = [reasons for verb, reasons in asked if verb == call]
+            met = {"-".join(map(str, pair)) for reasons in sets for pair in combinations(reasons, 2)}
+            self.assertEqual(met, set(pairs.split()), call)
+            self.assertEqual({reasons[0] for reasons in sets if len(reasons) == 1}, ALONE[call], call)
+
+    def test_the_files_are_as_they_are_written(self):
+        for path, text in files().items():
+            self.assertTrue(path.read_text() == text, path)
+
+
+if __name__ == "__main__":
+    unittest.main()
