@@ -173,3 +173,10 @@ pub large_before : (memory bytes : List ℕ) (f n : ℕ) → length (with_frame 
 large_before memory bytes f n size =
     let most = length-take (length memory) (take (f * 4096) memory ++ (bytes ++ drop (f * 4096 + length bytes) memory)) in
     omega arith
+
+-- a copy leaves the frames below those of pages alone
+pub frames_below : (memory new : List ℕ) (k n f : ℕ) → 8388608 ≤ length memory → k < 1024 → n < 1024 → f < 402
+    → new ≡ with_frame memory (n + 402) (frame_of memory (k + 402)) → frame_of new f ≡ frame_of memory f
+frames_below memory new k n f large source target low is =
+    let frame : length (frame_of memory (k + 402)) ≡ 4096 = length-take-le 4096 (drop ((k + 402) * 4096) memory) (let rest = length-drop ((k + 402) * 4096) memory in omega arith) in
+    ap (λ (m : List ℕ). frame_of m f) is ∙ frame_of-with_frame_apart memory (frame_of memory (k + 402)) (n + 402) f frame (omega arith) (inl (omega arith))

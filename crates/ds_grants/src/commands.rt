@@ -1,10 +1,10 @@
 //! What an operator may do with what is granted, and what an end of a process leaves of it.
-ghost use Rattle.std.specs.Prelude.{◌≡◌, ℕ, ◌<◌, ◌≤◌, ◌-◌, List, [], true, length, slice_set, is_some, IfSome, IsNone, OnErr};
+ghost use Rattle.std.specs.Prelude.{◌≡◌, ℕ, ◌<◌, ◌≤◌, ◌-◌, List, [], true, length, slice_set, is_some, IfSome, IsNone, OnErr, OnOk, ◌/◌, ◌^◌};
 ghost use Rattle.ds_policy.specs.Pages.{entries_of, entry_at};
 ghost use Rattle.ds_policy.specs.Grants.{is_some_right, grant, narrow, revoke, end_process};
 ghost use Rattle.ds_grants.specs.State.{Does, IsAsLarge, lives_in, page_state};
 ghost use Rattle.ds_grants.specs.Leaving.{IsEnding};
-ghost use Rattle.ds_grants.specs.Buffer.{KeepsBuffer};
+ghost use Rattle.ds_grants.specs.Buffer.{KeepsBuffer, forgotten};
 
 use crate::fault::GrantFault;
 use crate::grants::Grants;
@@ -36,6 +36,8 @@ impl Grants {
         ensures ended { self.new.ended ≡ self.old.ended }
         ensures refused { OnErr result ((self.new ≡ self.old)
             × (L.entries tlb.new ≡ L.entries tlb.old)) }
+        ensures entries { OnOk result
+            (L.entries tlb.new ≡ forgotten (L.entries tlb.old) (addr / 2 ^ 12)) }
         ensures buffer { KeepsBuffer (L.entries tlb.old) (L.entries tlb.new) self.old self.new }
         ensures random { L.random_place tlb.new ≡ L.random_place tlb.old }
     {
@@ -66,6 +68,8 @@ impl Grants {
         ensures ended { self.new.ended ≡ self.old.ended }
         ensures refused { OnErr result ((self.new ≡ self.old)
             × (L.entries tlb.new ≡ L.entries tlb.old)) }
+        ensures entries { OnOk result
+            (L.entries tlb.new ≡ forgotten (L.entries tlb.old) (addr / 2 ^ 12)) }
         ensures buffer { KeepsBuffer (L.entries tlb.old) (L.entries tlb.new) self.old self.new }
         ensures random { L.random_place tlb.new ≡ L.random_place tlb.old }
     {
@@ -95,6 +99,8 @@ impl Grants {
         ensures ended { self.new.ended ≡ self.old.ended }
         ensures refused { OnErr result ((self.new ≡ self.old)
             × (L.entries tlb.new ≡ L.entries tlb.old)) }
+        ensures entries { OnOk result
+            (L.entries tlb.new ≡ forgotten (L.entries tlb.old) (addr / 2 ^ 12)) }
         ensures buffer { KeepsBuffer (L.entries tlb.old) (L.entries tlb.new) self.old self.new }
         ensures random { L.random_place tlb.new ≡ L.random_place tlb.old }
     {
