@@ -49,8 +49,12 @@ fn for_want_of_memory_there_is_no_table(rt: HostRuntime) {
         return;
     };
     assert_eq!(rt; policy.processes().len(), 1);
-    let Ok(mut table) = Table::new(rt.alloc(), &policy) else {
-        return;
+    let mut table = match Table::new(rt.alloc(), &policy) {
+        Ok(table) => table,
+        Err(refused) => {
+            assert_eq!(rt; refused.number(), 25);
+            return;
+        }
     };
     assert_eq!(rt; table.entry(1, 0), None);
     let grant = Grant {

@@ -2,13 +2,12 @@
 #![tactic(auto)]
 
 mod digits;
-mod fault;
 mod line;
 mod report;
 mod text;
 mod writes;
 
-pub use fault::OutOfMemory;
+pub use ds_policy::OutOfMemory;
 pub use line::{Denied, Line};
 pub use report::send_report;
 pub use text::{LINE_ROOM, append, line_fits};

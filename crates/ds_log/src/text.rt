@@ -5,10 +5,9 @@ ghost use Rattle.ds_log.specs.Length.{IsShort};
 ghost use Rattle.ds_log.specs.Text.{line_text, kind_text, rule_text};
 
 use crate::digits::hex8;
-use crate::fault::OutOfMemory;
 use crate::line::{Denied, Line};
 use arrayvec::ArrayVec;
-use ds_policy::Rule;
+use ds_policy::{OutOfMemory, Rule};
 use itoa::Buffer;
 
 /// Appends a line's text with its line feed, or nothing where memory runs out.

@@ -58,5 +58,5 @@ placed es a i g d h =
 pub unplaced : (es : List Entry) (a : ℕ) (g : Grant) → position (is_at a) es ≡ None → (found es a ≡ None) × (put es a g ≡ es ++ entry a g ∷ [])
 unplaced es a g h = at_none es a g (place_none (position_or_len (is_at a) es) (length es) h)
 
-pub refill_set : (es : List Entry) (i : ℕ) (e : Entry) → refill (length es) es (set es i e) ≡ set es i e
-refill_set es i e = rw (length-set es i e, drop_all (length es) es (omega arith), append-nil (set es i e)) (take_all (length es) (set es i e) (omega (arith, length-set es i e)))
+pub refill_set : {A : Type 0} (xs : List A) (i : ℕ) (x : A) → refill (length xs) xs (set xs i x) ≡ set xs i x
+refill_set xs i x = rw (length-set xs i x, drop_all (length xs) xs (omega arith), append-nil (set xs i x)) (take_all (length xs) (set xs i x) (omega (arith, length-set xs i x)))

@@ -1,10 +1,10 @@
 //! Want of memory.
-
 ghost use Rattle.std.specs.Prelude.{◌≡◌};
 
+use std::alloc::AllocError;
 use thiserror::Error;
 
-/// The text could not grow.
+/// A table or a text could not be made, or could not grow.
 #[derive(Clone, Copy, Debug, Drop, PartialEq, Eq, Error)]
 #[error("out of memory")]
 pub struct OutOfMemory;
@@ -15,5 +15,11 @@ impl OutOfMemory {
         ensures { result ≡ 25 }
     {
         25
+    }
+}
+
+impl From<AllocError> for OutOfMemory {
+    fn from(_e: AllocError) -> OutOfMemory {
+        OutOfMemory
     }
 }
