@@ -1,12 +1,12 @@
 -- Steps that enter no exception, one behind the other: a step more, two stretches joined, and a stretch of one step.
-use Rattle.std.proofs.Common.{◌≡◌, ℕ, zero, suc, ◌+◌, ◌-◌, ◌<◌, Bool, false, cond, refl, sym, ap, ◌∙◌, arith, inl, inr, add-one}
+use Rattle.std.proofs.Common.{◌≡◌, ℕ, zero, suc, ◌+◌, ◌-◌, ◌<◌, ◌^◌, Bool, false, cond, refl, sym, ap, subst, ◌∙◌, arith, inl, inr, add-one}
 use Rattle.std.specs.Prelude.{◌⊎◌, Option, Some, None, IsNone, IfSome}
 use Rattle.std.proofs.lemmas.Bool.{cases_lt}
 use Rattle.ds_cp0.specs.declared.exception.ExceptionCode.{ExceptionCode}
 use Rattle.ds_core.specs.declared.event.Event.{Event}
 use Rattle.ds_core.specs.declared.event.Event.TheVariants.{Retired, Branched, Raised}
 use Rattle.ds_core.specs.Core.{Step}
-use Rattle.ds_core.specs.Ahead.{Hardware, step_of, left_by, after_steps, is_raised, Advances, AdvancesTo}
+use Rattle.ds_core.specs.Ahead.{Hardware, step_of, left_by, after_steps, is_raised, Advances, AdvancesTo, ComesByWords}
 use Rattle.ds_core.proofs.Slots.{Slots, step_slots}
 
 pub calm_event : (e : Event) → (e ≡ Retired) ⊎ (e ≡ Branched) → is_raised e ≡ false
@@ -27,6 +27,15 @@ advances_on n old h t e advances done calm =
             ap (λ (j : ℕ). is_raised (step_of (after_steps j old)).event) last ∙ (ap is_raised event ∙ calm)
       ];
     }
+
+-- an address more
+pub comes_on : (n : ℕ) (old h : Hardware) → ((k : ℕ) → k < n → (after_steps k old).core.pc < 2 ^ 32) → Advances n old h → h.core.pc < 2 ^ 32 → ComesByWords n old
+comes_on n old h before advances here = λ k within. elim (cases_lt k n) [
+  | inl below ↦ before k below
+  | inr past ↦
+      let last : n ≡ k = omega arith in
+      subst (λ (t : Hardware). t.core.pc < 2 ^ 32) (advances.state ∙ ap (λ (j : ℕ). after_steps j old) last) here
+]
 
 after_both : (a b : ℕ) (h : Hardware) → after_steps (a + b) h ≡ after_steps b (after_steps a h)
 after_both a zero h =

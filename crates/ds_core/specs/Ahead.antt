@@ -1,5 +1,5 @@
 -- Many steps, one behind the other.
-use Rattle.std.specs.Prelude.{◌≡◌, ℕ, zero, suc, ◌+◌, ◌<◌, Bool, true, false, if◌then◌else◌, Option, Some, None}
+use Rattle.std.specs.Prelude.{◌≡◌, ℕ, zero, suc, ◌+◌, ◌<◌, ◌≤◌, ◌^◌, Bool, true, false, if◌then◌else◌, Option, Some, None}
 use Rattle.ds_cp0.specs.declared.exception.ExceptionCode.{ExceptionCode}
 use Rattle.ds_dev.specs.Bus.{BusState}
 use Rattle.ds_core.specs.declared.event.Event.{Event}
@@ -45,6 +45,10 @@ abbrev pub AdvancesTo : ℕ → Option ExceptionCode → Hardware → Hardware �
 AdvancesTo n None old new = Advances n old new
 AdvancesTo n (Some code) old new = (h : Hardware) × Advances n old h
     × ((record { event = Raised code; core = new.core; bus = new.bus }) ≡ step_of h)
+
+-- at each of so many steps, and behind the last, the program stands at an address of 32 bits
+abbrev pub ComesByWords : ℕ → Hardware → Type 0
+ComesByWords n h = (k : ℕ) → k ≤ n → (after_steps k h).core.pc < 2 ^ 32
 
 -- the tick that a branch leaves to its slot
 abbrev pub owed_tick : Bool → ℕ

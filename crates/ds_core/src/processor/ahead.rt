@@ -1,7 +1,7 @@
 //! Steps, one by one and many at once.
 ghost use Rattle.std.specs.Prelude.{◌≡◌, ◌<◌, ◌+◌, if◌then◌else◌, IsNone, IfSome};
 ghost use Rattle.ds_core.specs.Effect.{step};
-ghost use Rattle.ds_core.specs.Ahead.{hardware_of, AdvancesTo, ticks, owed_tick};
+ghost use Rattle.ds_core.specs.Ahead.{hardware_of, AdvancesTo, ComesByWords, ticks, owed_tick};
 
 use super::Core;
 use crate::event::Event;
@@ -35,7 +35,7 @@ impl<L: Lookaside> Core<L> {
     }
 
     /// Takes `limit` steps, or fewer and behind them one that enters an exception. So many steps
-    /// take so many ticks, but for a slot at either end.
+    /// take so many ticks, but for a slot at either end; each begins at an address of 32 bits.
     ///
     /// This alone reaches the code of the instructions: it is long, and a second place that reached
     /// it would make it a call, for 30 host instructions on each.
@@ -48,12 +48,15 @@ impl<L: Lookaside> Core<L> {
         ensures steps { AdvancesTo result.steps result.raised
             (hardware_of self.old bus.old)
             (hardware_of self.new bus.new) }
+        ensures words { ComesByWords result.steps (hardware_of self.old bus.old) }
         ensures ticks { IsNone result.raised
             → ticks result.steps (hardware_of self.old bus.old)
             + owed_tick self.new.slot ≡ result.steps + owed_tick self.old.slot }
     {
         let mut steps = 0;
         while steps < limit {
+            // The address is looked at, so that it is known to be a word; so it is behind the loop.
+            let _here = self.pc;
             match self.proceed(bus) {
                 Event::Retired | Event::Branched => steps += 1,
                 Event::Raised(code) => {
@@ -62,6 +65,7 @@ impl<L: Lookaside> Core<L> {
                 }
             }
         }
+        let _here = self.pc;
         let raised = None;
         Ahead { steps, raised }
     }
