@@ -1,5 +1,5 @@
 -- Tests that don't hold, in front of the tests that follow.
-use Rattle.std.proofs.Common.{arith, ◌≡◌, ℕ, ◌&&◌, nat_le, nat_lt, ◌≤◌, ◌||◌, length, is_some, unwrap_or, subst, ◌==◌, Bool, true, false, not, List, Option, Some, None, Result, Ok, Err, IfErr, OnOk, IfOk, refl, sym, ap, ◌∙◌}
+use Rattle.std.proofs.Common.{arith, ◌≡◌, ℕ, ◌&&◌, nat_le, nat_lt, ◌≤◌, ◌||◌, length, is_some, unwrap_or, subst, ◌==◌, Bool, true, false, not, List, Option, Some, Result, Ok, Err, IfErr, OnOk, refl, sym, ap, ◌∙◌}
 use Rattle.std.proofs.lemmas.Bool.{false≢true}
 use Rattle.std.proofs.lemmas.Bool.Decides.{nat_tests}
 use Rattle.ds_policy.specs.declared.grant.Grant.{Grant}

@@ -1,7 +1,7 @@
 -- The first page that is free, and the page state with a copy in its frame.
-use Rattle.std.proofs.Common.{zero, suc, ◌≡◌, ◌≢◌, ◌⊎◌, ℕ, ◌+◌, ◌-◌, ◌*◌, ◌<◌, ◌≤◌, ◌==◌, ◌||◌, Bool, true, false, cond, nat_lt, nat_le, List, [], ◌∷◌, length, map, get_or, is_some, unwrap_or, Option, Some, None, refl, sym, ap, subst, ◌∙◌, inl, inr, arith, slice_set, length-set, IfSome, IsNone, is_none, not, drop, take, ◌++◌}
+use Rattle.std.proofs.Common.{zero, suc, ◌≡◌, ◌≢◌, ◌⊎◌, ℕ, ◌+◌, ◌*◌, ◌<◌, ◌≤◌, ◌==◌, Bool, true, false, cond, nat_lt, nat_le, List, [], ◌∷◌, length, map, get_or, is_some, Option, Some, None, refl, sym, ap, subst, ◌∙◌, inl, inr, arith, slice_set, length-set, IfSome, IsNone, is_none, not, drop, take, ◌++◌}
 use Rattle.std.specs.List.{range_with_len}
-use Rattle.std.proofs.lemmas.Bool.{cases_Bool, cases_eq, false≢true}
+use Rattle.std.proofs.lemmas.Bool.{cases_Bool, cases_eq, cases_lt, false≢true}
 use Rattle.std.proofs.lemmas.Bool.Decides.{nat_tests}
 use Rattle.std.proofs.lemmas.List.{same_lists, get_or-set_same, get_or-set_other, length-take, length-take-le, length-drop}
 use Rattle.std.proofs.lemmas.List.FromFn.{length-map-range_with_len, get_or-map-range_with_len}
@@ -9,9 +9,9 @@ use Rattle.ds_mem.specs.Memory.{frame_of, with_frame}
 use Rattle.ds_mem.proofs.Frames.{frame_of-with_frame, frame_of-with_frame_apart}
 use Rattle.ds_policy.specs.declared.grant.Grant.{Grant}
 use Rattle.ds_policy.specs.declared.grant.Right.TheVariants.{Write}
-use Rattle.ds_policy.specs.Pages.{Table, Pages, names, entry_at, with_entry, is_named_by, bytes_of, count_live, fresh}
-use Rattle.ds_policy.specs.Grants.{PageState, granted, copied}
-use Rattle.ds_grants.specs.State.{GrantsState, is_live, frame_of_page, page_in, pages_in, page_state, with_grant}
+use Rattle.ds_policy.specs.Pages.{Pages, entry_at, is_named_by, bytes_of, count_live, fresh}
+use Rattle.ds_policy.specs.Grants.{granted, copied}
+use Rattle.ds_grants.specs.State.{GrantsState, is_live, page_in, pages_in, page_state, with_grant}
 use Rattle.ds_grants.specs.Counts.{one_if_named, page_of, holders_of}
 use Rattle.ds_grants.specs.Free.{IsFirstFree}
 use Rattle.ds_grants.proofs.HolderCounts.{holders_with, named_by_holders, itself}
@@ -174,9 +174,12 @@ large_before memory bytes f n size =
     let most = length-take (length memory) (take (f * 4096) memory ++ (bytes ++ drop (f * 4096 + length bytes) memory)) in
     omega arith
 
--- a copy leaves the frames below those of pages alone
-pub frames_below : (memory new : List ℕ) (k n f : ℕ) → 8388608 ≤ length memory → k < 1024 → n < 1024 → f < 402
+-- a copy leaves the other frames alone
+pub frames_apart : (memory new : List ℕ) (k n f : ℕ) → 8388608 ≤ length memory → k < 1024 → n < 1024 → f ≢ n + 402
     → new ≡ with_frame memory (n + 402) (frame_of memory (k + 402)) → frame_of new f ≡ frame_of memory f
-frames_below memory new k n f large source target low is =
+frames_apart memory new k n f large source target apart is =
     let frame : length (frame_of memory (k + 402)) ≡ 4096 = length-take-le 4096 (drop ((k + 402) * 4096) memory) (let rest = length-drop ((k + 402) * 4096) memory in omega arith) in
-    ap (λ (m : List ℕ). frame_of m f) is ∙ frame_of-with_frame_apart memory (frame_of memory (k + 402)) (n + 402) f frame (omega arith) (inl (omega arith))
+    ap (λ (m : List ℕ). frame_of m f) is ∙ frame_of-with_frame_apart memory (frame_of memory (k + 402)) (n + 402) f frame (omega arith) (elim (cases_lt f (n + 402)) [
+      | inl below ↦ inl (omega arith)
+      | inr above ↦ inr (omega arith)
+    ])

@@ -17,10 +17,10 @@ use Rattle.ds_grants.specs.First.{first_grants}
 use Rattle.ds_grants.specs.State.{page_in, pages_in}
 use Rattle.ds_grants.proofs.FirstGrants.{unnamed_is_free}
 
--- the first pages have these bytes in their frames, and no frame below theirs has changed
+-- the first pages have these bytes in their frames, and no frame but theirs has changed
 pub record HaveFilled (contents : List (List ℕ)) (at : ℕ) (old new : List ℕ) : Type 0 where
   pub each : (q : ℕ) → q < at → frame_of new (q + 402) ≡ get_or contents q []
-  pub elsewhere : (f : ℕ) → f < 402 → frame_of new f ≡ frame_of old f
+  pub elsewhere : (f : ℕ) → (f < 402) ⊎ (at + 402 ≤ f) → frame_of new f ≡ frame_of old f
 
 -- one page more
 pub filled_more : (contents : List (List ℕ)) (at f : ℕ) (old between bytes : List ℕ) → f ≡ at + 402 → length bytes ≡ 4096 → length (frame_of between f) ≡ 4096 → bytes ≡ get_or contents at [] → HaveFilled contents at old between → HaveFilled contents (at + 1) old (with_frame between f bytes)
@@ -36,9 +36,14 @@ filled_more contents at f old between bytes frame long size is before =
             let place : q + 402 ≡ f = omega arith in
             ap (λ g. frame_of (with_frame between f bytes) g) place ∙ frame_of-with_frame between bytes f long inside ∙ is ∙ ap (λ k. get_or contents k []) (sym same)
       ];
-      elsewhere = λ g below.
-          let apart : (g * 4096 + 4096 ≤ f * 4096) ⊎ (f * 4096 + 4096 ≤ g * 4096) = inl (omega arith) in
-          frame_of-with_frame_apart between bytes f g long inside apart ∙ before.elsewhere g below;
+      elsewhere = λ g other. elim other [
+        | inl below ↦
+            let apart : (g * 4096 + 4096 ≤ f * 4096) ⊎ (f * 4096 + 4096 ≤ g * 4096) = inl (omega arith) in
+            frame_of-with_frame_apart between bytes f g long inside apart ∙ before.elsewhere g (inl below)
+        | inr behind ↦
+            let apart : (g * 4096 + 4096 ≤ f * 4096) ⊎ (f * 4096 + 4096 ≤ g * 4096) = inr (omega arith) in
+            frame_of-with_frame_apart between bytes f g long inside apart ∙ before.elsewhere g (inr (omega arith))
+      ];
     }
 
 -- the bytes of a page among those of all

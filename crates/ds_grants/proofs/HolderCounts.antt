@@ -1,5 +1,5 @@
 -- How many entries name a page, when an entry is put or removed; the promise is that of `AreCounted`.
-use Rattle.std.proofs.Common.{zero, suc, ◌≡◌, ℕ, ◌+◌, ◌-◌, ◌*◌, ◌<◌, ◌≤◌, ◌==◌, ◌&&◌, ◌||◌, not, Bool, true, false, cond, nat_lt, List, [], ◌∷◌, length, get_or, set, filter, Option, Some, None, refl, sym, ap, ap₂, ◌∙◌, inl, inr, arith, slice_index, slice_set, drop, IfSome, ◌^◌}
+use Rattle.std.proofs.Common.{zero, suc, ◌≡◌, ℕ, ◌+◌, ◌-◌, ◌*◌, ◌<◌, ◌≤◌, ◌==◌, ◌||◌, not, Bool, true, nat_lt, List, [], ◌∷◌, length, get_or, filter, Option, Some, None, refl, sym, ap, ap₂, ◌∙◌, inl, inr, arith, slice_index, slice_set, drop, IfSome, ◌^◌}
 use Rattle.std.proofs.lemmas.List.Elements.{All-head, All-tail}
 use Rattle.std.proofs.lemmas.List.{at_drop_more, drop_all}
 use Rattle.std.specs.List.{list_any, All}
@@ -150,6 +150,36 @@ release_end old new a es i h so q =
     let none : holders_at q a (drop i es) ≡ 0 = ap (holders_at q a) (drop_all i es h) in
     omega arith
 
+-- while all entries are released, those that are left are still counted
+abbrev pub AreAllReleased : List ℕ → List ℕ → List Entry → ℕ → Type 0
+AreAllReleased old new es i = (q : ℕ) → slice_index new q + holders_in q es ≡ slice_index old q + holders_in q (drop i es)
+
+-- of the entries that are left the first counts
+in_step : (q : ℕ) (es : List Entry) (i : ℕ) (d : Entry) → i < length es → holders_in q (drop i es) ≡ one_if_named q (get_or es i d).grant.page + holders_in q (drop (i + 1) es)
+in_step q es i d h = at_drop_more (holders_in q) es i d h
+
+pub release_all_asks : (old new : List ℕ) (es : List Entry) (i : ℕ) (d : Entry) → i < length es → ((q : ℕ) → holders_in q es ≤ slice_index old q) → AreAllReleased old new es i → IfSome (get_or es i d).grant.page (λ q. 0 < slice_index new q)
+release_all_asks old new es i d h enough so =
+    some_held (get_or es i d).grant.page new (λ q.
+    let all = enough q in
+    let left = so q in
+    let next = in_step q es i d h in
+    omega arith)
+
+pub release_all_step : (old new newer : List ℕ) (es : List Entry) (i : ℕ) (d : Entry) → i < length es → AreAllReleased old new es i → AreOneFewer (get_or es i d).grant.page new newer → AreAllReleased old newer es (i + 1)
+release_all_step old new newer es i d h so fewer q =
+    let left = so q in
+    let next = in_step q es i d h in
+    let one = fewer.each q in
+    omega arith
+
+-- all entries are released
+pub release_all_end : (old new : List ℕ) (es : List Entry) (i : ℕ) → length es ≤ i → AreAllReleased old new es i → (q : ℕ) → slice_index new q + holders_in q es ≡ slice_index old q
+release_all_end old new es i h so q =
+    let left = so q in
+    let none : holders_in q (drop i es) ≡ 0 = ap (holders_in q) (drop_all i es h) in
+    omega arith
+
 -- what a put leaves of the counts
 pub put_counts : (t : Table) (p a : ℕ) (g : Grant) (old middle new : List ℕ) → 0 < p → p ≤ length t → AreCounted t old → AreOneFewer (page_of (entry_at t p a)) old middle → AreOneMore g.page middle new → AreCounted (with_entry t p a g) new
 put_counts t p a g old middle new low high counted fewer more q =
@@ -184,6 +214,18 @@ remove_counts t p a old new low high counted fewer q =
     let one = fewer q in
     let all = holders_without t p a q (omega (arith, low, high)) in
     omega arith
+
+-- what an end of a process leaves of the counts
+pub end_counts : (t : Table) (p : ℕ) (old new : List ℕ) → 0 < p → p ≤ length t → AreCounted t old → ((q : ℕ) → slice_index new q + holders_in q (entries_of t p) ≡ slice_index old q) → AreCounted (slice_set t (p - 1) []) new
+end_counts t p old new low high counted fewer q =
+    let here = counted q in
+    let one = fewer q in
+    let all = holders_set t (p - 1) q [] (omega (arith, low, high)) in
+    omega arith
+
+-- without a process's entries no page has more holders
+pub holders_fewer : (t : Table) (p q : ℕ) → 0 < p → p ≤ length t → holders_of (slice_set t (p - 1) []) q ≤ holders_of t q
+holders_fewer t p q low high = let all = holders_set t (p - 1) q [] (omega (arith, low, high)) in omega arith
 
 -- the entries of a process are counted
 pub row_counted : (t : Table) (p : ℕ) (old : List ℕ) → 0 < p → p ≤ length t → AreCounted t old → (q : ℕ) → holders_in q (entries_of t p) ≤ slice_index old q

@@ -1,19 +1,17 @@
 -- Which pages live, and the pages that lie in memory, when the table changes.
-use Rattle.std.proofs.Common.{zero, suc, ◌≡◌, ◌≢◌, ◌⊎◌, ℕ, ◌+◌, ◌-◌, ◌*◌, ◌<◌, ◌≤◌, ◌==◌, ◌||◌, not, Bool, true, false, cond, nat_lt, nat_le, List, [], ◌∷◌, length, map, get_or, is_some, unwrap_or, Option, Some, None, refl, sym, ap, ap₂, subst, ◌∙◌, inl, inr, arith, slice_set, filter}
+use Rattle.std.proofs.Common.{zero, suc, ◌≡◌, ℕ, ◌+◌, ◌-◌, ◌<◌, ◌≤◌, ◌||◌, Bool, true, false, cond, nat_lt, List, ◌∷◌, length, map, Option, Some, None, refl, sym, ap, ap₂, subst, ◌∙◌, inl, inr, arith}
 use Rattle.std.specs.List.{range_with_len}
 use Rattle.std.proofs.lemmas.Bool.{cases_Bool, false≢true}
 use Rattle.std.proofs.lemmas.Bool.Decides.{nat_tests}
-use Rattle.std.proofs.lemmas.List.{same_lists, get_or-set_same, get_or-set_other, length-set}
+use Rattle.std.proofs.lemmas.List.{same_lists}
 use Rattle.std.proofs.lemmas.List.FromFn.{length-map-range_with_len, get_or-map-range_with_len}
-use Rattle.ds_mem.specs.Memory.{frame_of, with_frame}
-use Rattle.ds_policy.specs.declared.grant.Entry.{Entry}
+use Rattle.ds_mem.specs.Memory.{frame_of}
 use Rattle.ds_policy.specs.declared.grant.Grant.{Grant}
 use Rattle.ds_policy.specs.declared.grant.Right.TheVariants.{Read}
-use Rattle.ds_policy.specs.Pages.{Table, Pages, names, entry_at, entries_of, with_entry, without_entry, is_named_by, kept, bytes_of, count_live, fresh}
-use Rattle.ds_policy.specs.Grants.{PageState, granted, copied, removed, live_only, end_process, is_some_right}
-use Rattle.ds_grants.specs.State.{GrantsState, is_live, frame_of_page, page_in, pages_in, page_state, with_grant, without_grant}
-use Rattle.ds_grants.specs.Counts.{one_if_named, page_of, holders_of, holders_at}
-use Rattle.ds_grants.specs.Free.{IsFirstFree}
+use Rattle.ds_policy.specs.Pages.{Table, Pages, names, entry_at, entries_of, with_entry, without_entry, is_named_by, kept}
+use Rattle.ds_policy.specs.Grants.{granted, removed, live_only}
+use Rattle.ds_grants.specs.State.{GrantsState, is_live, page_in, pages_in, page_state, with_grant, without_grant}
+use Rattle.ds_grants.specs.Counts.{one_if_named, page_of, holders_of}
 use Rattle.ds_grants.proofs.HolderCounts.{holders_with, holders_without, named_by_holders, found_holds, row_holders}
 
 -- pages are the same where the same pages live

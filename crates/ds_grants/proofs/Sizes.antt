@@ -1,18 +1,17 @@
 -- What is true of the grants stays true when an entry is put or removed.
-use Rattle.std.proofs.Common.{zero, suc, ◌≡◌, ℕ, ◌+◌, ◌-◌, ◌<◌, ◌≤◌, ◌==◌, not, Bool, true, false, List, [], ◌∷◌, length, length-set, get_or, set, filter, is_some, IsNone, IsErr, OnOk, Result, Ok, Err, slice_index, ◌↔◌, Option, Some, None, refl, sym, ap, subst, ◌∙◌, inl, inr, arith, slice_set}
+use Rattle.std.proofs.Common.{◌≡◌, ℕ, ◌+◌, ◌-◌, ◌<◌, ◌≤◌, ◌==◌, not, Bool, true, false, List, [], ◌∷◌, length, length-set, filter, is_some, IsNone, IsErr, OnOk, Result, Ok, Err, slice_index, ◌↔◌, Option, Some, None, refl, sym, ap, subst, ◌∙◌, inl, inr, arith, slice_set}
 use Rattle.std.specs.List.{All}
 use Rattle.std.proofs.lemmas.Bool.{cases_Bool, false≢true}
-use Rattle.std.proofs.lemmas.List.Elements.{All-head, All-tail, All-cons, All-set, All-filter, All-get_or}
+use Rattle.std.proofs.lemmas.List.Elements.{All-nil, All-head, All-tail, All-cons, All-set, All-filter, All-get_or}
 use Rattle.std.proofs.lemmas.List.Sums.{length-filter, count_by-le-length}
 use Rattle.ds_policy.specs.declared.grant.Entry.{Entry}
 use Rattle.ds_policy.specs.declared.grant.Grant.{Grant}
 use Rattle.ds_policy.specs.Pages.{Table, names, found, put, entries_of, entry_at, with_entry, without_entry}
 use Rattle.ds_policy.specs.Grants.{is_some_right, has_right}
-use Rattle.ds_policy.proofs.Filling.{length_put}
 use Rattle.ds_grants.specs.State.{GrantsState, with_grant, without_grant}
 use Rattle.ds_grants.specs.Sound.{AreCounted, IsWhole, IsGoodRow, IsSound}
-use Rattle.ds_grants.specs.Counts.{one_if_named, page_of, holders_at, AreOneMore, AreOneFewer}
-use Rattle.ds_grants.proofs.HolderCounts.{put_counts, remove_counts, itself, found_holds, row_holders, counted_within}
+use Rattle.ds_grants.specs.Counts.{one_if_named, page_of, holders_in, holders_at, AreOneMore, AreOneFewer}
+use Rattle.ds_grants.proofs.HolderCounts.{put_counts, remove_counts, end_counts, itself, found_holds, row_holders, counted_within}
 use Rattle.ds_grants.proofs.Living.{one_named, found_lives}
 use Rattle.ds_grants.specs.Free.{HasPage}
 
@@ -77,6 +76,29 @@ removed_sound t holders new named ended p a low high known fewer size = (
   remove_counts t p a holders new low high known.0 fewer,
   subst (λ n. IsSound (record { table = without_entry t p a; frames = n; named = named; ended = ended })) (sym size)
       (sound_without (record { table = t; frames = length holders; named = named; ended = ended }) p a low high known.1),
+)
+
+sound_end : (g : GrantsState) (p : ℕ) → IsSound g → IsSound (record g { table = slice_set g.table (p - 1) []; ended = slice_set g.ended (p - 1) true })
+sound_end g p sound =
+    let size = length-set g.table (p - 1) [] in
+    let marked = length-set g.ended (p - 1) true in
+    record {
+      rows = All-set IsGoodRow g.table (p - 1) [] (record { few = omega arith; whole = All-nil IsWhole }) sound.rows;
+      processes = let few = sound.processes in omega arith;
+      ended = marked ∙ sound.ended ∙ sym size;
+      named = sound.named;
+      frames = sound.frames;
+    }
+
+-- counts and bounds, when a process ended
+pub ended_sound : (t : Table) (holders new : List ℕ) (named : ℕ) (ended : List Bool) (p : ℕ) → 0 < p → p ≤ length t
+    → AreCounted t holders × IsSound (record { table = t; frames = length holders; named = named; ended = ended })
+    → ((q : ℕ) → slice_index new q + holders_in q (entries_of t p) ≡ slice_index holders q) → length new ≡ length holders
+    → AreCounted (slice_set t (p - 1) []) new × IsSound (record { table = slice_set t (p - 1) []; frames = length new; named = named; ended = slice_set ended (p - 1) true })
+ended_sound t holders new named ended p low high known fewer size = (
+  end_counts t p holders new low high known.0 fewer,
+  subst (λ n. IsSound (record { table = slice_set t (p - 1) []; frames = n; named = named; ended = slice_set ended (p - 1) true })) (sym size)
+      (sound_end (record { table = t; frames = length holders; named = named; ended = ended }) p known.1),
 )
 
 -- counts and bounds, when an entry was put

@@ -1,10 +1,11 @@
 -- What a translation lookaside buffer may hold of what is granted.
-use Rattle.std.specs.Prelude.{◌≡◌, ◌⊎◌, ℕ, ◌+◌, ◌*◌, ◌^◌, ◌<◌, ◌≤◌, true, false, List, slice_get, slice_set, Option, Some, None, unwrap_or}
+use Rattle.std.specs.Prelude.{◌≡◌, ◌⊎◌, ℕ, ◌+◌, ◌*◌, ◌/◌, ◌^◌, ◌<◌, ◌≤◌, true, false, List, [], ◌∷◌, slice_get, slice_set, Option, Some, None, unwrap_or}
 use Rattle.ds_word.specs.Word.{bit}
 use Rattle.ds_tlb.specs.declared.entry.Entry.{Entry}
 use Rattle.ds_tlb.specs.Entries.{find, empty_entry}
 use Rattle.ds_tlb.specs.Singles.{IsSingle}
 use Rattle.ds_tlb.specs.Words.{hi_word, entry_of}
+use Rattle.ds_policy.specs.declared.grant.Entry as granted
 use Rattle.ds_policy.specs.declared.grant.Grant.{Grant}
 use Rattle.ds_policy.specs.declared.grant.Right.{Right}
 use Rattle.ds_policy.specs.Pages.{entry_at}
@@ -54,6 +55,11 @@ cleared entries (Some slot) = slice_set entries slot (empty_entry slot)
 -- without what the one address space has for a page
 abbrev pub forgotten : List Entry → ℕ → List Entry
 forgotten entries vpn = cleared entries (find entries vpn 1)
+
+-- without what it has for the pages of these entries
+abbrev pub all_forgotten : List Entry → List granted.Entry → List Entry
+all_forgotten entries [] = entries
+all_forgotten entries (e ∷ rest) = all_forgotten (forgotten entries (e.address / 2 ^ 12)) rest
 
 -- EntryHi of a page in the one address space
 abbrev pub space_word : ℕ → ℕ

@@ -1,6 +1,5 @@
 pub mod State
 pub mod Free
-pub mod Leaving
 pub mod Sound
 pub mod Counts
 pub mod Buffer

@@ -1,8 +1,9 @@
 -- What is true of the grants whenever a call begins or ends.
-use Rattle.std.specs.Prelude.{◌≡◌, ℕ, ◌≤◌, List, length, is_some, slice_index}
+use Rattle.std.specs.Prelude.{◌≡◌, ℕ, ◌<◌, ◌≤◌, List, length, is_some, slice_index, Some}
 use Rattle.std.specs.List.{All}
 use Rattle.ds_policy.specs.declared.grant.Entry.{Entry}
-use Rattle.ds_policy.specs.Pages.{Table}
+use Rattle.ds_policy.specs.declared.grant.Grant.{Grant}
+use Rattle.ds_policy.specs.Pages.{Table, entry_at}
 use Rattle.ds_policy.specs.Grants.{is_some_right}
 use Rattle.ds_grants.specs.Counts.{holders_of}
 use Rattle.ds_grants.specs.State.{GrantsState}
@@ -27,3 +28,9 @@ pub record IsSound (g : GrantsState) : Type 0 where
   pub ended : length g.ended ≡ length g.table
   pub named : g.named ≤ g.frames
   pub frames : g.frames ≤ 1024
+
+-- each page that an entry names has a number below that of the pages that may live, all of which lie in memory
+pub record NamesPages (g : GrantsState) : Type 0 where
+  pub frames : g.frames ≤ 1024
+  pub named : (process address page : ℕ) (grant : Grant) → entry_at g.table process address ≡ Some grant
+      → grant.page ≡ Some page → page < g.frames

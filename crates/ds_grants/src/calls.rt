@@ -1,10 +1,10 @@
 //! What a process may do with what it was granted: give it, take back what it gave, and drop it.
-ghost use Rattle.std.specs.Prelude.{◌≡◌, ℕ, ◌<◌, ◌≤◌, ◌^◌, List, true, false, length, if◌then◌else◌, Some, IsNone, OnErr, OnOk, ◌/◌};
+ghost use Rattle.std.specs.Prelude.{◌≡◌, ◌≢◌, ℕ, ◌<◌, ◌≤◌, ◌^◌, List, true, false, length, if◌then◌else◌, Some, IsNone, OnErr, OnOk, ◌/◌};
 ghost use Rattle.ds_mem.specs.Memory.{frame_of};
 ghost use Rattle.ds_policy.specs.declared.grant.Right.TheVariants.{Write};
 ghost use Rattle.ds_policy.specs.Pages.{entries_of, entry_at, fresh};
 ghost use Rattle.ds_policy.specs.Grants.{is_some_right, granted, copied, give, take, drop_own, drop_by_command};
-ghost use Rattle.ds_grants.specs.State.{Does, IsAsLarge, lives_in, page_state, pages_in};
+ghost use Rattle.ds_grants.specs.State.{Does, IsAsLarge, lives_in, frame_of_page, page_state, pages_in};
 ghost use Rattle.ds_grants.specs.Free.{HasPage, IsFirstFree};
 ghost use Rattle.ds_grants.specs.Buffer.{KeepsBuffer, forgotten};
 
@@ -37,9 +37,12 @@ impl Grants {
         ensures ended { self.new.ended ≡ self.old.ended }
         ensures refused { OnErr result ((self.new ≡ self.old) × (memory.new ≡ memory.old)
             × (L.entries tlb.new ≡ L.entries tlb.old)) }
+        ensures shared { mode ≢ 3 → memory.new ≡ memory.old }
         ensures entries { OnOk result
             (L.entries tlb.new ≡ forgotten (L.entries tlb.old) (to / 2 ^ 12)) }
-        ensures elsewhere { (f : ℕ) → f < 402 → frame_of memory.new f ≡ frame_of memory.old f }
+        ensures elsewhere { (f : ℕ)
+            → f ≢ frame_of_page self.old (fresh (pages_in self.old memory.old))
+            → frame_of memory.new f ≡ frame_of memory.old f }
         ensures buffer { KeepsBuffer (L.entries tlb.old) (L.entries tlb.new) self.old self.new }
         ensures random { L.random_place tlb.new ≡ L.random_place tlb.old }
     {
@@ -112,7 +115,9 @@ impl Grants {
         ensures same { IsAsLarge self.old self.new }
         ensures ended { self.new.ended ≡ self.old.ended }
         ensures entries { L.entries tlb.new ≡ forgotten (L.entries tlb.old) (to / 2 ^ 12) }
-        ensures elsewhere { (f : ℕ) → f < 402 → frame_of memory.new f ≡ frame_of memory.old f }
+        ensures elsewhere { (f : ℕ)
+            → f ≢ frame_of_page self.old (fresh (pages_in self.old memory.old))
+            → frame_of memory.new f ≡ frame_of memory.old f }
         ensures buffer { KeepsBuffer (L.entries tlb.old) (L.entries tlb.new) self.old self.new }
         ensures random { L.random_place tlb.new ≡ L.random_place tlb.old }
     {

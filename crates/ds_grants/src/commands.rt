@@ -1,13 +1,13 @@
 //! What an operator may do with what is granted, and what an end of a process leaves of it.
-ghost use Rattle.std.specs.Prelude.{◌≡◌, ℕ, ◌<◌, ◌≤◌, ◌-◌, List, [], true, length, slice_set, is_some, IfSome, IsNone, OnErr, OnOk, ◌/◌, ◌^◌};
-ghost use Rattle.ds_policy.specs.Pages.{entries_of, entry_at};
+ghost use Rattle.std.specs.Prelude.{◌≡◌, ◌<◌, ◌≤◌, ◌-◌, true, length, slice_set, OnErr, OnOk, ◌/◌, ◌^◌};
+ghost use Rattle.ds_policy.specs.Pages.{entries_of};
 ghost use Rattle.ds_policy.specs.Grants.{is_some_right, grant, narrow, revoke, end_process};
 ghost use Rattle.ds_grants.specs.State.{Does, IsAsLarge, lives_in, page_state};
-ghost use Rattle.ds_grants.specs.Leaving.{IsEnding};
-ghost use Rattle.ds_grants.specs.Buffer.{KeepsBuffer, forgotten};
+ghost use Rattle.ds_grants.specs.Buffer.{KeepsBuffer, forgotten, all_forgotten};
 
 use crate::fault::GrantFault;
 use crate::grants::Grants;
+use crate::translation::forget_all;
 use ds_mem::Memory;
 use ds_policy::{Grant, Right};
 use ds_tlb::Lookaside;
@@ -125,35 +125,15 @@ impl Grants {
         ensures memory { memory.new ≡ memory.old }
         ensures same { IsAsLarge self.old self.new }
         ensures ended { self.new.ended ≡ slice_set self.old.ended (process - 1) true }
+        ensures entries { L.entries tlb.new
+            ≡ all_forgotten (L.entries tlb.old) (entries_of self.old.table process) }
         ensures buffer { KeepsBuffer (L.entries tlb.old) (L.entries tlb.new) self.old self.new }
         ensures random { L.random_place tlb.new ≡ L.random_place tlb.old }
     {
-        self.remove_all(process, tlb);
+        let entries = self.table.entries(process);
+        self.holders.release_all(entries);
+        forget_all(tlb, entries);
+        self.table.clear(process);
         self.ended[process as usize - 1] = true;
-    }
-
-    /// Removes all entries of a process.
-    fn remove_all<L: Lookaside>(&mut self, process: u32, tlb: &mut L)
-        requires low { 0 < process }
-        requires high { process ≤ length self.old.table }
-        ensures gone { entries_of self.new.table process ≡ [] }
-        ensures ending { IsEnding self.old self.new process }
-        ensures buffer { KeepsBuffer (L.entries tlb.old) (L.entries tlb.new) self.old self.new }
-        ensures random { L.random_place tlb.new ≡ L.random_place tlb.old }
-    {
-        while let Some(addr) = self.first_address(process) {
-            self.remove(process, addr, tlb);
-        }
-    }
-
-    /// The address of a process's first entry, if it has one.
-    fn first_address(&self, process: u32) -> Option<u32>
-        requires low { 0 < process }
-        requires high { process ≤ length self.now.table }
-        ensures some { IfSome result (λ a. is_some (entry_at self.now.table process a) ≡ true) }
-        ensures none { IsNone result → entries_of self.now.table process ≡ [] }
-    {
-        let first = self.table.entries(process).first()?;
-        Some(first.address)
     }
 }

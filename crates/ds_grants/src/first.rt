@@ -1,5 +1,5 @@
 //! What is granted at the beginning of a run.
-ghost use Rattle.std.specs.Prelude.{◌≡◌, ℕ, ◌+◌, ◌<◌, ◌≤◌, false, length, replicate, position, bytes_eq, slice_index_or, map, [], IfSome, IfOk, OnErr};
+ghost use Rattle.std.specs.Prelude.{◌≡◌, ℕ, ◌+◌, ◌<◌, ◌≤◌, ◌⊎◌, false, length, replicate, position, bytes_eq, slice_index_or, map, [], IfSome, IfOk, OnErr};
 ghost use Rattle.ds_mem.specs.Memory.{frame_of};
 ghost use Rattle.ds_asm.specs.Images.{part_of};
 ghost use Rattle.ds_policy.specs.PolicyParts.{sources_of};
@@ -58,7 +58,8 @@ fn fill_pages(names: &[Text<64>], images: &[Image], pages: &[PolicyPage], memory
     ensures each { (q : ℕ) → q < length pages.now → frame_of memory.new (q + 402)
         ≡ slice_index_or (map
         (λ page. source_bytes names.now images.now page.source) pages.now) q [] }
-    ensures elsewhere { (f : ℕ) → f < 402 → frame_of memory.new f ≡ frame_of memory.old f }
+    ensures elsewhere { (f : ℕ) → (f < 402) ⊎ (length pages.now + 402 ≤ f)
+        → frame_of memory.new f ≡ frame_of memory.old f }
 {
     for (i, page) in pages.iter().enumerate() {
         fill_page(
@@ -153,7 +154,8 @@ impl Grants {
         ensures state { IfOk result (λ g. g ≡ first_grants policy.now) }
         ensures pages { IfOk result (λ g. pages_in g memory.new
             ≡ first_pages policy.now images.now) }
-        ensures elsewhere { (f : ℕ) → f < 402 → frame_of memory.new f ≡ frame_of memory.old f }
+        ensures elsewhere { (f : ℕ) → (f < 402) ⊎ (length policy.now.pages + 402 ≤ f)
+            → frame_of memory.new f ≡ frame_of memory.old f }
         ensures refused { OnErr result (memory.new ≡ memory.old) }
     {
         let grants = Grants::first(alloc, policy)?;

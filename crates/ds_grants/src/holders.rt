@@ -60,6 +60,18 @@ pub(crate) fn release_at(holders: &mut [u32], entries: &[Entry], addr: u32)
     }
 }
 
+/// Counts the entries of a process no more.
+pub(crate) fn release_all(holders: &mut [u32], entries: &[Entry])
+    requires { (page : ℕ) → holders_in page entries.now ≤ slice_index holders.old page }
+    ensures fewer { (page : ℕ) → slice_index holders.new page + holders_in page entries.now
+        ≡ slice_index holders.old page }
+    ensures size { length holders.new ≡ length holders.old }
+{
+    for entry in entries {
+        release(holders, entry.grant.page);
+    }
+}
+
 /// Counts all entries of a process.
 pub(crate) fn hold_all(holders: &mut [u32], entries: &[Entry])
     requires within { (page : ℕ) → length holders.old ≤ page → holders_in page entries.now ≡ 0 }

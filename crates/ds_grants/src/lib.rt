@@ -19,5 +19,5 @@ mod translation;
 pub use buffer_laws::{a_filled_buffer_holds, a_translation_has_fields, an_empty_buffer_holds};
 pub use fault::GrantFault;
 pub use first::fill_page;
-pub use grants::Grants;
+pub use grants::{Grants, frame_of_page};
 pub use order::refusals_have_one_order;

@@ -2,7 +2,7 @@
 ghost use Rattle.std.specs.Prelude.{◌≡◌, ℕ, ◌+◌, ◌<◌, ◌≤◌, ◌^◌, length, slice_index, IfSome};
 ghost use Rattle.ds_grants.specs.Counts.{holders_in, holders_at, AreOneMore, AreOneFewer};
 
-use crate::holders::{hold, release, release_at};
+use crate::holders::{hold, release, release_all, release_at};
 use ds_policy::Entry;
 use std::marker::Model;
 
@@ -69,5 +69,15 @@ impl Tally {
         ensures size { length self.new ≡ length self.old }
     {
         release_at(&mut self.counts, entries, addr);
+    }
+
+    /// Counts the entries of a process no more.
+    pub(crate) fn release_all(&mut self, entries: &[Entry])
+        requires { (page : ℕ) → holders_in page entries.now ≤ slice_index self.old page }
+        ensures fewer { (page : ℕ) → slice_index self.new page + holders_in page entries.now
+            ≡ slice_index self.old page }
+        ensures size { length self.new ≡ length self.old }
+    {
+        release_all(&mut self.counts, entries);
     }
 }

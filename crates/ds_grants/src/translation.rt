@@ -1,7 +1,8 @@
-//! What the translation lookaside buffer holds of an entry.
+//! What the translation lookaside buffer holds of entries.
 ghost use Rattle.std.specs.Prelude.{◌≡◌, ◌/◌, ◌^◌, ◌<◌};
-ghost use Rattle.ds_grants.specs.Buffer.{forgotten};
+ghost use Rattle.ds_grants.specs.Buffer.{forgotten, all_forgotten};
 
+use ds_policy::Entry as Granted;
 use ds_tlb::{Entry, Lookaside};
 
 /// The address space of the process that has the processor's buffer.
@@ -14,5 +15,15 @@ pub(crate) fn forget<L: Lookaside>(tlb: &mut L, addr: u32)
 {
     if let Some(slot) = tlb.find(addr >> 12, SPACE) {
         tlb.write(slot, Entry::empty(slot));
+    }
+}
+
+/// Clears what the buffer holds for the pages of a process's entries.
+pub(crate) fn forget_all<L: Lookaside>(tlb: &mut L, entries: &[Granted])
+    ensures entries { L.entries tlb.new ≡ all_forgotten (L.entries tlb.old) entries.now }
+    ensures random { L.random_place tlb.new ≡ L.random_place tlb.old }
+{
+    for entry in entries {
+        forget(tlb, entry.address);
     }
 }

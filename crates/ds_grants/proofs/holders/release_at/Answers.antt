@@ -1,4 +1,4 @@
-use Rattle.std.proofs.Common.{refl, ap, subst, sym}
+use Rattle.std.proofs.Common.{refl, subst, sym}
 use Rattle.std.specs.Prelude.{IfSome, ◌<◌, slice_index, Option, ℕ}
 use Rattle.ds_grants.specs.Counts.{AreOneFewer}
 use Rattle.ds_grants.proofs.HolderCounts.{release_asks, release_step, release_end}

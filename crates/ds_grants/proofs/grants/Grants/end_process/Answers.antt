@@ -1,14 +1,35 @@
-use Rattle.std.proofs.Common.{◌≡◌, ◌∙◌, ap}
-use Rattle.ds_grants.specs.State.{GrantsState, page_state}
-use Rattle.ds_grants.proofs.Endings.{ended_state}
-use Rattle.ds_grants.proofs.Translations.{same_table}
+use Rattle.std.proofs.Common.{◌≤◌, ◌∙◌, ◌+◌, ◌-◌, true, length, slice_index, sym, subst, ap}
+use Rattle.ds_policy.proofs.Entries.{refill_set}
+use Rattle.ds_grants.specs.State.{GrantsState}
+use Rattle.ds_grants.specs.Counts.{holders_in}
+use Rattle.ds_grants.specs.Buffer.{BufferHolds}
+use Rattle.ds_grants.specs.contracts.grants.Grants.{the_view}
+use Rattle.ds_grants.proofs.HolderCounts.{row_counted}
+use Rattle.ds_grants.proofs.Sizes.{ended_sound}
+use Rattle.ds_grants.proofs.Endings.{ended_state, end_buffer}
 use Rattle.ds_grants.proofs.grants.Grants.end_process.Goals as goal
+
+pub release_all-requires : goal.release_all-requires
+release_all-requires g c =
+    let high : c.args.process ≤ length c.self.inside.table = subst (λ (s : GrantsState). c.args.process ≤ length s.table) (sym c.self.view_is) c.requires.high in
+    rw c.entries-entries.ensures.all (row_counted c.self.inside.table c.args.process c.self.inside.holders c.requires.low high c.self.invariant.0)
+
+pub invariant_of-self : goal.invariant_of-self
+invariant_of-self g c =
+    let high : c.args.process ≤ length c.self.inside.table = subst (λ (s : GrantsState). c.args.process ≤ length s.table) (sym c.self.view_is) c.requires.high in
+    rw (c.clear.ensures, c.deref_mut.ensures.value, refill_set c.self.inside.ended.items (c.args.process - 1) true)
+    (ended_sound c.self.inside.table c.self.inside.holders c.release_all.new.self c.self.inside.named c.self.inside.ended.items c.args.process c.requires.low high c.self.invariant
+    (λ q. ap (λ es. slice_index c.release_all.new.self q + holders_in q es) (sym c.entries-entries.ensures.all) ∙ c.release_all.ensures.fewer q) c.release_all.ensures.size)
 
 pub returns-clause-does : goal.returns-clause-does
 returns-clause-does g c =
-    ap (λ (s : GrantsState). page_state s c.args.memory.now) c.self.view_is
-    ∙ ended_state c.args.self.now c.remove_all.new.self c.args.process c.args.memory.now c.remove_all.ensures.ending c.remove_all.ensures.gone
+    let high : c.args.process ≤ length c.self.inside.table = subst (λ (s : GrantsState). c.args.process ≤ length s.table) (sym c.self.view_is) c.requires.high in
+    rw (c.clear.ensures, c.deref_mut.ensures.value, refill_set c.self.inside.ended.items (c.args.process - 1) true, c.release_all.ensures.size, ← c.self.view_is)
+    (ended_state (the_view c.self.inside) c.args.process c.args.memory.now c.requires.low high)
 
 pub returns-clause-buffer : goal.returns-clause-buffer
 returns-clause-buffer g c = λ numbers one holds.
-    same_table (g.L.Lookaside.entries c.remove_all.new.tlb) numbers c.remove_all.new.self _ (ap (λ (s : GrantsState). s.table) c.self.view_is) (c.remove_all.ensures.buffer numbers one holds)
+    let high : c.args.process ≤ length c.self.inside.table = subst (λ (s : GrantsState). c.args.process ≤ length s.table) (sym c.self.view_is) c.requires.high in
+    let before = subst (λ (s : GrantsState). BufferHolds (g.L.Lookaside.entries c.args.tlb.now) numbers s) (sym c.self.view_is) holds in
+    rw (c.forget_all.ensures.entries, c.entries-entries.ensures.all, c.clear.ensures, c.deref_mut.ensures.value, refill_set c.self.inside.ended.items (c.args.process - 1) true, c.release_all.ensures.size)
+    (end_buffer (g.L.Lookaside.entries c.args.tlb.now) numbers (the_view c.self.inside) c.args.process c.requires.low high one before)

@@ -1,9 +1,8 @@
-use Rattle.std.proofs.Common.{rules, ◌≡◌, ◌∙◌, ◌+◌, ◌≤◌, ◌<◌, ℕ, List, Option, Some, true, length, refl, sym, ap, subst, arith}
+use Rattle.std.proofs.Common.{◌≡◌, ◌∙◌, ◌+◌, ◌≤◌, ◌<◌, ℕ, Some, true, length, refl, sym, ap, subst, arith}
 use Rattle.ds_mem.specs.Memory.{frame_of, with_frame}
-use Rattle.ds_policy.specs.declared.grant.Grant.{Grant}
 use Rattle.ds_policy.specs.declared.grant.Right.TheVariants.{Write}
 use Rattle.ds_grants.specs.State.{GrantsState, page_state, with_grant, is_live}
-use Rattle.ds_grants.proofs.Copies.{copied_state, none_there, large_before, frames_below}
+use Rattle.ds_grants.proofs.Copies.{copied_state, none_there, large_before, fresh_is, frames_apart}
 use Rattle.ds_grants.proofs.grants.Grants.give_copy.Goals as goal
 
 pub returns-in-Some-Some-clause-state : goal.returns-in-Some-Some-clause-state
@@ -23,7 +22,7 @@ returns-in-Some-Some-clause-state g c =
     c.in-Some-Some.ensures.some c.in-Some-Some.ensures.frames large
 
 pub returns-in-Some-Some-clause-elsewhere : goal.returns-in-Some-Some-clause-elsewhere
-returns-in-Some-Some-clause-elsewhere g c = λ f low.
+returns-in-Some-Some-clause-elsewhere g c = λ f apart.
     let copied : c.copy_frame.new.self ≡ with_frame c.args.memory.now (c.in-Some-Some.free + 402) (frame_of c.args.memory.now (c.in-Some-Some.page + 402)) =
     c.copy_frame.ensures.value ∙ rw (c.frame_of_page-in-Some-Some.ensures, c.frame_of_page.ensures) refl in
     let large : 8388608 ≤ length c.args.memory.now = large_before c.args.memory.now (frame_of c.args.memory.now (c.in-Some-Some.page + 402)) (c.in-Some-Some.free + 402) 8388608 (ap length (sym copied) ∙ c.copy_frame.ensures.size) in
@@ -32,4 +31,5 @@ returns-in-Some-Some-clause-elsewhere g c = λ f low.
     let first = c.in-Some-Some.ensures.some in
     let few = c.in-Some-Some.ensures.frames in
     let within = names.within in
-    frames_below c.args.memory.now c.copy_frame.new.self c.in-Some-Some.page c.in-Some-Some.free f large (omega arith) (let free = first.within in omega arith) low copied
+    frames_apart c.args.memory.now c.copy_frame.new.self c.in-Some-Some.page c.in-Some-Some.free f large (omega arith) (let free = first.within in omega arith)
+    (λ is. apart (is ∙ ap (λ n. n + 402) (sym (fresh_is c.args.self.now c.args.memory.now c.in-Some-Some.free first)))) copied

@@ -1,7 +1,6 @@
-use Rattle.std.proofs.Common.{rules, ◌≡◌, ◌∙◌, ◌<◌, nat_lt, Ok, Some, ℕ, true, ◌||◌, refl, sym, ap, arith}
-use Rattle.ds_policy.specs.Pages.{is_named_by}
+use Rattle.std.proofs.Common.{rules, ◌∙◌, Ok, Some, refl, sym, ap}
 use Rattle.ds_policy.specs.Grants.{PageState}
-use Rattle.ds_grants.specs.State.{GrantsState, page_state, is_live}
+use Rattle.ds_grants.specs.State.{GrantsState, page_state}
 use Rattle.ds_grants.proofs.Chains.{refused_by}
 use Rattle.ds_grants.proofs.Living.{shared_state, one_lives, named_lives}
 use Rattle.ds_grants.proofs.grants.Grants.grant.Goals as goal

@@ -1,4 +1,4 @@
-use Rattle.std.proofs.Common.{◌≡◌, ◌∙◌, ℕ, nat_lt, subst}
+use Rattle.std.proofs.Common.{◌≡◌, ◌∙◌, nat_lt, subst}
 use Rattle.ds_grants.specs.State.{GrantsState, is_live}
 use Rattle.ds_grants.specs.Counts.{holders_of}
 use Rattle.ds_grants.specs.contracts.grants.Grants.{the_view}

@@ -1,6 +1,3 @@
-use Rattle.std.proofs.Common.{◌≡◌, ◌∙◌, ◌==◌, ◌&&◌, not, nat_le, length, sym, ap, is_none, true}
-use Rattle.ds_policy.specs.Pages.{count_live}
-use Rattle.ds_grants.specs.State.{pages_in}
 use Rattle.ds_grants.proofs.Copies.{none_free, none_told}
 use Rattle.ds_grants.proofs.grants.Grants.lacks_frame.Goals as goal
 

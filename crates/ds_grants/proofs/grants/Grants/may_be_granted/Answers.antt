@@ -1,4 +1,4 @@
-use Rattle.std.proofs.Common.{rules, ◌≡◌, ◌∙◌, ◌≤◌, length, false, None, OnOk, Result, sym, subst, ap}
+use Rattle.std.proofs.Common.{rules, ◌≡◌, ◌≤◌, length, false, None, sym, subst}
 use Rattle.ds_policy.specs.Pages.{entry_at}
 use Rattle.ds_policy.specs.Grants.{has_right}
 use Rattle.ds_grants.specs.State.{GrantsState}

@@ -1,4 +1,4 @@
-use Rattle.std.proofs.Common.{rules, ◌≡◌}
+use Rattle.std.proofs.Common.{rules}
 use Rattle.ds_grants.proofs.Chains.{at_err}
 use Rattle.ds_grants.proofs.grants.Grants.may_drop.Goals as goal
 

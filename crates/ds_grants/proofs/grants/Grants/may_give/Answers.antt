@@ -1,4 +1,4 @@
-use Rattle.std.proofs.Common.{rules, ◌≡◌, ◌∙◌, sym, ap, subst, refl}
+use Rattle.std.proofs.Common.{rules, ◌∙◌, sym}
 use Rattle.ds_grants.proofs.Chains.{at_err, allowed_mode, given_as, room_as, last_err, last_ok}
 use Rattle.ds_grants.proofs.grants.Grants.may_give.Goals as goal
 

@@ -1,8 +1,5 @@
-use Rattle.std.proofs.Common.{rules, ◌≡◌, ◌∙◌, ◌<◌, Some, Ok, ℕ, Option, IfSome, is_some, refl, sym, ap, subst}
-use Rattle.ds_policy.specs.declared.grant.Grant.{Grant}
-use Rattle.ds_policy.specs.declared.grant.Right.TheVariants.{Read}
-use Rattle.ds_policy.specs.Pages.{entry_at, names}
-use Rattle.ds_policy.specs.Grants.{PageState, granted, is_some_right, no_grant}
+use Rattle.std.proofs.Common.{rules, ◌∙◌, ◌<◌, Ok, ℕ, Option, IfSome, is_some, sym, ap, subst}
+use Rattle.ds_policy.specs.Grants.{PageState}
 use Rattle.ds_grants.specs.State.{GrantsState, page_state}
 use Rattle.ds_grants.proofs.Chains.{refused_by, narrowed_as}
 use Rattle.ds_grants.proofs.Living.{narrowed_state}

@@ -1,6 +1,5 @@
-use Rattle.std.proofs.Common.{rules, ◌≡◌, ◌∙◌, ◌<◌, ℕ, Option, Some, None, IfSome, IsNone, is_some, refl, sym, ap, subst}
+use Rattle.std.proofs.Common.{◌∙◌, ◌<◌, ℕ, Option, IfSome, is_some, sym, ap, subst}
 use Rattle.ds_policy.specs.Pages.{entry_at}
-use Rattle.ds_policy.specs.Grants.{is_some_right}
 use Rattle.ds_grants.specs.State.{GrantsState, page_state}
 use Rattle.ds_grants.specs.Counts.{page_of}
 use Rattle.ds_grants.proofs.Copies.{none_there}

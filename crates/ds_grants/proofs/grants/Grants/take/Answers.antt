@@ -1,5 +1,5 @@
-use Rattle.std.proofs.Common.{rules, ◌≡◌, ◌∙◌, ◌==◌, Bool, true, false, Result, Ok, ℕ, refl, sym, ap}
-use Rattle.ds_policy.specs.Grants.{PageState, removed}
+use Rattle.std.proofs.Common.{rules, ◌∙◌, Ok, refl, sym, ap}
+use Rattle.ds_policy.specs.Grants.{PageState}
 use Rattle.ds_grants.specs.State.{GrantsState, page_state}
 use Rattle.ds_grants.proofs.Chains.{refused_by, not_given, was_given}
 use Rattle.ds_grants.proofs.Living.{removed_state}
