@@ -39,6 +39,16 @@ cause_kept : (s : System) (e : Exception) (a : Option ℕ) → (with_address s e
 cause_kept s e None = refl
 cause_kept s e (Some a) = shown_cause s a (is_translation e.code)
 
+-- an address that is shown leaves Status as it was
+shown_status : (s : System) (a : ℕ) (b : Bool) → (shown s a b).status ≡ s.status
+shown_status s a true = refl
+shown_status s a false = refl
+
+-- whether there is one or not
+status_kept : (s : System) (e : Exception) (a : Option ℕ) → (with_address s e a).status ≡ s.status
+status_kept s e None = refl
+status_kept s e (Some a) = shown_status s a (is_translation e.code)
+
 -- an address that is shown leaves EPC as it was
 shown_epc : (s : System) (a : ℕ) (b : Bool) → (shown s a b).epc ≡ s.epc
 shown_epc s a true = refl
@@ -113,6 +123,14 @@ module _ (s : System) (e : Exception) where
   -- EPC and BD tell the instruction's own address
   pub own_told : e.pc < 2 ^ 32 → own_in (entered s e) ≡ e.pc
   own_told small = ap₂ (λ (b : Bool) (w : ℕ). cond b (word (w + 4)) w) slot_told (epc_kept _ e e.addr) ∙ own_by e.slot e.pc small
+
+  -- Status is pushed
+  pub status_told : (entered s e).status ≡ pushed s.status
+  status_told = status_kept _ e e.addr
+
+  -- EPC tells where the program goes on later
+  pub epc_told : (entered s e).epc ≡ epc_of e
+  epc_told = epc_kept _ e e.addr
 
   -- the address space stays
   pub space_told : asid_of (entered s e) ≡ asid_of s

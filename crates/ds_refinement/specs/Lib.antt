@@ -1,2 +1,15 @@
 pub mod Told
 pub mod Rows
+pub mod Held
+pub mod Stands
+pub mod Leaves
+pub mod Steps
+pub mod Services
+pub mod Real
+pub mod Granted
+pub mod First
+pub mod Ends
+pub mod Quiet
+pub mod Blocks
+pub mod Runs
+pub mod StationRows

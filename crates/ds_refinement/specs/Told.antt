@@ -1,5 +1,5 @@
 -- What the coprocessor's registers tell of an exception, and of the access that was refused by it.
-use Rattle.std.specs.Prelude.{ℕ, ◌+◌, Bool, ◌==◌, ◌||◌, nat_le, if◌then◌else◌}
+use Rattle.std.specs.Prelude.{ℕ, ◌+◌, Bool, ◌==◌, ◌&&◌, ◌||◌, nat_le, if◌then◌else◌, unwrap_or}
 use Rattle.ds_word.specs.Word.{word, bits}
 use Rattle.ds_isa.specs.declared.instr.Size.{Size}
 use Rattle.ds_isa.specs.declared.instr.Size.TheVariants.{Byte, Word}
@@ -9,6 +9,15 @@ use Rattle.ds_amap.specs.declared.map.Fault.{Fault}
 use Rattle.ds_cp0.specs.System.{System, entered}
 use Rattle.ds_core.specs.Core.{CoreState}
 use Rattle.ds_core.specs.Access.{refusal}
+use Rattle.ds_word.specs.Bytes.{word_at}
+use Rattle.ds_isa.specs.Access.{access_size}
+use Rattle.ds_isa.specs.Instruction.{instruction_of}
+use Rattle.ds_policy.specs.declared.access.Verdict.{Verdict}
+use Rattle.ds_policy.specs.declared.access.Verdict.TheVariants.{Allowed, Denied}
+use Rattle.ds_policy.specs.Pages.{Pages, decide, bytes_of}
+use Rattle.ds_policy.specs.Grants.{PageState}
+use Rattle.ds_refinement.specs.declared.cause.Cause.{Cause}
+use Rattle.ds_refinement.specs.declared.cause.Cause.TheVariants as cause
 
 -- the registers behind an access that the address map refused
 abbrev pub system_behind : CoreState → Kind → ℕ → Fault → System
@@ -44,3 +53,20 @@ size_told s size =
     else if is_store_code (code_in s) then size
     else if s.bad_vaddr == own_in s then Word
     else size
+
+-- the size that the instruction on a page asks for; a word where it asks for none, or the table lets none be fetched
+abbrev pub size_on : Pages → Verdict → Size
+size_on pages (Allowed page offset) = unwrap_or (access_size (instruction_of (word_at (bytes_of pages page) offset))) Word
+size_on pages (Denied rule code) = Word
+
+-- the size that the instruction of a process at an address asks for
+abbrev pub size_at : PageState → ℕ → ℕ → Size
+size_at s p address = size_on s.pages (decide s.table p Fetch Word address)
+
+-- why the processor left the program of a process: code 8 is a call, 1 to 5 are accesses, all others faults
+abbrev pub told : System → PageState → ℕ → Cause
+told s pages p =
+    if code_in s == 8 then cause.Call
+    else if nat_le 1 (code_in s) && nat_le (code_in s) 5
+    then cause.Access (record { kind = kind_told s; size = size_told s (size_at pages p (own_in s)) })
+    else cause.Fault (code_in s)

@@ -1,10 +1,52 @@
-//! The refinement between the station, which is a monitor on the whole processor, and the machine
-//! of pages that it runs: laws on what an exception tells the monitor.
+//! The refinement between a station, which is a monitor on the whole processor, and the page-map
+//! machine that it runs: what the one holds, for which states of the other it stands, and that each
+//! instruction, service and boundary of the one is a step of the other.
 #![tactic(auto)]
 
+mod blocks;
+mod branches;
+mod cause;
+mod counts;
+mod first;
+mod instructions;
+mod pages;
+mod paths;
+mod refills;
+mod runs;
+mod seats;
+mod services;
+mod step;
 mod told;
+mod turns;
 
+pub use blocks::{
+    a_block_is_a_path, a_sound_station_is_ready, an_exception_ends_a_block,
+    the_last_boundary_decides,
+};
+pub use branches::{a_branch_done_again_does_the_same, a_touch_leaves_a_link_or_takes_it_away};
+pub use cause::Cause;
+pub use counts::{
+    a_boundary_is_counted, a_refill_is_counted, a_served_boundary_is_counted,
+    an_ended_unit_is_counted, an_instruction_is_counted,
+};
+pub use first::a_new_station_stands_for_the_first_state;
+pub use instructions::{an_exception_tells_what_was_refused, an_instruction_is_one_of_the_machine};
+pub use pages::{
+    a_named_page_lives, a_word_of_a_page_lies_in_its_frame, what_a_user_reaches_is_granted,
+};
+pub use paths::{
+    a_boundary_is_real, an_end_is_real, an_instruction_is_real, paths_join, paths_stay_sound,
+};
+pub use refills::{a_refill_begins_the_unit_again, a_refill_lets_the_unit_go_on};
+pub use runs::{a_block_is_within_a_run, a_run_goes_on};
+pub use seats::{the_first_comes_in, the_runner_leaves, what_is_kept_is_the_whole_state};
+pub use services::{a_call_ends_its_unit, a_service_ends_its_unit, a_stop_ends_its_unit};
+pub use step::Step;
 pub use told::{
     a_refused_fetch_is_told, a_refused_load_is_told, a_refused_store_is_told, an_exception_is_told,
     the_buffer_refuses_aligned_addresses,
+};
+pub use turns::{
+    a_boundary_is_served, a_failure_is_not_seen, a_quiet_boundary, an_idle_turn,
+    an_idle_turn_is_served, nothing_is_left_to_do, steps_join,
 };

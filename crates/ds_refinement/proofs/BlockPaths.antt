@@ -1,0 +1,304 @@
+-- A block of instructions is a path of real steps.
+use Rattle.std.proofs.Common.{◌≡◌, ◌≢◌, ℕ, zero, suc, ◌+◌, ◌-◌, ◌*◌, ◌<◌, ◌≤◌, ◌^◌, Bool, true, false, [], refl, sym, ap, ap₂, subst, ◌∙◌, inl, inr, arith}
+use Rattle.std.specs.Prelude.{◌==◌, ◌&&◌, ◌||◌, not, Option, Some, None}
+use Rattle.ds_word.specs.Word.{truth, bits}
+use Rattle.ds_cp0.specs.declared.exception.ExceptionCode.{ExceptionCode}
+use Rattle.ds_cp0.specs.System.{System, is_user}
+use Rattle.ds_core.specs.declared.event.Event.{Event}
+use Rattle.ds_core.specs.declared.event.Event.TheVariants.{Retired, Branched, Raised}
+use Rattle.ds_core.specs.Core as core
+use Rattle.ds_core.specs.Core.{CoreState}
+use Rattle.ds_core.specs.Effect as whole
+use Rattle.ds_core.specs.Ahead as ahead
+use Rattle.ds_core.specs.Ahead.{Hardware, hardware_of, left_by, after_steps, is_raised, Advances, AdvancesTo, ComesByWords, owed_tick, ticks_behind, ticks}
+use Rattle.ds_core.proofs.Slots.{Slots, step_slots, ticks_of_advance}
+use Rattle.ds_core.proofs.Users.{keeps_system}
+use Rattle.ds_pagemap.specs.declared.turn.Turn.{Turn}
+use Rattle.ds_pagemap.specs.Machine.{State, first}
+use Rattle.ds_refinement.specs.declared.step.Step.{Step}
+use Rattle.ds_refinement.specs.declared.step.Step.TheVariants.{Inside, Unit, Boundary}
+use Rattle.ds_refinement.specs.Told.{is_delayed}
+use Rattle.ds_refinement.specs.Held.{Held, Kept}
+use Rattle.ds_refinement.specs.Stands.{Stands, user_status}
+use Rattle.ds_refinement.specs.Steps.{Follows, Moves, ticks_of, is_in_kernel, steps_left}
+use Rattle.ds_refinement.specs.Services.{after_event, step_of, with_one_spent, with_boundary}
+use Rattle.ds_refinement.specs.Real.{IsReal, RealPath, is_served}
+use Rattle.ds_refinement.specs.Quiet.{IsQuiet}
+use Rattle.ds_refinement.specs.Blocks.{moved, time_behind, with_block, with_exception, at_time, IsQuietUntil, GoesAhead}
+use Rattle.ds_refinement.proofs.Boundaries.{quiet}
+use Rattle.ds_refinement.proofs.Meets.{barred}
+use Rattle.ds_refinement.proofs.Raising.{slot_of_raised}
+use Rattle.ds_refinement.proofs.Stages.{step_follows}
+use Rattle.ds_refinement.proofs.Joined.{one_step, path_join, instruction_real}
+use Rattle.ds_refinement.specs.Runs.{RunsWithin}
+use Rattle.ds_refinement.proofs.RunSteps.{BeginsBefore, within_before}
+
+-- Small numbers.
+
+owed_small : (slot : Bool) → owed_tick slot ≤ 1
+owed_small true = omega arith
+owed_small false = omega arith
+
+truth_small : (b : Bool) → truth b ≤ 1
+truth_small true = omega arith
+truth_small false = omega arith
+
+ticks_of_slot : (slot : Bool) → ticks_of slot ≡ 1 + owed_tick slot
+ticks_of_slot true = refl
+ticks_of_slot false = refl
+
+some_is_not_none : (turn : Turn) → Some turn ≡ None → ⊥
+some_is_not_none turn e = cc
+
+-- a step, with its event named
+abbrev told_as : Event → core.Step → core.Step
+told_as e s = record { event = e; core = s.core; bus = s.bus }
+
+-- the machine doesn't see that an instruction counts
+counts : (b : Held) (m : State) → Stands b m → Stands (with_one_spent b) m
+counts b m k = record { buffer = k.buffer; grants = k.grants; size = k.size; kept = k.kept; running = k.running; devices = k.devices }
+
+-- What is kept by each real step of a run, if it begins before the run's end.
+record Carries (end : ℕ) (P : Held → Type 0) : Type 0 where
+  more : (b c : Held) (kind : Step) → P b → BeginsBefore end b → Follows kind b c → Moves kind b c → IsReal b c → P c
+
+-- One instruction of the process that runs, in user mode and with no boundary owed.
+module _ (b : Held) (s : core.Step) (is : s ≡ whole.step b.core b.bus) (owed : b.kept.state.owed ≡ None) (ready : b.kept.state.ready ≢ []) (user : is_user b.core.system ≡ true) (within : b.core.pc < 2 ^ 32) where
+  -- the machine follows it
+  follows : (e : Event) → s.event ≡ e → Follows (step_of e) b (after_event e (with_one_spent b) s)
+  follows e at = record {
+    follows = λ m k.
+        (subst (λ (x : Event). Follows (step_of x) (with_one_spent b) (after_event x (with_one_spent b) s)) at
+        (step_follows (with_one_spent b) s is owed ready user within)).follows m (counts b m k);
+  }
+
+  no_service : is_served b.core ≡ false
+  no_service = ap (λ (u : Bool). not u && ((b.core.pc == 0x80000000) || (b.core.pc == 0x80000080))) user
+
+  -- and it is a real one
+  real : (e : Event) → s.event ≡ e → IsReal b (after_event e (with_one_spent b) s)
+  real e at = instruction_real e b s (owed, ready) no_service (sym is ∙ ap (λ (x : Event). told_as x s) at)
+
+  -- behind the instruction that ends the unit
+  abbrev behind : Held
+  behind = after_event Retired (with_one_spent b) s
+
+  boundary_real : IsReal behind (with_boundary behind)
+  boundary_real = record {
+    instruction = λ unit other. absurd (some_is_not_none _ unit.0);
+    service = λ unit served. absurd (some_is_not_none _ unit.0);
+    random = λ all. refl;
+  }
+
+  boundary_moves : Moves Boundary behind (with_boundary behind)
+  boundary_moves = let e : behind.kept.state.time ≡ behind.kept.state.time + 0 = omega arith in (refl, refl, e, refl)
+
+  -- with its boundary, which has nothing to do
+  unit_carries : (end : ℕ) (P : Held → Type 0) → Carries end P → P b → b.kept.state.time < end → s.event ≡ Retired → b.kept.ticked ≤ behind.kept.state.time → IsQuiet behind.kept → P (with_boundary behind)
+  unit_carries end P carries p before at ticked q =
+      carries.more behind (with_boundary behind) Boundary
+      (carries.more b behind Unit p (inr (ready, before)) (follows Retired at) (owed, refl, refl, refl, refl) (real Retired at))
+      (inl refl) (quiet behind refl ticked q) boundary_moves boundary_real
+
+  -- a branch, or an exception: the unit isn't at its end
+  inside_carries : (end : ℕ) (P : Held → Type 0) (e : Event) → Carries end P → P b → b.kept.state.time < end → s.event ≡ e → step_of e ≡ Inside → b.own.spent ≤ 63
+      → P (record b { core = s.core; bus = s.bus; own = record b.own { spent = b.own.spent + 1 } })
+  inside_carries end P e carries p before at inside few = by e at inside
+    where
+      new : Held
+      new = record b { core = s.core; bus = s.bus; own = record b.own { spent = b.own.spent + 1 } }
+
+      one : truth (not (is_in_kernel b)) ≡ 1
+      one = ap (λ (u : Bool). truth (not (not u))) user
+
+      spent : new.own.spent ≡ b.own.spent + truth (not (is_in_kernel b))
+      spent = ap (λ (n : ℕ). b.own.spent + n) (sym one)
+
+      fewer : steps_left new < steps_left b
+      fewer =
+          let small : truth (is_in_kernel new) ≤ 1 = truth_small (is_in_kernel new) in
+          let left : 2 * (64 - (b.own.spent + 1)) + truth (is_in_kernel new) < 2 * (64 - b.own.spent) + truth (is_in_kernel b) = omega (arith, small, few) in
+          left
+
+      moves : Moves Inside b new
+      moves = (owed, owed, refl, spent, omega (arith, few), fewer, refl)
+
+      by : (e : Event) → s.event ≡ e → step_of e ≡ Inside → P new
+      by Retired at other = absurd (cc)
+      by Branched at inside = carries.more b new Inside p (inr (ready, before)) (follows Branched at) moves (real Branched at)
+      by (Raised code) at inside = carries.more b new Inside p (inr (ready, before)) (follows (Raised code) at) moves (real (Raised code) at)
+
+-- the slot that Cause tells behind an exception
+slot_told_by : (s : core.Step) (at : Hardware) (code : ExceptionCode) → s ≡ ahead.step_of at → s.event ≡ Raised code → is_delayed s.core.system ≡ at.core.slot
+slot_told_by s at code is event =
+    ap (λ (x : core.Step). is_delayed x.core.system) is ∙ slot_of_raised at.core at.bus (ap (λ (x : core.Step). is_raised x.event) (sym is) ∙ ap is_raised event)
+
+-- what is quiet is so with a boundary owed too
+quiet_owed : (k : Kept) (owed : Option Turn) → IsQuiet k → IsQuiet (record k { state = record k.state { owed = owed } })
+quiet_owed k owed q = record { commands = q.commands; characters = q.characters; asleep = q.asleep; period = q.period }
+
+-- Many instructions, from h on.
+module _ (h : Held) (owed : h.kept.state.owed ≡ None) (ready : h.kept.state.ready ≢ []) (mode : h.core.system.status ≡ user_status) (spent : h.own.spent ≡ owed_tick h.core.slot) (last : ℕ) (calm_until : IsQuietUntil last h.kept) (end : ℕ) (P : Held → Type 0) (carries : Carries end P) (begun : P h) where
+  abbrev start : Hardware
+  start = hardware_of h.core h.bus
+
+  abbrev IsCalm : ℕ → Type 0
+  IsCalm n = (k : ℕ) → k < n → is_raised (ahead.step_of (after_steps k start)).event ≡ false
+
+  abbrev at : ℕ → Hardware
+  at n = after_steps n start
+
+  -- the processor stays in user mode
+  system_kept : (n : ℕ) → IsCalm n → (at n).core.system ≡ h.core.system
+  system_kept zero calm = refl
+  system_kept (suc n) calm =
+      let before : (at n).core.system ≡ h.core.system = system_kept n (λ k below. calm k (omega (arith, below))) in
+      keeps_system (at n).core (at n).bus (barred (at n).core 0 (ap (λ (s : System). s.status) before ∙ mode)) (calm n (omega arith)) ∙ before
+
+  user_kept : (n : ℕ) → IsCalm n → is_user (at n).core.system ≡ true
+  user_kept n calm = ap is_user (system_kept n calm) ∙ ap (λ (w : ℕ). (bits w 1 1 == 1)) mode
+
+  -- no step leaves h
+  none : P (with_block 0 h start)
+  none = subst P
+      (let same : h.kept.state.time ≡ h.kept.state.time + 0 = omega arith in
+      ap (λ (n : ℕ). moved h start h.kept.state.time h.kept.state.owed n) spent
+      ∙ (ap (λ (o : Option Turn). moved h start h.kept.state.time o (owed_tick h.core.slot)) owed
+      ∙ ap (λ (t : ℕ). moved h start t None (owed_tick h.core.slot)) same))
+      begun
+
+  -- a unit among so many steps begins before the end
+  begins : (n : ℕ) → IsCalm n → h.kept.state.time + suc n + owed_tick h.core.slot ≤ end → time_behind n h < end
+  begins n calm soon =
+      let all : ticks n start + owed_tick (at n).core.slot ≡ n + owed_tick h.core.slot = ticks_of_advance n start (at n) (record { state = refl; calm = calm }) in
+      let before : h.kept.state.time + ticks n start < end = omega (arith, all, soon) in
+      before
+
+  -- One step more.
+  module _ (n : ℕ) (calm : IsCalm (suc n)) (words : (at n).core.pc < 2 ^ 32) (early : h.kept.state.time + suc n + 1 ≤ last) (soon : h.kept.state.time + suc n + owed_tick h.core.slot ≤ end) (path : P (with_block n h (at n))) where
+    abbrev b : Held
+    b = with_block n h (at n)
+
+    abbrev s : core.Step
+    s = ahead.step_of (at n)
+
+    user : is_user (at n).core.system ≡ true
+    user = user_kept n (λ k below. calm k (omega (arith, below)))
+
+    before_end : time_behind n h < end
+    before_end = begins n (λ k below. calm k (omega (arith, below))) soon
+
+    slots : (e : Event) → s.event ≡ e → Slots e (at n).core.slot s.core.slot
+    slots e is = subst (λ (x : Event). Slots x (at n).core.slot s.core.slot) is (step_slots (at n).core (at n).bus)
+
+    all_ticks : ticks (suc n) start + owed_tick s.core.slot ≡ suc n + owed_tick h.core.slot
+    all_ticks = ticks_of_advance (suc n) start (at (suc n)) (record { state = refl; calm = calm })
+
+    more_ticks : (e : Event) → s.event ≡ e → ticks (suc n) start ≡ ticks n start + ticks_behind e (at n).core.slot
+    more_ticks e is = ap (λ (x : Event). ticks n start + ticks_behind x (at n).core.slot) is
+
+    by : (e : Event) → s.event ≡ e → is_raised e ≡ false → P (with_block (suc n) h (left_by s))
+    by Retired is quiet_step =
+        let more : ticks (suc n) start ≡ ticks n start + (1 + owed_tick (at n).core.slot) = more_ticks Retired is in
+        let unit : ticks_of (at n).core.slot ≡ 1 + owed_tick (at n).core.slot = ticks_of_slot (at n).core.slot in
+        let small : owed_tick h.core.slot ≤ 1 = owed_small h.core.slot in
+        let all : ticks (suc n) start + owed_tick s.core.slot ≡ suc n + owed_tick h.core.slot = all_ticks in
+        let time : ℕ = h.kept.state.time + ticks n start + ticks_of (at n).core.slot in
+        let time_is : time ≡ h.kept.state.time + ticks (suc n) start = omega (arith, more, unit) in
+        let no_slot : owed_tick s.core.slot ≡ 0 = ap owed_tick (slots Retired is) in
+        let upto : time ≤ last = omega (arith, time_is, all, small, early) in
+        let later : h.kept.state.time ≤ time = omega (arith, time_is) in
+        let q : IsQuiet (at_time time h.kept) = calm_until.quiet time later upto in
+        let since : h.kept.ticked ≤ time = (let before : h.kept.ticked ≤ h.kept.state.time = calm_until.ticked in omega (arith, before, later)) in
+        let turn : Option Turn = Some (record { began = h.kept.state.time + ticks n start; runner = first h.kept.state.ready }) in
+        subst P
+        (ap₂ (λ (t k : ℕ). moved h (left_by s) t None k) time_is (sym no_slot))
+        (unit_carries b s refl refl ready user words end P carries path before_end is since (quiet_owed (at_time time h.kept) turn q))
+    by Branched is quiet_step =
+        let more : ticks (suc n) start ≡ ticks n start + 0 = more_ticks Branched is in
+        let time_is : h.kept.state.time + ticks n start ≡ h.kept.state.time + ticks (suc n) start = omega (arith, more) in
+        let before : owed_tick (at n).core.slot ≡ 0 = ap owed_tick (slots Branched is).0 in
+        let after : owed_tick s.core.slot ≡ 1 = ap owed_tick (slots Branched is).1 in
+        let count : owed_tick (at n).core.slot + 1 ≡ owed_tick s.core.slot = omega (arith, before, after) in
+        subst P
+        (ap₂ (λ (t k : ℕ). moved h (left_by s) t None k) time_is count)
+        (inside_carries b s refl refl ready user words end P Branched carries path before_end is refl (omega (arith, before)))
+    by (Raised code) is quiet_step = absurd (cc)
+
+  -- steps that enter no exception
+  block : (n : ℕ) → IsCalm n → ComesByWords n start → h.kept.state.time + n + 1 ≤ last → h.kept.state.time + n + owed_tick h.core.slot ≤ end → P (with_block n h (at n))
+  block zero calm words early soon = none
+  block (suc n) calm words early soon =
+      by n calm (words n (omega arith)) early soon
+      (block n (λ k below. calm k (omega (arith, below))) (λ k upto. words k (omega (arith, upto))) (omega (arith, early)) (omega (arith, soon)))
+      (ahead.step_of (at n)).event refl (calm n (omega arith))
+
+  -- and behind them one that does
+  raised : (n : ℕ) (hw : Hardware) (code : ExceptionCode) → IsCalm n → ComesByWords n start → h.kept.state.time + n + 1 ≤ last → h.kept.state.time + suc n + owed_tick h.core.slot ≤ end
+      → record { event = Raised code; core = hw.core; bus = hw.bus } ≡ ahead.step_of (at n) → P (with_exception n h hw)
+  raised n hw code calm words early soon is =
+      let s : core.Step = record { event = Raised code; core = hw.core; bus = hw.bus } in
+      let user : is_user (at n).core.system ≡ true = user_kept n calm in
+      let small : owed_tick (at n).core.slot ≤ 1 = owed_small (at n).core.slot in
+      let told : is_delayed hw.core.system ≡ (at n).core.slot = slot_told_by s (at n) code is refl in
+      let here : (at n).core.pc < 2 ^ 32 = words n (omega arith) in
+      subst P
+      (ap (λ (slot : Bool). moved h hw (time_behind n h) None (owed_tick slot + 1)) (sym told))
+      (inside_carries (with_block n h (at n)) s is refl ready user here end P (Raised code) carries
+      (block n calm words early (omega (arith, soon))) (begins n calm soon) refl refl (omega (arith, small)))
+
+-- The laws.
+
+module _ (n limit : ℕ) (h : Held) (hw : Hardware) (g : GoesAhead limit h) (words : ComesByWords n (hardware_of h.core h.bus)) (within : n ≤ limit) (end : ℕ) (P : Held → Type 0) (carries : Carries end P) (begun : P h) where
+  -- steps that enter no exception
+  block_carries : Advances n (hardware_of h.core h.bus) hw → h.kept.state.time + n + owed_tick h.core.slot ≤ end → P (with_block n h hw)
+  block_carries advances soon =
+      subst (λ (x : Hardware). P (with_block n h x)) (sym advances.state)
+      (block h g.owed g.ready g.mode g.spent (h.kept.state.time + limit + 1) g.quiet end P carries begun n advances.calm words (omega (arith, within)) soon)
+
+  -- such steps and one that enters an exception
+  raised_carries : (code : ExceptionCode) → AdvancesTo n (Some code) (hardware_of h.core h.bus) hw → h.kept.state.time + suc n + owed_tick h.core.slot ≤ end → P (with_exception n h hw)
+  raised_carries code leads soon =
+      raised h g.owed g.ready g.mode g.spent (h.kept.state.time + limit + 1) g.quiet end P carries begun n hw code leads.1.calm words (omega (arith, within)) soon
+      (leads.2 ∙ ap ahead.step_of leads.1.state)
+
+-- They are paths.
+
+paths_carry : (end : ℕ) (h : Held) → Carries end (RealPath h)
+paths_carry end h = record { more = λ b c kind p begins f m r. path_join h b c p (one_step kind b c f m r) }
+
+no_path : (h : Held) → RealPath h h
+no_path h = record { path = []; through = refl }
+
+pub block_is_path : (n limit : ℕ) (h : Held) (hw : Hardware) → n ≤ limit → GoesAhead limit h → Advances n (hardware_of h.core h.bus) hw → ComesByWords n (hardware_of h.core h.bus)
+    → RealPath h (with_block n h hw)
+block_is_path n limit h hw within g advances words =
+    let end : ℕ = h.kept.state.time + n + owed_tick h.core.slot in
+    block_carries n limit h hw g words within end (RealPath h) (paths_carry end h) (no_path h) advances (omega arith)
+
+pub raised_is_path : (n limit : ℕ) (h : Held) (hw : Hardware) (code : ExceptionCode) → n ≤ limit → GoesAhead limit h → AdvancesTo n (Some code) (hardware_of h.core h.bus) hw
+    → ComesByWords n (hardware_of h.core h.bus) → RealPath h (with_exception n h hw)
+raised_is_path n limit h hw code within g leads words =
+    let end : ℕ = h.kept.state.time + suc n + owed_tick h.core.slot in
+    raised_carries n limit h hw g words within end (RealPath h) (paths_carry end h) (no_path h) code leads (omega arith)
+
+-- And they are within a run whose end comes no earlier than theirs.
+
+runs_carry : (end : ℕ) (old : Held) → Carries end (RunsWithin end old)
+runs_carry end old = record { more = λ b c kind w begins f m r. within_before kind end old b c w begins f }
+
+pub block_runs : (n limit end : ℕ) (old h : Held) (hw : Hardware) → n ≤ limit → GoesAhead limit h → h.kept.state.time + n + owed_tick h.core.slot ≤ end
+    → Advances n (hardware_of h.core h.bus) hw → ComesByWords n (hardware_of h.core h.bus) → RunsWithin end old h → RunsWithin end old (with_block n h hw)
+block_runs n limit end old h hw within g soon advances words begun =
+    block_carries n limit h hw g words within end (RunsWithin end old) (runs_carry end old) begun advances soon
+
+pub raised_runs : (n limit end : ℕ) (old h : Held) (hw : Hardware) (code : ExceptionCode) → n ≤ limit → GoesAhead limit h → h.kept.state.time + n + owed_tick h.core.slot < end
+    → AdvancesTo n (Some code) (hardware_of h.core h.bus) hw → ComesByWords n (hardware_of h.core h.bus) → RunsWithin end old h → RunsWithin end old (with_exception n h hw)
+raised_runs n limit end old h hw code within g soon leads words begun =
+    raised_carries n limit h hw g words within end (RunsWithin end old) (runs_carry end old) begun code leads (omega (arith, soon))
+
+-- the ticks of steps that an exception ended, by the slot that Cause tells
+pub raised_ticks : (n : ℕ) (code : ExceptionCode) (old new : Hardware) → AdvancesTo n (Some code) old new → ticks n old + owed_tick (is_delayed new.core.system) ≡ n + owed_tick old.core.slot
+raised_ticks n code old new leads =
+    let s : core.Step = record { event = Raised code; core = new.core; bus = new.bus } in
+    ap (λ (slot : Bool). ticks n old + owed_tick slot) (slot_told_by s leads.0 code leads.2 refl) ∙ ticks_of_advance n old leads.0 leads.1

@@ -1,0 +1,87 @@
+-- How the counts and the clock move where a service ends its unit.
+use Rattle.std.proofs.Common.{◌≡◌, ℕ, ◌+◌, Bool, false, List, [], ◌∷◌, refl, sym, ap, subst, ◌∙◌}
+use Rattle.std.specs.Prelude.{Option, None, IsSome, Result, Ok, Err}
+use Rattle.ds_word.specs.Word.{word}
+use Rattle.ds_procs.specs.declared.call.Call.{Call}
+use Rattle.ds_procs.specs.declared.call.Call.TheVariants as call
+use Rattle.ds_procs.specs.Calls.{call_of}
+use Rattle.ds_policy.specs.Grants.{PageState, give, take, drop_own}
+use Rattle.ds_core.specs.Core.{CoreState}
+use Rattle.ds_pagemap.specs.declared.turn.Turn.{Turn}
+use Rattle.ds_pagemap.specs.Machine.{State, lives, process_of}
+use Rattle.ds_pagemap.specs.Calls.{answered, or_number, or_denied, queue_of, after_get, after_wait, served}
+use Rattle.ds_pagemap.specs.Unit.{Stop, at_pc, settle, after_call}
+use Rattle.ds_refinement.specs.declared.step.Step.TheVariants.{Unit}
+use Rattle.ds_refinement.specs.Held.{Held, Own, whole}
+use Rattle.ds_refinement.specs.Stands.{ends_in_stop, ends_in_call}
+use Rattle.ds_refinement.specs.Told.{own_in}
+use Rattle.ds_refinement.specs.Steps.{Moves, ticks_of}
+use Rattle.ds_refinement.specs.Services.{EndsBy, seated, with_first_seated, with_none_spent}
+use Rattle.ds_refinement.specs.Ends.{EndsInStop, EndsInCall}
+
+-- the seat of the process that ran tells no time
+pub seated_time : (queue : List ℕ) (c : CoreState) (m : State) → (with_first_seated c m queue).time ≡ m.time
+seated_time [] c m = refl
+seated_time (p ∷ rest) c m = refl
+
+-- what a service does takes a tick, and leaves a boundary owed
+record TakesATick (f : State → State) : Type 0 where
+  time : (s : State) → (f s).time ≡ s.time + 1
+  owed : (s : State) → IsSome (f s).owed
+
+ended_moves : (f : State → State) (h new : Held) → TakesATick f → h.kept.state.owed ≡ None → h.core.slot ≡ false → new.own ≡ with_none_spent h.own → EndsBy f h new → Moves Unit h new
+ended_moves f h new t owed first own ends =
+    let before : State = whole (seated h.core h.kept) h.bus.memory [] in
+    let is = ends.serves.state [] in
+    let time : new.kept.state.time ≡ h.kept.state.time + ticks_of h.core.slot =
+    sym (ap (λ (s : State). s.time) is)
+    ∙ (t.time before
+    ∙ (ap (λ (n : ℕ). n + 1) (seated_time h.kept.state.ready h.core h.kept.state)
+    ∙ ap (λ (b : Bool). h.kept.state.time + ticks_of b) (sym first))) in (
+      owed,
+      subst (λ (o : Option Turn). IsSome o) (ap (λ (s : State). s.owed) is) (t.owed before),
+      time,
+      ap (λ (o : Own). o.spent) own,
+      ap (λ (o : Own). o.failed) own,
+    )
+
+pub stop_moves : (p : ℕ) (stop : Stop) (h new : Held) → h.kept.state.owed ≡ None → h.core.slot ≡ false → new.own ≡ with_none_spent h.own → EndsInStop p stop h new → Moves Unit h new
+stop_moves p stop h new = ended_moves (ends_in_stop p h.core.system.epc (own_in h.core.system) stop) h new (record { time = λ s. refl; owed = λ s. refl })
+
+-- no call tells another time
+get_time : (m : State) (p : ℕ) (queue : List ℕ) → (after_get m p queue).time ≡ m.time
+get_time m p [] = refl
+get_time m p (byte ∷ rest) = refl
+
+wait_time : (m : State) (p : ℕ) (queue : List ℕ) → (after_wait m p queue).time ≡ m.time
+wait_time m p [] = refl
+wait_time m p (byte ∷ rest) = refl
+
+number_time : (m : State) (p : ℕ) (r : Result PageState ℕ) → (or_number m p r).time ≡ m.time
+number_time m p (Ok s) = refl
+number_time m p (Err number) = refl
+
+denied_time : (m : State) (p pc address : ℕ) (r : Result PageState ℕ) → (or_denied m p pc address r).time ≡ m.time
+denied_time m p pc address (Ok s) = refl
+denied_time m p pc address (Err number) = refl
+
+served_time : (m : State) (p pc : ℕ) (c : Call) → (served m p pc c).time ≡ m.time
+served_time m p pc call.Exit = refl
+served_time m p pc (call.Put byte) = refl
+served_time m p pc call.Get = get_time m p (queue_of m p)
+served_time m p pc call.Yield = refl
+served_time m p pc call.Time = refl
+served_time m p pc call.Own = refl
+served_time m p pc (call.Give address receiver to mode) = denied_time m p pc address (give (lives m) m.memory p address receiver to mode)
+served_time m p pc (call.Take process address) = number_time m p (take (lives m) m.memory p process address)
+served_time m p pc (call.Drop address) = number_time m p (drop_own m.memory p address)
+served_time m p pc call.Wait = wait_time (answered m p 0) p (queue_of m p)
+served_time m p pc call.Unknown = refl
+
+call_time : (m : State) (p pc : ℕ) → (after_call m p pc).time ≡ m.time + 1
+call_time m p pc =
+    let behind = at_pc (settle m p) p (word (pc + 4)) in
+    ap (λ (n : ℕ). n + 1) (served_time behind p pc (call_of (process_of behind p).registers.general))
+
+pub call_moves : (p : ℕ) (h new : Held) → h.kept.state.owed ≡ None → h.core.slot ≡ false → new.own ≡ with_none_spent h.own → EndsInCall p h new → Moves Unit h new
+call_moves p h new = ended_moves (ends_in_call p h.core.system.epc) h new (record { time = λ s. call_time s p h.core.system.epc; owed = λ s. refl })

@@ -1,0 +1,76 @@
+-- At the beginning of a run the station stands for the first state.
+use Rattle.std.proofs.Common.{◌≡◌, ℕ, ◌+◌, ◌-◌, ◌/◌, ◌<◌, ◌^◌, Bool, true, false, List, [], ◌∷◌, length, refl, ap, arith, inl}
+use Rattle.std.specs.Prelude.{nat_lt, ◌==◌, ◌&&◌, not}
+use Rattle.std.proofs.lemmas.Bool.Decides.{nat_tests}
+use Rattle.std.proofs.lemmas.List.{map-set}
+use Rattle.ds_tlb.specs.Entries.{empty_entries}
+use Rattle.ds_core.specs.Core.{CoreState}
+use Rattle.ds_policy.specs.declared.policy.PolicyProcess.{PolicyProcess}
+use Rattle.ds_policy.specs.Value.{PolicyValue, InputValue}
+use Rattle.ds_grants.specs.State.{page_state}
+use Rattle.ds_grants.specs.Sound.{NamesPages}
+use Rattle.ds_grants.specs.First.{first_grants}
+use Rattle.ds_grants.proofs.Fills.{empty_buffer}
+use Rattle.ds_pagemap.specs.Machine.{State, Process, no_process, process_of}
+use Rattle.ds_pagemap.specs.Boundary.{has_passed}
+use Rattle.ds_pagemap.specs.First.{first_state}
+use Rattle.ds_pagemap_laws.specs.Settled.{settled_process}
+use Rattle.ds_refinement.specs.Held.{Held, Kept, bare, vacated, space_of}
+use Rattle.ds_refinement.specs.Stands.{Stands, KeptIs, RunningBy, AreResting}
+use Rattle.ds_refinement.specs.First.{IsFirst, first_core, first_bus, first_kept}
+
+-- a state without who runs is kept as the bare state without it
+pub vacated_bare : (queue : List ℕ) (m : State) → bare (vacated queue m) ≡ vacated queue (bare m)
+vacated_bare [] m = refl
+vacated_bare (p ∷ rest) m = ap (λ (qs : List Process). record (bare m) { processes = qs }) (map-set settled_process m.processes (p - 1) no_process)
+
+-- no period has passed in no time
+none_passed : (rate now : ℕ) → has_passed rate now now ≡ false
+none_passed rate now = by (not (rate == 0))
+  where
+    same : (n : ℕ) → nat_lt n n ≡ false
+    same n = grind (arith, nat_tests)
+
+    by : (b : Bool) → (b && nat_lt (now / 2 ^ (rate + 2)) (now / 2 ^ (rate + 2))) ≡ false
+    by true = same (now / 2 ^ (rate + 2))
+    by false = refl
+
+module _ (policy : PolicyValue) (images : List (List ℕ)) (input : InputValue) (start : ℕ) (memory : List ℕ) where
+  abbrev m : State
+  m = first_state policy images input
+
+  abbrev k : Kept
+  k = first_kept policy images input
+
+  kept : m.memory ≡ page_state (first_grants policy) memory → KeptIs k.state.ready k memory m
+  kept pages = record { ready = refl; state = vacated_bare m.ready m; pages = pages; log = refl; lines = refl }
+
+  -- process 1 runs
+  running : (ps : List PolicyProcess) → 0 < length ps → policy.processes ≡ ps → RunningBy k.state.ready (first_core (empty_entries 64) start (process_of m 1).pc) k m
+  running [] some is = absurd (omega (arith, some))
+  running (p ∷ rest) some is = rw is (record {
+    seat = (omega arith, omega arith);
+    standing = refl;
+    kept = refl;
+    line = refl;
+    owner = refl;
+    space = refl;
+    on = record { mode = refl; first = refl; pc = refl; next = refl; registers = inl refl };
+  })
+
+  resting : AreResting (first_bus memory policy.rate) k
+  resting = record { serial = refl; clock = refl; system = refl; ticked = omega arith; period = none_passed policy.rate 0 }
+
+pub first_stands : (policy : PolicyValue) (images : List (List ℕ)) (input : InputValue) (start : ℕ) (h : Held) → 0 < length policy.processes → NamesPages (first_grants policy) → IsFirst policy images input start h → Stands h (first_state policy images input)
+first_stands policy images input start h some named f =
+    let memory = h.bus.memory in
+    let core : CoreState = first_core (empty_entries 64) start (process_of (first_state policy images input) 1).pc in
+    let k : Kept = first_kept policy images input in
+    record {
+      buffer = rw (f.core, f.kept) (empty_buffer 64 (space_of k) (first_grants policy));
+      grants = rw f.kept named;
+      size = f.size;
+      kept = rw f.kept (kept policy images input start memory f.pages);
+      running = rw (f.core, f.kept) (running policy images input start memory policy.processes some refl);
+      devices = rw (f.bus, f.kept) (resting policy images input start memory);
+    }

@@ -1,0 +1,78 @@
+-- A boundary that has nothing to do at a later time has nothing to do at an earlier one.
+use Rattle.std.proofs.Common.{◌≡◌, ℕ, ◌+◌, ◌/◌, ◌≤◌, ◌^◌, Bool, true, false, cond, List, [], ◌∷◌, refl, ap, subst, arith, div-mul-le_self, le_trans}
+use Rattle.std.specs.Prelude.{◌&&◌, ◌==◌, not, nat_lt, nat_le, filter, Option, None}
+use Rattle.std.proofs.lemmas.Bool.Decides.{nat_tests}
+use Rattle.std.proofs.lemmas.Nat.{pow_pos, le-div}
+use Rattle.ds_policy.specs.declared.command.TimedCommand.{TimedCommand}
+use Rattle.ds_policy.specs.declared.command.Character.{Character}
+use Rattle.ds_cp0.specs.System.{is_user}
+use Rattle.ds_core.specs.Core.{CoreState}
+use Rattle.ds_pagemap.specs.declared.turn.Turn.{Turn}
+use Rattle.ds_pagemap.specs.Machine.{State}
+use Rattle.ds_pagemap.specs.Boundary.{has_passed}
+use Rattle.ds_refinement.specs.Held.{Held, Kept, began_or}
+use Rattle.ds_refinement.specs.Stands.{IsSound, OnProcessor, RunningBy, user_status}
+use Rattle.ds_refinement.specs.Quiet.{IsQuiet}
+use Rattle.ds_refinement.specs.Blocks.{at_time, IsQuietUntil}
+
+-- what comes later than one time comes later than the times before it
+none_before : {X : Type 0} (time : X → ℕ) (now later : ℕ) → now ≤ later → (xs : List X) → filter (λ x. nat_le (time x) later) xs ≡ [] → filter (λ x. nat_le (time x) now) xs ≡ []
+none_before {X = X} time now later le [] e = refl
+none_before {X = X} time now later le (x ∷ xs) e = by (nat_le (time x) now) (nat_le (time x) later) refl refl e (none_before time now later le xs)
+  where
+    upto : ℕ → List X
+    upto t = filter (λ y. nat_le (time y) t) xs
+
+    not_so : (t : ℕ) → nat_le t now ≡ true → nat_le t later ≡ false → ⊥
+    not_so t i j = grind (arith, nat_tests)
+
+    by : (a b : Bool) → nat_le (time x) now ≡ a → nat_le (time x) later ≡ b → cond b (x ∷ upto later) (upto later) ≡ [] → (upto later ≡ [] → upto now ≡ []) → cond a (x ∷ upto now) (upto now) ≡ []
+    by false false i j e more = more e
+    by false true i j e more = absurd (cc)
+    by true true i j e more = absurd (cc)
+    by true false i j e more = absurd (not_so (time x) i j)
+
+-- and a period that hasn't ended by then hasn't before
+not_passed : (rate began now later : ℕ) → now ≤ later → has_passed rate began later ≡ false → has_passed rate began now ≡ false
+not_passed rate began now later le none = by (not (rate == 0)) none
+  where
+    grows : now / 2 ^ (rate + 2) ≤ later / 2 ^ (rate + 2)
+    grows = le-div (now / 2 ^ (rate + 2)) later (2 ^ (rate + 2)) (pow_pos (rate + 2)) (le_trans (div-mul-le_self now (2 ^ (rate + 2))) le)
+
+    further : (a m n : ℕ) → m ≤ n → nat_lt a n ≡ false → nat_lt a m ≡ false
+    further a m n e none = grind (arith, nat_tests)
+
+    by : (on : Bool) → (on && nat_lt (began / 2 ^ (rate + 2)) (later / 2 ^ (rate + 2))) ≡ false → (on && nat_lt (began / 2 ^ (rate + 2)) (now / 2 ^ (rate + 2))) ≡ false
+    by true e = further (began / 2 ^ (rate + 2)) (now / 2 ^ (rate + 2)) (later / 2 ^ (rate + 2)) grows e
+    by false e = refl
+
+-- so the last boundary decides
+pub quiet_until : (last : ℕ) (k : Kept) → k.ticked ≤ k.state.time → IsQuiet (at_time last k) → IsQuietUntil last k
+quiet_until last k ticked q = record {
+  ticked = ticked;
+  quiet = λ time from upto. record {
+    commands = none_before (λ (c : TimedCommand). c.time) time last upto k.state.commands q.commands;
+    characters = none_before (λ (c : Character). c.time) time last upto k.state.characters q.characters;
+    asleep = q.asleep;
+    period = not_passed k.state.rate k.ticked time last upto q.period;
+  };
+}
+
+-- What is known of a station that stands for some state.
+
+-- in user mode Status is a user's
+user_by : (user slot : Bool) (c : CoreState) (p : ℕ) (m : State) → user ≡ true → OnProcessor user slot c p m → c.system.status ≡ user_status
+user_by false slot c p m is on = absurd (cc)
+user_by true true c p m is on = on.mode
+user_by true false c p m is on = on.mode
+
+status_by : (queue : List ℕ) (c : CoreState) (k : Kept) (m : State) → is_user c.system ≡ true → RunningBy queue c k m → c.system.status ≡ user_status
+status_by [] c k m user running = running
+status_by (p ∷ rest) c k m user running = user_by (is_user c.system) c.slot c p m user running.on
+
+pub user_status_of : (h : Held) → IsSound h → is_user h.core.system ≡ true → h.core.system.status ≡ user_status
+user_status_of h sound user = status_by h.kept.state.ready h.core h.kept sound.state user sound.stands.running
+
+-- the clock was ticked no later than now
+pub ticked_before : (h : Held) → IsSound h → h.kept.state.owed ≡ None → h.kept.ticked ≤ h.kept.state.time
+ticked_before h sound owed = subst (λ (n : ℕ). h.kept.ticked ≤ n) (ap (λ (o : Option Turn). began_or o h.kept.state.time) owed) sound.stands.devices.ticked

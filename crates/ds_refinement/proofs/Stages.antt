@@ -1,0 +1,450 @@
+-- One step of the processor in user mode keeps what the station stands for.
+use Rattle.std.proofs.Common.{◌≡◌, ◌≢◌, ℕ, ◌+◌, ◌-◌, ◌<◌, ◌≤◌, ◌^◌, ◌⊎◌, Bool, true, false, cond, List, [], ◌∷◌, length, refl, sym, ap, subst, ◌∙◌, arith, inl, inr}
+use Rattle.std.proofs.lemmas.List.{set-set}
+use Rattle.std.specs.Prelude.{Option, Some, None, is_some, ◌==◌, ◌&&◌}
+use Rattle.ds_word.specs.Word.{word, bits}
+use Rattle.ds_isa.specs.Registers.{Registers, settled}
+use Rattle.ds_procs.specs.declared.process.Standing.TheVariants.{Parked}
+use Rattle.ds_policy.specs.Grants.{PageState}
+use Rattle.ds_log.specs.declared.line.Line.TheVariants.{Denial}
+use Rattle.ds_procs.specs.Calls.{call_of}
+use Rattle.ds_grants.specs.State.{page_state}
+use Rattle.ds_cp0.specs.declared.exception.Exception.{Exception}
+use Rattle.ds_cp0.specs.System.{System, entered, asid_of, is_user, is_kuseg, pushed, vector, epc_of}
+use Rattle.ds_dev.specs.Bus.{BusState}
+use Rattle.ds_core.specs.declared.event.Event.{Event}
+use Rattle.ds_core.specs.declared.event.Event.TheVariants as event
+use Rattle.ds_core.specs.Core as core
+use Rattle.ds_core.specs.Core.{CoreState, core_at_next, core_at_vector, branched_core, with_tick, trapped}
+use Rattle.ds_core.specs.Effect as whole
+use Rattle.ds_cp0.specs.declared.exception.ExceptionCode.{ExceptionCode}
+use Rattle.ds_cp0.specs.declared.exception.ExceptionCode.TheVariants.{Interrupt}
+use Rattle.ds_pagemap.specs.declared.turn.Turn.{Turn}
+use Rattle.ds_pagemap.specs.Machine.{State, Process, process_of, with_process, no_process, made_unready, without, logged, first}
+use Rattle.ds_pagemap.specs.Boundary.{boundary, has_passed}
+use Rattle.ds_pagemap.specs.Calls.{served}
+use Rattle.ds_pagemap.specs.Unit.{Outcome, Went, Branched, Called, Stopped, Stop, unit, unit_of_first, instruction, after_instruction, after_slot, after_call, parked, settle, fault, at_pc, ticked, with_registers}
+use Rattle.ds_pagemap.specs.Run.{half_turn}
+use Rattle.ds_pagemap.proofs.Processes.{with_process_again}
+use Rattle.ds_refinement.specs.declared.cause.Cause.{Cause}
+use Rattle.ds_refinement.specs.declared.cause.Cause.TheVariants as cause
+use Rattle.ds_refinement.specs.declared.step.Step.TheVariants.{Inside, Unit}
+use Rattle.ds_refinement.specs.Told.{told}
+use Rattle.ds_refinement.specs.Held.{Held, Kept, bare, began_or, last_boundary}
+use Rattle.ds_refinement.specs.Stands.{user_status, owes_boundary, Promise, IsLinked, AtStart, InSlot, InService, IsVector, OnProcessor, RunningIs, RunningBy, KeptIs, AreResting, Stands}
+use Rattle.ds_refinement.specs.Leaves.{Leaves}
+use Rattle.ds_refinement.specs.Services.{after_event, step_of, with_turn}
+use Rattle.ds_refinement.specs.Steps.{Comes, Follows, ticks_of}
+use Rattle.ds_refinement.proofs.Exceptions.{slot_told, space_told, status_told, epc_told}
+use Rattle.ds_refinement.proofs.Registers.{HasSeat, seat_kept, process_put, registers_put, registers_again, registers_same}
+use Rattle.ds_refinement.proofs.Links.{branches_again, linked_settled}
+use Rattle.ds_refinement.proofs.Meets.{Retires, Turns, Raises, Meets, counted, instruction_meets}
+use Rattle.ds_refinement.proofs.Resting.{rests}
+
+-- Units.
+
+-- half a turn where no boundary is owed is a unit
+half_unit : (m : State) → m.owed ≡ None → unit m ≡ half_turn false m
+unfolding half_turn
+half_unit m owed = sym (ap (λ (x : Option Turn). cond (is_some x) (boundary m) (unit m)) owed)
+
+-- a unit of the first ready process
+unit_by : (m : State) (p : ℕ) (rest : List ℕ) → m.ready ≡ p ∷ rest
+    → unit m ≡ owes_boundary m.time p (after_instruction m p (process_of m p).pc (instruction m p (process_of m p).pc))
+unfolding unit
+unit_by m p rest ready = ap (λ (rs : List ℕ). record (unit_of_first m rs) { owed = Some (record { began = m.time; runner = first rs }) }) ready
+
+-- the state behind a unit, with the process in its new place
+abbrev behind : State → ℕ → Process → PageState → ℕ → State
+behind m p q pages ticks = record (with_process m p q) { memory = pages; time = m.time + ticks; owed = Some (record { began = m.time; runner = Some p }) }
+
+-- two changes of one process are the second
+twice : (m : State) (p : ℕ) (r : Registers) (pages : PageState) (ticks pc : ℕ) → HasSeat m p
+    → owes_boundary m.time p (ticked ticks (at_pc (record (with_registers m p r) { memory = pages }) p pc)) ≡ behind m p (record (process_of m p) { registers = r; pc = pc }) pages ticks
+twice m p r pages ticks pc seat =
+    ap (λ (q : Process). behind (with_process m p (record (process_of m p) { registers = r })) p (record q { pc = pc }) pages ticks) (process_put m p (record (process_of m p) { registers = r }) seat)
+    ∙ ap (λ (s : State). record s { memory = pages; time = m.time + ticks; owed = Some (record { began = m.time; runner = Some p }) })
+    (with_process_again m p (record (process_of m p) { registers = r }) (record (process_of m p) { registers = r; pc = pc }))
+
+-- A late load is finished where a unit stops or calls.
+
+-- a process that is put is settled
+settle_put : (m : State) (p : ℕ) (q : Process) → HasSeat m p → settle (with_process m p q) p ≡ with_process m p (record q { registers = settled q.registers })
+settle_put m p q seat =
+    ap (λ (x : Process). with_process (with_process m p q) p (record x { registers = settled x.registers })) (process_put m p q seat)
+    ∙ with_process_again m p q (record q { registers = settled q.registers })
+
+-- a settled process is settled again, parked
+unready_again : (m : State) (p : ℕ) → HasSeat m p
+    → settle (made_unready m p Parked) p ≡ settle (made_unready (with_registers m p (settled (process_of m p).registers)) p Parked) p
+unready_again m p seat =
+    let q : Process = record (process_of m p) { registers = settled (process_of m p).registers } in
+    let n : State = record m { ready = without m.ready p } in
+    settle_put n p (record (process_of m p) { standing = Parked }) seat
+    ∙ (sym (settle_put n p (record q { standing = Parked }) seat)
+    ∙ (sym (ap (λ (s : State). settle (record s { ready = without m.ready p }) p) (with_process_again m p q (record q { standing = Parked })))
+    ∙ sym (ap (λ (x : Process). settle (record (with_process (with_process m p q) p (record x { standing = Parked })) { ready = without m.ready p }) p) (process_put m p q seat))))
+
+-- a stop, whether the late load was finished before or not
+stopped_alike : (m : State) (p : ℕ) (r : Registers) (unit pc : ℕ) (stop : Stop) → HasSeat m p → r ≡ (process_of m p).registers
+    → owes_boundary m.time p (parked m p unit pc stop) ≡ owes_boundary m.time p (parked (with_registers m p (settled r)) p unit pc stop)
+stopped_alike m p r unit pc stop seat same =
+    ap (λ (s : State). owes_boundary m.time p (ticked 1 (logged (at_pc s p unit) (Denial m.time p pc stop.kind stop.address stop.rule stop.code)))) (unready_again m p seat)
+    ∙ ap (λ (x : Registers). owes_boundary m.time p (parked (with_registers m p (settled x)) p unit pc stop)) (sym same)
+
+-- a call alike
+called_alike : (m : State) (p : ℕ) (r : Registers) (pc : ℕ) → HasSeat m p → r ≡ (process_of m p).registers
+    → owes_boundary m.time p (after_call m p pc) ≡ owes_boundary m.time p (after_call (with_registers m p (settled r)) p pc)
+called_alike m p r pc seat same =
+    let does : State → State = λ (s : State). owes_boundary m.time p (let at = at_pc s p (word (pc + 4)) in ticked 1 (served at p pc (call_of (process_of at p).registers.general))) in
+    let q : Process = record (process_of m p) { registers = settled (process_of m p).registers } in
+    ap does (sym (settle_put m p q seat))
+    ∙ ap (λ (x : Registers). owes_boundary m.time p (after_call (with_registers m p (settled x)) p pc)) (sym same)
+
+-- What is promised where an instruction leaves the program.
+
+stops_not : (o : Outcome) (s : State) (target : ℕ) (stop : Stop) → o ≡ Branched s target → o ≡ Stopped stop → ⊥
+stops_not o s target stop e f = let g : Branched s target ≡ Stopped stop = sym e ∙ f in cc
+
+calls_not : (o : Outcome) (s : State) (target : ℕ) → o ≡ Branched s target → o ≡ Called → ⊥
+calls_not o s target e f = let g : Branched s target ≡ Called = sym e ∙ f in cc
+
+-- by the first instruction of the unit
+first_promise : (why : Cause) (bad : ℕ) (m : State) (p pc : ℕ) (r : Registers) (o : Outcome) → HasSeat m p → unit m ≡ owes_boundary m.time p (after_instruction m p pc o)
+    → (r ≡ (process_of m p).registers) ⊎ ((target : ℕ) × (o ≡ Branched (with_registers m p r) target)) → Leaves why bad false pc p m.memory o
+    → Promise why bad false pc p m (with_registers m p (settled r))
+first_promise (cause.Access access) bad m p pc r o seat u (inl same) l =
+    λ rule code d. u ∙ (ap (λ (x : Outcome). owes_boundary m.time p (after_instruction m p pc x)) (l rule code d) ∙ stopped_alike m p r pc pc _ seat same)
+first_promise (cause.Access access) bad m p pc r o seat u (inr again) l = λ rule code d. absurd (stops_not o _ again.0 _ again.1 (l rule code d))
+first_promise (cause.Fault code) bad m p pc r o seat u (inl same) l =
+    u ∙ (ap (λ (x : Outcome). owes_boundary m.time p (after_instruction m p pc x)) l ∙ stopped_alike m p r pc pc _ seat same)
+first_promise (cause.Fault code) bad m p pc r o seat u (inr again) l = absurd (stops_not o _ again.0 _ again.1 l)
+first_promise cause.Call bad m p pc r o seat u (inl same) l =
+    u ∙ (ap (λ (x : Outcome). owes_boundary m.time p (after_instruction m p pc x)) l ∙ called_alike m p r pc seat same)
+first_promise cause.Call bad m p pc r o seat u (inr again) l = absurd (calls_not o _ again.0 again.1 l)
+
+-- by the slot, in the state behind its branch
+slot_promise : (why : Cause) (bad : ℕ) (m : State) (p pc : ℕ) (r : Registers) (target : ℕ) (o : Outcome)
+    → unit m ≡ owes_boundary m.time p (after_slot (with_registers m p r) p pc (word (pc + 4)) target o) → Leaves why bad true (word (pc + 4)) p m.memory o
+    → Promise why bad true pc p m (with_registers m p r)
+slot_promise (cause.Access access) bad m p pc r target o u l =
+    λ rule code d. u ∙ ap (λ (x : Outcome). owes_boundary m.time p (after_slot (with_registers m p r) p pc (word (pc + 4)) target x)) (l rule code d)
+slot_promise (cause.Fault code) bad m p pc r target o u (inl l) = u ∙ ap (λ (x : Outcome). owes_boundary m.time p (after_slot (with_registers m p r) p pc (word (pc + 4)) target x)) l
+slot_promise (cause.Fault code) bad m p pc r target o u (inr l) =
+    u ∙ (ap (λ (x : Outcome). owes_boundary m.time p (after_slot (with_registers m p r) p pc (word (pc + 4)) target x)) l.1.2
+    ∙ ap (λ (n : ℕ). owes_boundary m.time p (parked (with_registers m p r) p pc (word (pc + 4)) (fault (word (pc + 4)) n))) (sym l.0))
+slot_promise cause.Call bad m p pc r target o u l = u ∙ ap (λ (x : Outcome). owes_boundary m.time p (after_slot (with_registers m p r) p pc (word (pc + 4)) target x)) l
+
+-- what the processor left, seen from another place of the same value
+leaves_as : (why : Cause) (bad p : ℕ) (a b : Bool) (pc at : ℕ) (s : PageState) (o o' : Outcome) → a ≡ b → pc ≡ at → o ≡ o' → Leaves why bad a pc p s o → Leaves why bad b at p s o'
+leaves_as why bad p a b pc at s o o' e f g l = subst (λ (x : Outcome). Leaves why bad b at p s x) g (subst (λ (x : ℕ). Leaves why bad b x p s o) f (subst (λ (x : Bool). Leaves why bad x pc p s o) e l))
+
+-- where the processor stands, by its mode and slot
+on_as : (c : CoreState) (p : ℕ) (m : State) (a b a' b' : Bool) → a ≡ a' → b ≡ b' → OnProcessor a' b' c p m → OnProcessor a b c p m
+on_as c p m a b a' b' e f k = rw (e, f) k
+
+mode_on : (slot : Bool) (c : CoreState) (p : ℕ) (m : State) → OnProcessor true slot c p m → c.system.status ≡ user_status
+mode_on true c p m k = k.mode
+mode_on false c p m k = k.mode
+
+-- where an exception goes on
+vector_is : (e : Exception) → IsVector (vector e)
+vector_is e = elim (e.miss && is_kuseg e.addr) as (λ b. IsVector (cond b 0x80000000 0x80000080)) [ true ↦ inl refl | false ↦ inr refl ]
+
+back_4 : (a : ℕ) → a < 2 ^ 32 → word (word (a + 4) + (2 ^ 32 - 4)) ≡ a
+back_4 a small = omega (arith, small)
+
+-- The station stands for m, and the first ready process is in its unit.
+module _ (h : Held) (m : State) (p : ℕ) (rest : List ℕ) (k : Stands h m) (ready : h.kept.state.ready ≡ p ∷ rest) (owed : h.kept.state.owed ≡ None) (user : is_user h.core.system ≡ true) where
+  -- what is kept, by who is ready
+  kept : KeptIs (p ∷ rest) h.kept h.bus.memory m
+  kept = subst (λ (rs : List ℕ). KeptIs rs h.kept h.bus.memory m) ready k.kept
+
+  running : RunningIs p h.core h.kept m
+  running = subst (λ (rs : List ℕ). RunningBy rs h.core h.kept m) ready k.running
+
+  on : OnProcessor true h.core.slot h.core p m
+  on = on_as h.core p m true h.core.slot (is_user h.core.system) h.core.slot (sym user) refl running.on
+
+  mode : h.core.system.status ≡ user_status
+  mode = mode_on h.core.slot h.core p m on
+
+  owes_none : m.owed ≡ None
+  owes_none = ap (λ (s : State). s.owed) kept.state ∙ owed
+
+  times : m.time ≡ h.kept.state.time
+  times = ap (λ (s : State). s.time) kept.state
+
+  some_ready : m.ready ≢ []
+  some_ready = λ (none : m.ready ≡ []). let e : p ∷ rest ≡ [] = sym kept.ready ∙ none in cc
+
+  is_unit : unit m ≡ owes_boundary m.time p (after_instruction m p (process_of m p).pc (instruction m p (process_of m p).pc))
+  is_unit = unit_by m p rest kept.ready
+
+  -- The instruction is done, and with it the unit.
+
+  -- what is kept behind the unit
+  kept_behind : (q : Process) (memory : List ℕ) (ticks : ℕ) → KeptIs (p ∷ rest) (record h.kept { state = with_turn ticks h.kept.state }) memory (behind m p q (page_state h.kept.grants memory) ticks)
+  kept_behind q memory ticks = record {
+    ready = kept.ready;
+    state =
+        ap (λ (qs : List Process). bare (record m { processes = qs; time = m.time + ticks; owed = Some (record { began = m.time; runner = Some p }) })) (set-set m.processes (p - 1) q no_process)
+        ∙ (ap (λ (s : State). record s { time = s.time + ticks; owed = Some (record { began = s.time; runner = Some p }) }) kept.state
+        ∙ ap (λ (rs : List ℕ). record (with_process h.kept.state p no_process) { time = h.kept.state.time + ticks; owed = Some (record { began = h.kept.state.time; runner = first rs }) }) (sym ready));
+    pages = refl;
+    log = kept.log;
+    lines = kept.lines;
+  }
+
+  -- and the process itself
+  running_behind : (r : Registers) (pages : PageState) (ticks pc : ℕ) → h.core.next ≡ pc
+      → RunningIs p (core_at_next (counted h.core) r) (record h.kept { state = with_turn ticks h.kept.state }) (behind m p (record (process_of m p) { registers = r; pc = pc }) pages ticks)
+  running_behind r pages ticks pc next =
+      let q : Process = record (process_of m p) { registers = r; pc = pc } in
+      let s = behind m p q pages ticks in
+      let c = core_at_next (counted h.core) r in
+      let is : process_of s p ≡ q = process_put m p q running.seat in
+      let a : AtStart c p s = record {
+        mode = mode;
+        first = refl;
+        pc = next ∙ ap (λ (x : Process). x.pc) (sym is);
+        next = ap (λ (n : ℕ). word (n + 4)) (next ∙ ap (λ (x : Process). x.pc) (sym is));
+        registers = inl (ap (λ (x : Process). x.registers) (sym is));
+      } in
+      record {
+        seat = seat_kept m p q running.seat;
+        standing = ap (λ (x : Process). x.standing) is ∙ running.standing;
+        kept = running.kept;
+        line = ap (λ (x : Process). x.line) is ∙ running.line;
+        owner = running.owner;
+        space = running.space;
+        on = on_as c p s (is_user c.system) c.slot true false user refl a;
+      }
+
+  -- the devices are as they were, and the boundary that is owed began now
+  devices_behind : (memory : List ℕ) (ticks : ℕ) → AreResting (record h.bus { memory = memory }) (record h.kept { state = with_turn ticks h.kept.state })
+  devices_behind memory ticks =
+      let now : last_boundary h.kept.state ≡ h.kept.state.time = ap (λ (o : Option Turn). began_or o h.kept.state.time) owed in
+      record {
+        serial = k.devices.serial;
+        clock = k.devices.clock;
+        system = k.devices.system;
+        ticked = subst (λ (n : ℕ). h.kept.ticked ≤ n) now k.devices.ticked;
+        period = subst (λ (n : ℕ). has_passed h.kept.state.rate h.kept.ticked n ≡ false) now k.devices.period;
+      }
+
+  -- a unit of so many ticks ends, and the program goes on at pc
+  retires : (r : Registers) (memory : List ℕ) (ticks pc : ℕ) → length memory ≡ 2 ^ 23
+      → unit m ≡ owes_boundary m.time p (ticked ticks (at_pc (record (with_registers m p r) { memory = page_state h.kept.grants memory }) p pc))
+      → h.core.next ≡ pc → ticks_of h.core.slot ≡ ticks
+      → Comes Unit (after_event event.Retired h (record { event = event.Retired; core = core_at_next (counted h.core) r; bus = record h.bus { memory = memory } })) m
+  retires r memory ticks pc size is next long =
+      let new = after_event event.Retired h (record { event = event.Retired; core = core_at_next (counted h.core) r; bus = record h.bus { memory = memory } }) in
+      let q : Process = record (process_of m p) { registers = r; pc = pc } in
+      let s = behind m p q (page_state h.kept.grants memory) ticks in
+      let there : unit m ≡ s = is ∙ twice m p r (page_state h.kept.grants memory) ticks pc running.seat in
+      let stands : Stands new s = record {
+        buffer = k.buffer;
+        grants = k.grants;
+        size = size;
+        kept = subst (λ (rs : List ℕ). KeptIs rs new.kept memory s) (sym ready)
+            (subst (λ (n : ℕ). KeptIs (p ∷ rest) (record h.kept { state = with_turn n h.kept.state }) memory s) (sym long) (kept_behind q memory ticks));
+        running = subst (λ (rs : List ℕ). RunningBy rs new.core new.kept s) (sym ready)
+            (subst (λ (n : ℕ). RunningIs p new.core (record h.kept { state = with_turn n h.kept.state }) s) (sym long) (running_behind r (page_state h.kept.grants memory) ticks pc next));
+        devices = devices_behind memory (ticks_of h.core.slot);
+      } in
+      (unit m, (owes_none, some_ready, (false, false, half_unit m owes_none)), subst (Stands new) (sym there) stands)
+
+  -- Inside the unit.
+
+  -- the station goes on to stand for m, with the processor in another place
+  stays : (c : CoreState) (e : Event) → c.entries ≡ h.core.entries → asid_of c.system ≡ asid_of h.core.system → OnProcessor (is_user c.system) c.slot c p m
+      → Stands (record h { core = c }) m
+  stays c e entries space on = record {
+    buffer = rw entries k.buffer;
+    grants = k.grants;
+    size = k.size;
+    kept = k.kept;
+    running = subst (λ (rs : List ℕ). RunningBy rs c h.kept m) (sym ready) (record {
+      seat = running.seat;
+      standing = running.standing;
+      kept = running.kept;
+      line = running.line;
+      owner = running.owner;
+      space = space ∙ running.space;
+      on = on;
+    });
+    devices = k.devices;
+  }
+
+  -- a branch goes on to its slot
+  turns : (r : Registers) (target : ℕ) → h.core.next ≡ word ((process_of m p).pc + 4) → (process_of m p).pc < 2 ^ 32
+      → instruction m p (process_of m p).pc ≡ Branched (with_registers m p r) target
+      → Comes Inside (after_event event.Branched h (record { event = event.Branched; core = branched_core (counted h.core) r target; bus = h.bus })) m
+  turns r target next within is =
+      let c = branched_core (counted h.core) r target in
+      let a : InSlot c p m = record { mode = mode; second = refl; owed = owes_none; pc = next; within = within; branched = is } in
+      (m, (some_ready, false, refl), stays c event.Branched refl refl (on_as c p m (is_user c.system) c.slot true true user refl a))
+
+  -- an exception comes
+  raises : (e : Exception) → e.slot ≡ h.core.slot → epc_of e ≡ (process_of m p).pc
+      → (settled h.core.registers ≡ settled (process_of m p).registers) ⊎ IsLinked (settled h.core.registers) p m
+      → Promise (told (entered h.core.system e) m.memory p) (entered h.core.system e).bad_vaddr h.core.slot (process_of m p).pc p m (with_registers m p (settled h.core.registers))
+      → Comes Inside (after_event (event.Raised e.code) h (record { event = event.Raised e.code; core = core_at_vector (counted h.core) e; bus = h.bus })) m
+  raises e slot at registers promise =
+      let s : System = entered h.core.system e in
+      let c = core_at_vector (counted h.core) e in
+      let status : s.status ≡ pushed user_status = status_told h.core.system e ∙ ap pushed mode in
+      let a : InService c p m = record {
+        mode = status;
+        first = refl;
+        vector = vector_is e;
+        owed = owes_none;
+        epc = epc_told h.core.system e ∙ at;
+        registers = registers;
+        promise = subst (λ (b : Bool). Promise (told s m.memory p) s.bad_vaddr b (process_of m p).pc p m (with_registers m p (settled h.core.registers))) (sym (slot_told h.core.system e ∙ slot)) promise;
+      } in (
+        m,
+        (some_ready, false, refl),
+        stays c (event.Raised e.code) refl (space_told h.core.system e)
+            (on_as c p m (is_user c.system) c.slot false false (ap (λ (w : ℕ). bits w 1 1 == 1) status) refl a),
+      )
+
+  -- The instruction of the machine, with the registers of the processor.
+
+  -- the process with them
+  abbrev here : State
+  here = with_registers m p h.core.registers
+
+  -- both do the same instruction
+  pub both_meet : h.core.pc < 2 ^ 32 → (s : core.Step) → s ≡ whole.step h.core h.bus → Meets h.core h.bus h.kept.grants here p (instruction here p h.core.pc) s
+  both_meet small s is =
+      let quiet : whole.step h.core h.bus ≡ with_tick (whole.instruction h.core h.bus) =
+      ap (λ (b : Bool). cond b (trapped h.core h.bus Interrupt) (with_tick (whole.instruction h.core h.bus))) (rests h.bus h.kept h.core.system k.devices mode) in
+      subst (Meets h.core h.bus h.kept.grants here p (instruction here p h.core.pc)) (sym (is ∙ quiet))
+      (instruction_meets h.core h.bus h.kept here p (sym (registers_put m p h.core.registers running.seat)) kept.pages k.size mode small k.buffer k.grants running.seat.0 running.owner running.space)
+
+  -- registers that are put here are put in m
+  put_here : (r : Registers) → with_registers here p r ≡ with_registers m p r
+  put_here r = registers_again m p h.core.registers r running.seat
+
+  -- what the station comes to by a step
+  abbrev Goes : core.Step → Type 0
+  Goes s = Comes (step_of s.event) (after_event s.event h s) m
+
+  -- at the unit's beginning
+  module _ (small : h.core.pc < 2 ^ 32) (a : AtStart h.core p m) where
+    -- the first instruction does here what it does in m
+    first_alike : instruction here p h.core.pc ≡ instruction m p (process_of m p).pc
+    first_alike = ap (instruction here p) a.pc ∙ elim a.registers [
+      | inl same ↦ ap (λ (s : State). instruction s p (process_of m p).pc) (registers_same m p h.core.registers same)
+      | inr again ↦ branches_again m p (process_of m p).pc h.core.registers again.2.target running.seat again.1 again.2.branched
+    ]
+
+    first_retires : (s : core.Step) → Retires h.core h.bus h.kept.grants here p (instruction here p h.core.pc) s → Goes s
+    first_retires s w =
+        let pages = page_state h.kept.grants w.memory in
+        let went : instruction m p (process_of m p).pc ≡ Went (record (with_registers m p w.after) { memory = pages }) =
+        sym first_alike ∙ (w.went ∙ ap (λ (t : State). Went (record t { memory = pages })) (put_here w.after)) in
+        subst Goes (sym w.step)
+        (retires w.after w.memory 1 (word ((process_of m p).pc + 4)) w.size (is_unit ∙ ap (λ (x : Outcome). owes_boundary m.time p (after_instruction m p (process_of m p).pc x)) went) a.next (ap ticks_of a.first))
+
+    first_turns : (s : core.Step) → Turns h.core h.bus here p (instruction here p h.core.pc) s → Goes s
+    first_turns s w =
+        subst Goes (sym w.step)
+        (turns w.after w.target a.next (subst (λ (n : ℕ). n < 2 ^ 32) a.pc small) (sym first_alike ∙ (w.went ∙ ap (λ (t : State). Branched t w.target) (put_here w.after))))
+
+    first_raises : (s : core.Step) → Raises h.core h.bus here p (instruction here p h.core.pc) s → Goes s
+    first_raises s w =
+        let t : System = entered h.core.system w.what in
+        let pc : ℕ = (process_of m p).pc in
+        let leaves : Leaves (told t m.memory p) t.bad_vaddr false pc p m.memory (instruction m p pc) =
+        leaves_as (told t m.memory p) t.bad_vaddr p h.core.slot false h.core.pc pc m.memory (instruction here p h.core.pc) (instruction m p pc) a.first a.pc first_alike w.leaves in
+        let linked : (h.core.registers ≡ (process_of m p).registers) ⊎ ((target : ℕ) × (instruction m p pc ≡ Branched (with_registers m p h.core.registers) target)) =
+        elim a.registers [ inl same ↦ inl same | inr again ↦ inr (again.2.target, again.2.branched) ] in
+        let promise : Promise (told t m.memory p) t.bad_vaddr false pc p m (with_registers m p (settled h.core.registers)) =
+        first_promise (told t m.memory p) t.bad_vaddr m p pc h.core.registers (instruction m p pc) running.seat is_unit linked leaves in
+        subst Goes (sym w.step)
+        (raises w.what w.slot (ap (λ (b : Bool). cond b (word (w.what.pc + (2 ^ 32 - 4))) w.what.pc) (w.slot ∙ a.first) ∙ (w.pc ∙ a.pc))
+        (elim a.registers [
+          | inl same ↦ inl (ap settled same)
+          | inr again ↦
+              let z : settled h.core.registers ≡ h.core.registers = linked_settled m p pc h.core.registers again.2.target running.seat again.2.branched in
+              inr (record { target = again.2.target; branched = again.2.branched ∙ ap (λ (x : Registers). Branched (with_registers m p x) again.2.target) (sym z) })
+        ])
+        (subst (λ (b : Bool). Promise (told t m.memory p) t.bad_vaddr b pc p m (with_registers m p (settled h.core.registers))) (sym a.first) promise))
+
+  -- in the slot
+  module _ (a : InSlot h.core p m) where
+    -- the unit, by what comes of its slot
+    slot_unit : unit m ≡ owes_boundary m.time p (after_slot here p (process_of m p).pc (word ((process_of m p).pc + 4)) h.core.next (instruction here p h.core.pc))
+    slot_unit =
+        is_unit ∙ (ap (λ (x : Outcome). owes_boundary m.time p (after_instruction m p (process_of m p).pc x)) a.branched
+        ∙ ap (λ (n : ℕ). owes_boundary m.time p (after_slot here p (process_of m p).pc (word ((process_of m p).pc + 4)) h.core.next (instruction here p n))) (sym a.pc))
+
+    slot_retires : (s : core.Step) → Retires h.core h.bus h.kept.grants here p (instruction here p h.core.pc) s → Goes s
+    slot_retires s w =
+        let pages = page_state h.kept.grants w.memory in
+        let went : instruction here p h.core.pc ≡ Went (record (with_registers m p w.after) { memory = pages }) =
+        w.went ∙ ap (λ (t : State). Went (record t { memory = pages })) (put_here w.after) in
+        subst Goes (sym w.step)
+        (retires w.after w.memory 2 h.core.next w.size
+        (slot_unit ∙ ap (λ (x : Outcome). owes_boundary m.time p (after_slot here p (process_of m p).pc (word ((process_of m p).pc + 4)) h.core.next x)) went) refl (ap ticks_of a.second))
+
+    slot_turns : (s : core.Step) → Turns h.core h.bus here p (instruction here p h.core.pc) s → Goes s
+    slot_turns s w = let no : true ≡ false = sym a.second ∙ w.outside in absurd cc
+
+    slot_raises : (s : core.Step) → Raises h.core h.bus here p (instruction here p h.core.pc) s → Goes s
+    slot_raises s w =
+        let t : System = entered h.core.system w.what in
+        let pc : ℕ = (process_of m p).pc in
+        let z : settled h.core.registers ≡ h.core.registers = linked_settled m p pc h.core.registers h.core.next running.seat a.branched in
+        let leaves : Leaves (told t m.memory p) t.bad_vaddr true (word (pc + 4)) p m.memory (instruction here p h.core.pc) =
+        leaves_as (told t m.memory p) t.bad_vaddr p h.core.slot true h.core.pc (word (pc + 4)) m.memory (instruction here p h.core.pc) (instruction here p h.core.pc) a.second a.pc refl w.leaves in
+        let promise : Promise (told t m.memory p) t.bad_vaddr true pc p m (with_registers m p (settled h.core.registers)) =
+        subst (λ (x : Registers). Promise (told t m.memory p) t.bad_vaddr true pc p m (with_registers m p x)) (sym z)
+        (slot_promise (told t m.memory p) t.bad_vaddr m p pc h.core.registers h.core.next (instruction here p h.core.pc) slot_unit leaves) in
+        subst Goes (sym w.step)
+        (raises w.what w.slot
+        (ap (λ (b : Bool). cond b (word (w.what.pc + (2 ^ 32 - 4))) w.what.pc) (w.slot ∙ a.second) ∙ (ap (λ (n : ℕ). word (n + (2 ^ 32 - 4))) (w.pc ∙ a.pc) ∙ back_4 pc a.within))
+        (inr (record { target = h.core.next; branched = a.branched ∙ ap (λ (x : Registers). Branched (with_registers m p x) h.core.next) (sym z) }))
+        (subst (λ (b : Bool). Promise (told t m.memory p) t.bad_vaddr b pc p m (with_registers m p (settled h.core.registers))) (sym a.second) promise))
+
+  -- by where the processor stands
+  by_slot : (slot : Bool) → OnProcessor true slot h.core p m → h.core.pc < 2 ^ 32 → (s : core.Step) → Meets h.core h.bus h.kept.grants here p (instruction here p h.core.pc) s → Goes s
+  by_slot false a small s (inl w) = first_retires small a s w
+  by_slot false a small s (inr (inl w)) = first_turns small a s w
+  by_slot false a small s (inr (inr w)) = first_raises small a s w
+  by_slot true a small s (inl w) = slot_retires a s w
+  by_slot true a small s (inr (inl w)) = slot_turns a s w
+  by_slot true a small s (inr (inr w)) = slot_raises a s w
+
+  -- one step of the processor
+  pub step_comes : h.core.pc < 2 ^ 32 → (s : core.Step) → s ≡ whole.step h.core h.bus → Goes s
+  step_comes small s is = by_slot h.core.slot on small s (both_meet small s is)
+
+-- What is told of an exception is what the machine needs.
+
+-- where the step raised one
+raised_leaves : (c : CoreState) (b : BusState) (k : Kept) (m : State) (p : ℕ) (o : Outcome) (s : core.Step) (code : ExceptionCode) → s.event ≡ event.Raised code → Meets c b k.grants m p o s
+    → Leaves (told s.core.system m.memory p) s.core.system.bad_vaddr c.slot c.pc p m.memory o
+raised_leaves c b k m p o s code is (inl w) = let e : event.Retired ≡ event.Raised code = sym (ap (λ (x : core.Step). x.event) w.step) ∙ is in absurd cc
+raised_leaves c b k m p o s code is (inr (inl w)) = let e : event.Branched ≡ event.Raised code = sym (ap (λ (x : core.Step). x.event) w.step) ∙ is in absurd cc
+raised_leaves c b k m p o s code is (inr (inr w)) = subst (λ (x : core.Step). Leaves (told x.core.system m.memory p) x.core.system.bad_vaddr c.slot c.pc p m.memory o) (sym w.step) w.leaves
+
+pub exception_leaves : (h : Held) (m : State) (p : ℕ) (rest : List ℕ) (s : core.Step) (code : ExceptionCode) → Stands h m → h.kept.state.ready ≡ p ∷ rest → h.kept.state.owed ≡ None → is_user h.core.system ≡ true → h.core.pc < 2 ^ 32
+    → s ≡ whole.step h.core h.bus → s.event ≡ event.Raised code
+    → Leaves (told s.core.system m.memory p) s.core.system.bad_vaddr h.core.slot h.core.pc p m.memory (instruction (with_registers m p h.core.registers) p h.core.pc)
+exception_leaves h m p rest s code k ready owed user small is raised =
+    raised_leaves h.core h.bus h.kept (with_registers m p h.core.registers) p (instruction (with_registers m p h.core.registers) p h.core.pc) s code raised (both_meet h m p rest k ready owed user small s is)
+
+-- whoever is ready
+ready_comes : (rs : List ℕ) (h : Held) (m : State) (s : core.Step) → h.kept.state.ready ≡ rs → rs ≢ [] → Stands h m → h.kept.state.owed ≡ None → is_user h.core.system ≡ true → h.core.pc < 2 ^ 32 → s ≡ whole.step h.core h.bus
+    → Comes (step_of s.event) (after_event s.event h s) m
+ready_comes [] h m s ready some k owed user small is = absurd (some refl)
+ready_comes (p ∷ rest) h m s ready some k owed user small is = step_comes h m p rest k ready owed user small s is
+
+-- one step of the processor in user mode is one instruction of the machine
+pub step_follows : (h : Held) (s : core.Step) → s ≡ whole.step h.core h.bus → h.kept.state.owed ≡ None → h.kept.state.ready ≢ [] → is_user h.core.system ≡ true → h.core.pc < 2 ^ 32
+    → Follows (step_of s.event) h (after_event s.event h s)
+step_follows h s is owed some user small = record { follows = λ m k. ready_comes h.kept.state.ready h m s refl some k owed user small is }

@@ -1,0 +1,66 @@
+-- What a station holds: the processor, the bus with memory and devices, and what it keeps beside them.
+use Rattle.std.specs.Prelude.{ℕ, ◌==◌, Bool, if◌then◌else◌, List, [], ◌∷◌, Option, Some, None}
+use Rattle.ds_policy.specs.Grants.{PageState}
+use Rattle.ds_log.specs.declared.line.Line.{Line}
+use Rattle.ds_grants.specs.State.{GrantsState, page_state}
+use Rattle.ds_dev.specs.Bus.{BusState}
+use Rattle.ds_core.specs.Core.{CoreState}
+use Rattle.ds_pagemap.specs.declared.turn.Turn.{Turn}
+use Rattle.ds_pagemap.specs.Machine.{State, no_process, with_process}
+use Rattle.ds_pagemap_laws.specs.Settled.{all_settled}
+
+-- what is kept beside the processor and its bus
+pub record Kept : Type 0 where
+  -- the machine's state but for pages, table and log; its late loads are finished, and of the process that runs it has only its standing and its line
+  pub state : State
+  pub grants : GrantsState
+  -- the text of the log, and how many lines it has
+  pub log : List ℕ
+  pub lines : ℕ
+  -- the process that has the one address space
+  pub owner : ℕ
+  -- the time to which the clock was brought
+  pub ticked : ℕ
+
+-- the station's own marks
+pub record Own : Type 0 where
+  pub failed : Bool
+  -- how many instructions the unit has taken so far
+  pub spent : ℕ
+
+-- all that a station holds
+pub record Held : Type 0 where
+  pub core : CoreState
+  pub bus : BusState
+  pub kept : Kept
+  pub own : Own
+
+-- no pages, and no table
+abbrev pub no_memory : PageState
+no_memory = record { pages = []; table = []; named = 0 }
+
+-- a state as it is kept: without pages, table and log, and with late loads finished
+abbrev pub bare : State → State
+bare m = record (all_settled m) { memory = no_memory; log = [] }
+
+-- the whole state of what is kept, with the pages that lie in a memory and with these lines in its log
+abbrev pub whole : Kept → List ℕ → List Line → State
+whole k memory log = record k.state { memory = page_state k.grants memory; log = log }
+
+-- the state without the process that runs: its seat says nothing while the processor has it
+abbrev pub vacated : List ℕ → State → State
+vacated [] m = m
+vacated (p ∷ rest) m = with_process m p no_process
+
+-- the number of a process's address space, or 0 where it has none
+abbrev pub space_of : Kept → ℕ → ℕ
+space_of k p = if p == k.owner then 1 else 0
+
+-- the time at which a turn began that still owes its boundary, or else this time
+abbrev pub began_or : Option Turn → ℕ → ℕ
+began_or None time = time
+began_or (Some turn) time = turn.began
+
+-- the time of the last boundary
+abbrev pub last_boundary : State → ℕ
+last_boundary m = began_or m.owed m.time

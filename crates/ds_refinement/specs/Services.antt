@@ -1,0 +1,145 @@
+-- What instructions, services and boundaries make of what is held.
+use Rattle.std.specs.Prelude.{◌≡◌, ℕ, ◌+◌, ◌<◌, ◌≤◌, ◌++◌, true, false, if◌then◌else◌, List, [], ◌∷◌, length, flat_map, slice_set, Some, None, unwrap_or}
+use Rattle.ds_word.specs.Word.{word}
+use Rattle.ds_isa.specs.Registers.{Registers, settled}
+use Rattle.ds_procs.specs.declared.process.Standing.TheVariants.{Ready}
+use Rattle.ds_log.specs.declared.line.Line.{Line}
+use Rattle.ds_log.specs.Text.{line_text}
+use Rattle.ds_tlb.specs.declared.entry.Entry.{Entry}
+use Rattle.ds_tlb.specs.Entries.{find}
+use Rattle.ds_cp0.specs.System.{is_user, asid_of}
+use Rattle.ds_grants.specs.Buffer.{BufferHolds}
+use Rattle.ds_grants.specs.Sound.{NamesPages}
+use Rattle.ds_core.specs.declared.event.Event.{Event}
+use Rattle.ds_core.specs.declared.event.Event.TheVariants.{Retired, Branched, Raised}
+use Rattle.ds_core.specs.Core as core
+use Rattle.ds_core.specs.Core.{CoreState}
+use Rattle.ds_pagemap.specs.Machine.{State, Process, process_of, with_process, first, touched_process}
+use Rattle.ds_refinement.specs.declared.step.Step.{Step}
+use Rattle.ds_refinement.specs.declared.step.Step.TheVariants.{Inside, Unit}
+use Rattle.ds_refinement.specs.Held.{Held, Kept, Own, no_memory, whole, space_of}
+use Rattle.ds_refinement.specs.Stands.{AreResting, user_status}
+use Rattle.ds_refinement.specs.Steps.{ticks_of}
+
+-- a turn of so many ticks is done, and its boundary is owed
+abbrev pub with_turn : ℕ → State → State
+with_turn ticks m = record m { time = m.time + ticks; owed = Some (record { began = m.time; runner = first m.ready }) }
+
+-- no instruction of a unit has begun
+abbrev pub with_none_spent : Own → Own
+with_none_spent own = record own { spent = 0 }
+
+-- an instruction begins, and counts
+abbrev pub with_one_spent : Held → Held
+with_one_spent h = record h { own = record h.own { spent = h.own.spent + 1 } }
+
+-- what is held behind one step of the processor: where the instruction is done, so is its unit
+abbrev pub after_event : Event → Held → core.Step → Held
+after_event Retired h s = record h { core = s.core; bus = s.bus; kept = record h.kept { state = with_turn (ticks_of h.core.slot) h.kept.state }; own = with_none_spent h.own }
+after_event Branched h s = record h { core = s.core; bus = s.bus }
+after_event (Raised code) h s = record h { core = s.core; bus = s.bus }
+
+-- what an instruction's step comes to: the end of its unit where it is done, else it stays inside
+abbrev pub step_of : Event → Step
+step_of Retired = Unit
+step_of Branched = Inside
+step_of (Raised code) = Inside
+
+-- The running process leaves the processor for its seat.
+
+-- where the process goes on: in a service at EPC
+abbrev pub resume_address : CoreState → ℕ
+resume_address c = if is_user c.system then c.pc else c.system.epc
+
+-- the process with what the processor has of it; a late load is finished
+abbrev pub seated_process : CoreState → Process → Process
+seated_process c q = record q { registers = settled c.registers; pc = resume_address c }
+
+-- the first of the ready processes in its seat
+abbrev pub with_first_seated : CoreState → State → List ℕ → State
+with_first_seated c m [] = m
+with_first_seated c m (p ∷ rest) = with_process m p (seated_process c (process_of m p))
+
+-- what is kept once the running process is in its seat
+abbrev pub seated : CoreState → Kept → Kept
+seated c k = record k { state = with_first_seated c k.state k.state.ready }
+
+-- The first ready process comes on the processor.
+
+-- the processor has the process, touched, at the beginning of its unit
+pub record Enters (p : ℕ) (q : Process) (c : CoreState) (k : Kept) : Type 0 where
+  pub mode : c.system.status ≡ user_status
+  pub owner : k.owner ≡ p
+  pub space : asid_of c.system ≡ space_of k p
+  pub first : c.slot ≡ false
+  pub pc : c.pc ≡ q.pc
+  pub next : c.next ≡ word (q.pc + 4)
+  pub registers : c.registers ≡ (touched_process q).registers
+  pub seat : (0 < p) × (p ≤ length k.state.processes)
+  pub standing : q.standing ≡ Ready
+
+-- whoever is first; where nobody is ready the processor rests
+abbrev pub EntersBy : List ℕ → CoreState → Kept → Type 0
+EntersBy [] c k = c.system.status ≡ user_status
+EntersBy (p ∷ rest) c k = Enters p (process_of k.state p) c k
+
+-- Services.
+
+-- what is kept has neither pages, nor a table, nor lines of the log in its state
+pub record IsBare (m : State) : Type 0 where
+  pub memory : m.memory ≡ no_memory
+  pub log : m.log ≡ []
+
+-- Between the two kept states and their memories lies what f does to the machine's state, with these lines added to the log.
+pub record Serves (f : State → State) (old : Kept) (before : List ℕ) (new : Kept) (after : List ℕ) : Type 0 where
+  pub lines : List Line
+  pub state : (log : List Line) → f (whole old before log) ≡ whole new after (log ++ lines)
+  pub bare : IsBare new.state
+  pub text : new.log ≡ old.log ++ flat_map line_text lines
+  pub count : new.lines ≡ old.lines + length lines
+
+-- A service that ends its unit: the running process leaves for its seat, f is done to what is kept, and the first ready process comes in.
+pub record EndsBy (f : State → State) (old new : Held) : Type 0 where
+  pub serves : Serves f (seated old.core old.kept) old.bus.memory new.kept new.bus.memory
+  pub enters : EntersBy new.kept.state.ready new.core new.kept
+  pub buffer : BufferHolds new.core.entries (space_of new.kept) new.kept.grants
+  pub grants : NamesPages new.kept.grants
+  pub size : length new.bus.memory ≡ length old.bus.memory
+  pub devices : AreResting new.bus new.kept
+
+-- A service that lets the unit go on: the buffer is refilled, and the unit begins again.
+
+-- the processor back in user mode, at an address
+abbrev pub at_unit : CoreState → ℕ → CoreState
+at_unit c pc = record c { pc = pc; next = word (pc + 4); slot = false; system = record c.system { status = user_status } }
+
+-- registers 26 and 27 go to the refill
+abbrev pub touched_registers : Registers → ℕ → Registers
+touched_registers r pc = record (settled r) { general = slice_set (slice_set r.general 26 0) 27 pc }
+
+-- the buffer with an entry in the place of what its address space has for its page, or where Random tells
+abbrev pub refilled : CoreState → Entry → List Entry
+refilled c e = slice_set c.entries (unwrap_or (find c.entries e.vpn e.asid) c.random) e
+
+-- the buffer is refilled, and the unit begins again with registers 26 and 27 lost
+abbrev pub with_refill : Held → Entry → Held
+with_refill h e = record h {
+  core = record (at_unit h.core h.core.system.epc) {
+    registers = touched_registers h.core.registers h.core.system.epc;
+    entries = refilled h.core e;
+  };
+}
+
+-- Boundaries.
+
+-- the boundary that is owed has nothing to do
+abbrev pub with_boundary : Held → Held
+with_boundary h = record h { kept = record h.kept { state = record h.kept.state { owed = None } } }
+
+-- a turn in which no process runs
+abbrev pub with_idle_turn : Held → Held
+with_idle_turn h = record h { kept = record h.kept { state = with_turn 1 h.kept.state } }
+
+-- the run has failed, and nothing else is changed
+abbrev pub with_failure : Held → Held
+with_failure h = record h { own = record h.own { failed = true } }

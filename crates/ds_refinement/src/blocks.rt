@@ -1,0 +1,59 @@
+//! Many instructions at once are a path of real steps: each law is the contract of a function with
+//! an empty body.
+ghost use Rattle.std.specs.Prelude.{◌≡◌, ◌≤◌, ◌+◌, ℕ, true, None, Some};
+ghost use Rattle.ds_cp0.specs.System.{is_user};
+ghost use Rattle.ds_cp0.specs.declared.exception.ExceptionCode.{ExceptionCode};
+ghost use Rattle.ds_core.specs.Ahead.{
+  Hardware,
+  hardware_of,
+  Advances,
+  AdvancesTo,
+  ComesByWords,
+  ticks,
+  owed_tick,
+};
+ghost use Rattle.ds_refinement.specs.Told.{is_delayed};
+ghost use Rattle.ds_refinement.specs.Held.{Held, Kept};
+ghost use Rattle.ds_refinement.specs.Stands.{IsSound, user_status};
+ghost use Rattle.ds_refinement.specs.Real.{RealPath};
+ghost use Rattle.ds_refinement.specs.Quiet.{IsQuiet};
+ghost use Rattle.ds_refinement.specs.Blocks.{
+  IsQuietUntil,
+  GoesAhead,
+  at_time,
+  with_block,
+  with_exception,
+};
+
+/// Many instructions of a process, each unit with the boundary behind it, are a path of real steps.
+pub fn a_block_is_a_path()
+    ensures { (n limit : ℕ) (h : Held) (hw : Hardware) → n ≤ limit → GoesAhead limit h
+        → Advances n (hardware_of h.core h.bus) hw
+        → ComesByWords n (hardware_of h.core h.bus) → RealPath h (with_block n h hw) }
+{}
+
+/// So they are where one more enters an exception: its slot, and so the ticks, are told by Cause.
+pub fn an_exception_ends_a_block()
+    ensures path { (n limit : ℕ) (h : Held) (hw : Hardware) (code : ExceptionCode)
+        → n ≤ limit → GoesAhead limit h
+        → AdvancesTo n (Some code) (hardware_of h.core h.bus) hw
+        → ComesByWords n (hardware_of h.core h.bus) → RealPath h (with_exception n h hw) }
+    ensures ticks { (n : ℕ) (code : ExceptionCode) (old new : Hardware)
+        → AdvancesTo n (Some code) old new
+        → ticks n old + owed_tick (is_delayed new.core.system) ≡ n + owed_tick old.core.slot }
+{}
+
+/// Where a boundary at a later time has nothing to do, none before it has.
+pub fn the_last_boundary_decides()
+    ensures { (last : ℕ) (k : Kept) → k.ticked ≤ k.state.time → IsQuiet (at_time last k)
+        → IsQuietUntil last k }
+{}
+
+/// A station that stands for some state has a user's Status in user mode, and where no boundary is
+/// owed its clock was ticked no later than now.
+pub fn a_sound_station_is_ready()
+    ensures status { (h : Held) → IsSound h → is_user h.core.system ≡ true
+        → h.core.system.status ≡ user_status }
+    ensures ticked { (h : Held) → IsSound h → h.kept.state.owed ≡ None
+        → h.kept.ticked ≤ h.kept.state.time }
+{}

@@ -1,0 +1,60 @@
+//! How the counts and the clock move in a step.
+ghost use Rattle.std.specs.Prelude.{◌≡◌, ℕ, ◌+◌, ◌≤◌, true, false, None, IsSome};
+ghost use Rattle.ds_tlb.specs.declared.entry.Entry.{Entry};
+ghost use Rattle.ds_core.specs.declared.event.Event.{Event};
+ghost use Rattle.ds_core.specs.Core.{Step as CoreStep};
+ghost use Rattle.ds_pagemap.specs.Unit.{Stop};
+ghost use Rattle.ds_pagemap.specs.Boundary.{boundary};
+ghost use Rattle.ds_refinement.specs.declared.step.Step.TheVariants.{Inside, Unit, Boundary};
+ghost use Rattle.ds_refinement.specs.Held.{Held};
+ghost use Rattle.ds_refinement.specs.Steps.{Moves, is_in_kernel};
+ghost use Rattle.ds_refinement.specs.Services.{
+  EndsBy,
+  after_event,
+  step_of,
+  with_boundary,
+  with_idle_turn,
+  with_none_spent,
+  with_one_spent,
+  with_refill,
+};
+ghost use Rattle.ds_refinement.specs.Ends.{EndsInStop, EndsInCall};
+
+/// An instruction of the program counts, up to 64 in a unit.
+pub fn an_instruction_is_counted()
+    ensures { (e : Event) (h : Held) (s : CoreStep) → h.kept.state.owed ≡ None
+        → is_in_kernel h ≡ false → h.own.spent + 1 ≤ 64
+        → Moves (step_of e) h (after_event e (with_one_spent h) s) }
+{}
+
+/// A refill of the buffer counts nothing, and leaves the kernel.
+pub fn a_refill_is_counted()
+    ensures { (h : Held) (e : Entry) → h.kept.state.owed ≡ None → is_in_kernel h ≡ true
+        → h.own.spent ≤ 64 → Moves Inside h (with_refill h e) }
+{}
+
+/// A service that ends its unit takes one tick, and the count begins again.
+pub fn an_ended_unit_is_counted()
+    ensures stop { (p : ℕ) (stop : Stop) (h new : Held) → h.kept.state.owed ≡ None
+        → h.core.slot ≡ false → new.own ≡ with_none_spent h.own → EndsInStop p stop h new
+        → Moves Unit h new }
+    ensures call { (p : ℕ) (h new : Held) → h.kept.state.owed ≡ None
+        → h.core.slot ≡ false → new.own ≡ with_none_spent h.own → EndsInCall p h new
+        → Moves Unit h new }
+{}
+
+/// A boundary takes no time, and an idle turn with its boundary takes a tick.
+pub fn a_boundary_is_counted()
+    ensures boundary { (h : Held) → IsSome h.kept.state.owed → h.own.spent ≡ 0
+        → Moves Boundary h (with_boundary h) }
+    ensures idle { (h : Held) → h.kept.state.owed ≡ None → h.own.spent ≡ 0
+        → Moves Boundary h (with_boundary (with_idle_turn h)) }
+{}
+
+/// The same holds where they are served, and the count begins again.
+pub fn a_served_boundary_is_counted()
+    ensures boundary { (h new : Held) → IsSome h.kept.state.owed → new.own ≡ with_none_spent h.own
+        → EndsBy boundary h new → Moves Boundary h new }
+    ensures idle { (h new : Held) → h.kept.state.owed ≡ None → new.own ≡ with_none_spent h.own
+        → EndsBy boundary (with_idle_turn h) new → Moves Boundary h new }
+{}

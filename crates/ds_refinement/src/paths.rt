@@ -1,0 +1,66 @@
+//! Paths of steps that are real.
+ghost use Rattle.std.specs.Prelude.{◌≡◌, ℕ, ◌∷◌, ◌++◌, true, false, List, [], IsSome};
+ghost use Rattle.ds_core.specs.declared.event.Event.{Event};
+ghost use Rattle.ds_core.specs.Core.{Step as CoreStep};
+ghost use Rattle.ds_core.specs.Effect.{step as core_step};
+ghost use Rattle.ds_grants.specs.State.{page_state};
+ghost use Rattle.ds_refinement.specs.declared.cause.Cause.{Cause};
+ghost use Rattle.ds_refinement.specs.declared.step.Step.{Step};
+ghost use Rattle.ds_refinement.specs.Held.{Held};
+ghost use Rattle.ds_refinement.specs.Stands.{IsSound};
+ghost use Rattle.ds_refinement.specs.Steps.{Follows, Moves};
+ghost use Rattle.ds_refinement.specs.Services.{
+  after_event,
+  with_one_spent,
+};
+ghost use Rattle.ds_refinement.specs.Told.{told};
+ghost use Rattle.ds_refinement.specs.Real.{
+  EndsUnit,
+  HasUnit,
+  IsReal,
+  RealPath,
+  Through,
+  is_served,
+};
+
+/// No step, one step, and one path behind another are paths; and the path behind comes first in
+/// the list.
+pub fn paths_join()
+    ensures none { (h : Held) → RealPath h h }
+    ensures one { (kind : Step) (old new : Held) → Follows kind old new → Moves kind old new
+        → IsReal old new → RealPath old new }
+    ensures through { (old between new : Held) (before behind : List Held)
+        → Through old before between → Through between behind new
+        → Through old (behind ++ before) new }
+    ensures join { (old between new : Held) → RealPath old between → RealPath between new
+        → RealPath old new }
+{}
+
+/// A station that stands for some state stands for some state at the end of each path.
+pub fn paths_stay_sound()
+    ensures { (old new : Held) → IsSound old → RealPath old new → IsSound new }
+{}
+
+/// An instruction of a unit is a step of the processor.
+pub fn an_instruction_is_real()
+    ensures { (e : Event) (h : Held) (s : CoreStep) → HasUnit h → is_served h.core ≡ false
+        → core_step h.core h.bus ≡ (record { event = e; core = s.core; bus = s.bus })
+        → IsReal h (after_event e (with_one_spent h) s) }
+{}
+
+/// A service that ends its unit is real where what was told ends it.
+pub fn an_end_is_real()
+    ensures { (h new : Held) (p : ℕ) (rest : List ℕ) (why : Cause) → h.kept.state.ready ≡ p ∷ rest
+        → is_served h.core ≡ true
+        → told h.core.system (page_state h.kept.grants h.bus.memory) p ≡ why
+        → EndsUnit (page_state h.kept.grants h.bus.memory) p h.core.system.bad_vaddr why
+        → IsSome new.kept.state.owed → new.core.random ≡ h.core.random → IsReal h new }
+{}
+
+/// Where a boundary is owed, or nobody is ready, the processor takes no step.
+pub fn a_boundary_is_real()
+    ensures owed { (h new : Held) → IsSome h.kept.state.owed → new.core.random ≡ h.core.random
+        → IsReal h new }
+    ensures idle { (h new : Held) → h.kept.state.ready ≡ [] → new.core.random ≡ h.core.random
+        → IsReal h new }
+{}

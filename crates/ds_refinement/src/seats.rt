@@ -1,0 +1,34 @@
+//! The running process and its seat among those that are kept.
+ghost use Rattle.std.specs.Prelude.{◌≡◌, ℕ, ◌^◌, ◌∷◌, true, List, length};
+ghost use Rattle.ds_grants.specs.Sound.{NamesPages};
+ghost use Rattle.ds_grants.specs.Buffer.{BufferHolds};
+ghost use Rattle.ds_pagemap.specs.Machine.{State, process_of, with_process, touched};
+ghost use Rattle.ds_pagemap_laws.specs.Settled.{all_settled};
+ghost use Rattle.ds_refinement.specs.Held.{Held, Kept, whole, space_of};
+ghost use Rattle.ds_refinement.specs.Stands.{Stands, IsKept, AreResting};
+ghost use Rattle.ds_refinement.specs.Services.{EntersBy, seated, resume_address};
+
+/// Once the running process is in its seat, with the registers of the processor and the address at
+/// which it goes on, all is kept.
+pub fn the_runner_leaves()
+    ensures { (h : Held) (m : State) (p : ℕ) (rest : List ℕ) → Stands h m
+        → h.kept.state.ready ≡ p ∷ rest
+        → IsKept (seated h.core h.kept) h.bus.memory (with_process m p (record (process_of m p) {
+          registers = h.core.registers;
+          pc = resume_address h.core;
+        })) }
+{}
+
+/// Where all is kept, the first ready process comes on the processor, touched.
+pub fn the_first_comes_in()
+    ensures { (h : Held) (m : State) → IsKept h.kept h.bus.memory m
+        → BufferHolds h.core.entries (space_of h.kept) h.kept.grants → NamesPages h.kept.grants
+        → length h.bus.memory ≡ 2 ^ 23 → AreResting h.bus h.kept
+        → EntersBy h.kept.state.ready h.core h.kept → Stands h (touched true m) }
+{}
+
+/// What is kept of a state is the whole of it, with its late loads finished.
+pub fn what_is_kept_is_the_whole_state()
+    ensures { (k : Kept) (memory : List ℕ) (m : State) → IsKept k memory m
+        → all_settled m ≡ whole k memory m.log }
+{}

@@ -1,0 +1,66 @@
+//! Services that end the unit of the process that runs.
+ghost use Rattle.std.specs.Prelude.{◌≡◌, ℕ, ◌∷◌, true, false, List, None};
+ghost use Rattle.ds_policy.specs.declared.access.Access.{Access};
+ghost use Rattle.ds_policy.specs.declared.access.Rule.{Rule};
+ghost use Rattle.ds_policy.specs.declared.access.Verdict.TheVariants.{Denied};
+ghost use Rattle.ds_policy.specs.Pages.{decide};
+ghost use Rattle.ds_grants.specs.State.{page_state};
+ghost use Rattle.ds_cp0.specs.System.{is_user};
+ghost use Rattle.ds_pagemap.specs.Machine.{State, process_of, with_process};
+ghost use Rattle.ds_pagemap.specs.Unit.{unit, fault, denied_as};
+ghost use Rattle.ds_pagemap_laws.specs.Settled.{all_settled};
+ghost use Rattle.ds_refinement.specs.declared.cause.Cause.TheVariants as cause;
+ghost use Rattle.ds_refinement.specs.declared.step.Step.TheVariants.{Unit};
+ghost use Rattle.ds_refinement.specs.Told.{told, is_delayed, own_in};
+ghost use Rattle.ds_refinement.specs.Held.{Held};
+ghost use Rattle.ds_refinement.specs.Stands.{Stands};
+ghost use Rattle.ds_refinement.specs.Steps.{Comes, Follows};
+ghost use Rattle.ds_refinement.specs.Services.{EndsBy, resume_address};
+ghost use Rattle.ds_refinement.specs.Ends.{EndsInStop, EndsInCall};
+
+/// Where the unit is what a service does to the state with its process in its seat, the service
+/// ends it. What it does may be anything before or behind which late loads may be finished.
+pub fn a_service_ends_its_unit()
+    ensures { (f : State → State) (h new : Held) (m : State) (p : ℕ) (rest : List ℕ)
+        → ((s : State) → all_settled (f s) ≡ f (all_settled s))
+        → Stands h m → h.kept.state.ready ≡ p ∷ rest → m.owed ≡ None
+        → unit m ≡ f (with_process m p (record (process_of m p) {
+          registers = h.core.registers;
+          pc = resume_address h.core;
+        }))
+        → EndsBy f h new → Comes Unit new m }
+{}
+
+/// The unit is stopped where what was told is an access that the table denies, a fault, or a call
+/// from the slot of a branch.
+pub fn a_stop_ends_its_unit()
+    ensures access { (h new : Held) (p : ℕ) (rest : List ℕ) (access : Access) (rule : Rule)
+        (code : ℕ) → h.kept.state.ready ≡ p ∷ rest → is_user h.core.system ≡ false
+        → told h.core.system (page_state h.kept.grants h.bus.memory) p ≡ cause.Access access
+        → decide h.kept.grants.table p access.kind access.size h.core.system.bad_vaddr
+        ≡ Denied rule code
+        → EndsInStop p (record {
+          kind = denied_as access.kind;
+          address = h.core.system.bad_vaddr;
+          rule = rule;
+          code = code;
+        }) h new → Follows Unit h new }
+    ensures fault { (h new : Held) (p : ℕ) (rest : List ℕ) (code : ℕ)
+        → h.kept.state.ready ≡ p ∷ rest → is_user h.core.system ≡ false
+        → told h.core.system (page_state h.kept.grants h.bus.memory) p ≡ cause.Fault code
+        → EndsInStop p (fault (own_in h.core.system) code) h new → Follows Unit h new }
+    ensures slot { (h new : Held) (p : ℕ) (rest : List ℕ)
+        → h.kept.state.ready ≡ p ∷ rest → is_user h.core.system ≡ false
+        → told h.core.system (page_state h.kept.grants h.bus.memory) p ≡ cause.Call
+        → is_delayed h.core.system ≡ true
+        → EndsInStop p (fault (own_in h.core.system) 8) h new → Follows Unit h new }
+{}
+
+/// The unit is a call where what was told is one, outside of slots.
+pub fn a_call_ends_its_unit()
+    ensures { (h new : Held) (p : ℕ) (rest : List ℕ)
+        → h.kept.state.ready ≡ p ∷ rest → is_user h.core.system ≡ false
+        → told h.core.system (page_state h.kept.grants h.bus.memory) p ≡ cause.Call
+        → is_delayed h.core.system ≡ false
+        → EndsInCall p h new → Follows Unit h new }
+{}

@@ -1,0 +1,67 @@
+//! Boundaries with nothing to do, turns in which no process runs, and the station's own marks.
+ghost use Rattle.std.specs.Prelude.{◌≡◌, ◌≤◌, true, false, [], None, IsSome};
+ghost use Rattle.ds_pagemap.specs.Boundary.{boundary};
+ghost use Rattle.ds_pagemap.specs.Run.{is_over};
+ghost use Rattle.ds_refinement.specs.declared.step.Step.{Step};
+ghost use Rattle.ds_refinement.specs.declared.step.Step.TheVariants.{Boundary, Over};
+ghost use Rattle.ds_refinement.specs.Held.{Held};
+ghost use Rattle.ds_refinement.specs.Stands.{IsSound};
+ghost use Rattle.ds_refinement.specs.Steps.{Follows, Stays};
+ghost use Rattle.ds_refinement.specs.Services.{
+  EndsBy,
+  with_boundary,
+  with_idle_turn,
+  with_failure,
+  with_one_spent,
+};
+ghost use Rattle.ds_refinement.specs.Quiet.{IsQuiet};
+
+/// A boundary that is owed and has nothing to do takes away only what is owed.
+pub fn a_quiet_boundary()
+    ensures { (h : Held) → IsSome h.kept.state.owed → h.kept.ticked ≤ h.kept.state.time
+        → IsQuiet h.kept → Follows Boundary h (with_boundary h) }
+{}
+
+/// Any boundary that is owed is served: who runs leaves for its seat, the boundary is done to what
+/// is kept, and the first ready process comes in.
+pub fn a_boundary_is_served()
+    ensures { (h new : Held) → IsSome h.kept.state.owed → EndsBy boundary h new
+        → Follows Boundary h new }
+{}
+
+/// Where nobody is ready and somebody has not ended, a tick passes with its boundary, if that has
+/// nothing to do.
+pub fn an_idle_turn()
+    ensures { (h : Held) → h.kept.state.owed ≡ None → h.kept.state.ready ≡ []
+        → is_over h.kept.state ≡ false → IsQuiet (with_idle_turn h).kept
+        → Follows Boundary h (with_boundary (with_idle_turn h)) }
+{}
+
+/// Any boundary behind an idle turn is served.
+pub fn an_idle_turn_is_served()
+    ensures { (h new : Held) → h.kept.state.owed ≡ None → h.kept.state.ready ≡ []
+        → is_over h.kept.state ≡ false → EndsBy boundary (with_idle_turn h) new
+        → Follows Boundary h new }
+{}
+
+/// Where all processes have ended and no boundary is owed, the machine's run is over.
+pub fn nothing_is_left_to_do()
+    ensures { (h : Held) → h.kept.state.owed ≡ None → is_over h.kept.state ≡ true
+        → Follows Over h h }
+{}
+
+/// The machine doesn't see that the station fails, nor how it counts.
+pub fn a_failure_is_not_seen()
+    ensures failure { (h : Held) → Stays h (with_failure h) }
+    ensures count { (h : Held) → Stays h (with_one_spent h) }
+{}
+
+/// A station that stands for some state stands for some state behind each step; and before a step
+/// may come what the machine doesn't see.
+pub fn steps_join()
+    ensures sound { (step : Step) (old new : Held) → IsSound old → Follows step old new
+        → IsSound new }
+    ensures stays { (old new : Held) → IsSound old → Stays old new → IsSound new }
+    ensures follows { (step : Step) (old between new : Held) → Stays old between
+        → Follows step between new → Follows step old new }
+{}
