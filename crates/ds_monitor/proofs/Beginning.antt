@@ -1,0 +1,104 @@
+-- The beginning of a run.
+use Rattle.std.proofs.Common.{◌≡◌, ◌∙◌, ℕ, zero, suc, ◌+◌, ◌≤◌, List, [], ◌∷◌, ◌++◌, length, map, replicate, refl, sym, ap, subst, arith, false, Bool}
+use Rattle.std.specs.Prelude.{◌==◌, None}
+use Rattle.std.specs.List.{All}
+use Rattle.std.proofs.lemmas.Bool.Decides.{nat_tests}
+use Rattle.ds_policy.specs.Value.{PolicyValue}
+use Rattle.ds_policy.specs.PolicyFacts.{IsGoodProcess}
+use Rattle.ds_policy.specs.declared.policy.PolicyProcess.{PolicyProcess}
+use Rattle.ds_policy.specs.Pages.{Pages}
+use Rattle.ds_procs.specs.Queue.{without}
+use Rattle.ds_grants.specs.State.{GrantsState, pages_in}
+use Rattle.ds_grants.specs.First.{first_grants}
+use Rattle.ds_pagemap.specs.First.{numbers, first_pages, first_process, first_state}
+use Rattle.ds_pagemap.specs.Machine.{Process, has_ended}
+use Rattle.ds_pagemap_laws.specs.Settled.{settled_process}
+use Rattle.ds_pagemap_laws.specs.Lawful.{IsLawful}
+use Rattle.ds_pagemap_laws.proofs.FirstStates.{first_lawful}
+use Rattle.ds_refinement.specs.Held.{Kept, no_memory, whole}
+use Rattle.ds_refinement.specs.Stands.{IsKept}
+use Rattle.ds_monitor.specs.First.{first_kept, no_input}
+use Rattle.ds_monitor.specs.Orderly.{IsOrderly}
+
+-- who comes later isn't among the numbers
+pub without_later : (n k p : ℕ) → k + n ≤ p → without (numbers n k) p ≡ numbers n k
+without_later zero k p later = refl
+without_later (suc n) k p later =
+    let apart : (k == p) ≡ false = grind (arith, nat_tests) in
+    rw apart (ap (λ (rest : List ℕ). k ∷ rest) (without_later n (k + 1) p (omega (arith, later))))
+
+one_more : (n k : ℕ) → numbers n k ++ (n + k) ∷ [] ≡ numbers (suc n) k
+one_more zero k =
+    let same : 0 + k ≡ k = omega arith in
+    ap (λ (p : ℕ). p ∷ []) same
+one_more (suc n) k =
+    let next : suc n + k ≡ n + (k + 1) = omega arith in
+    ap (λ (rest : List ℕ). k ∷ rest) (ap (λ (p : ℕ). numbers n (k + 1) ++ p ∷ []) next ∙ one_more n (k + 1))
+
+-- one number more
+pub numbers_more : (n k : ℕ) → numbers n k ++ (n + k) ∷ [] ≡ numbers (n + 1) k
+numbers_more n k =
+    let next : suc n ≡ n + 1 = omega arith in
+    one_more n k ∙ ap (λ (x : ℕ). numbers x k) next
+
+-- at its start no load of a process is late
+settled_first : (ps : List PolicyProcess) → map settled_process (map first_process ps) ≡ map first_process ps
+settled_first [] = refl
+settled_first (p ∷ ps) = ap (λ (qs : List Process). first_process p ∷ qs) (settled_first ps)
+
+-- and none has ended
+none_has_ended : (ps : List PolicyProcess) → map (λ (q : Process). has_ended q.standing) (map first_process ps) ≡ replicate (length ps) false
+none_has_ended [] = refl
+none_has_ended (p ∷ ps) = ap (λ (bs : List Bool). false ∷ bs) (none_has_ended ps)
+
+-- what a monitor keeps at time 0
+abbrev pub beginning : List Process → List ℕ → List (List ℕ) → List (List ℕ) → List ℕ → ℕ → GrantsState → Kept
+beginning processes ready queues consoles log rate grants = record {
+  state = record {
+    memory = no_memory;
+    rate = rate;
+    processes = processes;
+    ready = ready;
+    queues = queues;
+    consoles = consoles;
+    log = [];
+    time = 0;
+    commands = [];
+    characters = [];
+    owed = None;
+  };
+  grants = grants;
+  log = log;
+  lines = 0;
+  owner = 1;
+  ticked = 0;
+}
+
+pub begins : (policy : PolicyValue) (images : List (List ℕ)) (processes : List Process) (ready : List ℕ) (queues consoles : List (List ℕ)) (log : List ℕ) (rate : ℕ) (grants : GrantsState)
+    → processes ≡ map first_process policy.processes → ready ≡ numbers (length policy.processes) 1 → queues ≡ replicate 4 [] → consoles ≡ [] ∷ [] ∷ [] ∷ [] ∷ []
+    → log ≡ [] → rate ≡ policy.rate → grants ≡ first_grants policy → beginning processes ready queues consoles log rate grants ≡ first_kept policy images
+begins policy images processes ready queues consoles log rate grants a b c d e f g =
+    rw (a, b, c, d, e, f, g) (ap (λ (ps : List Process). beginning ps (numbers (length policy.processes) 1) (replicate 4 []) (replicate 4 []) [] policy.rate (first_grants policy)) (sym (settled_first policy.processes)))
+
+-- nobody is on the processor, and all is kept of the first state
+pub first_is_kept : (policy : PolicyValue) (images : List (List ℕ)) (memory : List ℕ) → pages_in (first_grants policy) memory ≡ first_pages policy images → IsKept (first_kept policy images) memory (first_state policy images no_input)
+first_is_kept policy images memory pages = record {
+  state = refl;
+  pages = ap (λ (ps : Pages). record { pages = ps; table = (first_grants policy).table; named = (first_grants policy).named }) (sym pages);
+  log = refl;
+  lines = refl;
+}
+
+-- the first state is one that runs have
+pub first_orderly : (policy : PolicyValue) (images : List (List ℕ)) → length policy.processes ≤ 100 → All IsGoodProcess policy.processes → IsOrderly (first_kept policy images)
+first_orderly policy images few good =
+    let l = first_lawful policy images no_input few good in
+    let k = first_kept policy images in
+    let lawful : IsLawful (record (whole k [] []) { processes = map first_process policy.processes }) = record {
+      formed = record { ready = l.formed.ready; processes = l.formed.processes; sizes = record { processes = l.formed.sizes.processes; queues = l.formed.sizes.queues; consoles = l.formed.sizes.consoles; table = l.formed.sizes.table } };
+      asleep = l.asleep;
+    } in
+    record {
+      lawful = subst (λ (ps : List Process). IsLawful (record (whole k [] []) { processes = ps })) (sym (settled_first policy.processes)) lawful;
+      ended = ap (map (λ (q : Process). has_ended q.standing)) (settled_first policy.processes) ∙ none_has_ended policy.processes;
+    }

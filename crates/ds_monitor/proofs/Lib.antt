@@ -1,0 +1,7 @@
+mod Gets
+pub mod Serving
+pub mod Stops
+pub mod Called
+pub mod Beginning
+pub mod Lawful
+pub mod Waking

@@ -1,0 +1,57 @@
+use Rattle.std.proofs.Common.{[], sym, ◌≡◌, ◌∙◌, ◌+◌, ℕ, ap, refl}
+use Rattle.ds_word.specs.Word.{word}
+use Rattle.ds_procs.specs.Calls.{call_of}
+use Rattle.ds_pagemap.specs.Machine.{State, process_of}
+use Rattle.ds_pagemap.specs.Unit.{at_pc}
+use Rattle.ds_pagemap.specs.Calls.{served}
+use Rattle.ds_refinement.specs.Held.{Kept, whole}
+use Rattle.ds_refinement.specs.Stands.{ends_in_call}
+use Rattle.ds_monitor.specs.Kept.{kept_of, kept_after}
+use Rattle.ds_monitor.proofs.Serving.{serves_then, serves_as}
+use Rattle.ds_procs.specs.declared.call.Call.{Call}
+use Rattle.ds_monitor.specs.Ended.{ended_behind}
+use Rattle.ds_monitor.proofs.Stops.{settle_same}
+use Rattle.ds_monitor.proofs.Lawful.{asked_at, call_orderly}
+use Rattle.ds_monitor.proofs.Called.{by_kept, with_end, called, call_ends}
+use Rattle.ds_monitor.proofs.monitor.Monitor.call.Goals as goal
+
+pub returns-clause-serves : goal.returns-clause-serves
+returns-clause-serves g c =
+    let p = c.args.process in
+    let pc = c.args.pc in
+    let call = c.asked-call.result in
+    let k = kept_of c.args.self.now in
+    let x = c.args.memory.now in
+    let y = c.serve.new.memory in
+    let behind = kept_of c.go_to.new.self in
+    let done = kept_of c.serve.new.self in
+    let last = kept_of c.end_turn.new.self in
+    let step = λ (m : State). at_pc m p (word (pc + 4)) in
+    let serve = λ (m : State). served m p pc call in
+    let there : behind ≡ kept_after step k = c.go_to.ensures.kept ∙ ap (λ (t : ℕ). kept_after (λ (m : State). at_pc m p t) k) c.wrapping_sum.ensures in
+    let asked : call ≡ call_of (process_of (step k.state) p).registers.general = c.asked-call.ensures.value ∙ ap (λ (z : Kept). call_of (process_of z.state p).registers.general) there in
+    serves_as (called p pc call) (ends_in_call p pc) k last x y
+    (λ log. call_ends p pc call (whole k x log) c.has_no_late_load.ensures asked)
+    (serves_then (λ (m : State). serve (step m)) (with_end p) k done last x y y
+    (serves_then step serve k behind done x x y
+    (by_kept step k behind x (λ m memory log. refl) (record { memory = refl; log = refl }) there)
+    (c.serve.ensures.serves pc))
+    (by_kept (with_end p) done last y (λ m memory log. refl) (record { memory = refl; log = refl }) c.end_turn.ensures.kept))
+
+pub returns-clause-orderly : goal.returns-clause-orderly
+returns-clause-orderly g c = λ it alive.
+    let p = c.args.process in
+    let pc = c.args.pc in
+    let k = kept_of c.args.self.now in
+    let x = c.args.memory.now in
+    let old = k.grants.ended in
+    let step = λ (m : State). at_pc m p (word (pc + 4)) in
+    let there : kept_of c.go_to.new.self ≡ kept_after step k = c.go_to.ensures.kept ∙ ap (λ (t : ℕ). kept_after (λ (m : State). at_pc m p t) k) c.wrapping_sum.ensures in
+    let asked : c.asked-call.result ≡ call_of (process_of (step k.state) p).registers.general = c.asked-call.ensures.value ∙ ap (λ (z : Kept). call_of (process_of z.state p).registers.general) there in
+    let settled : call_of (process_of (step k.state) p).registers.general ≡ asked_at p pc (whole k x []) = ap (λ (m : State). call_of (process_of (at_pc m p (word (pc + 4))) p).registers.general) (sym (settle_same (whole k x []) p c.has_no_late_load.ensures)) in
+    let ended : (kept_of c.end_turn.new.self).grants.ended ≡ ended_behind (asked_at p pc (whole k x [])) p old =
+    ap (λ (z : Kept). z.grants.ended) c.end_turn.ensures.kept
+    ∙ (c.serve.ensures.ended
+    ∙ (ap (λ (z : Kept). ended_behind c.asked-call.result p z.grants.ended) c.go_to.ensures.kept
+    ∙ ap (λ (z : Call). ended_behind z p old) (asked ∙ settled))) in
+    call_orderly p pc k (kept_of c.end_turn.new.self) x c.serve.new.memory c.requires.above c.requires.within alive (returns-clause-serves g c) ended it

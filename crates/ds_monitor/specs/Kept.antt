@@ -1,0 +1,33 @@
+-- What the monitor keeps, as a state of the machine without pages, table and log.
+use Rattle.std.specs.Prelude.{[]}
+use Rattle.ds_pagemap.specs.Machine.{State}
+use Rattle.ds_refinement.specs.Held.{Kept, no_memory}
+use Rattle.ds_monitor.specs.Consoles.{texts_of}
+use Rattle.ds_monitor.specs.declared.monitor.Monitor.{Monitor}
+
+-- what a monitor keeps; no event is to come
+abbrev pub kept_of : Monitor → Kept
+kept_of m = record {
+  state = record {
+    memory = no_memory;
+    rate = m.rate;
+    processes = m.seats.items;
+    ready = m.ready;
+    queues = m.queues.items;
+    consoles = texts_of m.consoles;
+    log = [];
+    time = m.time;
+    commands = [];
+    characters = [];
+    owed = m.owed;
+  };
+  grants = m.grants;
+  log = m.log.items;
+  lines = m.lines;
+  owner = m.owner;
+  ticked = m.ticked;
+}
+
+-- what is kept where this is done to its state
+abbrev pub kept_after : (State → State) → Kept → Kept
+kept_after f k = record k { state = f k.state }

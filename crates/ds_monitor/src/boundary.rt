@@ -1,0 +1,110 @@
+//! What a boundary does to the processes and their queues.
+ghost use Rattle.std.specs.Prelude.{◌≡◌, ◌<◌, ◌≤◌, ℕ, length, map, IfSome, None};
+ghost use Rattle.std.specs.List.{All};
+ghost use Rattle.ds_pagemap.specs.Machine.{State, Process, process_of};
+ghost use Rattle.ds_pagemap.specs.Boundary.{queued, wakes, woken, rotated};
+ghost use Rattle.ds_monitor.specs.Kept.{kept_of, kept_after};
+ghost use Rattle.ds_monitor.specs.Orderly.{IsOrderly};
+
+use crate::monitor::Monitor;
+use ds_pagemap::Turn;
+use ds_procs::Standing;
+
+impl Monitor {
+    /// The boundary that is owed is done, or is no longer owed.
+    pub fn take_owed(&mut self) -> Option<Turn>
+        ensures taken { result ≡ self.old.owed }
+        ensures kept { kept_of self.new
+            ≡ kept_after (λ (m : State). record m { owed = None }) (kept_of self.old) }
+        ensures orderly { IsOrderly (kept_of self.old) → IsOrderly (kept_of self.new) }
+        ensures rest { self.new ≡ record self.old { owed = self.new.owed } }
+    {
+        self.owed.take()
+    }
+
+    /// A character comes to the queue of its line. One that finds 256 is lost.
+    pub fn queue_character(&mut self, line: usize, byte: u8)
+        requires line { line < length self.old.queues.items }
+        ensures kept { (time : ℕ) → kept_of self.new ≡ kept_after (λ (m : State). record m {
+          queues = queued m.queues (record { time = time; line = line; byte = byte });
+        })
+            (kept_of self.old) }
+        ensures rest { self.new ≡ record self.old { queues = self.new.queues } }
+    {
+        self.queues[line].put(byte);
+    }
+
+    /// Whether a process waits for a character that is there.
+    fn wakes(&self, process: u32) -> bool
+        requires above { 0 < process }
+        requires within { process ≤ length self.now.seats.items }
+        requires line { (process_of (kept_of self.now).state process).line
+            < length self.now.queues.items }
+        ensures { result ≡ wakes (kept_of self.now).state process }
+    {
+        match self.seats[process as usize - 1].standing() {
+            Standing::Waiting => self.has_character(process),
+            Standing::Ready | Standing::Parked | Standing::Ended => false,
+        }
+    }
+
+    /// A process becomes ready, where it waits for a character that is there.
+    fn wake_one(&mut self, process: u32)
+        requires above { 0 < process }
+        requires within { process ≤ length self.old.seats.items }
+        requires few { length self.old.seats.items ≤ 100 }
+        requires line { (process_of (kept_of self.old).state process).line
+            < length self.old.queues.items }
+        ensures kept { kept_of self.new
+            ≡ kept_after (λ (m : State). woken m process 1) (kept_of self.old) }
+        ensures seats { length self.new.seats.items ≡ length self.old.seats.items }
+        ensures lines { map (λ (q : Process). q.line) self.new.seats.items
+            ≡ map (λ (q : Process). q.line) self.old.seats.items }
+        ensures rest { self.new ≡ record self.old {
+          seats = self.new.seats;
+          ready = self.new.ready;
+        } }
+    {
+        if self.wakes(process) {
+            self.make_ready(process);
+        }
+    }
+
+    /// Those that wait for a character that is there become ready, the lowest number first.
+    pub fn wake(&mut self)
+        requires few { length self.old.seats.items ≤ 100 }
+        requires lines { All (λ l. l < 4) (map (λ (q : Process). q.line) self.old.seats.items) }
+        requires queues { length self.old.queues.items ≡ 4 }
+        ensures kept { kept_of self.new
+            ≡ kept_after (λ (m : State). woken m 1 (length m.processes)) (kept_of self.old) }
+        ensures rest { self.new ≡ record self.old {
+          seats = self.new.seats;
+          ready = self.new.ready;
+        } }
+    {
+        let count = self.seats.len() as u32;
+        let mut process = 1;
+        while process <= count {
+            self.wake_one(process);
+            process += 1;
+        }
+    }
+
+    /// The process that ran goes behind the others, if it is still first.
+    pub fn rotate(&mut self, runner: Option<u32>)
+        requires there { IfSome runner (λ p. (0 < p) × (p ≤ length self.old.seats.items)) }
+        requires few { length self.old.seats.items ≤ 100 }
+        ensures kept { kept_of self.new
+            ≡ kept_after (λ (m : State). rotated m runner) (kept_of self.old) }
+        ensures rest { self.new ≡ record self.old {
+          seats = self.new.seats;
+          ready = self.new.ready;
+        } }
+    {
+        if let Some(process) = runner {
+            if self.first_ready() == Some(process) {
+                self.make_ready(process);
+            }
+        }
+    }
+}

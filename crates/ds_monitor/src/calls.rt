@@ -1,0 +1,137 @@
+//! Calls that touch neither pages nor the log.
+ghost use Rattle.std.specs.Prelude.{◌≡◌, ◌<◌, ◌≤◌, length, drop, slice_get, slice_set, nat_lt, ◌^◌};
+ghost use Rattle.ds_pagemap.specs.Machine.{State, process_of, made_ready};
+ghost use Rattle.ds_pagemap.specs.Calls.{answered, queue_of, after_put, after_get, after_wait};
+ghost use Rattle.ds_monitor.specs.Consoles.{HasRoom};
+ghost use Rattle.ds_monitor.specs.Kept.{kept_of, kept_after};
+
+use crate::monitor::Monitor;
+use ds_procs::Standing;
+
+/// The answer that says no: all ones.
+pub(crate) const NOTHING: u32 = 0xffff_ffff;
+
+impl Monitor {
+    /// Writes a character on the console of the process.
+    pub fn put(&mut self, process: u32, byte: u8)
+        requires above { 0 < process }
+        requires within { process ≤ length self.old.seats.items }
+        requires line { (process_of (kept_of self.old).state process).line < 4 }
+        requires room { HasRoom self.old.consoles }
+        ensures kept { kept_of self.new
+            ≡ kept_after (λ (m : State). after_put m process byte) (kept_of self.old) }
+        ensures rest { self.new ≡ record self.old { consoles = self.new.consoles } }
+    {
+        let line = self.seats[process as usize - 1].line();
+        self.consoles.push_reserved(line as usize, byte);
+    }
+
+    /// Takes the oldest character of the line of the process, if there is one.
+    fn take_character(&mut self, process: u32) -> Option<u8>
+        requires above { 0 < process }
+        requires within { process ≤ length self.old.seats.items }
+        requires line { (process_of (kept_of self.old).state process).line
+            < length self.old.queues.items }
+        ensures value { result ≡ slice_get (queue_of (kept_of self.old).state process) 0 }
+        ensures kept { kept_of self.new ≡ kept_after (λ (m : State). record m {
+          queues = slice_set m.queues (process_of m process).line (drop 1 (queue_of m process));
+        })
+            (kept_of self.old) }
+        ensures rest { self.new ≡ record self.old { queues = self.new.queues } }
+    {
+        let line = self.seats[process as usize - 1].line() as usize;
+        self.queues[line].take()
+    }
+
+    /// The oldest character of the line of the process, or all ones where there is none.
+    pub fn get(&mut self, process: u32)
+        requires above { 0 < process }
+        requires within { process ≤ length self.old.seats.items }
+        requires line { (process_of (kept_of self.old).state process).line
+            < length self.old.queues.items }
+        ensures kept { kept_of self.new
+            ≡ kept_after (λ (m : State). after_get m process (queue_of m process))
+            (kept_of self.old) }
+        ensures rest { self.new ≡ record self.old {
+          seats = self.new.seats;
+          queues = self.new.queues;
+        } }
+    {
+        match self.take_character(process) {
+            Some(byte) => self.answer(process, u32::from(byte)),
+            None => self.answer(process, NOTHING),
+        }
+    }
+
+    /// The process goes behind the others that are ready.
+    pub fn yield_turn(&mut self, process: u32)
+        requires above { 0 < process }
+        requires within { process ≤ length self.old.seats.items }
+        requires few { length self.old.seats.items ≤ 100 }
+        ensures kept { kept_of self.new
+            ≡ kept_after (λ (m : State). made_ready (answered m process 0) process)
+            (kept_of self.old) }
+        ensures rest { self.new ≡ record self.old {
+          seats = self.new.seats;
+          ready = self.new.ready;
+        } }
+    {
+        self.answer(process, 0);
+        self.make_ready(process);
+    }
+
+    /// Whether a character waits for the process.
+    pub(crate) fn has_character(&self, process: u32) -> bool
+        requires above { 0 < process }
+        requires within { process ≤ length self.now.seats.items }
+        requires line { (process_of (kept_of self.now).state process).line
+            < length self.now.queues.items }
+        ensures { result ≡ nat_lt 0 (length (queue_of (kept_of self.now).state process)) }
+    {
+        let line = self.seats[process as usize - 1].line() as usize;
+        !self.queues[line].is_empty()
+    }
+
+    /// The process waits for a character, unless one is there.
+    pub fn wait(&mut self, process: u32)
+        requires above { 0 < process }
+        requires within { process ≤ length self.old.seats.items }
+        requires line { (process_of (kept_of self.old).state process).line
+            < length self.old.queues.items }
+        ensures kept { kept_of self.new ≡ kept_after (λ (m : State).
+            after_wait (answered m process 0) process (queue_of m process)) (kept_of self.old) }
+        ensures rest { self.new ≡ record self.old {
+          seats = self.new.seats;
+          ready = self.new.ready;
+        } }
+    {
+        let waits = !self.has_character(process);
+        self.answer(process, 0);
+        if waits {
+            self.make_unready(process, Standing::Waiting);
+        }
+    }
+
+    /// The time, in ticks.
+    pub fn tell_time(&mut self, process: u32)
+        requires above { 0 < process }
+        requires within { process ≤ length self.old.seats.items }
+        requires early { self.old.time < 2 ^ 32 }
+        ensures kept { kept_of self.new
+            ≡ kept_after (λ (m : State). answered m process m.time) (kept_of self.old) }
+        ensures rest { self.new ≡ record self.old { seats = self.new.seats } }
+    {
+        self.answer(process, self.time as u32);
+    }
+
+    /// The number of the process itself.
+    pub fn tell_number(&mut self, process: u32)
+        requires above { 0 < process }
+        requires within { process ≤ length self.old.seats.items }
+        ensures kept { kept_of self.new
+            ≡ kept_after (λ (m : State). answered m process process) (kept_of self.old) }
+        ensures rest { self.new ≡ record self.old { seats = self.new.seats } }
+    {
+        self.answer(process, process);
+    }
+}

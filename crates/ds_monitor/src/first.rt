@@ -1,0 +1,99 @@
+//! What is kept at the beginning of a run.
+ghost use Rattle.std.specs.Prelude.{◌≡◌, ◌≤◌, length, map, replicate, [], IfOk, OnErr, ℕ, ◌<◌};
+ghost use Rattle.ds_policy.specs.PolicyParts.{sources_of};
+ghost use Rattle.ds_pagemap.specs.First.{first_process, first_state, numbers};
+ghost use Rattle.ds_refinement.specs.Stands.{IsKept};
+ghost use Rattle.ds_mem.specs.Memory.{frame_of};
+ghost use Rattle.ds_monitor.specs.Kept.{kept_of};
+ghost use Rattle.ds_monitor.specs.First.{first_kept, no_input};
+ghost use Rattle.ds_monitor.specs.Orderly.{IsOrderly};
+
+use crate::consoles::Consoles;
+use crate::line_queue::LineQueue;
+use crate::monitor::Monitor;
+use crate::seat::Seat;
+use ds_asm::Image;
+use ds_grants::Grants;
+use ds_mem::{Memory, OutOfMemory};
+use ds_policy::{Policy, PolicyProcess};
+use ds_procs::Queue;
+use std::alloc::Global;
+
+/// The number of lines.
+const LINES: usize = 4;
+
+/// The seats of a policy's processes at their start.
+fn seats_of(alloc: Global, processes: &[PolicyProcess]) -> Result<Vec<Seat>, OutOfMemory>
+    ensures { IfOk result (λ seats. seats.items ≡ map first_process processes.now) }
+{
+    let mut seats = Vec::new(alloc);
+    for process in processes {
+        if seats.push(Seat::new(*process)).is_err() {
+            return Err(OutOfMemory);
+        }
+    }
+    Ok(seats)
+}
+
+/// A queue for each line, in which nothing waits.
+fn empty_queues(alloc: Global) -> Result<Vec<LineQueue>, OutOfMemory>
+    ensures { IfOk result (λ queues. queues.items ≡ replicate 4 []) }
+{
+    let mut queues = Vec::new(alloc);
+    for _ in 0..LINES {
+        if queues.push(LineQueue::new()).is_err() {
+            return Err(OutOfMemory);
+        }
+    }
+    Ok(queues)
+}
+
+/// So many processes, all of them ready, by their numbers.
+fn all_ready(processes: usize) -> Queue
+    requires { processes ≤ 100 }
+    ensures { result ≡ numbers processes 1 }
+{
+    let mut ready = Queue::new();
+    for process in 0..processes {
+        ready.to_end(process as u32 + 1);
+    }
+    ready
+}
+
+impl Monitor {
+    /// What is kept at the beginning of a run of a policy, whose pages go to their frames of
+    /// memory. There is one image for each source name of the policy, in their order. Refused,
+    /// memory is as it was.
+    pub fn new(
+        alloc: Global,
+        policy: &Policy,
+        images: &[Image],
+        memory: &mut Memory,
+    ) -> Result<Monitor, OutOfMemory>
+        requires images { length images.now ≡ length (sources_of policy.now.pages) }
+        ensures first { IfOk result (λ m. kept_of m ≡ first_kept policy.now images.now) }
+        ensures kept { IfOk result (λ m. IsKept (kept_of m) memory.new
+            (first_state policy.now images.now no_input)) }
+        ensures orderly { IfOk result (λ m. IsOrderly (kept_of m)) }
+        ensures elsewhere { (f : ℕ) → f < 402 → frame_of memory.new f ≡ frame_of memory.old f }
+        ensures refused { OnErr result (memory.new ≡ memory.old) }
+    {
+        let seats = seats_of(alloc, policy.processes())?;
+        let queues = empty_queues(alloc)?;
+        let grants = Grants::new(alloc, policy, images, memory)?;
+        Ok(Monitor {
+            grants,
+            seats,
+            ready: all_ready(policy.processes().len()),
+            queues,
+            consoles: Consoles::new(alloc),
+            log: Vec::new(alloc),
+            lines: 0,
+            time: 0,
+            rate: policy.rate(),
+            owed: None,
+            owner: 1,
+            ticked: 0,
+        })
+    }
+}

@@ -1,0 +1,22 @@
+//! Room for what a unit and the boundary behind it may write.
+ghost use Rattle.std.specs.Prelude.{◌≡◌, ◌≤◌, true};
+ghost use Rattle.ds_monitor.specs.Kept.{kept_of};
+ghost use Rattle.ds_monitor.specs.Room.{HasRoom};
+
+use crate::monitor::Monitor;
+use ds_log::LINE_ROOM;
+
+impl Monitor {
+    /// Makes room for a byte on each console and for so many lines of the log, if it can.
+    pub fn reserve(&mut self, lines: usize) -> bool
+        requires few { lines ≤ 10000 }
+        ensures room { result ≡ true → HasRoom lines self.new }
+        ensures kept { kept_of self.new ≡ kept_of self.old }
+        ensures rest { self.new ≡ record self.old {
+          consoles = self.new.consoles;
+          log = self.new.log;
+        } }
+    {
+        self.consoles.reserve() && self.log.reserve(lines * LINE_ROOM).is_ok()
+    }
+}
