@@ -1,0 +1,274 @@
+-- What the steps of a station do: each is followed by the machine with its counts, and is real.
+use Rattle.std.proofs.Common.{◌≡◌, ◌≢◌, inl, inr, ℕ, ◌+◌, ◌-◌, ◌*◌, ◌/◌, ◌%◌, ◌^◌, ◌<◌, ◌≤◌, Bool, true, false, cond, not, nat_le, List, [], ◌∷◌, length, Option, Some, None, refl, sym, ap, ap₂, subst, ◌∙◌, arith}
+use Rattle.std.specs.Prelude.{IsSome, ◌==◌, ◌&&◌, ◌||◌}
+use Rattle.ds_word.specs.Word.{truth, bits}
+use Rattle.ds_tlb.specs.declared.entry.Entry.{Entry}
+use Rattle.ds_isa.specs.declared.instr.Kind.{Kind}
+use Rattle.ds_isa.specs.declared.instr.Kind.TheVariants.{Fetch, Load, Store}
+use Rattle.ds_isa.specs.Access.{is_aligned}
+use Rattle.ds_isa.specs.declared.instr.Size.{Size}
+use Rattle.ds_cp0.specs.System.{is_user}
+use Rattle.ds_policy.specs.declared.access.Access.{Access}
+use Rattle.ds_policy.specs.declared.access.Rule.{Rule}
+use Rattle.ds_policy.specs.declared.access.Rule.TheVariants.{K, A}
+use Rattle.ds_policy.specs.declared.access.Verdict.{Verdict}
+use Rattle.ds_policy.specs.declared.access.Verdict.TheVariants.{Allowed, Denied}
+use Rattle.ds_policy.specs.declared.grant.Right.{Right}
+use Rattle.ds_policy.specs.declared.grant.Right.TheVariants.{Nothing, Read, Write}
+use Rattle.ds_log.specs.declared.line.Denied.{Denied as DeniedKind}
+use Rattle.ds_policy.specs.declared.grant.Grant.{Grant}
+use Rattle.ds_policy.specs.Pages.{Table, decide, entry_at, page_address, address_code, miss_code, allowed_on, by_right, by_entry}
+use Rattle.ds_policy.specs.Grants.{PageState}
+use Rattle.ds_grants.specs.State.{page_state}
+use Rattle.ds_grants.specs.Buffer.{translation}
+use Rattle.ds_core.specs.Core.{CoreState}
+use Rattle.ds_pagemap.specs.Machine.{State, first}
+use Rattle.ds_pagemap.specs.Unit.{Stop, denied_as, fault}
+use Rattle.ds_refinement.specs.declared.cause.Cause.{Cause}
+use Rattle.ds_refinement.specs.declared.cause.Cause.TheVariants as cause
+use Rattle.ds_refinement.specs.declared.step.Step.TheVariants.{Inside, Unit}
+use Rattle.ds_refinement.specs.Held.{Held, Kept}
+use Rattle.ds_refinement.specs.Told.{told, is_delayed, own_in}
+use Rattle.ds_refinement.specs.Stands.{Stands, IsSound, InService, OnProcessor, RunningBy, RunningIs, ends_in_stop, ends_in_call, user_status}
+use Rattle.ds_refinement.specs.Ends.{EndsInStop, EndsInCall}
+use Rattle.ds_refinement.specs.Services.{EndsBy, EntersBy, with_refill, with_none_spent}
+use Rattle.ds_refinement.specs.Steps.{Follows, Moves, Comes, is_in_kernel, ticks_of, steps_left}
+use Rattle.ds_refinement.specs.Real.{IsReal, EndsUnit, StopsBy, is_served}
+use Rattle.ds_refinement.proofs.Ending.{denied_ends, fault_ends, slot_ends, call_ends}
+use Rattle.ds_refinement.proofs.Counting.{stop_moves, call_moves}
+use Rattle.ds_refinement.proofs.Filling.{refill_comes, refill_goes_back}
+use Rattle.ds_monitor.specs.Room.{HasRoom}
+use Rattle.ds_monitor.specs.declared.monitor.Monitor.{Monitor}
+use Rattle.ds_kernel.specs.declared.parts.Parts.{Parts}
+use Rattle.ds_kernel.specs.Parts.{held}
+use Rattle.ds_kernel.specs.Refill.{right_of, entry_for}
+use Rattle.ds_kernel.specs.Good.{IsOrderly, IsGood, IsBusy}
+use Rattle.ds_kernel.specs.Ended.{HasEnded, Does}
+use Rattle.ds_kernel.proofs.Keeping.{first_rest}
+
+-- A service of the first ready process.
+module _ (h : Held) (p : ℕ) (rest : List ℕ) (sound : IsSound h) (ready : h.kept.state.ready ≡ p ∷ rest) (kernel : is_user h.core.system ≡ false) where
+  here : InService h.core p sound.state
+  here =
+      let runs : RunningIs p h.core h.kept sound.state = subst (λ (ps : List ℕ). RunningBy ps h.core h.kept sound.state) ready sound.stands.running in
+      subst (λ (b : Bool). OnProcessor b h.core.slot h.core p sound.state) kernel runs.on
+
+  by_vector : (n : ℕ) → h.core.pc ≡ n → ((n == 0x80000000) || (n == 0x80000080)) ≡ true → is_served h.core ≡ true
+  by_vector n at is = ap₂ (λ (b : Bool) (i : ℕ). not b && ((i == 0x80000000) || (i == 0x80000080))) kernel at ∙ is
+
+  -- the monitor is to serve
+  pub served_here : is_served h.core ≡ true
+  served_here = elim here.vector [
+    | inl e ↦ by_vector 0x80000000 e refl
+    | inr e ↦ by_vector 0x80000080 e refl
+  ]
+
+  ends_really : (new : Held) (why : Cause) → told h.core.system (page_state h.kept.grants h.bus.memory) p ≡ why
+      → EndsUnit (page_state h.kept.grants h.bus.memory) p h.core.system.bad_vaddr why
+      → IsSome new.kept.state.owed → new.core.random ≡ h.core.random → IsReal h new
+  ends_really new why is ends owed random = record {
+    instruction = λ has user. (let no : true ≡ false = sym served_here ∙ user in absurd (cc));
+    service = λ has served. inl (
+      owed,
+      subst (λ (ps : List ℕ). StopsBy ps h) (sym ready)
+          (subst (λ (w : Cause). EndsUnit (page_state h.kept.grants h.bus.memory) p h.core.system.bad_vaddr w) (sym is) ends),
+    );
+    random = λ has. random;
+  }
+
+  pub stop_does : (new : Held) (why : Cause) (stop : Stop) → h.kept.state.owed ≡ None → told h.core.system (page_state h.kept.grants h.bus.memory) p ≡ why
+      → EndsUnit (page_state h.kept.grants h.bus.memory) p h.core.system.bad_vaddr why → new.own ≡ with_none_spent h.own → new.core.random ≡ h.core.random
+      → EndsInStop p stop h new → Follows Unit h new → Does Unit h new
+  stop_does new why stop owed is ends own random by follows =
+      let moves : Moves Unit h new = stop_moves p stop h new owed here.first own by in
+      record { follows = follows; moves = moves; real = ends_really new why is ends moves.1 random }
+
+  pub call_does : (new : Held) → h.kept.state.owed ≡ None → told h.core.system (page_state h.kept.grants h.bus.memory) p ≡ cause.Call → is_delayed h.core.system ≡ false
+      → new.own ≡ with_none_spent h.own → new.core.random ≡ h.core.random → EndsInCall p h new → Does Unit h new
+  call_does new owed is outside own random by =
+      let moves : Moves Unit h new = call_moves p h new owed here.first own by in
+      record { follows = call_ends h new p rest ready kernel is outside by; moves = moves; real = ends_really new cause.Call is tt moves.1 random }
+
+  refill_moves : (e : Entry) → h.kept.state.owed ≡ None → h.own.spent ≤ 64 → Moves Inside h (with_refill h e)
+  refill_moves e owed few =
+      let inside : truth (is_in_kernel h) ≡ 1 = ap (λ (b : Bool). truth (not b)) kernel in
+      let outside : truth (not (is_in_kernel h)) ≡ 0 = ap (λ (b : Bool). truth (not (not b))) kernel in
+      let count : h.own.spent ≡ h.own.spent + truth (not (is_in_kernel h)) = omega (arith, outside) in
+      let fewer : 2 * (64 - h.own.spent) + 0 < 2 * (64 - h.own.spent) + truth (is_in_kernel h) = omega (arith, inside) in
+      (owed, owed, refl, count, few, fewer, refl)
+
+  in_machine : (access : Kind) (size : Size) (page offset : ℕ) → decide h.kept.grants.table p access size h.core.system.bad_vaddr ≡ Allowed page offset
+      → (m : State) → Stands h m → decide m.memory.table p access size h.core.system.bad_vaddr ≡ Allowed page offset
+  in_machine access size page offset decides m k = ap (λ (s : PageState). decide s.table p access size h.core.system.bad_vaddr) k.kept.pages ∙ decides
+
+  pub refill_does : (access : Kind) (size : Size) (page offset : ℕ) (grant : Grant) → h.kept.state.owed ≡ None → h.own.spent ≤ 64 → h.core.random < length h.core.entries
+      → decide h.kept.grants.table p access size h.core.system.bad_vaddr ≡ Allowed page offset → entry_at h.kept.grants.table p (page_address h.core.system.bad_vaddr) ≡ Some grant
+      → Does Inside h (with_refill h (translation h.kept.grants (h.core.system.bad_vaddr / 2 ^ 12) page grant.right))
+  refill_does access size page offset grant owed few room decides granted =
+      let there = in_machine access size page offset decides in record {
+        follows = record { follows = λ m k. refill_comes h m p rest access size page offset grant k ready kernel (there m k) granted };
+        moves = refill_moves (translation h.kept.grants (h.core.system.bad_vaddr / 2 ^ 12) page grant.right) owed few;
+        real = record {
+          instruction = λ has user. (let no : true ≡ false = sym served_here ∙ user in absurd (cc));
+          service = λ has served. inr (refill_goes_back h sound.state p rest access size page offset grant sound.stands ready kernel (there sound.state sound.stands) granted room);
+          random = λ has. refl;
+        };
+      }
+
+-- The marks behind a service.
+
+enters_user : (queue : List ℕ) (c : CoreState) (k : Kept) → EntersBy queue c k → c.system.status ≡ user_status
+enters_user [] c k b = b
+enters_user (p ∷ rest) c k b = b.mode
+
+some_tick : (b : Bool) → 1 ≤ ticks_of b
+some_tick true = omega arith
+some_tick false = omega arith
+
+sound_behind : (h new : Held) → IsSound h → Follows Unit h new → IsSound new
+sound_behind h new s f = let t = f.follows s.state s.stands in record { state = t.0; stands = t.2 }
+
+-- the station is as it should be behind the end of a unit
+pub ended_good : {L : Type 0} (f : State → State) (p : ℕ) (old new : Parts L) → IsBusy p old → HasEnded f old new → Does Unit (held old) (held new) → IsGood new
+ended_good f p old new busy ended does =
+    let none : new.spent ≡ 0 = does.moves.3 in
+    let same : new.failed ≡ old.failed = does.moves.4 in
+    let user : is_in_kernel (held new) ≡ false = ap (λ (n : ℕ). not (bits n 1 1 == 1)) (enters_user new.monitor.ready new.core (held new).kept ended.ends.enters) in
+    let time : new.monitor.time ≡ old.monitor.time + ticks_of old.core.slot = does.moves.2 in
+    let tick : 1 ≤ ticks_of old.core.slot = some_tick old.core.slot in
+    let few : old.monitor.lines ≤ old.monitor.time = busy.good.orderly.lines in
+    let lines : new.monitor.lines ≤ old.monitor.lines + 1 = ended.lines in
+    let late : old.monitor.ticked ≤ old.monitor.time = busy.good.orderly.ticked in
+    let ticked : new.monitor.ticked ≡ old.monitor.ticked = ended.ticked in record {
+      sound = sound_behind (held old) (held new) busy.good.sound does.follows;
+      orderly = record {
+        begun = λ some. absurd (omega (arith, none, some));
+        failed = λ is. (let no : false ≡ true = sym busy.working ∙ (sym same ∙ is) in absurd (cc));
+        raised = λ is. (let no : false ≡ true = sym user ∙ is in absurd (cc));
+        running = λ some. absurd (omega (arith, none, some));
+        spent = omega (arith, none);
+        lines = omega (arith, time, tick, few, lines);
+        ticked = omega (arith, time, tick, late, ticked);
+        lawful = ended.lawful;
+      };
+      room = λ some. absurd (omega (arith, none, some));
+      roomy = λ is. (let no : false ≡ true = sym ended.closed ∙ is in absurd (cc));
+    }
+
+-- Each end of a unit.
+module _ {L : Type 0} (p : ℕ) (old new : Parts L) (busy : IsBusy p old) (kernel : is_user old.core.system ≡ false) where
+  abbrev tells : Cause → Type 0
+  tells why = told old.core.system (page_state old.monitor.grants old.bus.memory) p ≡ why
+
+  unowed : old.monitor.owed ≡ None
+  unowed = busy.good.orderly.begun busy.begun
+
+  pub denied_step : (access : Access) (rule : Rule) (code : ℕ) → tells (cause.Access access) → decide old.monitor.grants.table p access.kind access.size old.core.system.bad_vaddr ≡ Denied rule code
+      → HasEnded (ends_in_stop p old.core.system.epc (own_in old.core.system) (record { kind = denied_as access.kind; address = old.core.system.bad_vaddr; rule = rule; code = code })) old new
+      → Does Unit (held old) (held new)
+  denied_step access rule code is denied ended =
+      let r = first_rest old.monitor.ready p busy.first in
+      let stop : Stop = record { kind = denied_as access.kind; address = old.core.system.bad_vaddr; rule = rule; code = code } in
+      stop_does (held old) p r.0 busy.good.sound r.1 kernel (held new) (cause.Access access) stop unowed is (rule, code, denied) ended.own ended.random ended.ends
+      (denied_ends (held old) (held new) p r.0 r.1 kernel access rule code is denied ended.ends)
+
+  pub fault_step : (code : ℕ) → tells (cause.Fault code)
+      → HasEnded (ends_in_stop p old.core.system.epc (own_in old.core.system) (fault (own_in old.core.system) code)) old new
+      → Does Unit (held old) (held new)
+  fault_step code is ended =
+      let r = first_rest old.monitor.ready p busy.first in
+      stop_does (held old) p r.0 busy.good.sound r.1 kernel (held new) (cause.Fault code) (fault (own_in old.core.system) code) unowed is tt ended.own ended.random ended.ends
+      (fault_ends (held old) (held new) p r.0 r.1 kernel code is ended.ends)
+
+  pub slot_step : tells cause.Call → is_delayed old.core.system ≡ true
+      → HasEnded (ends_in_stop p old.core.system.epc (own_in old.core.system) (fault (own_in old.core.system) 8)) old new
+      → Does Unit (held old) (held new)
+  slot_step is delayed ended =
+      let r = first_rest old.monitor.ready p busy.first in
+      stop_does (held old) p r.0 busy.good.sound r.1 kernel (held new) cause.Call (fault (own_in old.core.system) 8) unowed is tt ended.own ended.random ended.ends
+      (slot_ends (held old) (held new) p r.0 r.1 kernel is delayed ended.ends)
+
+  pub call_step : tells cause.Call → is_delayed old.core.system ≡ false → HasEnded (ends_in_call p old.core.system.epc) old new → Does Unit (held old) (held new)
+  call_step is outside ended =
+      let r = first_rest old.monitor.ready p busy.first in
+      call_does (held old) p r.0 busy.good.sound r.1 kernel (held new) unowed is outside ended.own ended.random ended.ends
+
+  -- a refill, by the right of the entry there
+  pub refill_step : (access : Access) (page offset : ℕ) (grant : Grant) → old.core.random < length old.core.entries
+      → decide old.monitor.grants.table p access.kind access.size old.core.system.bad_vaddr ≡ Allowed page offset → entry_at old.monitor.grants.table p (page_address old.core.system.bad_vaddr) ≡ Some grant
+      → held new ≡ with_refill (held old) (entry_for old.monitor.grants p old.core.system.bad_vaddr page)
+      → Does Inside (held old) (held new)
+  refill_step access page offset grant room decides granted is =
+      let r = first_rest old.monitor.ready p busy.first in
+      let same : entry_for old.monitor.grants p old.core.system.bad_vaddr page ≡ translation old.monitor.grants (old.core.system.bad_vaddr / 2 ^ 12) page grant.right =
+      ap (λ (o : Option Grant). translation old.monitor.grants (old.core.system.bad_vaddr / 2 ^ 12) page (right_of o)) granted in
+      subst (λ (x : Held). Does Inside (held old) x) (sym (is ∙ ap (λ (e : Entry). with_refill (held old) e) same))
+      (refill_does (held old) p r.0 busy.good.sound r.1 kernel access.kind access.size page offset grant unowed busy.good.orderly.spent room decides granted)
+
+  pub refill_good : (e : Entry) → held new ≡ with_refill (held old) e → new.monitor ≡ old.monitor → Does Inside (held old) (held new) → IsGood new
+  refill_good e is monitor does =
+      let o = busy.good.orderly in
+      let good : IsOrderly (with_refill (held old) e) = record {
+        begun = o.begun;
+        failed = o.failed;
+        raised = λ k. (let no : false ≡ true = k in absurd (cc));
+        running = o.running;
+        spent = o.spent;
+        lines = o.lines;
+        ticked = o.ticked;
+        lawful = o.lawful;
+      } in
+      let t = does.follows.follows busy.good.sound.state busy.good.sound.stands in record {
+        sound = record { state = t.0; stands = t.2 };
+        orderly = subst IsOrderly (sym is) good;
+        room = λ some. subst (λ (m : Monitor). HasRoom 1 m) (sym monitor) (busy.good.room busy.begun);
+        roomy = λ some. subst (λ (m : Monitor). HasRoom 1 m) (sym monitor) (busy.good.room busy.begun);
+      }
+
+-- What the table answered to the access that was refused.
+
+pub verdict_is : (t t' : Table) (p : ℕ) (access : Access) (a a' : ℕ) (v w : Verdict) → v ≡ decide t p access.kind access.size a → t ≡ t' → a ≡ a' → v ≡ w → decide t' p access.kind access.size a' ≡ w
+verdict_is t t' p access a a' v w answers table address is = ap₂ (λ (x : Table) (y : ℕ). decide x p access.kind access.size y) (sym table) (sym address) ∙ (sym answers ∙ is)
+
+address_small : (k : Kind) → address_code k ≤ 5
+address_small Fetch = omega arith
+address_small Load = omega arith
+address_small Store = omega arith
+
+miss_small : (k : Kind) → miss_code k ≤ 5
+miss_small Fetch = omega arith
+miss_small Load = omega arith
+miss_small Store = omega arith
+
+small : (n code : ℕ) → n ≤ 5 → n ≡ code → code ≤ 5
+small n code few is = omega (arith, few, is)
+
+denied_option : (named : Option ℕ) (o : ℕ) (rule : Rule) (code : ℕ) → allowed_on named o ≡ Denied rule code → code ≤ 5
+denied_option None o rule code is = small 0 code (omega arith) (cc)
+denied_option (Some q) o rule code is = absurd (cc)
+
+denied_right : (right : Right) (access : Kind) (g : Grant) (o : ℕ) (rule : Rule) (code : ℕ) → by_right right access g o ≡ Denied rule code → code ≤ 5
+denied_right Nothing access g o rule code is = small (miss_code access) code (miss_small access) (cc)
+denied_right Read Fetch g o rule code is = denied_option g.page o rule code is
+denied_right Read Load g o rule code is = denied_option g.page o rule code is
+denied_right Read Store g o rule code is = small 1 code (omega arith) (cc)
+denied_right Write access g o rule code is = denied_option g.page o rule code is
+
+denied_tests : (aligned high : Bool) (found : Option Grant) (access : Kind) (o : ℕ) (rule : Rule) (code : ℕ)
+    → cond (not aligned) (Denied A (address_code access)) (cond high (Denied K (address_code access)) (by_entry found access o)) ≡ Denied rule code → code ≤ 5
+denied_tests false high found access o rule code is = small (address_code access) code (address_small access) (cc)
+denied_tests true true found access o rule code is = small (address_code access) code (address_small access) (cc)
+denied_tests true false None access o rule code is = small (miss_code access) code (miss_small access) (cc)
+denied_tests true false (Some g) access o rule code is = denied_right g.right access g o rule code is
+
+-- a denial's code has one digit
+pub denied_small : (t : Table) (p : ℕ) (access : Access) (a : ℕ) (rule : Rule) (code : ℕ) → decide t p access.kind access.size a ≡ Denied rule code → code ≤ 5
+denied_small t p access a rule code is = denied_tests (is_aligned access.size a) (nat_le (2 ^ 31) a) (entry_at t p (page_address a)) access.kind (a % 4096) rule code is
+
+-- a stop by its kind and its address
+pub stopped_as : {L : Type 0} (p : ℕ) (old new : Parts L) (kind kind' : DeniedKind) (address address' : ℕ) (rule : Rule) (code : ℕ) → kind ≡ kind' → address ≡ address'
+    → HasEnded (ends_in_stop p old.core.system.epc (own_in old.core.system) (record { kind = kind; address = address; rule = rule; code = code })) old new
+    → HasEnded (ends_in_stop p old.core.system.epc (own_in old.core.system) (record { kind = kind'; address = address'; rule = rule; code = code })) old new
+stopped_as p old new kind kind' address address' rule code k a ended =
+    subst (λ (x : DeniedKind). HasEnded (ends_in_stop p old.core.system.epc (own_in old.core.system) (record { kind = x; address = address'; rule = rule; code = code })) old new) k
+    (subst (λ (n : ℕ). HasEnded (ends_in_stop p old.core.system.epc (own_in old.core.system) (record { kind = kind; address = n; rule = rule; code = code })) old new) a ended)

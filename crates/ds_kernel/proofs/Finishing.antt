@@ -1,0 +1,196 @@
+-- A service ends the unit.
+use Rattle.std.proofs.Common.{◌≡◌, ℕ, ◌+◌, ◌%◌, ◌^◌, ◌<◌, ◌≤◌, ◌==◌, Bool, true, false, cond, List, [], ◌∷◌, length, Option, Some, None, refl, sym, ap, ap₂, subst, ◌∙◌, arith}
+use Rattle.std.proofs.lemmas.Bool.{cases_Bool}
+use Rattle.ds_tlb.specs.declared.entry.Entry.{Entry}
+use Rattle.ds_dev.specs.Clock.{ClockState}
+use Rattle.ds_dev.specs.Bus.{BusState}
+use Rattle.ds_grants.specs.State.{GrantsState}
+use Rattle.ds_grants.specs.Buffer.{BufferHolds, KeepsBuffer, IsOneSpace}
+use Rattle.ds_grants.specs.Sound.{NamesPages}
+use Rattle.ds_pagemap.specs.declared.turn.Turn.{Turn}
+use Rattle.ds_pagemap.specs.Boundary.{has_passed}
+use Rattle.ds_pagemap.specs.Machine.{State}
+use Rattle.ds_pagemap_laws.specs.Lawful.{IsLawful}
+use Rattle.ds_refinement.specs.Held.{Held, Kept, Own, whole, space_of, began_or, last_boundary}
+use Rattle.ds_pagemap.specs.Unit.{Stop}
+use Rattle.ds_refinement.specs.Told.{own_in}
+use Rattle.ds_refinement.specs.Stands.{AreResting, IsSound, ends_in_stop, ends_in_call}
+use Rattle.ds_refinement.specs.Services.{Serves, EntersBy, EndsBy, seated, with_none_spent}
+use Rattle.ds_monitor.specs.declared.monitor.Monitor.{Monitor}
+use Rattle.ds_monitor.specs.Kept.{kept_of}
+use Rattle.ds_kernel.specs.declared.parts.Parts.{Parts}
+use Rattle.ds_kernel.specs.Parts.{held}
+use Rattle.ds_kernel.specs.Ended.{HasEnded}
+use Rattle.ds_kernel.proofs.Keeping.{lawful_elsewhere, stop_lawful, call_lawful}
+
+-- whoever has the address space, the service is the same
+owner_unseen : (f : State → State) (a k : Kept) (x y : List ℕ) (owner : ℕ) → Serves f a x k y → Serves f a x (record k { owner = owner }) y
+owner_unseen f a k x y owner s = record { lines = s.lines; state = s.state; bare = s.bare; text = s.text; count = s.count }
+
+at_most_one : (b : Bool) → cond b 1 0 ≤ 1
+at_most_one true = omega arith
+at_most_one false = omega arith
+
+-- there is one address space
+pub one_space : (k : Kept) → IsOneSpace (space_of k)
+one_space k process = at_most_one (process == k.owner)
+
+-- the turn of a process that began at a time
+abbrev turn_of : ℕ → ℕ → Option Turn
+turn_of began p = Some (record { began = began; runner = Some p })
+
+-- the station's own marks
+abbrev own_of_marks : Bool → ℕ → Own
+own_of_marks failed spent = record { failed = failed; spent = spent }
+
+abbrev resting_clock : ℕ → ℕ → ClockState
+resting_clock x y = record { rate = x; enabled = true; flagged = false; time = y % 2 ^ 17 }
+
+-- the devices rest as before behind a unit, whose boundary is owed
+resting : (b : BusState) (k k' : Kept) (runner : Option ℕ) → k.state.owed ≡ None → k'.state.rate ≡ k.state.rate → k'.ticked ≡ k.ticked
+    → k'.state.owed ≡ Some (record { began = k.state.time; runner = runner }) → AreResting b k → AreResting b k'
+resting b k k' runner none rate ticked owed r =
+    let last : last_boundary k'.state ≡ last_boundary k.state =
+    ap (λ (o : Option Turn). began_or o k'.state.time) owed ∙ sym (ap (λ (o : Option Turn). began_or o k.state.time) none) in
+    let early = r.ticked in record {
+      serial = r.serial;
+      clock = r.clock ∙ ap₂ (λ (x y : ℕ). resting_clock x y) (sym rate) (sym ticked);
+      system = r.system;
+      ticked = subst (λ (n : ℕ). k'.ticked ≤ n) (sym last) (subst (λ (n : ℕ). n ≤ last_boundary k.state) (sym ticked) r.ticked);
+      period = ap (λ (n : ℕ). has_passed n k'.ticked (last_boundary k'.state)) rate ∙ (ap₂ (λ (x y : ℕ). has_passed k.state.rate x y) ticked last ∙ r.period);
+    }
+
+-- What is kept between the service and who comes in.
+module _ {L : Type 0} (f : State → State) (old new : Parts L) (between : Monitor) (entries : List Entry) (p : ℕ) where
+  -- what comes in leaves
+  pub record Comes : Type 0 where
+    pub enters : EntersBy new.monitor.ready new.core (kept_of new.monitor)
+    pub buffer : BufferHolds entries (space_of (kept_of between)) between.grants → BufferHolds new.core.entries (space_of (kept_of new.monitor)) new.monitor.grants
+    pub pages : NamesPages between.grants
+    pub random : new.core.random ≡ old.core.random
+    pub bus : new.bus ≡ old.bus
+    pub monitor : new.monitor ≡ record between { owner = new.monitor.owner }
+    pub failed : new.failed ≡ old.failed
+    pub spent : new.spent ≡ 0
+    pub closed : new.has_room ≡ false
+
+  -- what the service leaves
+  pub record Served : Type 0 where
+    pub serves : Serves f (seated old.core (kept_of old.monitor)) old.bus.memory (kept_of between) old.bus.memory
+    pub buffer : KeepsBuffer old.core.entries entries old.monitor.grants between.grants
+    pub owner : between.owner ≡ old.monitor.owner
+    pub rate : between.rate ≡ old.monitor.rate
+    pub ticked : between.ticked ≡ old.monitor.ticked
+    pub lines : between.lines ≤ old.monitor.lines + 1
+    pub owed : between.owed ≡ Some (record { began = old.monitor.time; runner = Some p })
+    pub lawful : IsLawful (whole (kept_of between) [] [])
+
+  kept_is : Comes → kept_of new.monitor ≡ record (kept_of between) { owner = new.monitor.owner }
+  kept_is b = ap (λ (m : Monitor). kept_of m) b.monitor
+
+  same_space : Served → space_of (kept_of old.monitor) ≡ space_of (kept_of between)
+  same_space a = ap (λ (o : ℕ). λ (q : ℕ). cond (q == o) 1 0) (sym a.owner)
+
+  pub has_ended : IsSound (held old) → old.monitor.owed ≡ None → Served → Comes → HasEnded f old new
+  has_ended sound unowed a b = record {
+    ends = record {
+      serves = subst (λ (x : BusState). Serves f (seated old.core (kept_of old.monitor)) old.bus.memory (kept_of new.monitor) x.memory) (sym b.bus)
+          (subst (λ (k : Kept). Serves f (seated old.core (kept_of old.monitor)) old.bus.memory k old.bus.memory) (sym (kept_is b))
+          (owner_unseen f (seated old.core (kept_of old.monitor)) (kept_of between) old.bus.memory old.bus.memory new.monitor.owner a.serves));
+      enters = b.enters;
+      buffer = b.buffer (subst (λ (s : ℕ → ℕ). BufferHolds entries s between.grants) (same_space a)
+          (a.buffer (space_of (kept_of old.monitor)) (one_space (kept_of old.monitor)) sound.stands.buffer));
+      grants = subst NamesPages (sym (ap (λ (k : Kept). k.grants) (kept_is b))) b.pages;
+      size = ap (λ (x : BusState). length x.memory) b.bus;
+      devices = subst (λ (x : BusState). AreResting x (kept_of new.monitor)) (sym b.bus)
+          (resting old.bus (kept_of old.monitor) (kept_of new.monitor) (Some p) unowed
+          (ap (λ (m : Monitor). m.rate) b.monitor ∙ a.rate)
+          (ap (λ (m : Monitor). m.ticked) b.monitor ∙ a.ticked)
+          (ap (λ (m : Monitor). m.owed) b.monitor ∙ a.owed)
+          sound.stands.devices);
+    };
+    own = ap₂ (λ (x : Bool) (y : ℕ). own_of_marks x y) b.failed b.spent;
+    random = b.random;
+    lines = subst (λ (n : ℕ). n ≤ old.monitor.lines + 1) (sym (ap (λ (m : Monitor). m.lines) b.monitor)) a.lines;
+    ticked = ap (λ (m : Monitor). m.ticked) b.monitor ∙ a.ticked;
+    lawful = subst (λ (k : Kept). IsLawful (whole k [] [])) (sym (kept_is b)) (lawful_elsewhere (kept_of between) [] [] [] [] a.lawful);
+    closed = b.closed;
+  }
+
+-- Who is first comes in behind a service of the process that left.
+pub comes_in : {L : Type 0} (f : State → State) (old left new : Parts L) (between : Monitor) (entries : List Entry) (p : ℕ)
+    → left ≡ record old { monitor = record old.monitor { seats = left.monitor.seats } }
+    → EntersBy new.monitor.ready new.core (kept_of new.monitor)
+    → (BufferHolds entries (space_of (kept_of between)) between.grants → BufferHolds new.core.entries (space_of (kept_of new.monitor)) new.monitor.grants)
+    → NamesPages between.grants → new.core.random ≡ left.core.random → new.bus ≡ left.bus
+    → new.monitor ≡ record between { owner = new.monitor.owner } → new.failed ≡ left.failed → new.spent ≡ 0 → new.has_room ≡ false
+    → Comes f old new between entries p
+comes_in {L} f old left new between entries p leaves enters buffer pages random bus monitor failed spent closed = record {
+  enters = enters;
+  buffer = buffer;
+  pages = pages;
+  random = random ∙ ap (λ (x : Parts L). x.core.random) leaves;
+  bus = bus ∙ ap (λ (x : Parts L). x.bus) leaves;
+  monitor = monitor;
+  failed = failed ∙ ap (λ (x : Parts L). x.failed) leaves;
+  spent = spent;
+  closed = closed;
+}
+
+-- What a stop leaves.
+pub stop_served : {L : Type 0} (old left new : Parts L) (between : Monitor) (p unit pc : ℕ) (stop : Stop)
+    → unit ≡ old.core.system.epc → pc ≡ own_in old.core.system → 0 < p
+    → kept_of left.monitor ≡ seated old.core (kept_of old.monitor)
+    → left ≡ record old { monitor = record old.monitor { seats = left.monitor.seats } }
+    → IsLawful (whole (kept_of left.monitor) [] [])
+    → ((memory : List ℕ) → Serves (ends_in_stop p unit pc stop) (kept_of left.monitor) memory (kept_of between) memory)
+    → between.lines ≡ left.monitor.lines + 1
+    → between ≡ record left.monitor { seats = between.seats; ready = between.ready; log = between.log; lines = between.lines; time = between.time; owed = between.owed }
+    → Served (ends_in_stop p old.core.system.epc (own_in old.core.system) stop) old new between left.core.entries p
+stop_served {L} old left new between p unit pc stop unit_is pc_is above kept leaves lawful serves lines rest =
+    let lines_left : left.monitor.lines ≡ old.monitor.lines = ap (λ (x : Parts L). x.monitor.lines) leaves in
+    let time_left : left.monitor.time ≡ old.monitor.time = ap (λ (x : Parts L). x.monitor.time) leaves in
+    let grants : between.grants ≡ old.monitor.grants = ap (λ (m : Monitor). m.grants) rest ∙ ap (λ (x : Parts L). x.monitor.grants) leaves in
+    let entries : left.core.entries ≡ old.core.entries = ap (λ (x : Parts L). x.core.entries) leaves in record {
+      serves = subst (λ (n : ℕ). Serves (ends_in_stop p n (own_in old.core.system) stop) (seated old.core (kept_of old.monitor)) old.bus.memory (kept_of between) old.bus.memory) unit_is
+          (subst (λ (n : ℕ). Serves (ends_in_stop p unit n stop) (seated old.core (kept_of old.monitor)) old.bus.memory (kept_of between) old.bus.memory) pc_is
+          (subst (λ (k : Kept). Serves (ends_in_stop p unit pc stop) k old.bus.memory (kept_of between) old.bus.memory) kept (serves old.bus.memory)));
+      buffer = λ numbers one holds. subst (λ (g : GrantsState). BufferHolds left.core.entries numbers g) (sym grants)
+          (subst (λ (es : List Entry). BufferHolds es numbers old.monitor.grants) (sym entries) holds);
+      owner = ap (λ (m : Monitor). m.owner) rest ∙ ap (λ (x : Parts L). x.monitor.owner) leaves;
+      rate = ap (λ (m : Monitor). m.rate) rest ∙ ap (λ (x : Parts L). x.monitor.rate) leaves;
+      ticked = ap (λ (m : Monitor). m.ticked) rest ∙ ap (λ (x : Parts L). x.monitor.ticked) leaves;
+      lines = omega (arith, lines, lines_left);
+      owed = sym (ap (λ (s : State). s.owed) ((serves []).state [])) ∙ ap (λ (n : ℕ). turn_of n p) time_left;
+      lawful = stop_lawful (kept_of left.monitor) (kept_of between) p unit pc stop [] [] above (serves []) lawful;
+    }
+
+-- What a call leaves.
+pub call_served : {L : Type 0} (old left new : Parts L) (between : Monitor) (entries : List Entry) (p unit : ℕ)
+    → unit ≡ old.core.system.epc → 0 < p → p ≤ length left.monitor.seats.items
+    → kept_of left.monitor ≡ seated old.core (kept_of old.monitor)
+    → left ≡ record old { monitor = record old.monitor { seats = left.monitor.seats } }
+    → IsLawful (whole (kept_of left.monitor) [] [])
+    → Serves (ends_in_call p unit) (kept_of left.monitor) left.bus.memory (kept_of between) left.bus.memory
+    → KeepsBuffer left.core.entries entries left.monitor.grants between.grants
+    → between ≡ record left.monitor { grants = between.grants; seats = between.seats; ready = between.ready; queues = between.queues; consoles = between.consoles; time = between.time; owed = between.owed }
+    → Served (ends_in_call p old.core.system.epc) old new between entries p
+call_served {L} old left new between entries p unit unit_is above within kept leaves lawful serves buffer rest =
+    let lines_left : left.monitor.lines ≡ old.monitor.lines = ap (λ (x : Parts L). x.monitor.lines) leaves in
+    let lines : between.lines ≡ left.monitor.lines = ap (λ (m : Monitor). m.lines) rest in
+    let time_left : left.monitor.time ≡ old.monitor.time = ap (λ (x : Parts L). x.monitor.time) leaves in
+    let grants : left.monitor.grants ≡ old.monitor.grants = ap (λ (x : Parts L). x.monitor.grants) leaves in
+    let before : left.core.entries ≡ old.core.entries = ap (λ (x : Parts L). x.core.entries) leaves in
+    let memory : left.bus.memory ≡ old.bus.memory = ap (λ (x : Parts L). x.bus.memory) leaves in record {
+      serves = subst (λ (n : ℕ). Serves (ends_in_call p n) (seated old.core (kept_of old.monitor)) old.bus.memory (kept_of between) old.bus.memory) unit_is
+          (subst (λ (m : List ℕ). Serves (ends_in_call p unit) (seated old.core (kept_of old.monitor)) m (kept_of between) m) memory
+          (subst (λ (k : Kept). Serves (ends_in_call p unit) k left.bus.memory (kept_of between) left.bus.memory) kept serves));
+      buffer = subst (λ (es : List Entry). KeepsBuffer es entries old.monitor.grants between.grants) before
+          (subst (λ (g : GrantsState). KeepsBuffer left.core.entries entries g between.grants) grants buffer);
+      owner = ap (λ (m : Monitor). m.owner) rest ∙ ap (λ (x : Parts L). x.monitor.owner) leaves;
+      rate = ap (λ (m : Monitor). m.rate) rest ∙ ap (λ (x : Parts L). x.monitor.rate) leaves;
+      ticked = ap (λ (m : Monitor). m.ticked) rest ∙ ap (λ (x : Parts L). x.monitor.ticked) leaves;
+      lines = omega (arith, lines, lines_left);
+      owed = sym (ap (λ (s : State). s.owed) (serves.state [])) ∙ ap (λ (n : ℕ). turn_of n p) time_left;
+      lawful = call_lawful (kept_of left.monitor) (kept_of between) p unit left.bus.memory left.bus.memory above within serves lawful;
+    }

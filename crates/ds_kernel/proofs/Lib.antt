@@ -1,0 +1,5 @@
+pub mod Entering
+pub mod Fetching
+pub mod Keeping
+pub mod Finishing
+pub mod Doing

@@ -1,0 +1,60 @@
+use Rattle.std.proofs.Common.{◌≡◌, ℕ, sym, ap, subst, arith}
+use Rattle.ds_policy.specs.declared.access.Verdict.TheVariants.{Allowed, Denied}
+use Rattle.ds_policy.specs.Pages.{decide}
+use Rattle.ds_pagemap.specs.Unit.{denied_as}
+use Rattle.ds_refinement.specs.declared.step.Step.{Step}
+use Rattle.ds_kernel.specs.declared.parts.Parts.{Parts}
+use Rattle.ds_kernel.specs.Parts.{held}
+use Rattle.ds_kernel.specs.Refill.{entry_for}
+use Rattle.ds_kernel.specs.Ended.{Does}
+use Rattle.ds_kernel.proofs.Fetching.{allowed_page}
+use Rattle.ds_kernel.proofs.Doing.{verdict_is, denied_small, stopped_as, denied_step, refill_step, refill_good, ended_good}
+use Rattle.ds_kernel.proofs.parts.Parts.miss.Goals as goal
+
+pub refill-requires-clause-page : goal.refill-requires-clause-page
+refill-requires-clause-page g c =
+    let old = c.args.self.now in
+    let on = allowed_page old.monitor.grants c.args.process c.args.access.kind c.args.access.size old.core.system.bad_vaddr c.in-Allowed.page c.in-Allowed.offset c.table.ensures.pages
+    (verdict_is _ old.monitor.grants.table c.args.process c.args.access _ old.core.system.bad_vaddr _ (Allowed c.in-Allowed.page c.in-Allowed.offset) c.decide.ensures.exact c.table.ensures.value c.bad_address-address.ensures c.in-Allowed.is) in
+    let low = on.low in
+    let few = on.few in
+    omega (arith, low, few)
+
+pub stop-requires-clause-code : goal.stop-requires-clause-code
+stop-requires-clause-code g c =
+    let old = c.args.self.now in
+    let few = denied_small old.monitor.grants.table c.args.process c.args.access old.core.system.bad_vaddr c.in-Denied.rule c.in-Denied.code
+    (verdict_is _ old.monitor.grants.table c.args.process c.args.access _ old.core.system.bad_vaddr _ (Denied c.in-Denied.rule c.in-Denied.code) c.decide.ensures.exact c.table.ensures.value c.bad_address-address.ensures c.in-Denied.is) in
+    omega (arith, few)
+
+pub returns-in-Allowed-clause-does : goal.returns-in-Allowed-clause-does
+returns-in-Allowed-clause-does g c =
+    let old = c.args.self.now in
+    let new = c.refill.new.self in
+    let decides : decide old.monitor.grants.table c.args.process c.args.access.kind c.args.access.size old.core.system.bad_vaddr ≡ Allowed c.in-Allowed.page c.in-Allowed.offset =
+    verdict_is _ old.monitor.grants.table c.args.process c.args.access _ old.core.system.bad_vaddr _ (Allowed c.in-Allowed.page c.in-Allowed.offset) c.decide.ensures.exact c.table.ensures.value c.bad_address-address.ensures c.in-Allowed.is in
+    let on = allowed_page old.monitor.grants c.args.process c.args.access.kind c.args.access.size old.core.system.bad_vaddr c.in-Allowed.page c.in-Allowed.offset c.table.ensures.pages decides in
+    refill_step c.args.process old new c.requires.busy c.requires.kernel c.args.access c.in-Allowed.page c.in-Allowed.offset on.grant c.look_at_random.ensures decides on.granted c.refill.ensures.held
+
+pub returns-in-Allowed-clause-good : goal.returns-in-Allowed-clause-good
+returns-in-Allowed-clause-good g c =
+    let old = c.args.self.now in
+    refill_good c.args.process old c.refill.new.self c.requires.busy c.requires.kernel (entry_for old.monitor.grants c.args.process old.core.system.bad_vaddr c.in-Allowed.page) c.refill.ensures.held
+    (ap (λ (x : Parts g.row.L.Denot). x.monitor) c.refill.ensures.rest) (returns-in-Allowed-clause-does g c)
+
+pub returns-in-Denied-clause-does : goal.returns-in-Denied-clause-does
+returns-in-Denied-clause-does g c =
+    let old = c.args.self.now in
+    let new = c.stop.new.self in
+    let denied : decide old.monitor.grants.table c.args.process c.args.access.kind c.args.access.size old.core.system.bad_vaddr ≡ Denied c.in-Denied.rule c.in-Denied.code =
+    verdict_is _ old.monitor.grants.table c.args.process c.args.access _ old.core.system.bad_vaddr _ (Denied c.in-Denied.rule c.in-Denied.code) c.decide.ensures.exact c.table.ensures.value c.bad_address-address.ensures c.in-Denied.is in
+    subst (λ (s : Step). Does s (held old) (held new)) (sym c.stop.ensures.step)
+    (denied_step c.args.process old new c.requires.busy c.requires.kernel c.args.access c.in-Denied.rule c.in-Denied.code c.requires.told denied
+    (stopped_as c.args.process old new c.denied_as.result (denied_as c.args.access.kind) c.bad_address-address.result old.core.system.bad_vaddr c.in-Denied.rule c.in-Denied.code c.denied_as.ensures c.bad_address-address.ensures c.stop.ensures.ends))
+
+pub returns-in-Denied-clause-good : goal.returns-in-Denied-clause-good
+returns-in-Denied-clause-good g c =
+    let old = c.args.self.now in
+    let new = c.stop.new.self in
+    ended_good _ c.args.process old new c.requires.busy c.stop.ensures.ends
+    (subst (λ (s : Step). Does s (held old) (held new)) c.stop.ensures.step (returns-in-Denied-clause-does g c))

@@ -1,0 +1,45 @@
+use Rattle.std.proofs.Common.{◌≡◌, ◌≤◌, ◌<◌, List, [], ◌∷◌, ℕ, length, map, get_or, refl, sym, ◌∙◌, ap, ap₂, subst, arith}
+use Rattle.std.specs.Prelude.{slice_index_or}
+use Rattle.ds_tlb.specs.declared.entry.Entry.{Entry}
+use Rattle.ds_tlb.specs.Entries.{empty_entries}
+use Rattle.ds_dev.specs.Bus.{BusState}
+use Rattle.ds_policy.specs.declared.policy.PolicyProcess.{PolicyProcess}
+use Rattle.ds_grants.specs.State.{page_state}
+use Rattle.ds_grants.specs.Sound.{NamesPages}
+use Rattle.ds_pagemap.specs.Machine.{no_process}
+use Rattle.ds_pagemap.specs.First.{first_process}
+use Rattle.ds_refinement.specs.Held.{Kept}
+use Rattle.ds_refinement.specs.First.{first_core, first_bus}
+use Rattle.ds_refinement.proofs.FirstStands.{first_stands}
+use Rattle.ds_monitor.specs.First.{no_input}
+use Rattle.ds_kernel.proofs.parts.Parts.new.Goals as goal
+
+-- the first process starts where the policy lets it
+first_place : (ps : List PolicyProcess) (d : PolicyProcess) → 1 ≤ length ps → (get_or ps 0 d).start ≡ (slice_index_or (map first_process ps) 0 no_process).pc
+first_place [] d some = absurd (omega (arith, some))
+first_place (p ∷ rest) d some = refl
+
+pub returns-clause-first : goal.returns-clause-first
+returns-clause-first g c =
+    let none : PolicyProcess = record { start = 0; line = 0 } in
+    let policy = c.args.policy.now in
+    let random = g.L.Lookaside.random_place c.args.tlb in
+    let all : c.processes.result.now ≡ policy.processes = c.processes.ensures.all in
+    let pc : (get_or c.processes.result.now 0 none).start ≡ (slice_index_or (map first_process policy.processes) 0 no_process).pc = ap (λ (ps : List PolicyProcess). (get_or ps 0 none).start) all ∙ first_place policy.processes none c.processes.ensures.some in
+    let entries : g.L.Lookaside.entries c.args.tlb ≡ empty_entries 64 = c.requires.empty ∙ ap empty_entries c.requires.slots in
+    let memory = ap (λ (b : BusState). b.memory) c.first_bus.ensures in
+    let grants = ap (λ (k : Kept). k.grants) c.in_ok-monitor.ensures.first in
+    record {
+      core = c.first_core.ensures ∙ ap₂ (λ (es : List Entry) (n : ℕ). first_core es random n) entries pc;
+      bus = c.first_bus.ensures ∙ ap₂ first_bus (sym memory) c.rate.ensures.all;
+      pages = c.in_ok-monitor.ensures.kept.pages ∙ ap₂ page_state grants (sym memory);
+      size = ap length memory ∙ c.word.ensures.size;
+      kept = c.in_ok-monitor.ensures.first;
+      own = refl;
+    }
+
+pub returns-clause-stands : goal.returns-clause-stands
+returns-clause-stands g c =
+    let some : 0 < length c.args.policy.now.processes = omega (arith, c.processes.ensures.some) in
+    let named = subst NamesPages (ap (λ (k : Kept). k.grants) c.in_ok-monitor.ensures.first) c.table.ensures.pages in
+    first_stands c.args.policy.now c.args.images.now no_input _ _ some named (returns-clause-first g c)

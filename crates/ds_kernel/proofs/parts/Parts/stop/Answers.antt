@@ -1,0 +1,31 @@
+use Rattle.std.proofs.Common.{refl, ap, []}
+use Rattle.ds_kernel.specs.declared.parts.Parts.{Parts}
+use Rattle.ds_kernel.proofs.Keeping.{stop_lawful}
+use Rattle.ds_kernel.proofs.Finishing.{has_ended, comes_in, stop_served}
+use Rattle.ds_refinement.specs.Stands.{ends_in_stop}
+use Rattle.ds_refinement.specs.Told.{own_in}
+use Rattle.ds_pagemap.specs.Unit.{Stop}
+use Rattle.ds_monitor.specs.Kept.{kept_of}
+use Rattle.ds_kernel.proofs.parts.Parts.stop.Goals as goal
+
+pub end_unit-requires : goal.end_unit-requires
+end_unit-requires g c = record {
+  lawful = stop_lawful (kept_of c.leave.new.self.monitor) (kept_of c.stop_unit.new.self) c.args.process c.unit_address-unit.result c.own_address-pc.result
+      (record { kind = c.args.kind; address = c.args.address; rule = c.args.rule; code = c.args.code }) [] []
+      c.look_at_unit.ensures.above (c.stop_unit.ensures.serves []) (c.leave.ensures.lawful c.look_at_unit.ensures.lawful);
+}
+
+pub returns-clause-ends : goal.returns-clause-ends
+returns-clause-ends g c =
+    let old = c.args.self.now in
+    let left = c.leave.new.self in
+    let new = c.end_unit.new.self in
+    let between = c.stop_unit.new.self in
+    let stop : Stop = record { kind = c.args.kind; address = c.args.address; rule = c.args.rule; code = c.args.code } in
+    let f = ends_in_stop c.args.process old.core.system.epc (own_in old.core.system) stop in
+    let rest = c.end_unit.ensures.rest in
+    has_ended f old new between left.core.entries c.args.process c.requires.busy.good.sound c.look_at_unit.ensures.unowed
+    (stop_served old left new between c.args.process c.unit_address-unit.result c.own_address-pc.result stop c.unit_address-unit.ensures c.own_address-pc.ensures
+    c.look_at_unit.ensures.above c.leave.ensures.kept c.leave.ensures.rest (c.leave.ensures.lawful c.look_at_unit.ensures.lawful) c.stop_unit.ensures.serves c.stop_unit.ensures.lines c.stop_unit.ensures.rest)
+    (comes_in f old left new between left.core.entries c.args.process c.leave.ensures.rest c.end_unit.ensures.enters c.end_unit.ensures.buffer c.end_unit.ensures.pages c.end_unit.ensures.random
+    (ap (λ (x : Parts g.row.L.Denot). x.bus) rest) (ap (λ (x : Parts g.row.L.Denot). x.monitor) rest) (ap (λ (x : Parts g.row.L.Denot). x.failed) rest) (ap (λ (x : Parts g.row.L.Denot). x.spent) rest) (ap (λ (x : Parts g.row.L.Denot). x.has_room) rest))

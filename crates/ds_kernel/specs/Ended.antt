@@ -1,0 +1,28 @@
+-- The end of a unit in a service, and what a step of a station does.
+use Rattle.std.specs.Prelude.{◌≡◌, ℕ, ◌+◌, ◌≤◌, false, []}
+use Rattle.ds_pagemap.specs.Machine.{State}
+use Rattle.ds_pagemap_laws.specs.Lawful.{IsLawful}
+use Rattle.ds_refinement.specs.declared.step.Step.{Step}
+use Rattle.ds_refinement.specs.Held.{Held, whole}
+use Rattle.ds_refinement.specs.Services.{EndsBy, with_none_spent}
+use Rattle.ds_refinement.specs.Steps.{Follows, Moves}
+use Rattle.ds_refinement.specs.Real.{IsReal}
+use Rattle.ds_monitor.specs.Kept.{kept_of}
+use Rattle.ds_kernel.specs.declared.parts.Parts.{Parts}
+use Rattle.ds_kernel.specs.Parts.{held}
+
+-- a unit ended with what f does, and the station's own marks are those of a new one
+pub record HasEnded {L : Type 0} (f : State → State) (old new : Parts L) : Type 0 where
+  pub ends : EndsBy f (held old) (held new)
+  pub own : (held new).own ≡ with_none_spent (held old).own
+  pub random : new.core.random ≡ old.core.random
+  pub lines : new.monitor.lines ≤ old.monitor.lines + 1
+  pub ticked : new.monitor.ticked ≡ old.monitor.ticked
+  pub lawful : IsLawful (whole (kept_of new.monitor) [] [])
+  pub closed : new.has_room ≡ false
+
+-- it is followed by the machine with its counts, and it is real
+pub record Does (step : Step) (old new : Held) : Type 0 where
+  pub follows : Follows step old new
+  pub moves : Moves step old new
+  pub real : IsReal old new

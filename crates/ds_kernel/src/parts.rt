@@ -1,0 +1,22 @@
+//! All that a station on the whole processor holds.
+use ds_core::Core;
+use ds_dev::Bus;
+use ds_monitor::Monitor;
+use ds_tlb::Lookaside;
+
+/// All that a station on the whole processor holds. A contract sees it as a `Held`, which `held`
+/// makes of it.
+#[derive(Drop)]
+pub struct Parts<L: Lookaside> {
+    pub core: Core<L>,
+    /// Memory and the devices.
+    pub bus: Bus,
+    /// What is kept beside the processor and its bus.
+    pub monitor: Monitor,
+    /// An earlier failure stands.
+    pub failed: bool,
+    /// The instructions that the unit has taken so far.
+    pub spent: u32,
+    /// A unit may begin without a new reservation.
+    pub has_room: bool,
+}

@@ -1,0 +1,148 @@
+//! How a process leaves the processor for its seat, and how the next one comes on the processor.
+ghost use Rattle.std.specs.Prelude.{◌≡◌, ℕ, ◌<◌, ◌≤◌, length, slice_index, Some, All, []};
+ghost use Rattle.ds_tlb.specs.Entries.{empty_entries};
+ghost use Rattle.ds_pagemap.specs.Machine.{State, process_of, first};
+ghost use Rattle.ds_pagemap_laws.specs.Lawful.{AreRegisters, IsReady, IsLawful};
+ghost use Rattle.ds_grants.specs.Buffer.{BufferHolds};
+ghost use Rattle.ds_refinement.specs.Held.{space_of, whole};
+ghost use Rattle.ds_refinement.specs.Services.{resume_address, seated, EntersBy};
+ghost use Rattle.ds_monitor.specs.Kept.{kept_of};
+ghost use Rattle.ds_kernel.specs.Seats.{on_processor};
+
+use crate::parts::Parts;
+use ds_cp0::register;
+use ds_tlb::{Entry, Lookaside};
+use ds_word::wrapping_sum;
+
+/// Status while a user runs: user mode and interrupts on, and of these the clock's and the lines'.
+pub(crate) const USER_STATUS: u32 = 0xc03;
+
+/// EntryHi of page 0 in the one address space.
+pub(crate) const ONE_SPACE: u32 = 0x40;
+
+/// Empties the buffer: slot i holds page 80000 + i (hexadecimal), which needs no translation.
+fn flush<L: Lookaside>(tlb: &mut L)
+    ensures entries { L.entries tlb.new ≡ empty_entries L.SLOTS }
+    ensures random { L.random_place tlb.new ≡ L.random_place tlb.old }
+{
+    for slot in 0..L::SLOTS {
+        tlb.write(slot, Entry::empty(slot));
+    }
+}
+
+/// There are 32 registers.
+fn look_at_size(registers: &[u32; 32])
+    ensures { length registers.now ≡ 32 }
+{
+    let _last = registers[31];
+}
+
+impl<L: Lookaside> Parts<L> {
+    /// Where the process that runs goes on: in a service at EPC.
+    fn resume_address(&self) -> u32
+        ensures { result ≡ resume_address self.now.core }
+    {
+        if self.core.cp0.user() {
+            self.core.pc
+        } else {
+            self.core.cp0.read(register::EPC)
+        }
+    }
+
+    /// The processor has 32 registers, of which register 0 is 0.
+    fn look_at_registers(&self)
+        ensures size { length self.now.core.registers.general ≡ 32 }
+        ensures nought { slice_index self.now.core.registers.general 0 ≡ 0 }
+    {
+        look_at_size(&self.core.registers);
+    }
+
+    /// The process that runs leaves the processor for its seat. A late load is finished.
+    pub fn leave(&mut self, process: u32)
+        requires above { 0 < process }
+        requires within { process ≤ length self.old.monitor.seats.items }
+        requires first { first self.old.monitor.ready ≡ Some process }
+        ensures kept { kept_of self.new.monitor ≡ seated self.old.core (kept_of self.old.monitor) }
+        ensures as_many { length self.new.monitor.seats.items
+            ≡ length self.old.monitor.seats.items }
+        ensures lawful { IsLawful (whole (kept_of self.old.monitor) [] [])
+            → IsLawful (whole (kept_of self.new.monitor) [] []) }
+        ensures rest { self.new ≡ record self.old {
+          monitor = record self.old.monitor { seats = self.new.monitor.seats };
+        } }
+    {
+        self.look_at_registers();
+        let pc = self.resume_address();
+        self.monitor.keep(process, self.core.registers, self.core.hi, self.core.lo, pc);
+    }
+
+    /// The process has the one address space. What the buffer had for another is gone.
+    fn claim_space(&mut self, process: u32)
+        ensures owner { self.new.monitor ≡ record self.old.monitor { owner = process } }
+        ensures buffer { BufferHolds self.old.core.entries (space_of (kept_of self.old.monitor))
+            self.old.monitor.grants
+            → BufferHolds self.new.core.entries (space_of (kept_of self.new.monitor))
+            self.new.monitor.grants }
+        ensures rest { self.new ≡ record self.old {
+          core = record self.old.core { entries = self.new.core.entries };
+          monitor = self.new.monitor;
+        } }
+    {
+        if self.monitor.owner != process {
+            flush(&mut self.core.tlb);
+            self.monitor.owner = process;
+        }
+    }
+
+    /// The process comes on the processor, touched, at the beginning of its unit.
+    fn put_on(&mut self, process: u32)
+        requires above { 0 < process }
+        requires within { process ≤ length self.old.monitor.seats.items }
+        requires nought { slice_index
+            (process_of (kept_of self.old.monitor).state process).registers.general 0 ≡ 0 }
+        ensures { self.new ≡ record self.old {
+          core = on_processor self.old.core
+              (process_of (kept_of self.old.monitor).state process);
+        } }
+    {
+        let seat = &self.monitor.seats[process as usize - 1];
+        let pc = seat.pc();
+        let (general, hi, lo) = seat.registers();
+        self.core.registers = general;
+        self.core.registers[26] = 0;
+        self.core.registers[27] = pc;
+        self.core.hi = hi;
+        self.core.lo = lo;
+        self.core.late = None;
+        self.core.pc = pc;
+        self.core.next = wrapping_sum(pc, 4);
+        self.core.slot = false;
+        self.core.cp0.write(register::STATUS, USER_STATUS);
+        self.core.cp0.write(register::ENTRY_HI, ONE_SPACE);
+    }
+
+    /// The first of those that are ready comes on the processor; where nobody is ready, it rests.
+    pub fn enter(&mut self)
+        requires ready { All (IsReady (kept_of self.old.monitor).state) self.old.monitor.ready }
+        requires registers { (p : ℕ)
+            → AreRegisters (process_of (kept_of self.old.monitor).state p).registers }
+        ensures enters { EntersBy self.new.monitor.ready self.new.core (kept_of self.new.monitor) }
+        ensures buffer { BufferHolds self.old.core.entries (space_of (kept_of self.old.monitor))
+            self.old.monitor.grants
+            → BufferHolds self.new.core.entries (space_of (kept_of self.new.monitor))
+            self.new.monitor.grants }
+        ensures random { self.new.core.random ≡ self.old.core.random }
+        ensures rest { self.new ≡ record self.old {
+          core = self.new.core;
+          monitor = record self.old.monitor { owner = self.new.monitor.owner };
+        } }
+    {
+        match self.monitor.first_ready() {
+            Some(process) => {
+                self.claim_space(process);
+                self.put_on(process);
+            }
+            None => self.core.cp0.write(register::STATUS, USER_STATUS),
+        }
+    }
+}

@@ -1,0 +1,126 @@
+//! The exception that waits is served: the buffer is refilled and the unit goes on, or it ends in a
+//! denial, a fault or a call.
+ghost use Rattle.std.specs.Prelude.{◌≡◌, ◌<◌, length, true, false};
+ghost use Rattle.ds_cp0.specs.System.{is_user};
+ghost use Rattle.ds_grants.specs.State.{page_state};
+ghost use Rattle.ds_pagemap.specs.Unit.{denied_as};
+ghost use Rattle.ds_refinement.specs.declared.cause.Cause.TheVariants as cause;
+ghost use Rattle.ds_refinement.specs.Told.{told, is_delayed};
+ghost use Rattle.ds_kernel.specs.Parts.{held};
+ghost use Rattle.ds_kernel.specs.Good.{IsBusy, IsGood};
+ghost use Rattle.ds_kernel.specs.Ended.{Does};
+
+use crate::parts::Parts;
+use ds_isa::Kind;
+use ds_log::Denied;
+use ds_policy::{Access, Rule, Verdict};
+use ds_refinement::{Cause, Step};
+use ds_tlb::Lookaside;
+
+/// The exception code of a call, which in the slot of a branch is a fault.
+const CALL_IN_A_SLOT: u32 = 8;
+
+/// What is denied where an access is.
+fn denied_as(kind: Kind) -> Denied
+    ensures { result ≡ denied_as kind }
+{
+    match kind {
+        Kind::Fetch => Denied::Fetch,
+        Kind::Load => Denied::Load,
+        Kind::Store => Denied::Store,
+    }
+}
+
+impl<L: Lookaside> Parts<L> {
+    /// Random names a slot of the buffer.
+    fn look_at_random(&self)
+        ensures { self.now.core.random < length self.now.core.entries }
+    {
+        let _random = self.core.tlb.random();
+    }
+
+    /// What the buffer did not let go: it is refilled by the table, or the unit ends in a denial.
+    fn miss(&mut self, process: u32, access: Access) -> Step
+        requires busy { IsBusy process self.old }
+        requires kernel { is_user self.old.core.system ≡ false }
+        requires told { told self.old.core.system
+            (page_state self.old.monitor.grants self.old.bus.memory) process ≡ cause.Access access }
+        ensures does { Does result (held self.old) (held self.new) }
+        ensures good { IsGood self.new }
+    {
+        self.look_at_unit(process);
+        self.look_at_random();
+        let address = self.bad_address();
+        match self.monitor.grants.table().decide(process, access, address) {
+            Verdict::Allowed { page, .. } => {
+                self.refill(process, page);
+                Step::Inside
+            }
+            Verdict::Denied { rule, code } => {
+                self.stop(process, denied_as(access.kind), address, rule, code)
+            }
+        }
+    }
+
+    /// The unit ends in a fault of its instruction.
+    fn fault(&mut self, process: u32, code: u8) -> Step
+        requires busy { IsBusy process self.old }
+        requires kernel { is_user self.old.core.system ≡ false }
+        requires told { told self.old.core.system
+            (page_state self.old.monitor.grants self.old.bus.memory) process ≡ cause.Fault code }
+        ensures does { Does result (held self.old) (held self.new) }
+        ensures good { IsGood self.new }
+    {
+        let own = self.own_address();
+        self.stop(process, Denied::Exec, own, Rule::I, u32::from(code))
+    }
+
+    /// The unit ends in the fault of a call in the slot of a branch.
+    fn call_in_slot(&mut self, process: u32) -> Step
+        requires busy { IsBusy process self.old }
+        requires kernel { is_user self.old.core.system ≡ false }
+        requires told { told self.old.core.system
+            (page_state self.old.monitor.grants self.old.bus.memory) process ≡ cause.Call }
+        requires slot { is_delayed self.old.core.system ≡ true }
+        ensures does { Does result (held self.old) (held self.new) }
+        ensures good { IsGood self.new }
+    {
+        let own = self.own_address();
+        self.stop(process, Denied::Exec, own, Rule::I, CALL_IN_A_SLOT)
+    }
+
+    /// The unit is a call.
+    fn call_outside_slot(&mut self, process: u32) -> Step
+        requires busy { IsBusy process self.old }
+        requires kernel { is_user self.old.core.system ≡ false }
+        requires told { told self.old.core.system
+            (page_state self.old.monitor.grants self.old.bus.memory) process ≡ cause.Call }
+        requires slot { is_delayed self.old.core.system ≡ false }
+        ensures does { Does result (held self.old) (held self.new) }
+        ensures good { IsGood self.new }
+    {
+        self.call(process)
+    }
+
+    /// The exception that waits.
+    #[inline(never)]
+    pub fn serve(&mut self, process: u32) -> Step
+        requires busy { IsBusy process self.old }
+        requires kernel { is_user self.old.core.system ≡ false }
+        ensures does { Does result (held self.old) (held self.new) }
+        ensures good { IsGood self.new }
+    {
+        self.look_at_unit(process);
+        match self.cause(process) {
+            Cause::Access { access } => self.miss(process, access),
+            Cause::Fault { code } => self.fault(process, code),
+            Cause::Call => {
+                if self.is_delayed() {
+                    self.call_in_slot(process)
+                } else {
+                    self.call_outside_slot(process)
+                }
+            }
+        }
+    }
+}

@@ -1,0 +1,146 @@
+//! How a service ends the unit of the process that runs: that leaves for its seat, something is done
+//! to what is kept, and who is first comes in.
+ghost use Rattle.std.specs.Prelude.{◌≡◌, ◌<◌, ◌≤◌, ◌^◌, length, Some, None, [], false};
+ghost use Rattle.ds_log.specs.Length.{IsShortRule};
+ghost use Rattle.ds_grants.specs.Buffer.{BufferHolds, KeepsBuffer};
+ghost use Rattle.ds_grants.specs.Sound.{NamesPages};
+ghost use Rattle.ds_pagemap.specs.Machine.{State, process_of, first};
+ghost use Rattle.ds_pagemap_laws.specs.Lawful.{IsLawful};
+ghost use Rattle.ds_refinement.specs.Held.{whole, space_of};
+ghost use Rattle.ds_refinement.specs.Stands.{ends_in_stop, ends_in_call};
+ghost use Rattle.ds_refinement.specs.Services.{EntersBy, Serves};
+ghost use Rattle.ds_refinement.specs.Told.{own_in};
+ghost use Rattle.ds_monitor.specs.Kept.{kept_of};
+ghost use Rattle.ds_monitor.specs.Room.{HasRoom};
+ghost use Rattle.ds_kernel.specs.Good.{IsBusy};
+ghost use Rattle.ds_kernel.specs.Ended.{HasEnded};
+
+use crate::parts::Parts;
+use ds_log::Denied;
+use ds_policy::Rule;
+use ds_refinement::Step;
+use ds_tlb::Lookaside;
+
+impl<L: Lookaside> Parts<L> {
+    /// While a unit goes on its process is first, no boundary is owed, and there is room for what it
+    /// may write.
+    pub(crate) fn look_at_unit(&self, process: u32)
+        requires busy { IsBusy process self.now }
+        ensures above { 0 < process }
+        ensures within { process ≤ length self.now.monitor.seats.items }
+        ensures table { process ≤ length self.now.monitor.grants.table }
+        ensures memory { length self.now.bus.memory ≡ 2 ^ 23 }
+        ensures first { first self.now.monitor.ready ≡ Some process }
+        ensures unowed { self.now.monitor.owed ≡ None }
+        ensures early { self.now.monitor.time < 1000000000 }
+        ensures count { self.now.monitor.lines < 2 ^ 63 }
+        ensures room { HasRoom 1 self.now.monitor }
+        ensures lawful { IsLawful (whole (kept_of self.now.monitor) [] []) }
+    {
+        let _spent = self.spent;
+    }
+
+    /// What is kept has the sizes that a call asks for.
+    fn look_at_sizes(&self, process: u32)
+        requires lawful { IsLawful (whole (kept_of self.now.monitor) [] []) }
+        ensures few { length self.now.monitor.seats.items ≤ 100 }
+        ensures line { (process_of (kept_of self.now.monitor).state process).line < 4 }
+        ensures queues { length self.now.monitor.queues.items ≡ 4 }
+        ensures table { length self.now.monitor.grants.table
+            ≡ length self.now.monitor.seats.items }
+    {
+        let _spent = self.spent;
+    }
+
+    /// Who is first comes in, with nothing spent.
+    fn end_unit(&mut self)
+        requires lawful { IsLawful (whole (kept_of self.old.monitor) [] []) }
+        ensures enters { EntersBy self.new.monitor.ready self.new.core (kept_of self.new.monitor) }
+        ensures buffer { BufferHolds self.old.core.entries (space_of (kept_of self.old.monitor))
+            self.old.monitor.grants
+            → BufferHolds self.new.core.entries (space_of (kept_of self.new.monitor))
+            self.new.monitor.grants }
+        ensures pages { NamesPages self.old.monitor.grants }
+        ensures random { self.new.core.random ≡ self.old.core.random }
+        ensures rest { self.new ≡ record self.old {
+          core = self.new.core;
+          monitor = record self.old.monitor { owner = self.new.monitor.owner };
+          spent = 0;
+          has_room = false;
+        } }
+    {
+        let _table = self.monitor.grants.table();
+        self.spent = 0;
+        self.has_room = false;
+        self.enter();
+    }
+
+    /// The unit ends in a denial or a fault of its instruction: the process is parked where its unit
+    /// began, and the log tells why.
+    pub fn stop(&mut self, process: u32, kind: Denied, address: u32, rule: Rule, code: u32) -> Step
+        requires busy { IsBusy process self.old }
+        requires rule { IsShortRule rule }
+        requires code { code < 10 ^ 5 }
+        ensures step { result ≡ Step.Unit }
+        ensures ends { HasEnded (ends_in_stop process self.old.core.system.epc
+            (own_in self.old.core.system)
+            (record { kind = kind; address = address; rule = rule; code = code }))
+            self.old self.new }
+    {
+        self.look_at_unit(process);
+        let unit = self.unit_address();
+        let pc = self.own_address();
+        self.leave(process);
+        self.monitor
+            .stop_unit(process, unit, pc, kind, address, rule, code);
+        self.end_unit();
+        Step::Unit
+    }
+
+    /// Serves the call of the process in its seat, which stood at an address.
+    fn serve_call(&mut self, process: u32, unit: u32)
+        requires above { 0 < process }
+        requires within { process ≤ length self.old.monitor.seats.items }
+        requires early { self.old.monitor.time < 1000000000 }
+        requires room { HasRoom 1 self.old.monitor }
+        requires lawful { IsLawful (whole (kept_of self.old.monitor) [] []) }
+        ensures serves { Serves (ends_in_call process unit)
+            (kept_of self.old.monitor) self.old.bus.memory
+            (kept_of self.new.monitor) self.new.bus.memory }
+        ensures bus { self.new.bus ≡ self.old.bus }
+        ensures buffer { KeepsBuffer self.old.core.entries self.new.core.entries
+            self.old.monitor.grants self.new.monitor.grants }
+        ensures random { self.new.core.random ≡ self.old.core.random }
+        ensures rest { self.new ≡ record self.old {
+          core = record self.old.core { entries = self.new.core.entries };
+          monitor = record self.old.monitor {
+            grants = self.new.monitor.grants;
+            seats = self.new.monitor.seats;
+            ready = self.new.monitor.ready;
+            queues = self.new.monitor.queues;
+            consoles = self.new.monitor.consoles;
+            time = self.new.monitor.time;
+            owed = self.new.monitor.owed;
+          };
+        } }
+    {
+        self.look_at_sizes(process);
+        self.monitor
+            .call(process, unit, self.bus.memory(), &mut self.core.tlb);
+    }
+
+    /// The unit is a call, and is done: the process goes on behind it.
+    pub fn call(&mut self, process: u32) -> Step
+        requires busy { IsBusy process self.old }
+        ensures step { result ≡ Step.Unit }
+        ensures ends { HasEnded (ends_in_call process self.old.core.system.epc)
+            self.old self.new }
+    {
+        self.look_at_unit(process);
+        let unit = self.unit_address();
+        self.leave(process);
+        self.serve_call(process, unit);
+        self.end_unit();
+        Step::Unit
+    }
+}
