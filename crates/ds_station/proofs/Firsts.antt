@@ -3,12 +3,11 @@ use Rattle.std.proofs.Common.{◌≡◌, ◌∙◌, sym, ap, refl, subst, ℕ, z
 use Rattle.std.specs.List.{All}
 use Rattle.std.proofs.lemmas.Bool.{cases_Bool}
 use Rattle.std.proofs.lemmas.Bool.Decides.{nat_tests}
-use Rattle.std.proofs.lemmas.List.{get_or_default, take_all, length-replicate, length-take, length-map}
+use Rattle.std.proofs.lemmas.List.{take_all, length-replicate, length-take, length-map}
 use Rattle.std.proofs.lemmas.List.Folds.{flat_map-map}
 use Rattle.std.proofs.lemmas.List.Elements.{All-head, All-tail}
-use Rattle.std.specs.Prelude.{slice_index_or, position, bytes_eq}
+use Rattle.std.specs.Prelude.{slice_index_or}
 use Rattle.std.proofs.lemmas.Simd.{map-map}
-use Rattle.std.proofs.Math.Seq.{drop-nil}
 use Rattle.ds_policy.specs.declared.grant.Entry as grants
 use Rattle.ds_policy.specs.declared.grant.Grant.{Grant}
 use Rattle.ds_policy.specs.declared.policy.PolicyRule.{PolicyRule}
@@ -22,7 +21,7 @@ use Rattle.ds_policy.specs.PolicyFacts.{IsGoodRule}
 use Rattle.ds_policy.specs.PolicyParts.{sources_of}
 use Rattle.ds_policy.specs.FirstTable.{granted_by, with_rule, with_rules, table_of}
 use Rattle.ds_asm.specs.Images.{part_of}
-use Rattle.ds_pagemap.specs.First.{source_bytes, image_at, image_named, first_pages, first_process, numbers, first_state}
+use Rattle.ds_pagemap.specs.First.{source_bytes, image_named, first_pages, first_process, numbers, first_state}
 use Rattle.ds_station.specs.Frames.{FramesHold}
 use Rattle.ds_station.specs.Start.{no_input, first_cpu, first_saved, bytes_of_pages, first_frames}
 use Rattle.ds_tlb.specs.declared.entry.Entry.{Entry}

@@ -52,6 +52,6 @@ impl Consoles {
         requires room { HasRoom self.old }
         ensures { texts_of self.new ≡ slice_set (texts_of self.old) line (slice_index_or (texts_of self.old) line [] ++ byte ∷ []) }
     {
-        self.texts[line].push(byte).unwrap();
+        self.texts[line].push_reserved(byte);
     }
 }

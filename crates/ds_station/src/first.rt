@@ -16,7 +16,7 @@ use crate::parts::Parts;
 use crate::station::Station;
 use ds_asm::Image;
 use ds_grants::fill_page;
-use ds_policy::{Events, Policy, PolicyPage, PolicyProcess, Table, Text};
+use ds_policy::{Events, OutOfMemory, Policy, PolicyPage, PolicyProcess, Table, Text};
 use ds_procs::Process;
 use ds_tlb::Lookaside;
 use ds_user::{Cause, Core, Memo, Windows};
@@ -82,7 +82,7 @@ impl<L: Lookaside> Parts<L> {
         policy: &Policy,
         images: &[Image],
         tlb: L,
-    ) -> Result<Parts<L>, AllocError>
+    ) -> Result<Parts<L>, OutOfMemory>
         requires images { length images.now ≡ length (sources_of policy.now.pages) }
         requires empty { L.entries tlb ≡ empty_entries L.SLOTS }
         ensures first { IfOk result (λ p. Stands (held L.entries L.random_place p) (first_state policy.now images.now no_input)) }

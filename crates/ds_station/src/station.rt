@@ -93,6 +93,8 @@ impl<L: Lookaside> Station<L> {
 
     /// Does the boundary that is owed, if one is, and then runs until the time is n or the process
     /// has ended. After a failure it answers `Failed`, and nothing changes.
+    // It stands apart, so that its loop is compiled alike wherever it is called from.
+    #[inline(never)]
     pub fn run(&mut self, n: u64) -> Result<(), Fault>
         requires { n ≤ 1000000000 }
         ensures ok { OnOk result (RunsTo n self.old self.new) }

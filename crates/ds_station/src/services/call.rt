@@ -30,6 +30,8 @@ fn flush<L: Lookaside>(tlb: &mut L)
 
 impl<L: Lookaside> Parts<L> {
     /// The process ends, and loses all its entries.
+    #[cold]
+    #[inline(never)]
     fn exit(&mut self) -> Step
         requires early { self.old.time < 1000000000 }
         requires one { length self.old.table ≡ 1 }

@@ -69,6 +69,8 @@ impl<L: Lookaside> Parts<L> {
     }
 
     /// The process is parked for a fault of its instruction.
+    #[cold]
+    #[inline(never)]
     pub fn fault(&mut self, code: u32) -> Step
         requires room { HasRoom self.old }
         requires early { self.old.time < 1000000000 }

@@ -78,6 +78,8 @@ impl<L: Lookaside> Parts<L> {
     }
 
     /// What the buffer does not let go: it is filled by the table, or the process is parked.
+    #[cold]
+    #[inline(never)]
     pub fn miss(&mut self, access: Access) -> Step
         requires room { HasRoom self.old }
         requires early { self.old.time < 1000000000 }
