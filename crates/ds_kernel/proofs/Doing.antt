@@ -1,5 +1,5 @@
 -- What the steps of a station do: each is followed by the machine with its counts, and is real.
-use Rattle.std.proofs.Common.{◌≡◌, ◌≢◌, inl, inr, ℕ, ◌+◌, ◌-◌, ◌*◌, ◌/◌, ◌%◌, ◌^◌, ◌<◌, ◌≤◌, Bool, true, false, cond, not, nat_le, List, [], ◌∷◌, length, Option, Some, None, refl, sym, ap, ap₂, subst, ◌∙◌, arith}
+use Rattle.std.proofs.Common.{◌≡◌, inl, inr, ℕ, ◌+◌, ◌-◌, ◌*◌, ◌/◌, ◌%◌, ◌^◌, ◌<◌, ◌≤◌, Bool, true, false, cond, not, nat_le, List, [], ◌∷◌, length, Option, Some, None, refl, sym, ap, ap₂, subst, ◌∙◌, arith}
 use Rattle.std.specs.Prelude.{IsSome, ◌==◌, ◌&&◌, ◌||◌}
 use Rattle.ds_word.specs.Word.{truth, bits}
 use Rattle.ds_tlb.specs.declared.entry.Entry.{Entry}
@@ -22,7 +22,7 @@ use Rattle.ds_policy.specs.Grants.{PageState}
 use Rattle.ds_grants.specs.State.{page_state}
 use Rattle.ds_grants.specs.Buffer.{translation}
 use Rattle.ds_core.specs.Core.{CoreState}
-use Rattle.ds_pagemap.specs.Machine.{State, first}
+use Rattle.ds_pagemap.specs.Machine.{State}
 use Rattle.ds_pagemap.specs.Unit.{Stop, denied_as, fault}
 use Rattle.ds_refinement.specs.declared.cause.Cause.{Cause}
 use Rattle.ds_refinement.specs.declared.cause.Cause.TheVariants as cause
@@ -31,8 +31,8 @@ use Rattle.ds_refinement.specs.Held.{Held, Kept}
 use Rattle.ds_refinement.specs.Told.{told, is_delayed, own_in}
 use Rattle.ds_refinement.specs.Stands.{Stands, IsSound, InService, OnProcessor, RunningBy, RunningIs, ends_in_stop, ends_in_call, user_status}
 use Rattle.ds_refinement.specs.Ends.{EndsInStop, EndsInCall}
-use Rattle.ds_refinement.specs.Services.{EndsBy, EntersBy, with_refill, with_none_spent}
-use Rattle.ds_refinement.specs.Steps.{Follows, Moves, Comes, is_in_kernel, ticks_of, steps_left}
+use Rattle.ds_refinement.specs.Services.{EntersBy, with_refill, with_none_spent}
+use Rattle.ds_refinement.specs.Steps.{Follows, Moves, is_in_kernel, ticks_of}
 use Rattle.ds_refinement.specs.Real.{IsReal, EndsUnit, StopsBy, is_served}
 use Rattle.ds_refinement.proofs.Ending.{denied_ends, fault_ends, slot_ends, call_ends}
 use Rattle.ds_refinement.proofs.Counting.{stop_moves, call_moves}
@@ -150,6 +150,7 @@ ended_good f p old new busy ended does =
         lines = omega (arith, time, tick, few, lines);
         ticked = omega (arith, time, tick, late, ticked);
         lawful = ended.lawful;
+        still = ended.rate ∙ busy.good.orderly.still;
       };
       room = λ some. absurd (omega (arith, none, some));
       roomy = λ is. (let no : false ≡ true = sym ended.closed ∙ is in absurd (cc));
@@ -217,6 +218,7 @@ module _ {L : Type 0} (p : ℕ) (old new : Parts L) (busy : IsBusy p old) (kerne
         lines = o.lines;
         ticked = o.ticked;
         lawful = o.lawful;
+        still = o.still;
       } in
       let t = does.follows.follows busy.good.sound.state busy.good.sound.stands in record {
         sound = record { state = t.0; stands = t.2 };

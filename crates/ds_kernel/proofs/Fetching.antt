@@ -1,5 +1,5 @@
 -- The instruction of a process lies in a page that lives.
-use Rattle.std.proofs.Common.{◌≡◌, ℕ, ◌+◌, ◌*◌, ◌%◌, ◌^◌, ◌<◌, ◌≤◌, Bool, true, false, cond, List, length, not, nat_le, Option, Some, None, refl, sym, ap, subst, ◌∙◌, arith}
+use Rattle.std.proofs.Common.{◌≡◌, ℕ, ◌%◌, ◌^◌, ◌<◌, ◌≤◌, Bool, true, false, cond, List, length, not, nat_le, Option, Some, None, refl, sym, ap, ◌∙◌, arith}
 use Rattle.std.specs.Prelude.{unwrap_or}
 use Rattle.ds_word.specs.Bytes.{word_at}
 use Rattle.ds_isa.specs.declared.instr.Kind.{Kind}
@@ -16,7 +16,7 @@ use Rattle.ds_policy.specs.declared.grant.Grant.{Grant}
 use Rattle.ds_policy.specs.declared.grant.Right.{Right}
 use Rattle.ds_policy.specs.declared.grant.Right.TheVariants.{Nothing, Read, Write}
 use Rattle.ds_policy.specs.Pages.{decide, address_code, allowed_on, by_right, by_entry, entry_at, page_address}
-use Rattle.ds_grants.specs.State.{GrantsState, is_live, frame_of_page, page_state}
+use Rattle.ds_grants.specs.State.{GrantsState, is_live, page_state}
 use Rattle.ds_grants.specs.Sound.{NamesPages}
 use Rattle.ds_refinement.specs.Told.{size_on, size_at}
 use Rattle.ds_refinement.proofs.Frames.{word_of_page}

@@ -1,6 +1,5 @@
 -- A service ends the unit.
-use Rattle.std.proofs.Common.{◌≡◌, ℕ, ◌+◌, ◌%◌, ◌^◌, ◌<◌, ◌≤◌, ◌==◌, Bool, true, false, cond, List, [], ◌∷◌, length, Option, Some, None, refl, sym, ap, ap₂, subst, ◌∙◌, arith}
-use Rattle.std.proofs.lemmas.Bool.{cases_Bool}
+use Rattle.std.proofs.Common.{◌≡◌, ℕ, ◌+◌, ◌%◌, ◌^◌, ◌<◌, ◌≤◌, ◌==◌, Bool, true, false, cond, List, [], length, Option, Some, None, sym, ap, ap₂, subst, ◌∙◌, arith}
 use Rattle.ds_tlb.specs.declared.entry.Entry.{Entry}
 use Rattle.ds_dev.specs.Clock.{ClockState}
 use Rattle.ds_dev.specs.Bus.{BusState}
@@ -11,11 +10,11 @@ use Rattle.ds_pagemap.specs.declared.turn.Turn.{Turn}
 use Rattle.ds_pagemap.specs.Boundary.{has_passed}
 use Rattle.ds_pagemap.specs.Machine.{State}
 use Rattle.ds_pagemap_laws.specs.Lawful.{IsLawful}
-use Rattle.ds_refinement.specs.Held.{Held, Kept, Own, whole, space_of, began_or, last_boundary}
+use Rattle.ds_refinement.specs.Held.{Kept, Own, whole, space_of, began_or, last_boundary}
 use Rattle.ds_pagemap.specs.Unit.{Stop}
 use Rattle.ds_refinement.specs.Told.{own_in}
 use Rattle.ds_refinement.specs.Stands.{AreResting, IsSound, ends_in_stop, ends_in_call}
-use Rattle.ds_refinement.specs.Services.{Serves, EntersBy, EndsBy, seated, with_none_spent}
+use Rattle.ds_refinement.specs.Services.{Serves, EntersBy, seated}
 use Rattle.ds_monitor.specs.declared.monitor.Monitor.{Monitor}
 use Rattle.ds_monitor.specs.Kept.{kept_of}
 use Rattle.ds_kernel.specs.declared.parts.Parts.{Parts}
@@ -113,6 +112,7 @@ module _ {L : Type 0} (f : State → State) (old new : Parts L) (between : Monit
     random = b.random;
     lines = subst (λ (n : ℕ). n ≤ old.monitor.lines + 1) (sym (ap (λ (m : Monitor). m.lines) b.monitor)) a.lines;
     ticked = ap (λ (m : Monitor). m.ticked) b.monitor ∙ a.ticked;
+    rate = ap (λ (m : Monitor). m.rate) b.monitor ∙ a.rate;
     lawful = subst (λ (k : Kept). IsLawful (whole k [] [])) (sym (kept_is b)) (lawful_elsewhere (kept_of between) [] [] [] [] a.lawful);
     closed = b.closed;
   }

@@ -3,3 +3,7 @@ pub mod Fetching
 pub mod Keeping
 pub mod Finishing
 pub mod Doing
+pub mod Stepping
+pub mod Beginning
+pub mod Blocking
+pub mod Running

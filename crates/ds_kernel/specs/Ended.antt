@@ -1,5 +1,5 @@
 -- The end of a unit in a service, and what a step of a station does.
-use Rattle.std.specs.Prelude.{◌≡◌, ℕ, ◌+◌, ◌≤◌, false, []}
+use Rattle.std.specs.Prelude.{◌≡◌, ◌+◌, ◌≤◌, false, []}
 use Rattle.ds_pagemap.specs.Machine.{State}
 use Rattle.ds_pagemap_laws.specs.Lawful.{IsLawful}
 use Rattle.ds_refinement.specs.declared.step.Step.{Step}
@@ -18,6 +18,7 @@ pub record HasEnded {L : Type 0} (f : State → State) (old new : Parts L) : Typ
   pub random : new.core.random ≡ old.core.random
   pub lines : new.monitor.lines ≤ old.monitor.lines + 1
   pub ticked : new.monitor.ticked ≡ old.monitor.ticked
+  pub rate : new.monitor.rate ≡ old.monitor.rate
   pub lawful : IsLawful (whole (kept_of new.monitor) [] [])
   pub closed : new.has_room ≡ false
 

@@ -20,6 +20,8 @@ pub record IsOrderly (h : Held) : Type 0 where
   pub spent : h.own.spent ≤ 64
   pub lines : h.kept.lines ≤ h.kept.state.time
   pub ticked : h.kept.ticked ≤ h.kept.state.time
+  -- no clock runs, so no period ends
+  pub still : h.kept.state.rate ≡ 0
   pub lawful : IsLawful (whole h.kept [] [])
 
 -- what is true of a station's parts at any time

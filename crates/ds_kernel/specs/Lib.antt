@@ -4,3 +4,6 @@ pub mod Places
 pub mod Refill
 pub mod Good
 pub mod Ended
+pub mod Halts
+pub mod Ran
+pub mod Going

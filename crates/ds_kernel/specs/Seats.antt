@@ -1,5 +1,5 @@
 -- A process that comes on the processor.
-use Rattle.std.specs.Prelude.{ℕ, ◌+◌, ◌^◌, false}
+use Rattle.std.specs.Prelude.{◌+◌, ◌^◌, false}
 use Rattle.ds_word.specs.Word.{word}
 use Rattle.ds_core.specs.Core.{CoreState}
 use Rattle.ds_pagemap.specs.Machine.{Process, touched_process}

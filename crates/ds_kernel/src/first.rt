@@ -1,14 +1,13 @@
 //! The beginning of a run.
-ghost use Rattle.std.specs.Prelude.{◌≡◌, ◌≤◌, false, length, IfOk};
+ghost use Rattle.std.specs.Prelude.{◌≡◌, ◌≤◌, length, IfOk};
 ghost use Rattle.ds_tlb.specs.Entries.{empty_entries};
 ghost use Rattle.ds_policy.specs.PolicyParts.{sources_of};
 ghost use Rattle.ds_pagemap.specs.First.{first_state};
 ghost use Rattle.ds_refinement.specs.Stands.{Stands};
 ghost use Rattle.ds_refinement.specs.First.{first_system, first_core, first_bus, IsFirst};
-ghost use Rattle.ds_monitor.specs.Kept.{kept_of};
 ghost use Rattle.ds_monitor.specs.First.{no_input};
-ghost use Rattle.ds_monitor.specs.Orderly.{IsOrderly};
 ghost use Rattle.ds_kernel.specs.Parts.{held};
+ghost use Rattle.ds_kernel.specs.Good.{IsGood};
 
 use crate::parts::Parts;
 use crate::seats::{ONE_SPACE, USER_STATUS};
@@ -107,8 +106,7 @@ impl<L: Lookaside> Parts<L> {
             (L.random_place tlb) (held p)) }
         ensures stands { IfOk result (λ p. Stands (held p)
             (first_state policy.now images.now no_input)) }
-        ensures orderly { IfOk result (λ p. IsOrderly (kept_of p.monitor)) }
-        ensures room { IfOk result (λ p. p.has_room ≡ false) }
+        ensures good { IfOk result (λ p. IsGood p) }
     {
         let mut memory = Memory::new(alloc)?;
         let monitor = Monitor::new(alloc, policy, images, &mut memory)?;

@@ -2,13 +2,18 @@
 //! the steps of a station between them.
 #![tactic(auto)]
 
+mod blocks;
 mod cause;
 mod first;
+mod halt;
 mod parts;
 mod refill;
+mod run;
 mod seats;
 mod serve;
+mod steps;
 mod turn;
 mod units;
 
+pub use halt::Halt;
 pub use parts::Parts;

@@ -1,4 +1,4 @@
-use Rattle.std.proofs.Common.{◌≡◌, ℕ, sym, ap, subst, arith}
+use Rattle.std.proofs.Common.{◌≡◌, sym, ap, subst, arith}
 use Rattle.ds_policy.specs.declared.access.Verdict.TheVariants.{Allowed, Denied}
 use Rattle.ds_policy.specs.Pages.{decide}
 use Rattle.ds_pagemap.specs.Unit.{denied_as}

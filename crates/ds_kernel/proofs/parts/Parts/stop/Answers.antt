@@ -1,4 +1,4 @@
-use Rattle.std.proofs.Common.{refl, ap, []}
+use Rattle.std.proofs.Common.{ap, []}
 use Rattle.ds_kernel.specs.declared.parts.Parts.{Parts}
 use Rattle.ds_kernel.proofs.Keeping.{stop_lawful}
 use Rattle.ds_kernel.proofs.Finishing.{has_ended, comes_in, stop_served}

@@ -1,0 +1,335 @@
+-- What single steps of a station do: an instruction, a boundary, an idle turn; and a failure.
+use Rattle.std.proofs.Common.{◌≡◌, ◌≢◌, ℕ, zero, suc, ◌+◌, ◌-◌, ◌*◌, ◌^◌, ◌<◌, ◌≤◌, Bool, true, false, not, [], Option, None, refl, sym, ap, ap₂, subst, ◌∙◌, arith}
+use Rattle.std.specs.Prelude.{IsSome, is_some, ◌==◌, ◌&&◌, ◌||◌}
+use Rattle.ds_word.specs.Word.{truth}
+use Rattle.ds_cp0.specs.System.{System, is_user}
+use Rattle.ds_core.specs.declared.event.Event.{Event}
+use Rattle.ds_core.specs.declared.event.Event.TheVariants.{Retired, Branched, Raised}
+use Rattle.ds_core.specs.Core as core
+use Rattle.ds_core.specs.Core.{CoreState}
+use Rattle.ds_core.specs.Effect.{step}
+use Rattle.ds_core.specs.Ahead.{is_raised}
+use Rattle.ds_core.proofs.Users.{keeps_system}
+use Rattle.ds_dev.specs.Bus.{BusState}
+use Rattle.ds_grants.specs.State.{page_state}
+use Rattle.ds_pagemap.specs.declared.turn.Turn.{Turn}
+use Rattle.ds_pagemap.specs.Machine.{State}
+use Rattle.ds_pagemap.specs.Boundary.{has_passed}
+use Rattle.ds_pagemap.specs.Run.{is_over}
+use Rattle.ds_pagemap_laws.specs.Lawful.{IsLawful}
+use Rattle.ds_pagemap_laws.proofs.Formed.{formed_with}
+use Rattle.ds_refinement.specs.declared.step.Step.{Step}
+use Rattle.ds_refinement.specs.declared.step.Step.TheVariants.{Inside, Boundary, Over}
+use Rattle.ds_refinement.specs.Held.{Held, Kept, whole}
+use Rattle.ds_refinement.specs.Stands.{Stands, IsSound}
+use Rattle.ds_refinement.specs.Services.{after_event, step_of, with_boundary, with_failure, with_idle_turn, with_one_spent}
+use Rattle.ds_refinement.specs.Steps.{Follows, Moves, is_in_kernel, ticks_of}
+use Rattle.ds_refinement.specs.Real.{is_served}
+use Rattle.ds_refinement.specs.Quiet.{IsQuiet}
+use Rattle.ds_refinement.proofs.Boundaries.{quiet, idle, rests}
+use Rattle.ds_refinement.proofs.Joined.{instruction_real}
+use Rattle.ds_refinement.proofs.Meets.{barred}
+use Rattle.ds_refinement.proofs.Quieter.{user_status_of}
+use Rattle.ds_refinement.proofs.Stages.{step_follows}
+use Rattle.ds_monitor.specs.Kept.{kept_of}
+use Rattle.ds_monitor.specs.Room.{HasRoom}
+use Rattle.ds_monitor.specs.declared.monitor.Monitor.{Monitor}
+use Rattle.ds_kernel.specs.declared.parts.Parts.{Parts}
+use Rattle.ds_kernel.specs.Parts.{held}
+use Rattle.ds_kernel.specs.Good.{IsOrderly, IsGood}
+use Rattle.ds_kernel.specs.Ended.{Does}
+
+-- the room is no matter of time and turns
+pub room_later : (m : Monitor) (time : ℕ) (owed : Option Turn) → HasRoom 1 m → HasRoom 1 (record m { time = time; owed = owed })
+room_later m time owed r = record { consoles = r.consoles; log = r.log }
+
+-- nor is lawfulness
+pub lawful_later : (k : Kept) (time : ℕ) (owed : Option Turn) → IsLawful (whole k [] []) → IsLawful (whole (record k { state = record k.state { time = time; owed = owed } }) [] [])
+lawful_later k time owed w = record {
+  formed = formed_with (whole k [] []) (page_state k.grants []) k.state.queues k.state.consoles [] time k.state.commands k.state.characters owed refl refl refl w.formed;
+  asleep = w.asleep;
+}
+
+pub none_is_not_some : (o : Option Turn) → o ≡ None → IsSome o → ⊥
+none_is_not_some o none some = let no : false ≡ true = sym (ap is_some none) ∙ some in absurd (cc)
+
+pub sound_behind : (kind : Step) (h new : Held) → IsSound h → Follows kind h new → IsSound new
+sound_behind kind h new s f = let t = f.follows s.state s.stands in record { state = t.0; stands = t.2 }
+
+-- The marks are not seen by the machine.
+
+counted : (h : Held) (m : State) → Stands h m → Stands (with_one_spent h) m
+counted h m k = record { buffer = k.buffer; grants = k.grants; size = k.size; kept = k.kept; running = k.running; devices = k.devices }
+
+pub failure_unseen : (h : Held) (m : State) → Stands h m → Stands (with_failure h) m
+failure_unseen h m k = record { buffer = k.buffer; grants = k.grants; size = k.size; kept = k.kept; running = k.running; devices = k.devices }
+
+-- a failure leaves the station as it should be
+pub failed_good : {L : Type 0} (old new : Parts L) → IsGood old → old.monitor.owed ≡ None → held new ≡ with_failure (held old)
+    → (0 < new.spent → HasRoom 1 new.monitor) → (new.has_room ≡ true → HasRoom 1 new.monitor) → IsGood new
+failed_good old new good unowed is room roomy =
+    let o = good.orderly in
+    let marks : IsOrderly (with_failure (held old)) = record {
+      begun = λ some. unowed;
+      failed = λ failed. unowed;
+      raised = o.raised;
+      running = o.running;
+      spent = o.spent;
+      lines = o.lines;
+      ticked = o.ticked;
+      lawful = o.lawful;
+      still = o.still;
+    } in record {
+      sound = subst IsSound (sym is) (record { state = good.sound.state; stands = failure_unseen (held old) good.sound.state good.sound.stands });
+      orderly = subst IsOrderly (sym is) marks;
+      room = room;
+      roomy = roomy;
+    }
+
+-- One instruction of the process that runs, in user mode and with no boundary owed.
+module _ (h : Held) (sound : IsSound h) (orderly : IsOrderly h) (working : h.own.failed ≡ false) (unowed : h.kept.state.owed ≡ None) (ready : h.kept.state.ready ≢ [])
+    (user : is_user h.core.system ≡ true) (word : h.core.pc < 2 ^ 32) (few : h.own.spent < 64) where
+  abbrev s : core.Step
+  s = step h.core h.bus
+
+  abbrev behind : Event → Held
+  behind e = after_event e (with_one_spent h) s
+
+  follows : Follows (step_of s.event) h (behind s.event)
+  follows = record { follows = λ m k. (step_follows (with_one_spent h) s refl unowed ready user word).follows m (counted h m k) }
+
+  one : truth (not (is_in_kernel h)) ≡ 1
+  one = ap (λ (u : Bool). truth (not (not u))) user
+
+  outside : truth (is_in_kernel h) ≡ 0
+  outside = ap (λ (u : Bool). truth (not u)) user
+
+  truth_small : (b : Bool) → truth b ≤ 1
+  truth_small true = omega arith
+  truth_small false = omega arith
+
+  some_tick : (b : Bool) → 1 ≤ ticks_of b
+  some_tick true = omega arith
+  some_tick false = omega arith
+
+  inside_moves : (e : Event) → step_of e ≡ Inside → (behind e) ≡ record h { core = s.core; bus = s.bus; own = record h.own { spent = h.own.spent + 1 } } → Moves Inside h (behind e)
+  inside_moves e inside is =
+      let new : Held = record h { core = s.core; bus = s.bus; own = record h.own { spent = h.own.spent + 1 } } in
+      let count : h.own.spent + 1 ≡ h.own.spent + truth (not (is_in_kernel h)) = ap (λ (n : ℕ). h.own.spent + n) (sym one) in
+      let small : truth (is_in_kernel new) ≤ 1 = truth_small (is_in_kernel new) in
+      let fewer : 2 * (64 - (h.own.spent + 1)) + truth (is_in_kernel new) < 2 * (64 - h.own.spent) + truth (is_in_kernel h) = omega (arith, small, few, outside) in
+      subst (Moves Inside h) (sym is) (unowed, unowed, refl, count, omega (arith, few), fewer, refl)
+
+  moves : (e : Event) → Moves (step_of e) h (behind e)
+  moves Retired = (unowed, refl, refl, refl, refl)
+  moves Branched = inside_moves Branched refl refl
+  moves (Raised code) = inside_moves (Raised code) refl refl
+
+  no_service : is_served h.core ≡ false
+  no_service = ap (λ (u : Bool). not u && ((h.core.pc == 0x80000000) || (h.core.pc == 0x80000080))) user
+
+  -- the machine follows, and it is real
+  pub instruction_does : Does (step_of s.event) h (behind s.event)
+  instruction_does = record {
+    follows = follows;
+    moves = moves s.event;
+    real = instruction_real s.event h s (unowed, ready) no_service refl;
+  }
+
+  stays_user : s.event ≡ Retired → is_in_kernel (behind Retired) ≡ false
+  stays_user at =
+      let same : s.core.system ≡ h.core.system = keeps_system h.core h.bus (barred h.core 0 (user_status_of h sound user)) (ap is_raised at) in
+      ap (λ (x : System). not (is_user x)) same ∙ ap not user
+
+  inside_orderly : (c : CoreState) (b : BusState) → IsOrderly (record h { core = c; bus = b; own = record h.own { spent = h.own.spent + 1 } })
+  inside_orderly c b = record {
+    begun = λ some. unowed;
+    failed = λ failed. unowed;
+    raised = λ kernel. omega arith;
+    running = λ some. ready;
+    spent = omega (arith, few);
+    lines = orderly.lines;
+    ticked = orderly.ticked;
+    lawful = orderly.lawful;
+    still = orderly.still;
+  }
+
+  marks : (e : Event) → s.event ≡ e → IsOrderly (behind e)
+  marks Retired at =
+      let tick : 1 ≤ ticks_of h.core.slot = some_tick h.core.slot in
+      let lines : h.kept.lines ≤ h.kept.state.time = orderly.lines in
+      let ticked : h.kept.ticked ≤ h.kept.state.time = orderly.ticked in
+      record {
+        begun = λ some. (let no : 0 < 0 = some in absurd (omega (arith, no)));
+        failed = λ failed. (let no : false ≡ true = sym working ∙ failed in absurd (cc));
+        raised = λ kernel. (let no : false ≡ true = sym (stays_user at) ∙ kernel in absurd (cc));
+        running = λ some. (let no : 0 < 0 = some in absurd (omega (arith, no)));
+        spent = omega arith;
+        lines = omega (arith, lines, tick);
+        ticked = omega (arith, ticked, tick);
+        lawful = lawful_later h.kept (behind Retired).kept.state.time (behind Retired).kept.state.owed orderly.lawful;
+        still = orderly.still;
+      }
+  marks Branched at = inside_orderly s.core s.bus
+  marks (Raised code) at = inside_orderly s.core s.bus
+
+  pub instruction_orderly : IsOrderly (behind s.event)
+  instruction_orderly = marks s.event refl
+
+  pub instruction_sound : IsSound (behind s.event)
+  instruction_sound = sound_behind (step_of s.event) h (behind s.event) sound follows
+
+-- Nothing is due, and no period ends.
+pub never_busy : (m : Monitor) (time : ℕ) (owed : Option Turn) → m.rate ≡ 0 → IsLawful (whole (kept_of m) [] [])
+    → IsQuiet (record (kept_of m) { state = record (kept_of m).state { time = time; owed = owed } })
+never_busy m time owed still lawful = record {
+  commands = refl;
+  characters = refl;
+  asleep = lawful.asleep;
+  period = ap (λ (rate : ℕ). has_passed rate m.ticked time) still;
+}
+
+-- A boundary that is owed.
+module _ {L : Type 0} (old : Parts L) (good : IsGood old) (owed : IsSome old.monitor.owed) where
+  abbrev h : Held
+  h = held old
+
+  none_spent : (n : ℕ) → (0 < n → old.monitor.owed ≡ None) → n ≡ 0
+  none_spent zero begun = refl
+  none_spent (suc n) begun = absurd (none_is_not_some old.monitor.owed (begun (omega arith)) owed)
+
+  boundary_follows : Follows Boundary h (with_boundary h)
+  boundary_follows = quiet h owed good.orderly.ticked (never_busy old.monitor old.monitor.time old.monitor.owed good.orderly.still good.orderly.lawful)
+
+  pub boundary_does : Does Boundary h (with_boundary h)
+  boundary_does =
+      let same : h.kept.state.time ≡ h.kept.state.time + 0 = omega arith in
+      let time : h.kept.state.time ≡ h.kept.state.time + truth (not (is_some h.kept.state.owed)) = same ∙ ap (λ (b : Bool). h.kept.state.time + truth (not b)) (sym owed) in record {
+        follows = boundary_follows;
+        moves = (refl, none_spent old.spent good.orderly.begun, time, refl);
+        real = record {
+          instruction = λ unit other. absurd (none_is_not_some old.monitor.owed unit.0 owed);
+          service = λ unit served. absurd (none_is_not_some old.monitor.owed unit.0 owed);
+          random = λ all. refl;
+        };
+      }
+
+  pub boundary_good : IsGood (record old { monitor = record old.monitor { owed = None } })
+  boundary_good =
+      let o = good.orderly in record {
+        sound = sound_behind Boundary h (with_boundary h) good.sound boundary_follows;
+        orderly = record {
+          begun = λ some. refl;
+          failed = λ failed. refl;
+          raised = o.raised;
+          running = o.running;
+          spent = o.spent;
+          lines = o.lines;
+          ticked = o.ticked;
+          lawful = lawful_later h.kept h.kept.state.time None o.lawful;
+          still = o.still;
+        };
+        room = λ some. room_later old.monitor old.monitor.time None (good.room some);
+        roomy = λ some. room_later old.monitor old.monitor.time None (good.roomy some);
+      }
+
+-- A turn in which no process runs.
+module _ {L : Type 0} (old between : Parts L) (good : IsGood old) (unowed : old.monitor.owed ≡ None) (nobody : old.monitor.ready ≡ []) (going : is_over (kept_of old.monitor).state ≡ false)
+    (is : held between ≡ held old) (room : HasRoom 1 between.monitor) where
+  abbrev later : Parts L
+  later = record between { monitor = record between.monitor { time = between.monitor.time + 1 } }
+
+  nobody_spent : (n : ℕ) → (0 < n → old.monitor.ready ≢ []) → n ≡ 0
+  nobody_spent zero running = refl
+  nobody_spent (suc n) running = absurd (running (omega arith) nobody)
+
+  pub none_begun : old.spent ≡ 0
+  none_begun = nobody_spent old.spent good.orderly.running
+
+  abbrev waits : Held → Held
+  waits h = record h { kept = record h.kept { state = record h.kept.state { time = h.kept.state.time + 1 } } }
+
+  later_is : held later ≡ with_boundary (with_idle_turn (held old))
+  later_is = ap waits is ∙ ap (λ (o : Option Turn). record (waits (held old)) { kept = record (waits (held old)).kept { state = record (waits (held old)).kept.state { owed = o } } }) unowed
+
+  idle_follows : Follows Boundary (held old) (with_boundary (with_idle_turn (held old)))
+  idle_follows = idle (held old) unowed nobody going (never_busy old.monitor (old.monitor.time + 1) (with_idle_turn (held old)).kept.state.owed good.orderly.still good.orderly.lawful)
+
+  pub idle_does : Does Boundary (held old) (held later)
+  idle_does =
+      let time : old.monitor.time + 1 ≡ old.monitor.time + truth (not (is_some old.monitor.owed)) = ap (λ (o : Option Turn). old.monitor.time + truth (not (is_some o))) (sym unowed) in
+      subst (Does Boundary (held old)) (sym later_is) (record {
+        follows = idle_follows;
+        moves = (refl, none_begun, time, refl);
+        real = record {
+          instruction = λ unit other. absurd (unit.1 nobody);
+          service = λ unit served. absurd (unit.1 nobody);
+          random = λ all. refl;
+        };
+      })
+
+  pub idle_good : IsGood later
+  idle_good =
+      let o = good.orderly in
+      let lines : old.monitor.lines ≤ old.monitor.time = o.lines in
+      let ticked : old.monitor.ticked ≤ old.monitor.time = o.ticked in
+      let marks : IsOrderly (with_boundary (with_idle_turn (held old))) = record {
+        begun = λ some. refl;
+        failed = λ failed. refl;
+        raised = o.raised;
+        running = o.running;
+        spent = o.spent;
+        lines = omega (arith, lines);
+        ticked = omega (arith, ticked);
+        lawful = lawful_later (held old).kept (old.monitor.time + 1) None o.lawful;
+        still = o.still;
+      } in record {
+        sound = subst IsSound (sym later_is) (sound_behind Boundary (held old) (with_boundary (with_idle_turn (held old))) good.sound idle_follows);
+        orderly = subst IsOrderly (sym later_is) marks;
+        room = λ some. room_later between.monitor (between.monitor.time + 1) between.monitor.owed room;
+        roomy = λ some. room_later between.monitor (between.monitor.time + 1) between.monitor.owed room;
+      }
+
+-- nothing is left to do
+pub over_does : {L : Type 0} (old : Parts L) → old.monitor.owed ≡ None → old.monitor.ready ≡ [] → is_over (kept_of old.monitor).state ≡ true → Does Over (held old) (held old)
+over_does old unowed nobody over = record {
+  follows = rests (held old) unowed over;
+  moves = refl;
+  real = record {
+    instruction = λ unit other. absurd (unit.1 nobody);
+    service = λ unit served. absurd (unit.1 nobody);
+    random = λ all. refl;
+  };
+}
+
+-- An instruction of the process that runs, counted and done.
+module _ {L : Type 0} (old between new : Parts L) (kind : Step) (good : IsGood old) (working : old.failed ≡ false) (unowed : old.monitor.owed ≡ None) (ready : old.monitor.ready ≢ [])
+    (user : is_user old.core.system ≡ true) (word : old.core.pc < 2 ^ 32) (few : old.spent < 64) (begun : held between ≡ with_one_spent (held old)) (room : HasRoom 1 between.monitor)
+    (done : (s : core.Step) → s ≡ step between.core between.bus → (held new ≡ after_event s.event (held between) s) × (kind ≡ step_of s.event))
+    (rest : new ≡ record between { core = new.core; bus = new.bus; monitor = record between.monitor { time = new.monitor.time; owed = new.monitor.owed }; spent = new.spent }) where
+  abbrev stepped : core.Step
+  stepped = step old.core old.bus
+
+  -- what is done by the processor as it was before the count
+  same_step : stepped ≡ step between.core between.bus
+  same_step = ap₂ step (sym (ap (λ (x : Held). x.core) begun)) (sym (ap (λ (x : Held). x.bus) begun))
+
+  new_is : held new ≡ after_event stepped.event (with_one_spent (held old)) stepped
+  new_is = (done stepped same_step).0 ∙ ap (λ (x : Held). after_event stepped.event x stepped) begun
+
+  pub attempt_does : Does kind (held old) (held new)
+  attempt_does =
+      subst (λ (k : Step). Does k (held old) (held new)) (sym (done stepped same_step).1)
+      (subst (Does (step_of stepped.event) (held old)) (sym new_is)
+      (instruction_does (held old) good.sound good.orderly working unowed ready user word few))
+
+  room_behind : HasRoom 1 new.monitor
+  room_behind = subst (λ (m : Monitor). HasRoom 1 m) (sym (ap (λ (x : Parts L). x.monitor) rest)) (room_later between.monitor new.monitor.time new.monitor.owed room)
+
+  pub attempt_good : IsGood new
+  attempt_good = record {
+    sound = subst IsSound (sym new_is) (instruction_sound (held old) good.sound good.orderly working unowed ready user word few);
+    orderly = subst IsOrderly (sym new_is) (instruction_orderly (held old) good.sound good.orderly working unowed ready user word few);
+    room = λ some. room_behind;
+    roomy = λ some. room_behind;
+  }

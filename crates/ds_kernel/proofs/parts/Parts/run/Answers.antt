@@ -1,0 +1,28 @@
+use Rattle.std.proofs.Common.{◌∙◌, arith, inl, inr}
+use Rattle.ds_kernel.specs.Parts.{held}
+use Rattle.ds_kernel.proofs.Running.{no_run, failed_again}
+use Rattle.ds_kernel.proofs.parts.Parts.run.Goals as goal
+
+pub returns-then-self-clause-cut : goal.returns-then-self-clause-cut
+returns-then-self-clause-cut g c = failed_again c.args.n (held c.args.self.now) c.if-self.true
+
+pub loop-self-init : goal.loop-self-init
+loop-self-init g c =
+    let old = c.args.self.now in record {
+      ran = no_run c.args.n (held old);
+      good = c.requires.good;
+      working = c.if-self.false;
+      begun = λ before some. elim before [
+        | inl none ↦ absurd (omega (arith, none, some))
+        | inr early ↦ early
+      ];
+    }
+
+pub loop-self-preserved : goal.loop-self-preserved
+loop-self-preserved g c =
+    let goes = c.in_ok-advance.ensures.goes in record {
+      ran = goes.runs (held c.args.self.now) c.loop-self.invariant.ran;
+      good = c.advance.ensures.good;
+      working = goes.working ∙ c.loop-self.invariant.working;
+      begun = λ before some. goes.begun some;
+    }

@@ -1,0 +1,138 @@
+//! Many instructions of a process at once, with one bookkeeping for all their units.
+ghost use Rattle.std.specs.Prelude.{◌≡◌, ◌<◌, ◌≤◌, ◌+◌, ℕ, None, false, IfSome, IfErr, OnOk, OnErr, IsNone, IsSome};
+ghost use Rattle.ds_core.specs.Ahead.{hardware_of, AdvancesTo, ComesByWords, ticks, owed_tick};
+ghost use Rattle.ds_refinement.specs.Blocks.{GoesAhead};
+ghost use Rattle.ds_refinement.specs.Services.{with_failure};
+ghost use Rattle.ds_monitor.specs.Room.{HasRoom};
+ghost use Rattle.ds_kernel.specs.Parts.{held};
+ghost use Rattle.ds_kernel.specs.Good.{IsGood};
+ghost use Rattle.ds_kernel.specs.Going.{GoesOn};
+ghost use Rattle.ds_kernel.specs.Halts.{Halts};
+
+use crate::halt::Halt;
+use crate::parts::Parts;
+use ds_core::Ahead;
+use ds_tlb::Lookaside;
+
+/// The tick that a branch leaves to its slot.
+#[inline(always)]
+fn owed_tick(slot: bool) -> u32
+    ensures { result ≡ owed_tick slot }
+{
+    if slot { 1 } else { 0 }
+}
+
+impl<L: Lookaside> Parts<L> {
+    /// The tick that is left to the slot in which the processor stands, if it does.
+    #[inline(always)]
+    fn slot_tick(&self) -> u32
+        ensures { result ≡ owed_tick self.now.core.slot }
+    {
+        owed_tick(self.core.slot)
+    }
+
+    /// The most instructions that may go ahead in a run for n, if any may: the process is at the
+    /// beginning of its unit or in the slot of its branch, and each unit begins before n. An
+    /// exception that waits has been counted in its unit, so none waits there.
+    #[inline(always)]
+    pub(crate) fn may_run_ahead(&self, n: u64) -> Option<u32>
+        requires good { IsGood self.now }
+        requires few { n ≤ 1000000000 }
+        ensures ahead { IfSome result (λ limit. GoesAhead limit (held self.now)) }
+        ensures some { IfSome result (λ limit. 1 ≤ limit) }
+        ensures end { IfSome result (λ limit. self.now.monitor.time + limit + 1 ≡ n) }
+        ensures any { self.now.monitor.time + 1 < n → GoesAhead 1 (held self.now)
+            → IsSome result }
+    {
+        if self.monitor.time >= n || self.monitor.owed.is_some() {
+            return None;
+        }
+        let limit = n - self.monitor.time - 1;
+        let whole = self.spent == self.slot_tick();
+        if limit > 0 && whole && self.monitor.first_ready().is_some() {
+            Some(limit as u32)
+        } else {
+            None
+        }
+    }
+
+    /// Where a unit begins there is room for it, or it is made.
+    #[inline(always)]
+    pub(crate) fn begin_block(&mut self) -> Result<(), Halt>
+        requires good { IsGood self.old }
+        requires working { self.old.failed ≡ false }
+        requires unowed { self.old.monitor.owed ≡ None }
+        ensures good { IsGood self.new }
+        ensures room { OnOk result (HasRoom 1 self.new.monitor) }
+        ensures still { OnOk result (held self.new ≡ held self.old) }
+        ensures halts { IfErr result (λ halt. Halts halt (held self.old)) }
+        ensures marked { OnErr result (held self.new ≡ with_failure (held self.old)) }
+    {
+        if self.spent == 0 && !self.make_room() {
+            self.failed = true;
+            return Err(Halt::Memory);
+        }
+        Ok(())
+    }
+
+    /// So many ticks are over, and the unit has taken so many instructions.
+    #[inline(always)]
+    fn count(&mut self, ticks: u32, spent: u32)
+        requires early { self.old.monitor.time ≤ 1000000000 }
+        ensures { self.new ≡ record self.old {
+          monitor = record self.old.monitor { time = self.old.monitor.time + ticks };
+          spent = spent;
+        } }
+    {
+        self.monitor.time += u64::from(ticks);
+        self.spent = spent;
+    }
+
+    /// Takes so many instructions, or fewer and behind them one that raises an exception.
+    #[inline(always)]
+    fn go_ahead(&mut self, limit: u32) -> Ahead
+        requires slots { L.SLOTS ≡ 64 }
+        requires wired { L.WIRED ≡ 8 }
+        ensures all { IsNone result.raised → result.steps ≡ limit }
+        ensures fewer { IfSome result.raised (λ _. result.steps < limit) }
+        ensures steps { AdvancesTo result.steps result.raised
+            (hardware_of self.old.core self.old.bus)
+            (hardware_of self.new.core self.new.bus) }
+        ensures words { ComesByWords result.steps (hardware_of self.old.core self.old.bus) }
+        ensures ticks { IsNone result.raised
+            → ticks result.steps (hardware_of self.old.core self.old.bus)
+            + owed_tick self.new.core.slot ≡ result.steps + owed_tick self.old.core.slot }
+        ensures rest { self.new ≡ record self.old { core = self.new.core; bus = self.new.bus } }
+    {
+        self.core.run_ahead(&mut self.bus, limit)
+    }
+
+    /// Takes so many instructions, or fewer and behind them one that raises an exception. No
+    /// boundary between their units has anything to do.
+    #[inline(always)]
+    pub(crate) fn run_block(&mut self, limit: u32)
+        requires slots { L.SLOTS ≡ 64 }
+        requires wired { L.WIRED ≡ 8 }
+        requires good { IsGood self.old }
+        requires ahead { GoesAhead limit (held self.old) }
+        requires some { 1 ≤ limit }
+        requires early { self.old.monitor.time + limit + 1 ≤ 1000000000 }
+        requires room { HasRoom 1 self.old.monitor }
+        ensures good { IsGood self.new }
+        ensures goes { (n : ℕ) → self.old.monitor.time + limit + owed_tick self.old.core.slot ≤ n
+            → GoesOn n (held self.old) (held self.new) }
+    {
+        let before = self.slot_tick();
+        let ahead = self.go_ahead(limit);
+        match ahead.raised {
+            None => {
+                let left = self.slot_tick();
+                self.count(ahead.steps + before - left, left);
+            }
+            Some(_) => {
+                let left = owed_tick(self.is_delayed());
+                self.count(ahead.steps + before - left, left + 1);
+            }
+        }
+    }
+}

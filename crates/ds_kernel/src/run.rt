@@ -1,0 +1,84 @@
+//! Runs of a station, by blocks of instructions where it can and by single steps elsewhere.
+ghost use Rattle.std.specs.Prelude.{◌≡◌, ◌⊎◌, ◌<◌, ◌≤◌, true, false, IfErr, OnOk, OnErr, IsErrOf};
+ghost use Rattle.ds_refinement.specs.Runs.{held_goes_on};
+ghost use Rattle.ds_refinement.specs.Services.{with_failure};
+ghost use Rattle.ds_kernel.specs.Parts.{held};
+ghost use Rattle.ds_kernel.specs.Good.{IsGood};
+ghost use Rattle.ds_kernel.specs.Going.{GoesOn};
+ghost use Rattle.ds_kernel.specs.Halts.{Halts};
+ghost use Rattle.ds_kernel.specs.Ran.{HasRun, WasCut};
+
+use crate::halt::Halt;
+use crate::parts::Parts;
+use ds_tlb::Lookaside;
+
+impl<L: Lookaside> Parts<L> {
+    /// Whether a run for n goes on.
+    #[inline(always)]
+    fn goes_on(&self, n: u64) -> bool
+        requires good { IsGood self.now }
+        ensures { result ≡ held_goes_on n (held self.now) }
+    {
+        if self.monitor.owed.is_some() {
+            return true;
+        }
+        if self.monitor.time >= n {
+            return false;
+        }
+        self.monitor.first_ready().is_some() || !self.monitor.is_over()
+    }
+
+    /// A block of instructions where one may begin, or else one step.
+    #[inline(always)]
+    fn advance(&mut self, n: u64) -> Result<(), Halt>
+        requires slots { L.SLOTS ≡ 64 }
+        requires wired { L.WIRED ≡ 8 }
+        requires good { IsGood self.old }
+        requires working { self.old.failed ≡ false }
+        requires few { n ≤ 1000000000 }
+        requires going { held_goes_on n (held self.old) ≡ true }
+        ensures good { IsGood self.new }
+        ensures goes { OnOk result (GoesOn n (held self.old) (held self.new)) }
+        ensures halts { IfErr result (λ halt. Halts halt (held self.old)) }
+        ensures marked { OnErr result (held self.new ≡ with_failure (held self.old)) }
+    {
+        match self.may_run_ahead(n) {
+            Some(limit) => {
+                self.begin_block()?;
+                self.run_block(limit);
+            }
+            None => {
+                self.step()?;
+            }
+        }
+        Ok(())
+    }
+
+    /// Does the boundary that is owed, if one is, and then runs until the time is n or all
+    /// processes have ended. After a failure it answers that, and nothing changes.
+    // It stands apart, so that its loop is compiled alike wherever it is called from.
+    #[inline(never)]
+    pub fn run(&mut self, n: u64) -> Result<(), Halt>
+        requires slots { L.SLOTS ≡ 64 }
+        requires wired { L.WIRED ≡ 8 }
+        requires good { IsGood self.old }
+        requires few { n ≤ 1000000000 }
+        ensures good { IsGood self.new }
+        ensures ran { OnOk result (HasRun n (held self.old) (held self.new)) }
+        ensures over { OnOk result (held_goes_on n (held self.new) ≡ false) }
+        ensures working { OnOk result (self.new.failed ≡ false) }
+        ensures unit { OnOk result (((self.old.spent ≡ 0) ⊎ (self.old.monitor.time < n))
+            → self.new.spent ≡ 0) }
+        ensures cut { IfErr result (λ halt. WasCut n halt (held self.old) (held self.new)) }
+        ensures again { self.old.failed ≡ true
+            → IsErrOf result Halt.Failed × (self.new ≡ self.old) }
+    {
+        if self.failed {
+            return Err(Halt::Failed);
+        }
+        while self.goes_on(n) {
+            self.advance(n)?;
+        }
+        Ok(())
+    }
+}

@@ -1,0 +1,186 @@
+//! One step of a station: an instruction, a service, a boundary or an idle turn.
+ghost use Rattle.std.specs.Prelude.{◌≡◌, ◌≢◌, ◌<◌, ◌^◌, IfOk, IfErr, OnOk, OnErr, IsErrOf, [], None, IsSome, true, false};
+ghost use Rattle.ds_cp0.specs.System.{is_user};
+ghost use Rattle.ds_pagemap.specs.Run.{is_over};
+ghost use Rattle.ds_refinement.specs.Services.{with_failure, with_one_spent};
+ghost use Rattle.ds_monitor.specs.Kept.{kept_of};
+ghost use Rattle.ds_monitor.specs.Room.{HasRoom};
+ghost use Rattle.ds_kernel.specs.Parts.{held};
+ghost use Rattle.ds_kernel.specs.Good.{IsGood};
+ghost use Rattle.ds_kernel.specs.Ended.{Does};
+ghost use Rattle.ds_kernel.specs.Halts.{Halts};
+
+use crate::halt::Halt;
+use crate::parts::Parts;
+use ds_refinement::Step;
+use ds_tlb::Lookaside;
+
+/// The most instructions of one unit.
+const MOST_SPENT: u32 = 64;
+
+impl<L: Lookaside> Parts<L> {
+    /// Makes room for what one unit may write, if it can.
+    #[inline(never)]
+    pub(crate) fn reserve(&mut self) -> bool
+        ensures room { result ≡ true → HasRoom 1 self.new.monitor }
+        ensures held { held self.new ≡ held self.old }
+        ensures told { self.new.has_room ≡ result }
+        ensures rest { self.new ≡ record self.old {
+          monitor = record self.old.monitor {
+            consoles = self.new.monitor.consoles;
+            log = self.new.monitor.log;
+          };
+          has_room = self.new.has_room;
+        } }
+    {
+        self.has_room = self.monitor.reserve(1);
+        self.has_room
+    }
+
+    /// Whether there is room for what one unit may write; it is made where there is none.
+    #[inline(always)]
+    pub(crate) fn make_room(&mut self) -> bool
+        requires roomy { self.old.has_room ≡ true → HasRoom 1 self.old.monitor }
+        ensures room { result ≡ true → HasRoom 1 self.new.monitor }
+        ensures held { held self.new ≡ held self.old }
+        ensures told { self.new.has_room ≡ result }
+    {
+        self.has_room || self.reserve()
+    }
+
+    /// Counts the instruction that comes next; where it begins a unit, there is room for the unit,
+    /// or it is made.
+    #[inline(always)]
+    fn begin(&mut self) -> Result<(), Halt>
+        requires good { IsGood self.old }
+        requires working { self.old.failed ≡ false }
+        ensures ok { OnOk result (held self.new ≡ with_one_spent (held self.old)) }
+        ensures few { OnOk result (self.old.spent < 64) }
+        ensures room { OnOk result (HasRoom 1 self.new.monitor) }
+        ensures still { OnErr result (0 < self.old.spent → HasRoom 1 self.new.monitor) }
+        ensures roomy { self.new.has_room ≡ true → HasRoom 1 self.new.monitor }
+        ensures halts { IfErr result (λ halt. Halts halt (held self.old)) }
+        ensures marked { OnErr result (held self.new ≡ with_failure (held self.old)) }
+    {
+        if self.spent >= MOST_SPENT {
+            self.failed = true;
+            return Err(Halt::Stuck);
+        }
+        if self.spent == 0 && !self.make_room() {
+            self.failed = true;
+            return Err(Halt::Memory);
+        }
+        self.spent += 1;
+        Ok(())
+    }
+
+    /// The program stands at an address of 32 bits.
+    #[inline(always)]
+    fn look_at_program(&self)
+        ensures { self.now.core.pc < 2 ^ 32 }
+    {
+        let _here = self.core.pc;
+    }
+
+    /// The next instruction of the process that runs, if it may be begun.
+    #[inline(always)]
+    fn attempt(&mut self) -> Result<Step, Halt>
+        requires slots { L.SLOTS ≡ 64 }
+        requires wired { L.WIRED ≡ 8 }
+        requires good { IsGood self.old }
+        requires working { self.old.failed ≡ false }
+        requires unowed { self.old.monitor.owed ≡ None }
+        requires ready { self.old.monitor.ready ≢ [] }
+        requires user { is_user self.old.core.system ≡ true }
+        requires early { self.old.monitor.time < 1000000000 }
+        ensures good { IsGood self.new }
+        ensures does { IfOk result (λ step. Does step (held self.old) (held self.new)) }
+        ensures halts { IfErr result (λ halt. Halts halt (held self.old)) }
+        ensures marked { OnErr result (held self.new ≡ with_failure (held self.old)) }
+    {
+        self.look_at_program();
+        self.begin()?;
+        Ok(self.execute())
+    }
+
+    /// The boundary that is owed.
+    #[inline(always)]
+    fn boundary(&mut self) -> Step
+        requires good { IsGood self.old }
+        requires owed { IsSome self.old.monitor.owed }
+        ensures does { Does result (held self.old) (held self.new) }
+        ensures good { IsGood self.new }
+    {
+        self.monitor.owed = None;
+        Step::Boundary
+    }
+
+    /// A turn in which no process runs, with its boundary.
+    #[cold]
+    #[inline(never)]
+    fn idle(&mut self) -> Result<Step, Halt>
+        requires good { IsGood self.old }
+        requires working { self.old.failed ≡ false }
+        requires unowed { self.old.monitor.owed ≡ None }
+        requires nobody { self.old.monitor.ready ≡ [] }
+        requires going { is_over (kept_of self.old.monitor).state ≡ false }
+        requires early { self.old.monitor.time < 1000000000 }
+        ensures good { IsGood self.new }
+        ensures does { IfOk result (λ step. Does step (held self.old) (held self.new)) }
+        ensures halts { IfErr result (λ halt. Halts halt (held self.old)) }
+        ensures marked { OnErr result (held self.new ≡ with_failure (held self.old)) }
+    {
+        if !self.make_room() {
+            self.failed = true;
+            return Err(Halt::Memory);
+        }
+        self.monitor.time += 1;
+        Ok(Step::Boundary)
+    }
+
+    /// Where nobody is ready: an idle turn, or nothing where all have ended.
+    fn rest(&mut self) -> Result<Step, Halt>
+        requires good { IsGood self.old }
+        requires working { self.old.failed ≡ false }
+        requires unowed { self.old.monitor.owed ≡ None }
+        requires nobody { self.old.monitor.ready ≡ [] }
+        requires early { self.old.monitor.time < 1000000000 }
+        ensures good { IsGood self.new }
+        ensures does { IfOk result (λ step. Does step (held self.old) (held self.new)) }
+        ensures halts { IfErr result (λ halt. Halts halt (held self.old)) }
+        ensures marked { OnErr result (held self.new ≡ with_failure (held self.old)) }
+    {
+        if self.monitor.is_over() {
+            return Ok(Step::Over);
+        }
+        self.idle()
+    }
+
+    /// One machine instruction, one service, an idle turn with its boundary, or the boundary that
+    /// is owed. After a failure it answers that, and nothing changes.
+    #[inline(always)]
+    pub fn step(&mut self) -> Result<Step, Halt>
+        requires slots { L.SLOTS ≡ 64 }
+        requires wired { L.WIRED ≡ 8 }
+        requires good { IsGood self.old }
+        requires early { self.old.monitor.owed ≡ None → self.old.monitor.time < 1000000000 }
+        ensures good { IsGood self.new }
+        ensures does { IfOk result (λ step. Does step (held self.old) (held self.new)) }
+        ensures halts { IfErr result (λ halt. Halts halt (held self.old)) }
+        ensures marked { OnErr result (held self.new ≡ with_failure (held self.old)) }
+        ensures again { self.old.failed ≡ true
+            → IsErrOf result Halt.Failed × (self.new ≡ self.old) }
+    {
+        if self.failed {
+            return Err(Halt::Failed);
+        }
+        if self.monitor.owed.is_some() {
+            return Ok(self.boundary());
+        }
+        match self.monitor.first_ready() {
+            None => self.rest(),
+            Some(process) if !self.core.cp0.user() => Ok(self.serve(process)),
+            Some(_) => self.attempt(),
+        }
+    }
+}
