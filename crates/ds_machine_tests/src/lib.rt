@@ -20,5 +20,3 @@ mod processes;
 mod processor;
 #[cfg(test)]
 mod system;
-#[cfg(test)]
-mod user_memory;

@@ -10,21 +10,37 @@ use Rattle.ds_pagemap.specs.Machine.{State}
 use Rattle.ds_pagemap.specs.Run.{Ends, IsPrefix, is_over}
 use Rattle.ds_pagemap.specs.Text.{text_of}
 use Rattle.ds_pagemap.specs.Inputs.{Refusal}
-use Rattle.ds_station.specs.Held.{Held}
-use Rattle.ds_station.specs.Stands.{Stands}
-use Rattle.ds_station.specs.Sound.{RunsTo, RunsWithin}
-use Rattle.ds_station.specs.Headline.{held_text, Writes, WritesPrefix, WritesPart, Refuses, EndsBy, Begins, IsRefused}
+use Rattle.ds_refinement.specs.Held.{Held, bare}
+use Rattle.ds_refinement.specs.Stands.{Stands}
+use Rattle.ds_refinement.specs.Real.{RealPath}
+use Rattle.ds_refinement.specs.Runs.{RunsTo, RunsWithin, held_goes_on}
+use Rattle.ds_refinement.proofs.Boundaries.{beside}
+use Rattle.ds_station.specs.Headline.{held_text, Loaded, BeginsWith, Writes, WritesPrefix, WritesPart, WritesReally, Refuses, EndsBy, Begins, IsRefused}
 use Rattle.ds_station.specs.Faults.{IsNewFault, IsFaultAfter}
 use Rattle.ds_station.specs.declared.fault.Fault.{Fault}
 use Rattle.ds_station.specs.declared.fault.Fault.TheVariants as fault
 
--- the text of what is held is that of each state that it stands for
-pub text_alike : (h : Held) (m : State) → Stands h m → held_text h ≡ text_of m
-text_alike h m k =
-    ap (λ (cs : List (List ℕ)). report_text cs h.outside.lines h.outside.log h.outside.time) (sym k.outside.consoles)
-    ∙ (ap (λ (n : ℕ). report_text m.consoles n h.outside.log h.outside.time) (sym k.outside.lines)
-    ∙ (ap (λ (l : List ℕ). report_text m.consoles (length m.log) l h.outside.time) (sym k.outside.log)
-    ∙ ap (λ (t : ℕ). report_text m.consoles (length m.log) (flat_map line_text m.log) t) (sym k.outside.time)))
+-- what a station holds of a state that it stands for
+module _ (h : Held) (m : State) (k : Stands h m) where
+  kept : record (bare m) { processes = [] } ≡ record h.kept.state { processes = [] }
+  kept = beside h.kept.state.ready m h.kept.state k.kept.state
+
+  pub consoles_stand : m.consoles ≡ h.kept.state.consoles
+  consoles_stand = ap (λ (s : State). s.consoles) kept
+
+  pub time_stands : m.time ≡ h.kept.state.time
+  time_stands = ap (λ (s : State). s.time) kept
+
+  pub owed_stands : m.owed ≡ h.kept.state.owed
+  owed_stands = ap (λ (s : State). s.owed) kept
+
+  -- the text of what is held is that of the state
+  pub text_alike : held_text h ≡ text_of m
+  text_alike =
+      ap (λ (cs : List (List ℕ)). report_text cs h.kept.lines h.kept.log h.kept.state.time) (sym consoles_stand)
+      ∙ (ap (λ (n : ℕ). report_text m.consoles n h.kept.log h.kept.state.time) (sym k.kept.lines)
+      ∙ (ap (λ (l : List ℕ). report_text m.consoles (length m.log) l h.kept.state.time) (sym k.kept.log)
+      ∙ ap (λ (t : ℕ). report_text m.consoles (length m.log) (flat_map line_text m.log) t) (sym time_stands)))
 
 -- the report of the four consoles, each read by itself
 pub report_of_consoles : (cs : List (List ℕ)) (a b d e : List ℕ) (lines lines' : ℕ) (log log' : List ℕ) (time time' : ℕ) → a ≡ slice_index_or cs 0 [] → b ≡ slice_index_or cs 1 [] → d ≡ slice_index_or cs 2 [] → e ≡ slice_index_or cs 3 [] → lines ≡ lines' → log ≡ log' → time ≡ time' → report_text (a ∷ b ∷ d ∷ e ∷ []) lines log time ≡ report_text cs lines' log' time'
@@ -43,19 +59,24 @@ module _ (old new : Option (List ℕ)) (n : ℕ) (first : State) (s t : Held) (b
   pub writes_whole : RunsTo n s t → Appends old new (held_text t) → Writes old new n first
   writes_whole r a = let u = r.runs first begins in record { last = u.0; ends = u.1; written = subst (Appends old new) (text_alike t u.0 u.2) a }
 
-  pub writes_prefix : RunsWithin n s t → t.outside.owed ≡ None → Appends old new (held_text t) → WritesPrefix old new n first
-  writes_prefix r o a = let u = r.runs first begins in record { last = u.0; prefix = record { reached = u.1; whole = u.2.outside.owed ∙ o }; written = subst (Appends old new) (text_alike t u.0 u.2) a }
+  pub writes_prefix : RunsWithin n s t → t.kept.state.owed ≡ None → Appends old new (held_text t) → WritesPrefix old new n first
+  writes_prefix r o a = let u = r.runs first begins in record { last = u.0; prefix = record { reached = u.1; whole = owed_stands t u.0 u.2 ∙ o }; written = subst (Appends old new) (text_alike t u.0 u.2) a }
 
   pub part_whole : RunsTo n s t → AppendsPart old new (held_text t) → WritesPart old new n first
   part_whole r a = let u = r.runs first begins in record { last = u.0; prefix = ended_whole n first u.0 u.1; written = subst (AppendsPart old new) (text_alike t u.0 u.2) a }
 
-  pub part_prefix : RunsWithin n s t → t.outside.owed ≡ None → AppendsPart old new (held_text t) → WritesPart old new n first
-  part_prefix r o a = let u = r.runs first begins in record { last = u.0; prefix = record { reached = u.1; whole = u.2.outside.owed ∙ o }; written = subst (AppendsPart old new) (text_alike t u.0 u.2) a }
+  pub part_prefix : RunsWithin n s t → t.kept.state.owed ≡ None → AppendsPart old new (held_text t) → WritesPart old new n first
+  part_prefix r o a = let u = r.runs first begins in record { last = u.0; prefix = record { reached = u.1; whole = owed_stands t u.0 u.2 ∙ o }; written = subst (AppendsPart old new) (text_alike t u.0 u.2) a }
 
   -- whatever the run answered
-  pub part_written : (ran : Result (Unit {0}) Fault) → OnOk ran (RunsTo n s t) → OnErr ran (RunsWithin n s t) → OnErr ran (t.outside.owed ≡ None) → AppendsPart old new (held_text t) → WritesPart old new n first
+  pub part_written : (ran : Result (Unit {0}) Fault) → OnOk ran (RunsTo n s t) → OnErr ran (RunsWithin n s t) → OnErr ran (t.kept.state.owed ≡ None) → AppendsPart old new (held_text t) → WritesPart old new n first
   part_written (Ok x) r w o a = part_whole r a
   part_written (Err f) r w o a = part_prefix w o a
+
+-- what the processor did in a run that came to its end
+pub really_if : (ran : Result (Unit {0}) Fault) (old new : Option (List ℕ)) (n start : ℕ) (read : Result Loaded Refusal) (s t : Held) → Begins read (BeginsWith start s) → OnOk ran (RealPath s t) → OnOk ran (held_goes_on n t ≡ false) → Appends old new (held_text t) → OnOk ran (Begins read (WritesReally old new n start))
+really_if (Ok x) old new n start read s t b path over a = (b.0, b.1, record { first = s; begins = b.2; last = t; path = path; over = over; written = a })
+really_if (Err f) old new n start read s t b path over a = tt
 
 -- what a new fault of the run ends by
 pub fault_written : (f : Fault) (read : Result State Refusal) (old new : Option (List ℕ)) (n : ℕ) → IsNewFault f → Begins read (WritesPrefix old new n) → EndsBy f read old new n
@@ -72,7 +93,7 @@ refused_unwritten fault.Failed read old new n i k = absurd i
 refused_unwritten f read old new n i k = (i, k)
 
 -- how a run that fell short ends
-pub ran_short : {T : Type 0} (r : Result T Fault) (failed : Bool) (n : ℕ) (s t : Held) (read : Result State Refusal) (old new : Option (List ℕ)) → failed ≡ false → IfErr r (IsFaultAfter failed) → OnErr r (RunsWithin n s t) → OnErr r (t.outside.owed ≡ None) → Begins read (Stands s) → Appends old new (held_text t) → IfErr r (λ f. EndsBy f read old new n)
+pub ran_short : {T : Type 0} (r : Result T Fault) (failed : Bool) (n : ℕ) (s t : Held) (read : Result State Refusal) (old new : Option (List ℕ)) → failed ≡ false → IfErr r (IsFaultAfter failed) → OnErr r (RunsWithin n s t) → OnErr r (t.kept.state.owed ≡ None) → Begins read (Stands s) → Appends old new (held_text t) → IfErr r (λ f. EndsBy f read old new n)
 ran_short (Ok x) failed n s t read old new working faults within whole b a = tt
 ran_short (Err f) failed n s t read old new working faults within whole b a =
     fault_written f read old new n (subst (λ (x : Bool). IsFaultAfter x f) working faults) (b.0, b.1, writes_prefix old new n b.0 s t b.2 within whole a)

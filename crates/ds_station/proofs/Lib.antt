@@ -1,14 +1,4 @@
-pub mod Frames
-pub mod Lookups
-pub mod Links
-pub mod Meets
-pub mod Stages
-pub mod Refills
-pub mod Served
-pub mod Turns
-pub mod Counts
 pub mod Runs
 pub mod Headlines
 pub mod NamedTexts
 pub mod Preparing
-pub mod Firsts

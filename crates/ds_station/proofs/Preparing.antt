@@ -1,5 +1,5 @@
 -- Which refusal of the inputs each stage of reading them finds.
-use Rattle.std.proofs.Common.{◌≡◌, ℕ, ◌<◌, ◌≤◌, true, false, List, [], ap, ◌∙◌, arith, inl, inr, ◌⊎◌, Result, Ok, Err}
+use Rattle.std.proofs.Common.{◌≡◌, ℕ, ◌<◌, ◌≤◌, true, false, List, [], refl, ap, ◌∙◌, arith, inl, inr, ◌⊎◌, Result, Ok, Err}
 use Rattle.std.proofs.lemmas.Bool.{cases_lt}
 use Rattle.std.proofs.lemmas.Bool.Decides.{nat_tests}
 use Rattle.std.specs.Prelude.{IsErrOf, nat_le, nat_lt, ◌&&◌, codes}
@@ -15,12 +15,9 @@ use Rattle.ds_policy.specs.declared.fault.PolicyFault.{PolicyFault}
 use Rattle.ds_policy.specs.declared.fault.PolicyFault.TheVariants as policy_fault
 use Rattle.ds_policy.specs.declared.events.fault.EventsFault.{EventsFault}
 use Rattle.ds_policy.specs.declared.events.fault.EventsFault.TheVariants as events_fault
-use Rattle.ds_pagemap.specs.Machine.{State}
 use Rattle.ds_pagemap.specs.First.{first_state}
-use Rattle.ds_pagemap.specs.Inputs.{Refusal, Sources, policy_read, input_read, check, images_from, inputs_under, inputs}
+use Rattle.ds_pagemap.specs.Inputs.{Refusal, Sources, policy_read, input_read, check, images_from, inputs_under_by, inputs_by, inputs_under, inputs}
 use Rattle.ds_pagemap.specs.Inputs as refusal
-use Rattle.ds_station.specs.Held.{Held}
-use Rattle.ds_station.specs.Stands.{Stands}
 use Rattle.ds_station.specs.Faults.{of_policy, of_events, IsStartFault}
 use Rattle.ds_station.specs.Headline.{Refuses, Begins}
 use Rattle.ds_station.specs.declared.fault.Fault.{Fault}
@@ -43,53 +40,7 @@ pub under_policy : (policy : PolicyValue) (text : List ℕ) (s : Sources) (input
 unfolding inputs
 under_policy policy text s input n random is = ap (λ r. policy_read r >>= (λ p. inputs_under p s input n random)) is
 
--- what is left to read behind the images
-abbrev pub with_images : PolicyValue → List (List ℕ) → List ℕ → ℕ → ℕ → Result State Refusal
-with_images policy images input n random =
-    input_read (input_of policy.pages input) >>= (λ e. check (nat_le n 1000000000) (refusal.Limit (codes "n")) >>= (λ few. check (nat_le 8 random && nat_lt random 64) refusal.BadRandom >>= (λ good. Ok (first_state policy images e))))
-
-pub refused_by_image : (f : Fault) (policy : PolicyValue) (s : Sources) (input : List ℕ) (n random : ℕ) → Refuses f (images_from s [] (sources_of policy.pages)) → Refuses f (inputs_under policy s input n random)
-unfolding inputs_under
-refused_by_image f policy s input n random r = refuses_then f (images_from s [] (sources_of policy.pages)) (λ images. with_images policy images input n random) r
-
-pub under_images : (policy : PolicyValue) (images : List (List ℕ)) (s : Sources) (input : List ℕ) (n random : ℕ) → images_from s [] (sources_of policy.pages) ≡ Ok images → inputs_under policy s input n random ≡ with_images policy images input n random
-unfolding inputs_under
-under_images policy images s input n random is = ap (λ r. r >>= (λ i. with_images policy i input n random)) is
-
-input_refused : (e : EventsFault) (read : Result InputValue ℕ) → events.Gives (Err e) read → Refuses (of_events e) (input_read read)
-input_refused events_fault.Memory read r = tt
-input_refused (events_fault.InputFault line) read r = ap input_read r
-
-pub refused_by_input : (e : EventsFault) (policy : PolicyValue) (images : List (List ℕ)) (input : List ℕ) (n random : ℕ) → events.Gives (Err e) (input_of policy.pages input) → Refuses (of_events e) (with_images policy images input n random)
-refused_by_input e policy images input n random r = refuses_then (of_events e) (input_read (input_of policy.pages input)) _ (input_refused e (input_of policy.pages input) r)
-
--- what is left behind the input
-abbrev pub with_input : PolicyValue → List (List ℕ) → InputValue → ℕ → ℕ → Result State Refusal
-with_input policy images e n random = check (nat_le n 1000000000) (refusal.Limit (codes "n")) >>= (λ few. check (nat_le 8 random && nat_lt random 64) refusal.BadRandom >>= (λ good. Ok (first_state policy images e)))
-
-pub under_input : (policy : PolicyValue) (images : List (List ℕ)) (e : InputValue) (input : List ℕ) (n random : ℕ) → input_of policy.pages input ≡ Ok e → with_images policy images input n random ≡ with_input policy images e n random
-under_input policy images e input n random is = ap (λ r. input_read r >>= (λ x. with_input policy images x n random)) is
-
--- too many ticks
-pub refused_by_ticks : (policy : PolicyValue) (images : List (List ℕ)) (e : InputValue) (n random : ℕ) → 1000000000 < n → with_input policy images e n random ≡ Err (refusal.Limit (codes "n"))
-refused_by_ticks policy images e n random many =
-    let b : nat_le n 1000000000 ≡ false = grind (arith, nat_tests) in
-    ap (λ x. check x (refusal.Limit (codes "n")) >>= (λ few. check (nat_le 8 random && nat_lt random 64) refusal.BadRandom >>= (λ good. Ok (first_state policy images e)))) b
-
--- what is left behind the count of ticks
-abbrev pub with_ticks : PolicyValue → List (List ℕ) → InputValue → ℕ → Result State Refusal
-with_ticks policy images e random = check (nat_le 8 random && nat_lt random 64) refusal.BadRandom >>= (λ good. Ok (first_state policy images e))
-
-pub under_ticks : (policy : PolicyValue) (images : List (List ℕ)) (e : InputValue) (n random : ℕ) → n ≤ 1000000000 → with_input policy images e n random ≡ with_ticks policy images e random
-under_ticks policy images e n random few =
-    let b : nat_le n 1000000000 ≡ true = grind (arith, nat_tests) in
-    ap (λ x. check x (refusal.Limit (codes "n")) >>= (λ few. with_ticks policy images e random)) b
-
-bad_start : (policy : PolicyValue) (images : List (List ℕ)) (e : InputValue) (random : ℕ) → (random < 8) ⊎ (64 ≤ random) → with_ticks policy images e random ≡ Err refusal.BadRandom
-bad_start policy images e random bad =
-    let b : (nat_le 8 random && nat_lt random 64) ≡ false = elim bad [ inl low ↦ grind (arith, nat_tests) | inr high ↦ grind (arith, nat_tests) ] in
-    ap (λ x. check x refusal.BadRandom >>= (λ good. Ok (first_state policy images e))) b
-
+-- Random may start there or not
 start_cases : (random : ℕ) → ((random < 8) ⊎ (64 ≤ random)) ⊎ ((nat_le 8 random && nat_lt random 64) ≡ true)
 start_cases random = elim (cases_lt random 8) [
   | inl low ↦ inl (inl low)
@@ -103,14 +54,82 @@ start_cases random = elim (cases_lt random 8) [
 pub ok_is_no_err : {T E : Type 0} (x : T) (e : E) → IsErrOf (Ok x) e → ⊥
 ok_is_no_err x e is = cc
 
--- the station that was made stands for the first state of the inputs
-pub prepared : (s : Held) (read : Result State Refusal) (policy : PolicyValue) (images : List (List ℕ)) (e : InputValue) (random : ℕ) → read ≡ with_ticks policy images e random → Stands s (first_state policy images e) → (((random < 8) ⊎ (64 ≤ random)) → ⊥) → Begins read (Stands s)
-prepared s read policy images e random is stands bad = elim (start_cases random) [
-  | inl b ↦ absurd (bad b)
-  | inr good ↦ (first_state policy images e, is ∙ ap (λ x. check x refusal.BadRandom >>= (λ good. Ok (first_state policy images e))) good, stands)
-]
+-- What is made of the inputs once they are read.
+module _ {A : Type 0} (make : PolicyValue → List (List ℕ) → InputValue → A) where
+  -- what is left behind the count of ticks
+  abbrev pub with_ticks : PolicyValue → List (List ℕ) → InputValue → ℕ → Result A Refusal
+  with_ticks policy images e random = check (nat_le 8 random && nat_lt random 64) refusal.BadRandom >>= (λ good. Ok (make policy images e))
 
-pub unprepared_by : (f : Fault) (read : Result State Refusal) (policy : PolicyValue) (images : List (List ℕ)) (e : InputValue) (random : ℕ) → read ≡ with_ticks policy images e random → IsStartFault random f → Refuses f read
-unprepared_by fault.BadRandom read policy images e random is bad = is ∙ bad_start policy images e random bad
-unprepared_by fault.Memory read policy images e random is bad = tt
-unprepared_by f read policy images e random is bad = absurd bad
+  -- what is left behind the input
+  abbrev pub with_input : PolicyValue → List (List ℕ) → InputValue → ℕ → ℕ → Result A Refusal
+  with_input policy images e n random = check (nat_le n 1000000000) (refusal.Limit (codes "n")) >>= (λ few. with_ticks policy images e random)
+
+  -- what is left behind the images
+  abbrev pub with_images : PolicyValue → List (List ℕ) → List ℕ → ℕ → ℕ → Result A Refusal
+  with_images policy images input n random = input_read (input_of policy.pages input) >>= (λ e. with_input policy images e n random)
+
+  -- the policy is read
+  pub under_policy_by : (policy : PolicyValue) (text : List ℕ) (s : Sources) (input : List ℕ) (n random : ℕ) → policy_of text ≡ Ok policy → inputs_by make text s input n random ≡ inputs_under_by make policy s input n random
+  unfolding inputs_by
+  under_policy_by policy text s input n random is = ap (λ r. policy_read r >>= (λ p. inputs_under_by make p s input n random)) is
+
+  -- the images are read
+  pub under_images : (policy : PolicyValue) (images : List (List ℕ)) (s : Sources) (input : List ℕ) (n random : ℕ) → images_from s [] (sources_of policy.pages) ≡ Ok images → inputs_under_by make policy s input n random ≡ with_images policy images input n random
+  unfolding inputs_under_by
+  under_images policy images s input n random is = ap (λ r. r >>= (λ i. with_images policy i input n random)) is
+
+  -- the input is read
+  pub under_input : (policy : PolicyValue) (images : List (List ℕ)) (e : InputValue) (input : List ℕ) (n random : ℕ) → input_of policy.pages input ≡ Ok e → with_images policy images input n random ≡ with_input policy images e n random
+  under_input policy images e input n random is = ap (λ r. input_read r >>= (λ x. with_input policy images x n random)) is
+
+  -- too many ticks
+  pub refused_by_ticks : (policy : PolicyValue) (images : List (List ℕ)) (e : InputValue) (n random : ℕ) → 1000000000 < n → with_input policy images e n random ≡ Err (refusal.Limit (codes "n"))
+  refused_by_ticks policy images e n random many =
+      let b : nat_le n 1000000000 ≡ false = grind (arith, nat_tests) in
+      ap (λ x. check x (refusal.Limit (codes "n")) >>= (λ few. with_ticks policy images e random)) b
+
+  -- few enough
+  pub under_ticks : (policy : PolicyValue) (images : List (List ℕ)) (e : InputValue) (n random : ℕ) → n ≤ 1000000000 → with_input policy images e n random ≡ with_ticks policy images e random
+  under_ticks policy images e n random few =
+      let b : nat_le n 1000000000 ≡ true = grind (arith, nat_tests) in
+      ap (λ x. check x (refusal.Limit (codes "n")) >>= (λ few. with_ticks policy images e random)) b
+
+  -- all is read but the start of Random
+  pub under_all : (policy : PolicyValue) (images : List (List ℕ)) (e : InputValue) (s : Sources) (input : List ℕ) (n random : ℕ) → images_from s [] (sources_of policy.pages) ≡ Ok images → input_of policy.pages input ≡ Ok e → n ≤ 1000000000 → inputs_under_by make policy s input n random ≡ with_ticks policy images e random
+  under_all policy images e s input n random i j few =
+      under_images policy images s input n random i ∙ (under_input policy images e input n random j ∙ under_ticks policy images e n random few)
+
+  bad_start : (policy : PolicyValue) (images : List (List ℕ)) (e : InputValue) (random : ℕ) → (random < 8) ⊎ (64 ≤ random) → with_ticks policy images e random ≡ Err refusal.BadRandom
+  bad_start policy images e random bad =
+      let b : (nat_le 8 random && nat_lt random 64) ≡ false = elim bad [ inl low ↦ grind (arith, nat_tests) | inr high ↦ grind (arith, nat_tests) ] in
+      ap (λ x. check x refusal.BadRandom >>= (λ good. Ok (make policy images e))) b
+
+  -- what was made is of these inputs
+  pub prepared : (P : A → Type 0) (read : Result A Refusal) (policy : PolicyValue) (images : List (List ℕ)) (e : InputValue) (random : ℕ) → read ≡ with_ticks policy images e random → P (make policy images e) → (((random < 8) ⊎ (64 ≤ random)) → ⊥) → Begins read P
+  prepared P read policy images e random is holds bad = elim (start_cases random) [
+    | inl b ↦ absurd (bad b)
+    | inr good ↦ (make policy images e, is ∙ ap (λ x. check x refusal.BadRandom >>= (λ good. Ok (make policy images e))) good, holds)
+  ]
+
+  pub unprepared_by : (f : Fault) (read : Result A Refusal) (policy : PolicyValue) (images : List (List ℕ)) (e : InputValue) (random : ℕ) → read ≡ with_ticks policy images e random → IsStartFault random f → Refuses f read
+  unprepared_by fault.BadRandom read policy images e random is bad = is ∙ bad_start policy images e random bad
+  unprepared_by fault.Memory read policy images e random is bad = tt
+  unprepared_by f read policy images e random is bad = absurd bad
+
+-- Which of them refuses a run.
+
+-- what is made of them for a run is its first state
+pub of_first_state : (policy : PolicyValue) (s : Sources) (input : List ℕ) (n random : ℕ) → inputs_under policy s input n random ≡ inputs_under_by first_state policy s input n random
+unfolding inputs_under
+of_first_state policy s input n random = refl
+
+pub refused_by_image : (f : Fault) (policy : PolicyValue) (s : Sources) (input : List ℕ) (n random : ℕ) → Refuses f (images_from s [] (sources_of policy.pages)) → Refuses f (inputs_under policy s input n random)
+unfolding inputs_under
+refused_by_image f policy s input n random r = refuses_then f (images_from s [] (sources_of policy.pages)) (λ images. with_images first_state policy images input n random) r
+
+input_refused : (e : EventsFault) (read : Result InputValue ℕ) → events.Gives (Err e) read → Refuses (of_events e) (input_read read)
+input_refused events_fault.Memory read r = tt
+input_refused (events_fault.InputFault line) read r = ap input_read r
+
+pub refused_by_input : (e : EventsFault) (policy : PolicyValue) (images : List (List ℕ)) (input : List ℕ) (n random : ℕ) → events.Gives (Err e) (input_of policy.pages input) → Refuses (of_events e) (with_images first_state policy images input n random)
+refused_by_input e policy images input n random r = refuses_then (of_events e) (input_read (input_of policy.pages input)) _ (input_refused e (input_of policy.pages input) r)

@@ -7,6 +7,9 @@ use Rattle.ds_policy.specs.declared.events.fault.EventsFault.TheVariants as even
 use Rattle.ds_asm.specs.declared.fault.AsmFault.{AsmFault}
 use Rattle.ds_asm.specs.declared.fault.AsmFault.TheVariants as asm
 use Rattle.ds_asm.specs.Assembling.{source_fault_number}
+use Rattle.ds_refinement.specs.Held.{Held}
+use Rattle.ds_kernel.specs.declared.halt.Halt.{Halt}
+use Rattle.ds_kernel.specs.declared.halt.Halt.TheVariants as halt
 use Rattle.ds_station.specs.declared.fault.Fault.{Fault}
 use Rattle.ds_station.specs.declared.fault.Fault.TheVariants.{BadRandom, InSource, BadToml, BadRule, Limit, InputFault, Stuck, Failed, WriteFault, NoSource, Memory}
 
@@ -40,6 +43,19 @@ of_events events.Memory = Memory
 abbrev pub in_source : List ℕ → AsmFault → Fault
 in_source name (asm.Source fault) = InSource name fault
 in_source name asm.Memory = Memory
+
+-- what a step that is not done is to a run
+abbrev pub of_halt : Halt → Fault
+of_halt halt.Memory = Memory
+of_halt halt.Stuck = Stuck
+of_halt halt.Failed = Failed
+
+-- What is held where the next step is refused by a fault: memory runs out only where no unit is begun, and a unit is stuck only behind 64 instructions.
+abbrev pub RefusesStep : Fault → Held → Type 0
+RefusesStep Memory h = (h.own.failed ≡ false) × (h.own.spent ≡ 0)
+RefusesStep Stuck h = (h.own.failed ≡ false) × (h.own.spent ≡ 64)
+RefusesStep Failed h = h.own.failed ≡ true
+RefusesStep _ h = ⊥
 
 -- a fault that comes of a step, and not of an earlier failure
 abbrev pub IsNewFault : Fault → Type 0

@@ -1,7 +1,8 @@
 -- What a run over files answers, and what it writes.
-use Rattle.std.specs.Prelude.{◌≡◌, ℕ, ◌⊎◌, List, map, Option, Result, Ok, Err, IsErrAnd}
+use Rattle.std.specs.Prelude.{◌≡◌, ℕ, ◌⊎◌, false, List, map, Option, Result, Ok, Err, IsErrAnd}
 use Rattle.std.proofs.Common.{Bor}
 use Rattle.std.specs.Io.KnownBytes.{Appends, Keeps}
+use Rattle.ds_policy.specs.Value.{PolicyValue, InputValue}
 use Rattle.ds_log.specs.Report.{report_text}
 use Rattle.ds_log.specs.Sent.{AppendsPart}
 use Rattle.ds_pagemap.specs.Machine.{State}
@@ -9,7 +10,10 @@ use Rattle.ds_pagemap.specs.Run.{Ends, IsPrefix}
 use Rattle.ds_pagemap.specs.Text.{text_of}
 use Rattle.ds_pagemap.specs.Inputs.{Refusal, Sources}
 use Rattle.ds_pagemap.specs.Inputs as inputs
-use Rattle.ds_station.specs.Held.{Held}
+use Rattle.ds_refinement.specs.Held.{Held}
+use Rattle.ds_refinement.specs.First.{IsFirst}
+use Rattle.ds_refinement.specs.Real.{RealPath}
+use Rattle.ds_refinement.specs.Runs.{held_goes_on}
 use Rattle.ds_station.specs.declared.fault.Fault.{Fault}
 use Rattle.ds_station.specs.declared.fault.Fault.TheVariants as fault
 
@@ -19,7 +23,7 @@ sources_seen sources = map (λ s. (s.0.now, s.1.now)) sources
 
 -- the text of what a station holds
 abbrev pub held_text : Held → List ℕ
-held_text h = report_text h.outside.consoles h.outside.lines h.outside.log h.outside.time
+held_text h = report_text h.kept.state.consoles h.kept.lines h.kept.log h.kept.state.time
 
 -- a run for n from the first state has ended, and its text is written
 pub record Writes (old new : Option (List ℕ)) (n : ℕ) (first : State) : Type 0 where
@@ -58,9 +62,9 @@ abbrev pub Reads : {X Y : Type 0} → (X → Y) → Result X Fault → Result Y 
 Reads seen (Ok x) read = read ≡ Ok (seen x)
 Reads seen (Err f) read = Refuses f read
 
--- a run was begun from the first state of these inputs, and this much of it was written
-abbrev pub Begins : Result State Refusal → (State → Type 0) → Type 0
-Begins read P = (first : State) × (read ≡ Ok first) × P first
+-- the inputs were read to a value of which this holds, as the first state of a run and what was written of it
+abbrev pub Begins : {X : Type 0} → Result X Refusal → (X → Type 0) → Type 0
+Begins {X} read P = (x : X) × (read ≡ Ok x) × P x
 
 -- when each fault comes, and what is written then: nothing where it refuses the inputs
 abbrev pub EndsBy : Fault → Result State Refusal → Option (List ℕ) → Option (List ℕ) → ℕ → Type 0
@@ -73,3 +77,28 @@ EndsBy f read old new n = Refuses f read × Keeps old new
 -- inputs that are refused are refused by that, or for want of memory, and nothing is written
 abbrev pub IsRefused : {T : Type 0} → Result T Fault → Refusal → Option (List ℕ) → Option (List ℕ) → Type 0
 IsRefused result refusal old new = let read : Result State Refusal = Err refusal in IsErrAnd result (λ f. Refuses f read) × Keeps old new
+
+-- What the processor does in a run.
+
+-- what a run begins with: a policy, the images of its sources, an input
+pub record Loaded : Type 0 where
+  pub policy : PolicyValue
+  pub images : List (List ℕ)
+  pub input : InputValue
+
+-- these three, as they were read
+abbrev pub loaded : PolicyValue → List (List ℕ) → InputValue → Loaded
+loaded policy images input = record { policy = policy; images = images; input = input }
+
+-- a station is at the beginning of a run with these, and Random is the start
+abbrev pub BeginsWith : ℕ → Held → Loaded → Type 0
+BeginsWith start h l = IsFirst l.policy l.images l.input start h
+
+-- a station that began with these came by real steps to where a run for n is over, and its text is written
+pub record WritesReally (old new : Option (List ℕ)) (n start : ℕ) (l : Loaded) : Type 0 where
+  pub first : Held
+  pub begins : BeginsWith start first l
+  pub last : Held
+  pub path : RealPath first last
+  pub over : held_goes_on n last ≡ false
+  pub written : Appends old new (held_text last)

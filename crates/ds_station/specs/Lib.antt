@@ -1,12 +1,4 @@
-pub mod Frames
-pub mod Consoles
-pub mod Held
-pub mod Stands
-pub mod Parts
-pub mod Services
-pub mod Steps
-pub mod Sound
 pub mod Faults
-pub mod Halts
+pub mod Station
+pub mod Runs
 pub mod Headline
-pub mod Start

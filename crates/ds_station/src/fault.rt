@@ -1,10 +1,12 @@
 //! Why a run is refused, or ends early.
 ghost use Rattle.std.specs.Prelude.{◌≡◌};
-ghost use Rattle.ds_station.specs.Faults.{number_of, of_policy, of_events, in_source};
+ghost use Rattle.ds_station.specs.Faults.{number_of, of_policy, of_events, of_halt, in_source};
 ghost use Rattle.ds_station.specs.declared.fault.Fault.TheVariants as fault;
 
 use ds_asm::{AsmFault, SourceFault};
-use ds_log::{OutOfMemory, WriteFailed};
+use ds_kernel::Halt;
+use ds_log::WriteFailed;
+use ds_mem::OutOfMemory;
 use ds_policy::{EventsFault, PolicyFault, Text};
 use ds_tlb::BadRandom;
 use std::alloc::{AllocError, AllocFailed};
@@ -110,6 +112,18 @@ impl From<EventsFault> for Fault {
         match e {
             EventsFault::InputFault(line) => Fault::InputFault(line),
             EventsFault::Memory => Fault::Memory,
+        }
+    }
+}
+
+impl From<Halt> for Fault {
+    ghost from_gives = { λ h f. f ≡ of_halt h };
+
+    fn from(h: Halt) -> Fault {
+        match h {
+            Halt::Memory => Fault::Memory,
+            Halt::Stuck => Fault::Stuck,
+            Halt::Failed => Fault::Failed,
         }
     }
 }

@@ -1,11 +1,47 @@
 //! A run from texts to a text.
-ghost use Rattle.std.specs.Prelude.{◌≡◌, ℕ, ◌≤◌, List, map, length, Option, OnOk, OnErr, IfErr, IfOk, option_map, [], false};
+ghost use Rattle.std.specs.Prelude.{
+  ◌≡◌,
+  ℕ,
+  ◌≤◌,
+  List,
+  map,
+  length,
+  Option,
+  OnOk,
+  OnErr,
+  IfErr,
+  IfOk,
+  option_map,
+  [],
+  false,
+};
 ghost use Rattle.std.specs.Io.KnownBytes.{Appends};
 ghost use Rattle.ds_policy.specs.PolicyParts.{sources_of};
 ghost use Rattle.ds_log.specs.Sent.{AppendsPart};
-ghost use Rattle.ds_pagemap.specs.Inputs.{Refusal, inputs, inputs_under, text_named, image_read, images_from};
-ghost use Rattle.ds_station.specs.Headline.{Writes, Begins, Reads, Refuses, EndsBy, IsRefused, held_text, sources_seen};
-ghost use Rattle.ds_station.specs.Stands.{Stands};
+ghost use Rattle.ds_pagemap.specs.Inputs.{
+  Refusal,
+  inputs,
+  inputs_by,
+  inputs_under,
+  inputs_under_by,
+  text_named,
+  image_read,
+  images_from,
+};
+ghost use Rattle.ds_refinement.specs.Stands.{Stands};
+ghost use Rattle.ds_station.specs.Headline.{
+  Writes,
+  WritesReally,
+  Begins,
+  BeginsWith,
+  Reads,
+  Refuses,
+  EndsBy,
+  IsRefused,
+  held_text,
+  loaded,
+  sources_seen,
+};
 
 use crate::fault::Fault;
 use crate::station::Station;
@@ -30,7 +66,8 @@ fn text_named<'a>(sources: &[(&str, &'a [u8])], name: &str) -> Option<&'a [u8]>
 
 /// The image of the source of this name.
 fn image_of(alloc: Global, sources: &[(&str, &[u8])], name: &Text<64>) -> Result<Image, Fault>
-    ensures { Reads (λ image. image) result (image_read name.now (text_named (sources_seen sources.now) name.now)) }
+    ensures { Reads (λ image. image) result
+        (image_read name.now (text_named (sources_seen sources.now) name.now)) }
 {
     let Some(text) = text_named(sources, name.as_str()) else {
         return Err(Fault::NoSource(Text::of(name.as_str())));
@@ -47,7 +84,8 @@ fn images_of(
     names: &[Text<64>],
     sources: &[(&str, &[u8])],
 ) -> Result<Vec<Image>, Fault>
-    ensures images { Reads (λ images. images.items) result (images_from (sources_seen sources.now) [] names.now) }
+    ensures images { Reads (λ images. images.items) result
+        (images_from (sources_seen sources.now) [] names.now) }
     ensures size { IfOk result (λ images. length images.items ≡ length names.now) }
 {
     let mut images = Vec::new(alloc);
@@ -69,10 +107,15 @@ fn prepare(
     n: u64,
     random: u8,
 ) -> Result<Station<Indexed<64, 8>>, Fault>
-    ensures ok { IfOk result (λ s. Begins (inputs_under policy.now (sources_seen sources.now) input.now n random) (Stands s)) }
+    ensures ok { IfOk result (λ s. Begins
+        (inputs_under policy.now (sources_seen sources.now) input.now n random) (Stands s)) }
+    ensures real { IfOk result (λ s. Begins
+        (inputs_under_by loaded policy.now (sources_seen sources.now) input.now n random)
+        (BeginsWith random s)) }
     ensures working { IfOk result (λ s. s.own.failed ≡ false) }
     ensures few { OnOk result (n ≤ 1000000000) }
-    ensures err { IfErr result (λ f. Refuses f (inputs_under policy.now (sources_seen sources.now) input.now n random)) }
+    ensures err { IfErr result (λ f. Refuses f
+        (inputs_under policy.now (sources_seen sources.now) input.now n random)) }
 {
     let images = match images_of(alloc, policy.sources(), sources) {
         Ok(images) => images,
@@ -93,8 +136,10 @@ fn prepare(
 
 /// The text of a station's state goes to the writer.
 fn deliver<L: Lookaside, W: Write>(station: &Station<L>, out: &mut W) -> Result<(), WriteFailed>
-    ensures ok { OnOk result (Appends (W.contents out.old) (W.contents out.new) (held_text station.now)) }
-    ensures err { OnErr result (AppendsPart (W.contents out.old) (W.contents out.new) (held_text station.now)) }
+    ensures ok { OnOk result
+        (Appends (W.contents out.old) (W.contents out.new) (held_text station.now)) }
+    ensures err { OnErr result
+        (AppendsPart (W.contents out.old) (W.contents out.new) (held_text station.now)) }
 {
     let consoles = [
         station.console(0),
@@ -128,9 +173,18 @@ pub fn run_files<W: Write>(
     random: u8,
     out: &mut W,
 ) -> Result<(), Fault>
-    ensures ok { OnOk result (Begins (inputs policy.now (sources_seen sources.now) input.now n random) (Writes (W.contents out.old) (W.contents out.new) n)) }
-    ensures err { IfErr result (λ f. EndsBy f (inputs policy.now (sources_seen sources.now) input.now n random) (W.contents out.old) (W.contents out.new) n) }
-    ensures refused { (refusal : Refusal) → inputs policy.now (sources_seen sources.now) input.now n random ≡ Err refusal → IsRefused result refusal (W.contents out.old) (W.contents out.new) }
+    ensures ok { OnOk result (Begins
+        (inputs policy.now (sources_seen sources.now) input.now n random)
+        (Writes (W.contents out.old) (W.contents out.new) n)) }
+    ensures real { OnOk result (Begins
+        (inputs_by loaded policy.now (sources_seen sources.now) input.now n random)
+        (WritesReally (W.contents out.old) (W.contents out.new) n random)) }
+    ensures err { IfErr result (λ f. EndsBy f
+        (inputs policy.now (sources_seen sources.now) input.now n random)
+        (W.contents out.old) (W.contents out.new) n) }
+    ensures refused { (refusal : Refusal)
+        → inputs policy.now (sources_seen sources.now) input.now n random ≡ Err refusal
+        → IsRefused result refusal (W.contents out.old) (W.contents out.new) }
 {
     let policy = match Policy::read(alloc, policy) {
         Ok(policy) => policy,
@@ -149,9 +203,14 @@ pub fn run_policy<W: Write>(
     random: u8,
     out: &mut W,
 ) -> Result<(), Fault>
-    ensures ok { OnOk result (Begins (inputs_under policy.now (sources_seen sources.now) input.now n random)
+    ensures ok { OnOk result (Begins
+        (inputs_under policy.now (sources_seen sources.now) input.now n random)
         (Writes (W.contents out.old) (W.contents out.new) n)) }
-    ensures err { IfErr result (λ f. EndsBy f (inputs_under policy.now (sources_seen sources.now) input.now n random)
+    ensures real { OnOk result (Begins
+        (inputs_under_by loaded policy.now (sources_seen sources.now) input.now n random)
+        (WritesReally (W.contents out.old) (W.contents out.new) n random)) }
+    ensures err { IfErr result (λ f. EndsBy f
+        (inputs_under policy.now (sources_seen sources.now) input.now n random)
         (W.contents out.old) (W.contents out.new) n) }
     ensures refused { (refusal : Refusal)
         → inputs_under policy.now (sources_seen sources.now) input.now n random ≡ Err refusal

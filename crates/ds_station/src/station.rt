@@ -1,19 +1,41 @@
 //! A station: a machine and its monitor.
-ghost use Rattle.std.specs.Prelude.{◌≡◌, ℕ, ◌<◌, ◌≤◌, [], slice_index_or, flat_map, IfOk, IfErr, OnOk, OnErr, IsErrOf, None, IsSome, true, false};
-ghost use Rattle.ds_station.specs.Held.{Held};
+ghost use Rattle.std.specs.Prelude.{
+  ◌≡◌,
+  ◌⊎◌,
+  ◌<◌,
+  ◌≤◌,
+  length,
+  [],
+  slice_index_or,
+  flat_map,
+  IfOk,
+  IfErr,
+  OnOk,
+  OnErr,
+  IsErrOf,
+  None,
+  true,
+  false,
+};
 ghost use Rattle.ds_log.specs.Text.{line_text};
+ghost use Rattle.ds_policy.specs.PolicyParts.{sources_of};
 ghost use Rattle.ds_pagemap.specs.Machine.{State};
-ghost use Rattle.ds_station.specs.Stands.{Stands, IsSound};
-ghost use Rattle.ds_station.specs.Steps.{Follows, Stays, Moves};
-ghost use Rattle.ds_station.specs.Sound.{RunsTo, RunsWithin, Goes, held_goes_on};
-ghost use Rattle.ds_station.specs.Faults.{IsNewFault, IsFaultAfter};
-ghost use Rattle.ds_station.specs.Halts.{fault_of};
+ghost use Rattle.ds_pagemap.specs.First.{first_state};
+ghost use Rattle.ds_refinement.specs.First.{IsFirst};
+ghost use Rattle.ds_refinement.specs.Stands.{Stands, IsSound};
+ghost use Rattle.ds_refinement.specs.Steps.{Follows, Stays, Moves};
+ghost use Rattle.ds_refinement.specs.Real.{IsReal, RealPath};
+ghost use Rattle.ds_refinement.specs.Runs.{RunsTo, RunsWithin, held_goes_on};
+ghost use Rattle.ds_station.specs.Faults.{IsFaultAfter, IsStartFault, RefusesStep};
+ghost use Rattle.ds_station.specs.Runs.{IsCut};
 
 use crate::fault::Fault;
-use crate::halt::Halt;
-use crate::parts::{Parts, Step};
-use ds_procs::Standing;
+use ds_asm::Image;
+use ds_kernel::Parts;
+use ds_policy::{Events, Policy};
+use ds_refinement::Step;
 use ds_tlb::Lookaside;
+use std::alloc::Global;
 use std::marker::Model;
 
 /// A machine and its monitor.
@@ -23,64 +45,99 @@ pub struct Station<L: Lookaside> {
 }
 
 impl<L: Lookaside> Model for Station<L> {
-    ghost use Rattle.ds_station.specs.Held.{Held};
+    ghost use Rattle.ds_refinement.specs.Held.{Held};
 
     ghost Value = { Held };
 
-    ghost use Rattle.ds_station.specs.Parts.{held, IsGood};
+    ghost use Rattle.ds_kernel.specs.Parts.{held};
+    ghost use Rattle.ds_station.specs.Station.{IsStation};
 
-    ghost view = { λ s. held L.entries L.random_place s.parts };
+    ghost view = { λ s. held s.parts };
 
-    ghost invariant = { λ s. IsGood L.entries L.random_place s.parts };
+    ghost invariant = { λ s. IsStation L.SLOTS L.WIRED s.parts };
 }
 
 impl<L: Lookaside> Station<L> {
+    /// A station at the beginning of its run: the processes at their start, the images in their
+    /// pages, and Random at `start`. There is one image for each source name of the policy, in
+    /// their order.
+    pub fn new(
+        alloc: Global,
+        policy: &Policy,
+        images: &[Image],
+        events: Events,
+        start: usize,
+    ) -> Result<Self, Fault>
+        requires slots { L.SLOTS ≡ 64 }
+        requires wired { L.WIRED ≡ 8 }
+        requires images { length images.now ≡ length (sources_of policy.now.pages) }
+        ensures begins { IfOk result (IsFirst policy.now images.now events start) }
+        ensures first { IfOk result (λ s. Stands s (first_state policy.now images.now events)) }
+        ensures sound { IfOk result IsSound }
+        ensures working { IfOk result (λ s. s.own.failed ≡ false) }
+        ensures spent { IfOk result (λ s. s.own.spent ≡ 0) }
+        ensures unowed { IfOk result (λ s. s.kept.state.owed ≡ None) }
+        ensures refused { ((start < 8) ⊎ (64 ≤ start)) → IsErrOf result Fault.BadRandom }
+        ensures faults { IfErr result (λ f. IsStartFault start f) }
+    {
+        let tlb = L::new(start)?;
+        // No event is served yet.
+        prove!(events.commands().is_empty());
+        prove!(events.characters().is_empty());
+        let parts = Parts::new(alloc, policy, images, tlb)?;
+        Ok(Station { parts })
+    }
+
     /// One machine instruction, one service, an idle turn with its boundary, or the boundary that is
     /// owed. After a failure it answers `Failed`, and nothing changes.
     pub fn step(&mut self) -> Result<Step, Fault>
-        requires { self.old.outside.owed ≡ None → self.old.outside.time < 1000000000 }
+        requires { self.old.kept.state.owed ≡ None → self.old.kept.state.time < 1000000000 }
         ensures ok { IfOk result (λ step. Follows step self.old self.new) }
         ensures moves { IfOk result (λ step. Moves step self.old self.new) }
+        ensures real { OnOk result (IsReal self.old self.new) }
         ensures sound { IsSound self.new }
         ensures err { OnErr result (Stays self.old self.new) }
+        ensures refused { IfErr result (λ f. RefusesStep f self.old) }
         ensures faults { IfErr result (IsFaultAfter self.old.own.failed) }
-        ensures whole { OnErr result (self.new.outside.owed ≡ None) }
+        ensures whole { OnErr result (self.new.kept.state.owed ≡ None) }
         ensures failed { OnErr result (self.new.own.failed ≡ true) }
-        ensures again { self.old.own.failed ≡ true → IsErrOf result Fault.Failed × (self.new ≡ self.old) }
+        ensures again { self.old.own.failed ≡ true
+            → IsErrOf result Fault.Failed × (self.new ≡ self.old) }
     {
-        Ok(self.advance()?)
+        Ok(self.parts.step()?)
     }
 
     /// The text of a console line, from 0.
     pub fn console(&self, line: usize) -> &[u8]
         requires { line < 4 }
-        ensures held { result.now ≡ slice_index_or self.now.outside.consoles line [] }
-        ensures stands { (m : State) → Stands self.now m → result.now ≡ slice_index_or m.consoles line [] }
+        ensures held { result.now ≡ slice_index_or self.now.kept.state.consoles line [] }
+        ensures stands { (m : State) → Stands self.now m
+            → result.now ≡ slice_index_or m.consoles line [] }
     {
-        self.parts.consoles.text(line)
+        self.parts.monitor.consoles.text(line)
     }
 
     /// The text of the log.
     pub fn log(&self) -> &[u8]
-        ensures held { result.now ≡ self.now.outside.log }
+        ensures held { result.now ≡ self.now.kept.log }
         ensures stands { (m : State) → Stands self.now m → result.now ≡ flat_map line_text m.log }
     {
-        &self.parts.log
+        &self.parts.monitor.log
     }
 
     /// How many lines the log has.
     pub(crate) fn log_lines(&self) -> u64
-        ensures { result ≡ self.now.outside.lines }
+        ensures { result ≡ self.now.kept.lines }
     {
-        self.parts.lines
+        self.parts.monitor.lines
     }
 
     /// The time in ticks.
     pub fn time(&self) -> u64
-        ensures held { result ≡ self.now.outside.time }
+        ensures held { result ≡ self.now.kept.state.time }
         ensures stands { (m : State) → Stands self.now m → result ≡ m.time }
     {
-        self.parts.time
+        self.parts.monitor.time
     }
 
     /// The machine instructions that the unit has taken so far, 64 at most.
@@ -91,89 +148,26 @@ impl<L: Lookaside> Station<L> {
         self.parts.spent
     }
 
-    /// Does the boundary that is owed, if one is, and then runs until the time is n or the process
-    /// has ended. After a failure it answers `Failed`, and nothing changes.
-    // It stands apart, so that its loop is compiled alike wherever it is called from.
-    #[inline(never)]
+    /// Does the boundary that is owed, if one is, and then runs until the time is n or all processes
+    /// have ended. After a failure it answers `Failed`, and nothing changes.
+    #[tactic(auto, using(crate::proofs::Runs::ran_to, crate::proofs::Runs::cut_within, crate::proofs::Runs::cut_after))]
     pub fn run(&mut self, n: u64) -> Result<(), Fault>
         requires { n ≤ 1000000000 }
         ensures ok { OnOk result (RunsTo n self.old self.new) }
+        ensures over { OnOk result (held_goes_on n self.new ≡ false) }
+        ensures real { OnOk result (RealPath self.old self.new) }
+        ensures good { OnOk result (self.new.own.failed ≡ false) }
+        ensures unit { OnOk result (((self.old.own.spent ≡ 0) ⊎ (self.old.kept.state.time < n))
+            → self.new.own.spent ≡ 0) }
         ensures err { OnErr result (RunsWithin n self.old self.new) }
+        ensures cut { IfErr result (λ f. IsCut f self.old self.new) }
         ensures sound { IsSound self.new }
         ensures faults { IfErr result (IsFaultAfter self.old.own.failed) }
-        ensures whole { OnErr result (self.new.outside.owed ≡ None) }
+        ensures whole { OnErr result (self.new.kept.state.owed ≡ None) }
         ensures failed { OnErr result (self.new.own.failed ≡ true) }
-        ensures again { self.old.own.failed ≡ true → IsErrOf result Fault.Failed × (self.new ≡ self.old) }
+        ensures again { self.old.own.failed ≡ true
+            → IsErrOf result Fault.Failed × (self.new ≡ self.old) }
     {
-        if self.parts.failed {
-            return Err(Fault::Failed);
-        }
-        while self.goes_on(n) {
-            self.go()?;
-        }
-        Ok(())
-    }
-
-    /// As `step`, with why it halted as it is.
-    #[inline(always)]
-    fn advance(&mut self) -> Result<Step, Halt>
-        requires { self.old.outside.owed ≡ None → self.old.outside.time < 1000000000 }
-        ensures ok { IfOk result (λ step. Follows step self.old self.new) }
-        ensures moves { IfOk result (λ step. Moves step self.old self.new) }
-        ensures sound { IsSound self.new }
-        ensures err { OnErr result (Stays self.old self.new) }
-        ensures faults { IfErr result (λ halt. IsFaultAfter self.old.own.failed (fault_of halt)) }
-        ensures whole { OnErr result (self.new.outside.owed ≡ None) }
-        ensures failed { OnErr result (self.new.own.failed ≡ true) }
-        ensures again { self.old.own.failed ≡ true → IsErrOf result Halt.Failed × (self.new ≡ self.old) }
-    {
-        let _ = &self.parts;
-        self.parts.step()
-    }
-
-    /// Whether a run for n ticks goes on.
-    #[inline(always)]
-    fn goes_on(&self, n: u64) -> bool
-        ensures { result ≡ held_goes_on n self.now }
-    {
-        let ended = match self.parts.process.state {
-            Standing::Ended => true,
-            Standing::Ready | Standing::Waiting | Standing::Parked => false,
-        };
-        self.parts.owed.is_some() || self.time() < n && !ended
-    }
-
-    /// As `advance`; behind a unit its boundary is done at once.
-    #[inline(always)]
-    fn go(&mut self) -> Result<Step, Halt>
-        requires { self.old.outside.owed ≡ None → self.old.outside.time < 1000000000 }
-        ensures ok { IfOk result (λ step. Goes step self.old self.new) }
-        ensures sound { IsSound self.new }
-        ensures err { OnErr result (Stays self.old self.new) }
-        ensures faults { IfErr result (λ halt. IsFaultAfter self.old.own.failed (fault_of halt)) }
-        ensures whole { OnErr result (self.new.outside.owed ≡ None) }
-        ensures failed { OnErr result (self.new.own.failed ≡ true) }
-    {
-        match self.advance()? {
-            Step::Inside => Ok(Step::Inside),
-            Step::Unit => {
-                self.bound();
-                Ok(Step::Unit)
-            }
-            Step::Boundary => Ok(Step::Boundary),
-            Step::Over => Ok(Step::Over),
-        }
-    }
-
-    /// The boundary that is owed.
-    #[inline(always)]
-    fn bound(&mut self)
-        requires { IsSome self.old.outside.owed }
-        ensures follows { Follows Step.Boundary self.old self.new }
-        ensures moves { Moves Step.Boundary self.old self.new }
-        ensures sound { IsSound self.new }
-    {
-        let _ = &self.parts;
-        self.parts.boundary();
+        Ok(self.parts.run(n)?)
     }
 }

@@ -302,9 +302,10 @@ fn delays_leave_what_they_should_in_registers(rt: HostRuntime) -> Result<(), Fai
 fn a_process_that_stops_is_kept_at_its_unit(rt: HostRuntime) -> Result<(), Fail> {
     for (name, source, pc, register, value) in PARKED {
         let station = behind(rt.alloc(), source, 10)?;
-        let process = &station.parts.process;
-        assert_eq!(rt; process.pc, *pc, "{name}");
-        assert_eq!(rt; process.registers.get(*register), Some(value), "{name}");
+        let seat = station.parts.monitor.seats.first().ok_or("a process")?;
+        let (registers, _, _) = seat.registers();
+        assert_eq!(rt; seat.pc(), *pc, "{name}");
+        assert_eq!(rt; registers.get(*register), Some(value), "{name}");
     }
     Ok(())
 }

@@ -61,3 +61,16 @@ fn a_fault_of_a_source_is_told_with_its_name_and_line(rt: HostRuntime) -> Result
     }
     Ok(())
 }
+
+#[test]
+fn a_step_that_is_not_done_is_told_as_its_fault(rt: HostRuntime) -> Result<(), Fail> {
+    for (halt, text) in [
+        (Halt::Memory, "25 Memory"),
+        (Halt::Stuck, "21 Stuck"),
+        (Halt::Failed, "22 Failed"),
+    ] {
+        let fault = Fault::from(halt);
+        assert_eq!(rt; fault.to_string(rt.alloc())?.as_str(), text);
+    }
+    Ok(())
+}

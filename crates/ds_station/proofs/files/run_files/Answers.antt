@@ -1,9 +1,9 @@
 use Rattle.std.proofs.Common.{Err}
 use Rattle.ds_pagemap.specs.Inputs.{inputs}
 use Rattle.ds_station.specs.Faults.{of_policy}
-use Rattle.ds_station.specs.Headline.{sources_seen}
+use Rattle.ds_station.specs.Headline.{loaded, sources_seen}
 use Rattle.ds_station.proofs.Headlines.{refused_unwritten, refused_only, keeps_same}
-use Rattle.ds_station.proofs.Preparing.{refused_by_policy, under_policy}
+use Rattle.ds_station.proofs.Preparing.{refused_by_policy, under_policy, under_policy_by}
 use Rattle.ds_station.proofs.files.run_files.Goals as goal
 
 pub returns-in-Err-clause-err : goal.returns-in-Err-clause-err
@@ -18,6 +18,10 @@ returns-in-Err-clause-refused g c = refused_only {T = Unit {0}} (Err c.from.resu
 pub returns-clause-ok : goal.returns-clause-ok
 returns-clause-ok g c =
     rw (under_policy c.in-Ok.policy c.args.policy.now (sources_seen c.args.sources.now) c.args.input.now c.args.n c.args.random c.in-Ok.ensures) c.run_policy.ensures.ok
+
+pub returns-clause-real : goal.returns-clause-real
+returns-clause-real g c =
+    rw (under_policy_by loaded c.in-Ok.policy c.args.policy.now (sources_seen c.args.sources.now) c.args.input.now c.args.n c.args.random c.in-Ok.ensures) c.run_policy.ensures.real
 
 pub returns-clause-err : goal.returns-clause-err
 returns-clause-err g c =

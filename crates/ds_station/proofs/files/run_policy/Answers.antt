@@ -1,13 +1,17 @@
 use Rattle.std.proofs.Common.{◌≡◌, subst, sym, ◌∙◌, Ok, Err}
 use Rattle.std.proofs.lemmas.Result.{on_ok_weaker}
 use Rattle.ds_station.specs.Headline.{Refuses}
-use Rattle.ds_station.proofs.Headlines.{writes_whole, ran_short, part_written, refused_only, keeps_same}
+use Rattle.ds_station.proofs.Headlines.{writes_whole, really_if, ran_short, part_written, refused_only, keeps_same}
 use Rattle.ds_station.proofs.files.run_policy.Goals as goal
 
 pub returns-in-Ok-deliver-clause-ok : goal.returns-in-Ok-deliver-clause-ok
 returns-in-Ok-deliver-clause-ok g c =
     let b = c.in-Ok.ensures.ok in
     on_ok_weaker c.run-ran.result (λ r. (b.0, b.1, writes_whole _ _ c.args.n b.0 c.in-Ok.station c.run-ran.new.self b.2 r c.in-Ok-deliver.ensures.ok)) c.run-ran.ensures.ok
+
+pub returns-in-Ok-deliver-clause-real : goal.returns-in-Ok-deliver-clause-real
+returns-in-Ok-deliver-clause-real g c =
+    really_if c.run-ran.result _ _ c.args.n c.args.random _ c.in-Ok.station c.run-ran.new.self c.in-Ok.ensures.real c.run-ran.ensures.real c.run-ran.ensures.over c.in-Ok-deliver.ensures.ok
 
 pub returns-in-Ok-deliver-clause-err : goal.returns-in-Ok-deliver-clause-err
 returns-in-Ok-deliver-clause-err g c =
