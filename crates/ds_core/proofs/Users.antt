@@ -1,6 +1,6 @@
 -- A calm step of a user who may not use coprocessor 0 leaves the coprocessor's registers and the entries alone.
-use Rattle.std.proofs.Common.{◌≡◌, ℕ, Bool, true, false, refl, ap, ◌∙◌, cond}
-use Rattle.std.specs.Prelude.{Result, Ok, Err}
+use Rattle.std.proofs.Common.{◌≡◌, ℕ, Bool, true, false, refl, sym, ap, ◌∙◌, cond}
+use Rattle.std.specs.Prelude.{◌&&◌, not, Result, Ok, Err}
 use Rattle.ds_isa.specs.declared.instr.Instr.{Instr}
 use Rattle.ds_isa.specs.declared.instr.Instr.TheVariants as instr
 use Rattle.ds_isa.specs.declared.instr.Size.{Size}
@@ -12,13 +12,13 @@ use Rattle.ds_amap.specs.declared.map.Physical.{Physical}
 use Rattle.ds_amap.specs.declared.map.Fault.{Fault}
 use Rattle.ds_isa.specs.declared.instr.Kind.TheVariants.{Fetch, Load, Store}
 use Rattle.ds_cp0.specs.declared.exception.ExceptionCode.TheVariants.{Interrupt}
-use Rattle.ds_cp0.specs.System.{is_pending}
+use Rattle.ds_cp0.specs.System.{System, is_pending}
 use Rattle.ds_dev.specs.declared.fault.BusError.{BusError}
 use Rattle.ds_dev.specs.Bus.{BusState, lines}
 use Rattle.ds_isa.specs.declared.instr.Size.TheVariants.{Word}
 use Rattle.ds_core.specs.Core.{CoreState, Step, branched, with_tick, trapped}
 use Rattle.ds_core.specs.Access.{reached, aligned_load, aligned_store, kept, load_answered, loaded_from, store_answered, stored_to}
-use Rattle.ds_core.specs.Coprocessor.{is_usable, unusable, usable, unit_of}
+use Rattle.ds_core.specs.Coprocessor.{is_usable, only_devices_interrupt, unusable, usable, unit_of}
 use Rattle.ds_core.specs.Effect.{effect, fetch_answered, fetched_from, instruction, step}
 use Rattle.ds_core.specs.Ahead.{is_raised}
 
@@ -90,3 +90,20 @@ keeps_system c b shut calm = (by_interrupt c b (is_pending c.system (lines b).0 
 
 pub keeps_entries : (c : CoreState) (b : BusState) → is_usable c 0 ≡ false → is_raised (step c b).event ≡ false → (step c b).core.entries ≡ c.entries
 keeps_entries c b shut calm = (by_interrupt c b (is_pending c.system (lines b).0 (lines b).1) shut calm).1
+
+only_behind : (usable pending : Bool) → (not usable && not pending) ≡ true → (usable ≡ false) × (pending ≡ false)
+only_behind false false only = (refl, refl)
+only_behind false true only = never (sym only)
+only_behind true pending only = never (sym only)
+
+-- where only a device can interrupt, the program asks for nothing
+pub nothing_pends : (c : CoreState) → only_devices_interrupt c ≡ true → is_pending c.system false false ≡ false
+nothing_pends c only = (only_behind (is_usable c 0) (is_pending c.system false false) only).1
+
+-- where only a device can interrupt, that is so behind a calm step
+pub stays_undisturbed : (c : CoreState) (b : BusState) (s : Step) → s ≡ step c b → is_raised s.event ≡ false → only_devices_interrupt c ≡ true → only_devices_interrupt s.core ≡ true
+stays_undisturbed c b s is calm only =
+    let shut : is_usable c 0 ≡ false = (only_behind (is_usable c 0) (is_pending c.system false false) only).0 in
+    let quiet : is_raised (step c b).event ≡ false = ap (λ (t : Step). is_raised t.event) (sym is) ∙ calm in
+    let same : s.core.system ≡ c.system = ap (λ (t : Step). t.core.system) is ∙ keeps_system c b shut quiet in
+    ap (λ (y : System). only_devices_interrupt (record c { system = y })) same ∙ only

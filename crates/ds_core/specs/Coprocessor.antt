@@ -9,13 +9,17 @@ use Rattle.ds_tlb.specs.Entries.{find, empty_entry, index_word}
 use Rattle.ds_tlb.specs.Words.{hi_word, lo_word, entry_of}
 use Rattle.ds_cp0.specs.declared.exception.Exception.{Exception}
 use Rattle.ds_cp0.specs.declared.exception.ExceptionCode.TheVariants.{ReservedInstruction, CoprocessorUnusable}
-use Rattle.ds_cp0.specs.System.{System, asid_of, is_user, reads, after_write, returned}
+use Rattle.ds_cp0.specs.System.{System, asid_of, is_user, is_pending, reads, after_write, returned}
 use Rattle.ds_dev.specs.Bus.{BusState, lines}
 use Rattle.ds_core.specs.Core.{CoreState, Step, at_vector, trapped, at_next}
 
 -- coprocessor 0 in kernel mode, else each by its bit in Status; of its number the low two bits count
 abbrev pub is_usable : CoreState → ℕ → Bool
 is_usable c unit = ((unit % 4 == 0) && not (is_user c.system)) || (bits c.system.status (28 + unit % 4) 1 == 1)
+
+-- whether only a device can interrupt: the program may not use coprocessor 0, and software asks for nothing that is let through
+abbrev pub only_devices_interrupt : CoreState → Bool
+only_devices_interrupt c = not (is_usable c 0) && not (is_pending c.system false false)
 
 -- the exception of a coprocessor that may not be used
 abbrev pub unusable_exception : CoreState → ℕ → Exception

@@ -1,5 +1,5 @@
 //! The processor and its step.
-ghost use Rattle.std.specs.Prelude.{◌≡◌};
+ghost use Rattle.std.specs.Prelude.{◌≡◌, true};
 
 mod access;
 mod ahead;
@@ -13,7 +13,7 @@ use crate::event::Event;
 use access::fetch;
 pub use ahead::Ahead;
 use ds_amap::{Access, Physical};
-use ds_cp0::{Cp0, ExceptionCode, register};
+use ds_cp0::{Cp0, ExceptionCode};
 use ds_dev::Bus;
 use ds_isa::{Late, Size};
 use ds_tlb::Lookaside;
@@ -64,17 +64,20 @@ impl<L: Lookaside> Core<L> {
     ghost use Rattle.ds_tlb.specs.Entries.{ticked};
     ghost use Rattle.ds_cp0.specs.System.{is_pending};
     ghost use Rattle.ds_dev.specs.Bus.{lines};
+    ghost use Rattle.ds_core.specs.Coprocessor.{only_devices_interrupt};
     ghost use Rattle.ds_core.specs.Effect.{instruction, step};
 
-    /// A step: takes an interrupt that is pending, or does the instruction at `pc`.
+    /// A step: takes an interrupt that is pending, or does the instruction at `pc`. It may be told
+    /// that only a device can interrupt.
     #[inline(always)]
-    fn proceed(&mut self, bus: &mut Bus) -> Event
+    fn proceed(&mut self, bus: &mut Bus, only_devices: bool) -> Event
         requires slots { L.SLOTS ≡ 64 }
         requires wired { L.WIRED ≡ 8 }
+        requires devices { only_devices ≡ true → only_devices_interrupt self.old ≡ true }
         ensures { (record { event = result; core = self.new; bus = bus.new })
             ≡ step self.old bus.old }
     {
-        if self.is_interrupted(bus) {
+        if self.is_interrupted(bus, only_devices) {
             return self.trap(ExceptionCode::Interrupt);
         }
         let event = self.instruction(bus);
@@ -95,26 +98,27 @@ impl<L: Lookaside> Core<L> {
         self.tlb.tick();
     }
 
-    /// Whether an interrupt is to be taken. Where Status lets none through, no device is asked.
+    /// Whether an interrupt is to be taken. Where no device asks, and only a device can interrupt,
+    /// the coprocessor isn't asked.
     #[inline(always)]
-    fn is_interrupted(&self, bus: &Bus) -> bool
+    fn is_interrupted(&self, bus: &Bus, only_devices: bool) -> bool
+        requires { only_devices ≡ true → only_devices_interrupt self.now ≡ true }
         ensures { result ≡ is_pending self.now.system (lines bus.now).0 (lines bus.now).1 }
     {
-        if self.cp0.read(register::STATUS) & 1 == 0 {
-            return false;
-        }
-        match bus.lines() {
-            (false, false) => self.cp0.pending(false, false),
-            (system, clock) => self.is_let_through(system, clock),
+        if bus.asks() {
+            self.is_let_through(bus)
+        } else {
+            !only_devices && self.cp0.pending(false, false)
         }
     }
 
     /// Whether an interrupt is to be taken where a device asks for one.
     #[cold]
     #[inline(never)]
-    fn is_let_through(&self, system: bool, clock: bool) -> bool
-        ensures { result ≡ is_pending self.now.system system clock }
+    fn is_let_through(&self, bus: &Bus) -> bool
+        ensures { result ≡ is_pending self.now.system (lines bus.now).0 (lines bus.now).1 }
     {
+        let (system, clock) = bus.lines();
         self.cp0.pending(system, clock)
     }
 

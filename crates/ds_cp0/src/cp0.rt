@@ -109,6 +109,7 @@ impl Cp0 {
     }
 
     /// Writes the bits of the register that can be written.
+    #[inline(always)]
     pub fn write(&mut self, n: u8, v: u32)
         ensures { self.new ≡ after_write self.old n v }
     {
@@ -124,8 +125,7 @@ impl Cp0 {
     }
 
     /// Enters the exception, and answers the address of its handler.
-    #[cold]
-    #[inline(never)]
+    #[inline(always)]
     pub fn enter(&mut self, exception: Exception) -> u32
         ensures state { self.new ≡ entered self.old exception }
         ensures vector { result ≡ vector exception }
@@ -147,6 +147,7 @@ impl Cp0 {
     }
 
     /// Keeps the address that was refused.
+    #[inline(always)]
     fn put_address(&mut self, exception: &Exception, addr: u32)
         ensures { self.new ≡ with_address self.old exception.now (Some addr) }
     {

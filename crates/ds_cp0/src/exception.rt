@@ -43,6 +43,7 @@ impl ExceptionCode {
     }
 
     /// Whether the translation buffer refused the access.
+    #[inline(always)]
     pub(crate) fn is_translation(self) -> bool
         ensures { result ≡ is_translation self }
     {

@@ -15,6 +15,7 @@ pub const GENERAL_VECTOR: u32 = 0x8000_0080;
 const KUSEG_END: u32 = 0x8000_0000;
 
 /// Status with kernel mode and interrupts off pushed on its three pairs.
+#[inline(always)]
 pub(crate) fn pushed(status: u32) -> u32
     ensures { result ≡ pushed status }
 {
@@ -29,6 +30,7 @@ pub(crate) fn popped(status: u32) -> u32
 }
 
 /// The bits of Status that can be written.
+#[inline(always)]
 pub(crate) fn writable_status(v: u32) -> u32
     ensures { result ≡ writable_status v }
 {
@@ -71,6 +73,7 @@ pub(crate) fn with_requests(cause: u32, v: u32) -> u32
 }
 
 /// Cause after an exception.
+#[inline(always)]
 pub(crate) fn cause_of(cause: u32, exception: &Exception) -> u32
     ensures { result ≡ cause_of cause exception.now }
 {
@@ -86,6 +89,7 @@ pub(crate) fn cause_of(cause: u32, exception: &Exception) -> u32
 }
 
 /// Cause with BD above its other bits.
+#[inline(always)]
 fn delayed(slot: bool, rest: u32) -> u32
     requires { rest < 2 ^ 31 }
     ensures { result ≡ bit 31 slot + rest }
@@ -94,6 +98,7 @@ fn delayed(slot: bool, rest: u32) -> u32
 }
 
 /// Where the program goes on later: in a slot its branch.
+#[inline(always)]
 pub(crate) fn epc_of(exception: &Exception) -> u32
     ensures { result ≡ epc_of exception.now }
 {
@@ -105,6 +110,7 @@ pub(crate) fn epc_of(exception: &Exception) -> u32
 }
 
 /// The address of the exception's handler.
+#[inline(always)]
 pub(crate) fn vector(exception: &Exception) -> u32
     ensures { result ≡ vector exception.now }
 {

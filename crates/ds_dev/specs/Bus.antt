@@ -1,5 +1,5 @@
 -- The bus: memory, the serial lines, the clock and the system register, each at its place.
-use Rattle.std.specs.Prelude.{ℕ, ◌+◌, ◌*◌, ◌/◌, ◌%◌, ◌^◌, Bool, true, false, ◌&&◌, nat_lt, nat_le, ◌==◌, if◌then◌else◌, List, slice_index, slice_set, Result, Ok, Err}
+use Rattle.std.specs.Prelude.{ℕ, ◌+◌, ◌*◌, ◌/◌, ◌%◌, ◌^◌, Bool, true, false, ◌&&◌, ◌||◌, nat_lt, nat_le, ◌==◌, if◌then◌else◌, List, slice_index, slice_set, Result, Ok, Err}
 use Rattle.ds_word.specs.Word.{bits, bit}
 use Rattle.ds_isa.specs.declared.instr.Size.{Size}
 use Rattle.ds_isa.specs.declared.instr.Size.TheVariants.{Byte, Half, Word, Part}
@@ -73,6 +73,14 @@ system_word b = bit 7 (serial_requests b.serial) + b.system * 2 ^ 16
 -- the requests to IP2 and to IP3
 abbrev pub lines : BusState → Bool × Bool
 lines b = (serial_requests b.serial && is_enabled b.system, clock_requests b.clock)
+
+-- whether one of the devices requests an interrupt
+abbrev pub devices_ask : SerialState → ℕ → ClockState → Bool
+devices_ask serial system clock = (serial_requests serial && is_enabled system) || clock_requests clock
+
+-- whether there is a request
+abbrev pub asks : BusState → Bool
+asks b = devices_ask b.serial b.system b.clock
 
 -- whether a place is that of one of the clock's 64 registers
 abbrev pub is_clock : ℕ → Bool

@@ -3,7 +3,7 @@ ghost use Rattle.std.specs.Prelude.{◌≡◌, ◌%◌, ◌<◌, ◌≤◌, OnEr
 ghost use Rattle.std.specs.Borrow.{sem};
 ghost use Rattle.ds_isa.specs.Instruction.{instruction_of};
 ghost use Rattle.ds_word.specs.Bytes.{word_at};
-ghost use Rattle.ds_dev.specs.Bus.{at_start, alignment, load, store, register_load, register_store, after_ticks, lines, with_serial};
+ghost use Rattle.ds_dev.specs.Bus.{at_start, alignment, load, store, register_load, register_store, after_ticks, lines, devices_ask, asks, with_serial};
 ghost use Rattle.ds_dev.specs.Serial.{received, sent};
 ghost use Rattle.ds_dev.specs.Lending.{LendsMemory};
 
@@ -26,10 +26,13 @@ pub struct Bus {
     serial: SerialLines,
     clock: Clock,
     system: SystemRegister,
+    // Whether a device asks for an interrupt, so that nobody has to look at each.
+    asks: bool,
 }
 
 impl Model for Bus {
-    ghost use Rattle.ds_dev.specs.Bus.{BusState};
+    ghost use Rattle.std.specs.Prelude.{◌≡◌};
+    ghost use Rattle.ds_dev.specs.Bus.{BusState, devices_ask};
 
     ghost Value = { BusState };
 
@@ -39,6 +42,16 @@ impl Model for Bus {
       clock = b.clock;
       system = b.system.enables;
     } };
+
+    ghost invariant = { λ b. b.asks ≡ devices_ask b.serial b.system.enables b.clock };
+}
+
+/// Whether a device asks for an interrupt.
+#[inline(always)]
+fn devices_ask(serial: &SerialLines, system: &SystemRegister, clock: &Clock) -> bool
+    ensures { result ≡ devices_ask serial.now system.now.enables clock.now }
+{
+    system.passes(serial.request()) || clock.request()
 }
 
 impl Bus {
@@ -52,6 +65,7 @@ impl Bus {
             serial: SerialLines::new(),
             clock: Clock::new(),
             system: SystemRegister::new(),
+            asks: false,
         }
     }
 
@@ -73,6 +87,14 @@ impl Bus {
             self.system.passes(self.serial.request()),
             self.clock.request(),
         )
+    }
+
+    /// Whether any device requests an interrupt.
+    #[inline(always)]
+    pub fn asks(&self) -> bool
+        ensures { result ≡ asks self.now }
+    {
+        self.asks
     }
 
     /// What is read at a physical address: in memory the byte, half or word, or for a part of a
@@ -133,6 +155,7 @@ impl Bus {
         ensures { self.new ≡ after_ticks self.old ticks }
     {
         self.clock.tick(ticks);
+        self.asks = devices_ask(&self.serial, &self.system, &self.clock);
     }
 
     /// A character comes in on a line, 0 to 3; whether it was taken. Of other numbers the low two
@@ -141,7 +164,9 @@ impl Bus {
         ensures value { result ≡ (received self.old.serial line byte).0 }
         ensures state { self.new ≡ with_serial self.old (received self.old.serial line byte).1 }
     {
-        self.serial.receive(line, byte)
+        let taken = self.serial.receive(line, byte);
+        self.asks = devices_ask(&self.serial, &self.system, &self.clock);
+        taken
     }
 
     /// Hands out the character that waits to leave, as its line and its byte.
@@ -149,7 +174,9 @@ impl Bus {
         ensures value { result ≡ (sent self.old.serial).0 }
         ensures state { self.new ≡ with_serial self.old (sent self.old.serial).1 }
     {
-        self.serial.sent()
+        let character = self.serial.sent();
+        self.asks = devices_ask(&self.serial, &self.system, &self.clock);
+        character
     }
 
     /// Reads a register.
@@ -160,7 +187,7 @@ impl Bus {
         ensures state { self.new ≡ (register_load self.old physical).1 }
         ensures refused { OnErr result (self.new ≡ self.old) }
     {
-        match physical {
+        let answer = match physical {
             serial::CONTROL => Ok(self.serial.control()),
             serial::RECEIVED => Ok(self.serial.read_silo()),
             serial::ENABLES => Ok(self.serial.enables()),
@@ -176,7 +203,9 @@ impl Bus {
                     Err(BusError)
                 }
             }
-        }
+        };
+        self.asks = devices_ask(&self.serial, &self.system, &self.clock);
+        answer
     }
 
     /// Writes a register.
@@ -201,6 +230,7 @@ impl Bus {
                 }
             }
         }
+        self.asks = devices_ask(&self.serial, &self.system, &self.clock);
         Ok(())
     }
 }

@@ -1,5 +1,6 @@
 //! Steps, one by one and many at once.
 ghost use Rattle.std.specs.Prelude.{◌≡◌, ◌<◌, ◌+◌, if◌then◌else◌, IsNone, IfSome};
+ghost use Rattle.ds_core.specs.Coprocessor.{only_devices_interrupt};
 ghost use Rattle.ds_core.specs.Effect.{step};
 ghost use Rattle.ds_core.specs.Ahead.{hardware_of, AdvancesTo, ComesByWords, ticks, owed_tick};
 
@@ -53,11 +54,12 @@ impl<L: Lookaside> Core<L> {
             → ticks result.steps (hardware_of self.old bus.old)
             + owed_tick self.new.slot ≡ result.steps + owed_tick self.old.slot }
     {
+        let only_devices = self.only_devices_interrupt();
         let mut steps = 0;
         while steps < limit {
             // The address is looked at, so that it is known to be a word; so it is behind the loop.
             let _here = self.pc;
-            match self.proceed(bus) {
+            match self.proceed(bus, only_devices) {
                 Event::Retired | Event::Branched => steps += 1,
                 Event::Raised(code) => {
                     let raised = Some(code);
@@ -68,6 +70,15 @@ impl<L: Lookaside> Core<L> {
         let _here = self.pc;
         let raised = None;
         Ahead { steps, raised }
+    }
+
+    /// Whether only a device can interrupt: coprocessor 0 may not be used, so that nothing is let
+    /// through or asked for by the program, and the program asks for no interrupt.
+    #[inline(always)]
+    fn only_devices_interrupt(&self) -> bool
+        ensures { result ≡ only_devices_interrupt self.now }
+    {
+        !self.is_usable(0) && !self.cp0.pending(false, false)
     }
 
     /// The event of the last step, where it entered no exception.

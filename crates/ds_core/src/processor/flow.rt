@@ -45,8 +45,7 @@ pub(super) fn jump_target(pc: u32, target: u32) -> u32
 
 impl<L: Lookaside> Core<L> {
     /// Enters an exception; a late load is finished.
-    #[cold]
-    #[inline(never)]
+    #[inline(always)]
     pub(super) fn raise(&mut self, exception: Exception) -> Event
         ensures event { result ≡ Event.Raised exception.code }
         ensures core { self.new ≡ core_at_vector self.old exception }

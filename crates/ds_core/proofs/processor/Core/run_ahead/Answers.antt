@@ -1,6 +1,7 @@
 use Rattle.std.proofs.Common.{arith}
 use Rattle.ds_core.specs.Ahead.{hardware_of}
 use Rattle.ds_core.proofs.Advances.{calm_event, advances_on, comes_on}
+use Rattle.ds_core.proofs.Users.{stays_undisturbed}
 use Rattle.ds_core.proofs.Slots.{ticks_of_advance}
 use Rattle.ds_core.proofs.processor.Core.run_ahead.Goals as goal
 
@@ -11,6 +12,7 @@ loop-steps-preserved g c = record {
   words = λ k below.
       comes_on c.loop-steps.steps _ (hardware_of c.loop-steps.self c.loop-steps.bus)
       c.loop-steps.invariant.words c.loop-steps.invariant.advances (grind (arith)) k (omega arith);
+  devices = λ told. stays_undisturbed c.loop-steps.self c.loop-steps.bus _ c.proceed.ensures (calm_event _ c.in-Retired.is) (c.loop-steps.invariant.devices told);
 }
 
 pub returns-clause-ticks : goal.returns-clause-ticks

@@ -1,4 +1,5 @@
-use Rattle.std.proofs.Common.{ℕ, ◌<◌, ◌≤◌, ◌-◌, ◌^◌}
+use Rattle.std.proofs.Common.{◌≡◌, true, ℕ, ◌<◌, ◌≤◌, ◌-◌, ◌^◌}
+use Rattle.ds_core.specs.Coprocessor.{only_devices_interrupt}
 use Rattle.ds_core.specs.Ahead.{Advances, after_steps, hardware_of}
 use Rattle.ds_core.proofs.processor.Core.run_ahead.Given as goal
 
@@ -7,6 +8,7 @@ invariant-loop-steps g l = record {
   within : l.steps ≤ l.limit;
   advances : Advances l.steps (hardware_of l.fn.self l.fn.bus) (hardware_of l.self l.bus);
   words : (k : ℕ) → k < l.steps → (after_steps k (hardware_of l.fn.self l.fn.bus)).core.pc < 2 ^ 32;
+  devices : l.only_devices ≡ true → only_devices_interrupt l.self ≡ true;
 }
 
 abbrev pub decreases-loop-steps : goal.decreases-loop-steps
