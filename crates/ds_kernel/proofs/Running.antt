@@ -1,8 +1,9 @@
 -- A run of a station, by blocks of instructions and by steps.
-use Rattle.std.proofs.Common.{◌≡◌, ℕ, ◌+◌, ◌-◌, ◌*◌, ◌<◌, ◌≤◌, Bool, true, false, cond, [], Option, Some, None, refl, sym, ap, subst, ◌∙◌, arith}
+use Rattle.std.proofs.Common.{◌≡◌, ℕ, ◌+◌, ◌-◌, ◌*◌, ◌<◌, ◌≤◌, Bool, true, false, cond, [], Option, Some, None, refl, sym, ap, subst, ◌∙◌, arith, inr}
 use Rattle.std.proofs.lemmas.Bool.Decides.{nat_tests}
-use Rattle.std.specs.Prelude.{is_some, not, ◌||◌, ◌&&◌, nat_lt}
+use Rattle.std.specs.Prelude.{IsSome, is_some, not, ◌||◌, ◌&&◌, nat_lt}
 use Rattle.ds_word.specs.Word.{truth}
+use Rattle.ds_core.specs.Ahead.{owed_tick}
 use Rattle.ds_pagemap.specs.declared.turn.Turn.{Turn}
 use Rattle.ds_pagemap.specs.Machine.{State}
 use Rattle.ds_pagemap.specs.Run.{goes_on, is_over}
@@ -13,12 +14,13 @@ use Rattle.ds_refinement.specs.Stands.{IsSound}
 use Rattle.ds_refinement.specs.Steps.{Follows, Moves, ticks_of, is_in_kernel, steps_left}
 use Rattle.ds_refinement.specs.Runs.{held_goes_on}
 use Rattle.ds_refinement.proofs.Joined.{one_step, path_join}
-use Rattle.ds_refinement.proofs.RunSteps.{goes_alike, within_start, within_step}
+use Rattle.ds_refinement.proofs.RunSteps.{goes_alike, begins_goes, within_start, within_step}
 use Rattle.ds_kernel.specs.declared.halt.Halt.TheVariants.{Failed}
+use Rattle.ds_kernel.specs.Good.{IsOrderly}
 use Rattle.ds_kernel.specs.Ended.{Does}
 use Rattle.ds_kernel.specs.Ran.{HasRun, WasCut}
 use Rattle.ds_kernel.specs.Going.{rank, GoesOn}
-use Rattle.ds_kernel.proofs.Blocking.{truth_small, few_left, rank_of}
+use Rattle.ds_kernel.proofs.Blocking.{truth_small, few_left, rank_of, owed_small}
 
 unowed_goes : (n : ℕ) (h : Held) → h.kept.state.owed ≡ None → held_goes_on n h ≡ (nat_lt h.kept.state.time n && not (is_over h.kept.state))
 unowed_goes n h owed = ap (λ (o : Option Turn). is_some o || (nat_lt h.kept.state.time n && not (is_over h.kept.state))) owed
@@ -110,6 +112,34 @@ step_goes step n old new going sound does = record {
   working = step_works step old new does.moves;
   begun = step_begun step n old new going sound does.follows does.moves;
 }
+
+-- one behind the other
+pub goes_join : (n : ℕ) (a b c : Held) → GoesOn n a b → GoesOn n b c → GoesOn n a c
+goes_join n a b c first second =
+    let near : rank n b < rank n a = first.nearer in
+    let nearer : rank n c < rank n b = second.nearer in record {
+      runs = λ start h. second.runs start (first.runs start h);
+      nearer = omega (arith, near, nearer);
+      working = second.working ∙ first.working;
+      begun = second.begun;
+    }
+
+-- a block begins where room was made
+pub block_goes : (n limit : ℕ) (old roomy new : Held) → roomy ≡ old → old.kept.state.time + limit + 1 ≡ n → (roomy.kept.state.time + limit + owed_tick roomy.core.slot ≤ n → GoesOn n roomy new) → GoesOn n old new
+block_goes n limit old roomy new still end goes =
+    let same : roomy.kept.state.time ≡ old.kept.state.time = ap (λ (h : Held). h.kept.state.time) still in
+    let small : owed_tick roomy.core.slot ≤ 1 = owed_small roomy.core.slot in
+    subst (λ (h : Held). GoesOn n h new) still (goes (omega (arith, same, end, small)))
+
+-- a run goes on where an exception waits in a unit that was begun before its end
+pub raised_goes_on : (n : ℕ) (h : Held) → IsSound h → IsOrderly h → is_in_kernel h ≡ true → (0 < h.own.spent → h.kept.state.time < n) → held_goes_on n h ≡ true
+raised_goes_on n h sound orderly kernel before =
+    let some : 0 < h.own.spent = orderly.raised kernel in
+    begins_goes n h sound.state sound.stands (inr (orderly.running some, before some))
+
+-- and where a boundary is owed
+pub owed_goes_on : (n : ℕ) (h : Held) → IsSome h.kept.state.owed → held_goes_on n h ≡ true
+owed_goes_on n h owed = ap (λ (b : Bool). b || (nat_lt h.kept.state.time n && not (is_over h.kept.state))) owed
 
 -- Runs.
 

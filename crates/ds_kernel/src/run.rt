@@ -1,5 +1,7 @@
 //! Runs of a station, by blocks of instructions where it can and by single steps elsewhere.
-ghost use Rattle.std.specs.Prelude.{◌≡◌, ◌⊎◌, ◌<◌, ◌≤◌, true, false, IfErr, OnOk, OnErr, IsErrOf};
+ghost use Rattle.std.specs.Prelude.{◌≡◌, ◌⊎◌, ℕ, ◌<◌, ◌≤◌, true, false, IfErr, OnOk, OnErr, IsErrOf};
+ghost use Rattle.ds_refinement.specs.Held.{Held};
+ghost use Rattle.ds_refinement.specs.Steps.{is_in_kernel};
 ghost use Rattle.ds_refinement.specs.Runs.{held_goes_on};
 ghost use Rattle.ds_refinement.specs.Services.{with_failure};
 ghost use Rattle.ds_kernel.specs.Parts.{held};
@@ -28,7 +30,50 @@ impl<L: Lookaside> Parts<L> {
         self.monitor.first_ready().is_some() || !self.monitor.is_over()
     }
 
-    /// A block of instructions where one may begin, or else one step.
+    /// The boundary, where one is owed.
+    #[inline(always)]
+    fn do_owed(&mut self)
+        requires good { IsGood self.old }
+        ensures good { IsGood self.new }
+        ensures goes { (n : ℕ) (start : Held) → GoesOn n start (held self.old)
+            → GoesOn n start (held self.new) }
+    {
+        if self.monitor.owed.is_some() {
+            self.boundary();
+        }
+    }
+
+    /// Whether an exception waits to be served.
+    #[inline(always)]
+    fn is_in_kernel(&self) -> bool
+        ensures { result ≡ is_in_kernel (held self.now) }
+    {
+        !self.core.cp0.user()
+    }
+
+    /// The service of the exception that waits, where one does, and the boundary behind it, where
+    /// that ended the unit.
+    #[inline(always)]
+    fn serve_raised(&mut self, n: u64)
+        requires good { IsGood self.old }
+        requires working { self.old.failed ≡ false }
+        requires few { n ≤ 1000000000 }
+        requires begun { 0 < self.old.spent → self.old.monitor.time < n }
+        ensures good { IsGood self.new }
+        ensures goes { (start : Held) → GoesOn n start (held self.old)
+            → GoesOn n start (held self.new) }
+    {
+        match self.monitor.first_ready() {
+            Some(process) if self.is_in_kernel() => {
+                self.serve(process);
+                self.do_owed();
+            }
+            _ => {}
+        }
+    }
+
+    /// A block of instructions where one may begin, with the service of the exception that ends it,
+    /// or else one step.
     #[inline(always)]
     fn advance(&mut self, n: u64) -> Result<(), Halt>
         requires slots { L.SLOTS ≡ 64 }
@@ -46,6 +91,7 @@ impl<L: Lookaside> Parts<L> {
             Some(limit) => {
                 self.begin_block()?;
                 self.run_block(limit);
+                self.serve_raised(n);
             }
             None => {
                 self.step()?;

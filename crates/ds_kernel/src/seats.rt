@@ -73,7 +73,13 @@ impl<L: Lookaside> Parts<L> {
     {
         self.look_at_registers();
         let pc = self.resume_address();
-        self.monitor.keep(process, self.core.registers, self.core.hi, self.core.lo, pc);
+        self.monitor.keep(
+            process,
+            &self.core.registers,
+            self.core.hi,
+            self.core.lo,
+            pc,
+        );
     }
 
     /// The process has the one address space. What the buffer had for another is gone.
@@ -107,12 +113,11 @@ impl<L: Lookaside> Parts<L> {
     {
         let seat = &self.monitor.seats[process as usize - 1];
         let pc = seat.pc();
-        let (general, hi, lo) = seat.registers();
-        self.core.registers = general;
+        self.core.hi = seat.hi();
+        self.core.lo = seat.lo();
+        self.core.registers = *seat.general();
         self.core.registers[26] = 0;
         self.core.registers[27] = pc;
-        self.core.hi = hi;
-        self.core.lo = lo;
         self.core.late = None;
         self.core.pc = pc;
         self.core.next = wrapping_sum(pc, 4);

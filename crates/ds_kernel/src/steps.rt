@@ -105,7 +105,7 @@ impl<L: Lookaside> Parts<L> {
 
     /// The boundary that is owed.
     #[inline(always)]
-    fn boundary(&mut self) -> Step
+    pub(crate) fn boundary(&mut self) -> Step
         requires good { IsGood self.old }
         requires owed { IsSome self.old.monitor.owed }
         ensures does { Does result (held self.old) (held self.new) }

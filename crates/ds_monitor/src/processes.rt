@@ -12,12 +12,13 @@ use ds_procs::Standing;
 impl Monitor {
     /// The process leaves the processor for its seat: these are its registers, and it goes on at
     /// this address.
-    pub fn keep(&mut self, process: u32, general: [u32; 32], hi: u32, lo: u32, pc: u32)
+    #[inline(always)]
+    pub fn keep(&mut self, process: u32, general: &[u32; 32], hi: u32, lo: u32, pc: u32)
         requires above { 0 < process }
         requires within { process ≤ length self.old.seats.items }
         ensures kept { kept_of self.new ≡ kept_after (λ (m : State). with_process m process
             (record (process_of m process) {
-              registers = record { general = general; hi = hi; lo = lo; late = None };
+              registers = record { general = general.now; hi = hi; lo = lo; late = None };
               pc = pc;
             }))
             (kept_of self.old) }
@@ -27,6 +28,7 @@ impl Monitor {
     }
 
     /// The process goes on at another address.
+    #[inline(always)]
     pub fn go_to(&mut self, process: u32, pc: u32)
         requires above { 0 < process }
         requires within { process ≤ length self.old.seats.items }
@@ -38,6 +40,7 @@ impl Monitor {
     }
 
     /// The answer to a call of the process, in its register 2.
+    #[inline(always)]
     pub fn answer(&mut self, process: u32, value: u32)
         requires above { 0 < process }
         requires within { process ≤ length self.old.seats.items }

@@ -45,6 +45,7 @@ impl Seat {
     }
 
     /// How the process stands.
+    #[inline(always)]
     pub fn standing(&self) -> Standing
         ensures { result ≡ self.now.standing }
     {
@@ -52,6 +53,7 @@ impl Seat {
     }
 
     /// The line of its console.
+    #[inline(always)]
     pub fn line(&self) -> u8
         ensures { result ≡ self.now.line }
     {
@@ -59,10 +61,35 @@ impl Seat {
     }
 
     /// Where it goes on.
+    #[inline(always)]
     pub fn pc(&self) -> u32
         ensures { result ≡ self.now.pc }
     {
         self.kept.pc
+    }
+
+    /// Its general registers.
+    #[inline(always)]
+    pub fn general(&self) -> &[u32; 32]
+        ensures { result.now ≡ self.now.registers.general }
+    {
+        &self.kept.registers
+    }
+
+    /// Its HI.
+    #[inline(always)]
+    pub fn hi(&self) -> u32
+        ensures { result ≡ self.now.registers.hi }
+    {
+        self.kept.hi
+    }
+
+    /// Its LO.
+    #[inline(always)]
+    pub fn lo(&self) -> u32
+        ensures { result ≡ self.now.registers.lo }
+    {
+        self.kept.lo
     }
 
     /// Its general registers, HI and LO.
@@ -92,20 +119,19 @@ impl Seat {
     pub fn stand(&mut self, standing: Standing)
         ensures { self.new ≡ record self.old { standing = standing } }
     {
-        self.kept = Process {
-            state: standing,
-            ..self.kept
-        };
+        self.kept.state = standing;
     }
 
     /// It goes on elsewhere.
+    #[inline(always)]
     pub fn go_to(&mut self, pc: u32)
         ensures { self.new ≡ record self.old { pc = pc } }
     {
-        self.kept = Process { pc, ..self.kept };
+        self.kept.pc = pc;
     }
 
     /// The answer to its call, in register 2.
+    #[inline(always)]
     pub fn answer(&mut self, value: u32)
         ensures { self.new ≡ record self.old {
           registers = record self.old.registers {
@@ -117,18 +143,16 @@ impl Seat {
     }
 
     /// It leaves the processor with these registers, and goes on at this address.
-    pub fn keep(&mut self, general: [u32; 32], hi: u32, lo: u32, pc: u32)
+    #[inline(always)]
+    pub fn keep(&mut self, general: &[u32; 32], hi: u32, lo: u32, pc: u32)
         ensures { self.new ≡ record self.old {
-          registers = record { general = general; hi = hi; lo = lo; late = None };
+          registers = record { general = general.now; hi = hi; lo = lo; late = None };
           pc = pc;
         } }
     {
-        self.kept = Process {
-            registers: general,
-            hi,
-            lo,
-            pc,
-            state: self.kept.state,
-        };
+        self.kept.registers = *general;
+        self.kept.hi = hi;
+        self.kept.lo = lo;
+        self.kept.pc = pc;
     }
 }

@@ -14,6 +14,7 @@ use ds_pagemap::Turn;
 
 impl Monitor {
     /// The process whose turn it is, if one is ready.
+    #[inline(always)]
     pub fn first_ready(&self) -> Option<u32>
         ensures { result ≡ first (kept_of self.now).state.ready }
     {
@@ -21,6 +22,7 @@ impl Monitor {
     }
 
     /// A turn of so many ticks is done, and its boundary is owed.
+    #[inline(always)]
     pub fn end_turn(&mut self, runner: Option<u32>, ticks: u64)
         requires early { self.old.time < 1000000000 }
         requires few { ticks ≤ 2 }

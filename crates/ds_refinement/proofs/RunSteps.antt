@@ -55,7 +55,7 @@ ready_goes [] n h m some running early = absurd (some refl)
 ready_goes (p ∷ rest) n h m some running early =
     going (is_some h.kept.state.owed) (nat_lt h.kept.state.time n) (is_over h.kept.state) (early_is h.kept.state.time n early) (not_over h.kept.state p running.kept)
 
-begins_goes : (n : ℕ) (h : Held) (m : State) → Stands h m → BeginsBefore n h → held_goes_on n h ≡ true
+pub begins_goes : (n : ℕ) (h : Held) (m : State) → Stands h m → BeginsBefore n h → held_goes_on n h ≡ true
 begins_goes n h m k (inl owed) = ap (λ (b : Bool). b || (nat_lt h.kept.state.time n && not (is_over h.kept.state))) owed
 begins_goes n h m k (inr ready) = ready_goes h.kept.state.ready n h m ready.0 k.running ready.1
 
