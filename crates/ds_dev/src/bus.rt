@@ -1,5 +1,5 @@
 //! Memory and devices at their physical addresses.
-ghost use Rattle.std.specs.Prelude.{◌≡◌, ◌%◌, ◌<◌, ◌≤◌, OnErr};
+ghost use Rattle.std.specs.Prelude.{◌≡◌, ◌%◌, ◌^◌, ◌<◌, ◌≤◌, OnErr};
 ghost use Rattle.std.specs.Borrow.{sem};
 ghost use Rattle.ds_isa.specs.Instruction.{instruction_of};
 ghost use Rattle.ds_word.specs.Bytes.{word_at};
@@ -94,7 +94,8 @@ impl Bus {
     pub fn asks(&self) -> bool
         ensures { result ≡ asks self.now }
     {
-        self.asks
+        let Bus { asks, .. } = self;
+        *asks
     }
 
     /// What is read at a physical address: in memory the byte, half or word, or for a part of a
@@ -154,7 +155,16 @@ impl Bus {
         requires { (1 ≤ ticks) × (ticks ≤ 2) }
         ensures { self.new ≡ after_ticks self.old ticks }
     {
-        self.clock.tick(ticks);
+        self.pass(u64::from(ticks));
+    }
+
+    /// Lets so many ticks pass.
+    #[inline(always)]
+    pub fn pass(&mut self, ticks: u64)
+        requires { ticks < 2 ^ 63 }
+        ensures { self.new ≡ after_ticks self.old ticks }
+    {
+        self.clock.pass(ticks);
         self.asks = devices_ask(&self.serial, &self.system, &self.clock);
     }
 

@@ -75,17 +75,18 @@ impl Clock {
         self.flagged && self.enabled
     }
 
-    /// Lets one tick pass, or two.
+    /// Lets so many ticks pass.
     #[inline(always)]
-    pub(crate) fn tick(&mut self, ticks: u32)
-        requires { (1 ≤ ticks) × (ticks ≤ 2) }
+    pub(crate) fn pass(&mut self, ticks: u64)
+        requires { ticks < 2 ^ 63 }
         ensures { self.new ≡ clock_after self.old ticks }
     {
-        let time = self.time + ticks;
-        if rings(self.rate, self.time, time) {
+        let before = u64::from(self.time);
+        let time = before + ticks;
+        if rings(self.rate, before, time) {
             self.flagged = true;
         }
-        self.time = time % 0x2_0000;
+        self.time = (time % 0x2_0000) as u32;
     }
 
     /// The rate, 0 to 15.
@@ -129,7 +130,7 @@ impl Clock {
 
 /// Whether a period of the rate ends between the one time and the other.
 #[inline(always)]
-fn rings(rate: u8, before: u32, after: u32) -> bool
+fn rings(rate: u8, before: u64, after: u64) -> bool
     requires rate { rate < 16 }
     ensures { result
         ≡ (nat_le 3 rate && nat_lt (before / 2 ^ (rate + 2)) (after / 2 ^ (rate + 2))) }

@@ -21,6 +21,7 @@ pub(crate) const USER_STATUS: u32 = 0xc03;
 pub(crate) const ONE_SPACE: u32 = 0x40;
 
 /// Empties the buffer: slot i holds page 80000 + i (hexadecimal), which needs no translation.
+#[inline(never)]
 fn flush<L: Lookaside>(tlb: &mut L)
     ensures entries { L.entries tlb.new ≡ empty_entries L.SLOTS }
     ensures random { L.random_place tlb.new ≡ L.random_place tlb.old }
@@ -58,6 +59,7 @@ impl<L: Lookaside> Parts<L> {
     }
 
     /// The process that runs leaves the processor for its seat. A late load is finished.
+    #[inline(always)]
     pub fn leave(&mut self, process: u32)
         requires above { 0 < process }
         requires within { process ≤ length self.old.monitor.seats.items }
@@ -83,6 +85,7 @@ impl<L: Lookaside> Parts<L> {
     }
 
     /// The process has the one address space. What the buffer had for another is gone.
+    #[inline(always)]
     fn claim_space(&mut self, process: u32)
         ensures owner { self.new.monitor ≡ record self.old.monitor { owner = process } }
         ensures buffer { BufferHolds self.old.core.entries (space_of (kept_of self.old.monitor))
@@ -101,6 +104,7 @@ impl<L: Lookaside> Parts<L> {
     }
 
     /// The process comes on the processor, touched, at the beginning of its unit.
+    #[inline(always)]
     fn put_on(&mut self, process: u32)
         requires above { 0 < process }
         requires within { process ≤ length self.old.monitor.seats.items }
@@ -127,6 +131,7 @@ impl<L: Lookaside> Parts<L> {
     }
 
     /// The first of those that are ready comes on the processor; where nobody is ready, it rests.
+    #[inline(always)]
     pub fn enter(&mut self)
         requires ready { All (IsReady (kept_of self.old.monitor).state) self.old.monitor.ready }
         requires registers { (p : ℕ)

@@ -40,6 +40,7 @@ impl<L: Lookaside> Parts<L> {
     }
 
     /// What the buffer did not let go: it is refilled by the table, or the unit ends in a denial.
+    #[inline(never)]
     fn miss(&mut self, process: u32, access: Access) -> Step
         requires busy { IsBusy process self.old }
         requires kernel { is_user self.old.core.system ≡ false }
@@ -63,6 +64,7 @@ impl<L: Lookaside> Parts<L> {
     }
 
     /// The unit ends in a fault of its instruction.
+    #[inline(never)]
     fn fault(&mut self, process: u32, code: u8) -> Step
         requires busy { IsBusy process self.old }
         requires kernel { is_user self.old.core.system ≡ false }
@@ -76,6 +78,7 @@ impl<L: Lookaside> Parts<L> {
     }
 
     /// The unit ends in the fault of a call in the slot of a branch.
+    #[inline(never)]
     fn call_in_slot(&mut self, process: u32) -> Step
         requires busy { IsBusy process self.old }
         requires kernel { is_user self.old.core.system ≡ false }
@@ -90,6 +93,7 @@ impl<L: Lookaside> Parts<L> {
     }
 
     /// The unit is a call.
+    #[inline(always)]
     fn call_outside_slot(&mut self, process: u32) -> Step
         requires busy { IsBusy process self.old }
         requires kernel { is_user self.old.core.system ≡ false }

@@ -53,6 +53,7 @@ impl<L: Lookaside> Parts<L> {
     }
 
     /// Who is first comes in, with nothing spent.
+    #[inline(always)]
     fn end_unit(&mut self)
         requires lawful { IsLawful (whole (kept_of self.old.monitor) [] []) }
         ensures enters { EntersBy self.new.monitor.ready self.new.core (kept_of self.new.monitor) }
@@ -77,6 +78,7 @@ impl<L: Lookaside> Parts<L> {
 
     /// The unit ends in a denial or a fault of its instruction: the process is parked where its unit
     /// began, and the log tells why.
+    #[inline(never)]
     pub fn stop(&mut self, process: u32, kind: Denied, address: u32, rule: Rule, code: u32) -> Step
         requires busy { IsBusy process self.old }
         requires rule { IsShortRule rule }
@@ -98,6 +100,7 @@ impl<L: Lookaside> Parts<L> {
     }
 
     /// Serves the call of the process in its seat, which stood at an address.
+    #[inline(always)]
     fn serve_call(&mut self, process: u32, unit: u32)
         requires above { 0 < process }
         requires within { process ≤ length self.old.monitor.seats.items }
@@ -130,6 +133,7 @@ impl<L: Lookaside> Parts<L> {
     }
 
     /// The unit is a call, and is done: the process goes on behind it.
+    #[inline(always)]
     pub fn call(&mut self, process: u32) -> Step
         requires busy { IsBusy process self.old }
         ensures step { result ≡ Step.Unit }

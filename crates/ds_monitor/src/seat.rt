@@ -49,7 +49,8 @@ impl Seat {
     pub fn standing(&self) -> Standing
         ensures { result ≡ self.now.standing }
     {
-        self.kept.state
+        let process = &self.kept;
+        process.state
     }
 
     /// The line of its console.
@@ -65,7 +66,8 @@ impl Seat {
     pub fn pc(&self) -> u32
         ensures { result ≡ self.now.pc }
     {
-        self.kept.pc
+        let process = &self.kept;
+        process.pc
     }
 
     /// Its general registers.
@@ -81,7 +83,8 @@ impl Seat {
     pub fn hi(&self) -> u32
         ensures { result ≡ self.now.registers.hi }
     {
-        self.kept.hi
+        let process = &self.kept;
+        process.hi
     }
 
     /// Its LO.
@@ -89,7 +92,8 @@ impl Seat {
     pub fn lo(&self) -> u32
         ensures { result ≡ self.now.registers.lo }
     {
-        self.kept.lo
+        let process = &self.kept;
+        process.lo
     }
 
     /// Its general registers, HI and LO.
@@ -124,10 +128,10 @@ impl Seat {
 
     /// It goes on elsewhere.
     #[inline(always)]
-    pub fn go_to(&mut self, pc: u32)
-        ensures { self.new ≡ record self.old { pc = pc } }
+    pub fn go_to(&mut self, address: u32)
+        ensures { self.new ≡ record self.old { pc = address } }
     {
-        self.kept.pc = pc;
+        self.kept.pc = address;
     }
 
     /// The answer to its call, in register 2.
