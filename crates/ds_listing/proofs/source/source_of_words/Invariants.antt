@@ -1,0 +1,7 @@
+use Rattle.std.proofs.Common.{◌≡◌, take}
+use Rattle.std.specs.String.{string_bytes}
+use Rattle.ds_listing.specs.Texts.{source_of}
+use Rattle.ds_listing.proofs.source.source_of_words.Given as goal
+
+abbrev pub invariant-loop-word : goal.invariant-loop-word
+invariant-loop-word l = string_bytes l.text ≡ source_of (take l.word-index l.words)

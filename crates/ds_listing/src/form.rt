@@ -1,0 +1,69 @@
+//! How the instructions of the table are written.
+ghost use Rattle.std.specs.Prelude.{◌≡◌, option_map};
+ghost use Rattle.ds_isa.specs.Encoding.{entry};
+ghost use Rattle.ds_listing.specs.Plain.{plain_form};
+ghost use Rattle.ds_listing.specs.Texts.{form_in, form_of};
+
+use crate::operand::Operand;
+use ds_isa::{Instr, decode, instruction_table};
+
+/// How an instruction is written.
+#[derive(Clone, Copy)]
+pub(crate) struct Form {
+    pub(crate) name: &'static str,
+    pub(crate) operands: &'static [Operand],
+}
+
+/// An operand, by the word for it in the table of instructions.
+macro_rules! operand {
+    (rs) => { Operand::Rs };
+    (rt) => { Operand::Rt };
+    (rd) => { Operand::Rd };
+    (link) => { Operand::Link };
+    (system) => { Operand::System };
+    (shamt) => { Operand::Shamt };
+    (unsigned) => { Operand::Unsigned };
+    (code) => { Operand::Code };
+    (signed) => { Operand::Signed };
+    (label) => { Operand::Branch };
+    (jump) => { Operand::Jump };
+    (indexed) => { Operand::Indexed };
+}
+
+macro_rules! form {
+    ($name:literal [$($operand:ident)*]) => {
+        Some(Form { name: $name, operands: &[$(operand!($operand)),*] })
+    };
+}
+
+macro_rules! form_rows {
+    ($instr:ident
+     special { $($funct:literal $special:ident $field:tt zero $zero:tt $(given $condition:tt)? uses $uses:tt written { $($text:tt)* };)* }
+     regimm { $($sign:literal $regimm:ident $place:tt zero $none:tt $(given $need:tt)? uses $using:tt written { $($line:tt)* };)* }
+     major { $($op:literal $major:ident $part:tt zero $nought:tt uses $used:tt written { $($form:tt)* };)* }
+     transfer { $($way:literal $transfer:ident $end:tt zero $nil:tt uses $using_these:tt written { $($words:tt)* };)* }
+     operation { $($number:literal $operation:ident [] zero [] uses $using_none:tt written { $($name:tt)* };)* }) => {
+        match *$instr {
+            $(Instr::$special { .. } => form!($($text)*),)*
+            $(Instr::$regimm { .. } => form!($($line)*),)*
+            $(Instr::$major { .. } => form!($($form)*),)*
+            $(Instr::$transfer { .. } => form!($($words)*),)*
+            $(Instr::$operation => form!($($name)*),)*
+            Instr::Cop { .. } => None,
+            Instr::Reserved(_) => None,
+        }
+    };
+}
+
+fn form_of_instruction(instr: &Instr) -> Option<Form>
+    ensures { option_map plain_form result ≡ form_in (entry instr.now) }
+{
+    instruction_table!(form_rows instr)
+}
+
+/// The form of a word, if it is an instruction of the table.
+pub(crate) fn form_of(word: u32) -> Option<Form>
+    ensures { option_map plain_form result ≡ form_of word }
+{
+    form_of_instruction(&decode(word))
+}

@@ -1,0 +1,57 @@
+//! The line of a word.
+ghost use Rattle.std.specs.Prelude.{◌≡◌, ◌++◌, OnOk};
+ghost use Rattle.std.specs.String.{string_bytes};
+ghost use Rattle.ds_isa.specs.Fields.{in_word};
+ghost use Rattle.ds_listing.specs.Plain.{plain_form};
+ghost use Rattle.ds_listing.specs.Texts.{instruction_text, word_text, form_text, text_of};
+
+use crate::digits::push_hex;
+use crate::form::{Form, form_of};
+use crate::operand::{has_label, is_left_out, push_operands};
+use std::alloc::AllocError;
+
+/// Adds the text of a word: its instruction as the assembler reads it, or its number behind `.word`
+/// where it has none. A branch or a jump is its number too, with the instruction in a comment, since
+/// the word alone has no label.
+#[tactic(auto, unfolding(crate::specs::Texts::text_of))]
+pub fn push_word(text: &mut String, word: u32) -> Result<(), AllocError>
+    ensures { OnOk result (string_bytes text.new ≡ string_bytes text.old ++ text_of word) }
+{
+    if word == 0 {
+        return text.push_str("nop");
+    }
+    match form_of(word) {
+        Some(form) => push_form(text, &form, word),
+        None => push_number(text, word),
+    }
+}
+
+fn push_form(text: &mut String, form: &Form, word: u32) -> Result<(), AllocError>
+    ensures { OnOk result (string_bytes text.new
+        ≡ string_bytes text.old ++ form_text word (plain_form form.now)) }
+{
+    if has_label(form.operands) {
+        push_number(text, word)?;
+        text.push_str(" # ")?;
+    }
+    push_instruction(text, form, word)
+}
+
+fn push_number(text: &mut String, word: u32) -> Result<(), AllocError>
+    ensures { OnOk result (string_bytes text.new ≡ string_bytes text.old ++ word_text word) }
+{
+    text.push_str(".word 0x")?;
+    push_hex(text, word)
+}
+
+fn push_instruction(text: &mut String, form: &Form, word: u32) -> Result<(), AllocError>
+    ensures { OnOk result (string_bytes text.new
+        ≡ string_bytes text.old ++ instruction_text (in_word word) (plain_form form.now)) }
+{
+    text.push_str(form.name)?;
+    if is_left_out(form.operands, word) {
+        Ok(())
+    } else {
+        push_operands(text, form.operands, word)
+    }
+}
