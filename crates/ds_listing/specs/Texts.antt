@@ -43,7 +43,7 @@ operand_text at (Code f) = decimal (at f)
 operand_text at (Signed f) = signed_text (at f)
 operand_text at (Branch f) = distance_text ((at f + 1) % 65536)
 operand_text at (Jump f) = codes "0x" ++ hex8 (4 * at f)
-operand_text at (Indexed base offset) = signed_text (at offset) ++ 40 ∷ register_text (at base) ++ 41 ∷ []
+operand_text at (Indexed base offset) = signed_text (at offset) ++ (40 ∷ register_text (at base) ++ 41 ∷ [])
 
 -- operands, each behind a comma
 abbrev pub others_text : (Field → ℕ) → List Operand → List ℕ
@@ -84,7 +84,7 @@ has_label os = list_any is_label os
 
 -- an instruction; where it goes to a label its word, with the instruction as a comment
 abbrev pub form_text : ℕ → Form → List ℕ
-form_text w f = if has_label f.operands then word_text w ++ codes " # " ++ instruction_text (in_word w) f else instruction_text (in_word w) f
+form_text w f = if has_label f.operands then word_text w ++ (codes " # " ++ instruction_text (in_word w) f) else instruction_text (in_word w) f
 
 -- the form of an entry of the table, if it is a row
 abbrev pub form_in : Entry → Option Form

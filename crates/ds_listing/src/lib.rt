@@ -3,9 +3,11 @@
 
 mod digits;
 mod form;
+mod law;
 mod line;
 mod operand;
 mod source;
 
+pub use law::a_word_assembles_to_itself;
 pub use line::push_word;
 pub use source::source_of_words;

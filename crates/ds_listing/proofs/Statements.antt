@@ -1,0 +1,163 @@
+-- The text of a word is a line that says the word.
+use Rattle.std.proofs.Common.{◌≡◌, ◌∙◌, ap, sym, subst, refl, inl, inr, ℕ, ◌+◌, ◌-◌, ◌*◌, ◌/◌, ◌%◌, ◌^◌, ◌<◌, ◌≤◌, Bool, true, false, not, ◌&&◌, ◌||◌, ◌==◌, nat_le, nat_lt, bytes_eq, List, [], ◌∷◌, ◌++◌, length, length-append, take, drop, map, decimal, Option, Some, None, option_map, Result, Ok, if◌then◌else◌, arith, append-nil, append_assoc}
+use Rattle.std.specs.Prelude.{codes}
+use Rattle.std.specs.List.{list_all, flat_map, prefix_len, suffix_len, position_or_len}
+use Rattle.std.proofs.lemmas.Bool.{cases_Bool, and_parts, and_from, eqb-true, eq-eqb, le-leb, not-true, cond-false}
+use Rattle.std.proofs.lemmas.Fmt.{decimal_nonempty}
+use Rattle.std.proofs.Math.Seq.{take-append_seam, drop-append_seam, take-length, drop-length}
+use Rattle.ds_word.specs.Word.{word}
+use Rattle.ds_word.specs.Bytes.{bytes_of_word}
+use Rattle.ds_word.specs.OptionBinding.{◌>>=◌}
+use Rattle.ds_isa.specs.Fields.{Field, Operand, Register, LinkRegister, SystemRegister, Number, Code, Signed, Branch, Jump, Indexed, places, filled}
+use Rattle.ds_asm.specs.declared.fault.SourceFault.{SourceFault}
+use Rattle.ds_asm.specs.Characters.{is_blank, without_front_blanks}
+use Rattle.ds_asm.specs.Numbers.{number_of, is_within, as_word}
+use Rattle.ds_asm.specs.Forms.{form_named}
+use Rattle.ds_asm.specs.Operands.{Instruction, bare, with_operands}
+use Rattle.ds_asm.specs.Lines.{Statement, Encoded, WordNumber, Line, mnemonic_of, behind_mnemonic, unless_empty, number_word, instruction_named, statement_named, statement_of, line_of}
+use Rattle.ds_asm.specs.Assembly.{is_reserved_word, size_of, is_in_range, is_aligned, statement_bytes}
+use Rattle.ds_listing.specs.Texts.{Form, hex4, hex8, signed_text, unsigned_text, operand_text, others_text, operands_text, is_left_out, instruction_text, word_text}
+use Rattle.ds_listing.specs.Laws.{alone, IsWord, Says}
+use Rattle.ds_listing.proofs.Numbers.{below, hex8_all}
+use Rattle.ds_listing.proofs.Parts.{all_weaker, all_both, is_other, stops, passes, no_back_blanks, IsBody, body_line, commented_line}
+use Rattle.ds_listing.proofs.Values.{number_word as number_word_read}
+use Rattle.ds_listing.proofs.Operands.{is_clear, added, Fit, AreWords, is_plain, are_plain, clear_dense, operand_clear, operands_taken, added_sum}
+
+-- a character that ends no statement and no line, and is no blank
+abbrev pub is_inside : ℕ → Bool
+is_inside c = not (is_blank c) && (is_other 10 c && (is_other 35 c && is_other 58 c))
+
+pub clear_inside : (c : ℕ) → is_clear c ≡ true → is_inside c ≡ true
+clear_inside c h =
+    let (a, b) = and_parts (not (is_blank c)) _ h in
+    let (a2, b2) = and_parts (is_other 10 c) _ b in
+    let (a3, b3) = and_parts (is_other 35 c) _ b2 in
+    let (a4, b4) = and_parts (is_other 58 c) _ b3 in
+    and_from _ _ a (and_from _ _ a2 (and_from _ _ a3 a4))
+
+pub inside_line : (c : ℕ) → is_inside c ≡ true → is_other 10 c ≡ true
+inside_line c h =
+    let (a, b) = and_parts (not (is_blank c)) _ h in
+    let (a2, b2) = and_parts (is_other 10 c) _ b in a2
+
+inside_comment : (c : ℕ) → is_inside c ≡ true → is_other 35 c ≡ true
+inside_comment c h =
+    let (a, b) = and_parts (not (is_blank c)) _ h in
+    let (a2, b2) = and_parts (is_other 10 c) _ b in
+    let (a3, b3) = and_parts (is_other 35 c) _ b2 in a3
+
+inside_label : (c : ℕ) → is_inside c ≡ true → is_other 58 c ≡ true
+inside_label c h =
+    let (a, b) = and_parts (not (is_blank c)) _ h in
+    let (a2, b2) = and_parts (is_other 10 c) _ b in
+    let (a3, b3) = and_parts (is_other 35 c) _ b2 in b3
+
+inside_dense : (c : ℕ) → is_inside c ≡ true → not (is_blank c) ≡ true
+inside_dense c h = let (a, b) = and_parts (not (is_blank c)) _ h in a
+
+-- the first of such characters is no blank
+inside_front : (c : ℕ) (cs : List ℕ) → list_all is_inside (c ∷ cs) ≡ true → is_blank c ≡ false
+inside_front c cs h =
+    let (a, b) = and_parts (is_inside c) (list_all is_inside cs) h in
+    not-true (is_blank c) (inside_dense c a)
+
+-- a name and what stands behind it are a body
+pub name_body : (c : ℕ) (cs : List ℕ) → list_all is_inside (c ∷ cs) ≡ true → IsBody (c ∷ cs)
+name_body c cs h =
+    let dense = all_weaker is_inside (λ b. not (is_blank b)) inside_dense (c ∷ cs) h in
+    record {
+      first = c;
+      others = cs;
+      whole = refl;
+      front = inside_front c cs h;
+      back = no_back_blanks [] c cs dense;
+      no_comment = all_weaker is_inside (is_other 35) inside_comment (c ∷ cs) h;
+      no_label = all_weaker is_inside (is_other 58) inside_label (c ∷ cs) h;
+    }
+
+pub operands_body : (c : ℕ) (cs : List ℕ) (y : ℕ) (ys : List ℕ) → list_all is_inside (c ∷ cs) ≡ true → list_all is_inside (y ∷ ys) ≡ true → IsBody (c ∷ cs ++ 32 ∷ y ∷ ys)
+operands_body c cs y ys h k =
+    let name = name_body c cs h in
+    let behind = name_body y ys k in
+    let dense = all_weaker is_inside (λ b. not (is_blank b)) inside_dense (y ∷ ys) k in
+    record {
+      first = c;
+      others = cs ++ 32 ∷ y ∷ ys;
+      whole = refl;
+      front = inside_front c cs h;
+      back = ap (suffix_len is_blank) (sym (append_assoc (c ∷ cs) (32 ∷ []) (y ∷ ys))) ∙ no_back_blanks (c ∷ cs ++ 32 ∷ []) y ys dense;
+      no_comment = all_both (is_other 35) (c ∷ cs) (32 ∷ y ∷ ys) name.no_comment behind.no_comment;
+      no_label = all_both (is_other 58) (c ∷ cs) (32 ∷ y ∷ ys) name.no_label behind.no_label;
+    }
+
+-- the mnemonic of such bodies, and what stands behind it
+pub statement_alone : (name : List ℕ) → list_all is_inside name ≡ true → statement_of name ≡ statement_named name None
+statement_alone name h =
+    let dense = all_weaker is_inside (λ b. not (is_blank b)) inside_dense name h in
+    let end = passes (λ b. not (is_blank b)) name dense in
+    ap (λ (n : ℕ). statement_named (take n name) (unless_empty (without_front_blanks (drop n name)))) end
+    ∙ (ap (λ t. statement_named t (unless_empty (without_front_blanks (drop (length name) name)))) (take-length name)
+    ∙ ap (λ t. statement_named name (unless_empty (without_front_blanks t))) (drop-length name))
+
+pub statement_with : (name : List ℕ) (y : ℕ) (ys : List ℕ) → list_all is_inside name ≡ true → list_all is_inside (y ∷ ys) ≡ true → statement_of (name ++ 32 ∷ y ∷ ys) ≡ statement_named name (Some (y ∷ ys))
+statement_with name y ys h k =
+    let dense = all_weaker is_inside (λ b. not (is_blank b)) inside_dense name h in
+    let text = name ++ 32 ∷ y ∷ ys in
+    let end = stops (λ b. not (is_blank b)) name (y ∷ ys) 32 dense refl in
+    let front = inside_front y ys k in
+    let left : unless_empty (without_front_blanks (32 ∷ y ∷ ys)) ≡ Some (y ∷ ys) = rw front refl in
+    ap (λ (n : ℕ). statement_named (take n text) (unless_empty (without_front_blanks (drop n text)))) end
+    ∙ (ap (λ t. statement_named t (unless_empty (without_front_blanks (drop (length name) text)))) (take-append_seam name (32 ∷ y ∷ ys))
+    ∙ (ap (λ t. statement_named name (unless_empty (without_front_blanks t))) (drop-append_seam name (32 ∷ y ∷ ys))
+    ∙ ap (statement_named name) left))
+
+-- a name of an instruction, and of no directive
+abbrev pub is_mnemonic : List ℕ → Bool
+is_mnemonic [] = false
+is_mnemonic (c ∷ cs) =
+    list_all is_clear (c ∷ cs)
+    && (not (bytes_eq (c ∷ cs) (codes ".word")) && (not (bytes_eq (c ∷ cs) (codes ".byte")) && not (bytes_eq (c ∷ cs) (codes ".space"))))
+
+pub named_statement : (c : ℕ) (cs : List ℕ) (left : Option (List ℕ)) → is_mnemonic (c ∷ cs) ≡ true → statement_named (c ∷ cs) left ≡ option_map (λ i. Encoded i) (instruction_named (c ∷ cs) left)
+unfolding statement_named
+named_statement c cs left h =
+    let (a, b) = and_parts (list_all is_clear (c ∷ cs)) _ h in
+    let (w, b2) = and_parts (not (bytes_eq (c ∷ cs) (codes ".word"))) _ b in
+    let (y, s) = and_parts (not (bytes_eq (c ∷ cs) (codes ".byte"))) _ b2 in
+    cond-false _ _ _ (not-true _ w) ∙ (cond-false _ _ _ (not-true _ y) ∙ cond-false _ _ _ (not-true _ s))
+
+-- a word in a field of its own
+pub encoded_word : (w : ℕ) → is_reserved_word w ≡ false → IsWord (Encoded (bare w)) w
+encoded_word w h = record {
+  size = refl;
+  in_range = ap not h;
+  aligned = λ at e. eq-eqb (at % 4) 0 e;
+  bytes = λ n find at. refl;
+}
+
+number_is_word : (w : ℕ) → w < 2 ^ 32 → IsWord (WordNumber (record { negative = false; magnitude = w })) w
+number_is_word w l = record {
+  size = refl;
+  in_range = le-leb w 4294967295 (omega arith);
+  aligned = λ at e. eq-eqb (at % 4) 0 e;
+  bytes = λ n find at. ap (λ (v : ℕ). Ok (bytes_of_word v)) (omega arith);
+}
+
+-- a word by its number
+hex8_inside : (w : ℕ) → list_all is_inside (codes "0x" ++ hex8 w) ≡ true
+hex8_inside w = all_both is_inside (codes "0x") (hex8 w) refl (hex8_all is_inside refl w)
+
+pub word_body : (w : ℕ) → IsBody (word_text w)
+word_body w = operands_body 46 (codes "word") 48 (120 ∷ hex8 w) refl (hex8_inside w)
+
+word_statement : (w : ℕ) → w < 2 ^ 32 → statement_of (word_text w) ≡ Some (WordNumber (record { negative = false; magnitude = w }))
+unfolding statement_named
+word_statement w l =
+    statement_with (codes ".word") 48 (120 ∷ hex8 w) refl (hex8_inside w)
+    ∙ ap (λ n. number_word n (codes "0x" ++ hex8 w)) (number_word_read w (omega arith))
+
+pub word_says : (w : ℕ) → w < 2 ^ 32 → Says (line_of (word_text w)) w
+word_says w l = record { statement = _; is = body_line (word_text w) (word_body w) ∙ ap alone (word_statement w l); word = number_is_word w l }
+
+pub commented_says : (w : ℕ) (comment : List ℕ) → w < 2 ^ 32 → Says (line_of (word_text w ++ 32 ∷ 35 ∷ comment)) w
+commented_says w comment l = record { statement = _; is = commented_line (word_text w) comment (word_body w) ∙ ap alone (word_statement w l); word = number_is_word w l }

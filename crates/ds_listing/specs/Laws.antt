@@ -1,0 +1,22 @@
+-- What it is that a line says a word.
+use Rattle.std.specs.Prelude.{◌≡◌, ℕ, ◌%◌, true, List, Option, Some, None, option_map, Ok}
+use Rattle.ds_word.specs.Bytes.{bytes_of_word}
+use Rattle.ds_asm.specs.Lines.{Statement, Line}
+use Rattle.ds_asm.specs.Assembly.{size_of, is_in_range, is_aligned, statement_bytes}
+
+-- a line of a statement alone
+abbrev pub alone : Option Statement → Option Line
+alone s = option_map (λ s. record { label = None; statement = s }) (option_map (λ s. Some s) s)
+
+-- a statement that has the bytes of a word wherever a word may stand, whatever the labels are
+pub record IsWord (s : Statement) (w : ℕ) : Type 0 where
+  pub size : size_of s ≡ 4
+  pub in_range : is_in_range s ≡ true
+  pub aligned : (at : ℕ) → at % 4 ≡ 0 → is_aligned at s ≡ true
+  pub bytes : (n : ℕ) (find : List ℕ → Option ℕ) (at : ℕ) → statement_bytes n find at s ≡ Ok (bytes_of_word w)
+
+-- a line of such a statement, and of no label
+pub record Says (line : Option Line) (w : ℕ) : Type 0 where
+  pub statement : Statement
+  pub is : line ≡ alone (Some statement)
+  pub word : IsWord statement w
