@@ -6,3 +6,4 @@ pub mod Values
 pub mod Operands
 pub mod Statements
 pub mod Rows
+pub mod Table

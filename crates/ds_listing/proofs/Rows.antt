@@ -52,7 +52,7 @@ pub operands_inside : (o : Operand) (os : List Operand) (at : Field → ℕ) →
 operands_inside o os at fit = all_both is_inside (operand_text at o) (others_text at os) (operand_inside o at fit) (others_inside os at fit)
 
 -- a row's word without values
-filled_none : (fs : List Field) → filled fs [] ≡ 0
+pub filled_none : (fs : List Field) → filled fs [] ≡ 0
 filled_none [] = refl
 filled_none (f ∷ fs) = refl
 

@@ -1,8 +1,10 @@
 -- What it is that a line says a word.
-use Rattle.std.specs.Prelude.{◌≡◌, ℕ, ◌%◌, true, List, Option, Some, None, option_map, Ok}
+use Rattle.std.specs.Prelude.{◌≡◌, ℕ, ◌%◌, true, not, ◌==◌, List, [], ◌∷◌, Option, Some, None, option_map, Ok, ⊤}
+use Rattle.std.specs.List.{list_all}
 use Rattle.ds_word.specs.Bytes.{bytes_of_word}
-use Rattle.ds_asm.specs.Lines.{Statement, Line}
+use Rattle.ds_asm.specs.Lines.{Statement, Line, line_of}
 use Rattle.ds_asm.specs.Assembly.{size_of, is_in_range, is_aligned, statement_bytes}
+use Rattle.ds_listing.specs.Texts.{text_of}
 
 -- a line of a statement alone
 abbrev pub alone : Option Statement → Option Line
@@ -20,3 +22,13 @@ pub record Says (line : Option Line) (w : ℕ) : Type 0 where
   pub statement : Statement
   pub is : line ≡ alone (Some statement)
   pub word : IsWord statement w
+
+-- a text of one line that says a word
+pub record IsLineOf (text : List ℕ) (w : ℕ) : Type 0 where
+  pub one_line : list_all (λ c. not (c == 10)) text ≡ true
+  pub says : Says (line_of text) w
+
+-- the text of each word is such a line
+abbrev pub EachIsRead : List ℕ → Type 0
+EachIsRead [] = ⊤
+EachIsRead (w ∷ ws) = IsLineOf (text_of w) w × EachIsRead ws

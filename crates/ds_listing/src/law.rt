@@ -1,10 +1,13 @@
-//! That texts of words assemble to the words.
-ghost use Rattle.std.specs.Prelude.{◌≡◌, Ok};
-ghost use Rattle.ds_word.specs.Bytes.{bytes_of_word};
-ghost use Rattle.ds_asm.specs.Assembly.{assembled};
+//! That texts of words say the words.
+ghost use Rattle.ds_listing.specs.Laws.{IsLineOf};
 ghost use Rattle.ds_listing.specs.Texts.{text_of};
 
-/// The law that the text of a word, as a source of its own, assembles to the word.
-pub fn a_word_assembles_to_itself(word: u32)
-    ensures { assembled (text_of word) ≡ Ok (bytes_of_word word) }
-{}
+use ds_isa::round_trip;
+
+/// The law that the text of a word is one line, which has no label and says the bytes of the word
+/// wherever a word may stand in a source.
+pub fn a_word_is_read_back(word: u32)
+    ensures { IsLineOf (text_of word) word }
+{
+    round_trip(word);
+}

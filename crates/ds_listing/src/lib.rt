@@ -8,6 +8,6 @@ mod line;
 mod operand;
 mod source;
 
-pub use law::a_word_assembles_to_itself;
+pub use law::a_word_is_read_back;
 pub use line::push_word;
 pub use source::source_of_words;
