@@ -1,5 +1,5 @@
 -- The form of an instruction's entry is that of the row that its word fits.
-use Rattle.std.proofs.Common.{◌≡◌, ◌∙◌, ap, sym, ℕ, Bool, true, false, List, [], ◌∷◌, Option, Some, None, refl}
+use Rattle.std.proofs.Common.{◌≡◌, ◌∙◌, ap, ℕ, Bool, true, false, List, [], ◌∷◌, Option, None, refl}
 use Rattle.std.specs.Prelude.{if◌then◌else◌}
 use Rattle.ds_word.specs.Word.{bits}
 use Rattle.ds_isa.specs.declared.instr.Instr.{Instr}

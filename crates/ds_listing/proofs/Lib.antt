@@ -7,3 +7,4 @@ pub mod Operands
 pub mod Statements
 pub mod Rows
 pub mod Table
+pub mod Sources

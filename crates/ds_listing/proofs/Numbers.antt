@@ -1,5 +1,5 @@
 -- Numbers as they are written: what digits say.
-use Rattle.std.proofs.Common.{◌≡◌, ◌∙◌, ap, sym, refl, ℕ, zero, suc, ◌+◌, ◌-◌, ◌*◌, ◌/◌, ◌%◌, ◌^◌, ◌<◌, ◌≤◌, Bool, true, false, ◌&&◌, nat_le, List, [], ◌∷◌, ◌++◌, length, decimal, Option, Some, None, option_and_then, if◌then◌else◌, arith, ◌==◌, inl, inr, append-nil}
+use Rattle.std.proofs.Common.{◌≡◌, ◌∙◌, ap, sym, refl, ℕ, zero, suc, ◌+◌, ◌*◌, ◌/◌, ◌%◌, ◌^◌, ◌<◌, ◌≤◌, Bool, true, false, ◌&&◌, nat_le, List, [], ◌∷◌, ◌++◌, decimal, Option, Some, None, option_and_then, if◌then◌else◌, arith, ◌==◌, inl, inr, append-nil}
 use Rattle.std.specs.List.{list_all}
 use Rattle.std.proofs.lemmas.Bool.{le-leb, and_parts, and_from, eqb-true, cases_order}
 use Rattle.std.proofs.lemmas.Fmt.{decimal_by_steps}
@@ -70,10 +70,10 @@ pub decimal_read : (limit n : ℕ) → n < 2 ^ 64 → n ≤ limit → digits_fro
 decimal_read limit n small within = decimal_by_steps (λ m ds. m ≤ limit → digits_from 10 limit 0 ds ≡ Some m)
     (λ m l h. digit_read 10 limit 0 (48 + m) m [] (decimal_digit_of m l) (omega arith) ∙ digits_end 10 limit (0 * 10 + m) ∙ ap (λ (k : ℕ). Some k) (omega arith))
     (λ m ds l ih h.
-      digit_behind 10 limit 0 ds (48 + m % 10)
-      ∙ ap (option_and_then (λ k. digits_from 10 limit k ((48 + m % 10) ∷ []))) (ih (omega arith))
-      ∙ digit_read 10 limit (m / 10) (48 + m % 10) (m % 10) [] (decimal_digit_of (m % 10) (omega arith)) (omega arith)
-      ∙ digits_end 10 limit (m / 10 * 10 + m % 10) ∙ ap (λ (k : ℕ). Some k) (omega arith))
+    digit_behind 10 limit 0 ds (48 + m % 10)
+    ∙ ap (option_and_then (λ k. digits_from 10 limit k ((48 + m % 10) ∷ []))) (ih (omega arith))
+    ∙ digit_read 10 limit (m / 10) (48 + m % 10) (m % 10) [] (decimal_digit_of (m % 10) (omega arith)) (omega arith)
+    ∙ digits_end 10 limit (m / 10 * 10 + m % 10) ∙ ap (λ (k : ℕ). Some k) (omega arith))
     n small within
 
 -- decimal digits pass a test that each of the ten passes
@@ -81,7 +81,7 @@ pub decimal_all : (p : ℕ → Bool) → below (λ d. p (48 + d)) 10 ≡ true �
 decimal_all p each = decimal_by_steps (λ m ds. list_all p ds ≡ true)
     (λ m l. and_from (p (48 + m)) true (below_at (λ d. p (48 + d)) 10 m each l) refl)
     (λ m ds l h. list_all-append p ds ((48 + m % 10) ∷ []) ∙ and_from (list_all p ds) (p (48 + m % 10) && true) h
-      (and_from (p (48 + m % 10)) true (below_at (λ d. p (48 + d)) 10 (m % 10) each (omega arith)) refl))
+    (and_from (p (48 + m % 10)) true (below_at (λ d. p (48 + d)) 10 (m % 10) each (omega arith)) refl))
 
 -- and hexadecimal ones a test that each of the sixteen passes
 pub hex4_all : (p : ℕ → Bool) → below (λ d. p (hex_digit d)) 16 ≡ true → (n : ℕ) → list_all p (hex4 n) ≡ true

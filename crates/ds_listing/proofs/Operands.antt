@@ -1,5 +1,5 @@
 -- The operands of an instruction are read back into their fields.
-use Rattle.std.proofs.Common.{◌≡◌, ◌∙◌, ap, sym, subst, refl, inl, inr, ℕ, ◌+◌, ◌-◌, ◌*◌, ◌/◌, ◌%◌, ◌^◌, ◌<◌, ◌≤◌, Bool, true, false, not, ◌&&◌, ◌||◌, ◌==◌, nat_le, List, [], ◌∷◌, ◌++◌, length, length-append, take, map, decimal, Option, Some, None, option_map, if◌then◌else◌, arith, append-nil, append_assoc, get_or}
+use Rattle.std.proofs.Common.{◌≡◌, ◌∙◌, ap, sym, subst, refl, inl, inr, ℕ, ◌+◌, ◌-◌, ◌*◌, ◌%◌, ◌^◌, ◌<◌, Bool, true, false, not, ◌&&◌, ◌||◌, ◌==◌, nat_le, List, [], ◌∷◌, ◌++◌, length, length-append, map, decimal, Option, Some, None, option_map, if◌then◌else◌, arith, append-nil}
 use Rattle.std.specs.Prelude.{codes}
 use Rattle.std.specs.List.{list_all, flat_map}
 use Rattle.std.proofs.lemmas.Bool.{cases_Bool, and_parts, and_left, and_right, eqb-true, or_cases, not-true}
@@ -8,11 +8,11 @@ use Rattle.ds_word.specs.Word.{word}
 use Rattle.ds_word.specs.OptionBinding.{◌>>=◌}
 use Rattle.ds_isa.specs.Fields.{Field, rd, Operand, Register, LinkRegister, SystemRegister, Number, Code, Signed, Branch, Jump, Indexed, places, filled}
 use Rattle.ds_asm.specs.Characters.{is_blank, trimmed, until, behind}
-use Rattle.ds_asm.specs.Numbers.{number_of, is_within, as_word}
-use Rattle.ds_asm.specs.Operands.{Instruction, bare, with_value, with_number, with_register, with_signed, with_unsigned, with_indexed, with_operand, with_operands, with_first, with_next, before_close, is_link, has_comma}
-use Rattle.ds_asm.specs.RegisterNames.{register_of, system_register_of}
+use Rattle.ds_asm.specs.Numbers.{number_of}
+use Rattle.ds_asm.specs.Operands.{bare, with_value, with_number, with_register, with_signed, with_unsigned, with_indexed, with_operand, with_operands, with_first, before_close, is_link, has_comma}
+use Rattle.ds_asm.specs.RegisterNames.{register_of}
 use Rattle.ds_listing.specs.Texts.{hex4, hex8, register_text, signed_text, unsigned_text, distance_text, operand_text, others_text}
-use Rattle.ds_listing.proofs.Numbers.{below, decimal_all, hex4_all, hex8_all}
+use Rattle.ds_listing.proofs.Numbers.{decimal_all, hex4_all, hex8_all}
 use Rattle.ds_listing.proofs.Parts.{all_weaker, all_both, is_other, until_seam, until_none, behind_seam, behind_none, seam_there, trimmed_dense}
 use Rattle.ds_listing.proofs.Values.{IsRead, read_signed, read_decimal, read_half, register_read, system_register_read, signed_all, register_all}
 

@@ -1,11 +1,11 @@
 -- The parts of a line, where it is known which characters stand in it.
-use Rattle.std.proofs.Common.{◌≡◌, ◌∙◌, ap, sym, refl, ℕ, ◌+◌, ◌-◌, Bool, true, false, not, ◌&&◌, ◌==◌, nat_lt, List, [], ◌∷◌, ◌++◌, length, length-append, take, drop, reverse, Option, Some, None, option_map, if◌then◌else◌, arith, append-nil, append_assoc}
-use Rattle.std.specs.List.{list_all, prefix_len, suffix_len, position_or_len, before_first, after_first}
+use Rattle.std.proofs.Common.{◌≡◌, ◌∙◌, ap, sym, refl, ℕ, ◌+◌, ◌-◌, Bool, true, false, not, ◌==◌, nat_lt, List, [], ◌∷◌, ◌++◌, length, length-append, Some, None, arith, append-nil, append_assoc}
+use Rattle.std.specs.List.{list_all, prefix_len, suffix_len, position_or_len, after_first}
 use Rattle.std.proofs.lemmas.Bool.{and_parts, and_from, lt-ltb, le-ltb, not-true}
-use Rattle.std.proofs.lemmas.List.{take_all, drop_all, reverse-append}
+use Rattle.std.proofs.lemmas.List.{take_all, reverse-append}
 use Rattle.std.proofs.lemmas.List.Folds.{list_all-append}
 use Rattle.std.proofs.Math.Seq.{take-append_seam, drop-append-add}
-use Rattle.ds_asm.specs.Characters.{is_blank, is_name, without_front_blanks, without_back_blanks, trimmed, until, behind}
+use Rattle.ds_asm.specs.Characters.{is_blank, without_front_blanks, without_back_blanks, trimmed, until, behind}
 use Rattle.ds_asm.specs.Lines.{statement_of, with_label, line_parts, line_of}
 use Rattle.ds_listing.specs.Laws.{alone}
 
@@ -42,6 +42,9 @@ pub behind_seam : (c : ℕ) (xs ys : List ℕ) → list_all (is_other c) xs ≡ 
 behind_seam c xs ys h itself =
     let long : nat_lt (length xs) (length (xs ++ c ∷ ys)) ≡ true = lt-ltb _ _ (omega (arith, length-append xs (c ∷ ys))) in
     rw (stops (is_other c) xs ys c h (ap not itself), long) (ap (λ zs. Some zs) (drop-append-add xs (c ∷ ys) 1))
+
+pub after_seam : (c : ℕ) (xs ys : List ℕ) → list_all (is_other c) xs ≡ true → (c == c) ≡ true → after_first (λ b. b == c) (xs ++ c ∷ ys) ≡ ys
+after_seam c xs ys h itself = rw (stops (is_other c) xs ys c h (ap not itself)) (drop-append-add xs (c ∷ ys) 1)
 
 pub seam_there : (c : ℕ) (xs ys : List ℕ) → list_all (is_other c) xs ≡ true → (c == c) ≡ true → nat_lt (position_or_len (λ b. b == c) (xs ++ c ∷ ys)) (length (xs ++ c ∷ ys)) ≡ true
 seam_there c xs ys h itself =

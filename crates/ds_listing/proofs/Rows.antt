@@ -1,21 +1,19 @@
 -- What each row of the table writes says the word that fits the row.
-use Rattle.std.proofs.Common.{◌≡◌, ◌∙◌, ap, sym, subst, refl, inl, inr, ℕ, zero, suc, ◌+◌, ◌-◌, ◌*◌, ◌/◌, ◌%◌, ◌^◌, ◌<◌, ◌≤◌, Bool, true, false, not, ◌&&◌, ◌||◌, ◌==◌, nat_lt, List, [], ◌∷◌, ◌++◌, length, length-append, map, decimal, Option, Some, None, option_map, if◌then◌else◌, arith, append-nil}
-use Rattle.std.specs.Prelude.{codes}
-use Rattle.std.specs.List.{list_all, flat_map, sum_by}
-use Rattle.std.proofs.lemmas.Bool.{cases_Bool, and_parts, and_from, eqb-true, cond-true, cond-false}
+use Rattle.std.proofs.Common.{◌≡◌, ◌∙◌, ap, sym, subst, refl, inl, inr, ℕ, ◌+◌, ◌^◌, ◌<◌, ◌≤◌, true, false, ◌==◌, nat_lt, List, [], ◌∷◌, ◌++◌, length, length-append, map, Option, Some, None, option_map, arith, append-nil}
+use Rattle.std.specs.List.{list_all, flat_map}
+use Rattle.std.proofs.lemmas.Bool.{cases_Bool, and_parts, eqb-true, cond-true, cond-false}
 use Rattle.std.proofs.lemmas.Fmt.{decimal_nonempty}
 use Rattle.std.proofs.Math.Nat.{zero-mod}
 use Rattle.ds_word.specs.Word.{word}
 use Rattle.ds_word.specs.OptionBinding.{◌>>=◌}
 use Rattle.ds_isa.specs.Fields.{Field, Operand, Register, LinkRegister, SystemRegister, Number, Code, Signed, Branch, Jump, Indexed, places, filled}
-use Rattle.ds_isa.specs.Instruction.{Row, fields_of, word_of}
-use Rattle.ds_asm.specs.Forms.{Written, of_row, form_named}
-use Rattle.ds_asm.specs.Operands.{Instruction, bare, with_operands}
+use Rattle.ds_asm.specs.Forms.{form_named}
+use Rattle.ds_asm.specs.Operands.{bare, with_operands}
 use Rattle.ds_asm.specs.Lines.{Encoded, statement_named, line_of}
 use Rattle.ds_asm.specs.Assembly.{is_reserved_word}
 use Rattle.ds_listing.specs.Laws.{alone, Says}
-use Rattle.ds_listing.specs.Texts.{Form, hex4, register_text, signed_text, unsigned_text, operand_text, others_text, operands_text, is_left_out, instruction_text}
-use Rattle.ds_listing.proofs.Parts.{all_weaker, all_both, is_other, IsBody, body_line}
+use Rattle.ds_listing.specs.Texts.{register_text, signed_text, operand_text, others_text, operands_text, is_left_out, instruction_text}
+use Rattle.ds_listing.proofs.Parts.{all_weaker, all_both, body_line}
 use Rattle.ds_listing.proofs.Operands.{is_clear, added, Fit, AreWords, is_plain, are_plain, operand_clear, operands_taken, added_sum}
 use Rattle.ds_listing.proofs.Statements.{is_inside, clear_inside, name_body, operands_body, statement_alone, statement_with, is_mnemonic, named_statement, encoded_word}
 
@@ -77,7 +75,7 @@ module _ (c : ℕ) (cs : List ℕ) (base w : ℕ) (os : List Operand) (found : f
   with_says (y ∷ ys) some inside e r = record {
     statement = Encoded (bare w);
     is = body_line (c ∷ cs ++ 32 ∷ y ∷ ys) (operands_body c cs y ys name_inside inside)
-      ∙ ap alone (statement_with (c ∷ cs) y ys name_inside inside ∙ (named (Some (y ∷ ys)) ∙ ap (option_map (λ i. Encoded i)) e));
+        ∙ ap alone (statement_with (c ∷ cs) y ys name_inside inside ∙ (named (Some (y ∷ ys)) ∙ ap (option_map (λ i. Encoded i)) e));
     word = encoded_word w r;
   }
 
@@ -127,7 +125,7 @@ instruction_says c cs base w os found mnemonic at fit words plain e l r = elim (
       let same : base ≡ w = omega arith in
       subst (λ t. Says (line_of (c ∷ cs ++ t)) w) (sym (cond-true (is_left_out at os) [] (operands_text at os) left))
       (subst (λ t. Says (line_of t) w) (sym (append-nil (c ∷ cs)))
-        (alone_says c cs base w os found mnemonic (left_out_taken os at base left ∙ ap (λ (v : ℕ). Some (bare v)) same) r))
+      (alone_says c cs base w os found mnemonic (left_out_taken os at base left ∙ ap (λ (v : ℕ). Some (bare v)) same) r))
   | inr kept ↦
       subst (λ t. Says (line_of (c ∷ cs ++ t)) w) (sym (cond-false (is_left_out at os) [] (operands_text at os) kept))
       (written_says c cs base w os found mnemonic at fit words plain e l r)

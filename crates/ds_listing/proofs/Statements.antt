@@ -1,27 +1,20 @@
 -- The text of a word is a line that says the word.
-use Rattle.std.proofs.Common.{◌≡◌, ◌∙◌, ap, sym, subst, refl, inl, inr, ℕ, ◌+◌, ◌-◌, ◌*◌, ◌/◌, ◌%◌, ◌^◌, ◌<◌, ◌≤◌, Bool, true, false, not, ◌&&◌, ◌||◌, ◌==◌, nat_le, nat_lt, bytes_eq, List, [], ◌∷◌, ◌++◌, length, length-append, take, drop, map, decimal, Option, Some, None, option_map, Result, Ok, if◌then◌else◌, arith, append-nil, append_assoc}
+use Rattle.std.proofs.Common.{◌≡◌, ◌∙◌, ap, sym, refl, ℕ, ◌%◌, ◌^◌, ◌<◌, Bool, true, false, not, ◌&&◌, bytes_eq, List, [], ◌∷◌, ◌++◌, length, take, drop, Option, Some, None, option_map, Ok, arith, append_assoc}
 use Rattle.std.specs.Prelude.{codes}
-use Rattle.std.specs.List.{list_all, flat_map, prefix_len, suffix_len, position_or_len}
-use Rattle.std.proofs.lemmas.Bool.{cases_Bool, and_parts, and_from, eqb-true, eq-eqb, le-leb, not-true, cond-false}
-use Rattle.std.proofs.lemmas.Fmt.{decimal_nonempty}
+use Rattle.std.specs.List.{list_all, suffix_len}
+use Rattle.std.proofs.lemmas.Bool.{and_parts, and_from, eq-eqb, le-leb, not-true, cond-false}
 use Rattle.std.proofs.Math.Seq.{take-append_seam, drop-append_seam, take-length, drop-length}
-use Rattle.ds_word.specs.Word.{word}
 use Rattle.ds_word.specs.Bytes.{bytes_of_word}
-use Rattle.ds_word.specs.OptionBinding.{◌>>=◌}
-use Rattle.ds_isa.specs.Fields.{Field, Operand, Register, LinkRegister, SystemRegister, Number, Code, Signed, Branch, Jump, Indexed, places, filled}
-use Rattle.ds_asm.specs.declared.fault.SourceFault.{SourceFault}
 use Rattle.ds_asm.specs.Characters.{is_blank, without_front_blanks}
-use Rattle.ds_asm.specs.Numbers.{number_of, is_within, as_word}
-use Rattle.ds_asm.specs.Forms.{form_named}
-use Rattle.ds_asm.specs.Operands.{Instruction, bare, with_operands}
-use Rattle.ds_asm.specs.Lines.{Statement, Encoded, WordNumber, Line, mnemonic_of, behind_mnemonic, unless_empty, number_word, instruction_named, statement_named, statement_of, line_of}
-use Rattle.ds_asm.specs.Assembly.{is_reserved_word, size_of, is_in_range, is_aligned, statement_bytes}
-use Rattle.ds_listing.specs.Texts.{Form, hex4, hex8, signed_text, unsigned_text, operand_text, others_text, operands_text, is_left_out, instruction_text, word_text}
+use Rattle.ds_asm.specs.Operands.{bare}
+use Rattle.ds_asm.specs.Lines.{Encoded, WordNumber, unless_empty, number_word, instruction_named, statement_named, statement_of, line_of}
+use Rattle.ds_asm.specs.Assembly.{is_reserved_word}
+use Rattle.ds_listing.specs.Texts.{hex8, word_text}
 use Rattle.ds_listing.specs.Laws.{alone, IsWord, Says}
-use Rattle.ds_listing.proofs.Numbers.{below, hex8_all}
+use Rattle.ds_listing.proofs.Numbers.{hex8_all}
 use Rattle.ds_listing.proofs.Parts.{all_weaker, all_both, is_other, stops, passes, no_back_blanks, IsBody, body_line, commented_line}
 use Rattle.ds_listing.proofs.Values.{number_word as number_word_read}
-use Rattle.ds_listing.proofs.Operands.{is_clear, added, Fit, AreWords, is_plain, are_plain, clear_dense, operand_clear, operands_taken, added_sum}
+use Rattle.ds_listing.proofs.Operands.{is_clear}
 
 -- a character that ends no statement and no line, and is no blank
 abbrev pub is_inside : ℕ → Bool

@@ -1,21 +1,21 @@
 -- Each word's text says the word, by the rows of the table.
-use Rattle.std.proofs.Common.{◌≡◌, ◌∙◌, ap, sym, subst, refl, inl, inr, ℕ, ◌+◌, ◌*◌, ◌/◌, ◌%◌, ◌^◌, ◌<◌, ◌≤◌, Bool, true, false, not, ◌&&◌, ◌||◌, ◌==◌, List, [], ◌∷◌, ◌++◌, map, Option, Some, None, if◌then◌else◌, arith}
+use Rattle.std.proofs.Common.{◌≡◌, ◌∙◌, ap, sym, subst, refl, inl, inr, ℕ, ◌+◌, ◌*◌, ◌/◌, ◌%◌, ◌^◌, ◌<◌, ◌≤◌, Bool, true, false, not, ◌||◌, ◌==◌, List, [], ◌∷◌, ◌++◌, map, Option, Some, None, arith}
 use Rattle.std.specs.Prelude.{codes}
-use Rattle.std.specs.List.{list_all, flat_map, sum_by}
-use Rattle.std.proofs.lemmas.Bool.{cases_Bool, and_parts, cond-true, cond-false, or_cases, not-true, eqb-true}
+use Rattle.std.specs.List.{list_all, sum_by}
+use Rattle.std.proofs.lemmas.Bool.{cases_Bool, and_parts, cond-true, cond-false, not-true, eqb-true}
 use Rattle.std.proofs.lemmas.Nat.{pow_pos}
 use Rattle.std.proofs.Math.Nat.{mod-lt, mod-le, div-le_self}
-use Rattle.ds_word.specs.Word.{word, bits}
+use Rattle.ds_word.specs.Word.{bits}
 use Rattle.ds_isa.specs.declared.instr.Instr.{Instr}
-use Rattle.ds_isa.specs.Fields.{Field, Operand, in_word, places, filled}
+use Rattle.ds_isa.specs.Fields.{Field, Operand, in_word, filled}
 use Rattle.ds_isa.specs.Instruction.{Row, fits, by_rows, of_no_row, rows, instruction_of, fields_of, word_of}
-use Rattle.ds_isa.specs.Encoding.{Entry, InRow, entry, word_in, encoded}
-use Rattle.ds_asm.specs.Forms.{Written, of_row, form_named}
+use Rattle.ds_isa.specs.Encoding.{InRow, entry, word_in, encoded}
+use Rattle.ds_asm.specs.Forms.{of_row, form_named}
 use Rattle.ds_asm.specs.Operands.{bare}
 use Rattle.ds_asm.specs.Lines.{Encoded, line_of}
 use Rattle.ds_asm.specs.Assembly.{is_reserved, is_reserved_word}
 use Rattle.ds_asm.specs.OnLiterals.{asm_on_literals}
-use Rattle.ds_listing.specs.Laws.{alone, IsWord, Says, IsLineOf}
+use Rattle.ds_listing.specs.Laws.{Says, IsLineOf}
 use Rattle.ds_listing.specs.Texts.{Form, has_label, is_label, is_left_out, operand_text, others_text, operands_text, instruction_text, word_text, form_text, form_of, text_by, text_of}
 use Rattle.ds_listing.proofs.Numbers.{hex8_all}
 use Rattle.ds_listing.proofs.Parts.{all_weaker, all_both, is_other}
@@ -94,7 +94,7 @@ row_says (c ∷ cs) row w same found named plain whole l r = elim (cases_Bool (h
       let base : word_of row [] ≡ fixed = ap (λ (n : ℕ). fixed + n) (filled_none (fields_of row)) ∙ omega arith in
       subst (λ t. Says (line_of t) w) (sym (cond-false (has_label row.operands) _ _ none))
       (instruction_says c cs (word_of row []) w row.operands found named (in_word w) (word_fits w) (word_words w l) good
-        (sym whole ∙ ap (λ (n : ℕ). n + filled (fields_of row) (map (in_word w) (fields_of row))) (sym base)) l r)
+      (sym whole ∙ ap (λ (n : ℕ). n + filled (fields_of row) (map (in_word w) (fields_of row))) (sym base)) l r)
 ]
 
 -- the form by the first row that a word fits

@@ -1,16 +1,16 @@
 -- The text of a value is read back as the value.
-use Rattle.std.proofs.Common.{◌≡◌, ◌∙◌, ap, sym, refl, inl, inr, ℕ, ◌+◌, ◌-◌, ◌*◌, ◌/◌, ◌%◌, ◌^◌, ◌<◌, ◌≤◌, Bool, true, false, not, ◌&&◌, ◌||◌, ◌==◌, nat_le, nat_lt, bytes_eq, List, [], ◌∷◌, ◌++◌, length, take, decimal, Option, Some, None, option_map, if◌then◌else◌, arith, append-nil}
+use Rattle.std.proofs.Common.{◌≡◌, ◌∙◌, ap, sym, refl, inl, inr, ℕ, ◌+◌, ◌-◌, ◌*◌, ◌%◌, ◌^◌, ◌<◌, ◌≤◌, Bool, true, false, not, ◌==◌, nat_le, nat_lt, bytes_eq, List, [], ◌∷◌, ◌++◌, length, take, decimal, Some, arith, append-nil}
 use Rattle.std.specs.Prelude.{codes}
 use Rattle.std.specs.List.{list_all}
 use Rattle.std.specs.Fmt.{digits}
 use Rattle.std.proofs.lemmas.Bool.{cases_Bool, and_parts, and_from, and_left, and_right, le-leb, leb-true, ltb-true, ltb-false, not-true}
 use Rattle.std.proofs.lemmas.Fmt.{length-decimal-le, decimal_nonempty}
 use Rattle.ds_word.specs.Digits.{digits_from}
-use Rattle.ds_asm.specs.Characters.{is_blank, is_digit}
-use Rattle.ds_asm.specs.Numbers.{decimal_of, hexadecimal_of, number_of, is_within, as_word}
+use Rattle.ds_asm.specs.Characters.{is_digit}
+use Rattle.ds_asm.specs.Numbers.{decimal_of, number_of, is_within, as_word}
 use Rattle.ds_asm.specs.RegisterNames.{register_of, system_register_of}
-use Rattle.ds_listing.specs.Texts.{hex4, hex8, register_text, signed_text, unsigned_text, distance_text}
-use Rattle.ds_listing.proofs.Numbers.{below, below_at, says, said, decimal_read, decimal_all, hex4_all, hex4_read, hex8_all, hex8_read, digits_end}
+use Rattle.ds_listing.specs.Texts.{hex4, hex8, register_text, signed_text}
+use Rattle.ds_listing.proofs.Numbers.{below, below_at, says, said, decimal_read, decimal_all, hex4_read, hex8_read, digits_end}
 
 -- a digit is no minus, and no x
 digit_is_other : (c d : ℕ) → is_digit c ≡ true → below (λ k. not (48 + k == d)) 10 ≡ true → (c == d) ≡ false

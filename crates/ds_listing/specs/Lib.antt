@@ -1,3 +1,4 @@
 pub mod Texts
 pub mod Plain
 pub mod Laws
+pub mod Worked

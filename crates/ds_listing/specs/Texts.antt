@@ -2,8 +2,8 @@
 use Rattle.std.specs.Prelude.{codes, decimal, ℕ, ◌+◌, ◌-◌, ◌*◌, ◌/◌, ◌%◌, Bool, true, false, ◌==◌, nat_le, nat_lt, if◌then◌else◌, List, [], ◌∷◌, ◌++◌, Option, Some, None}
 use Rattle.std.specs.List.{flat_map, list_any}
 use Rattle.ds_isa.specs.Fields.{Field, in_word, Operand, Register, LinkRegister, SystemRegister, Number, Code, Signed, Branch, Jump, Indexed}
-use Rattle.ds_isa.specs.Encoding.{Entry, InRow, OfCoprocessor, OfNone, entry}
-use Rattle.ds_isa.specs.Instruction.{Row, by_rows, rows}
+use Rattle.ds_isa.specs.Encoding.{Entry, InRow, OfCoprocessor, OfNone}
+use Rattle.ds_isa.specs.Instruction.{by_rows, rows}
 
 -- the hexadecimal digit of a number below 16
 abbrev pub hex_digit : ℕ → ℕ

@@ -2,11 +2,13 @@
 ghost use Rattle.std.specs.Prelude.{◌≡◌, ◌++◌, OnOk};
 ghost use Rattle.std.specs.String.{string_bytes};
 ghost use Rattle.ds_isa.specs.Fields.{in_word};
+ghost use Rattle.ds_listing.specs.Laws.{IsLineOf};
 ghost use Rattle.ds_listing.specs.Plain.{plain_form};
 ghost use Rattle.ds_listing.specs.Texts.{instruction_text, word_text, form_text, text_of};
 
 use crate::digits::push_hex;
 use crate::form::{Form, form_of};
+use crate::law::a_word_is_read_back;
 use crate::operand::{has_label, is_left_out, push_operands};
 use std::alloc::AllocError;
 
@@ -15,8 +17,10 @@ use std::alloc::AllocError;
 /// the word alone has no label.
 #[tactic(auto, unfolding(crate::specs::Texts::text_of))]
 pub fn push_word(text: &mut String, word: u32) -> Result<(), AllocError>
-    ensures { OnOk result (string_bytes text.new ≡ string_bytes text.old ++ text_of word) }
+    ensures text { OnOk result (string_bytes text.new ≡ string_bytes text.old ++ text_of word) }
+    ensures read { IsLineOf (text_of word) word }
 {
+    a_word_is_read_back(word);
     if word == 0 {
         return text.push_str("nop");
     }

@@ -1,0 +1,29 @@
+-- Worked texts of words.
+use Rattle.std.specs.Prelude.{codes, refl, ◌≡◌, ℕ, List, [], ◌∷◌}
+use Rattle.std.specs.Fmt.{digits}
+use Rattle.ds_listing.specs.Texts.{hex4, hex8, is_label, form_of, text_of, source_of}
+
+-- The nine words of the refill handler (Kane and Heinrich, chapter 6).
+abbrev refill_words : List ℕ
+refill_words = 0x401A2000 ∷ 0x401B7000 ∷ 0x8F5A0000 ∷ 0x00000000 ∷ 0x409A1000 ∷ 0x0000D021 ∷ 0x42000006 ∷ 0x03600008 ∷ 0x42000010 ∷ []
+
+the_refill_handler : source_of refill_words ≡ codes "mfc0 $26,$4\nmfc0 $27,$14\nlw $26,0($26)\nnop\nmtc0 $26,$2\naddu $26,$0,$0\ntlbwr\njr $27\nrfe\n"
+unfolding text_of form_of hex4 hex8 is_label digits
+the_refill_handler = refl
+
+-- numbers with a sign, halves in hexadecimal, and a code that is left out where it is 0
+operands_of_each_kind : source_of (0x8C41FFFC ∷ 0x27BD8000 ∷ 0x35281234 ∷ 0x000417C3 ∷ 0x00C0F809 ∷ 0x0000000C ∷ 0x0048D14C ∷ [])
+    ≡ codes "lw $1,-4($2)\naddiu $29,$29,-32768\nori $8,$9,0x1234\nsra $2,$4,31\njalr $31,$6\nsyscall\nsyscall 74565\n"
+unfolding text_of form_of hex4 hex8 is_label digits
+operands_of_each_kind = refl
+
+-- a branch and a jump, with what they are in a comment; a word of coprocessor 2, and one that is no instruction
+words_by_their_numbers : source_of (0x1000FFFF ∷ 0x07F00002 ∷ 0x0C100004 ∷ 0x48042800 ∷ 0x00A02809 ∷ [])
+    ≡ codes ".word 0x1000FFFF # beq $0,$0,.+0\n.word 0x07F00002\n.word 0x0C100004 # jal 0x00400010\n.word 0x48042800\n.word 0x00A02809\n"
+unfolding text_of form_of hex4 hex8 is_label digits
+words_by_their_numbers = refl
+
+distances : source_of (0x04118000 ∷ 0x14007FFF ∷ 0x1820FFFE ∷ [])
+    ≡ codes ".word 0x04118000 # bgezal $0,.-131068\n.word 0x14007FFF # bne $0,$0,.+131072\n.word 0x1820FFFE # blez $1,.-4\n"
+unfolding text_of form_of hex4 hex8 is_label digits
+distances = refl
