@@ -1,0 +1,86 @@
+//! Words as lines of a source.
+use ds_asm::assemble;
+use ds_listing::{push_word, source_of_words};
+use std::alloc::Global;
+use std::test::*;
+
+/// The last word of each kind and the text that the assembler's manual has for it.
+#[test]
+fn words_are_written_as_a_reader_would_write_them(rt: HostRuntime) -> Result<(), Fail> {
+    for (word, wanted) in [
+        (0x0000_0000u32, "nop"),
+        (0x03BF_2021, "addu $4,$29,$31"),
+        (0x8C82_0004, "lw $2,4($4)"),
+        (0xAFBF_8000, "sw $31,-32768($29)"),
+        (0x27BD_8000, "addiu $29,$29,-32768"),
+        (0x3C08_1234, "lui $8,0x1234"),
+        (0x0009_0FC0, "sll $1,$9,31"),
+        (0x00C0_2809, "jalr $5,$6"),
+        (0x0000_000C, "syscall"),
+        (0x0048_D14C, "syscall 74565"),
+        (0x401B_7000, "mfc0 $27,$14"),
+        (0x4200_0010, "rfe"),
+        (0x0411_8000, ".word 0x04118000 # bgezal $0,.-131068"),
+        (0x0C10_0004, ".word 0x0C100004 # jal 0x00400010"),
+        (0x4804_2800, ".word 0x48042800"),
+        (0x00A0_2809, ".word 0x00A02809"),
+        (0xFFFF_FFFF, ".word 0xFFFFFFFF"),
+    ] {
+        let mut text = String::new(rt.alloc());
+        push_word(&mut text, word)?;
+        assert_eq!(rt; text.as_str(), wanted);
+        let source = source_of_words(rt.alloc(), [word].as_slice())?;
+        assert_eq!(rt; source.as_bytes().strip_suffix(b"\n".as_slice()), Some(wanted.as_bytes()));
+    }
+    Ok(())
+}
+
+/// So many words, of all operations and with fields of all kinds.
+fn words_of_all_operations(alloc: Global, count: u32) -> Result<Vec<u32>, std::alloc::AllocError> {
+    let mut words = Vec::new(alloc);
+    let mut state = 0x1234_5678u32;
+    for number in 0..count {
+        state = state.wrapping_mul(1_664_525).wrapping_add(1_013_904_223);
+        let kind = number / 64 % 4;
+        let fields = match kind {
+            0 => state >> 6,
+            1 => (state >> 6) & 0x03E0_003F,
+            2 => (state >> 6) & 0x0000_F83F,
+            _ => (state >> 6) & 0x0000_003F,
+        };
+        words.push((number % 64) << 26 | fields)?;
+    }
+    Ok(words)
+}
+
+#[test]
+fn a_source_of_words_assembles_to_them(rt: HostRuntime) -> Result<(), Fail> {
+    for count in [0u32, 1, 1024, 16_384] {
+        let words = words_of_all_operations(rt.alloc(), count)?;
+        let source = source_of_words(rt.alloc(), &words)?;
+        let image = assemble(rt.alloc(), source.as_bytes()).ok().ok_or("an image")?;
+        assert_eq!(rt; image.len(), words.len() * 4);
+        for (part, wanted) in words.chunks(1024).enumerate() {
+            let mut page = [0xAAu8; 4096];
+            image.page(part as u8, &mut page);
+            for (bytes, word) in page.chunks(4).zip(wanted.iter()) {
+                assert_eq!(rt; bytes, word.to_le_bytes().as_slice(), "{word}");
+            }
+        }
+    }
+    Ok(())
+}
+
+/// A source that is too long for an image has its lines all the same.
+#[test]
+fn words_past_an_image_have_their_lines(rt: HostRuntime) -> Result<(), Fail> {
+    let words = words_of_all_operations(rt.alloc(), 16_385)?;
+    let source = source_of_words(rt.alloc(), &words)?;
+    let lines = source.as_bytes().iter().filter(|b| **b == b'\n').count();
+    assert_eq!(rt; lines, 16_385);
+    match assemble(rt.alloc(), source.as_bytes()) {
+        Ok(_) => return Err("an image".into()),
+        Err(fault) => assert_eq!(rt; fault.number(), 7),
+    }
+    Ok(())
+}
