@@ -1,5 +1,5 @@
 //! Words that were decoded before.
-ghost use Rattle.std.specs.Prelude.{◌≡◌, ◌<◌};
+ghost use Rattle.std.specs.Prelude.{◌≡◌, ◌<◌, slice_get, IfSome};
 ghost use Rattle.ds_isa.specs.Instruction.{instruction_of};
 
 use ds_isa::{Instr, decode};
@@ -40,23 +40,21 @@ impl Memo {
         requires { place < 1024 }
         ensures { result ≡ instruction_of word }
     {
-        let known = self.entries[place];
-        if known.word == word {
-            known.instr
-        } else {
-            self.learn(place, word)
+        if self.entries[place].word != word {
+            self.learn(place, word);
         }
+        self.entries[place].instr
     }
 
-    /// Decodes a word, and keeps it.
+    /// Decodes a word, and keeps it. It answers nothing: an instruction that is answered goes through
+    /// memory, and costs each other one.
     #[cold]
     #[inline(never)]
-    fn learn(&mut self, place: usize, word: u32) -> Instr
+    fn learn(&mut self, place: usize, word: u32)
         requires { place < 1024 }
-        ensures { result ≡ instruction_of word }
+        ensures { IfSome (slice_get self.new.entries place) (λ known. known.word ≡ word) }
     {
         let instr = decode(word);
         self.entries[place] = Known { word, instr };
-        instr
     }
 }
