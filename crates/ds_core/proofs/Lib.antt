@@ -2,3 +2,4 @@ pub mod Fetches
 pub mod Advances
 pub mod Slots
 pub mod Users
+pub mod Codes

@@ -96,14 +96,18 @@ only_behind false false only = (refl, refl)
 only_behind false true only = never (sym only)
 only_behind true pending only = never (sym only)
 
--- where only a device can interrupt, the program asks for nothing
+-- where only a device can interrupt, coprocessor 0 may not be used
+pub shuts_coprocessor : (c : CoreState) → only_devices_interrupt c ≡ true → is_usable c 0 ≡ false
+shuts_coprocessor c only = (only_behind (is_usable c 0) (is_pending c.system false false) only).0
+
+-- and the program asks for nothing
 pub nothing_pends : (c : CoreState) → only_devices_interrupt c ≡ true → is_pending c.system false false ≡ false
 nothing_pends c only = (only_behind (is_usable c 0) (is_pending c.system false false) only).1
 
 -- where only a device can interrupt, that is so behind a calm step
 pub stays_undisturbed : (c : CoreState) (b : BusState) (s : Step) → s ≡ step c b → is_raised s.event ≡ false → only_devices_interrupt c ≡ true → only_devices_interrupt s.core ≡ true
 stays_undisturbed c b s is calm only =
-    let shut : is_usable c 0 ≡ false = (only_behind (is_usable c 0) (is_pending c.system false false) only).0 in
+    let shut : is_usable c 0 ≡ false = shuts_coprocessor c only in
     let quiet : is_raised (step c b).event ≡ false = ap (λ (t : Step). is_raised t.event) (sym is) ∙ calm in
     let same : s.core.system ≡ c.system = ap (λ (t : Step). t.core.system) is ∙ keeps_system c b shut quiet in
     ap (λ (y : System). only_devices_interrupt (record c { system = y })) same ∙ only

@@ -5,3 +5,4 @@ pub mod Effect
 pub mod Refilled
 pub mod Worked
 pub mod Ahead
+pub mod Code

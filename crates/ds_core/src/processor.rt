@@ -1,8 +1,9 @@
 //! The processor and its step.
-ghost use Rattle.std.specs.Prelude.{◌≡◌, true};
+ghost use Rattle.std.specs.Prelude.{◌≡◌, false};
 
 mod access;
 mod ahead;
+mod code;
 mod coprocessor;
 mod execute;
 mod flow;
@@ -11,11 +12,12 @@ mod transfer;
 
 use crate::event::Event;
 use access::fetch;
-pub use ahead::Ahead;
+use code::CodePage;
 use ds_amap::{Access, Physical};
+pub use ahead::Ahead;
 use ds_cp0::{Cp0, ExceptionCode};
 use ds_dev::Bus;
-use ds_isa::{Late, Size};
+use ds_isa::{Instr, Late, Size};
 use ds_tlb::Lookaside;
 use std::marker::Model;
 
@@ -64,28 +66,74 @@ impl<L: Lookaside> Core<L> {
     ghost use Rattle.ds_tlb.specs.Entries.{ticked};
     ghost use Rattle.ds_cp0.specs.System.{is_pending};
     ghost use Rattle.ds_dev.specs.Bus.{lines};
-    ghost use Rattle.ds_core.specs.Coprocessor.{only_devices_interrupt};
-    ghost use Rattle.ds_core.specs.Effect.{instruction, step};
+    ghost use Rattle.ds_core.specs.Code.{KnowsPage};
+    ghost use Rattle.ds_core.specs.Core.{with_tick};
+    ghost use Rattle.ds_core.specs.Ahead.{is_raised};
+    ghost use Rattle.ds_core.specs.Effect.{executed, instruction, step};
 
-    /// A step: takes an interrupt that is pending, or does the instruction at `pc`. It may be told
-    /// that only a device can interrupt.
+    /// A step, ahead where the page of `pc` is known. It is known behind the step, too, unless that
+    /// entered an exception.
     #[inline(always)]
-    fn proceed(&mut self, bus: &mut Bus, only_devices: bool) -> Event
+    fn proceed(&mut self, bus: &mut Bus, code: &mut CodePage) -> Event
         requires slots { L.SLOTS ≡ 64 }
         requires wired { L.WIRED ≡ 8 }
-        requires devices { only_devices ≡ true → only_devices_interrupt self.old ≡ true }
-        ensures { (record { event = result; core = self.new; bus = bus.new })
+        requires known { KnowsPage code.old.vpn code.old.base self.old }
+        ensures known { is_raised result ≡ false → KnowsPage code.new.vpn code.new.base self.new }
+        ensures does { (record { event = result; core = self.new; bus = bus.new })
             ≡ step self.old bus.old }
     {
-        if self.is_interrupted(bus, only_devices) {
-            return self.trap(ExceptionCode::Interrupt);
+        match self.fetch_ahead(bus, code) {
+            Some(instr) => self.execute_ahead(instr, bus),
+            None => self.proceed_anew(bus, code),
         }
-        let event = self.instruction(bus);
+    }
+
+    /// Carries out an instruction that was fetched ahead, and counts Random down.
+    #[inline(always)]
+    fn execute_ahead(&mut self, instr: Instr, bus: &mut Bus) -> Event
+        requires slots { L.SLOTS ≡ 64 }
+        requires wired { L.WIRED ≡ 8 }
+        ensures { (record { event = result; core = self.new; bus = bus.new })
+            ≡ with_tick (executed self.old bus.old instr) }
+    {
+        let event = self.execute::<0>(instr, bus);
         // Told apart here, so that the common way behind an instruction has no test of its event.
         match event {
             Event::Raised(_) => self.tick_behind_exception(),
             Event::Retired | Event::Branched => self.tlb.tick(),
         }
+        event
+    }
+
+    /// A step that looks at everything: takes an interrupt that is pending, or does the instruction
+    /// at `pc`. The page of the next instruction is known from then on, where it can be.
+    #[cold]
+    #[inline(never)]
+    fn proceed_anew(&mut self, bus: &mut Bus, code: &mut CodePage) -> Event
+        requires slots { L.SLOTS ≡ 64 }
+        requires wired { L.WIRED ≡ 8 }
+        ensures known { KnowsPage code.new.vpn code.new.base self.new }
+        ensures does { (record { event = result; core = self.new; bus = bus.new })
+            ≡ step self.old bus.old }
+    {
+        let event = self.step_anew(bus);
+        *code = self.code_page();
+        event
+    }
+
+    /// The same, without the page.
+    #[inline(always)]
+    fn step_anew(&mut self, bus: &mut Bus) -> Event
+        requires slots { L.SLOTS ≡ 64 }
+        requires wired { L.WIRED ≡ 8 }
+        ensures { (record { event = result; core = self.new; bus = bus.new })
+            ≡ step self.old bus.old }
+    {
+        if self.is_interrupted(bus) {
+            return self.trap(ExceptionCode::Interrupt);
+        }
+        let event = self.instruction(bus);
+        self.tlb.tick();
         event
     }
 
@@ -98,24 +146,8 @@ impl<L: Lookaside> Core<L> {
         self.tlb.tick();
     }
 
-    /// Whether an interrupt is to be taken. Where no device asks, and only a device can interrupt,
-    /// the coprocessor isn't asked.
-    #[inline(always)]
-    fn is_interrupted(&self, bus: &Bus, only_devices: bool) -> bool
-        requires { only_devices ≡ true → only_devices_interrupt self.now ≡ true }
-        ensures { result ≡ is_pending self.now.system (lines bus.now).0 (lines bus.now).1 }
-    {
-        if bus.asks() {
-            self.is_let_through(bus)
-        } else {
-            !only_devices && self.cp0.pending(false, false)
-        }
-    }
-
-    /// Whether an interrupt is to be taken where a device asks for one.
-    #[cold]
-    #[inline(never)]
-    fn is_let_through(&self, bus: &Bus) -> bool
+    /// Whether an interrupt is to be taken.
+    fn is_interrupted(&self, bus: &Bus) -> bool
         ensures { result ≡ is_pending self.now.system (lines bus.now).0 (lines bus.now).1 }
     {
         let (system, clock) = bus.lines();
@@ -134,7 +166,7 @@ impl<L: Lookaside> Core<L> {
             Err(fault) => return self.refuse(Access::Fetch, self.pc, fault),
         };
         match fetch(bus, place) {
-            Ok(instr) => self.execute(instr, bus),
+            Ok(instr) => self.execute::<1>(instr, bus),
             Err(_) => self.trap(ExceptionCode::FetchBus),
         }
     }

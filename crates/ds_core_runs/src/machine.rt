@@ -13,6 +13,9 @@ use std::io::{self, ErrorKind};
 /// Where programs begin.
 const START: u32 = 0x40_0000;
 
+/// Status in user mode, with the devices' interrupts on.
+const USER_STATUS: u32 = 0xc03;
+
 /// A processor and its bus.
 #[derive(Drop)]
 pub struct Machine<L: Lookaside> {
@@ -69,6 +72,11 @@ impl<L: Lookaside> Machine<L> {
             },
             bus: Bus::new(memory),
         })
+    }
+
+    /// Goes into user mode, with interrupts on, as under the monitor.
+    pub fn leave_kernel(&mut self) {
+        self.core.cp0.write(register::STATUS, USER_STATUS);
     }
 
     /// Serves an exception: behind the instruction, or where an interrupt came, whose request it

@@ -21,6 +21,7 @@ fn main(rt: HostRuntime) -> io::Result<ExitCode> {
         let count = words[2].parse().unwrap_or(0);
         let image = image_of(&rt, rt.alloc(), words[1].as_str())?;
         let mut machine: Machine<Indexed<64, 8>> = Machine::new(rt.alloc(), &image)?;
+        machine.leave_kernel();
         machine.run(count);
         let (pc, four) = (machine.core.pc, machine.core.registers[4]);
         println!(rt; "{pc} {four}")?;

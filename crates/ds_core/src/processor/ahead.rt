@@ -54,12 +54,12 @@ impl<L: Lookaside> Core<L> {
             → ticks result.steps (hardware_of self.old bus.old)
             + owed_tick self.new.slot ≡ result.steps + owed_tick self.old.slot }
     {
-        let only_devices = self.only_devices_interrupt();
+        let mut code = self.code_page();
         let mut steps = 0;
         while steps < limit {
             // The address is looked at, so that it is known to be a word; so it is behind the loop.
             let _here = self.pc;
-            match self.proceed(bus, only_devices) {
+            match self.proceed(bus, &mut code) {
                 Event::Retired | Event::Branched => steps += 1,
                 Event::Raised(code) => {
                     let raised = Some(code);
@@ -75,7 +75,7 @@ impl<L: Lookaside> Core<L> {
     /// Whether only a device can interrupt: coprocessor 0 may not be used, so that nothing is let
     /// through or asked for by the program, and the program asks for no interrupt.
     #[inline(always)]
-    fn only_devices_interrupt(&self) -> bool
+    pub(super) fn only_devices_interrupt(&self) -> bool
         ensures { result ≡ only_devices_interrupt self.now }
     {
         !self.is_usable(0) && !self.cp0.pending(false, false)

@@ -1,0 +1,96 @@
+//! The page whose instructions a stretch goes through, remembered while nothing can change it.
+ghost use Rattle.std.specs.Prelude.{◌≡◌, ◌+◌, ◌*◌, ◌/◌, ◌%◌, ◌<◌, ◌≤◌, ◌^◌, IfSome, false};
+ghost use Rattle.ds_cp0.specs.System.{is_pending};
+ghost use Rattle.ds_dev.specs.Bus.{lines};
+ghost use Rattle.ds_core.specs.Code.{KnowsPage};
+ghost use Rattle.ds_core.specs.Effect.{executed, instruction};
+
+use super::Core;
+use ds_amap::Access;
+use ds_dev::Bus;
+use ds_isa::Instr;
+use ds_tlb::Lookaside;
+
+/// The page number of a page that isn't known: no page has it.
+const NO_PAGE: u64 = 0x1_0000_0000;
+
+/// The first address that is not mapped.
+const KSEG0: u32 = 0x8000_0000;
+
+/// A page of code, and the first address of its frame in memory.
+#[derive(Clone, Copy)]
+pub(super) struct CodePage {
+    pub vpn: u64,
+    pub base: u32,
+    ghost inside: { base + 4096 ≤ 2 ^ 23 },
+}
+
+impl CodePage {
+    /// No page is known.
+    #[inline(always)]
+    fn none() -> CodePage
+        ensures { result.vpn ≡ 2 ^ 32 }
+    {
+        CodePage {
+            vpn: NO_PAGE,
+            base: 0,
+        }
+    }
+
+    /// The place in memory of the instruction at an address, where that is a word of the page.
+    #[inline(always)]
+    fn place(&self, pc: u32) -> Option<u32>
+        ensures known { IfSome result (λ place. self.now.vpn < 2 ^ 32) }
+        ensures page { IfSome result (λ place. self.now.vpn ≡ pc / 2 ^ 12) }
+        ensures aligned { IfSome result (λ place. pc % 4 ≡ 0) }
+        ensures place { IfSome result (λ place. place ≡ self.now.base + pc % 2 ^ 12) }
+        ensures inside { IfSome result (λ place. place < 2 ^ 23) }
+    {
+        if u64::from(pc >> 12) == self.vpn && pc % 4 == 0 {
+            Some(self.base + pc % 4096)
+        } else {
+            None
+        }
+    }
+}
+
+impl<L: Lookaside> Core<L> {
+    /// The page of the instruction at `pc`, where the buffer remembers it, and no instruction can
+    /// change what it is: only a device can interrupt, so coprocessor 0 may not be used.
+    #[inline(always)]
+    pub(super) fn code_page(&self) -> CodePage
+        ensures { KnowsPage result.vpn result.base self.now }
+    {
+        if self.pc >= KSEG0 || !self.only_devices_interrupt() {
+            return CodePage::none();
+        }
+        let vpn = self.pc >> 12;
+        match self.tlb.recalled(Access::Fetch, vpn, self.cp0.asid()) {
+            Some(base) => CodePage {
+                vpn: u64::from(vpn),
+                base,
+            },
+            None => CodePage::none(),
+        }
+    }
+
+    /// The instruction at `pc`, where its page is known and no device asks for an interrupt: then
+    /// none is to be taken.
+    #[inline(always)]
+    pub(super) fn fetch_ahead(&self, bus: &mut Bus, code: &CodePage) -> Option<Instr>
+        requires known { KnowsPage code.now.vpn code.now.base self.now }
+        ensures calm { IfSome result (λ instr. is_pending self.now.system (lines bus.old).0 (lines bus.old).1
+            ≡ false) }
+        ensures fetched { IfSome result (λ instr. executed self.now bus.old instr
+            ≡ instruction self.now bus.old) }
+        ensures same { bus.new ≡ bus.old }
+    {
+        if bus.asks() {
+            return None;
+        }
+        match code.place(self.pc) {
+            Some(place) => Some(bus.fetch(place)),
+            None => None,
+        }
+    }
+}
