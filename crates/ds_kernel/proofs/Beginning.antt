@@ -1,31 +1,32 @@
 -- The beginning of a run leaves the station as it should be.
-use Rattle.std.proofs.Common.{◌≡◌, ℕ, List, true, false, not, None, sym, ap, ◌∙◌, arith}
+use Rattle.std.proofs.Common.{◌≡◌, ℕ, List, true, false, not, None, sym, ap, subst, ◌∙◌, arith}
 use Rattle.ds_cp0.specs.System.{is_user}
 use Rattle.ds_core.specs.Core.{CoreState}
-use Rattle.ds_policy.specs.Value.{PolicyValue}
+use Rattle.ds_policy.specs.Value.{PolicyValue, InputValue}
 use Rattle.ds_pagemap.specs.First.{first_state}
 use Rattle.ds_refinement.specs.Held.{Kept, Own}
 use Rattle.ds_refinement.specs.Stands.{Stands}
 use Rattle.ds_refinement.specs.Steps.{is_in_kernel}
 use Rattle.ds_refinement.specs.First.{IsFirst}
-use Rattle.ds_monitor.specs.First.{no_input}
 use Rattle.ds_monitor.specs.Kept.{kept_of}
 use Rattle.ds_monitor.specs.Orderly as monitor
 use Rattle.ds_kernel.specs.declared.parts.Parts.{Parts}
 use Rattle.ds_kernel.specs.Parts.{held}
-use Rattle.ds_kernel.specs.Good.{IsGood}
+use Rattle.ds_monitor.specs.Coming.{next_due}
+use Rattle.ds_kernel.specs.Good.{IsRate, IsGood}
 
-pub first_good : {L : Type 0} (p : Parts L) (policy : PolicyValue) (images : List (List ℕ)) (start : ℕ) → IsFirst policy images no_input start (held p)
-    → Stands (held p) (first_state policy images no_input) → monitor.IsOrderly (kept_of p.monitor) → policy.rate ≡ 0 → p.has_room ≡ false → IsGood p
-first_good p policy images start first stands orderly still closed =
+pub first_good : {L : Type 0} (p : Parts L) (policy : PolicyValue) (images : List (List ℕ)) (input : InputValue) (start : ℕ) → IsFirst policy images input start (held p)
+    → Stands (held p) (first_state policy images input) → monitor.IsOrderly (kept_of p.monitor) → IsRate policy.rate → p.monitor.quiet_until ≡ next_due (kept_of p.monitor) → p.has_room ≡ false → IsGood p
+first_good p policy images input start first stands orderly is_rate next closed =
     let spent : p.spent ≡ 0 = ap (λ (o : Own). o.spent) first.own in
     let unowed : p.monitor.owed ≡ None = ap (λ (k : Kept). k.state.owed) first.kept in
     let lines : p.monitor.lines ≡ 0 = ap (λ (k : Kept). k.lines) first.kept in
     let ticked : p.monitor.ticked ≡ 0 = ap (λ (k : Kept). k.ticked) first.kept in
+    let time : p.monitor.time ≡ 0 = ap (λ (k : Kept). k.state.time) first.kept in
     let rate : p.monitor.rate ≡ policy.rate = ap (λ (k : Kept). k.state.rate) first.kept in
     let user : is_in_kernel (held p) ≡ false = ap (λ (c : CoreState). not (is_user c.system)) first.core in
     record {
-      sound = record { state = first_state policy images no_input; stands = stands };
+      sound = record { state = first_state policy images input; stands = stands };
       orderly = record {
         begun = λ some. unowed;
         failed = λ failed. unowed;
@@ -35,8 +36,10 @@ first_good p policy images start first stands orderly still closed =
         lines = omega (arith, lines);
         ticked = omega (arith, ticked);
         lawful = orderly.lawful;
-        still = rate ∙ still;
+        early = omega (arith, time);
+        rate = subst IsRate (sym rate) is_rate;
       };
       room = λ some. absurd (omega (arith, spent, some));
       roomy = λ is. (let no : false ≡ true = sym closed ∙ is in absurd (cc));
+      next = next;
     }

@@ -24,7 +24,8 @@ use Rattle.ds_monitor.specs.Room.{HasRoom}
 use Rattle.ds_monitor.specs.Kept.{kept_of}
 use Rattle.ds_kernel.specs.declared.parts.Parts.{Parts}
 use Rattle.ds_kernel.specs.Parts.{held}
-use Rattle.ds_kernel.specs.Good.{IsGood}
+use Rattle.ds_monitor.specs.Coming.{next_due}
+use Rattle.ds_kernel.specs.Good.{IsRate, IsGood}
 use Rattle.ds_kernel.specs.Ran.{HasRun}
 use Rattle.ds_kernel.specs.Going.{rank, GoesOn}
 use Rattle.ds_kernel.proofs.Stepping.{room_later, lawful_later}
@@ -72,8 +73,8 @@ module _ (n steps ticks : ℕ) (old new : Held) (unowed : old.kept.state.owed �
 
 -- the station is as it should be at a later time
 later_good : {L : Type 0} (old new : Parts L) → IsGood old → IsSound (held new) → old.monitor.owed ≡ None → old.monitor.ready ≢ [] → new.monitor ≡ record old.monitor { time = new.monitor.time } → new.failed ≡ old.failed
-    → old.monitor.time ≤ new.monitor.time → (is_in_kernel (held new) ≡ true → 0 < new.spent) → new.spent ≤ 64 → HasRoom 1 old.monitor → IsGood new
-later_good old new good sound unowed ready monitor failed later raised few room =
+    → old.monitor.time ≤ new.monitor.time → (is_in_kernel (held new) ≡ true → 0 < new.spent) → new.spent ≤ 64 → HasRoom 1 old.monitor → new.monitor.time ≤ 1000000001 → IsGood new
+later_good old new good sound unowed ready monitor failed later raised few room early =
     let owed : new.monitor.owed ≡ None = ap (λ (m : Monitor). m.owed) monitor ∙ unowed in
     let lines : new.monitor.lines ≡ old.monitor.lines = ap (λ (m : Monitor). m.lines) monitor in
     let ticked : new.monitor.ticked ≡ old.monitor.ticked = ap (λ (m : Monitor). m.ticked) monitor in
@@ -89,11 +90,13 @@ later_good old new good sound unowed ready monitor failed later raised few room 
         spent = few;
         lines = omega (arith, lines, few_lines, later);
         ticked = omega (arith, ticked, before, later);
-        still = ap (λ (m : Monitor). m.rate) monitor ∙ good.orderly.still;
+        early = early;
+        rate = subst (λ (m : Monitor). IsRate m.rate) (sym monitor) good.orderly.rate;
         lawful = subst (λ (m : Monitor). IsLawful (whole (kept_of m) [] [])) (sym monitor) (lawful_later (kept_of old.monitor) new.monitor.time old.monitor.owed good.orderly.lawful);
       };
       room = λ some. still_room;
       roomy = λ some. still_room;
+      next = ap (λ (m : Monitor). m.quiet_until) monitor ∙ (good.next ∙ sym (ap (λ (m : Monitor). next_due (kept_of m)) monitor));
     }
 
 -- what the coprocessor has stays, where no exception is entered
@@ -119,7 +122,7 @@ moved_alike : (h : Held) (hw : Hardware) (t t' s s' : ℕ) (o : Option Turn) →
 moved_alike h hw t t' s s' o e f g = ap₂ (λ (x y : ℕ). moved h hw x o y) e g ∙ ap (λ (x : Option Turn). moved h hw t' x s') f
 
 -- A block of at most so many instructions from the old parts.
-module _ {L : Type 0} (limit n : ℕ) (old : Parts L) (c : CoreState) (b : BusState) (passed spent : ℕ) (good : IsGood old) (goes : GoesAhead limit (held old)) (room : HasRoom 1 old.monitor)
+module _ {L : Type 0} (limit n : ℕ) (old : Parts L) (c : CoreState) (b : BusState) (passed spent : ℕ) (good : IsGood old) (goes : GoesAhead limit (held old)) (room : HasRoom 1 old.monitor) (in_time : old.monitor.time + limit + 1 ≤ 1000000000)
     (words : ComesByWords n (hardware_of old.core old.bus)) where
   abbrev new : Parts L
   new = counted old c b passed spent
@@ -151,6 +154,7 @@ module _ {L : Type 0} (limit n : ℕ) (old : Parts L) (c : CoreState) (b : BusSt
         later_good old new good
         (subst IsSound (sym calm_is) (path_sound (held old) (with_block n (held old) hw) good.sound (block_is_path n limit (held old) hw within goes advances words)))
         goes.owed goes.ready refl refl (omega arith) (λ is. (let no : false ≡ true = sym user ∙ is in absurd (cc))) (omega (arith, left, small)) room
+        (let one : owed_tick old.core.slot ≤ 1 = owed_small old.core.slot in omega (arith, in_time, within, time, one))
 
     pub calm_goes : (end : ℕ) → 1 ≤ n → old.monitor.time + limit + owed_tick old.core.slot ≤ end → GoesOn end (held old) (held new)
     calm_goes end some soon =
@@ -184,6 +188,7 @@ module _ {L : Type 0} (limit n : ℕ) (old : Parts L) (c : CoreState) (b : BusSt
         later_good old new good
         (subst IsSound (sym raised_is) (path_sound (held old) (with_exception n (held old) hw) good.sound (raised_is_path n limit (held old) hw code within goes leads words)))
         goes.owed goes.ready refl refl (omega arith) (λ is. omega (arith, left)) (omega (arith, left, small)) room
+        (let one : owed_tick old.core.slot ≤ 1 = owed_small old.core.slot in omega (arith, in_time, within, time, one))
 
     pub raised_goes : (end : ℕ) → old.monitor.time + limit + owed_tick old.core.slot ≤ end → GoesOn end (held old) (held new)
     raised_goes end soon =

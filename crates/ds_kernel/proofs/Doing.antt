@@ -42,7 +42,9 @@ use Rattle.ds_monitor.specs.declared.monitor.Monitor.{Monitor}
 use Rattle.ds_kernel.specs.declared.parts.Parts.{Parts}
 use Rattle.ds_kernel.specs.Parts.{held}
 use Rattle.ds_kernel.specs.Refill.{right_of, entry_for}
-use Rattle.ds_kernel.specs.Good.{IsOrderly, IsGood, IsBusy}
+use Rattle.ds_monitor.specs.Coming.{next_due}
+use Rattle.ds_monitor.specs.Kept.{kept_of}
+use Rattle.ds_kernel.specs.Good.{IsRate, IsOrderly, IsGood, IsBusy}
 use Rattle.ds_kernel.specs.Ended.{HasEnded, Does}
 use Rattle.ds_kernel.proofs.Keeping.{first_rest}
 
@@ -117,13 +119,17 @@ module _ (h : Held) (p : ℕ) (rest : List ℕ) (sound : IsSound h) (ready : h.k
 
 -- The marks behind a service.
 
-enters_user : (queue : List ℕ) (c : CoreState) (k : Kept) → EntersBy queue c k → c.system.status ≡ user_status
+pub enters_user : (queue : List ℕ) (c : CoreState) (k : Kept) → EntersBy queue c k → c.system.status ≡ user_status
 enters_user [] c k b = b
 enters_user (p ∷ rest) c k b = b.mode
 
 some_tick : (b : Bool) → 1 ≤ ticks_of b
 some_tick true = omega arith
 some_tick false = omega arith
+
+pub two_ticks : (b : Bool) → ticks_of b ≤ 2
+two_ticks true = omega arith
+two_ticks false = omega arith
 
 sound_behind : (h new : Held) → IsSound h → Follows Unit h new → IsSound new
 sound_behind h new s f = let t = f.follows s.state s.stands in record { state = t.0; stands = t.2 }
@@ -136,6 +142,8 @@ ended_good f p old new busy ended does =
     let user : is_in_kernel (held new) ≡ false = ap (λ (n : ℕ). not (bits n 1 1 == 1)) (enters_user new.monitor.ready new.core (held new).kept ended.ends.enters) in
     let time : new.monitor.time ≡ old.monitor.time + ticks_of old.core.slot = does.moves.2 in
     let tick : 1 ≤ ticks_of old.core.slot = some_tick old.core.slot in
+    let most : ticks_of old.core.slot ≤ 2 = two_ticks old.core.slot in
+    let begun : old.monitor.time < 1000000000 = busy.early in
     let few : old.monitor.lines ≤ old.monitor.time = busy.good.orderly.lines in
     let lines : new.monitor.lines ≤ old.monitor.lines + 1 = ended.lines in
     let late : old.monitor.ticked ≤ old.monitor.time = busy.good.orderly.ticked in
@@ -150,10 +158,12 @@ ended_good f p old new busy ended does =
         lines = omega (arith, time, tick, few, lines);
         ticked = omega (arith, time, tick, late, ticked);
         lawful = ended.lawful;
-        still = ended.rate ∙ busy.good.orderly.still;
+        early = omega (arith, time, most, begun);
+        rate = subst IsRate (sym ended.rate) busy.good.orderly.rate;
       };
       room = λ some. absurd (omega (arith, none, some));
       roomy = λ is. (let no : false ≡ true = sym ended.closed ∙ is in absurd (cc));
+      next = ended.until ∙ (busy.good.next ∙ sym ended.next);
     }
 
 -- Each end of a unit.
@@ -218,13 +228,15 @@ module _ {L : Type 0} (p : ℕ) (old new : Parts L) (busy : IsBusy p old) (kerne
         lines = o.lines;
         ticked = o.ticked;
         lawful = o.lawful;
-        still = o.still;
+        early = o.early;
+        rate = o.rate;
       } in
       let t = does.follows.follows busy.good.sound.state busy.good.sound.stands in record {
         sound = record { state = t.0; stands = t.2 };
         orderly = subst IsOrderly (sym is) good;
         room = λ some. subst (λ (m : Monitor). HasRoom 1 m) (sym monitor) (busy.good.room busy.begun);
         roomy = λ some. subst (λ (m : Monitor). HasRoom 1 m) (sym monitor) (busy.good.room busy.begun);
+        next = subst (λ (m : Monitor). m.quiet_until ≡ next_due (kept_of m)) (sym monitor) busy.good.next;
       }
 
 -- What the table answered to the access that was refused.

@@ -16,6 +16,7 @@ use Rattle.ds_refinement.specs.Told.{own_in}
 use Rattle.ds_refinement.specs.Stands.{AreResting, IsSound, ends_in_stop, ends_in_call}
 use Rattle.ds_refinement.specs.Services.{Serves, EntersBy, seated}
 use Rattle.ds_monitor.specs.declared.monitor.Monitor.{Monitor}
+use Rattle.ds_monitor.specs.Coming.{next_due}
 use Rattle.ds_monitor.specs.Kept.{kept_of}
 use Rattle.ds_kernel.specs.declared.parts.Parts.{Parts}
 use Rattle.ds_kernel.specs.Parts.{held}
@@ -80,6 +81,8 @@ module _ {L : Type 0} (f : State → State) (old new : Parts L) (between : Monit
     pub owner : between.owner ≡ old.monitor.owner
     pub rate : between.rate ≡ old.monitor.rate
     pub ticked : between.ticked ≡ old.monitor.ticked
+    pub until : between.quiet_until ≡ old.monitor.quiet_until
+    pub next : next_due (kept_of between) ≡ next_due (kept_of old.monitor)
     pub lines : between.lines ≤ old.monitor.lines + 1
     pub owed : between.owed ≡ Some (record { began = old.monitor.time; runner = Some p })
     pub lawful : IsLawful (whole (kept_of between) [] [])
@@ -113,6 +116,8 @@ module _ {L : Type 0} (f : State → State) (old new : Parts L) (between : Monit
     lines = subst (λ (n : ℕ). n ≤ old.monitor.lines + 1) (sym (ap (λ (m : Monitor). m.lines) b.monitor)) a.lines;
     ticked = ap (λ (m : Monitor). m.ticked) b.monitor ∙ a.ticked;
     rate = ap (λ (m : Monitor). m.rate) b.monitor ∙ a.rate;
+    until = ap (λ (m : Monitor). m.quiet_until) b.monitor ∙ a.until;
+    next = ap (λ (m : Monitor). next_due (kept_of m)) b.monitor ∙ a.next;
     lawful = subst (λ (k : Kept). IsLawful (whole k [] [])) (sym (kept_is b)) (lawful_elsewhere (kept_of between) [] [] [] [] a.lawful);
     closed = b.closed;
   }
@@ -160,6 +165,8 @@ stop_served {L} old left new between p unit pc stop unit_is pc_is above kept lea
       owner = ap (λ (m : Monitor). m.owner) rest ∙ ap (λ (x : Parts L). x.monitor.owner) leaves;
       rate = ap (λ (m : Monitor). m.rate) rest ∙ ap (λ (x : Parts L). x.monitor.rate) leaves;
       ticked = ap (λ (m : Monitor). m.ticked) rest ∙ ap (λ (x : Parts L). x.monitor.ticked) leaves;
+      until = ap (λ (m : Monitor). m.quiet_until) rest ∙ ap (λ (x : Parts L). x.monitor.quiet_until) leaves;
+      next = ap (λ (m : Monitor). next_due (kept_of m)) rest ∙ ap (λ (x : Parts L). next_due (kept_of x.monitor)) leaves;
       lines = omega (arith, lines, lines_left);
       owed = sym (ap (λ (s : State). s.owed) ((serves []).state [])) ∙ ap (λ (n : ℕ). turn_of n p) time_left;
       lawful = stop_lawful (kept_of left.monitor) (kept_of between) p unit pc stop [] [] above (serves []) lawful;
@@ -190,6 +197,8 @@ call_served {L} old left new between entries p unit unit_is above within kept le
       owner = ap (λ (m : Monitor). m.owner) rest ∙ ap (λ (x : Parts L). x.monitor.owner) leaves;
       rate = ap (λ (m : Monitor). m.rate) rest ∙ ap (λ (x : Parts L). x.monitor.rate) leaves;
       ticked = ap (λ (m : Monitor). m.ticked) rest ∙ ap (λ (x : Parts L). x.monitor.ticked) leaves;
+      until = ap (λ (m : Monitor). m.quiet_until) rest ∙ ap (λ (x : Parts L). x.monitor.quiet_until) leaves;
+      next = ap (λ (m : Monitor). next_due (kept_of m)) rest ∙ ap (λ (x : Parts L). next_due (kept_of x.monitor)) leaves;
       lines = omega (arith, lines, lines_left);
       owed = sym (ap (λ (s : State). s.owed) (serves.state [])) ∙ ap (λ (n : ℕ). turn_of n p) time_left;
       lawful = call_lawful (kept_of left.monitor) (kept_of between) p unit left.bus.memory left.bus.memory above within serves lawful;

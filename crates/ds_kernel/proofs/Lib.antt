@@ -1,4 +1,15 @@
 pub mod Entering
+pub mod Pending
+pub mod Silo
+pub mod Characters
+pub mod Clocks
+pub mod Sharing
+pub mod Waiting
+pub mod Arriving
+pub mod Attending
+pub mod Served
+pub mod Bounding
+pub mod Ahead
 pub mod Fetching
 pub mod Keeping
 pub mod Finishing

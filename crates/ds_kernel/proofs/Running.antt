@@ -1,7 +1,8 @@
 -- A run of a station, by blocks of instructions and by steps.
 use Rattle.std.proofs.Common.{◌≡◌, ℕ, ◌+◌, ◌-◌, ◌*◌, ◌<◌, ◌≤◌, Bool, true, false, cond, [], Option, Some, None, refl, sym, ap, subst, ◌∙◌, arith, inr}
 use Rattle.std.proofs.lemmas.Bool.Decides.{nat_tests}
-use Rattle.std.specs.Prelude.{IsSome, is_some, not, ◌||◌, ◌&&◌, nat_lt}
+use Rattle.std.specs.Prelude.{IsSome, is_some, not, ◌||◌, ◌&&◌, nat_lt, min}
+use Rattle.std.proofs.Math.Nat.{min-le_left}
 use Rattle.ds_word.specs.Word.{truth}
 use Rattle.ds_core.specs.Ahead.{owed_tick}
 use Rattle.ds_pagemap.specs.declared.turn.Turn.{Turn}
@@ -124,8 +125,12 @@ goes_join n a b c first second =
       begun = second.begun;
     }
 
+-- what is the lesser of two is at most the first
+pub end_before : (n q x : ℕ) → x ≡ min n q → x ≤ n
+end_before n q x is = subst (λ (y : ℕ). y ≤ n) (sym is) (min-le_left n q)
+
 -- a block begins where room was made
-pub block_goes : (n limit : ℕ) (old roomy new : Held) → roomy ≡ old → old.kept.state.time + limit + 1 ≡ n → (roomy.kept.state.time + limit + owed_tick roomy.core.slot ≤ n → GoesOn n roomy new) → GoesOn n old new
+pub block_goes : (n limit : ℕ) (old roomy new : Held) → roomy ≡ old → old.kept.state.time + limit + 1 ≤ n → (roomy.kept.state.time + limit + owed_tick roomy.core.slot ≤ n → GoesOn n roomy new) → GoesOn n old new
 block_goes n limit old roomy new still end goes =
     let same : roomy.kept.state.time ≡ old.kept.state.time = ap (λ (h : Held). h.kept.state.time) still in
     let small : owed_tick roomy.core.slot ≤ 1 = owed_small roomy.core.slot in

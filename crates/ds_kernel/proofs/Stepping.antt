@@ -31,6 +31,7 @@ use Rattle.ds_refinement.proofs.Joined.{instruction_real}
 use Rattle.ds_refinement.proofs.Meets.{barred}
 use Rattle.ds_refinement.proofs.Quieter.{user_status_of}
 use Rattle.ds_refinement.proofs.Stages.{step_follows}
+use Rattle.ds_monitor.specs.Coming.{next_due}
 use Rattle.ds_monitor.specs.Kept.{kept_of}
 use Rattle.ds_monitor.specs.Room.{HasRoom}
 use Rattle.ds_monitor.specs.declared.monitor.Monitor.{Monitor}
@@ -66,8 +67,8 @@ failure_unseen h m k = record { buffer = k.buffer; grants = k.grants; size = k.s
 
 -- a failure leaves the station as it should be
 pub failed_good : {L : Type 0} (old new : Parts L) → IsGood old → old.monitor.owed ≡ None → held new ≡ with_failure (held old)
-    → (0 < new.spent → HasRoom 1 new.monitor) → (new.has_room ≡ true → HasRoom 1 new.monitor) → IsGood new
-failed_good old new good unowed is room roomy =
+    → new.monitor.quiet_until ≡ old.monitor.quiet_until → (0 < new.spent → HasRoom 1 new.monitor) → (new.has_room ≡ true → HasRoom 1 new.monitor) → IsGood new
+failed_good old new good unowed is until room roomy =
     let o = good.orderly in
     let marks : IsOrderly (with_failure (held old)) = record {
       begun = λ some. unowed;
@@ -78,17 +79,19 @@ failed_good old new good unowed is room roomy =
       lines = o.lines;
       ticked = o.ticked;
       lawful = o.lawful;
-      still = o.still;
+      early = o.early;
+      rate = o.rate;
     } in record {
       sound = subst IsSound (sym is) (record { state = good.sound.state; stands = failure_unseen (held old) good.sound.state good.sound.stands });
       orderly = subst IsOrderly (sym is) marks;
       room = room;
       roomy = roomy;
+      next = until ∙ (good.next ∙ sym (ap (λ (h : Held). next_due h.kept) is));
     }
 
 -- One instruction of the process that runs, in user mode and with no boundary owed.
 module _ (h : Held) (sound : IsSound h) (orderly : IsOrderly h) (working : h.own.failed ≡ false) (unowed : h.kept.state.owed ≡ None) (ready : h.kept.state.ready ≢ [])
-    (user : is_user h.core.system ≡ true) (word : h.core.pc < 2 ^ 32) (few : h.own.spent < 64) where
+    (user : is_user h.core.system ≡ true) (word : h.core.pc < 2 ^ 32) (few : h.own.spent < 64) (soon : h.kept.state.time < 1000000000) where
   abbrev s : core.Step
   s = step h.core h.bus
 
@@ -107,6 +110,10 @@ module _ (h : Held) (sound : IsSound h) (orderly : IsOrderly h) (working : h.own
   truth_small : (b : Bool) → truth b ≤ 1
   truth_small true = omega arith
   truth_small false = omega arith
+
+  two_ticks : (b : Bool) → ticks_of b ≤ 2
+  two_ticks true = omega arith
+  two_ticks false = omega arith
 
   some_tick : (b : Bool) → 1 ≤ ticks_of b
   some_tick true = omega arith
@@ -151,7 +158,8 @@ module _ (h : Held) (sound : IsSound h) (orderly : IsOrderly h) (working : h.own
     lines = orderly.lines;
     ticked = orderly.ticked;
     lawful = orderly.lawful;
-    still = orderly.still;
+    early = orderly.early;
+    rate = orderly.rate;
   }
 
   marks : (e : Event) → s.event ≡ e → IsOrderly (behind e)
@@ -168,7 +176,8 @@ module _ (h : Held) (sound : IsSound h) (orderly : IsOrderly h) (working : h.own
         lines = omega (arith, lines, tick);
         ticked = omega (arith, ticked, tick);
         lawful = lawful_later h.kept (behind Retired).kept.state.time (behind Retired).kept.state.owed orderly.lawful;
-        still = orderly.still;
+        early = (let most : ticks_of h.core.slot ≤ 2 = two_ticks h.core.slot in omega (arith, soon, most));
+        rate = orderly.rate;
       }
   marks Branched at = inside_orderly s.core s.bus
   marks (Raised code) at = inside_orderly s.core s.bus
@@ -178,117 +187,6 @@ module _ (h : Held) (sound : IsSound h) (orderly : IsOrderly h) (working : h.own
 
   pub instruction_sound : IsSound (behind s.event)
   instruction_sound = sound_behind (step_of s.event) h (behind s.event) sound follows
-
--- Nothing is due, and no period ends.
-pub never_busy : (m : Monitor) (time : ℕ) (owed : Option Turn) → m.rate ≡ 0 → IsLawful (whole (kept_of m) [] [])
-    → IsQuiet (record (kept_of m) { state = record (kept_of m).state { time = time; owed = owed } })
-never_busy m time owed still lawful = record {
-  commands = refl;
-  characters = refl;
-  asleep = lawful.asleep;
-  period = ap (λ (rate : ℕ). has_passed rate m.ticked time) still;
-}
-
--- A boundary that is owed.
-module _ {L : Type 0} (old : Parts L) (good : IsGood old) (owed : IsSome old.monitor.owed) where
-  abbrev h : Held
-  h = held old
-
-  none_spent : (n : ℕ) → (0 < n → old.monitor.owed ≡ None) → n ≡ 0
-  none_spent zero begun = refl
-  none_spent (suc n) begun = absurd (none_is_not_some old.monitor.owed (begun (omega arith)) owed)
-
-  boundary_follows : Follows Boundary h (with_boundary h)
-  boundary_follows = quiet h owed good.orderly.ticked (never_busy old.monitor old.monitor.time old.monitor.owed good.orderly.still good.orderly.lawful)
-
-  pub boundary_does : Does Boundary h (with_boundary h)
-  boundary_does =
-      let same : h.kept.state.time ≡ h.kept.state.time + 0 = omega arith in
-      let time : h.kept.state.time ≡ h.kept.state.time + truth (not (is_some h.kept.state.owed)) = same ∙ ap (λ (b : Bool). h.kept.state.time + truth (not b)) (sym owed) in record {
-        follows = boundary_follows;
-        moves = (refl, none_spent old.spent good.orderly.begun, time, refl);
-        real = record {
-          instruction = λ unit other. absurd (none_is_not_some old.monitor.owed unit.0 owed);
-          service = λ unit served. absurd (none_is_not_some old.monitor.owed unit.0 owed);
-          random = λ all. refl;
-        };
-      }
-
-  pub boundary_good : IsGood (record old { monitor = record old.monitor { owed = None } })
-  boundary_good =
-      let o = good.orderly in record {
-        sound = sound_behind Boundary h (with_boundary h) good.sound boundary_follows;
-        orderly = record {
-          begun = λ some. refl;
-          failed = λ failed. refl;
-          raised = o.raised;
-          running = o.running;
-          spent = o.spent;
-          lines = o.lines;
-          ticked = o.ticked;
-          lawful = lawful_later h.kept h.kept.state.time None o.lawful;
-          still = o.still;
-        };
-        room = λ some. room_later old.monitor old.monitor.time None (good.room some);
-        roomy = λ some. room_later old.monitor old.monitor.time None (good.roomy some);
-      }
-
--- A turn in which no process runs.
-module _ {L : Type 0} (old between : Parts L) (good : IsGood old) (unowed : old.monitor.owed ≡ None) (nobody : old.monitor.ready ≡ []) (going : is_over (kept_of old.monitor).state ≡ false)
-    (is : held between ≡ held old) (room : HasRoom 1 between.monitor) where
-  abbrev later : Parts L
-  later = record between { monitor = record between.monitor { time = between.monitor.time + 1 } }
-
-  nobody_spent : (n : ℕ) → (0 < n → old.monitor.ready ≢ []) → n ≡ 0
-  nobody_spent zero running = refl
-  nobody_spent (suc n) running = absurd (running (omega arith) nobody)
-
-  pub none_begun : old.spent ≡ 0
-  none_begun = nobody_spent old.spent good.orderly.running
-
-  abbrev waits : Held → Held
-  waits h = record h { kept = record h.kept { state = record h.kept.state { time = h.kept.state.time + 1 } } }
-
-  later_is : held later ≡ with_boundary (with_idle_turn (held old))
-  later_is = ap waits is ∙ ap (λ (o : Option Turn). record (waits (held old)) { kept = record (waits (held old)).kept { state = record (waits (held old)).kept.state { owed = o } } }) unowed
-
-  idle_follows : Follows Boundary (held old) (with_boundary (with_idle_turn (held old)))
-  idle_follows = idle (held old) unowed nobody going (never_busy old.monitor (old.monitor.time + 1) (with_idle_turn (held old)).kept.state.owed good.orderly.still good.orderly.lawful)
-
-  pub idle_does : Does Boundary (held old) (held later)
-  idle_does =
-      let time : old.monitor.time + 1 ≡ old.monitor.time + truth (not (is_some old.monitor.owed)) = ap (λ (o : Option Turn). old.monitor.time + truth (not (is_some o))) (sym unowed) in
-      subst (Does Boundary (held old)) (sym later_is) (record {
-        follows = idle_follows;
-        moves = (refl, none_begun, time, refl);
-        real = record {
-          instruction = λ unit other. absurd (unit.1 nobody);
-          service = λ unit served. absurd (unit.1 nobody);
-          random = λ all. refl;
-        };
-      })
-
-  pub idle_good : IsGood later
-  idle_good =
-      let o = good.orderly in
-      let lines : old.monitor.lines ≤ old.monitor.time = o.lines in
-      let ticked : old.monitor.ticked ≤ old.monitor.time = o.ticked in
-      let marks : IsOrderly (with_boundary (with_idle_turn (held old))) = record {
-        begun = λ some. refl;
-        failed = λ failed. refl;
-        raised = o.raised;
-        running = o.running;
-        spent = o.spent;
-        lines = omega (arith, lines);
-        ticked = omega (arith, ticked);
-        lawful = lawful_later (held old).kept (old.monitor.time + 1) None o.lawful;
-        still = o.still;
-      } in record {
-        sound = subst IsSound (sym later_is) (sound_behind Boundary (held old) (with_boundary (with_idle_turn (held old))) good.sound idle_follows);
-        orderly = subst IsOrderly (sym later_is) marks;
-        room = λ some. room_later between.monitor (between.monitor.time + 1) between.monitor.owed room;
-        roomy = λ some. room_later between.monitor (between.monitor.time + 1) between.monitor.owed room;
-      }
 
 -- nothing is left to do
 pub over_does : {L : Type 0} (old : Parts L) → old.monitor.owed ≡ None → old.monitor.ready ≡ [] → is_over (kept_of old.monitor).state ≡ true → Does Over (held old) (held old)
@@ -304,7 +202,7 @@ over_does old unowed nobody over = record {
 
 -- An instruction of the process that runs, counted and done.
 module _ {L : Type 0} (old between new : Parts L) (kind : Step) (good : IsGood old) (working : old.failed ≡ false) (unowed : old.monitor.owed ≡ None) (ready : old.monitor.ready ≢ [])
-    (user : is_user old.core.system ≡ true) (word : old.core.pc < 2 ^ 32) (few : old.spent < 64) (begun : held between ≡ with_one_spent (held old)) (room : HasRoom 1 between.monitor)
+    (user : is_user old.core.system ≡ true) (word : old.core.pc < 2 ^ 32) (few : old.spent < 64) (soon : old.monitor.time < 1000000000) (begun : held between ≡ with_one_spent (held old)) (until : between.monitor.quiet_until ≡ old.monitor.quiet_until) (room : HasRoom 1 between.monitor)
     (done : (s : core.Step) → s ≡ step between.core between.bus → (held new ≡ after_event s.event (held between) s) × (kind ≡ step_of s.event))
     (rest : new ≡ record between { core = new.core; bus = new.bus; monitor = record between.monitor { time = new.monitor.time; owed = new.monitor.owed }; spent = new.spent }) where
   abbrev stepped : core.Step
@@ -321,15 +219,18 @@ module _ {L : Type 0} (old between new : Parts L) (kind : Step) (good : IsGood o
   attempt_does =
       subst (λ (k : Step). Does k (held old) (held new)) (sym (done stepped same_step).1)
       (subst (Does (step_of stepped.event) (held old)) (sym new_is)
-      (instruction_does (held old) good.sound good.orderly working unowed ready user word few))
+      (instruction_does (held old) good.sound good.orderly working unowed ready user word few soon))
 
   room_behind : HasRoom 1 new.monitor
   room_behind = subst (λ (m : Monitor). HasRoom 1 m) (sym (ap (λ (x : Parts L). x.monitor) rest)) (room_later between.monitor new.monitor.time new.monitor.owed room)
 
   pub attempt_good : IsGood new
   attempt_good = record {
-    sound = subst IsSound (sym new_is) (instruction_sound (held old) good.sound good.orderly working unowed ready user word few);
-    orderly = subst IsOrderly (sym new_is) (instruction_orderly (held old) good.sound good.orderly working unowed ready user word few);
+    sound = subst IsSound (sym new_is) (instruction_sound (held old) good.sound good.orderly working unowed ready user word few soon);
+    orderly = subst IsOrderly (sym new_is) (instruction_orderly (held old) good.sound good.orderly working unowed ready user word few soon);
     room = λ some. room_behind;
     roomy = λ some. room_behind;
+    next =
+        ap (λ (x : Parts L). x.monitor.quiet_until) rest
+        ∙ (until ∙ (good.next ∙ sym (ap (λ (x : Parts L). next_due (kept_of x.monitor)) rest ∙ ap (λ (x : Held). next_due x.kept) begun)));
   }

@@ -7,6 +7,7 @@ use Rattle.ds_refinement.specs.Held.{Held, whole}
 use Rattle.ds_refinement.specs.Services.{EndsBy, with_none_spent}
 use Rattle.ds_refinement.specs.Steps.{Follows, Moves}
 use Rattle.ds_refinement.specs.Real.{IsReal}
+use Rattle.ds_monitor.specs.Coming.{next_due}
 use Rattle.ds_monitor.specs.Kept.{kept_of}
 use Rattle.ds_kernel.specs.declared.parts.Parts.{Parts}
 use Rattle.ds_kernel.specs.Parts.{held}
@@ -19,6 +20,8 @@ pub record HasEnded {L : Type 0} (f : State → State) (old new : Parts L) : Typ
   pub lines : new.monitor.lines ≤ old.monitor.lines + 1
   pub ticked : new.monitor.ticked ≡ old.monitor.ticked
   pub rate : new.monitor.rate ≡ old.monitor.rate
+  pub until : new.monitor.quiet_until ≡ old.monitor.quiet_until
+  pub next : next_due (kept_of new.monitor) ≡ next_due (kept_of old.monitor)
   pub lawful : IsLawful (whole (kept_of new.monitor) [] [])
   pub closed : new.has_room ≡ false
 

@@ -1,5 +1,7 @@
 -- What is true of a station's parts at any time, and while a unit goes on.
 use Rattle.std.specs.Prelude.{◌≡◌, ◌≢◌, ℕ, ◌<◌, ◌≤◌, true, false, [], Some, None}
+use Rattle.ds_monitor.specs.Coming.{next_due}
+use Rattle.ds_monitor.specs.Kept.{kept_of}
 use Rattle.ds_pagemap.specs.Machine.{first}
 use Rattle.ds_pagemap_laws.specs.Lawful.{IsLawful}
 use Rattle.ds_refinement.specs.Held.{Held, whole}
@@ -8,6 +10,11 @@ use Rattle.ds_refinement.specs.Steps.{is_in_kernel}
 use Rattle.ds_monitor.specs.Room.{HasRoom}
 use Rattle.ds_kernel.specs.declared.parts.Parts.{Parts}
 use Rattle.ds_kernel.specs.Parts.{held}
+
+-- a clock's rate: 0 where there is none, or from 3 to 15
+pub record IsRate (rate : ℕ) : Type 0 where
+  pub high : rate ≤ 15
+  pub low : 0 < rate → 3 ≤ rate
 
 -- what is true of the station's own marks at any time
 pub record IsOrderly (h : Held) : Type 0 where
@@ -20,8 +27,8 @@ pub record IsOrderly (h : Held) : Type 0 where
   pub spent : h.own.spent ≤ 64
   pub lines : h.kept.lines ≤ h.kept.state.time
   pub ticked : h.kept.ticked ≤ h.kept.state.time
-  -- no clock runs, so no period ends
-  pub still : h.kept.state.rate ≡ 0
+  pub early : h.kept.state.time ≤ 1000000001
+  pub rate : IsRate h.kept.state.rate
   pub lawful : IsLawful (whole h.kept [] [])
 
 -- what is true of a station's parts at any time
@@ -30,6 +37,8 @@ pub record IsGood {L : Type 0} (p : Parts L) : Type 0 where
   pub orderly : IsOrderly (held p)
   pub room : 0 < p.spent → HasRoom 1 p.monitor
   pub roomy : p.has_room ≡ true → HasRoom 1 p.monitor
+  -- before this time no boundary has anything to do
+  pub next : p.monitor.quiet_until ≡ next_due (kept_of p.monitor)
 
 -- a unit of a process goes on
 pub record IsBusy {L : Type 0} (process : ℕ) (p : Parts L) : Type 0 where

@@ -4,6 +4,8 @@ pub mod Places
 pub mod Refill
 pub mod Good
 pub mod Ended
+pub mod Devices
+pub mod Attended
 pub mod Halts
 pub mod Ran
 pub mod Going

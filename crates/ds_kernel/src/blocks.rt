@@ -1,5 +1,5 @@
 //! Many instructions of a process at once, with one bookkeeping for all their units.
-ghost use Rattle.std.specs.Prelude.{◌≡◌, ◌<◌, ◌≤◌, ◌+◌, ℕ, None, false, IfSome, IfErr, OnOk, OnErr, IsNone, IsSome};
+ghost use Rattle.std.specs.Prelude.{◌≡◌, ◌<◌, ◌≤◌, ◌+◌, ◌-◌, min, ℕ, None, false, IfSome, IfErr, OnOk, OnErr, IsNone, IsSome};
 ghost use Rattle.ds_core.specs.Ahead.{hardware_of, AdvancesTo, ComesByWords, ticks, owed_tick};
 ghost use Rattle.ds_refinement.specs.Blocks.{GoesAhead};
 ghost use Rattle.ds_refinement.specs.Services.{with_failure};
@@ -40,17 +40,22 @@ impl<L: Lookaside> Parts<L> {
         requires few { n ≤ 1000000000 }
         ensures ahead { IfSome result (λ limit. GoesAhead limit (held self.now)) }
         ensures some { IfSome result (λ limit. 1 ≤ limit) }
-        ensures end { IfSome result (λ limit. self.now.monitor.time + limit + 1 ≡ n) }
+        ensures end { IfSome result (λ limit. self.now.monitor.time + limit + 1
+            ≡ min n (self.now.monitor.quiet_until - 1)) }
         ensures any { self.now.monitor.time + 1 < n → GoesAhead 1 (held self.now)
             → IsSome result }
     {
         if self.monitor.time >= n || self.monitor.owed.is_some() {
             return None;
         }
-        let limit = n - self.monitor.time - 1;
+        self.monitor.due.look_at_order();
+        let end = n.min(self.monitor.quiet_until.saturating_sub(1));
+        if end <= self.monitor.time + 1 {
+            return None;
+        }
         let whole = self.spent == self.slot_tick();
-        if limit > 0 && whole && self.monitor.first_ready().is_some() {
-            Some(limit as u32)
+        if whole && self.monitor.first_ready().is_some() {
+            Some((end - self.monitor.time - 1) as u32)
         } else {
             None
         }

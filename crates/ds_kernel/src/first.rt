@@ -5,7 +5,6 @@ ghost use Rattle.ds_policy.specs.PolicyParts.{sources_of};
 ghost use Rattle.ds_pagemap.specs.First.{first_state};
 ghost use Rattle.ds_refinement.specs.Stands.{Stands};
 ghost use Rattle.ds_refinement.specs.First.{first_system, first_core, first_bus, IsFirst};
-ghost use Rattle.ds_monitor.specs.First.{no_input};
 ghost use Rattle.ds_kernel.specs.Parts.{held};
 ghost use Rattle.ds_kernel.specs.Good.{IsGood};
 
@@ -18,7 +17,7 @@ use ds_dev::Bus;
 use ds_isa::Size;
 use ds_mem::{Memory, OutOfMemory};
 use ds_monitor::Monitor;
-use ds_policy::Policy;
+use ds_policy::{Events, Policy};
 use ds_tlb::Lookaside;
 use ds_word::wrapping_sum;
 use std::alloc::Global;
@@ -91,25 +90,27 @@ fn first_bus(memory: Memory, rate: u32) -> Bus
 
 impl<L: Lookaside> Parts<L> {
     /// What a station holds at the beginning of a run of a policy, over an empty buffer: the
-    /// processes at their start, and the images in their pages. There is one image for each source
-    /// name of the policy, in their order. Refused only where the host has no room for it.
+    /// processes at their start, the images in their pages, and what is to come. There is one image
+    /// for each source name of the policy, in their order. Refused only where the host has no room
+    /// for it.
     pub fn new(
         alloc: Global,
         policy: &Policy,
         images: &[Image],
+        events: Events,
         tlb: L,
     ) -> Result<Parts<L>, OutOfMemory>
         requires slots { L.SLOTS ≡ 64 }
         requires images { length images.now ≡ length (sources_of policy.now.pages) }
         requires empty { L.entries tlb ≡ empty_entries L.SLOTS }
-        ensures first { IfOk result (λ p. IsFirst policy.now images.now no_input
+        ensures first { IfOk result (λ p. IsFirst policy.now images.now events
             (L.random_place tlb) (held p)) }
         ensures stands { IfOk result (λ p. Stands (held p)
-            (first_state policy.now images.now no_input)) }
+            (first_state policy.now images.now events)) }
         ensures good { IfOk result (λ p. IsGood p) }
     {
         let mut memory = Memory::new(alloc)?;
-        let monitor = Monitor::new(alloc, policy, images, &mut memory)?;
+        let monitor = Monitor::new(alloc, policy, images, events, &mut memory)?;
         // All of memory is there, and each page that the table names lies in it.
         let _ = memory.word(0);
         let _ = monitor.grants.table();

@@ -3,7 +3,9 @@
 #![tactic(auto)]
 
 mod blocks;
+mod boundary;
 mod cause;
+mod devices;
 mod first;
 mod halt;
 mod parts;

@@ -33,6 +33,8 @@ impl<L: Lookaside> Parts<L> {
     /// The boundary, where one is owed.
     #[inline(always)]
     fn do_owed(&mut self)
+        requires slots { L.SLOTS ≡ 64 }
+        requires wired { L.WIRED ≡ 8 }
         requires good { IsGood self.old }
         ensures good { IsGood self.new }
         ensures goes { (n : ℕ) (start : Held) → GoesOn n start (held self.old)
@@ -55,6 +57,8 @@ impl<L: Lookaside> Parts<L> {
     /// that ended the unit.
     #[inline(always)]
     fn serve_raised(&mut self, n: u64)
+        requires slots { L.SLOTS ≡ 64 }
+        requires wired { L.WIRED ≡ 8 }
         requires good { IsGood self.old }
         requires working { self.old.failed ≡ false }
         requires few { n ≤ 1000000000 }

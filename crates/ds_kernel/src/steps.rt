@@ -44,6 +44,7 @@ impl<L: Lookaside> Parts<L> {
         ensures room { result ≡ true → HasRoom 1 self.new.monitor }
         ensures held { held self.new ≡ held self.old }
         ensures told { self.new.has_room ≡ result }
+        ensures next { self.new.monitor.quiet_until ≡ self.old.monitor.quiet_until }
     {
         self.has_room || self.reserve()
     }
@@ -61,6 +62,7 @@ impl<L: Lookaside> Parts<L> {
         ensures roomy { self.new.has_room ≡ true → HasRoom 1 self.new.monitor }
         ensures halts { IfErr result (λ halt. Halts halt (held self.old)) }
         ensures marked { OnErr result (held self.new ≡ with_failure (held self.old)) }
+        ensures next { self.new.monitor.quiet_until ≡ self.old.monitor.quiet_until }
     {
         if self.spent >= MOST_SPENT {
             self.failed = true;
@@ -106,12 +108,14 @@ impl<L: Lookaside> Parts<L> {
     /// The boundary that is owed.
     #[inline(always)]
     pub(crate) fn boundary(&mut self) -> Step
+        requires slots { L.SLOTS ≡ 64 }
+        requires wired { L.WIRED ≡ 8 }
         requires good { IsGood self.old }
         requires owed { IsSome self.old.monitor.owed }
         ensures does { Does result (held self.old) (held self.new) }
         ensures good { IsGood self.new }
     {
-        self.monitor.owed = None;
+        self.close_turn();
         Step::Boundary
     }
 
@@ -119,6 +123,8 @@ impl<L: Lookaside> Parts<L> {
     #[cold]
     #[inline(never)]
     fn idle(&mut self) -> Result<Step, Halt>
+        requires slots { L.SLOTS ≡ 64 }
+        requires wired { L.WIRED ≡ 8 }
         requires good { IsGood self.old }
         requires working { self.old.failed ≡ false }
         requires unowed { self.old.monitor.owed ≡ None }
@@ -134,12 +140,15 @@ impl<L: Lookaside> Parts<L> {
             self.failed = true;
             return Err(Halt::Memory);
         }
-        self.monitor.time += 1;
+        self.monitor.end_first_turn(1);
+        self.close_turn();
         Ok(Step::Boundary)
     }
 
     /// Where nobody is ready: an idle turn, or nothing where all have ended.
     fn rest(&mut self) -> Result<Step, Halt>
+        requires slots { L.SLOTS ≡ 64 }
+        requires wired { L.WIRED ≡ 8 }
         requires good { IsGood self.old }
         requires working { self.old.failed ≡ false }
         requires unowed { self.old.monitor.owed ≡ None }

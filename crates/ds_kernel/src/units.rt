@@ -54,7 +54,7 @@ impl<L: Lookaside> Parts<L> {
 
     /// Who is first comes in, with nothing spent.
     #[inline(always)]
-    fn end_unit(&mut self)
+    pub(crate) fn end_unit(&mut self)
         requires lawful { IsLawful (whole (kept_of self.old.monitor) [] []) }
         ensures enters { EntersBy self.new.monitor.ready self.new.core (kept_of self.new.monitor) }
         ensures buffer { BufferHolds self.old.core.entries (space_of (kept_of self.old.monitor))

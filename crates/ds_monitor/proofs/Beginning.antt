@@ -3,7 +3,9 @@ use Rattle.std.proofs.Common.{◌≡◌, ◌∙◌, ℕ, zero, suc, ◌+◌, ◌
 use Rattle.std.specs.Prelude.{◌==◌, None}
 use Rattle.std.specs.List.{All}
 use Rattle.std.proofs.lemmas.Bool.Decides.{nat_tests}
-use Rattle.ds_policy.specs.Value.{PolicyValue}
+use Rattle.ds_policy.specs.Value.{PolicyValue, InputValue}
+use Rattle.ds_policy.specs.declared.command.Character.{Character}
+use Rattle.ds_policy.specs.declared.command.TimedCommand.{TimedCommand}
 use Rattle.ds_policy.specs.PolicyFacts.{IsGoodProcess}
 use Rattle.ds_policy.specs.declared.policy.PolicyProcess.{PolicyProcess}
 use Rattle.ds_policy.specs.Pages.{Pages}
@@ -17,7 +19,7 @@ use Rattle.ds_pagemap_laws.specs.Lawful.{IsLawful}
 use Rattle.ds_pagemap_laws.proofs.FirstStates.{first_lawful}
 use Rattle.ds_refinement.specs.Held.{Kept, no_memory, whole}
 use Rattle.ds_refinement.specs.Stands.{IsKept}
-use Rattle.ds_monitor.specs.First.{first_kept, no_input}
+use Rattle.ds_refinement.specs.First.{first_kept}
 use Rattle.ds_monitor.specs.Orderly.{IsOrderly}
 
 -- who comes later isn't among the numbers
@@ -52,8 +54,8 @@ none_has_ended [] = refl
 none_has_ended (p ∷ ps) = ap (λ (bs : List Bool). false ∷ bs) (none_has_ended ps)
 
 -- what a monitor keeps at time 0
-abbrev pub beginning : List Process → List ℕ → List (List ℕ) → List (List ℕ) → List ℕ → ℕ → GrantsState → Kept
-beginning processes ready queues consoles log rate grants = record {
+abbrev pub beginning : List Process → List ℕ → List (List ℕ) → List (List ℕ) → List ℕ → ℕ → List TimedCommand → List Character → GrantsState → Kept
+beginning processes ready queues consoles log rate commands characters grants = record {
   state = record {
     memory = no_memory;
     rate = rate;
@@ -63,8 +65,8 @@ beginning processes ready queues consoles log rate grants = record {
     consoles = consoles;
     log = [];
     time = 0;
-    commands = [];
-    characters = [];
+    commands = commands;
+    characters = characters;
     owed = None;
   };
   grants = grants;
@@ -74,15 +76,19 @@ beginning processes ready queues consoles log rate grants = record {
   ticked = 0;
 }
 
-pub begins : (policy : PolicyValue) (images : List (List ℕ)) (processes : List Process) (ready : List ℕ) (queues consoles : List (List ℕ)) (log : List ℕ) (rate : ℕ) (grants : GrantsState)
+pub begins : (policy : PolicyValue) (images : List (List ℕ)) (input : InputValue) (processes : List Process) (ready : List ℕ) (queues consoles : List (List ℕ)) (log : List ℕ) (rate : ℕ) (characters : List Character) (grants : GrantsState)
     → processes ≡ map first_process policy.processes → ready ≡ numbers (length policy.processes) 1 → queues ≡ replicate 4 [] → consoles ≡ [] ∷ [] ∷ [] ∷ [] ∷ []
-    → log ≡ [] → rate ≡ policy.rate → grants ≡ first_grants policy → beginning processes ready queues consoles log rate grants ≡ first_kept policy images
-begins policy images processes ready queues consoles log rate grants a b c d e f g =
-    rw (a, b, c, d, e, f, g) (ap (λ (ps : List Process). beginning ps (numbers (length policy.processes) 1) (replicate 4 []) (replicate 4 []) [] policy.rate (first_grants policy)) (sym (settled_first policy.processes)))
+    → log ≡ [] → rate ≡ policy.rate → characters ≡ input.characters → grants ≡ first_grants policy → input.commands ≡ [] → beginning processes ready queues consoles log rate [] characters grants ≡ first_kept policy images input
+begins policy images input processes ready queues consoles log rate characters grants a b c d e f h g none =
+    let seats : Kept = beginning (map first_process policy.processes) (numbers (length policy.processes) 1) (replicate 4 []) (replicate 4 []) [] policy.rate [] input.characters (first_grants policy) in
+    let all : beginning processes ready queues consoles log rate [] characters grants ≡ seats = rw (a, b, c, d, e, f, h, g) refl in
+    all
+    ∙ (ap (λ (ps : List Process). beginning ps (numbers (length policy.processes) 1) (replicate 4 []) (replicate 4 []) [] policy.rate [] input.characters (first_grants policy)) (sym (settled_first policy.processes))
+    ∙ ap (λ (cs : List TimedCommand). beginning (map settled_process (map first_process policy.processes)) (numbers (length policy.processes) 1) (replicate 4 []) (replicate 4 []) [] policy.rate cs input.characters (first_grants policy)) (sym none))
 
 -- nobody is on the processor, and all is kept of the first state
-pub first_is_kept : (policy : PolicyValue) (images : List (List ℕ)) (memory : List ℕ) → pages_in (first_grants policy) memory ≡ first_pages policy images → IsKept (first_kept policy images) memory (first_state policy images no_input)
-first_is_kept policy images memory pages = record {
+pub first_is_kept : (policy : PolicyValue) (images : List (List ℕ)) (input : InputValue) (memory : List ℕ) → pages_in (first_grants policy) memory ≡ first_pages policy images → IsKept (first_kept policy images input) memory (first_state policy images input)
+first_is_kept policy images input memory pages = record {
   state = refl;
   pages = ap (λ (ps : Pages). record { pages = ps; table = (first_grants policy).table; named = (first_grants policy).named }) (sym pages);
   log = refl;
@@ -90,10 +96,10 @@ first_is_kept policy images memory pages = record {
 }
 
 -- the first state is one that runs have
-pub first_orderly : (policy : PolicyValue) (images : List (List ℕ)) → length policy.processes ≤ 100 → All IsGoodProcess policy.processes → IsOrderly (first_kept policy images)
-first_orderly policy images few good =
-    let l = first_lawful policy images no_input few good in
-    let k = first_kept policy images in
+pub first_orderly : (policy : PolicyValue) (images : List (List ℕ)) (input : InputValue) → length policy.processes ≤ 100 → All IsGoodProcess policy.processes → IsOrderly (first_kept policy images input)
+first_orderly policy images input few good =
+    let l = first_lawful policy images input few good in
+    let k = first_kept policy images input in
     let lawful : IsLawful (record (whole k [] []) { processes = map first_process policy.processes }) = record {
       formed = record { ready = l.formed.ready; processes = l.formed.processes; sizes = record { processes = l.formed.sizes.processes; queues = l.formed.sizes.queues; consoles = l.formed.sizes.consoles; table = l.formed.sizes.table } };
       asleep = l.asleep;

@@ -5,7 +5,7 @@ use Rattle.ds_refinement.specs.Held.{Kept, no_memory}
 use Rattle.ds_monitor.specs.Consoles.{texts_of}
 use Rattle.ds_monitor.specs.declared.monitor.Monitor.{Monitor}
 
--- what a monitor keeps; no event is to come
+-- what a monitor keeps; no command is to come
 abbrev pub kept_of : Monitor → Kept
 kept_of m = record {
   state = record {
@@ -18,7 +18,7 @@ kept_of m = record {
     log = [];
     time = m.time;
     commands = [];
-    characters = [];
+    characters = m.due;
     owed = m.owed;
   };
   grants = m.grants;

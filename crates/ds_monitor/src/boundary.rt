@@ -1,14 +1,29 @@
 //! What a boundary does to the processes and their queues.
-ghost use Rattle.std.specs.Prelude.{◌≡◌, ◌<◌, ◌≤◌, ℕ, length, map, IfSome, None};
+ghost use Rattle.std.specs.Prelude.{◌≡◌, ◌<◌, ◌≤◌, ◌^◌, ℕ, length, map, IfSome, None};
 ghost use Rattle.std.specs.List.{All};
-ghost use Rattle.ds_pagemap.specs.Machine.{State, Process, process_of};
+ghost use Rattle.ds_pagemap.specs.Machine.{State, Process, process_of, first};
 ghost use Rattle.ds_pagemap.specs.Boundary.{queued, wakes, woken, rotated};
 ghost use Rattle.ds_monitor.specs.Kept.{kept_of, kept_after};
+ghost use Rattle.ds_monitor.specs.Coming.{period_end, next_due};
 ghost use Rattle.ds_monitor.specs.Orderly.{IsOrderly};
 
+use crate::due::NEVER;
 use crate::monitor::Monitor;
 use ds_pagemap::Turn;
 use ds_procs::Standing;
+
+/// When the period of a rate ends in which a time lies, or never where it has none.
+fn period_end(rate: u32, time: u64) -> u64
+    requires high { rate ≤ 15 }
+    requires early { time < 2 ^ 62 }
+    ensures { result ≡ period_end rate time }
+{
+    if rate == 0 {
+        return NEVER;
+    }
+    let period = 1 << (rate + 2);
+    (time / period + 1) * period
+}
 
 impl Monitor {
     /// The boundary that is owed is done, or is no longer owed.
@@ -92,7 +107,8 @@ impl Monitor {
 
     /// The process that ran goes behind the others, if it is still first.
     pub fn rotate(&mut self, runner: Option<u32>)
-        requires there { IfSome runner (λ p. (0 < p) × (p ≤ length self.old.seats.items)) }
+        requires there { IfSome (first self.old.ready)
+            (λ p. (0 < p) × (p ≤ length self.old.seats.items)) }
         requires few { length self.old.seats.items ≤ 100 }
         ensures kept { kept_of self.new
             ≡ kept_after (λ (m : State). rotated m runner) (kept_of self.old) }
@@ -106,5 +122,15 @@ impl Monitor {
                 self.make_ready(process);
             }
         }
+    }
+
+    /// Looks ahead for the time at which a boundary next has something to do.
+    pub fn look_ahead(&mut self)
+        requires rate { self.old.rate ≤ 15 }
+        requires early { self.old.ticked < 2 ^ 62 }
+        ensures { self.new ≡ record self.old { quiet_until = next_due (kept_of self.old) } }
+    {
+        let comes = self.due.next_time();
+        self.quiet_until = comes.min(period_end(self.rate, self.ticked));
     }
 }

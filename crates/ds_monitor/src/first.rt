@@ -2,20 +2,22 @@
 ghost use Rattle.std.specs.Prelude.{◌≡◌, ◌≤◌, length, map, replicate, [], IfOk, OnErr, ℕ, ◌<◌};
 ghost use Rattle.ds_policy.specs.PolicyParts.{sources_of};
 ghost use Rattle.ds_pagemap.specs.First.{first_process, first_state, numbers};
+ghost use Rattle.ds_refinement.specs.First.{first_kept};
 ghost use Rattle.ds_refinement.specs.Stands.{IsKept};
 ghost use Rattle.ds_mem.specs.Memory.{frame_of};
 ghost use Rattle.ds_monitor.specs.Kept.{kept_of};
-ghost use Rattle.ds_monitor.specs.First.{first_kept, no_input};
+ghost use Rattle.ds_monitor.specs.Coming.{next_due};
 ghost use Rattle.ds_monitor.specs.Orderly.{IsOrderly};
 
 use crate::consoles::Consoles;
+use crate::due::Due;
 use crate::line_queue::LineQueue;
 use crate::monitor::Monitor;
 use crate::seat::Seat;
 use ds_asm::Image;
 use ds_grants::Grants;
 use ds_mem::{Memory, OutOfMemory};
-use ds_policy::{Policy, PolicyProcess};
+use ds_policy::{Events, Policy, PolicyProcess};
 use ds_procs::Queue;
 use std::alloc::Global;
 
@@ -68,20 +70,24 @@ impl Monitor {
         alloc: Global,
         policy: &Policy,
         images: &[Image],
+        events: Events,
         memory: &mut Memory,
     ) -> Result<Monitor, OutOfMemory>
         requires images { length images.now ≡ length (sources_of policy.now.pages) }
-        ensures first { IfOk result (λ m. kept_of m ≡ first_kept policy.now images.now) }
+        ensures first { IfOk result (λ m. kept_of m ≡ first_kept policy.now images.now events) }
         ensures kept { IfOk result (λ m. IsKept (kept_of m) memory.new
-            (first_state policy.now images.now no_input)) }
+            (first_state policy.now images.now events)) }
         ensures orderly { IfOk result (λ m. IsOrderly (kept_of m)) }
+        ensures next { IfOk result (λ m. m.quiet_until ≡ next_due (kept_of m)) }
         ensures elsewhere { (f : ℕ) → f < 402 → frame_of memory.new f ≡ frame_of memory.old f }
         ensures refused { OnErr result (memory.new ≡ memory.old) }
     {
         let seats = seats_of(alloc, policy.processes())?;
         let queues = empty_queues(alloc)?;
         let grants = Grants::new(alloc, policy, images, memory)?;
-        Ok(Monitor {
+        // No command is served yet, so none is kept.
+        prove!(events.commands().is_empty());
+        let mut monitor = Monitor {
             grants,
             seats,
             ready: all_ready(policy.processes().len()),
@@ -94,6 +100,10 @@ impl Monitor {
             owed: None,
             owner: 1,
             ticked: 0,
-        })
+            due: Due::new(events),
+            quiet_until: 0,
+        };
+        monitor.look_ahead();
+        Ok(monitor)
     }
 }

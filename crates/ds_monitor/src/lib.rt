@@ -6,6 +6,7 @@
 mod boundary;
 mod calls;
 mod consoles;
+mod due;
 mod first;
 mod laws;
 mod line_queue;
@@ -18,6 +19,7 @@ mod services;
 mod turns;
 
 pub use consoles::Consoles;
+pub use due::Due;
 pub use laws::{
     a_blind_change_serves, a_process_in_its_seat_is_orderly, a_service_follows_another,
 };

@@ -1,6 +1,7 @@
 //! What the monitor keeps.
 
 use crate::consoles::Consoles;
+use crate::due::Due;
 use crate::line_queue::LineQueue;
 use crate::seat::Seat;
 use ds_grants::Grants;
@@ -34,4 +35,8 @@ pub struct Monitor {
     pub owner: u32,
     /// The time to which the clock was brought.
     pub ticked: u64,
+    /// The characters that have not come in yet.
+    pub due: Due,
+    /// The time before which no boundary has anything to do.
+    pub quiet_until: u64,
 }

@@ -81,10 +81,7 @@ impl<L: Lookaside> Station<L> {
         ensures faults { IfErr result (λ f. IsStartFault start f) }
     {
         let tlb = L::new(start)?;
-        // No event is served yet.
-        prove!(events.commands().is_empty());
-        prove!(events.characters().is_empty());
-        let parts = Parts::new(alloc, policy, images, tlb)?;
+        let parts = Parts::new(alloc, policy, images, events, tlb)?;
         Ok(Station { parts })
     }
 

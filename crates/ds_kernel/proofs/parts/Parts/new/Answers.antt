@@ -11,7 +11,6 @@ use Rattle.ds_pagemap.specs.First.{first_process}
 use Rattle.ds_refinement.specs.Held.{Kept}
 use Rattle.ds_refinement.specs.First.{first_core, first_bus}
 use Rattle.ds_refinement.proofs.FirstStands.{first_stands}
-use Rattle.ds_monitor.specs.First.{no_input}
 use Rattle.ds_kernel.proofs.Beginning.{first_good}
 use Rattle.ds_kernel.proofs.parts.Parts.new.Goals as goal
 
@@ -43,7 +42,7 @@ pub returns-clause-stands : goal.returns-clause-stands
 returns-clause-stands g c =
     let some : 0 < length c.args.policy.now.processes = omega (arith, c.processes.ensures.some) in
     let named = subst NamesPages (ap (λ (k : Kept). k.grants) c.in_ok-monitor.ensures.first) c.table.ensures.pages in
-    first_stands c.args.policy.now c.args.images.now no_input _ _ some named (returns-clause-first g c)
+    first_stands c.args.policy.now c.args.images.now c.args.events _ _ some named (returns-clause-first g c)
 
 pub returns-clause-good : goal.returns-clause-good
-returns-clause-good g c = first_good _ c.args.policy.now c.args.images.now _ (returns-clause-first g c) (returns-clause-stands g c) c.in_ok-monitor.ensures.orderly c.rate.ensures.none_yet refl
+returns-clause-good g c = first_good _ c.args.policy.now c.args.images.now c.args.events _ (returns-clause-first g c) (returns-clause-stands g c) c.in_ok-monitor.ensures.orderly (record { high = c.rate.ensures.high; low = c.rate.ensures.low }) c.in_ok-monitor.ensures.next refl

@@ -1,0 +1,80 @@
+-- How far a block of instructions may go.
+use Rattle.std.proofs.Common.{◌≡◌, ◌≢◌, ℕ, ◌+◌, ◌-◌, ◌<◌, ◌≤◌, Bool, true, false, not, nat_le, List, [], ◌∷◌, None, refl, sym, ap, subst, ◌∙◌, arith}
+use Rattle.std.specs.Prelude.{min, is_some, Option, Some}
+use Rattle.std.specs.List.Sorted.{IsNonDecreasingBy}
+use Rattle.std.proofs.lemmas.Bool.Decides.{nat_tests}
+use Rattle.std.proofs.Math.Nat.{min-eq_left, min-eq_right, min-le_right}
+use Rattle.ds_cp0.specs.System.{is_user}
+use Rattle.ds_core.specs.Core.{CoreState}
+use Rattle.ds_core.specs.Ahead.{owed_tick}
+use Rattle.ds_policy.specs.InputFacts.{comes_at}
+use Rattle.ds_pagemap.specs.declared.turn.Turn.{Turn}
+use Rattle.ds_pagemap.specs.Machine.{State, first}
+use Rattle.ds_refinement.specs.Held.{Held, Kept}
+use Rattle.ds_refinement.specs.Stands.{RunningBy, OnProcessor}
+use Rattle.ds_refinement.specs.Blocks.{GoesAhead}
+use Rattle.ds_refinement.proofs.Quieter.{quiet_until, user_status_of}
+use Rattle.ds_monitor.specs.Coming.{first_time, period_end}
+use Rattle.ds_kernel.specs.declared.parts.Parts.{Parts}
+use Rattle.ds_kernel.specs.Parts.{held}
+use Rattle.ds_kernel.specs.Good.{IsGood}
+use Rattle.ds_kernel.proofs.Waiting.{due_later, passed_later}
+use Rattle.ds_kernel.proofs.Bounding.{nothing_due}
+
+-- an exception that waits has been counted in its unit, so where none or the branch alone is counted none waits
+user_by : (user slot : Bool) (c : CoreState) (p : ℕ) (m : State) (spent : ℕ) → (user ≡ false → 0 < spent) → spent ≡ owed_tick c.slot → OnProcessor user slot c p m → user ≡ true
+user_by true slot c p m spent raised is on = refl
+user_by false slot c p m spent raised is on =
+    let none : spent ≡ 0 = is ∙ ap owed_tick on.first in
+    let some : 0 < spent = raised refl in
+    absurd (omega (arith, none, some))
+
+user_of : (queue : List ℕ) (c : CoreState) (k : Kept) (m : State) (spent : ℕ) → queue ≢ [] → (is_user c.system ≡ false → 0 < spent) → spent ≡ owed_tick c.slot → RunningBy queue c k m → is_user c.system ≡ true
+user_of [] c k m spent some raised is running = absurd (some refl)
+user_of (p ∷ rest) c k m spent some raised is running = user_by (is_user c.system) c.slot c p m spent raised is running.on
+
+pub goes_ahead : {L : Type 0} (p : Parts L) (limit : ℕ) → IsGood p → IsNonDecreasingBy comes_at p.monitor.due → p.monitor.owed ≡ None → p.monitor.ready ≢ [] → p.spent ≡ owed_tick p.core.slot
+    → p.monitor.time + limit + 1 < p.monitor.quiet_until → GoesAhead limit (held p)
+goes_ahead p limit good order owed ready spent early =
+    let user : is_user p.core.system ≡ true = user_of p.monitor.ready p.core (held p).kept good.sound.state p.spent ready (λ e. good.orderly.raised (ap not e)) spent good.sound.stands.running in record {
+      owed = owed;
+      ready = ready;
+      mode = user_status_of (held p) good.sound user;
+      spent = spent;
+      quiet = quiet_until (p.monitor.time + limit + 1) (held p).kept good.orderly.ticked (nothing_due p.monitor (p.monitor.time + limit + 1) p.monitor.owed order good.next early good.orderly.lawful);
+    }
+
+below_both : (a b t : ℕ) → t < a → t < b → t < min a b
+below_both a b t x y = elim (nat_le a b) as (λ (r : Bool). nat_le a b ≡ r → t < min a b) [
+  | true ↦ λ e. (let l : a ≤ b = grind (arith, nat_tests) in subst (λ (n : ℕ). t < n) (sym (min-eq_left l)) x)
+  | false ↦ λ e. (let l : b ≤ a = grind (arith, nat_tests) in subst (λ (n : ℕ). t < n) (sym (min-eq_right l)) y)
+] refl
+
+-- where one instruction may go ahead, nothing comes up to the boundary behind it
+pub goes_one : {L : Type 0} (p : Parts L) → IsGood p → GoesAhead 1 (held p) → p.monitor.time + 1 + 1 < p.monitor.quiet_until
+goes_one p good goes =
+    let early : p.monitor.time ≤ 1000000001 = good.orderly.early in
+    let last = p.monitor.time + 1 + 1 in
+    let q = goes.quiet.quiet last (omega arith) (omega arith) in
+    let first = due_later last p.monitor.due (omega (arith, early)) q.characters in
+    let ends = passed_later p.monitor.rate p.monitor.ticked last (omega (arith, early)) q.period in
+    subst (λ (n : ℕ). last < n) (sym good.next) (below_both (first_time p.monitor.due) (period_end p.monitor.rate p.monitor.ticked) last first ends)
+
+-- the time at which the last boundary of a block comes
+pub within_quiet : (time n q end : ℕ) → end ≡ min n (q - 1) → time + 1 < end → time + (end - time - 1) + 1 < q
+within_quiet time n q end is some =
+    let most : min n (q - 1) ≤ q - 1 = min-le_right n (q - 1) in
+    omega (arith, is, some, most)
+
+pub no_end : (time n q end : ℕ) → end ≡ min n (q - 1) → end ≤ time + 1 → time + 1 < n → time + 1 + 1 < q → ⊥
+no_end time n q end is few soon quiet =
+    let past : time + 1 < min n (q - 1) = below_both n (q - 1) (time + 1) soon (omega (arith, quiet)) in
+    omega (arith, is, few, past)
+
+pub none_owed : (o : Option Turn) → is_some o ≡ false → o ≡ None
+none_owed None e = refl
+none_owed (Some turn) e = absurd (cc)
+
+pub some_ready : (queue : List ℕ) → is_some (first queue) ≡ true → queue ≢ []
+some_ready [] e = absurd (cc)
+some_ready (p ∷ rest) e = λ none. absurd (cc)

@@ -1,0 +1,189 @@
+-- Boundaries with nothing to do and boundaries that are served, as steps of a station.
+use Rattle.std.proofs.Common.{◌≡◌, ◌≢◌, ◌⊎◌, inl, inr, ℕ, zero, suc, ◌+◌, ◌<◌, ◌≤◌, Bool, true, false, not, [], Option, None, refl, sym, ap, subst, ◌∙◌, arith}
+use Rattle.std.specs.Prelude.{IsSome, is_some, min, ◌==◌}
+use Rattle.std.specs.List.Sorted.{IsNonDecreasingBy}
+use Rattle.std.proofs.Math.Nat.{min-le_left, min-le_right}
+use Rattle.ds_word.specs.Word.{truth, bits}
+use Rattle.ds_policy.specs.InputFacts.{comes_at}
+use Rattle.ds_pagemap.specs.declared.turn.Turn.{Turn}
+use Rattle.ds_pagemap.specs.Boundary.{boundary}
+use Rattle.ds_pagemap.specs.Run.{is_over}
+use Rattle.ds_pagemap_laws.specs.Lawful.{IsLawful}
+use Rattle.ds_refinement.specs.declared.step.Step.TheVariants.{Boundary}
+use Rattle.ds_refinement.specs.Held.{Held, whole}
+use Rattle.ds_refinement.specs.Stands.{IsSound}
+use Rattle.ds_refinement.specs.Services.{EndsBy, with_boundary, with_idle_turn, with_none_spent}
+use Rattle.ds_refinement.specs.Steps.{Follows, Moves, is_in_kernel}
+use Rattle.ds_refinement.specs.Quiet.{IsQuiet}
+use Rattle.ds_refinement.specs.Real.{IsReal}
+use Rattle.ds_refinement.proofs.Boundaries.{quiet, idle, stands_waited}
+use Rattle.ds_refinement.proofs.Attended.{boundary_served, idle_served, served_moves, idle_served_moves}
+use Rattle.ds_monitor.specs.Coming.{first_time, period_end, next_due}
+use Rattle.ds_monitor.specs.Kept.{kept_of}
+use Rattle.ds_monitor.specs.Room.{HasRoom}
+use Rattle.ds_monitor.specs.declared.monitor.Monitor.{Monitor}
+use Rattle.ds_kernel.specs.declared.parts.Parts.{Parts}
+use Rattle.ds_kernel.specs.Parts.{held}
+use Rattle.ds_kernel.specs.Good.{IsRate, IsOrderly, IsGood}
+use Rattle.ds_kernel.specs.Ended.{Does}
+use Rattle.ds_kernel.specs.Attended.{HasAttended, IsBounded}
+use Rattle.ds_kernel.proofs.Waiting.{none_due, none_passed}
+use Rattle.ds_kernel.proofs.Doing.{enters_user}
+use Rattle.ds_kernel.proofs.Stepping.{room_later, lawful_later, none_is_not_some, sound_behind}
+
+-- before the time at which something next comes, a boundary has nothing to do
+pub nothing_due : (m : Monitor) (time : ℕ) (owed : Option Turn) → IsNonDecreasingBy comes_at m.due → m.quiet_until ≡ next_due (kept_of m) → time < m.quiet_until → IsLawful (whole (kept_of m) [] [])
+    → IsQuiet (record (kept_of m) { state = record (kept_of m).state { time = time; owed = owed } })
+nothing_due m time owed order next early lawful =
+    let before : time < next_due (kept_of m) = subst (λ (n : ℕ). time < n) next early in
+    let first : next_due (kept_of m) ≤ first_time m.due = min-le_left (first_time m.due) (period_end m.rate m.ticked) in
+    let last : next_due (kept_of m) ≤ period_end m.rate m.ticked = min-le_right (first_time m.due) (period_end m.rate m.ticked) in
+    record {
+      commands = refl;
+      characters = none_due time m.due order (omega (arith, before, first));
+      asleep = lawful.asleep;
+      period = none_passed m.rate m.ticked time (omega (arith, before, last));
+    }
+
+-- A boundary that is owed.
+module _ {L : Type 0} (old : Parts L) (good : IsGood old) (owed : IsSome old.monitor.owed) where
+  abbrev h : Held
+  h = held old
+
+  none_spent : (n : ℕ) → (0 < n → old.monitor.owed ≡ None) → n ≡ 0
+  none_spent zero begun = refl
+  none_spent (suc n) begun = absurd (none_is_not_some old.monitor.owed (begun (omega arith)) owed)
+
+  real : (new : Held) → new.core.random ≡ h.core.random → IsReal h new
+  real new random = record {
+    instruction = λ unit other. absurd (none_is_not_some old.monitor.owed unit.0 owed);
+    service = λ unit served. absurd (none_is_not_some old.monitor.owed unit.0 owed);
+    random = λ all. random;
+  }
+
+  quiet_does : IsQuiet h.kept → Does Boundary h (with_boundary h)
+  quiet_does q =
+      let same : h.kept.state.time ≡ h.kept.state.time + 0 = omega arith in
+      let time : h.kept.state.time ≡ h.kept.state.time + truth (not (is_some h.kept.state.owed)) = same ∙ ap (λ (b : Bool). h.kept.state.time + truth (not b)) (sym owed) in record {
+        follows = quiet h owed good.orderly.ticked q;
+        moves = (refl, none_spent old.spent good.orderly.begun, time, refl);
+        real = real (with_boundary h) refl;
+      }
+
+  pub bounded_does : (new : Held) → IsBounded h new → Does Boundary h new
+  bounded_does new by = elim by [
+    | inl none ↦ subst (Does Boundary h) (sym none.1) (quiet_does none.0)
+    | inr ends ↦ record { follows = boundary_served h new owed ends.0; moves = served_moves h new owed ends.1 ends.0; real = real new ends.2 }
+  ]
+
+  pub quiet_good : IsQuiet h.kept → IsGood (record old { monitor = record old.monitor { owed = None } })
+  quiet_good q =
+      let o = good.orderly in record {
+        sound = sound_behind Boundary h (with_boundary h) good.sound (quiet_does q).follows;
+        orderly = record {
+          begun = λ some. refl;
+          failed = λ failed. refl;
+          raised = o.raised;
+          running = o.running;
+          spent = o.spent;
+          lines = o.lines;
+          ticked = o.ticked;
+          early = o.early;
+          rate = o.rate;
+          lawful = lawful_later h.kept h.kept.state.time None o.lawful;
+        };
+        room = λ some. room_later old.monitor old.monitor.time None (good.room some);
+        roomy = λ some. room_later old.monitor old.monitor.time None (good.roomy some);
+        next = good.next;
+      }
+
+  pub attended_good : (new : Parts L) → HasAttended old new → IsGood new
+  attended_good new a =
+      let o = good.orderly in
+      let moves : Moves Boundary h (held new) = served_moves h (held new) owed a.own a.ends in
+      let none : new.spent ≡ 0 = moves.1 in
+      let user : is_in_kernel (held new) ≡ false = ap (λ (n : ℕ). not (bits n 1 1 == 1)) (enters_user new.monitor.ready new.core (held new).kept a.ends.enters) in
+      let few : old.monitor.lines ≤ old.monitor.time = o.lines in
+      let lines : new.monitor.lines ≡ old.monitor.lines = a.lines in
+      let time : new.monitor.time ≡ old.monitor.time = a.time in
+      let ticked : new.monitor.ticked ≡ old.monitor.time = a.ticked in
+      let early : old.monitor.time ≤ 1000000001 = o.early in record {
+        sound = sound_behind Boundary h (held new) good.sound (boundary_served h (held new) owed a.ends);
+        orderly = record {
+          begun = λ some. moves.0;
+          failed = λ failed. moves.0;
+          raised = λ is. (let no : false ≡ true = sym user ∙ is in absurd (cc));
+          running = λ some. absurd (omega (arith, none, some));
+          spent = omega (arith, none);
+          lines = omega (arith, lines, time, few);
+          ticked = omega (arith, ticked, time);
+          early = omega (arith, time, early);
+          rate = subst IsRate (sym a.rate) o.rate;
+          lawful = a.lawful;
+        };
+        room = λ some. absurd (omega (arith, none, some));
+        roomy = λ is. (let no : false ≡ true = sym a.closed ∙ is in absurd (cc));
+        next = a.next;
+      }
+
+-- A turn in which no process runs.
+module _ {L : Type 0} (old between waiting : Parts L) (good : IsGood old) (unowed : old.monitor.owed ≡ None) (nobody : old.monitor.ready ≡ []) (going : is_over (kept_of old.monitor).state ≡ false)
+    (working : old.failed ≡ false) (soon : old.monitor.time < 1000000000) (is : held between ≡ held old) (until : between.monitor.quiet_until ≡ old.monitor.quiet_until) (room : HasRoom 1 between.monitor)
+    (waits : held waiting ≡ with_idle_turn (held between)) (rest : waiting ≡ record between { monitor = record between.monitor { time = waiting.monitor.time; owed = waiting.monitor.owed } }) where
+  nobody_spent : (n : ℕ) → (0 < n → old.monitor.ready ≢ []) → n ≡ 0
+  nobody_spent zero running = refl
+  nobody_spent (suc n) running = absurd (running (omega arith) nobody)
+
+  none_begun : old.spent ≡ 0
+  none_begun = nobody_spent old.spent good.orderly.running
+
+  waiting_is : held waiting ≡ with_idle_turn (held old)
+  waiting_is = waits ∙ ap with_idle_turn is
+
+  real_idle : (new : Held) → new.core.random ≡ old.core.random → IsReal (held old) new
+  real_idle new random = record {
+    instruction = λ unit other. absurd (unit.1 nobody);
+    service = λ unit served. absurd (unit.1 nobody);
+    random = λ all. random;
+  }
+
+  quiet_idle : IsQuiet (with_idle_turn (held old)).kept → Does Boundary (held old) (with_boundary (with_idle_turn (held old)))
+  quiet_idle q =
+      let time : old.monitor.time + 1 ≡ old.monitor.time + truth (not (is_some old.monitor.owed)) = ap (λ (o : Option Turn). old.monitor.time + truth (not (is_some o))) (sym unowed) in record {
+        follows = idle (held old) unowed nobody going q;
+        moves = (refl, none_begun, time, refl);
+        real = real_idle (with_boundary (with_idle_turn (held old))) refl;
+      }
+
+  by_bounded : (new : Held) → IsBounded (with_idle_turn (held old)) new → Does Boundary (held old) new
+  by_bounded new by = elim by [
+    | inl none ↦ subst (Does Boundary (held old)) (sym none.1) (quiet_idle none.0)
+    | inr ends ↦ record { follows = idle_served (held old) new unowed nobody going ends.0; moves = idle_served_moves (held old) new unowed ends.1 ends.0; real = real_idle new ends.2 }
+  ]
+
+  pub idle_bounded : (new : Held) → IsBounded (held waiting) new → Does Boundary (held old) new
+  idle_bounded new by = by_bounded new (subst (λ (x : Held). IsBounded x new) waiting_is by)
+
+  pub waiting_good : IsGood waiting
+  waiting_good =
+      let o = good.orderly in
+      let lines : old.monitor.lines ≤ old.monitor.time = o.lines in
+      let ticked : old.monitor.ticked ≤ old.monitor.time = o.ticked in
+      let marks : IsOrderly (with_idle_turn (held old)) = record {
+        begun = λ some. absurd (let none = none_begun in omega (arith, none, some));
+        failed = λ is. (let no : false ≡ true = sym working ∙ is in absurd (cc));
+        raised = o.raised;
+        running = o.running;
+        spent = o.spent;
+        lines = omega (arith, lines);
+        ticked = omega (arith, ticked);
+        early = omega (arith, soon);
+        rate = o.rate;
+        lawful = lawful_later (held old).kept (old.monitor.time + 1) (with_idle_turn (held old)).kept.state.owed o.lawful;
+      } in record {
+        sound = subst IsSound (sym waiting_is) (record { state = _; stands = stands_waited (held old) good.sound.state good.sound.stands unowed nobody });
+        orderly = subst IsOrderly (sym waiting_is) marks;
+        room = λ some. subst (λ (x : Parts L). HasRoom 1 x.monitor) (sym rest) (room_later between.monitor waiting.monitor.time waiting.monitor.owed room);
+        roomy = λ some. subst (λ (x : Parts L). HasRoom 1 x.monitor) (sym rest) (room_later between.monitor waiting.monitor.time waiting.monitor.owed room);
+        next = ap (λ (x : Parts L). x.monitor.quiet_until) rest ∙ (until ∙ (good.next ∙ sym (ap (λ (x : Held). next_due x.kept) waiting_is)));
+      }
