@@ -29,7 +29,7 @@ reaches_page c vpn base place pc knows here some page aligned is =
     let low : c.pc < 2 ^ 31 = omega (arith, here, page, whole.mapped) in
     let word : c.pc % 4 ≡ 0 = ap (λ (n : ℕ). n % 4) (sym here) ∙ aligned in
     let frame : Some base ≡ base_of c.entries false (c.pc / 2 ^ 12) (asid_of c.system) =
-        sym whole.frame ∙ ap (λ (n : ℕ). base_of c.entries false n (asid_of c.system)) (page ∙ ap (λ (n : ℕ). n / 2 ^ 12) here) in
+    sym whole.frame ∙ ap (λ (n : ℕ). base_of c.entries false n (asid_of c.system)) (page ∙ ap (λ (n : ℕ). n / 2 ^ 12) here) in
     rw (word, is, here) (translate_by_base c.entries (asid_of c.system) (mode_of c.system) Fetch c.pc base low frame)
 
 -- behind a calm step the page is known still

@@ -12,9 +12,9 @@ mod transfer;
 
 use crate::event::Event;
 use access::fetch;
+pub use ahead::Ahead;
 use code::CodePage;
 use ds_amap::{Access, Physical};
-pub use ahead::Ahead;
 use ds_cp0::{Cp0, ExceptionCode};
 use ds_dev::Bus;
 use ds_isa::{Instr, Late, Size};

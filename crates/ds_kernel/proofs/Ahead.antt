@@ -10,7 +10,7 @@ use Rattle.ds_core.specs.Ahead.{owed_tick}
 use Rattle.ds_policy.specs.InputFacts.{comes_at}
 use Rattle.ds_pagemap.specs.declared.turn.Turn.{Turn}
 use Rattle.ds_pagemap.specs.Machine.{State, first}
-use Rattle.ds_refinement.specs.Held.{Held, Kept}
+use Rattle.ds_refinement.specs.Held.{Kept}
 use Rattle.ds_refinement.specs.Stands.{RunningBy, OnProcessor}
 use Rattle.ds_refinement.specs.Blocks.{GoesAhead}
 use Rattle.ds_refinement.proofs.Quieter.{quiet_until, user_status_of}

@@ -5,27 +5,25 @@ use Rattle.std.specs.List.{All}
 use Rattle.std.proofs.lemmas.List.Elements.{All-take, All-filter}
 use Rattle.ds_word.specs.Word.{word, bits}
 use Rattle.ds_isa.specs.Registers.{settled}
-use Rattle.ds_tlb.specs.declared.entry.Entry.{Entry}
 use Rattle.ds_cp0.specs.System.{is_user, pushed}
 use Rattle.ds_dev.specs.declared.serial.Character.{Character as Received}
-use Rattle.ds_dev.specs.Serial.{SerialState, serial_at_start}
-use Rattle.ds_dev.specs.Clock.{ClockState, rings, clock_after, read_flags}
-use Rattle.ds_dev.specs.Bus.{BusState, asks}
+use Rattle.ds_dev.specs.Serial.{SerialState}
+use Rattle.ds_dev.specs.Clock.{ClockState, rings, clock_after}
+use Rattle.ds_dev.specs.Bus.{BusState}
 use Rattle.ds_core.specs.Core.{CoreState}
 use Rattle.ds_policy.specs.declared.command.Character.{Character}
-use Rattle.ds_grants.specs.State.{page_state}
 use Rattle.ds_pagemap.specs.declared.turn.Turn.{Turn}
 use Rattle.ds_pagemap.specs.Machine.{State, Process, process_of, with_process}
 use Rattle.ds_pagemap.specs.Boundary.{all_queued, woken, rotated, has_passed, boundary}
 use Rattle.ds_pagemap_laws.specs.Due.{come}
 use Rattle.ds_refinement.specs.Held.{Held, Kept, whole, began_or, last_boundary}
-use Rattle.ds_refinement.specs.Stands.{Stands, IsSound, RunningBy, OnProcessor, AreResting, user_status}
-use Rattle.ds_refinement.specs.Services.{Serves, IsBare, seated, seated_process, with_first_seated, resume_address}
+use Rattle.ds_refinement.specs.Stands.{IsSound, RunningBy, OnProcessor, AreResting, user_status}
+use Rattle.ds_refinement.specs.Services.{Serves, IsBare, seated_process, with_first_seated}
 use Rattle.ds_refinement.proofs.Boundaries.{owed_is}
 use Rattle.ds_monitor.specs.Kept.{kept_after}
 use Rattle.ds_monitor.proofs.Serving.{blind_serves}
-use Rattle.ds_kernel.specs.Devices.{all_received, typed, emptied, interrupted}
-use Rattle.ds_kernel.specs.Attended.{to_come, bus_at, read_out, runner_of, unowed, shared}
+use Rattle.ds_kernel.specs.Devices.{typed, emptied, interrupted}
+use Rattle.ds_kernel.specs.Attended.{to_come, bus_at, read_out, unowed, shared}
 use Rattle.ds_kernel.proofs.Characters.{as_received, silo_of, emptied_all, typed_alike, first_typed}
 use Rattle.ds_kernel.proofs.Clocks.{rings_as, passed_since, none_since, time_is}
 use Rattle.ds_kernel.proofs.Sharing.{shared_blind, boundary_shared}

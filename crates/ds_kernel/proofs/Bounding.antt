@@ -1,19 +1,18 @@
 -- Boundaries with nothing to do and boundaries that are served, as steps of a station.
-use Rattle.std.proofs.Common.{◌≡◌, ◌≢◌, ◌⊎◌, inl, inr, ℕ, zero, suc, ◌+◌, ◌<◌, ◌≤◌, Bool, true, false, not, [], Option, None, refl, sym, ap, subst, ◌∙◌, arith}
-use Rattle.std.specs.Prelude.{IsSome, is_some, min, ◌==◌}
+use Rattle.std.proofs.Common.{◌≡◌, ◌≢◌, inl, inr, ℕ, zero, suc, ◌+◌, ◌<◌, ◌≤◌, Bool, true, false, not, [], Option, None, refl, sym, ap, subst, ◌∙◌, arith}
+use Rattle.std.specs.Prelude.{IsSome, is_some, ◌==◌}
 use Rattle.std.specs.List.Sorted.{IsNonDecreasingBy}
 use Rattle.std.proofs.Math.Nat.{min-le_left, min-le_right}
 use Rattle.ds_word.specs.Word.{truth, bits}
 use Rattle.ds_policy.specs.InputFacts.{comes_at}
 use Rattle.ds_pagemap.specs.declared.turn.Turn.{Turn}
-use Rattle.ds_pagemap.specs.Boundary.{boundary}
 use Rattle.ds_pagemap.specs.Run.{is_over}
 use Rattle.ds_pagemap_laws.specs.Lawful.{IsLawful}
 use Rattle.ds_refinement.specs.declared.step.Step.TheVariants.{Boundary}
 use Rattle.ds_refinement.specs.Held.{Held, whole}
 use Rattle.ds_refinement.specs.Stands.{IsSound}
-use Rattle.ds_refinement.specs.Services.{EndsBy, with_boundary, with_idle_turn, with_none_spent}
-use Rattle.ds_refinement.specs.Steps.{Follows, Moves, is_in_kernel}
+use Rattle.ds_refinement.specs.Services.{with_boundary, with_idle_turn}
+use Rattle.ds_refinement.specs.Steps.{Moves, is_in_kernel}
 use Rattle.ds_refinement.specs.Quiet.{IsQuiet}
 use Rattle.ds_refinement.specs.Real.{IsReal}
 use Rattle.ds_refinement.proofs.Boundaries.{quiet, idle, stands_waited}

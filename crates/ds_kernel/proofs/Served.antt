@@ -1,9 +1,7 @@
 -- The boundary that is served, put together.
-use Rattle.std.proofs.Common.{◌≡◌, ℕ, ◌<◌, ◌≤◌, ◌^◌, Bool, true, false, cond, List, [], ◌∷◌, length, take, map, Option, Some, None, refl, sym, ap, ap₂, subst, ◌∙◌, arith}
-use Rattle.std.specs.Prelude.{◌==◌, IsSome}
+use Rattle.std.proofs.Common.{◌≡◌, ℕ, ◌<◌, ◌≤◌, Bool, true, false, List, [], length, take, map, Option, Some, None, refl, sym, ap, ap₂, subst, ◌∙◌, arith}
 use Rattle.std.specs.List.{All}
 use Rattle.ds_tlb.specs.declared.entry.Entry.{Entry}
-use Rattle.ds_dev.specs.Clock.{ClockState}
 use Rattle.ds_dev.specs.declared.serial.Character.{Character as Received}
 use Rattle.ds_dev.specs.Bus.{BusState, asks}
 use Rattle.ds_core.specs.Core.{CoreState}
@@ -17,9 +15,9 @@ use Rattle.ds_pagemap.specs.Boundary.{all_queued, has_passed, boundary}
 use Rattle.ds_pagemap_laws.specs.Due.{come}
 use Rattle.ds_pagemap_laws.specs.Lawful.{IsLawful}
 use Rattle.ds_pagemap_laws.proofs.Formed.{formed_with}
-use Rattle.ds_refinement.specs.Held.{Held, Kept, Own, whole, space_of}
-use Rattle.ds_refinement.specs.Stands.{IsSound, AreResting, user_status}
-use Rattle.ds_refinement.specs.Services.{Serves, EntersBy, EndsBy, seated, with_first_seated}
+use Rattle.ds_refinement.specs.Held.{Kept, Own, whole, space_of}
+use Rattle.ds_refinement.specs.Stands.{IsSound, AreResting}
+use Rattle.ds_refinement.specs.Services.{Serves, EntersBy, EndsBy, seated}
 use Rattle.ds_pagemap.proofs.Boundaries.{boundary_owed}
 use Rattle.ds_monitor.specs.declared.monitor.Monitor.{Monitor}
 use Rattle.ds_monitor.specs.Coming.{next_due}
@@ -28,7 +26,7 @@ use Rattle.ds_kernel.specs.declared.parts.Parts.{Parts}
 use Rattle.ds_kernel.specs.Parts.{held}
 use Rattle.ds_kernel.specs.Devices.{IsOfLine, typed, interrupted}
 use Rattle.ds_kernel.specs.Attended.{to_come, bus_at, read_out, runner_of, unowed, shared, HasAttended}
-use Rattle.ds_kernel.proofs.Attending.{FirstBy, at_boundary, quiet_kept, arrived_kept, seated_between, seat_beside, boundary_serves, unseen, shared_alike, is_scanned, is_empty, queued_alike, flag_is, rest_again}
+use Rattle.ds_kernel.proofs.Attending.{at_boundary, quiet_kept, arrived_kept, seated_between, seat_beside, boundary_serves, unseen, shared_alike, queued_alike, flag_is, rest_again}
 
 -- nothing was received yet, so each that was is of a line
 pub none_received : (silo : List Received) → silo ≡ [] → All IsOfLine silo

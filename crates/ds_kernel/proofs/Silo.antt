@@ -1,11 +1,11 @@
 -- What a character is read as.
-use Rattle.std.proofs.Common.{◌≡◌, ℕ, ◌+◌, ◌*◌, ◌/◌, ◌%◌, ◌<◌, ◌^◌, Bool, true, false, List, [], ◌∷◌, ap₂, refl, sym, ◌∙◌, arith}
-use Rattle.std.specs.Prelude.{◌==◌, slice_get, Option, Some, None}
+use Rattle.std.proofs.Common.{◌≡◌, ℕ, ◌+◌, ◌*◌, ◌/◌, ◌%◌, ◌<◌, ◌^◌, Bool, true, false, List, [], ◌∷◌, ap₂, arith}
+use Rattle.std.specs.Prelude.{slice_get, Some}
 use Rattle.std.specs.List.{All}
 use Rattle.std.proofs.lemmas.List.Elements.{All-head}
 use Rattle.ds_word.specs.Word.{bit}
 use Rattle.ds_dev.specs.declared.serial.Character.{Character as Received}
-use Rattle.ds_dev.specs.Serial.{SerialState, received_word, taken, read_silo}
+use Rattle.ds_dev.specs.Serial.{SerialState, taken, read_silo}
 use Rattle.ds_kernel.specs.declared.devices.Typed.{Typed}
 use Rattle.ds_kernel.specs.Devices.{IsOfLine, oldest}
 

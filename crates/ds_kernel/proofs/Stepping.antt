@@ -1,5 +1,5 @@
 -- What single steps of a station do: an instruction, a boundary, an idle turn; and a failure.
-use Rattle.std.proofs.Common.{◌≡◌, ◌≢◌, ℕ, zero, suc, ◌+◌, ◌-◌, ◌*◌, ◌^◌, ◌<◌, ◌≤◌, Bool, true, false, not, [], Option, None, refl, sym, ap, ap₂, subst, ◌∙◌, arith}
+use Rattle.std.proofs.Common.{◌≡◌, ◌≢◌, ℕ, ◌+◌, ◌-◌, ◌*◌, ◌^◌, ◌<◌, ◌≤◌, Bool, true, false, not, [], Option, None, refl, sym, ap, ap₂, subst, ◌∙◌, arith}
 use Rattle.std.specs.Prelude.{IsSome, is_some, ◌==◌, ◌&&◌, ◌||◌}
 use Rattle.ds_word.specs.Word.{truth}
 use Rattle.ds_cp0.specs.System.{System, is_user}
@@ -14,19 +14,17 @@ use Rattle.ds_dev.specs.Bus.{BusState}
 use Rattle.ds_grants.specs.State.{page_state}
 use Rattle.ds_pagemap.specs.declared.turn.Turn.{Turn}
 use Rattle.ds_pagemap.specs.Machine.{State}
-use Rattle.ds_pagemap.specs.Boundary.{has_passed}
 use Rattle.ds_pagemap.specs.Run.{is_over}
 use Rattle.ds_pagemap_laws.specs.Lawful.{IsLawful}
 use Rattle.ds_pagemap_laws.proofs.Formed.{formed_with}
 use Rattle.ds_refinement.specs.declared.step.Step.{Step}
-use Rattle.ds_refinement.specs.declared.step.Step.TheVariants.{Inside, Boundary, Over}
+use Rattle.ds_refinement.specs.declared.step.Step.TheVariants.{Inside, Over}
 use Rattle.ds_refinement.specs.Held.{Held, Kept, whole}
 use Rattle.ds_refinement.specs.Stands.{Stands, IsSound}
-use Rattle.ds_refinement.specs.Services.{after_event, step_of, with_boundary, with_failure, with_idle_turn, with_one_spent}
+use Rattle.ds_refinement.specs.Services.{after_event, step_of, with_failure, with_one_spent}
 use Rattle.ds_refinement.specs.Steps.{Follows, Moves, is_in_kernel, ticks_of}
 use Rattle.ds_refinement.specs.Real.{is_served}
-use Rattle.ds_refinement.specs.Quiet.{IsQuiet}
-use Rattle.ds_refinement.proofs.Boundaries.{quiet, idle, rests}
+use Rattle.ds_refinement.proofs.Boundaries.{rests}
 use Rattle.ds_refinement.proofs.Joined.{instruction_real}
 use Rattle.ds_refinement.proofs.Meets.{barred}
 use Rattle.ds_refinement.proofs.Quieter.{user_status_of}

@@ -1,5 +1,5 @@
 -- What a boundary makes of the devices.
-use Rattle.std.specs.Prelude.{ℕ, ◌<◌, ◌^◌, Bool, false, if◌then◌else◌, List, [], ◌∷◌, Option, Some, None}
+use Rattle.std.specs.Prelude.{◌<◌, ◌^◌, Bool, false, if◌then◌else◌, List, [], ◌∷◌, Option, Some, None}
 use Rattle.ds_dev.specs.declared.serial.Character.{Character as Received}
 use Rattle.ds_dev.specs.Serial.{SerialState, received}
 use Rattle.ds_cp0.specs.declared.exception.ExceptionCode.TheVariants.{Interrupt}

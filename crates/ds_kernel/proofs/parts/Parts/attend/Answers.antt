@@ -1,7 +1,6 @@
 use Rattle.std.proofs.Common.{[], ap, sym, subst, ◌∙◌, arith}
-use Rattle.std.specs.Prelude.{IsSome}
 use Rattle.ds_pagemap_laws.specs.Lawful.{IsLawful}
-use Rattle.ds_refinement.specs.Held.{Kept, whole}
+use Rattle.ds_refinement.specs.Held.{whole}
 use Rattle.ds_refinement.proofs.Boundaries.{some_turn}
 use Rattle.ds_monitor.specs.declared.monitor.Monitor.{Monitor}
 use Rattle.ds_monitor.specs.Kept.{kept_of}

@@ -1,4 +1,4 @@
-use Rattle.std.proofs.Common.{inl, inr, refl, arith}
+use Rattle.std.proofs.Common.{inl, refl, arith}
 use Rattle.ds_kernel.proofs.Bounding.{nothing_due, quiet_good, attended_good}
 use Rattle.ds_kernel.proofs.parts.Parts.close_turn.Goals as goal
 

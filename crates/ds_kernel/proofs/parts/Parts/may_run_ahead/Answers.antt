@@ -1,4 +1,4 @@
-use Rattle.std.proofs.Common.{◌≡◌, ◌<◌, ◌+◌, ◌-◌, ℕ, ap, sym, ◌∙◌, arith}
+use Rattle.std.proofs.Common.{◌-◌, ℕ, ap, sym, ◌∙◌, arith}
 use Rattle.std.specs.Prelude.{Option, is_some, min}
 use Rattle.ds_kernel.proofs.Ahead.{goes_ahead, goes_one, within_quiet, no_end, none_owed, some_ready}
 use Rattle.ds_kernel.proofs.parts.Parts.may_run_ahead.Goals as goal
