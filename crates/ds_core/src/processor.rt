@@ -3,6 +3,7 @@ ghost use Rattle.std.specs.Prelude.{◌≡◌, false};
 
 mod access;
 mod ahead;
+mod anew;
 mod code;
 mod coprocessor;
 mod execute;
@@ -11,13 +12,11 @@ mod registers;
 mod transfer;
 
 use crate::event::Event;
-use access::fetch;
 pub use ahead::Ahead;
 use code::CodePage;
-use ds_amap::{Access, Physical};
-use ds_cp0::{Cp0, ExceptionCode};
+use ds_cp0::Cp0;
 use ds_dev::Bus;
-use ds_isa::{Instr, Late, Size};
+use ds_isa::{Instr, Late};
 use ds_tlb::Lookaside;
 use std::marker::Model;
 
@@ -64,12 +63,10 @@ impl<L: Lookaside> Model for Core<L> {
 
 impl<L: Lookaside> Core<L> {
     ghost use Rattle.ds_tlb.specs.Entries.{ticked};
-    ghost use Rattle.ds_cp0.specs.System.{is_pending};
-    ghost use Rattle.ds_dev.specs.Bus.{lines};
     ghost use Rattle.ds_core.specs.Code.{KnowsPage};
     ghost use Rattle.ds_core.specs.Core.{with_tick};
     ghost use Rattle.ds_core.specs.Ahead.{is_raised};
-    ghost use Rattle.ds_core.specs.Effect.{executed, instruction, step};
+    ghost use Rattle.ds_core.specs.Effect.{executed, step};
 
     /// A step, ahead where the page of `pc` is known. It is known behind the step, too, unless that
     /// entered an exception.
@@ -105,38 +102,6 @@ impl<L: Lookaside> Core<L> {
         event
     }
 
-    /// A step that looks at everything: takes an interrupt that is pending, or does the instruction
-    /// at `pc`. The page of the next instruction is known from then on, where it can be.
-    #[cold]
-    #[inline(never)]
-    fn proceed_anew(&mut self, bus: &mut Bus, code: &mut CodePage) -> Event
-        requires slots { L.SLOTS ≡ 64 }
-        requires wired { L.WIRED ≡ 8 }
-        ensures known { KnowsPage code.new.vpn code.new.base self.new }
-        ensures does { (record { event = result; core = self.new; bus = bus.new })
-            ≡ step self.old bus.old }
-    {
-        let event = self.step_anew(bus);
-        *code = self.code_page();
-        event
-    }
-
-    /// The same, without the page.
-    #[inline(always)]
-    fn step_anew(&mut self, bus: &mut Bus) -> Event
-        requires slots { L.SLOTS ≡ 64 }
-        requires wired { L.WIRED ≡ 8 }
-        ensures { (record { event = result; core = self.new; bus = bus.new })
-            ≡ step self.old bus.old }
-    {
-        if self.is_interrupted(bus) {
-            return self.trap(ExceptionCode::Interrupt);
-        }
-        let event = self.instruction(bus);
-        self.tlb.tick();
-        event
-    }
-
     /// Counts Random down behind an exception. It stays a call, so that it is not the common way.
     #[cold]
     #[inline(never)]
@@ -144,30 +109,5 @@ impl<L: Lookaside> Core<L> {
         ensures { self.new ≡ record self.old { random = ticked L.SLOTS L.WIRED self.old.random } }
     {
         self.tlb.tick();
-    }
-
-    /// Whether an interrupt is to be taken.
-    fn is_interrupted(&self, bus: &Bus) -> bool
-        ensures { result ≡ is_pending self.now.system (lines bus.now).0 (lines bus.now).1 }
-    {
-        let (system, clock) = bus.lines();
-        self.cp0.pending(system, clock)
-    }
-
-    /// Does the instruction at `pc`.
-    #[inline(always)]
-    fn instruction(&mut self, bus: &mut Bus) -> Event
-        requires { L.SLOTS ≡ 64 }
-        ensures { (record { event = result; core = self.new; bus = bus.new })
-            ≡ instruction self.old bus.old }
-    {
-        let place = match self.reach(Access::Fetch, Size::Word, self.pc) {
-            Ok(Physical(place)) => place,
-            Err(fault) => return self.refuse(Access::Fetch, self.pc, fault),
-        };
-        match fetch(bus, place) {
-            Ok(instr) => self.execute::<1>(instr, bus),
-            Err(_) => self.trap(ExceptionCode::FetchBus),
-        }
     }
 }

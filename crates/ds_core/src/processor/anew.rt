@@ -1,0 +1,75 @@
+//! A step that looks at everything: interrupts, the whole way of the fetch, and where it leads.
+ghost use Rattle.std.specs.Prelude.{◌≡◌};
+ghost use Rattle.ds_cp0.specs.System.{is_pending};
+ghost use Rattle.ds_dev.specs.Bus.{lines};
+ghost use Rattle.ds_core.specs.Code.{KnowsPage};
+ghost use Rattle.ds_core.specs.Effect.{instruction, step};
+
+use super::Core;
+use super::access::fetch;
+use super::code::CodePage;
+use crate::event::Event;
+use ds_amap::{Access, Physical};
+use ds_cp0::ExceptionCode;
+use ds_dev::Bus;
+use ds_isa::Size;
+use ds_tlb::Lookaside;
+
+impl<L: Lookaside> Core<L> {
+    /// A step that looks at everything: takes an interrupt that is pending, or does the instruction
+    /// at `pc`. The page of the next instruction is known from then on, where it can be.
+    #[cold]
+    #[inline(never)]
+    pub(super) fn proceed_anew(&mut self, bus: &mut Bus, code: &mut CodePage) -> Event
+        requires slots { L.SLOTS ≡ 64 }
+        requires wired { L.WIRED ≡ 8 }
+        ensures known { KnowsPage code.new.vpn code.new.base self.new }
+        ensures does { (record { event = result; core = self.new; bus = bus.new })
+            ≡ step self.old bus.old }
+    {
+        let event = self.step_anew(bus);
+        *code = self.code_page();
+        event
+    }
+
+    /// The same, without the page.
+    #[inline(always)]
+    fn step_anew(&mut self, bus: &mut Bus) -> Event
+        requires slots { L.SLOTS ≡ 64 }
+        requires wired { L.WIRED ≡ 8 }
+        ensures { (record { event = result; core = self.new; bus = bus.new })
+            ≡ step self.old bus.old }
+    {
+        if self.is_interrupted(bus) {
+            return self.trap(ExceptionCode::Interrupt);
+        }
+        let event = self.instruction(bus);
+        self.tlb.tick();
+        event
+    }
+
+    /// Whether an interrupt is to be taken.
+    fn is_interrupted(&self, bus: &Bus) -> bool
+        ensures { result ≡ is_pending self.now.system (lines bus.now).0 (lines bus.now).1 }
+    {
+        let (system, clock) = bus.lines();
+        self.cp0.pending(system, clock)
+    }
+
+    /// Does the instruction at `pc`.
+    #[inline(always)]
+    fn instruction(&mut self, bus: &mut Bus) -> Event
+        requires { L.SLOTS ≡ 64 }
+        ensures { (record { event = result; core = self.new; bus = bus.new })
+            ≡ instruction self.old bus.old }
+    {
+        let place = match self.reach(Access::Fetch, Size::Word, self.pc) {
+            Ok(Physical(place)) => place,
+            Err(fault) => return self.refuse(Access::Fetch, self.pc, fault),
+        };
+        match fetch(bus, place) {
+            Ok(instr) => self.execute::<1>(instr, bus),
+            Err(_) => self.trap(ExceptionCode::FetchBus),
+        }
+    }
+}
