@@ -1,5 +1,5 @@
 -- What is true of each input that was read: each event keeps it.
-use Rattle.std.proofs.Common.{◌≡◌, ◌∙◌, sym, ap, subst, refl, ℕ, ◌+◌, ◌*◌, ◌-◌, ◌<◌, ◌≤◌, ◌&&◌, Bool, false, nat_le, nat_lt, codes, bytes_eq, List, [], ◌∷◌, ◌++◌, length, Option, Some, None, option_map, Ok, arith, inl, inr, append-nil, append_assoc, length-append}
+use Rattle.std.proofs.Common.{◌≡◌, ◌∙◌, sym, ap, subst, refl, ℕ, ◌+◌, ◌*◌, ◌-◌, ◌<◌, ◌≤◌, ◌&&◌, Bool, true, false, nat_le, nat_lt, codes, bytes_eq, List, [], ◌∷◌, ◌++◌, length, Option, Some, None, option_map, Ok, arith, inl, inr, append-nil, append_assoc, length-append}
 use Rattle.std.proofs.lemmas.List.{get_or_append_left, get_or_push}
 use Rattle.std.proofs.lemmas.List.Elements.{All-nil, All-push, All-weaker, All-get_or}
 use Rattle.std.proofs.lemmas.List.Sorted.{IsNonDecreasingBy-push, IsNonDecreasingBy-short}
@@ -18,7 +18,7 @@ use Rattle.ds_word.specs.Digits.{digit_of, digits_from}
 use Rattle.ds_policy.specs.InputNumbers.{decimal_of, bytes_of}
 use Rattle.ds_policy.specs.InputLines.{words_of, line_of, keys_of, command_of, event_of, timed_event_of}
 use Rattle.ds_policy.specs.InputText.{Said, nothing_said, is_served, characters_of, with_event, may_follow, follows, is_skipped, with_line, with_lines, or_fault, input_in}
-use Rattle.ds_policy.specs.InputFacts.{has_time, comes_at, IsGoodCharacter, AreNumbered, IsGoodInput, IsNothingYet}
+use Rattle.ds_policy.specs.InputFacts.{has_time, comes_at, IsGoodCharacter, AreNumbered, IsGoodInput, HasNoCommand}
 use Rattle.ds_policy.proofs.Binds.{bind_some, both}
 
 -- a number read within a limit is within it
@@ -225,30 +225,38 @@ good_input served pages lines t h =
       character_order = good.character_order;
     }
 
--- as long as no event is served, nothing is read
-none_served : (e : Event) → is_served e ≡ false
-none_served (Order c) = refl
-none_served (Input line keys) = refl
+-- as long as no command is served, none is read
+abbrev HasAsMany : Said → Said → Type 0
+HasAsMany s t = s.commands ≡ t.commands
 
-line_same : (pages : List PolicyPage) (s : Said) (line : List ℕ) (t : Said) → with_line is_served pages s line ≡ Some t → s ≡ t
+event_same : (s : Said) (time : ℕ) (e : Event) → is_served e ≡ true → HasAsMany s (with_event s time e)
+event_same s time (Order c) h = cc
+event_same s time (Input line keys) h = refl
+
+line_same : (pages : List PolicyPage) (s : Said) (line : List ℕ) (t : Said) → with_line is_served pages s line ≡ Some t → HasAsMany s t
 unfolding with_line
 line_same pages s line t h = elim (cases_Bool (is_skipped line)) [
-  | inl skipped ↦ let same : Some s ≡ Some t = rw skipped at h in cc
+  | inl skipped ↦ let same : Some s ≡ Some t = rw skipped at h in let is : s ≡ t = cc in ap (λ (r : Said). r.commands) is
   | inr event ↦
       let (e, read, more) = bind_some (timed_event_of pages (words_of line)) _ t (rw event at h) in
-      let none : None ≡ Some t = rw (none_served e.event) at more in cc
+      elim (cases_Bool (may_follow is_served s e)) [
+        | inl may ↦
+            let (serves, follow) = both (is_served e.event) (follows s e.time) may in
+            let same : Some (with_event s e.time e.event) ≡ Some t = rw may at more in
+            let is : with_event s e.time e.event ≡ t = cc in
+            subst (HasAsMany s) is (event_same s e.time e.event serves)
+        | inr may_not ↦ let none : None ≡ Some t = rw may_not at more in cc
+      ]
 ]
 
-lines_same : (pages : List PolicyPage) (s : Said) (n : ℕ) (lines : List (List ℕ)) (t : Said) → with_lines is_served pages s n lines ≡ Ok t → s ≡ t
+lines_same : (pages : List PolicyPage) (s : Said) (n : ℕ) (lines : List (List ℕ)) (t : Said) → with_lines is_served pages s n lines ≡ Ok t → HasAsMany s t
 unfolding with_lines
-lines_same pages s n [] t h = cc
+lines_same pages s n [] t h = let is : s ≡ t = cc in ap (λ (r : Said). r.commands) is
 lines_same pages s n (line ∷ lines) t h =
-    elim (with_line is_served pages s line) as (λ o. with_line is_served pages s line ≡ o → or_fault o n (λ next. with_lines is_served pages next (n + 1) lines) ≡ Ok t → s ≡ t) [
+    elim (with_line is_served pages s line) as (λ o. with_line is_served pages s line ≡ o → or_fault o n (λ next. with_lines is_served pages next (n + 1) lines) ≡ Ok t → HasAsMany s t) [
       | None ↦ λ is bad. cc
       | Some next ↦ λ is more. line_same pages s line next is ∙ lines_same pages next (n + 1) lines t more
     ] refl h
 
-pub nothing_yet : (pages : List PolicyPage) (lines : List (List ℕ)) (t : Said) → with_lines is_served pages nothing_said 1 lines ≡ Ok t → IsNothingYet (input_in t)
-nothing_yet pages lines t h =
-    let same = lines_same pages nothing_said 1 lines t h in
-    record { commands = ap (λ (s : Said). s.commands) (sym same); characters = ap (λ (s : Said). s.characters) (sym same) }
+pub no_command : (pages : List PolicyPage) (lines : List (List ℕ)) (t : Said) → with_lines is_served pages nothing_said 1 lines ≡ Ok t → HasNoCommand (input_in t)
+no_command pages lines t h = sym (lines_same pages nothing_said 1 lines t h)

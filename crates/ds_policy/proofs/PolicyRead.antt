@@ -9,7 +9,6 @@ use Rattle.ds_policy.specs.declared.policy.PolicyRule.{PolicyRule}
 use Rattle.ds_policy.specs.Refusal.{limit, bad_rule, or_else, check}
 use Rattle.ds_policy.specs.Document.{has_only, number_in, number_at, items_between, items_if}
 use Rattle.ds_policy.specs.PolicyParts.{is_zero, rate_of, process_of, new_page, new_rule}
-use Rattle.ds_policy.specs.PolicyServed.{serves_rate, serves_processes, serves_pages, serves_rules}
 use Rattle.ds_policy.specs.PolicyText.{processes_from, pages_from, processes_of, pages_of, rules_of, says}
 use Rattle.ds_policy.specs.PolicyFacts.{IsGoodProcess, AreGoodPages, AreGoodRules, IsGoodPolicy}
 use Rattle.ds_policy.specs.Value.{PolicyValue}
@@ -37,8 +36,7 @@ pages_said frames found pages h =
 rules_said : (n : ℕ) (pages : List PolicyPage) (found : Option Data) (rules : List PolicyRule) → rules_of n pages found ≡ Ok rules → (length rules ≤ 999) × AreGoodRules n (length pages) rules
 unfolding rules_of
 rules_said n pages found rules h =
-    let (ds, h1, a) = bind_ok (or_else (items_if 999 found) (limit (codes "rule"))) _ rules h in
-    let (served, h2, h3) = bind_ok (check (serves_rules ds) (limit (codes "rule"))) _ rules a in
+    let (ds, h1, h3) = bind_ok (or_else (items_if 999 found) (limit (codes "rule"))) _ rules h in
     let within = items_if_within 999 found ds (or_else_ok _ _ ds h1) in
     let count = each_counts (new_rule n pages) (λ before. bad_rule (length before + 1)) [] ds rules h3 in
     (omega (arith, within, count), rules_good n pages ds rules h3)
@@ -51,12 +49,6 @@ rate_said (Some d) rate h = by (is_zero d) h
     by true g = let same : 0 ≡ rate = cc in (omega (arith, same), λ pos. omega (arith, same, pos))
     by false g = let within = number_in_range 3 15 d rate g in (within.1, λ pos. within.0)
 
-no_rate : (rate : ℕ) → serves_rate rate ≡ true → rate ≡ 0
-no_rate rate h = grind (arith, nat_tests)
-
-few_processes : (processes : List PolicyProcess) → serves_processes processes ≡ true → length processes ≤ 1
-few_processes processes h = grind (arith, nat_tests)
-
 pub says_good : (ms : Members) (v : PolicyValue) → says ms ≡ Ok v → IsGoodPolicy v
 unfolding says
 says_good ms v h =
@@ -64,12 +56,9 @@ says_good ms v h =
     let (version, h2, b) = bind_ok (or_else (number_at (codes "version") 1 1 ms) (limit (codes "version"))) _ v a in
     let (frames, h3, c) = bind_ok (or_else (number_at (codes "frames") 1 1024 ms) (limit (codes "frames"))) _ v b in
     let (rate, h4, d) = bind_ok (or_else (rate_of (get_member (codes "rate") ms)) (limit (codes "rate"))) _ v c in
-    let (no_clock, h5, e) = bind_ok (check (serves_rate rate) (limit (codes "rate"))) _ v d in
-    let (processes, h6, f) = bind_ok (processes_of (get_member (codes "process") ms)) _ v e in
-    let (one_process, h7, g) = bind_ok (check (serves_processes processes) (limit (codes "process"))) _ v f in
-    let (pages, h8, i) = bind_ok (pages_of frames (get_member (codes "page") ms)) _ v g in
-    let (two_pages, h9, j) = bind_ok (check (serves_pages pages) (limit (codes "page"))) _ v i in
-    let (rules, h10, q) = bind_ok (rules_of (length processes) pages (get_member (codes "rule") ms)) _ v j in
+    let (processes, h6, f) = bind_ok (processes_of (get_member (codes "process") ms)) _ v d in
+    let (pages, h8, i) = bind_ok (pages_of frames (get_member (codes "page") ms)) _ v f in
+    let (rules, h10, q) = bind_ok (rules_of (length processes) pages (get_member (codes "rule") ms)) _ v i in
     let of_processes = processes_said (get_member (codes "process") ms) processes h6 in
     let of_pages = pages_said frames (get_member (codes "page") ms) pages h8 in
     let of_rules = rules_said (length processes) pages (get_member (codes "rule") ms) rules h10 in
@@ -82,8 +71,4 @@ says_good ms v h =
       pages = of_pages.1;
       rule_count = of_rules.0;
       rules = of_rules.1;
-      yet = record {
-        rate = no_rate rate (check_ok _ no_clock _ h5);
-        processes = few_processes processes (check_ok _ one_process _ h7);
-      };
     })

@@ -32,7 +32,6 @@ pub record IsGoodInput (i : InputValue) : Type 0 where
   pub characters : All IsGoodCharacter i.characters
   pub character_order : IsNonDecreasingBy comes_at i.characters
 
--- No kind of event is served yet.
-pub record IsNothingYet (i : InputValue) : Type 0 where
-  pub commands : i.commands ≡ []
-  pub characters : i.characters ≡ []
+-- no command is served yet
+abbrev pub HasNoCommand : InputValue → Type 0
+HasNoCommand i = i.commands ≡ []

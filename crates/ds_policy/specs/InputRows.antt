@@ -27,6 +27,10 @@ no_bytes : input_of [] [] ≡ Ok (record { commands = []; characters = [] })
 unfolding with_line with_lines
 no_bytes = refl
 
-not_served_yet : input_of [] (codes "\n5 key 0 41") ≡ Err 2
+characters_are_served : input_of [] (codes "\n5 key 0 41") ≡ Ok (record { commands = []; characters = record { time = 5; line = 0; byte = 65 } ∷ [] })
 unfolding digits_from pairs_of command_of keys_of timed_event_of with_line with_lines
-not_served_yet = refl
+characters_are_served = refl
+
+commands_are_not_served_yet : input_of [] (codes "\n5 stop 1") ≡ Err 2
+unfolding digits_from pairs_of command_of keys_of timed_event_of with_line with_lines
+commands_are_not_served_yet = refl

@@ -1,5 +1,5 @@
 -- What an input says: its commands and characters, or the first line that is wrong.
-use Rattle.std.specs.Prelude.{◌≡◌, ℕ, ◌+◌, Bool, false, ◌&&◌, ◌||◌, ◌==◌, nat_le, nat_lt, slice_index, List, [], ◌∷◌, ◌++◌, length, map, Option, Some, None, Result, Ok, Err, if◌then◌else◌}
+use Rattle.std.specs.Prelude.{◌≡◌, ℕ, ◌+◌, Bool, true, false, ◌&&◌, ◌||◌, ◌==◌, nat_le, nat_lt, slice_index, List, [], ◌∷◌, ◌++◌, length, map, Option, Some, None, Result, Ok, Err, if◌then◌else◌}
 use Rattle.std.specs.List.{slice_split}
 use Rattle.ds_word.specs.OptionBinding.{◌>>=◌}
 use Rattle.ds_policy.specs.declared.command.Command.{Command}
@@ -25,10 +25,10 @@ pub record Said : Type 0 where
 abbrev pub nothing_said : Said
 nothing_said = record { latest = 0; events = 0; commands = []; characters = [] }
 
--- no kind of event is served yet
+-- characters are served, and commands aren't yet
 abbrev pub is_served : Event → Bool
 is_served (Order command) = false
-is_served (Input line keys) = false
+is_served (Input line keys) = true
 
 -- the bytes of a `key` line as characters
 abbrev pub characters_of : ℕ → ℕ → List ℕ → List Character

@@ -52,11 +52,6 @@ pub record AreGoodRules (processes pages : ℕ) (rules : List PolicyRule) : Type
   pub few : HasFewRules rules
   pub regions : HasFewRegions rules
 
--- No clock and no second process is served yet.
-pub record IsServedYet (p : PolicyValue) : Type 0 where
-  pub rate : p.rate ≡ 0
-  pub processes : length p.processes ≤ 1
-
 -- all of a policy is within its bounds
 pub record IsGoodPolicy (p : PolicyValue) : Type 0 where
   pub frames : (1 ≤ p.frames) × (p.frames ≤ 1024)
@@ -67,4 +62,3 @@ pub record IsGoodPolicy (p : PolicyValue) : Type 0 where
   pub pages : AreGoodPages p.pages
   pub rule_count : length p.rules ≤ 999
   pub rules : AreGoodRules (length p.processes) (length p.pages) p.rules
-  pub yet : IsServedYet p

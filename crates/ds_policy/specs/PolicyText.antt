@@ -5,7 +5,6 @@ use Rattle.ds_word.specs.ResultBinding.{◌>>=◌}
 use Rattle.ds_policy.specs.Refusal.{PolicyRefusal, bad_toml, limit, bad_rule, or_else, check}
 use Rattle.ds_policy.specs.Document.{document, has_only, number_at, items_between, items_if}
 use Rattle.ds_policy.specs.PolicyParts.{rate_of, process_of, new_page, new_rule}
-use Rattle.ds_policy.specs.PolicyServed.{serves_rate, serves_processes, serves_pages, serves_rules}
 use Rattle.ds_policy.specs.Value.{PolicyValue}
 use Rattle.ds_policy.specs.declared.policy.PolicyProcess.{PolicyProcess}
 use Rattle.ds_policy.specs.declared.policy.PolicyPage.{PolicyPage}
@@ -40,7 +39,6 @@ rules_from processes pages ds = each_of (new_rule processes pages) (λ before. b
 unfoldable pub rules_of : ℕ → List PolicyPage → Option Data → Result (List PolicyRule) PolicyRefusal
 rules_of processes pages found = do
   ds ← or_else (items_if 999 found) (limit (codes "rule"))
-  served ← check (serves_rules ds) (limit (codes "rule"))
   rules_from processes pages ds
 
 -- what a document says
@@ -50,11 +48,8 @@ says ms = do
   version ← or_else (number_at (codes "version") 1 1 ms) (limit (codes "version"))
   frames ← or_else (number_at (codes "frames") 1 1024 ms) (limit (codes "frames"))
   rate ← or_else (rate_of (get_member (codes "rate") ms)) (limit (codes "rate"))
-  no_clock ← check (serves_rate rate) (limit (codes "rate"))
   processes ← processes_of (get_member (codes "process") ms)
-  one_process ← check (serves_processes processes) (limit (codes "process"))
   pages ← pages_of frames (get_member (codes "page") ms)
-  two_pages ← check (serves_pages pages) (limit (codes "page"))
   rules ← rules_of (length processes) pages (get_member (codes "rule") ms)
   Ok (record { frames = frames; rate = rate; processes = processes; pages = pages; rules = rules })
 

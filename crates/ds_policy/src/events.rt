@@ -31,7 +31,7 @@ pub struct Events {
 
 impl Model for Events {
     ghost use Rattle.ds_policy.specs.Value.{InputValue};
-    ghost use Rattle.ds_policy.specs.InputFacts.{IsGoodInput, IsNothingYet};
+    ghost use Rattle.ds_policy.specs.InputFacts.{IsGoodInput, HasNoCommand};
 
     ghost Value = { InputValue };
 
@@ -39,7 +39,7 @@ impl Model for Events {
 
     ghost invariant = { λ e.
         IsGoodInput (record { commands = e.commands.items; characters = e.characters.items })
-        × IsNothingYet (record { commands = e.commands.items; characters = e.characters.items }) };
+        × HasNoCommand (record { commands = e.commands.items; characters = e.characters.items }) };
 }
 
 impl Events {
@@ -74,7 +74,6 @@ impl Events {
         ensures all { result.now ≡ self.now.characters }
         ensures good { All IsGoodCharacter self.now.characters }
         ensures order { IsNonDecreasingBy comes_at self.now.characters }
-        ensures none_yet { self.now.characters ≡ [] }
     {
         &self.characters
     }

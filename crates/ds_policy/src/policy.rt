@@ -94,7 +94,6 @@ impl Policy {
         ensures all { result ≡ self.now.rate }
         ensures high { self.now.rate ≤ 15 }
         ensures low { 0 < self.now.rate → 3 ≤ self.now.rate }
-        ensures none_yet { self.now.rate ≡ 0 }
     {
         self.rate
     }
@@ -104,7 +103,6 @@ impl Policy {
         ensures all { result.now ≡ self.now.processes }
         ensures some { 1 ≤ length self.now.processes }
         ensures few { length self.now.processes ≤ 100 }
-        ensures one_yet { length self.now.processes ≤ 1 }
         ensures good { All IsGoodProcess self.now.processes }
     {
         &self.processes

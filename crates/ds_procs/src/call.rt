@@ -51,7 +51,8 @@ const NUMBER: usize = 2;
 const ARGUMENT: usize = 4;
 
 impl Call {
-    /// The call that a process asks for by its registers, where it stands behind a SYSCALL.
+    /// The call that a process asks for by its registers, where it stands behind a SYSCALL. The
+    /// numbers 6, 7 and 8, of the calls about grants, name none yet.
     pub fn of(process: &Process) -> Call
         ensures { result ≡ call_of process.now.registers }
     {
@@ -61,6 +62,11 @@ impl Call {
             1 => Call::Put {
                 byte: (argument % 256) as u8,
             },
+            2 => Call::Get,
+            3 => Call::Yield,
+            4 => Call::Time,
+            5 => Call::Own,
+            9 => Call::Wait,
             _ => Call::Unknown,
         }
     }

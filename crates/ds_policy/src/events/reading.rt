@@ -64,7 +64,7 @@ fn is_served(event: &Event) -> bool
 {
     match event {
         Event::Order(_) => false,
-        Event::Input { .. } => false,
+        Event::Input { .. } => true,
     }
 }
 

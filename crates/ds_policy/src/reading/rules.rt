@@ -11,7 +11,7 @@ use crate::fault::PolicyFault;
 use crate::grant::Right;
 use crate::policy::{PolicyPage, PolicyRule};
 use crate::reading::document::{has_only, items_between, number_of, text_at, value_at};
-use crate::reading::served::{check_rules, serves_rule};
+use crate::reading::served::serves_rule;
 use std::alloc::Global;
 use toml::{Table, Value};
 
@@ -29,10 +29,7 @@ pub fn rules_of(
 {
     match found {
         Some(value) => match items_between(value, 0, 999) {
-            Some(values) => {
-                check_rules(values)?;
-                rules_in(alloc, processes, pages, values)
-            }
+            Some(values) => rules_in(alloc, processes, pages, values),
             None => Err(PolicyFault::Limit("rule")),
         },
         None => Ok(Vec::new(alloc)),

@@ -1,7 +1,7 @@
 use Rattle.std.proofs.Common.{◌∙◌, ◌+◌, sym, ap, subst, length, Ok, rules}
 use Rattle.ds_policy.specs.InputText.{Said, is_served, input_in, as_input, lines_of}
-use Rattle.ds_policy.specs.InputFacts.{IsGoodInput, IsNothingYet}
-use Rattle.ds_policy.proofs.GoodInput.{good_input, nothing_yet}
+use Rattle.ds_policy.specs.InputFacts.{IsGoodInput, HasNoCommand}
+use Rattle.ds_policy.proofs.GoodInput.{good_input, no_command}
 use Rattle.ds_policy.proofs.InputLineSteps.{lines_good, lines_bad, lines_end, rest_within}
 use Rattle.ds_policy.proofs.events.events_of.Goals as goal
 
@@ -18,8 +18,8 @@ loop-left-preserved c = record {
 pub invariant_of-result : goal.invariant_of-result
 invariant_of-result c =
     let read = sym c.loop-left.invariant.same ∙ lines_end is_served c.args.pages.now c.loop-left.reading (c.loop-left.number + 1) c.loop-left.left.now (search rules) in
-    let HoldsOf : Said → Type 0 = λ s. IsGoodInput (input_in s) × IsNothingYet (input_in s) in
-    subst HoldsOf (sym c.reading-2.view_is) (good_input is_served c.args.pages.now (lines_of c.args.text.now) c.loop-left.reading read, nothing_yet c.args.pages.now (lines_of c.args.text.now) c.loop-left.reading read)
+    let HoldsOf : Said → Type 0 = λ s. IsGoodInput (input_in s) × HasNoCommand (input_in s) in
+    subst HoldsOf (sym c.reading-2.view_is) (good_input is_served c.args.pages.now (lines_of c.args.text.now) c.loop-left.reading read, no_command c.args.pages.now (lines_of c.args.text.now) c.loop-left.reading read)
 
 pub returns : goal.returns
 returns c =

@@ -9,4 +9,4 @@ pub invariant_of-result : goal.invariant_of-result
 unfolding says
 invariant_of-result c =
     let said : says (table_view c.args.table.now) ≡ Ok (record { frames = c.in_ok-frames.frames; rate = c.in_ok-rate.rate; processes = c.in_ok-processes.processes.items; pages = c.in_ok-pages.pages.items; rules = c.in_ok-rules.rules.items }) = search rules in
-    (c.in_ok-sources.ensures ∙ ap sources_of c.deref-4.ensures.value, says_good (table_view c.args.table.now) _ said)
+    (c.in_ok-sources.ensures ∙ ap sources_of c.deref-2.ensures.value, says_good (table_view c.args.table.now) _ said)
