@@ -60,7 +60,7 @@ fn check<'a>(
         ("index", index),
         ("a/policy", POLICY),
         ("a/nothing", ""),
-        ("a/key", "1 key 0 41\n"),
+        ("a/stop", "1 stop 1\n"),
         ("a/written", WRITTEN),
         ("a/refused", "dsmon: 20 InputFault 1\n"),
         ("a/cases", cases),
@@ -80,10 +80,10 @@ fn check<'a>(
 
 #[test]
 fn rows_that_come_to_status_and_text_are_as_expected(rt: HostRuntime) -> Result<(), Fail> {
-    let index = "a 0 written run policy nothing 20\na 2 refused run policy key 20\n";
+    let index = "a 0 written run policy nothing 20\na 2 refused run policy stop 20\n";
     let wanted = "\
 a 0 written run policy nothing 20: as expected
-a 2 refused run policy key 20: as expected
+a 2 refused run policy stop 20: as expected
 ";
     check(&rt, rt.alloc(), index, "", 0, wanted)
 }
@@ -91,7 +91,7 @@ a 2 refused run policy key 20: as expected
 #[test]
 fn each_other_row_is_told(rt: HostRuntime) -> Result<(), Fail> {
     let index = "\
-a 0 refused run policy key 20
+a 0 refused run policy stop 20
 a 2 written run policy nothing 20
 a 0 policy run policy nothing 20
 a 0 written run policy nothing 2
@@ -100,7 +100,7 @@ a 0
 a 0 written run policy nothing 20
 ";
     let wanted = "\
-a 0 refused run policy key 20: the status is 2
+a 0 refused run policy stop 20: the status is 2
 a 2 written run policy nothing 20: the status is 0
 a 0 policy run policy nothing 20: the first 0 bytes are as expected, and no more
 a 0 written run policy nothing 2: the first 97 bytes are as expected, and no more
@@ -115,8 +115,8 @@ a 0 written run policy nothing 20: as expected
 fn the_cases_of_a_table_are_counted(rt: HostRuntime) -> Result<(), Fail> {
     let cases = "# Inputs.
 
-== a key
-1 key 0 41
+== a command
+1 stop 1
 -- 20 InputFault 1
 
 == nothing
@@ -144,8 +144,8 @@ time 20
 #[test]
 fn each_other_case_is_told(rt: HostRuntime) -> Result<(), Fail> {
     let cases = "\
-== a key that is served
-1 key 0 41
+== a command that is served
+1 stop 1
 -- ok
 == a comment that is refused
 # nothing
@@ -159,7 +159,7 @@ console 0 1
 -- ok
 ";
     let wanted = "\
-a key that is served: the status is 2
+a command that is served: the status is 2
 a comment that is refused: the status is 0
 a comment that writes something: the first 10 bytes are as expected, and no more
 nothing is said of it: words are missing, or the cases have no form

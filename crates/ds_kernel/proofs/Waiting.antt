@@ -11,6 +11,7 @@ use Rattle.ds_policy.specs.declared.command.Character.{Character}
 use Rattle.ds_policy.specs.InputFacts.{comes_at}
 use Rattle.ds_pagemap.specs.Boundary.{has_passed}
 use Rattle.ds_monitor.specs.Coming.{never, first_time, period_end}
+use Rattle.ds_monitor.proofs.Coming.{all_later}
 
 -- What comes later than a time.
 
@@ -28,10 +29,6 @@ all_stay now [] later = refl
 all_stay now (c ∷ rest) later =
     ap (λ (b : Bool). cond (not b) (c ∷ filter (λ (x : Character). not (nat_le x.time now)) rest) (filter (λ (x : Character). not (nat_le x.time now)) rest)) (later_so c.time now (All-head (λ (x : Character). now < x.time) c rest later))
     ∙ ap (λ (xs : List Character). c ∷ xs) (all_stay now rest (All-tail (λ (x : Character). now < x.time) c rest later))
-
-all_later : (now : ℕ) (cs : List Character) → IsNonDecreasingBy comes_at cs → now < first_time cs → All (λ (c : Character). now < c.time) cs
-all_later now [] order early = λ k d below. absurd (omega (arith, below))
-all_later now (c ∷ rest) order early = λ k d below. (let first : c.time ≤ (slice_index_or (c ∷ rest) k d).time = order 0 k d (omega arith) below in omega (arith, first, early))
 
 -- before the first none has come
 pub none_due : (now : ℕ) (cs : List Character) → IsNonDecreasingBy comes_at cs → now < first_time cs → filter (λ (c : Character). nat_le c.time now) cs ≡ []

@@ -5,3 +5,4 @@ pub mod Called
 pub mod Beginning
 pub mod Lawful
 pub mod Waking
+pub mod Coming

@@ -6,8 +6,8 @@ use super::*;
 /// A source whose second line is no statement, since an operand is missing.
 const BAD_SECOND_LINE: &[u8] = b".word 0x24040041\nlw $1\n";
 
-/// A key is not served yet.
-const KEY: &[u8] = b"5 key 0 41\n";
+/// A command is not served yet.
+const COMMAND: &[u8] = b"5 stop 1\n";
 
 const TOO_MANY: u64 = 1_000_000_001;
 
@@ -55,7 +55,7 @@ fn a_source_that_is_not_there_is_told(rt: HostRuntime) -> Result<(), Fail> {
         ..none
     };
     check(&rt, alloc, policy, "8 BadToml")?;
-    let input = Run { input: KEY, ..none };
+    let input = Run { input: COMMAND, ..none };
     check(&rt, alloc, input, "24 NoSource one.s")
 }
 
@@ -108,7 +108,7 @@ fn more_ticks_than_are_served_are_refused_behind_the_input_and_before_random(
     for random in [7, 64] {
         check(&rt, alloc, Run { random, ..many }, "10 Limit n")?;
     }
-    let input = Run { input: KEY, ..many };
+    let input = Run { input: COMMAND, ..many };
     check(&rt, alloc, input, "20 InputFault 1")?;
     let bad = [("one.s", BAD_SECOND_LINE)];
     let source = Run {
