@@ -1,6 +1,6 @@
 -- Steps that enter no exception, one behind the other: a step more, two stretches joined, and a stretch of one step.
 use Rattle.std.proofs.Common.{◌≡◌, ℕ, zero, suc, ◌+◌, ◌-◌, ◌<◌, ◌^◌, Bool, false, cond, refl, sym, ap, subst, ◌∙◌, arith, inl, inr, add-one}
-use Rattle.std.specs.Prelude.{◌⊎◌, Option, Some, None, IsNone, IfSome}
+use Rattle.std.specs.Prelude.{◌≢◌, Option, Some, None, IsNone, IfSome}
 use Rattle.std.proofs.lemmas.Bool.{cases_lt}
 use Rattle.ds_cp0.specs.declared.exception.ExceptionCode.{ExceptionCode}
 use Rattle.ds_core.specs.declared.event.Event.{Event}
@@ -9,9 +9,10 @@ use Rattle.ds_core.specs.Core.{Step}
 use Rattle.ds_core.specs.Ahead.{Hardware, step_of, left_by, after_steps, is_raised, Advances, AdvancesTo, ComesByWords}
 use Rattle.ds_core.proofs.Slots.{Slots, step_slots}
 
-pub calm_event : (e : Event) → (e ≡ Retired) ⊎ (e ≡ Branched) → is_raised e ≡ false
-calm_event e (inl is) = ap is_raised is
-calm_event e (inr is) = ap is_raised is
+pub calm_event : (e : Event) → ((code : ExceptionCode) → e ≢ Raised code) → is_raised e ≡ false
+calm_event Retired none = refl
+calm_event Branched none = refl
+calm_event (Raised code) none = absurd (none code refl)
 
 -- a calm step more
 pub advances_on : (n : ℕ) (old h t : Hardware) (e : Event) → Advances n old h → record { event = e; core = t.core; bus = t.bus } ≡ step_of h → is_raised e ≡ false → Advances (n + 1) old t

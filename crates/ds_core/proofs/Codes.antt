@@ -46,9 +46,14 @@ stays_known c b s vpn base is calm knows = λ some.
       only = stays_undisturbed c b s is calm before.only;
     }
 
--- the same behind an instruction that was fetched ahead
+-- an instruction that was fetched ahead is a step, where no interrupt is to be taken
+pub is_step_ahead : (c : CoreState) (b b2 : BusState) (i : Instr) (s : Step) → is_pending c.system (lines b).0 (lines b).1 ≡ false → executed c b i ≡ instruction c b → b2 ≡ b → s ≡ with_tick (executed c b2 i) → s ≡ step c b
+is_step_ahead c b b2 i s calm fetched same is =
+    let whole : with_tick (instruction c b) ≡ step c b = rw calm refl in
+    is ∙ (ap (λ k. with_tick (executed c k i)) same ∙ (ap with_tick fetched ∙ whole))
+
+-- the page stays known behind it
 pub stays_known_ahead : (c : CoreState) (b b2 : BusState) (i : Instr) (s : Step) (vpn base : ℕ) → is_pending c.system (lines b).0 (lines b).1 ≡ false → executed c b i ≡ instruction c b → b2 ≡ b → s ≡ with_tick (executed c b2 i) → is_raised s.event ≡ false
     → KnowsPage vpn base c → KnowsPage vpn base s.core
 stays_known_ahead c b b2 i s vpn base calm fetched same is quiet knows =
-    let whole : with_tick (instruction c b) ≡ step c b = rw calm refl in
-    stays_known c b s vpn base (is ∙ (ap (λ k. with_tick (executed c k i)) same ∙ (ap with_tick fetched ∙ whole))) quiet knows
+    stays_known c b s vpn base (is_step_ahead c b b2 i s calm fetched same is) quiet knows

@@ -13,7 +13,6 @@ mod transfer;
 
 use crate::event::Event;
 pub use ahead::Ahead;
-use code::CodePage;
 use ds_cp0::Cp0;
 use ds_dev::Bus;
 use ds_isa::{Instr, Late};
@@ -63,31 +62,12 @@ impl<L: Lookaside> Model for Core<L> {
 
 impl<L: Lookaside> Core<L> {
     ghost use Rattle.ds_tlb.specs.Entries.{ticked};
-    ghost use Rattle.ds_core.specs.Code.{KnowsPage};
     ghost use Rattle.ds_core.specs.Core.{with_tick};
-    ghost use Rattle.ds_core.specs.Ahead.{is_raised};
-    ghost use Rattle.ds_core.specs.Effect.{executed, step};
-
-    /// A step, ahead where the page of `pc` is known. It is known behind the step, too, unless that
-    /// entered an exception.
-    #[inline(always)]
-    fn proceed(&mut self, bus: &mut Bus, code: &mut CodePage) -> Event
-        requires slots { L.SLOTS ≡ 64 }
-        requires wired { L.WIRED ≡ 8 }
-        requires known { KnowsPage code.old.vpn code.old.base self.old }
-        ensures known { is_raised result ≡ false → KnowsPage code.new.vpn code.new.base self.new }
-        ensures does { (record { event = result; core = self.new; bus = bus.new })
-            ≡ step self.old bus.old }
-    {
-        match self.fetch_ahead(bus, code) {
-            Some(instr) => self.execute_ahead(instr, bus),
-            None => self.proceed_anew(bus, code),
-        }
-    }
+    ghost use Rattle.ds_core.specs.Effect.{executed};
 
     /// Carries out an instruction that was fetched ahead, and counts Random down.
     #[inline(always)]
-    fn execute_ahead(&mut self, instr: Instr, bus: &mut Bus) -> Event
+    pub(super) fn execute_ahead(&mut self, instr: Instr, bus: &mut Bus) -> Event
         requires slots { L.SLOTS ≡ 64 }
         requires wired { L.WIRED ≡ 8 }
         ensures { (record { event = result; core = self.new; bus = bus.new })

@@ -19,6 +19,17 @@ pub struct Ahead {
     pub raised: Option<ExceptionCode>,
 }
 
+impl Ahead {
+    /// So many steps, and an exception in the next.
+    #[inline(always)]
+    fn behind(steps: u32, code: ExceptionCode) -> Ahead
+        ensures { result ≡ record { steps = steps; raised = Some code } }
+    {
+        let raised = Some(code);
+        Ahead { steps, raised }
+    }
+}
+
 impl<L: Lookaside> Core<L> {
     /// Takes an interrupt that is pending, or does the instruction at `pc`. In a buffer of 64 slots
     /// 8 are wired.
@@ -59,13 +70,19 @@ impl<L: Lookaside> Core<L> {
         while steps < limit {
             // The address is looked at, so that it is known to be a word; so it is behind the loop.
             let _here = self.pc;
-            match self.proceed(bus, &mut code) {
-                Event::Retired | Event::Branched => steps += 1,
-                Event::Raised(code) => {
-                    let raised = Some(code);
-                    return Ahead { steps, raised };
+            match self.fetch_ahead(bus, &code) {
+                Some(instr) => {
+                    if let Event::Raised(code) = self.execute_ahead(instr, bus) {
+                        return Ahead::behind(steps, code);
+                    }
+                }
+                None => {
+                    if let Event::Raised(code) = self.proceed_anew(bus, &mut code) {
+                        return Ahead::behind(steps, code);
+                    }
                 }
             }
+            steps += 1;
         }
         let _here = self.pc;
         let raised = None;
