@@ -1,6 +1,7 @@
 -- A service ends the unit.
 use Rattle.std.proofs.Common.{◌≡◌, ℕ, ◌+◌, ◌%◌, ◌^◌, ◌<◌, ◌≤◌, ◌==◌, Bool, true, false, cond, List, [], length, Option, Some, None, sym, ap, ap₂, subst, ◌∙◌, arith}
 use Rattle.ds_tlb.specs.declared.entry.Entry.{Entry}
+use Rattle.ds_dev.specs.Serial.{SerialState}
 use Rattle.ds_dev.specs.Clock.{ClockState}
 use Rattle.ds_dev.specs.Bus.{BusState}
 use Rattle.ds_grants.specs.State.{GrantsState}
@@ -18,6 +19,9 @@ use Rattle.ds_refinement.specs.Services.{Serves, EntersBy, seated}
 use Rattle.ds_monitor.specs.declared.monitor.Monitor.{Monitor}
 use Rattle.ds_monitor.specs.Coming.{next_due}
 use Rattle.ds_monitor.specs.Kept.{kept_of}
+use Rattle.ds_monitor.specs.Sending.{with_sent, bus_behind}
+use Rattle.ds_procs.specs.declared.call.Call.{Call}
+use Rattle.ds_procs.specs.declared.call.Call.TheVariants as call
 use Rattle.ds_kernel.specs.declared.parts.Parts.{Parts}
 use Rattle.ds_kernel.specs.Parts.{held}
 use Rattle.ds_kernel.specs.Ended.{HasEnded}
@@ -60,6 +64,34 @@ resting b k k' runner none rate ticked owed r =
       period = ap (λ (n : ℕ). has_passed n k'.ticked (last_boundary k'.state)) rate ∙ (ap₂ (λ (x y : ℕ). has_passed k.state.rate x y) ticked last ∙ r.period);
     }
 
+-- the same devices rest
+pub rest_alike : (a b : BusState) → b ≡ a → (k : Kept) → AreResting a k → AreResting b k
+rest_alike a b same k resting = subst (λ (x : BusState). AreResting x k) (sym same) resting
+
+-- behind a character that was sent the devices rest as before
+pub sent_rests : (b : BusState) (line : ℕ) (k : Kept) → AreResting b k → AreResting (with_sent b line) k
+sent_rests b line k r = record {
+  serial = ap (λ (d : SerialState). record d { waiting = None }) r.serial;
+  clock = r.clock;
+  system = r.system;
+  ticked = r.ticked;
+  period = r.period;
+}
+
+-- and so they do behind each call
+pub call_rests : (c : Call) (b : BusState) (line : ℕ) (k : Kept) → AreResting b k → AreResting (bus_behind c line b) k
+call_rests call.Exit b line k r = r
+call_rests (call.Put byte) b line k r = sent_rests b line k r
+call_rests call.Get b line k r = r
+call_rests call.Yield b line k r = r
+call_rests call.Time b line k r = r
+call_rests call.Own b line k r = r
+call_rests (call.Give address receiver to mode) b line k r = r
+call_rests (call.Take process address) b line k r = r
+call_rests (call.Drop address) b line k r = r
+call_rests call.Wait b line k r = r
+call_rests call.Unknown b line k r = r
+
 -- What is kept between the service and who comes in.
 module _ {L : Type 0} (f : State → State) (old new : Parts L) (between : Monitor) (entries : List Entry) (p : ℕ) where
   -- what comes in leaves
@@ -68,7 +100,8 @@ module _ {L : Type 0} (f : State → State) (old new : Parts L) (between : Monit
     pub buffer : BufferHolds entries (space_of (kept_of between)) between.grants → BufferHolds new.core.entries (space_of (kept_of new.monitor)) new.monitor.grants
     pub pages : NamesPages between.grants
     pub random : new.core.random ≡ old.core.random
-    pub bus : new.bus ≡ old.bus
+    pub memory : new.bus.memory ≡ old.bus.memory
+    pub rests : (k : Kept) → AreResting old.bus k → AreResting new.bus k
     pub monitor : new.monitor ≡ record between { owner = new.monitor.owner }
     pub failed : new.failed ≡ old.failed
     pub spent : new.spent ≡ 0
@@ -96,15 +129,15 @@ module _ {L : Type 0} (f : State → State) (old new : Parts L) (between : Monit
   pub has_ended : IsSound (held old) → old.monitor.owed ≡ None → Served → Comes → HasEnded f old new
   has_ended sound unowed a b = record {
     ends = record {
-      serves = subst (λ (x : BusState). Serves f (seated old.core (kept_of old.monitor)) old.bus.memory (kept_of new.monitor) x.memory) (sym b.bus)
+      serves = subst (λ (x : List ℕ). Serves f (seated old.core (kept_of old.monitor)) old.bus.memory (kept_of new.monitor) x) (sym b.memory)
           (subst (λ (k : Kept). Serves f (seated old.core (kept_of old.monitor)) old.bus.memory k old.bus.memory) (sym (kept_is b))
           (owner_unseen f (seated old.core (kept_of old.monitor)) (kept_of between) old.bus.memory old.bus.memory new.monitor.owner a.serves));
       enters = b.enters;
       buffer = b.buffer (subst (λ (s : ℕ → ℕ). BufferHolds entries s between.grants) (same_space a)
           (a.buffer (space_of (kept_of old.monitor)) (one_space (kept_of old.monitor)) sound.stands.buffer));
       grants = subst NamesPages (sym (ap (λ (k : Kept). k.grants) (kept_is b))) b.pages;
-      size = ap (λ (x : BusState). length x.memory) b.bus;
-      devices = subst (λ (x : BusState). AreResting x (kept_of new.monitor)) (sym b.bus)
+      size = ap (λ (x : List ℕ). length x) b.memory;
+      devices = b.rests (kept_of new.monitor)
           (resting old.bus (kept_of old.monitor) (kept_of new.monitor) (Some p) unowed
           (ap (λ (m : Monitor). m.rate) b.monitor ∙ a.rate)
           (ap (λ (m : Monitor). m.ticked) b.monitor ∙ a.ticked)
@@ -127,15 +160,16 @@ pub comes_in : {L : Type 0} (f : State → State) (old left new : Parts L) (betw
     → left ≡ record old { monitor = record old.monitor { seats = left.monitor.seats } }
     → EntersBy new.monitor.ready new.core (kept_of new.monitor)
     → (BufferHolds entries (space_of (kept_of between)) between.grants → BufferHolds new.core.entries (space_of (kept_of new.monitor)) new.monitor.grants)
-    → NamesPages between.grants → new.core.random ≡ left.core.random → new.bus ≡ left.bus
+    → NamesPages between.grants → new.core.random ≡ left.core.random → new.bus.memory ≡ left.bus.memory → ((k : Kept) → AreResting left.bus k → AreResting new.bus k)
     → new.monitor ≡ record between { owner = new.monitor.owner } → new.failed ≡ left.failed → new.spent ≡ 0 → new.has_room ≡ false
     → Comes f old new between entries p
-comes_in {L} f old left new between entries p leaves enters buffer pages random bus monitor failed spent closed = record {
+comes_in {L} f old left new between entries p leaves enters buffer pages random memory rests monitor failed spent closed = record {
   enters = enters;
   buffer = buffer;
   pages = pages;
   random = random ∙ ap (λ (x : Parts L). x.core.random) leaves;
-  bus = bus ∙ ap (λ (x : Parts L). x.bus) leaves;
+  memory = memory ∙ ap (λ (x : Parts L). x.bus.memory) leaves;
+  rests = λ k resting. rests k (subst (λ (b : BusState). AreResting b k) (sym (ap (λ (x : Parts L). x.bus) leaves)) resting);
   monitor = monitor;
   failed = failed ∙ ap (λ (x : Parts L). x.failed) leaves;
   spent = spent;

@@ -1,7 +1,8 @@
 //! How a service ends the unit of the process that runs: that leaves for its seat, something is done
 //! to what is kept, and who is first comes in.
-ghost use Rattle.std.specs.Prelude.{◌≡◌, ◌<◌, ◌≤◌, ◌^◌, length, Some, None, [], false};
+ghost use Rattle.std.specs.Prelude.{◌≡◌, ◌<◌, ◌≤◌, ◌^◌, length, Some, None, [], true, false};
 ghost use Rattle.ds_log.specs.Length.{IsShortRule};
+ghost use Rattle.ds_procs.specs.Calls.{call_of};
 ghost use Rattle.ds_grants.specs.Buffer.{BufferHolds, KeepsBuffer};
 ghost use Rattle.ds_grants.specs.Sound.{NamesPages};
 ghost use Rattle.ds_pagemap.specs.Machine.{State, process_of, first};
@@ -12,6 +13,7 @@ ghost use Rattle.ds_refinement.specs.Services.{EntersBy, Serves};
 ghost use Rattle.ds_refinement.specs.Told.{own_in};
 ghost use Rattle.ds_monitor.specs.Kept.{kept_of};
 ghost use Rattle.ds_monitor.specs.Room.{HasRoom};
+ghost use Rattle.ds_monitor.specs.Sending.{bus_behind};
 ghost use Rattle.ds_kernel.specs.Good.{IsBusy};
 ghost use Rattle.ds_kernel.specs.Ended.{HasEnded};
 
@@ -30,6 +32,7 @@ impl<L: Lookaside> Parts<L> {
         ensures within { process ≤ length self.now.monitor.seats.items }
         ensures table { process ≤ length self.now.monitor.grants.table }
         ensures memory { length self.now.bus.memory ≡ 2 ^ 23 }
+        ensures on { self.now.bus.serial.master_scan ≡ true }
         ensures first { first self.now.monitor.ready ≡ Some process }
         ensures unowed { self.now.monitor.owed ≡ None }
         ensures early { self.now.monitor.time < 1000000000 }
@@ -107,15 +110,20 @@ impl<L: Lookaside> Parts<L> {
         requires early { self.old.monitor.time < 1000000000 }
         requires room { HasRoom 1 self.old.monitor }
         requires lawful { IsLawful (whole (kept_of self.old.monitor) [] []) }
+        requires on { self.old.bus.serial.master_scan ≡ true }
         ensures serves { Serves (ends_in_call process unit)
             (kept_of self.old.monitor) self.old.bus.memory
             (kept_of self.new.monitor) self.new.bus.memory }
-        ensures bus { self.new.bus ≡ self.old.bus }
+        ensures bus { self.new.bus ≡ bus_behind
+            (call_of (process_of (kept_of self.old.monitor).state process).registers.general)
+            (process_of (kept_of self.old.monitor).state process).line self.old.bus }
+        ensures memory { self.new.bus.memory ≡ self.old.bus.memory }
         ensures buffer { KeepsBuffer self.old.core.entries self.new.core.entries
             self.old.monitor.grants self.new.monitor.grants }
         ensures random { self.new.core.random ≡ self.old.core.random }
         ensures rest { self.new ≡ record self.old {
           core = record self.old.core { entries = self.new.core.entries };
+          bus = self.new.bus;
           monitor = record self.old.monitor {
             grants = self.new.monitor.grants;
             seats = self.new.monitor.seats;
@@ -129,7 +137,7 @@ impl<L: Lookaside> Parts<L> {
     {
         self.look_at_sizes(process);
         self.monitor
-            .call(process, unit, self.bus.memory(), &mut self.core.tlb);
+            .call(process, unit, &mut self.bus, &mut self.core.tlb);
     }
 
     /// The unit is a call, and is done: the process goes on behind it.

@@ -1,4 +1,5 @@
 mod Gets
+pub mod Sends
 pub mod Serving
 pub mod Stops
 pub mod Called

@@ -6,3 +6,4 @@ pub mod Room
 pub mod Asked
 pub mod Ended
 pub mod Orderly
+pub mod Sending

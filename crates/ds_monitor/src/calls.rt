@@ -1,29 +1,38 @@
 //! Calls that touch neither pages nor the log.
-ghost use Rattle.std.specs.Prelude.{◌≡◌, ◌<◌, ◌≤◌, length, drop, slice_get, slice_set, nat_lt, ◌^◌};
+ghost use Rattle.std.specs.Prelude.{◌≡◌, ◌<◌, ◌≤◌, length, drop, slice_get, slice_set, nat_lt, ◌^◌, true};
 ghost use Rattle.ds_pagemap.specs.Machine.{State, process_of, made_ready};
 ghost use Rattle.ds_pagemap.specs.Calls.{answered, queue_of, after_put, after_get, after_wait};
 ghost use Rattle.ds_monitor.specs.Consoles.{HasRoom};
+ghost use Rattle.ds_monitor.specs.Sending.{with_sent};
 ghost use Rattle.ds_monitor.specs.Kept.{kept_of, kept_after};
 
 use crate::monitor::Monitor;
+use crate::sending::send;
+use ds_dev::Bus;
 use ds_procs::Standing;
 
 /// The answer that says no: all ones.
 pub(crate) const NOTHING: u32 = 0xffff_ffff;
 
 impl Monitor {
-    /// Writes a character on the console of the process.
-    pub fn put(&mut self, process: u32, byte: u8)
+    /// Writes a character on the console of the process: what the serial lines sent, where it is
+    /// sent on the line of the process.
+    pub fn put(&mut self, process: u32, byte: u8, bus: &mut Bus)
         requires above { 0 < process }
         requires within { process ≤ length self.old.seats.items }
         requires line { (process_of (kept_of self.old).state process).line < 4 }
         requires room { HasRoom self.old.consoles }
+        requires on { bus.old.serial.master_scan ≡ true }
         ensures kept { kept_of self.new
             ≡ kept_after (λ (m : State). after_put m process byte) (kept_of self.old) }
+        ensures bus { bus.new
+            ≡ with_sent bus.old (process_of (kept_of self.old).state process).line }
         ensures rest { self.new ≡ record self.old { consoles = self.new.consoles } }
     {
         let line = self.seats[process as usize - 1].line();
-        self.consoles.push_reserved(line as usize, byte);
+        if let Some(sent) = send(bus, line, byte) {
+            self.consoles.push_reserved(usize::from(sent.0), sent.1);
+        }
     }
 
     /// Takes the oldest character of the line of the process, if there is one.

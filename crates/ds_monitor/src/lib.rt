@@ -15,6 +15,7 @@ mod processes;
 mod reads;
 mod room;
 mod seat;
+mod sending;
 mod services;
 mod turns;
 

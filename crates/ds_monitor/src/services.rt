@@ -13,9 +13,11 @@ ghost use Rattle.ds_monitor.specs.Room.{HasLogRoom};
 ghost use Rattle.ds_monitor.specs.Asked.{IsForItself};
 ghost use Rattle.ds_monitor.specs.Ended.{IsAlive, ended_behind};
 ghost use Rattle.ds_monitor.specs.Orderly.{IsOrderly};
+ghost use Rattle.ds_monitor.specs.Sending.{bus_behind};
 
 use crate::calls::NOTHING;
 use crate::monitor::Monitor;
+use ds_dev::Bus;
 use ds_log::{Denied, Line};
 use ds_mem::Memory;
 use ds_policy::Rule;
@@ -107,7 +109,7 @@ impl Monitor {
     }
 
     /// Serves a call of a process that stands behind it and asks for itself alone.
-    fn serve<L: Lookaside>(&mut self, process: u32, call: Call, memory: &mut Memory, tlb: &mut L)
+    fn serve<L: Lookaside>(&mut self, process: u32, call: Call, bus: &mut Bus, tlb: &mut L)
         requires above { 0 < process }
         requires within { process ≤ length self.old.seats.items }
         requires few { length self.old.seats.items ≤ 100 }
@@ -117,9 +119,11 @@ impl Monitor {
         requires early { self.old.time < 1000000000 }
         requires room { consoles.HasRoom self.old.consoles }
         requires asked { IsForItself call }
+        requires on { bus.old.serial.master_scan ≡ true }
         ensures serves { (pc : ℕ) → Serves (λ (m : State). served m process pc call)
-            (kept_of self.old) memory.old (kept_of self.new) memory.new }
-        ensures memory { memory.new ≡ memory.old }
+            (kept_of self.old) bus.old.memory (kept_of self.new) bus.new.memory }
+        ensures bus { bus.new
+            ≡ bus_behind call (process_of (kept_of self.old).state process).line bus.old }
         ensures buffer { KeepsBuffer (L.entries tlb.old) (L.entries tlb.new)
             self.old.grants self.new.grants }
         ensures random { L.random_place tlb.new ≡ L.random_place tlb.old }
@@ -134,9 +138,9 @@ impl Monitor {
         } }
     {
         match call {
-            Call::Exit => self.exit(process, memory, tlb),
+            Call::Exit => self.exit(process, bus.memory(), tlb),
             Call::Put { byte } => {
-                self.put(process, byte);
+                self.put(process, byte, bus);
                 self.answer(process, 0);
             }
             Call::Get => self.get(process),
@@ -162,7 +166,7 @@ impl Monitor {
 
     /// The call of a process at an address: the process goes on behind it and is served, and its
     /// turn is done.
-    pub fn call<L: Lookaside>(&mut self, process: u32, pc: u32, memory: &mut Memory, tlb: &mut L)
+    pub fn call<L: Lookaside>(&mut self, process: u32, pc: u32, bus: &mut Bus, tlb: &mut L)
         requires above { 0 < process }
         requires within { process ≤ length self.old.seats.items }
         requires few { length self.old.seats.items ≤ 100 }
@@ -171,11 +175,15 @@ impl Monitor {
         requires table { length self.old.grants.table ≡ length self.old.seats.items }
         requires early { self.old.time < 1000000000 }
         requires room { consoles.HasRoom self.old.consoles }
+        requires on { bus.old.serial.master_scan ≡ true }
         ensures serves { Serves (ends_in_call process pc)
-            (kept_of self.old) memory.old (kept_of self.new) memory.new }
+            (kept_of self.old) bus.old.memory (kept_of self.new) bus.new.memory }
         ensures orderly { IsOrderly (kept_of self.old) → IsAlive (kept_of self.old).state process
             → IsOrderly (kept_of self.new) }
-        ensures memory { memory.new ≡ memory.old }
+        ensures memory { bus.new.memory ≡ bus.old.memory }
+        ensures bus { bus.new
+            ≡ bus_behind (call_of (process_of (kept_of self.old).state process).registers.general)
+            (process_of (kept_of self.old).state process).line bus.old }
         ensures buffer { KeepsBuffer (L.entries tlb.old) (L.entries tlb.new)
             self.old.grants self.new.grants }
         ensures random { L.random_place tlb.new ≡ L.random_place tlb.old }
@@ -192,7 +200,7 @@ impl Monitor {
         self.has_no_late_load(process);
         self.go_to(process, wrapping_sum(pc, 4));
         let call = self.asked(process);
-        self.serve(process, call, memory, tlb);
+        self.serve(process, call, bus, tlb);
         self.end_turn(Some(process), 1);
     }
 }

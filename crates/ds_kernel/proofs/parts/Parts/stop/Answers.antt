@@ -1,7 +1,7 @@
 use Rattle.std.proofs.Common.{ap, []}
 use Rattle.ds_kernel.specs.declared.parts.Parts.{Parts}
 use Rattle.ds_kernel.proofs.Keeping.{stop_lawful}
-use Rattle.ds_kernel.proofs.Finishing.{has_ended, comes_in, stop_served}
+use Rattle.ds_kernel.proofs.Finishing.{has_ended, rest_alike, comes_in, stop_served}
 use Rattle.ds_refinement.specs.Stands.{ends_in_stop}
 use Rattle.ds_refinement.specs.Told.{own_in}
 use Rattle.ds_pagemap.specs.Unit.{Stop}
@@ -28,4 +28,4 @@ returns-clause-ends g c =
     (stop_served old left new between c.args.process c.unit_address-unit.result c.own_address-pc.result stop c.unit_address-unit.ensures c.own_address-pc.ensures
     c.look_at_unit.ensures.above c.leave.ensures.kept c.leave.ensures.rest (c.leave.ensures.lawful c.look_at_unit.ensures.lawful) c.stop_unit.ensures.serves c.stop_unit.ensures.lines c.stop_unit.ensures.rest)
     (comes_in f old left new between left.core.entries c.args.process c.leave.ensures.rest c.end_unit.ensures.enters c.end_unit.ensures.buffer c.end_unit.ensures.pages c.end_unit.ensures.random
-    (ap (λ (x : Parts g.row.L.Denot). x.bus) rest) (ap (λ (x : Parts g.row.L.Denot). x.monitor) rest) (ap (λ (x : Parts g.row.L.Denot). x.failed) rest) (ap (λ (x : Parts g.row.L.Denot). x.spent) rest) (ap (λ (x : Parts g.row.L.Denot). x.has_room) rest))
+    (ap (λ (x : Parts g.row.L.Denot). x.bus.memory) rest) (rest_alike left.bus new.bus (ap (λ (x : Parts g.row.L.Denot). x.bus) rest)) (ap (λ (x : Parts g.row.L.Denot). x.monitor) rest) (ap (λ (x : Parts g.row.L.Denot). x.failed) rest) (ap (λ (x : Parts g.row.L.Denot). x.spent) rest) (ap (λ (x : Parts g.row.L.Denot). x.has_room) rest))

@@ -1,7 +1,9 @@
 use Rattle.std.proofs.Common.{[], sym, ◌≡◌, ◌∙◌, ◌+◌, ℕ, ap, refl}
 use Rattle.ds_word.specs.Word.{word}
 use Rattle.ds_procs.specs.Calls.{call_of}
-use Rattle.ds_pagemap.specs.Machine.{State, process_of}
+use Rattle.ds_pagemap.specs.Machine.{State, Process, process_of}
+use Rattle.ds_pagemap.proofs.Processes.{process_of-with_process}
+use Rattle.ds_monitor.specs.Sending.{bus_behind}
 use Rattle.ds_pagemap.specs.Unit.{at_pc}
 use Rattle.ds_pagemap.specs.Calls.{served}
 use Rattle.ds_refinement.specs.Held.{Kept, whole}
@@ -21,8 +23,8 @@ returns-clause-serves g c =
     let pc = c.args.pc in
     let call = c.asked-call.result in
     let k = kept_of c.args.self.now in
-    let x = c.args.memory.now in
-    let y = c.serve.new.memory in
+    let x = c.args.bus.now.memory in
+    let y = c.serve.new.bus.memory in
     let behind = kept_of c.go_to.new.self in
     let done = kept_of c.serve.new.self in
     let last = kept_of c.end_turn.new.self in
@@ -43,7 +45,7 @@ returns-clause-orderly g c = λ it alive.
     let p = c.args.process in
     let pc = c.args.pc in
     let k = kept_of c.args.self.now in
-    let x = c.args.memory.now in
+    let x = c.args.bus.now.memory in
     let old = k.grants.ended in
     let step = λ (m : State). at_pc m p (word (pc + 4)) in
     let there : kept_of c.go_to.new.self ≡ kept_after step k = c.go_to.ensures.kept ∙ ap (λ (t : ℕ). kept_after (λ (m : State). at_pc m p t) k) c.wrapping_sum.ensures in
@@ -54,4 +56,15 @@ returns-clause-orderly g c = λ it alive.
     ∙ (c.serve.ensures.ended
     ∙ (ap (λ (z : Kept). ended_behind c.asked-call.result p z.grants.ended) c.go_to.ensures.kept
     ∙ ap (λ (z : Call). ended_behind z p old) (asked ∙ settled))) in
-    call_orderly p pc k (kept_of c.end_turn.new.self) x c.serve.new.memory c.requires.above c.requires.within alive (returns-clause-serves g c) ended it
+    call_orderly p pc k (kept_of c.end_turn.new.self) x c.serve.new.bus.memory c.requires.above c.requires.within alive (returns-clause-serves g c) ended it
+
+pub returns-clause-bus : goal.returns-clause-bus
+returns-clause-bus g c =
+    let p = c.args.process in
+    let k = kept_of c.args.self.now in
+    let pc = word (c.args.pc + 4) in
+    let there : kept_of c.go_to.new.self ≡ kept_after (λ (m : State). at_pc m p pc) k = c.go_to.ensures.kept ∙ ap (λ (t : ℕ). kept_after (λ (m : State). at_pc m p t) k) c.wrapping_sum.ensures in
+    let moved : process_of (kept_of c.go_to.new.self).state p ≡ record (process_of k.state p) { pc = pc } = ap (λ (z : Kept). process_of z.state p) there ∙ process_of-with_process k.state p (record (process_of k.state p) { pc = pc }) c.requires.above c.requires.within in
+    c.serve.ensures.bus
+    ∙ (ap (λ (x : Call). bus_behind x (process_of (kept_of c.go_to.new.self).state p).line c.args.bus.now) c.asked-call.ensures.value
+    ∙ ap (λ (q : Process). bus_behind (call_of q.registers.general) q.line c.args.bus.now) moved)

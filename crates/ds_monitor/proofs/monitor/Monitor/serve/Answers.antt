@@ -11,6 +11,6 @@ pub returns-in-Wait-clause-serves : goal.returns-in-Wait-clause-serves
 returns-in-Wait-clause-serves g c = λ pc.
     let k = kept_of c.args.self.now in
     let n = kept_of c.wait.new.self in
-    let memory = c.args.memory.now in
+    let memory = c.args.bus.now.memory in
     subst (λ (x : Call). Serves (λ (m : State). served m c.args.process pc x) k memory n memory) (sym c.in-Wait.is)
     (by_kept _ k n memory (waits c.args.process pc) (record { memory = refl; log = refl }) c.wait.ensures.kept)
