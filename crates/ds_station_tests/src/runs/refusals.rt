@@ -55,7 +55,10 @@ fn a_source_that_is_not_there_is_told(rt: HostRuntime) -> Result<(), Fail> {
         ..none
     };
     check(&rt, alloc, policy, "8 BadToml")?;
-    let input = Run { input: COMMAND, ..none };
+    let input = Run {
+        input: COMMAND,
+        ..none
+    };
     check(&rt, alloc, input, "24 NoSource one.s")
 }
 
@@ -108,7 +111,10 @@ fn more_ticks_than_are_served_are_refused_behind_the_input_and_before_random(
     for random in [7, 64] {
         check(&rt, alloc, Run { random, ..many }, "10 Limit n")?;
     }
-    let input = Run { input: COMMAND, ..many };
+    let input = Run {
+        input: COMMAND,
+        ..many
+    };
     check(&rt, alloc, input, "20 InputFault 1")?;
     let bad = [("one.s", BAD_SECOND_LINE)];
     let source = Run {
