@@ -165,7 +165,7 @@ served_twins a b p pc c d k e = rw e (via (λ m. served m p pc d) a b (λ qs t. 
 
 -- a call's registers are none that a touch can reach
 call_alike : (r s : Registers) → AreAlike r s → call_of r.general ≡ call_of s.general
-call_alike r s k = ap₂ (λ (n a : ℕ). cond (n == 0) call.Exit (cond (n == 1) (call.Put (a % 256)) call.Unknown)) (k.general 2 refl) (k.general 4 refl)
+call_alike r s k = ap₂ (λ (n a : ℕ). cond (n == 0) call.Exit (cond (n == 1) (call.Put (a % 256)) (cond (n == 2) call.Get (cond (n == 3) call.Yield (cond (n == 4) call.Time (cond (n == 5) call.Own (cond (n == 9) call.Wait call.Unknown))))))) (k.general 2 refl) (k.general 4 refl)
 
 registers_of_twin : (a b : State) (p : ℕ) → IsTwin a b → AreAlike (process_of a p).registers (process_of b p).registers
 registers_of_twin a b p k = subst (λ (m : State). AreAlike (process_of a p).registers (process_of m p).registers) (sym k.is) ((k.twins.each (p - 1)).registers)
