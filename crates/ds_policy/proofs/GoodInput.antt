@@ -1,5 +1,5 @@
 -- What is true of each input that was read: each event keeps it.
-use Rattle.std.proofs.Common.{◌≡◌, ◌∙◌, sym, ap, subst, refl, ℕ, ◌+◌, ◌*◌, ◌-◌, ◌<◌, ◌≤◌, ◌&&◌, Bool, true, false, nat_le, nat_lt, codes, bytes_eq, List, [], ◌∷◌, ◌++◌, length, Option, Some, None, option_map, Ok, arith, inl, inr, append-nil, append_assoc, length-append}
+use Rattle.std.proofs.Common.{◌≡◌, ◌∙◌, sym, ap, subst, refl, ℕ, ◌+◌, ◌*◌, ◌-◌, ◌<◌, ◌≤◌, ◌&&◌, true, nat_le, nat_lt, codes, bytes_eq, List, [], ◌∷◌, ◌++◌, length, Some, None, option_map, if◌then◌else◌, Ok, arith, inl, inr, append-nil, append_assoc, length-append}
 use Rattle.std.proofs.lemmas.List.{get_or_append_left, get_or_push}
 use Rattle.std.proofs.lemmas.List.Elements.{All-nil, All-push, All-weaker, All-get_or}
 use Rattle.std.proofs.lemmas.List.Sorted.{IsNonDecreasingBy-push, IsNonDecreasingBy-short}
@@ -8,18 +8,24 @@ use Rattle.std.proofs.lemmas.Bool.Decides.{nat_tests}
 use Rattle.std.specs.List.{All}
 use Rattle.std.specs.List.Sorted.{IsNonDecreasingBy}
 use Rattle.ds_policy.specs.declared.command.Command.{Command}
+use Rattle.ds_policy.specs.declared.command.Command.TheVariants.{Grant, Narrow, Revoke, Drop, Resume, Stop}
 use Rattle.ds_policy.specs.declared.command.TimedCommand.{TimedCommand}
 use Rattle.ds_policy.specs.declared.command.Character.{Character}
 use Rattle.ds_policy.specs.declared.events.event.Event.{Event}
 use Rattle.ds_policy.specs.declared.events.event.Event.TheVariants.{Order, Input}
 use Rattle.ds_policy.specs.declared.events.event.TimedEvent.{TimedEvent}
+use Rattle.ds_policy.specs.declared.grant.Right.{Right}
+use Rattle.ds_policy.specs.declared.grant.Right.TheVariants.{Read, Write}
 use Rattle.ds_policy.specs.declared.policy.PolicyPage.{PolicyPage}
+use Rattle.ds_policy.specs.Grants.{is_some_right}
+use Rattle.ds_policy.specs.PolicyParts.{page_named}
 use Rattle.ds_word.specs.Digits.{digit_of, digits_from}
-use Rattle.ds_policy.specs.InputNumbers.{decimal_of, bytes_of}
-use Rattle.ds_policy.specs.InputLines.{words_of, line_of, keys_of, command_of, event_of, timed_event_of}
-use Rattle.ds_policy.specs.InputText.{Said, nothing_said, is_served, characters_of, with_event, may_follow, follows, is_skipped, with_line, with_lines, or_fault, input_in}
-use Rattle.ds_policy.specs.InputFacts.{has_time, comes_at, IsGoodCharacter, AreNumbered, IsGoodInput, HasNoCommand}
+use Rattle.ds_policy.specs.InputNumbers.{decimal_of, address_of, bytes_of}
+use Rattle.ds_policy.specs.InputLines.{words_of, process_of, line_of, right_of, give_of, of_process, of_entry, keys_of, command_of, event_of, timed_event_of}
+use Rattle.ds_policy.specs.InputText.{Said, nothing_said, characters_of, with_event, follows, is_skipped, with_line, with_lines, or_fault, input_in}
+use Rattle.ds_policy.specs.InputFacts.{has_time, comes_at, IsGoodCommand, AreGoodCommands, IsGoodCharacter, AreNumbered, IsGoodInput}
 use Rattle.ds_policy.proofs.Binds.{bind_some, both}
+use Rattle.ds_policy.proofs.GoodPolicy.{page_within}
 
 -- a number read within a limit is within it
 digits_within : (base limit n : ℕ) (cs : List ℕ) (m : ℕ) → n ≤ limit → digits_from base limit n cs ≡ Some m → m ≤ limit
@@ -38,9 +44,10 @@ decimal_within limit word m h = elim (cases_Bool (nat_le 1 (length word) && nat_
   | inr past ↦ let none : None ≡ Some m = rw past at h in cc
 ]
 
-abbrev pub HasLine : Event → Type 0
-HasLine (Order c) = Unit {0}
-HasLine (Input line keys) = line ≤ 3
+-- a command is good for so many pages, and characters come in on one of four lines
+abbrev pub IsGoodFor : ℕ → Event → Type 0
+IsGoodFor pages (Order c) = IsGoodCommand pages c
+IsGoodFor pages (Input line keys) = line ≤ 3
 
 line_within : (word : List ℕ) (line : ℕ) → line_of word ≡ Some line → line ≤ 3
 line_within [] line h = cc
@@ -54,32 +61,90 @@ line_within (c ∷ []) line h = elim (cases_Bool (nat_le 48 c && nat_le c 51)) [
 ]
 line_within (c ∷ b ∷ rest) line h = cc
 
-keys_have_line : (words : List (List ℕ)) (e : Event) → keys_of words ≡ Some e → HasLine e
+keys_good : (pages : ℕ) (words : List (List ℕ)) (e : Event) → keys_of words ≡ Some e → IsGoodFor pages e
 unfolding keys_of
-keys_have_line [] e h = cc
-keys_have_line (l ∷ []) e h = cc
-keys_have_line (l ∷ digits ∷ []) e h =
+keys_good pages [] e h = cc
+keys_good pages (l ∷ []) e h = cc
+keys_good pages (l ∷ digits ∷ []) e h =
     let (line, h1, a) = bind_some (line_of l) _ e h in
     let (keys, h2, b) = bind_some (bytes_of digits) _ e a in
     let same : Input line keys ≡ e = cc in
-    subst HasLine same (line_within l line h1)
-keys_have_line (l ∷ digits ∷ more ∷ rest) e h = cc
+    subst (IsGoodFor pages) same (line_within l line h1)
+keys_good pages (l ∷ digits ∷ more ∷ rest) e h = cc
 
-orders_have_line : (o : Option Command) (e : Event) → option_map (λ c. Order c) o ≡ Some e → HasLine e
-orders_have_line None e h = cc
-orders_have_line (Some c) e h = let same : Order c ≡ e = cc in subst HasLine same tt
-
-event_has_line : (pages : List PolicyPage) (verb : List ℕ) (words : List (List ℕ)) (e : Event) → event_of pages verb words ≡ Some e → HasLine e
-event_has_line pages verb words e h = elim (cases_Bool (bytes_eq verb (codes "key"))) [
-  | inl key ↦ keys_have_line words e (rw key at h)
-  | inr other ↦ orders_have_line (command_of pages verb words) e (rw other at h)
+of_process_good : (pages : ℕ) (verb : List ℕ) (p : ℕ) (c : Command) → of_process verb p ≡ Some c → IsGoodCommand pages c
+of_process_good pages verb p c h = elim (cases_Bool (bytes_eq verb (codes "resume"))) [
+  | inl resume ↦ let same : Some (Resume p) ≡ Some c = rw resume at h in let is : Resume p ≡ c = cc in subst (IsGoodCommand pages) is tt
+  | inr other ↦ elim (cases_Bool (bytes_eq verb (codes "stop"))) [
+    | inl stop ↦ let same : Some (Stop p) ≡ Some c = rw (other, stop) at h in let is : Stop p ≡ c = cc in subst (IsGoodCommand pages) is tt
+    | inr neither ↦ let none : None ≡ Some c = rw (other, neither) at h in cc
+  ]
 ]
 
-record IsGoodEvent (e : TimedEvent) : Type 0 where
-  time : e.time ≤ 1000000000
-  line : HasLine e.event
+of_entry_good : (pages : ℕ) (verb : List ℕ) (p a : ℕ) (c : Command) → of_entry verb p a ≡ Some c → IsGoodCommand pages c
+of_entry_good pages verb p a c h = elim (cases_Bool (bytes_eq verb (codes "narrow"))) [
+  | inl narrow ↦ let same : Some (Narrow p a) ≡ Some c = rw narrow at h in let is : Narrow p a ≡ c = cc in subst (IsGoodCommand pages) is tt
+  | inr other ↦ elim (cases_Bool (bytes_eq verb (codes "revoke"))) [
+    | inl revoke ↦ let same : Some (Revoke p a) ≡ Some c = rw (other, revoke) at h in let is : Revoke p a ≡ c = cc in subst (IsGoodCommand pages) is tt
+    | inr third ↦ elim (cases_Bool (bytes_eq verb (codes "drop"))) [
+      | inl drop ↦ let same : Some (Drop p a) ≡ Some c = rw (other, third, drop) at h in let is : Drop p a ≡ c = cc in subst (IsGoodCommand pages) is tt
+      | inr none ↦ let nothing : None ≡ Some c = rw (other, third, none) at h in cc
+    ]
+  ]
+]
 
-event_good : (pages : List PolicyPage) (words : List (List ℕ)) (e : TimedEvent) → timed_event_of pages words ≡ Some e → IsGoodEvent e
+right_given : (word : List ℕ) (right : Right) → right_of word ≡ Some right → is_some_right right ≡ true
+right_given word right h = elim (cases_Bool (bytes_eq word (codes "read"))) [
+  | inl read ↦ let same : Some Read ≡ Some right = rw read at h in let is : Read ≡ right = cc in subst (λ r. is_some_right r ≡ true) is refl
+  | inr other ↦ elim (cases_Bool (bytes_eq word (codes "write"))) [
+    | inl write ↦ let same : Some Write ≡ Some right = rw (other, write) at h in let is : Write ≡ right = cc in subst (λ r. is_some_right r ≡ true) is refl
+    | inr neither ↦ let none : None ≡ Some right = rw (other, neither) at h in cc
+  ]
+]
+
+grant_verb : (pages : ℕ) (verb : List ℕ) (d c : Command) → IsGoodCommand pages d → (if bytes_eq verb (codes "grant") then Some d else None) ≡ Some c → IsGoodCommand pages c
+grant_verb pages verb d c good h = elim (cases_Bool (bytes_eq verb (codes "grant"))) [
+  | inl grant ↦ let same : Some d ≡ Some c = rw grant at h in let is : d ≡ c = cc in subst (IsGoodCommand pages) is good
+  | inr other ↦ let none : None ≡ Some c = rw other at h in cc
+]
+
+command_good : (pages : List PolicyPage) (verb : List ℕ) (words : List (List ℕ)) (c : Command) → command_of pages verb words ≡ Some c → IsGoodCommand (length pages) c
+unfolding command_of
+command_good pages verb [] c h = cc
+command_good pages verb (p ∷ []) c h =
+    let (process, h1, a) = bind_some (process_of p) (of_process verb) c h in
+    of_process_good (length pages) verb process c a
+command_good pages verb (p ∷ a ∷ []) c h =
+    let (process, h1, q) = bind_some (process_of p) _ c h in
+    let (address, h2, r) = bind_some (address_of a) _ c q in
+    of_entry_good (length pages) verb process address c r
+command_good pages verb (p ∷ a ∷ name ∷ []) c h = cc
+command_good pages verb (p ∷ a ∷ name ∷ word ∷ rest) c h =
+    let (process, h1, i) = bind_some (process_of p) _ c h in
+    let (address, h2, j) = bind_some (address_of a) _ c i in
+    let (page, h3, k) = bind_some (page_named pages name) _ c j in
+    let (right, h4, l) = bind_some (right_of word) _ c k in
+    let (give, h5, m) = bind_some (give_of rest) _ c l in
+    grant_verb (length pages) verb (Grant process address page right give) c (page_within pages name page h3, right_given word right h4) m
+
+orders_good : (pages : List PolicyPage) (verb : List ℕ) (words : List (List ℕ)) (e : Event) → option_map (λ c. Order c) (command_of pages verb words) ≡ Some e → IsGoodFor (length pages) e
+orders_good pages verb words e h =
+    elim (command_of pages verb words) as (λ o. command_of pages verb words ≡ o → option_map (λ c. Order c) o ≡ Some e → IsGoodFor (length pages) e) [
+      | None ↦ λ is none. cc
+      | Some c ↦ λ is some. let same : Order c ≡ e = cc in subst (IsGoodFor (length pages)) same (command_good pages verb words c is)
+    ] refl h
+
+event_is_good : (pages : List PolicyPage) (verb : List ℕ) (words : List (List ℕ)) (e : Event) → event_of pages verb words ≡ Some e → IsGoodFor (length pages) e
+event_is_good pages verb words e h = elim (cases_Bool (bytes_eq verb (codes "key"))) [
+  | inl key ↦ keys_good (length pages) words e (rw key at h)
+  | inr other ↦ orders_good pages verb words e (rw other at h)
+]
+
+record IsGoodEvent (pages : ℕ) (e : TimedEvent) : Type 0 where
+  time : e.time ≤ 1000000000
+  good : IsGoodFor pages e.event
+
+event_good : (pages : List PolicyPage) (words : List (List ℕ)) (e : TimedEvent) → timed_event_of pages words ≡ Some e → IsGoodEvent (length pages) e
 unfolding timed_event_of
 event_good pages [] e h = cc
 event_good pages (t ∷ []) e h = cc
@@ -87,14 +152,15 @@ event_good pages (t ∷ verb ∷ rest) e h =
     let (time, h1, a) = bind_some (decimal_of 1000000000 t) _ e h in
     let (event, h2, b) = bind_some (event_of pages verb rest) _ e a in
     let same : record { time = time; event = event } ≡ e = ap (λ o. elim o as (λ x. TimedEvent) [ None ↦ e | Some x ↦ x ]) b in
-    subst IsGoodEvent same (record { time = decimal_within 1000000000 t time h1; line = event_has_line pages verb rest event h2 })
+    subst (IsGoodEvent (length pages)) same (record { time = decimal_within 1000000000 t time h1; good = event_is_good pages verb rest event h2 })
 
--- what lines have said, and that nothing of it is later than the last event
-pub record IsGood (s : Said) : Type 0 where
+-- what lines have said under a policy of so many pages, and that nothing of it is later than the last event
+pub record IsGood (pages : ℕ) (s : Said) : Type 0 where
   pub latest : s.latest ≤ 1000000000
   pub events : s.events ≤ 4096
   pub count : length s.commands ≤ s.events
   pub due : All (λ c. has_time c ≤ s.latest) s.commands
+  pub commands : AreGoodCommands pages s.commands
   pub numbers : AreNumbered s.commands
   pub order : IsNonDecreasingBy has_time s.commands
   pub come : All (λ c. comes_at c ≤ s.latest) s.characters
@@ -117,8 +183,8 @@ numbered xs y all last k d within = elim (cases_lt k (length xs)) [
       ap (λ (c : TimedCommand). c.number) (get_or_push xs y d k same) ∙ (last ∙ ap (λ n. n + 1) same)
 ]
 
-order_keeps : (s : Said) (t : ℕ) (c : Command) → IsGood s → s.latest ≤ t → t ≤ 1000000000 → s.events < 4096 → IsGood (with_event s t (Order c))
-order_keeps s t c good after due room =
+order_keeps : (pages : ℕ) (s : Said) (t : ℕ) (c : Command) → IsGood pages s → s.latest ≤ t → t ≤ 1000000000 → s.events < 4096 → IsGoodCommand pages c → IsGood pages (with_event s t (Order c))
+order_keeps pages s t c good after due room sound =
     let y : TimedCommand = record { time = t; number = length s.commands + 1; command = c } in
     let earlier = later has_time s.commands s.latest t after good.due in
     record {
@@ -126,6 +192,7 @@ order_keeps s t c good after due room =
       events = omega arith;
       count = (let few = good.count in omega (arith, length-append s.commands (y ∷ [])));
       due = All-push (λ c. has_time c ≤ t) s.commands y earlier (omega arith);
+      commands = All-push (λ (c : TimedCommand). IsGoodCommand pages c.command) s.commands y good.commands sound;
       numbers = numbered s.commands y good.numbers refl;
       order = in_order has_time s.commands y earlier good.order;
       come = later comes_at s.characters s.latest t after good.come;
@@ -149,8 +216,8 @@ keys_keep t line (b ∷ keys) cs due four good =
     }) in
     subst (AreGoodAt t) (append_assoc cs (y ∷ []) (characters_of t line keys)) more
 
-input_keeps : (s : Said) (t line : ℕ) (keys : List ℕ) → IsGood s → s.latest ≤ t → t ≤ 1000000000 → s.events < 4096 → line ≤ 3 → IsGood (with_event s t (Input line keys))
-input_keeps s t line keys good after due room four =
+input_keeps : (pages : ℕ) (s : Said) (t line : ℕ) (keys : List ℕ) → IsGood pages s → s.latest ≤ t → t ≤ 1000000000 → s.events < 4096 → line ≤ 3 → IsGood pages (with_event s t (Input line keys))
+input_keeps pages s t line keys good after due room four =
     let all = keys_keep t line keys s.characters due four (record {
       come = later comes_at s.characters s.latest t after good.come;
       good = good.characters;
@@ -161,6 +228,7 @@ input_keeps s t line keys good after due room four =
       events = omega arith;
       count = (let few = good.count in omega arith);
       due = later has_time s.commands s.latest t after good.due;
+      commands = good.commands;
       numbers = good.numbers;
       order = good.order;
       come = all.come;
@@ -168,43 +236,43 @@ input_keeps s t line keys good after due room four =
       character_order = all.order;
     }
 
-event_keeps : (s : Said) (t : ℕ) (e : Event) → IsGood s → s.latest ≤ t → t ≤ 1000000000 → s.events < 4096 → HasLine e → IsGood (with_event s t e)
-event_keeps s t (Order c) good after due room line = order_keeps s t c good after due room
-event_keeps s t (Input line keys) good after due room four = input_keeps s t line keys good after due room four
+event_keeps : (pages : ℕ) (s : Said) (t : ℕ) (e : Event) → IsGood pages s → s.latest ≤ t → t ≤ 1000000000 → s.events < 4096 → IsGoodFor pages e → IsGood pages (with_event s t e)
+event_keeps pages s t (Order c) good after due room sound = order_keeps pages s t c good after due room sound
+event_keeps pages s t (Input line keys) good after due room four = input_keeps pages s t line keys good after due room four
 
-line_keeps : (served : Event → Bool) (pages : List PolicyPage) (s : Said) (line : List ℕ) (t : Said) → IsGood s → with_line served pages s line ≡ Some t → IsGood t
+line_keeps : (pages : List PolicyPage) (s : Said) (line : List ℕ) (t : Said) → IsGood (length pages) s → with_line pages s line ≡ Some t → IsGood (length pages) t
 unfolding with_line
-line_keeps served pages s line t good h = elim (cases_Bool (is_skipped line)) [
-  | inl skipped ↦ let same : Some s ≡ Some t = rw skipped at h in let is : s ≡ t = cc in subst IsGood is good
+line_keeps pages s line t good h = elim (cases_Bool (is_skipped line)) [
+  | inl skipped ↦ let same : Some s ≡ Some t = rw skipped at h in let is : s ≡ t = cc in subst (IsGood (length pages)) is good
   | inr event ↦
       let (e, read, more) = bind_some (timed_event_of pages (words_of line)) _ t (rw event at h) in
-      elim (cases_Bool (may_follow served s e)) [
-        | inl may ↦
-            let (serves, follow) = both (served e.event) (follows s e.time) may in
+      elim (cases_Bool (follows s e.time)) [
+        | inl follow ↦
             let (after, room) = both (nat_le s.latest e.time) (nat_lt s.events 4096) follow in
-            let same : Some (with_event s e.time e.event) ≡ Some t = rw may at more in
+            let same : Some (with_event s e.time e.event) ≡ Some t = rw follow at more in
             let is : with_event s e.time e.event ≡ t = cc in
             let sound = event_good pages (words_of line) e read in
-            subst IsGood is (event_keeps s e.time e.event good (grind (arith, nat_tests)) sound.time (grind (arith, nat_tests)) sound.line)
+            subst (IsGood (length pages)) is (event_keeps (length pages) s e.time e.event good (grind (arith, nat_tests)) sound.time (grind (arith, nat_tests)) sound.good)
         | inr may_not ↦ let none : None ≡ Some t = rw may_not at more in cc
       ]
 ]
 
-lines_keep : (served : Event → Bool) (pages : List PolicyPage) (s : Said) (n : ℕ) (lines : List (List ℕ)) (t : Said) → IsGood s → with_lines served pages s n lines ≡ Ok t → IsGood t
+lines_keep : (pages : List PolicyPage) (s : Said) (n : ℕ) (lines : List (List ℕ)) (t : Said) → IsGood (length pages) s → with_lines pages s n lines ≡ Ok t → IsGood (length pages) t
 unfolding with_lines
-lines_keep served pages s n [] t good h = let same : s ≡ t = cc in subst IsGood same good
-lines_keep served pages s n (line ∷ lines) t good h =
-    elim (with_line served pages s line) as (λ o. with_line served pages s line ≡ o → or_fault o n (λ next. with_lines served pages next (n + 1) lines) ≡ Ok t → IsGood t) [
+lines_keep pages s n [] t good h = let same : s ≡ t = cc in subst (IsGood (length pages)) same good
+lines_keep pages s n (line ∷ lines) t good h =
+    elim (with_line pages s line) as (λ o. with_line pages s line ≡ o → or_fault o n (λ next. with_lines pages next (n + 1) lines) ≡ Ok t → IsGood (length pages) t) [
       | None ↦ λ is bad. cc
-      | Some next ↦ λ is more. lines_keep served pages next (n + 1) lines t (line_keeps served pages s line next good is) more
+      | Some next ↦ λ is more. lines_keep pages next (n + 1) lines t (line_keeps pages s line next good is) more
     ] refl h
 
-nothing_good : IsGood nothing_said
-nothing_good = record {
+nothing_good : (pages : ℕ) → IsGood pages nothing_said
+nothing_good pages = record {
   latest = omega arith;
   events = omega arith;
   count = omega arith;
   due = All-nil (λ c. has_time c ≤ 0);
+  commands = All-nil (λ (c : TimedCommand). IsGoodCommand pages c.command);
   numbers = λ k d within. absurd (omega (arith, within));
   order = IsNonDecreasingBy-short has_time [] (omega arith);
   come = All-nil (λ c. comes_at c ≤ 0);
@@ -213,9 +281,9 @@ nothing_good = record {
 }
 
 -- what is read of a text is good
-pub good_input : (served : Event → Bool) (pages : List PolicyPage) (lines : List (List ℕ)) (t : Said) → with_lines served pages nothing_said 1 lines ≡ Ok t → IsGoodInput (input_in t)
-good_input served pages lines t h =
-    let good = lines_keep served pages nothing_said 1 lines t nothing_good h in
+pub good_input : (pages : List PolicyPage) (lines : List (List ℕ)) (t : Said) → with_lines pages nothing_said 1 lines ≡ Ok t → IsGoodInput (input_in t)
+good_input pages lines t h =
+    let good = lines_keep pages nothing_said 1 lines t (nothing_good (length pages)) h in
     record {
       count = (let few = good.count in let most = good.events in omega arith);
       due = later has_time t.commands t.latest 1000000000 good.latest good.due;
@@ -225,38 +293,6 @@ good_input served pages lines t h =
       character_order = good.character_order;
     }
 
--- as long as no command is served, none is read
-abbrev HasAsMany : Said → Said → Type 0
-HasAsMany s t = s.commands ≡ t.commands
-
-event_same : (s : Said) (time : ℕ) (e : Event) → is_served e ≡ true → HasAsMany s (with_event s time e)
-event_same s time (Order c) h = cc
-event_same s time (Input line keys) h = refl
-
-line_same : (pages : List PolicyPage) (s : Said) (line : List ℕ) (t : Said) → with_line is_served pages s line ≡ Some t → HasAsMany s t
-unfolding with_line
-line_same pages s line t h = elim (cases_Bool (is_skipped line)) [
-  | inl skipped ↦ let same : Some s ≡ Some t = rw skipped at h in let is : s ≡ t = cc in ap (λ (r : Said). r.commands) is
-  | inr event ↦
-      let (e, read, more) = bind_some (timed_event_of pages (words_of line)) _ t (rw event at h) in
-      elim (cases_Bool (may_follow is_served s e)) [
-        | inl may ↦
-            let (serves, follow) = both (is_served e.event) (follows s e.time) may in
-            let same : Some (with_event s e.time e.event) ≡ Some t = rw may at more in
-            let is : with_event s e.time e.event ≡ t = cc in
-            subst (HasAsMany s) is (event_same s e.time e.event serves)
-        | inr may_not ↦ let none : None ≡ Some t = rw may_not at more in cc
-      ]
-]
-
-lines_same : (pages : List PolicyPage) (s : Said) (n : ℕ) (lines : List (List ℕ)) (t : Said) → with_lines is_served pages s n lines ≡ Ok t → HasAsMany s t
-unfolding with_lines
-lines_same pages s n [] t h = let is : s ≡ t = cc in ap (λ (r : Said). r.commands) is
-lines_same pages s n (line ∷ lines) t h =
-    elim (with_line is_served pages s line) as (λ o. with_line is_served pages s line ≡ o → or_fault o n (λ next. with_lines is_served pages next (n + 1) lines) ≡ Ok t → HasAsMany s t) [
-      | None ↦ λ is bad. cc
-      | Some next ↦ λ is more. line_same pages s line next is ∙ lines_same pages next (n + 1) lines t more
-    ] refl h
-
-pub no_command : (pages : List PolicyPage) (lines : List (List ℕ)) (t : Said) → with_lines is_served pages nothing_said 1 lines ≡ Ok t → HasNoCommand (input_in t)
-no_command pages lines t h = sym (lines_same pages nothing_said 1 lines t h)
+-- and its commands are good for the policy's pages
+pub good_commands : (pages : List PolicyPage) (lines : List (List ℕ)) (t : Said) → with_lines pages nothing_said 1 lines ≡ Ok t → AreGoodCommands (length pages) t.commands
+good_commands pages lines t h = (lines_keep pages nothing_said 1 lines t (nothing_good (length pages)) h).commands

@@ -18,7 +18,6 @@ use Rattle.ds_policy.specs.Refusal.{limit, bad_rule}
 use Rattle.ds_policy.specs.Grants.{is_some_right, region, count_distinct}
 use Rattle.ds_policy.specs.Document.{when, has_only, number_at, text_at}
 use Rattle.ds_policy.specs.PolicyParts.{process_of, is_name, is_source_name, source_of, page_of, new_page, right_named, page_named, flag_of, grant_of, has_same_name, regions_of, rule_of, has_same_place, new_rule}
-use Rattle.ds_policy.specs.PolicyServed.{serves_rule}
 use Rattle.ds_policy.specs.PolicyText.{processes_from, pages_from, rules_from}
 use Rattle.ds_policy.specs.PolicyFacts.{IsGoodProcess, IsGoodSource, IsGoodPage, IsGoodRule, AreGoodPages, AreGoodRules, HasFewRules, HasFewRegions}
 use Rattle.ds_policy.proofs.DistinctCounts.{count_last}
@@ -99,7 +98,7 @@ processes_good ds processes e =
     each_keeps (λ before d. process_of d) (λ before. limit (codes "process")) (All IsGoodProcess)
     (λ before d p good is. All-push IsGoodProcess before p good (process_good d p is)) [] ds processes (λ k d h. absurd (omega arith)) e
 
-page_within : (pages : List PolicyPage) (name : List ℕ) (n : ℕ) → page_named pages name ≡ Some n → n < length pages
+pub page_within : (pages : List PolicyPage) (name : List ℕ) (n : ℕ) → page_named pages name ≡ Some n → n < length pages
 page_within [] name n h = cc
 page_within (p ∷ pages) name n h = (position-Some (λ (q : PolicyPage). bytes_eq q.name name) (p ∷ pages) n p h).0
 
@@ -139,8 +138,7 @@ rule_good n pages d r h =
     let (aligned, h4, e) = bind_some (when (address % 4096 == 0)) _ r c in
     let (named, h5, f) = bind_some (text_at (codes "right") ms) _ r e in
     let (right, h6, g) = bind_some (right_named named) _ r f in
-    let (served, h7, i) = bind_some (when (serves_rule right (get_member (codes "give") ms))) _ r g in
-    let (grant, h8, q) = bind_some (grant_of pages right ms) _ r i in
+    let (grant, h8, q) = bind_some (grant_of pages right ms) _ r g in
     let within = number_at_range (codes "address") 0 (2 ^ 31 - 1) ms address h3 in
     let granted = grant_good pages right ms grant h8 in
     subst (λ (o : Option PolicyRule). IfSome o (IsGoodRule n (length pages))) q (record {

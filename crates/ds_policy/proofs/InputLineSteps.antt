@@ -6,7 +6,6 @@ use Rattle.std.proofs.lemmas.List.Splits.{slice_split_first, slice_split_none}
 use Rattle.std.proofs.lemmas.List.Elements.{All-from_get_or}
 use Rattle.std.proofs.lemmas.Bool.{cases_lt}
 use Rattle.std.specs.List.{position_or_len, before_first, after_first}
-use Rattle.ds_policy.specs.declared.events.event.Event.{Event}
 use Rattle.ds_policy.specs.declared.policy.PolicyPage.{PolicyPage}
 use Rattle.ds_policy.specs.InputText.{Said, with_line, with_lines, or_fault, lines_of}
 
@@ -14,10 +13,10 @@ abbrev pub is_line_feed : ℕ → Bool
 is_line_feed b = b == 10
 
 -- the first line of a text, and the lines behind it
-lines_first : (served : Event → Bool) (pages : List PolicyPage) (s : Said) (n : ℕ) (text : List ℕ)
-    → with_lines served pages s n (lines_of text) ≡ or_fault (with_line served pages s (before_first is_line_feed text)) n (λ next. with_lines served pages next (n + 1) (lines_of (after_first is_line_feed text)))
+lines_first : (pages : List PolicyPage) (s : Said) (n : ℕ) (text : List ℕ)
+    → with_lines pages s n (lines_of text) ≡ or_fault (with_line pages s (before_first is_line_feed text)) n (λ next. with_lines pages next (n + 1) (lines_of (after_first is_line_feed text)))
 unfolding with_lines with_line
-lines_first served pages s n text =
+lines_first pages s n text =
     let at = position_or_len is_line_feed text in
     let within : at ≤ length text = prefix_len-le-length _ text in
     elim (cases_lt at (length text)) [
@@ -28,20 +27,20 @@ lines_first served pages s n text =
           rw (slice_split_none is_line_feed text none, take_all at text last, drop_all (at + 1) text (omega arith))
     ]
 
-pub lines_good : (served : Event → Bool) (pages : List PolicyPage) (s next : Said) (n : ℕ) (text line rest : List ℕ)
-    → line ≡ before_first is_line_feed text → rest ≡ after_first is_line_feed text → with_line served pages s line ≡ Some next
-    → with_lines served pages s n (lines_of text) ≡ with_lines served pages next (n + 1) (lines_of rest)
-lines_good served pages s next n text line rest first behind good = rw (lines_first served pages s n text, ← first, ← behind, good)
+pub lines_good : (pages : List PolicyPage) (s next : Said) (n : ℕ) (text line rest : List ℕ)
+    → line ≡ before_first is_line_feed text → rest ≡ after_first is_line_feed text → with_line pages s line ≡ Some next
+    → with_lines pages s n (lines_of text) ≡ with_lines pages next (n + 1) (lines_of rest)
+lines_good pages s next n text line rest first behind good = rw (lines_first pages s n text, ← first, ← behind, good)
 
-pub lines_bad : (served : Event → Bool) (pages : List PolicyPage) (s : Said) (n : ℕ) (text line : List ℕ)
-    → line ≡ before_first is_line_feed text → with_line served pages s line ≡ None
-    → with_lines served pages s n (lines_of text) ≡ Err n
-lines_bad served pages s n text line first bad = rw (lines_first served pages s n text, ← first, bad)
+pub lines_bad : (pages : List PolicyPage) (s : Said) (n : ℕ) (text line : List ℕ)
+    → line ≡ before_first is_line_feed text → with_line pages s line ≡ None
+    → with_lines pages s n (lines_of text) ≡ Err n
+lines_bad pages s n text line first bad = rw (lines_first pages s n text, ← first, bad)
 
-pub lines_end : (served : Event → Bool) (pages : List PolicyPage) (s : Said) (n : ℕ) (text : List ℕ) → length text ≡ 0 → with_lines served pages s n (lines_of text) ≡ Ok s
+pub lines_end : (pages : List PolicyPage) (s : Said) (n : ℕ) (text : List ℕ) → length text ≡ 0 → with_lines pages s n (lines_of text) ≡ Ok s
 unfolding with_lines with_line
-lines_end served pages s n [] none = refl
-lines_end served pages s n (b ∷ text) none = absurd (omega arith)
+lines_end pages s n [] none = refl
+lines_end pages s n (b ∷ text) none = absurd (omega arith)
 
 -- what is behind the first line is shorter
 pub rest_within : (n m : ℕ) (text rest : List ℕ) → rest ≡ after_first is_line_feed text → 0 < length text → n + length text ≤ m → n + 1 + length rest ≤ m

@@ -1,6 +1,5 @@
 -- What a document says is a good policy.
 use Rattle.std.proofs.Common.{◌≡◌, subst, ℕ, ◌≤◌, ◌<◌, Bool, true, false, if◌then◌else◌, codes, List, [], ◌∷◌, length, Option, Some, None, IfOk, Ok, option_and_then, arith, ◌+◌}
-use Rattle.std.proofs.lemmas.Bool.Decides.{nat_tests}
 use Rattle.toml.specs.Data.{Data, Members, get_member}
 use Rattle.ds_word.proofs.ResultBinding.{bind_ok}
 use Rattle.ds_policy.specs.declared.policy.PolicyProcess.{PolicyProcess}
@@ -13,7 +12,7 @@ use Rattle.ds_policy.specs.PolicyText.{processes_from, pages_from, processes_of,
 use Rattle.ds_policy.specs.PolicyFacts.{IsGoodProcess, AreGoodPages, AreGoodRules, IsGoodPolicy}
 use Rattle.ds_policy.specs.Value.{PolicyValue}
 use Rattle.std.specs.List.{All}
-use Rattle.ds_policy.proofs.Binds.{bind_some, or_else_ok, check_ok, number_in_range, number_at_range, each_counts, items_within, items_if_within}
+use Rattle.ds_policy.proofs.Binds.{bind_some, or_else_ok, number_in_range, number_at_range, each_counts, items_within, items_if_within}
 use Rattle.ds_policy.proofs.GoodPolicy.{processes_good, pages_good, rules_good}
 
 processes_said : (found : Option Data) (processes : List PolicyProcess) → processes_of found ≡ Ok processes → ((1 ≤ length processes) × (length processes ≤ 100)) × All IsGoodProcess processes

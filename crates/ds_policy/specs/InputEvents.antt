@@ -1,4 +1,4 @@
--- Worked rows of what lines of an input say, where no line is served yet.
+-- Worked rows of what lines of an input say.
 use Rattle.std.specs.Prelude.{codes, refl, ◌≡◌, ℕ, zero, suc, Bool, true, false, List, [], ◌∷◌, ◌++◌, ◌+◌, map, flat_map, replicate, Ok, Option, Some, None, is_some}
 use Rattle.ds_policy.specs.declared.command.Command.{Command}
 use Rattle.ds_policy.specs.declared.command.Command.TheVariants.{Grant, Narrow, Revoke, Drop, Resume, Stop}
@@ -150,7 +150,7 @@ stop_at time = record { time = time; number = time + 1; command = Stop time }
 abbrev pair_at : ℕ → List Character
 pair_at time = record { time = time; line = 3; byte = 65 } ∷ record { time = time; line = 3; byte = 66 } ∷ []
 
-pub commands_are_numbered_and_characters_stand_one_by_one : with_lines (λ e. true) [] nothing_said 1 (lines_of (
+pub commands_are_numbered_and_characters_stand_one_by_one : with_lines [] nothing_said 1 (lines_of (
     codes "0 stop 0\n0 key 3 4142\n1 stop 1\n1 key 3 4142\n2 stop 2\n2 key 3 4142\n"
     ++ codes "3 stop 3\n3 key 3 4142\n4 stop 4\n4 key 3 4142\n5 stop 5\n5 key 3 4142\n"
     ++ codes "6 stop 6\n6 key 3 4142\n7 stop 7\n7 key 3 4142\n8 stop 8\n8 key 3 4142\n"))

@@ -1,5 +1,5 @@
 -- What an input says: its commands and characters, or the first line that is wrong.
-use Rattle.std.specs.Prelude.{◌≡◌, ℕ, ◌+◌, Bool, true, false, ◌&&◌, ◌||◌, ◌==◌, nat_le, nat_lt, slice_index, List, [], ◌∷◌, ◌++◌, length, map, Option, Some, None, Result, Ok, Err, if◌then◌else◌}
+use Rattle.std.specs.Prelude.{◌≡◌, ℕ, ◌+◌, Bool, ◌&&◌, ◌||◌, ◌==◌, nat_le, nat_lt, slice_index, List, [], ◌∷◌, ◌++◌, length, map, Option, Some, None, Result, Ok, Err, if◌then◌else◌}
 use Rattle.std.specs.List.{slice_split}
 use Rattle.ds_word.specs.OptionBinding.{◌>>=◌}
 use Rattle.ds_policy.specs.declared.command.Command.{Command}
@@ -7,7 +7,6 @@ use Rattle.ds_policy.specs.declared.command.TimedCommand.{TimedCommand}
 use Rattle.ds_policy.specs.declared.command.Character.{Character}
 use Rattle.ds_policy.specs.declared.events.event.Event.{Event}
 use Rattle.ds_policy.specs.declared.events.event.Event.TheVariants.{Order, Input}
-use Rattle.ds_policy.specs.declared.events.event.TimedEvent.{TimedEvent}
 use Rattle.ds_policy.specs.declared.events.fault.EventsFault.{EventsFault}
 use Rattle.ds_policy.specs.declared.events.fault.EventsFault.TheVariants.{InputFault, Memory}
 use Rattle.ds_policy.specs.declared.policy.PolicyPage.{PolicyPage}
@@ -24,11 +23,6 @@ pub record Said : Type 0 where
 -- what has been read before the first line
 abbrev pub nothing_said : Said
 nothing_said = record { latest = 0; events = 0; commands = []; characters = [] }
-
--- characters are served, and commands aren't yet
-abbrev pub is_served : Event → Bool
-is_served (Order command) = false
-is_served (Input line keys) = true
 
 -- the bytes of a `key` line as characters
 abbrev pub characters_of : ℕ → ℕ → List ℕ → List Character
@@ -51,19 +45,15 @@ with_event s time (Input line keys) = with_characters s time line keys
 abbrev pub follows : Said → ℕ → Bool
 follows s time = nat_le s.latest time && nat_lt s.events 4096
 
--- the event is one that is served, and may come behind what was read
-abbrev pub may_follow : (Event → Bool) → Said → TimedEvent → Bool
-may_follow served s e = served e.event && follows s e.time
-
 -- an empty line, or a comment
 abbrev pub is_skipped : List ℕ → Bool
 is_skipped line = (length line == 0) || (slice_index line 0 == 35)
 
 -- with what a line says
-unfoldable pub with_line : (Event → Bool) → List PolicyPage → Said → List ℕ → Option Said
-with_line served pages s line =
+unfoldable pub with_line : List PolicyPage → Said → List ℕ → Option Said
+with_line pages s line =
     if is_skipped line then Some s
-    else timed_event_of pages (words_of line) >>= (λ e. if may_follow served s e then Some (with_event s e.time e.event) else None)
+    else timed_event_of pages (words_of line) >>= (λ e. if follows s e.time then Some (with_event s e.time e.event) else None)
 
 -- goes on with the value, or names the wrong line where there is none
 abbrev pub or_fault : {A B : Type 0} → Option A → ℕ → (A → Result B ℕ) → Result B ℕ
@@ -71,9 +61,9 @@ or_fault None n f = Err n
 or_fault (Some x) n f = f x
 
 -- with what lines say, of which the first is line n; or the number of the first that is wrong
-unfoldable pub with_lines : (Event → Bool) → List PolicyPage → Said → ℕ → List (List ℕ) → Result Said ℕ
-with_lines served pages s n [] = Ok s
-with_lines served pages s n (line ∷ lines) = or_fault (with_line served pages s line) n (λ next. with_lines served pages next (n + 1) lines)
+unfoldable pub with_lines : List PolicyPage → Said → ℕ → List (List ℕ) → Result Said ℕ
+with_lines pages s n [] = Ok s
+with_lines pages s n (line ∷ lines) = or_fault (with_line pages s line) n (λ next. with_lines pages next (n + 1) lines)
 
 -- what stands between line feeds; behind the last one stands an empty line or one that isn't ended
 abbrev pub lines_of : List ℕ → List (List ℕ)
@@ -88,13 +78,9 @@ abbrev pub as_input : Result Said ℕ → Result InputValue ℕ
 as_input (Ok s) = Ok (input_in s)
 as_input (Err line) = Err line
 
--- the input that a text says, where these events are served
-abbrev pub input_by : (Event → Bool) → List PolicyPage → List ℕ → Result InputValue ℕ
-input_by served pages text = as_input (with_lines served pages nothing_said 1 (lines_of text))
-
 -- what a text says, by the policy's pages, or the number of its first wrong line
 abbrev pub input_of : List PolicyPage → List ℕ → Result InputValue ℕ
-input_of pages text = input_by is_served pages text
+input_of pages text = as_input (with_lines pages nothing_said 1 (lines_of text))
 
 -- the reading answered what the text says, unless memory ran out
 abbrev pub Gives : Result InputValue EventsFault → Result InputValue ℕ → Type 0

@@ -3,7 +3,6 @@ pub mod Grants
 pub mod Value
 pub mod Document
 pub mod PolicyParts
-pub mod PolicyServed
 pub mod PolicyText
 pub mod PolicyFacts
 pub mod PolicyRows

@@ -5,7 +5,6 @@ use Rattle.ds_word.specs.OptionBinding.{◌>>=◌}
 use Rattle.toml.specs.Data.{Data, integer, Members, get_member, as_table, as_bool}
 use Rattle.ds_policy.specs.Document.{when, is_among, has_only, number_in, number_at, text_at}
 use Rattle.ds_policy.specs.Grants.{region, count_distinct}
-use Rattle.ds_policy.specs.PolicyServed.{serves_rule}
 use Rattle.ds_policy.specs.declared.policy.PolicyProcess.{PolicyProcess}
 use Rattle.ds_policy.specs.declared.policy.PolicyPage.{PolicyPage}
 use Rattle.ds_policy.specs.declared.policy.Source.{Source}
@@ -117,7 +116,6 @@ rule_of processes pages d = do
   aligned ← when (address % 4096 == 0)
   named ← text_at (codes "right") ms
   right ← right_named named
-  served ← when (serves_rule right (get_member (codes "give") ms))
   grant ← grant_of pages right ms
   Some (record { process = process; address = address; right = right; page = grant.0; give = grant.1 })
 

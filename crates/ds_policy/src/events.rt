@@ -1,7 +1,8 @@
 //! What an input says: commands and characters, each with its time.
-ghost use Rattle.std.specs.Prelude.{◌≡◌, ◌==◌, ◌≤◌, length};
+ghost use Rattle.std.specs.Prelude.{◌≡◌, ◌==◌, ◌≤◌, length, IfOk};
 ghost use Rattle.std.specs.List.{position_or_len, before_first, after_first};
-ghost use Rattle.ds_policy.specs.InputText.{Gives, input_of, with_lines, is_served, lines_of, nothing_said, as_input};
+ghost use Rattle.ds_policy.specs.InputText.{Gives, input_of};
+ghost use Rattle.ds_policy.specs.InputFacts.{AreGoodCommands};
 
 mod digits;
 mod event;
@@ -31,26 +32,25 @@ pub struct Events {
 
 impl Model for Events {
     ghost use Rattle.ds_policy.specs.Value.{InputValue};
-    ghost use Rattle.ds_policy.specs.InputFacts.{IsGoodInput, HasNoCommand};
+    ghost use Rattle.ds_policy.specs.InputFacts.{IsGoodInput};
 
     ghost Value = { InputValue };
 
     ghost view = { λ e. record { commands = e.commands.items; characters = e.characters.items } };
 
     ghost invariant = { λ e.
-        IsGoodInput (record { commands = e.commands.items; characters = e.characters.items })
-        × HasNoCommand (record { commands = e.commands.items; characters = e.characters.items }) };
+        IsGoodInput (record { commands = e.commands.items; characters = e.characters.items }) };
 }
 
 impl Events {
-    ghost use Rattle.std.specs.Prelude.{[]};
     ghost use Rattle.std.specs.List.{All};
     ghost use Rattle.std.specs.List.Sorted.{IsNonDecreasingBy};
     ghost use Rattle.ds_policy.specs.InputFacts.{has_time, comes_at, IsGoodCharacter, AreNumbered};
 
     /// What a text says, or its first line that is wrong.
     pub fn read(alloc: Global, text: &[u8], policy: &Policy) -> Result<Events, EventsFault>
-        ensures { Gives result (input_of policy.now.pages text.now) }
+        ensures exact { Gives result (input_of policy.now.pages text.now) }
+        ensures good { IfOk result (λ e. AreGoodCommands (length policy.now.pages) e.commands) }
     {
         let pages = policy.pages();
         prove!(pages.len() <= policy.frames() as usize);
@@ -64,7 +64,6 @@ impl Events {
         ensures due { All (λ c. has_time c ≤ 1000000000) self.now.commands }
         ensures numbers { AreNumbered self.now.commands }
         ensures order { IsNonDecreasingBy has_time self.now.commands }
-        ensures none_yet { self.now.commands ≡ [] }
     {
         &self.commands
     }
@@ -81,7 +80,8 @@ impl Events {
 
 fn events_of(alloc: Global, text: &[u8], pages: &[PolicyPage]) -> Result<Events, EventsFault>
     requires { length pages.now ≤ 1024 }
-    ensures { Gives result (input_of pages.now text.now) }
+    ensures exact { Gives result (input_of pages.now text.now) }
+    ensures good { IfOk result (λ e. AreGoodCommands (length pages.now) e.commands) }
 {
     let mut reading = EventList::new(alloc);
     let mut number = 0;

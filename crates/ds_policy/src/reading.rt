@@ -8,7 +8,6 @@ mod document;
 mod pages;
 mod processes;
 mod rules;
-mod served;
 mod sources;
 
 use crate::fault::PolicyFault;

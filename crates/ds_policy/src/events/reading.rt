@@ -1,6 +1,6 @@
 //! The reading of an input, line by line.
 ghost use Rattle.std.specs.Prelude.{◌≡◌, ◌≤◌, ◌<◌, ◌==◌, length, IfOk, OnOk, OnErr, if◌then◌else◌, true, Some, None};
-ghost use Rattle.ds_policy.specs.InputText.{is_served, with_event, follows, may_follow, is_skipped, with_line};
+ghost use Rattle.ds_policy.specs.InputText.{with_event, follows, is_skipped, with_line};
 
 use crate::events::event::{Event, TimedEvent};
 use crate::events::line::{timed_event_of, words_of};
@@ -18,7 +18,7 @@ impl EventList {
         line: &[u8],
     ) -> Result<bool, AllocError>
         requires { length pages.now ≤ 1024 }
-        ensures { IfOk result (λ good. with_line is_served pages.now self.old line.now
+        ensures { IfOk result (λ good. with_line pages.now self.old line.now
             ≡ (if good then Some self.new else None)) }
     {
         if is_skipped(line) {
@@ -27,7 +27,7 @@ impl EventList {
         let words = words_of(alloc, line)?;
         match timed_event_of(pages, &words) {
             Some(event) => {
-                if !self.may_follow(&event) {
+                if !self.follows(event.time) {
                     return Ok(false);
                 }
                 self.add(&event)?;
@@ -35,13 +35,6 @@ impl EventList {
             }
             None => Ok(false),
         }
-    }
-
-    /// Whether an event can come next.
-    fn may_follow(&self, event: &TimedEvent) -> bool
-        ensures { result ≡ may_follow is_served self.now event.now }
-    {
-        is_served(&event.event) && self.follows(event.time)
     }
 
     /// Adds an event.
@@ -55,16 +48,6 @@ impl EventList {
             Event::Order(command) => self.add_command(event.time, *command),
             Event::Input { line, keys } => self.add_characters(event.time, *line, keys.as_slice()),
         }
-    }
-}
-
-/// Whether an event of this kind is served.
-fn is_served(event: &Event) -> bool
-    ensures { result ≡ is_served event.now }
-{
-    match event {
-        Event::Order(_) => false,
-        Event::Input { .. } => true,
     }
 }
 

@@ -11,7 +11,6 @@ use crate::fault::PolicyFault;
 use crate::grant::Right;
 use crate::policy::{PolicyPage, PolicyRule};
 use crate::reading::document::{has_only, items_between, number_of, text_at, value_at};
-use crate::reading::served::serves_rule;
 use std::alloc::Global;
 use toml::{Table, Value};
 
@@ -92,9 +91,6 @@ fn rule_of(processes: u32, pages: &[PolicyPage], value: &Value) -> Option<Policy
         return None;
     }
     let right = right_named(text_at(table, "right")?)?;
-    if !serves_rule(right, value_at(table, "give")) {
-        return None;
-    }
     let (page, give) = grant_of(pages, right, table)?;
     Some(PolicyRule {
         process,
