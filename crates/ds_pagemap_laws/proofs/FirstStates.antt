@@ -18,7 +18,7 @@ use Rattle.ds_policy.specs.PolicyFacts.{IsGoodProcess, IsGoodPolicy}
 use Rattle.ds_policy.specs.PolicyParts.{sources_of}
 use Rattle.ds_policy.specs.PolicyText.{policy_of, says}
 use Rattle.ds_policy.specs.InputFacts.{IsGoodInput}
-use Rattle.ds_policy.specs.InputText.{Said, input_of, input_in, as_input, is_served, with_lines, nothing_said, lines_of}
+use Rattle.ds_policy.specs.InputText.{Said, input_of, input_in, as_input, with_lines, nothing_said, lines_of}
 use Rattle.ds_policy.proofs.PolicyRead.{says_good}
 use Rattle.ds_policy.proofs.GoodInput.{good_input}
 use Rattle.ds_pagemap.specs.Machine.{State, no_process}
@@ -145,8 +145,8 @@ said_in (Err line) e h = cc
 
 events_good : (policy : PolicyValue) (input : List ℕ) (e : InputValue) → input_of policy.pages input ≡ Ok e → IsGoodInput e
 events_good policy input e h =
-    let (s, h1, is) = said_in (with_lines is_served policy.pages nothing_said 1 (lines_of input)) e h in
-    subst IsGoodInput is (good_input is_served policy.pages (lines_of input) s h1)
+    let (s, h1, is) = said_in (with_lines policy.pages nothing_said 1 (lines_of input)) e h in
+    subst IsGoodInput is (good_input policy.pages (lines_of input) s h1)
 
 pub inputs_lawful : (text : List ℕ) (sources : Sources) (input : List ℕ) (n random : ℕ) (m : State) → inputs text sources input n random ≡ Ok m → IsLawful m
 unfolding inputs
