@@ -7,14 +7,14 @@ use Rattle.std.proofs.Math.Nat.{min-eq_left, min-eq_right, min-le_right}
 use Rattle.ds_cp0.specs.System.{is_user}
 use Rattle.ds_core.specs.Core.{CoreState}
 use Rattle.ds_core.specs.Ahead.{owed_tick}
-use Rattle.ds_policy.specs.InputFacts.{comes_at}
+use Rattle.ds_policy.specs.InputFacts.{has_time, comes_at}
 use Rattle.ds_pagemap.specs.declared.turn.Turn.{Turn}
 use Rattle.ds_pagemap.specs.Machine.{State, first}
 use Rattle.ds_refinement.specs.Held.{Kept}
 use Rattle.ds_refinement.specs.Stands.{RunningBy, OnProcessor}
 use Rattle.ds_refinement.specs.Blocks.{GoesAhead}
 use Rattle.ds_refinement.proofs.Quieter.{quiet_until, user_status_of}
-use Rattle.ds_monitor.specs.Coming.{first_time, period_end}
+use Rattle.ds_monitor.specs.Coming.{first_time, first_event, period_end}
 use Rattle.ds_kernel.specs.declared.parts.Parts.{Parts}
 use Rattle.ds_kernel.specs.Parts.{held}
 use Rattle.ds_kernel.specs.Good.{IsGood}
@@ -33,15 +33,15 @@ user_of : (queue : List ℕ) (c : CoreState) (k : Kept) (m : State) (spent : ℕ
 user_of [] c k m spent some raised is running = absurd (some refl)
 user_of (p ∷ rest) c k m spent some raised is running = user_by (is_user c.system) c.slot c p m spent raised is running.on
 
-pub goes_ahead : {L : Type 0} (p : Parts L) (limit : ℕ) → IsGood p → IsNonDecreasingBy comes_at p.monitor.due → p.monitor.owed ≡ None → p.monitor.ready ≢ [] → p.spent ≡ owed_tick p.core.slot
+pub goes_ahead : {L : Type 0} (p : Parts L) (limit : ℕ) → IsGood p → IsNonDecreasingBy has_time p.monitor.due.commands → IsNonDecreasingBy comes_at p.monitor.due.characters → p.monitor.owed ≡ None → p.monitor.ready ≢ [] → p.spent ≡ owed_tick p.core.slot
     → p.monitor.time + limit + 1 < p.monitor.quiet_until → GoesAhead limit (held p)
-goes_ahead p limit good order owed ready spent early =
+goes_ahead p limit good commands order owed ready spent early =
     let user : is_user p.core.system ≡ true = user_of p.monitor.ready p.core (held p).kept good.sound.state p.spent ready (λ e. good.orderly.raised (ap not e)) spent good.sound.stands.running in record {
       owed = owed;
       ready = ready;
       mode = user_status_of (held p) good.sound user;
       spent = spent;
-      quiet = quiet_until (p.monitor.time + limit + 1) (held p).kept good.orderly.ticked (nothing_due p.monitor (p.monitor.time + limit + 1) p.monitor.owed order good.next early good.orderly.lawful);
+      quiet = quiet_until (p.monitor.time + limit + 1) (held p).kept good.orderly.ticked (nothing_due p.monitor (p.monitor.time + limit + 1) p.monitor.owed commands order good.next early good.orderly.kept.lawful);
     }
 
 below_both : (a b t : ℕ) → t < a → t < b → t < min a b
@@ -50,25 +50,34 @@ below_both a b t x y = elim (nat_le a b) as (λ (r : Bool). nat_le a b ≡ r →
   | false ↦ λ e. (let l : b ≤ a = grind (arith, nat_tests) in subst (λ (n : ℕ). t < n) (sym (min-eq_right l)) y)
 ] refl
 
--- where one instruction may go ahead, nothing comes up to the boundary behind it
-pub goes_one : {L : Type 0} (p : Parts L) → IsGood p → GoesAhead 1 (held p) → p.monitor.time + 1 + 1 < p.monitor.quiet_until
-goes_one p good goes =
+-- where two instructions may go ahead, nothing comes up to the boundary behind them
+pub goes_two : {L : Type 0} (p : Parts L) → IsGood p → GoesAhead 2 (held p) → p.monitor.time + 2 + 1 < p.monitor.quiet_until
+goes_two p good goes =
     let early : p.monitor.time ≤ 1000000001 = good.orderly.early in
-    let last = p.monitor.time + 1 + 1 in
+    let last = p.monitor.time + 2 + 1 in
     let q = goes.quiet.quiet last (omega arith) (omega arith) in
-    let first = due_later last p.monitor.due (omega (arith, early)) q.characters in
+    let ordered = due_later has_time last p.monitor.due.commands (omega (arith, early)) q.commands in
+    let first = due_later comes_at last p.monitor.due.characters (omega (arith, early)) q.characters in
     let ends = passed_later p.monitor.rate p.monitor.ticked last (omega (arith, early)) q.period in
-    subst (λ (n : ℕ). last < n) (sym good.next) (below_both (first_time p.monitor.due) (period_end p.monitor.rate p.monitor.ticked) last first ends)
+    subst (λ (n : ℕ). last < n) (sym good.next)
+    (below_both (first_event p.monitor.due) (period_end p.monitor.rate p.monitor.ticked) last
+    (below_both (first_time has_time p.monitor.due.commands) (first_time comes_at p.monitor.due.characters) last ordered first) ends)
 
 -- the time at which the last boundary of a block comes
-pub within_quiet : (time n q end : ℕ) → end ≡ min n (q - 1) → time + 1 < end → time + (end - time - 1) + 1 < q
+pub within_quiet : (time n q end : ℕ) → end ≡ min n (q - 2) → time + 1 < end → time + (end - time - 1) + 1 < q
 within_quiet time n q end is some =
-    let most : min n (q - 1) ≤ q - 1 = min-le_right n (q - 1) in
+    let most : min n (q - 2) ≤ q - 2 = min-le_right n (q - 2) in
     omega (arith, is, some, most)
 
-pub no_end : (time n q end : ℕ) → end ≡ min n (q - 1) → end ≤ time + 1 → time + 1 < n → time + 1 + 1 < q → ⊥
+-- behind a block of some instructions there is a unit's time before anything comes
+pub before_quiet : (time n q limit : ℕ) → time + limit + 1 ≡ min n (q - 2) → 1 ≤ limit → time + limit + 3 ≤ q
+before_quiet time n q limit is some =
+    let most : min n (q - 2) ≤ q - 2 = min-le_right n (q - 2) in
+    omega (arith, is, some, most)
+
+pub no_end : (time n q end : ℕ) → end ≡ min n (q - 2) → end ≤ time + 1 → time + 1 < n → time + 2 + 1 < q → ⊥
 no_end time n q end is few soon quiet =
-    let past : time + 1 < min n (q - 1) = below_both n (q - 1) (time + 1) soon (omega (arith, quiet)) in
+    let past : time + 1 < min n (q - 2) = below_both n (q - 2) (time + 1) soon (omega (arith, quiet)) in
     omega (arith, is, few, past)
 
 pub none_owed : (o : Option Turn) → is_some o ≡ false → o ≡ None

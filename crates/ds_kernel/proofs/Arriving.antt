@@ -15,22 +15,25 @@ use Rattle.ds_kernel.specs.declared.devices.Typed.{Typed}
 use Rattle.ds_kernel.specs.declared.parts.Parts.{Parts}
 use Rattle.ds_kernel.specs.Devices.{IsOfLine, all_received, typed, oldest, emptied, lost_behind}
 use Rattle.ds_kernel.specs.Attended.{to_come}
-use Rattle.ds_kernel.proofs.Waiting.{none_come, all_stay}
+use Rattle.ds_policy.specs.InputFacts.{comes_at}
+use Rattle.ds_policy.specs.Value.{InputValue}
+use Rattle.ds_monitor.proofs.Coming.{none_come, all_stay}
 
 -- where all that is left comes later, all that is due has come in
-pub received_is : {L : Type 0} (old last : Parts L) (left : List Character)
-    → last ≡ record old { bus = with_serial old.bus last.bus.serial; monitor = record old.monitor { due = last.monitor.due } }
-    → left ≡ last.monitor.due → All (λ (c : Character). last.monitor.time < c.time) last.monitor.due
+pub received_is : {L : Type 0} (old last : Parts L) (left : InputValue)
+    → last ≡ record old { bus = with_serial old.bus last.bus.serial; monitor = record old.monitor { due = record old.monitor.due { characters = last.monitor.due.characters } } }
+    → left ≡ last.monitor.due → All (λ (c : Character). last.monitor.time < comes_at c) last.monitor.due.characters
     → all_received last.bus.serial (come (kept_of last.monitor).state) ≡ all_received old.bus.serial (come (kept_of old.monitor).state)
     → to_come (kept_of last.monitor).state ≡ to_come (kept_of old.monitor).state
     → record last { monitor = record last.monitor { due = left } }
-    ≡ record old { bus = with_serial old.bus (all_received old.bus.serial (come (kept_of old.monitor).state)); monitor = record old.monitor { due = to_come (kept_of old.monitor).state } }
+    ≡ record old { bus = with_serial old.bus (all_received old.bus.serial (come (kept_of old.monitor).state)); monitor = record old.monitor { due = record old.monitor.due { characters = to_come (kept_of old.monitor).state } } }
 received_is {L = L} old last left rest same later received to =
-    let none : come (kept_of last.monitor).state ≡ [] = none_come last.monitor.time last.monitor.due later in
+    let none : come (kept_of last.monitor).state ≡ [] = none_come comes_at last.monitor.time last.monitor.due.characters later in
     let serial : last.bus.serial ≡ all_received old.bus.serial (come (kept_of old.monitor).state) = sym (ap (all_received last.bus.serial) none) ∙ received in
-    let stay : to_come (kept_of last.monitor).state ≡ last.monitor.due = all_stay last.monitor.time last.monitor.due later in
-    ap (λ (x : Parts L). record x { monitor = record x.monitor { due = left } }) rest
-    ∙ ap₂ (λ (d : SerialState) (cs : List Character). record old { bus = with_serial old.bus d; monitor = record old.monitor { due = cs } }) serial (same ∙ (sym stay ∙ to))
+    let stay : to_come (kept_of last.monitor).state ≡ last.monitor.due.characters = all_stay comes_at last.monitor.time last.monitor.due.characters later in
+    ap (λ (i : InputValue). record last { monitor = record last.monitor { due = i } }) same
+    ∙ (rest
+    ∙ ap₂ (λ (d : SerialState) (cs : List Character). record old { bus = with_serial old.bus d; monitor = record old.monitor { due = record old.monitor.due { characters = cs } } }) serial (sym stay ∙ to))
 
 none_left : (silo : List Received) → oldest silo ≡ None → silo ≡ []
 none_left [] e = refl

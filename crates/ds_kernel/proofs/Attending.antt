@@ -18,15 +18,14 @@ use Rattle.ds_pagemap.specs.Boundary.{all_queued, woken, rotated, has_passed, bo
 use Rattle.ds_pagemap_laws.specs.Due.{come}
 use Rattle.ds_refinement.specs.Held.{Held, Kept, whole, began_or, last_boundary}
 use Rattle.ds_refinement.specs.Stands.{IsSound, RunningBy, OnProcessor, AreResting, user_status}
-use Rattle.ds_refinement.specs.Services.{Serves, IsBare, seated_process, with_first_seated}
+use Rattle.ds_refinement.specs.Services.{Serves, seated_process, with_first_seated}
 use Rattle.ds_refinement.proofs.Boundaries.{owed_is}
-use Rattle.ds_monitor.specs.Kept.{kept_after}
-use Rattle.ds_monitor.proofs.Serving.{blind_serves}
+use Rattle.ds_monitor.specs.Commands.{commanded}
 use Rattle.ds_kernel.specs.Devices.{typed, emptied, interrupted}
-use Rattle.ds_kernel.specs.Attended.{to_come, bus_at, read_out, unowed, shared}
+use Rattle.ds_kernel.specs.Attended.{to_come, bus_at, read_out, unowed, ruled}
 use Rattle.ds_kernel.proofs.Characters.{as_received, silo_of, emptied_all, typed_alike, first_typed}
 use Rattle.ds_kernel.proofs.Clocks.{rings_as, passed_since, none_since, time_is}
-use Rattle.ds_kernel.proofs.Sharing.{shared_blind, boundary_shared}
+use Rattle.ds_kernel.proofs.Sharing.{boundary_ruled}
 
 -- Where a boundary is owed, the processor is at the beginning of a unit.
 
@@ -78,27 +77,25 @@ seat_beside (p ∷ rest) c m = refl
 
 -- The boundary of what is kept.
 
-pub boundary_serves : (k : Kept) (memory : List ℕ) (turn : Turn) → k.state.owed ≡ Some turn → k.state.commands ≡ [] → IsBare k.state
-    → Serves boundary k memory (kept_after (shared (take 64 (come k.state)) (has_passed k.state.rate turn.began k.state.time) turn.runner) (quiet_kept k)) memory
-boundary_serves k memory turn owed none bare =
-    let cs = take 64 (come k.state) in
-    let passed = has_passed k.state.rate turn.began k.state.time in
-    let s = blind_serves (shared cs passed turn.runner) (quiet_kept k) memory (shared_blind cs passed turn.runner) (record { memory = bare.memory; log = bare.log }) in
-    record {
-      lines = s.lines;
-      state = λ log. boundary_shared (whole k memory log) turn owed none ∙ s.state log;
-      bare = s.bare;
-      text = s.text;
-      count = s.count;
-    }
+pub boundary_serves : (k n : Kept) (x y : List ℕ) (turn : Turn) → k.state.owed ≡ Some turn
+    → Serves (ruled k.state.time (take 64 (come k.state)) (has_passed k.state.rate turn.began k.state.time) turn.runner) (quiet_kept k) x n y → Serves boundary k x n y
+boundary_serves k n x y turn owed s = record {
+  lines = s.lines;
+  state = λ log. boundary_ruled (whole k x log) turn owed ∙ s.state log;
+  bare = s.bare;
+  text = s.text;
+  count = s.count;
+}
 
 -- who has the address space, and how far the clock was brought, a service doesn't see
-pub unseen : (f : State → State) (a k : Kept) (x y : List ℕ) (owner ticked : ℕ) → Serves f a x k y → Serves f a x (record k { owner = owner; ticked = ticked }) y
+pub unseen : (f : State → State) (a k : Kept) (x y : List ℕ) (owner ticked : ℕ) → Serves f (record a { ticked = ticked }) x k y → Serves f a x (record k { owner = owner }) y
 unseen f a k x y owner ticked s = record { lines = s.lines; state = s.state; bare = s.bare; text = s.text; count = s.count }
 
-pub shared_alike : (cs ds : List Character) (passed : Bool) (runner : Option ℕ) (m : State) → all_queued m.queues cs ≡ all_queued m.queues ds → shared cs passed runner m ≡ shared ds passed runner m
-shared_alike cs ds passed runner m same =
-    ap (λ (queues : List (List ℕ)). cond passed (rotated (woken (record m { queues = queues }) 1 (length m.processes)) runner) (woken (record m { queues = queues }) 1 (length m.processes))) same
+-- what comes in counts by the queues that it leaves
+pub ruled_alike : (now : ℕ) (cs ds : List Character) (passed : Bool) (runner : Option ℕ) (m : State) → ((queues : List (List ℕ)) → all_queued queues cs ≡ all_queued queues ds) → ruled now cs passed runner m ≡ ruled now ds passed runner m
+ruled_alike now cs ds passed runner m same =
+    let done : State = commanded now m in
+    ap (λ (queues : List (List ℕ)). cond passed (rotated (woken (record done { queues = queues }) 1 (length done.processes)) runner) (woken (record done { queues = queues }) 1 (length done.processes))) (same done.queues)
 
 -- The devices.
 

@@ -16,8 +16,8 @@ use Rattle.ds_monitor.specs.Coming.{next_due}
 use Rattle.ds_kernel.specs.Good.{IsRate, IsGood}
 
 pub first_good : {L : Type 0} (p : Parts L) (policy : PolicyValue) (images : List (List ℕ)) (input : InputValue) (start : ℕ) → IsFirst policy images input start (held p)
-    → Stands (held p) (first_state policy images input) → monitor.IsOrderly (kept_of p.monitor) → IsRate policy.rate → p.monitor.quiet_until ≡ next_due (kept_of p.monitor) → p.has_room ≡ false → IsGood p
-first_good p policy images input start first stands orderly is_rate next closed =
+    → Stands (held p) (first_state policy images input) → monitor.IsOrderly (kept_of p.monitor) → IsRate policy.rate → p.monitor.quiet_until ≡ next_due (kept_of p.monitor) → length p.monitor.due.commands ≤ 4096 → p.has_room ≡ false → IsGood p
+first_good p policy images input start first stands orderly is_rate next few closed =
     let spent : p.spent ≡ 0 = ap (λ (o : Own). o.spent) first.own in
     let unowed : p.monitor.owed ≡ None = ap (λ (k : Kept). k.state.owed) first.kept in
     let lines : p.monitor.lines ≡ 0 = ap (λ (k : Kept). k.lines) first.kept in
@@ -33,13 +33,14 @@ first_good p policy images input start first stands orderly is_rate next closed 
         raised = λ kernel. (let no : false ≡ true = sym user ∙ kernel in absurd (cc));
         running = λ some. absurd (omega (arith, spent, some));
         spent = omega (arith, spent);
-        lines = omega (arith, lines);
+        lines = omega (arith, lines, few);
         ticked = omega (arith, ticked);
-        lawful = orderly.lawful;
+        kept = orderly;
         early = omega (arith, time);
         rate = subst IsRate (sym rate) is_rate;
       };
       room = λ some. absurd (omega (arith, spent, some));
+      owed = λ some. absurd (none_is_not_some p.monitor.owed unowed some);
       roomy = λ is. (let no : false ≡ true = sym closed ∙ is in absurd (cc));
       next = next;
     }

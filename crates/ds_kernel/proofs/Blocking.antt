@@ -28,7 +28,10 @@ use Rattle.ds_monitor.specs.Coming.{next_due}
 use Rattle.ds_kernel.specs.Good.{IsRate, IsGood}
 use Rattle.ds_kernel.specs.Ran.{HasRun}
 use Rattle.ds_kernel.specs.Going.{rank, GoesOn}
-use Rattle.ds_kernel.proofs.Stepping.{room_later, lawful_later}
+use Rattle.ds_monitor.proofs.Lawful.{turn_orderly}
+use Rattle.ds_monitor.specs.Orderly as monitor
+use Rattle.ds_kernel.proofs.Rooms.{room_later, turn_room}
+use Rattle.ds_kernel.proofs.Stepping.{none_is_not_some}
 
 -- Small numbers.
 
@@ -73,14 +76,17 @@ module _ (n steps ticks : ℕ) (old new : Held) (unowed : old.kept.state.owed �
 
 -- the station is as it should be at a later time
 later_good : {L : Type 0} (old new : Parts L) → IsGood old → IsSound (held new) → old.monitor.owed ≡ None → old.monitor.ready ≢ [] → new.monitor ≡ record old.monitor { time = new.monitor.time } → new.failed ≡ old.failed
-    → old.monitor.time ≤ new.monitor.time → (is_in_kernel (held new) ≡ true → 0 < new.spent) → new.spent ≤ 64 → HasRoom 1 old.monitor → new.monitor.time ≤ 1000000001 → IsGood new
-later_good old new good sound unowed ready monitor failed later raised few room early =
+    → old.monitor.time ≤ new.monitor.time → (is_in_kernel (held new) ≡ true → 0 < new.spent) → new.spent ≤ 64 → HasRoom 1 old.monitor → (0 < new.spent → new.monitor.time + 2 < old.monitor.quiet_until) → new.monitor.time ≤ 1000000001 → IsGood new
+later_good old new good sound unowed ready monitor failed later raised few room quiet early =
     let owed : new.monitor.owed ≡ None = ap (λ (m : Monitor). m.owed) monitor ∙ unowed in
     let lines : new.monitor.lines ≡ old.monitor.lines = ap (λ (m : Monitor). m.lines) monitor in
     let ticked : new.monitor.ticked ≡ old.monitor.ticked = ap (λ (m : Monitor). m.ticked) monitor in
-    let few_lines : old.monitor.lines ≤ old.monitor.time = good.orderly.lines in
+    let few_lines : old.monitor.lines + length old.monitor.due.commands ≤ old.monitor.time + 4096 = good.orderly.lines in
+    let commands : length new.monitor.due.commands ≡ length old.monitor.due.commands = ap (λ (m : Monitor). length m.due.commands) monitor in
+    let until : new.monitor.quiet_until ≡ old.monitor.quiet_until = ap (λ (m : Monitor). m.quiet_until) monitor in
+    let next : new.monitor.quiet_until ≡ next_due (kept_of new.monitor) = until ∙ (good.next ∙ sym (ap (λ (m : Monitor). next_due (kept_of m)) monitor)) in
     let before : old.monitor.ticked ≤ old.monitor.time = good.orderly.ticked in
-    let still_room : HasRoom 1 new.monitor = subst (λ (m : Monitor). HasRoom 1 m) (sym monitor) (room_later old.monitor new.monitor.time old.monitor.owed room) in record {
+    let still_room : HasRoom 1 new.monitor = subst (λ (m : Monitor). HasRoom 1 m) (sym monitor) (room_later 1 old.monitor new.monitor.time old.monitor.owed room) in record {
       sound = sound;
       orderly = record {
         begun = λ some. owed;
@@ -88,15 +94,16 @@ later_good old new good sound unowed ready monitor failed later raised few room 
         raised = raised;
         running = λ some. subst (λ (m : Monitor). m.ready ≢ []) (sym monitor) ready;
         spent = few;
-        lines = omega (arith, lines, few_lines, later);
+        lines = omega (arith, lines, few_lines, later, commands);
         ticked = omega (arith, ticked, before, later);
         early = early;
         rate = subst (λ (m : Monitor). IsRate m.rate) (sym monitor) good.orderly.rate;
-        lawful = subst (λ (m : Monitor). IsLawful (whole (kept_of m) [] [])) (sym monitor) (lawful_later (kept_of old.monitor) new.monitor.time old.monitor.owed good.orderly.lawful);
+        kept = subst (λ (m : Monitor). monitor.IsOrderly (kept_of m)) (sym monitor) (turn_orderly (kept_of old.monitor) new.monitor.time old.monitor.owed good.orderly.kept);
       };
-      room = λ some. still_room;
+      room = λ some. turn_room new.monitor still_room next (let before = quiet some in omega (arith, before, until));
+      owed = λ some. absurd (none_is_not_some new.monitor.owed owed some);
       roomy = λ some. still_room;
-      next = ap (λ (m : Monitor). m.quiet_until) monitor ∙ (good.next ∙ sym (ap (λ (m : Monitor). next_due (kept_of m)) monitor));
+      next = next;
     }
 
 -- what the coprocessor has stays, where no exception is entered
@@ -122,7 +129,7 @@ moved_alike : (h : Held) (hw : Hardware) (t t' s s' : ℕ) (o : Option Turn) →
 moved_alike h hw t t' s s' o e f g = ap₂ (λ (x y : ℕ). moved h hw x o y) e g ∙ ap (λ (x : Option Turn). moved h hw t' x s') f
 
 -- A block of at most so many instructions from the old parts.
-module _ {L : Type 0} (limit n : ℕ) (old : Parts L) (c : CoreState) (b : BusState) (passed spent : ℕ) (good : IsGood old) (goes : GoesAhead limit (held old)) (room : HasRoom 1 old.monitor) (in_time : old.monitor.time + limit + 1 ≤ 1000000000)
+module _ {L : Type 0} (limit n : ℕ) (old : Parts L) (c : CoreState) (b : BusState) (passed spent : ℕ) (good : IsGood old) (goes : GoesAhead limit (held old)) (room : HasRoom 1 old.monitor) (in_time : old.monitor.time + limit + 1 ≤ 1000000000) (soon : old.monitor.time + limit + 3 ≤ old.monitor.quiet_until)
     (words : ComesByWords n (hardware_of old.core old.bus)) where
   abbrev new : Parts L
   new = counted old c b passed spent
@@ -154,13 +161,14 @@ module _ {L : Type 0} (limit n : ℕ) (old : Parts L) (c : CoreState) (b : BusSt
         later_good old new good
         (subst IsSound (sym calm_is) (path_sound (held old) (with_block n (held old) hw) good.sound (block_is_path n limit (held old) hw within goes advances words)))
         goes.owed goes.ready refl refl (omega arith) (λ is. (let no : false ≡ true = sym user ∙ is in absurd (cc))) (omega (arith, left, small)) room
+        (λ some. (let one : owed_tick old.core.slot ≤ 1 = owed_small old.core.slot in omega (arith, soon, within, time, one, left, some)))
         (let one : owed_tick old.core.slot ≤ 1 = owed_small old.core.slot in omega (arith, in_time, within, time, one))
 
     pub calm_goes : (end : ℕ) → 1 ≤ n → old.monitor.time + limit + owed_tick old.core.slot ≤ end → GoesOn end (held old) (held new)
-    calm_goes end some soon =
+    calm_goes end some upto_end =
         let small : owed_tick c.slot ≤ 1 = owed_small c.slot in
         let before : old.spent ≡ owed_tick old.core.slot = goes.spent in
-        let upto : old.monitor.time + n + owed_tick old.core.slot ≤ end = omega (arith, within, soon) in
+        let upto : old.monitor.time + n + owed_tick old.core.slot ≤ end = omega (arith, within, upto_end) in
         let sum : passed + spent ≡ n + old.spent = omega (arith, all, time, left, before) in
         let last : old.monitor.time + n + old.spent ≤ end = omega (arith, upto, before) in
         let few : spent ≤ 64 = omega (arith, left, small) in record {
@@ -188,14 +196,15 @@ module _ {L : Type 0} (limit n : ℕ) (old : Parts L) (c : CoreState) (b : BusSt
         later_good old new good
         (subst IsSound (sym raised_is) (path_sound (held old) (with_exception n (held old) hw) good.sound (raised_is_path n limit (held old) hw code within goes leads words)))
         goes.owed goes.ready refl refl (omega arith) (λ is. omega (arith, left)) (omega (arith, left, small)) room
+        (λ some. (let one : owed_tick old.core.slot ≤ 1 = owed_small old.core.slot in omega (arith, soon, fewer, time, one)))
         (let one : owed_tick old.core.slot ≤ 1 = owed_small old.core.slot in omega (arith, in_time, within, time, one))
 
     pub raised_goes : (end : ℕ) → old.monitor.time + limit + owed_tick old.core.slot ≤ end → GoesOn end (held old) (held new)
-    raised_goes end soon =
+    raised_goes end upto_end =
         let small : owed_tick (is_delayed c.system) ≤ 1 = owed_small (is_delayed c.system) in
         let within : n ≤ limit = omega (arith, fewer) in
         let before : old.spent ≡ owed_tick old.core.slot = goes.spent in
-        let upto : old.monitor.time + n + owed_tick old.core.slot < end = omega (arith, fewer, soon) in
+        let upto : old.monitor.time + n + owed_tick old.core.slot < end = omega (arith, fewer, upto_end) in
         let sum : passed + spent ≡ n + 1 + old.spent = omega (arith, all, time, left, before) in
         let last : old.monitor.time + (n + 1) + old.spent ≤ end = omega (arith, upto, before) in
         let few : spent ≤ 64 = omega (arith, left, small) in record {

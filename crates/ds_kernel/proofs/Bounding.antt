@@ -1,10 +1,10 @@
 -- Boundaries with nothing to do and boundaries that are served, as steps of a station.
-use Rattle.std.proofs.Common.{◌≡◌, ◌≢◌, inl, inr, ℕ, zero, suc, ◌+◌, ◌<◌, ◌≤◌, Bool, true, false, not, [], Option, None, refl, sym, ap, subst, ◌∙◌, arith}
+use Rattle.std.proofs.Common.{◌≡◌, ◌≢◌, inl, inr, ℕ, zero, suc, ◌+◌, ◌<◌, ◌≤◌, Bool, true, false, not, [], length, Option, None, refl, sym, ap, subst, ◌∙◌, arith}
 use Rattle.std.specs.Prelude.{IsSome, is_some, ◌==◌}
 use Rattle.std.specs.List.Sorted.{IsNonDecreasingBy}
 use Rattle.std.proofs.Math.Nat.{min-le_left, min-le_right}
 use Rattle.ds_word.specs.Word.{truth, bits}
-use Rattle.ds_policy.specs.InputFacts.{comes_at}
+use Rattle.ds_policy.specs.InputFacts.{has_time, comes_at}
 use Rattle.ds_pagemap.specs.declared.turn.Turn.{Turn}
 use Rattle.ds_pagemap.specs.Run.{is_over}
 use Rattle.ds_pagemap_laws.specs.Lawful.{IsLawful}
@@ -17,29 +17,34 @@ use Rattle.ds_refinement.specs.Quiet.{IsQuiet}
 use Rattle.ds_refinement.specs.Real.{IsReal}
 use Rattle.ds_refinement.proofs.Boundaries.{quiet, idle, stands_waited}
 use Rattle.ds_refinement.proofs.Attended.{boundary_served, idle_served, served_moves, idle_served_moves}
-use Rattle.ds_monitor.specs.Coming.{first_time, period_end, next_due}
+use Rattle.ds_monitor.specs.Coming.{first_time, first_event, period_end, next_due}
 use Rattle.ds_monitor.specs.Kept.{kept_of}
-use Rattle.ds_monitor.specs.Room.{HasRoom}
+use Rattle.ds_monitor.specs.Room.{HasRoom, HasBoundaryRoom, HasTurnRoom}
 use Rattle.ds_monitor.specs.declared.monitor.Monitor.{Monitor}
 use Rattle.ds_kernel.specs.declared.parts.Parts.{Parts}
 use Rattle.ds_kernel.specs.Parts.{held}
 use Rattle.ds_kernel.specs.Good.{IsRate, IsOrderly, IsGood}
 use Rattle.ds_kernel.specs.Ended.{Does}
 use Rattle.ds_kernel.specs.Attended.{HasAttended, IsBounded}
-use Rattle.ds_kernel.proofs.Waiting.{none_due, none_passed}
+use Rattle.ds_monitor.proofs.Coming.{none_due}
+use Rattle.ds_monitor.proofs.Lawful.{turn_orderly}
+use Rattle.ds_kernel.proofs.Waiting.{none_passed}
 use Rattle.ds_kernel.proofs.Doing.{enters_user}
-use Rattle.ds_kernel.proofs.Stepping.{room_later, lawful_later, none_is_not_some, sound_behind}
+use Rattle.ds_kernel.proofs.Rooms.{room_later, unit_room, turn_room_still, boundary_room}
+use Rattle.ds_kernel.proofs.Stepping.{none_is_not_some, sound_behind}
 
 -- before the time at which something next comes, a boundary has nothing to do
-pub nothing_due : (m : Monitor) (time : ℕ) (owed : Option Turn) → IsNonDecreasingBy comes_at m.due → m.quiet_until ≡ next_due (kept_of m) → time < m.quiet_until → IsLawful (whole (kept_of m) [] [])
+pub nothing_due : (m : Monitor) (time : ℕ) (owed : Option Turn) → IsNonDecreasingBy has_time m.due.commands → IsNonDecreasingBy comes_at m.due.characters → m.quiet_until ≡ next_due (kept_of m) → time < m.quiet_until → IsLawful (whole (kept_of m) [] [])
     → IsQuiet (record (kept_of m) { state = record (kept_of m).state { time = time; owed = owed } })
-nothing_due m time owed order next early lawful =
+nothing_due m time owed commands order next early lawful =
     let before : time < next_due (kept_of m) = subst (λ (n : ℕ). time < n) next early in
-    let first : next_due (kept_of m) ≤ first_time m.due = min-le_left (first_time m.due) (period_end m.rate m.ticked) in
-    let last : next_due (kept_of m) ≤ period_end m.rate m.ticked = min-le_right (first_time m.due) (period_end m.rate m.ticked) in
+    let first : next_due (kept_of m) ≤ first_event m.due = min-le_left (first_event m.due) (period_end m.rate m.ticked) in
+    let last : next_due (kept_of m) ≤ period_end m.rate m.ticked = min-le_right (first_event m.due) (period_end m.rate m.ticked) in
+    let command : first_event m.due ≤ first_time has_time m.due.commands = min-le_left (first_time has_time m.due.commands) (first_time comes_at m.due.characters) in
+    let character : first_event m.due ≤ first_time comes_at m.due.characters = min-le_right (first_time has_time m.due.commands) (first_time comes_at m.due.characters) in
     record {
-      commands = refl;
-      characters = none_due time m.due order (omega (arith, before, first));
+      commands = none_due has_time time m.due.commands commands (omega (arith, before, first, command));
+      characters = none_due comes_at time m.due.characters order (omega (arith, before, first, character));
       asleep = lawful.asleep;
       period = none_passed m.rate m.ticked time (omega (arith, before, last));
     }
@@ -89,10 +94,11 @@ module _ {L : Type 0} (old : Parts L) (good : IsGood old) (owed : IsSome old.mon
           ticked = o.ticked;
           early = o.early;
           rate = o.rate;
-          lawful = lawful_later h.kept h.kept.state.time None o.lawful;
+          kept = turn_orderly h.kept h.kept.state.time None o.kept;
         };
-        room = λ some. room_later old.monitor old.monitor.time None (good.room some);
-        roomy = λ some. room_later old.monitor old.monitor.time None (good.roomy some);
+        room = λ some. turn_room_still old.monitor old.monitor.time None refl (good.room some);
+        owed = λ some. absurd (none_is_not_some None refl some);
+        roomy = λ some. room_later 1 old.monitor old.monitor.time None (good.roomy some);
         next = good.next;
       }
 
@@ -102,8 +108,8 @@ module _ {L : Type 0} (old : Parts L) (good : IsGood old) (owed : IsSome old.mon
       let moves : Moves Boundary h (held new) = served_moves h (held new) owed a.own a.ends in
       let none : new.spent ≡ 0 = moves.1 in
       let user : is_in_kernel (held new) ≡ false = ap (λ (n : ℕ). not (bits n 1 1 == 1)) (enters_user new.monitor.ready new.core (held new).kept a.ends.enters) in
-      let few : old.monitor.lines ≤ old.monitor.time = o.lines in
-      let lines : new.monitor.lines ≡ old.monitor.lines = a.lines in
+      let few : old.monitor.lines + length old.monitor.due.commands ≤ old.monitor.time + 4096 = o.lines in
+      let lines : new.monitor.lines + length new.monitor.due.commands ≤ old.monitor.lines + length old.monitor.due.commands = a.lines in
       let time : new.monitor.time ≡ old.monitor.time = a.time in
       let ticked : new.monitor.ticked ≡ old.monitor.time = a.ticked in
       let early : old.monitor.time ≤ 1000000001 = o.early in record {
@@ -118,16 +124,17 @@ module _ {L : Type 0} (old : Parts L) (good : IsGood old) (owed : IsSome old.mon
           ticked = omega (arith, ticked, time);
           early = omega (arith, time, early);
           rate = subst IsRate (sym a.rate) o.rate;
-          lawful = a.lawful;
+          kept = a.kept;
         };
         room = λ some. absurd (omega (arith, none, some));
+        owed = λ some. absurd (none_is_not_some new.monitor.owed moves.0 some);
         roomy = λ is. (let no : false ≡ true = sym a.closed ∙ is in absurd (cc));
         next = a.next;
       }
 
 -- A turn in which no process runs.
 module _ {L : Type 0} (old between waiting : Parts L) (good : IsGood old) (unowed : old.monitor.owed ≡ None) (nobody : old.monitor.ready ≡ []) (going : is_over (kept_of old.monitor).state ≡ false)
-    (working : old.failed ≡ false) (soon : old.monitor.time < 1000000000) (is : held between ≡ held old) (until : between.monitor.quiet_until ≡ old.monitor.quiet_until) (room : HasRoom 1 between.monitor)
+    (working : old.failed ≡ false) (soon : old.monitor.time < 1000000000) (is : held between ≡ held old) (until : between.monitor.quiet_until ≡ old.monitor.quiet_until) (room : HasTurnRoom between.monitor)
     (waits : held waiting ≡ with_idle_turn (held between)) (rest : waiting ≡ record between { monitor = record between.monitor { time = waiting.monitor.time; owed = waiting.monitor.owed } }) where
   nobody_spent : (n : ℕ) → (0 < n → old.monitor.ready ≢ []) → n ≡ 0
   nobody_spent zero running = refl
@@ -166,7 +173,11 @@ module _ {L : Type 0} (old between waiting : Parts L) (good : IsGood old) (unowe
   pub waiting_good : IsGood waiting
   waiting_good =
       let o = good.orderly in
-      let lines : old.monitor.lines ≤ old.monitor.time = o.lines in
+      let lines : old.monitor.lines + length old.monitor.due.commands ≤ old.monitor.time + 4096 = o.lines in
+      let time : between.monitor.time ≡ old.monitor.time = ap (λ (x : Held). x.kept.state.time) is in
+      let later : waiting.monitor.time ≡ old.monitor.time + 1 = ap (λ (x : Held). x.kept.state.time) waiting_is in
+      let spent : waiting.spent ≡ old.spent = ap (λ (x : Held). x.own.spent) waiting_is in
+      let begun : old.spent ≡ 0 = none_begun in
       let ticked : old.monitor.ticked ≤ old.monitor.time = o.ticked in
       let marks : IsOrderly (with_idle_turn (held old)) = record {
         begun = λ some. absurd (let none = none_begun in omega (arith, none, some));
@@ -178,11 +189,12 @@ module _ {L : Type 0} (old between waiting : Parts L) (good : IsGood old) (unowe
         ticked = omega (arith, ticked);
         early = omega (arith, soon);
         rate = o.rate;
-        lawful = lawful_later (held old).kept (old.monitor.time + 1) (with_idle_turn (held old)).kept.state.owed o.lawful;
+        kept = turn_orderly (held old).kept (old.monitor.time + 1) (with_idle_turn (held old)).kept.state.owed o.kept;
       } in record {
         sound = subst IsSound (sym waiting_is) (record { state = _; stands = stands_waited (held old) good.sound.state good.sound.stands unowed nobody });
         orderly = subst IsOrderly (sym waiting_is) marks;
-        room = λ some. subst (λ (x : Parts L). HasRoom 1 x.monitor) (sym rest) (room_later between.monitor waiting.monitor.time waiting.monitor.owed room);
-        roomy = λ some. subst (λ (x : Parts L). HasRoom 1 x.monitor) (sym rest) (room_later between.monitor waiting.monitor.time waiting.monitor.owed room);
+        room = λ some. absurd (omega (arith, spent, begun, some));
+        owed = λ some. subst (λ (x : Parts L). HasBoundaryRoom x.monitor) (sym rest) (boundary_room between.monitor waiting.monitor.time waiting.monitor.owed (omega (arith, time, later)) room);
+        roomy = λ some. subst (λ (x : Parts L). HasRoom 1 x.monitor) (sym rest) (room_later 1 between.monitor waiting.monitor.time waiting.monitor.owed (unit_room between.monitor room));
         next = ap (λ (x : Parts L). x.monitor.quiet_until) rest ∙ (until ∙ (good.next ∙ sym (ap (λ (x : Held). next_due x.kept) waiting_is)));
       }

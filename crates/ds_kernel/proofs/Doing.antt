@@ -37,7 +37,9 @@ use Rattle.ds_refinement.specs.Real.{IsReal, EndsUnit, StopsBy, is_served}
 use Rattle.ds_refinement.proofs.Ending.{denied_ends, fault_ends, slot_ends, call_ends}
 use Rattle.ds_refinement.proofs.Counting.{stop_moves, call_moves}
 use Rattle.ds_refinement.proofs.Filling.{refill_comes, refill_goes_back}
-use Rattle.ds_monitor.specs.Room.{HasRoom}
+use Rattle.ds_policy.specs.Value.{InputValue}
+use Rattle.ds_monitor.specs.Room.{HasRoom, HasBoundaryRoom, HasTurnRoom}
+use Rattle.ds_kernel.proofs.Rooms.{unit_room, boundary_room_behind}
 use Rattle.ds_monitor.specs.declared.monitor.Monitor.{Monitor}
 use Rattle.ds_kernel.specs.declared.parts.Parts.{Parts}
 use Rattle.ds_kernel.specs.Parts.{held}
@@ -144,7 +146,8 @@ ended_good f p old new busy ended does =
     let tick : 1 ≤ ticks_of old.core.slot = some_tick old.core.slot in
     let most : ticks_of old.core.slot ≤ 2 = two_ticks old.core.slot in
     let begun : old.monitor.time < 1000000000 = busy.early in
-    let few : old.monitor.lines ≤ old.monitor.time = busy.good.orderly.lines in
+    let few : old.monitor.lines + length old.monitor.due.commands ≤ old.monitor.time + 4096 = busy.good.orderly.lines in
+    let same_due : length new.monitor.due.commands ≡ length old.monitor.due.commands = ap (λ (i : InputValue). length i.commands) ended.due in
     let lines : new.monitor.lines ≤ old.monitor.lines + 1 = ended.lines in
     let late : old.monitor.ticked ≤ old.monitor.time = busy.good.orderly.ticked in
     let ticked : new.monitor.ticked ≡ old.monitor.ticked = ended.ticked in record {
@@ -155,13 +158,14 @@ ended_good f p old new busy ended does =
         raised = λ is. (let no : false ≡ true = sym user ∙ is in absurd (cc));
         running = λ some. absurd (omega (arith, none, some));
         spent = omega (arith, none);
-        lines = omega (arith, time, tick, few, lines);
+        lines = omega (arith, time, tick, few, lines, same_due);
         ticked = omega (arith, time, tick, late, ticked);
-        lawful = ended.lawful;
+        kept = ended.kept;
         early = omega (arith, time, most, begun);
         rate = subst IsRate (sym ended.rate) busy.good.orderly.rate;
       };
       room = λ some. absurd (omega (arith, none, some));
+      owed = λ some. boundary_room_behind old.monitor new.monitor (omega (arith, time, most)) ended.due ended.room (busy.good.room busy.begun);
       roomy = λ is. (let no : false ≡ true = sym ended.closed ∙ is in absurd (cc));
       next = ended.until ∙ (busy.good.next ∙ sym ended.next);
     }
@@ -227,15 +231,16 @@ module _ {L : Type 0} (p : ℕ) (old new : Parts L) (busy : IsBusy p old) (kerne
         spent = o.spent;
         lines = o.lines;
         ticked = o.ticked;
-        lawful = o.lawful;
+        kept = o.kept;
         early = o.early;
         rate = o.rate;
       } in
       let t = does.follows.follows busy.good.sound.state busy.good.sound.stands in record {
         sound = record { state = t.0; stands = t.2 };
         orderly = subst IsOrderly (sym is) good;
-        room = λ some. subst (λ (m : Monitor). HasRoom 1 m) (sym monitor) (busy.good.room busy.begun);
-        roomy = λ some. subst (λ (m : Monitor). HasRoom 1 m) (sym monitor) (busy.good.room busy.begun);
+        room = λ some. subst HasTurnRoom (sym monitor) (busy.good.room busy.begun);
+        owed = λ some. subst HasBoundaryRoom (sym monitor) (busy.good.owed (subst (λ (m : Monitor). IsSome m.owed) monitor some));
+        roomy = λ some. subst (HasRoom 1) (sym monitor) (unit_room old.monitor (busy.good.room busy.begun));
         next = subst (λ (m : Monitor). m.quiet_until ≡ next_due (kept_of m)) (sym monitor) busy.good.next;
       }
 

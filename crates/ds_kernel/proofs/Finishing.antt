@@ -10,7 +10,6 @@ use Rattle.ds_grants.specs.Sound.{NamesPages}
 use Rattle.ds_pagemap.specs.declared.turn.Turn.{Turn}
 use Rattle.ds_pagemap.specs.Boundary.{has_passed}
 use Rattle.ds_pagemap.specs.Machine.{State}
-use Rattle.ds_pagemap_laws.specs.Lawful.{IsLawful}
 use Rattle.ds_refinement.specs.Held.{Kept, Own, whole, space_of, began_or, last_boundary}
 use Rattle.ds_pagemap.specs.Unit.{Stop}
 use Rattle.ds_refinement.specs.Told.{own_in}
@@ -19,17 +18,27 @@ use Rattle.ds_refinement.specs.Services.{Serves, EntersBy, seated}
 use Rattle.ds_monitor.specs.declared.monitor.Monitor.{Monitor}
 use Rattle.ds_monitor.specs.Coming.{next_due}
 use Rattle.ds_monitor.specs.Kept.{kept_of}
+use Rattle.ds_monitor.specs.Orderly as monitor
+use Rattle.ds_monitor.specs.Room.{HasLogRoom}
 use Rattle.ds_monitor.specs.Sending.{with_sent, bus_behind}
 use Rattle.ds_procs.specs.declared.call.Call.{Call}
 use Rattle.ds_procs.specs.declared.call.Call.TheVariants as call
 use Rattle.ds_kernel.specs.declared.parts.Parts.{Parts}
 use Rattle.ds_kernel.specs.Parts.{held}
 use Rattle.ds_kernel.specs.Ended.{HasEnded}
-use Rattle.ds_kernel.proofs.Keeping.{lawful_elsewhere, stop_lawful, call_lawful}
+use Rattle.ds_kernel.proofs.Keeping.{lawful_elsewhere}
 
 -- whoever has the address space, the service is the same
 owner_unseen : (f : State → State) (a k : Kept) (x y : List ℕ) (owner : ℕ) → Serves f a x k y → Serves f a x (record k { owner = owner }) y
 owner_unseen f a k x y owner s = record { lines = s.lines; state = s.state; bare = s.bare; text = s.text; count = s.count }
+
+-- and what is kept is orderly
+pub owner_orderly : (k : Kept) (owner : ℕ) → monitor.IsOrderly k → monitor.IsOrderly (record k { owner = owner })
+owner_orderly k owner it = record { lawful = lawful_elsewhere k [] [] [] [] it.lawful; ended = it.ended; commands = it.commands }
+
+-- fewer lines need no more room
+pub less_room : (n : ℕ) (m : Monitor) → HasLogRoom (n + 1) m → HasLogRoom n m
+less_room n m h = omega (arith, h)
 
 at_most_one : (b : Bool) → cond b 1 0 ≤ 1
 at_most_one true = omega arith
@@ -118,7 +127,9 @@ module _ {L : Type 0} (f : State → State) (old new : Parts L) (between : Monit
     pub next : next_due (kept_of between) ≡ next_due (kept_of old.monitor)
     pub lines : between.lines ≤ old.monitor.lines + 1
     pub owed : between.owed ≡ Some (record { began = old.monitor.time; runner = Some p })
-    pub lawful : IsLawful (whole (kept_of between) [] [])
+    pub kept : monitor.IsOrderly (kept_of between)
+    pub due : between.due ≡ old.monitor.due
+    pub room : (n : ℕ) → HasLogRoom (n + 1) old.monitor → HasLogRoom n between
 
   kept_is : Comes → kept_of new.monitor ≡ record (kept_of between) { owner = new.monitor.owner }
   kept_is b = ap (λ (m : Monitor). kept_of m) b.monitor
@@ -151,7 +162,9 @@ module _ {L : Type 0} (f : State → State) (old new : Parts L) (between : Monit
     rate = ap (λ (m : Monitor). m.rate) b.monitor ∙ a.rate;
     until = ap (λ (m : Monitor). m.quiet_until) b.monitor ∙ a.until;
     next = ap (λ (m : Monitor). next_due (kept_of m)) b.monitor ∙ a.next;
-    lawful = subst (λ (k : Kept). IsLawful (whole k [] [])) (sym (kept_is b)) (lawful_elsewhere (kept_of between) [] [] [] [] a.lawful);
+    kept = subst (λ (k : Kept). monitor.IsOrderly k) (sym (kept_is b)) (owner_orderly (kept_of between) new.monitor.owner a.kept);
+    due = ap (λ (m : Monitor). m.due) b.monitor ∙ a.due;
+    room = λ n h. subst (HasLogRoom n) (sym b.monitor) (a.room n h);
     closed = b.closed;
   }
 
@@ -181,12 +194,12 @@ pub stop_served : {L : Type 0} (old left new : Parts L) (between : Monitor) (p u
     → unit ≡ old.core.system.epc → pc ≡ own_in old.core.system → 0 < p
     → kept_of left.monitor ≡ seated old.core (kept_of old.monitor)
     → left ≡ record old { monitor = record old.monitor { seats = left.monitor.seats } }
-    → IsLawful (whole (kept_of left.monitor) [] [])
+    → monitor.IsOrderly (kept_of between) → ((n : ℕ) → HasLogRoom (n + 1) left.monitor → HasLogRoom n between)
     → ((memory : List ℕ) → Serves (ends_in_stop p unit pc stop) (kept_of left.monitor) memory (kept_of between) memory)
     → between.lines ≡ left.monitor.lines + 1
     → between ≡ record left.monitor { seats = between.seats; ready = between.ready; log = between.log; lines = between.lines; time = between.time; owed = between.owed }
     → Served (ends_in_stop p old.core.system.epc (own_in old.core.system) stop) old new between left.core.entries p
-stop_served {L} old left new between p unit pc stop unit_is pc_is above kept leaves lawful serves lines rest =
+stop_served {L} old left new between p unit pc stop unit_is pc_is above kept leaves orderly room serves lines rest =
     let lines_left : left.monitor.lines ≡ old.monitor.lines = ap (λ (x : Parts L). x.monitor.lines) leaves in
     let time_left : left.monitor.time ≡ old.monitor.time = ap (λ (x : Parts L). x.monitor.time) leaves in
     let grants : between.grants ≡ old.monitor.grants = ap (λ (m : Monitor). m.grants) rest ∙ ap (λ (x : Parts L). x.monitor.grants) leaves in
@@ -203,7 +216,9 @@ stop_served {L} old left new between p unit pc stop unit_is pc_is above kept lea
       next = ap (λ (m : Monitor). next_due (kept_of m)) rest ∙ ap (λ (x : Parts L). next_due (kept_of x.monitor)) leaves;
       lines = omega (arith, lines, lines_left);
       owed = sym (ap (λ (s : State). s.owed) ((serves []).state [])) ∙ ap (λ (n : ℕ). turn_of n p) time_left;
-      lawful = stop_lawful (kept_of left.monitor) (kept_of between) p unit pc stop [] [] above (serves []) lawful;
+      kept = orderly;
+      due = ap (λ (m : Monitor). m.due) rest ∙ ap (λ (x : Parts L). x.monitor.due) leaves;
+      room = λ n h. room n (subst (HasLogRoom (n + 1)) (sym (ap (λ (x : Parts L). x.monitor) leaves)) h);
     }
 
 -- What a call leaves.
@@ -211,12 +226,12 @@ pub call_served : {L : Type 0} (old left new : Parts L) (between : Monitor) (ent
     → unit ≡ old.core.system.epc → 0 < p → p ≤ length left.monitor.seats.items
     → kept_of left.monitor ≡ seated old.core (kept_of old.monitor)
     → left ≡ record old { monitor = record old.monitor { seats = left.monitor.seats } }
-    → IsLawful (whole (kept_of left.monitor) [] [])
+    → monitor.IsOrderly (kept_of between)
     → Serves (ends_in_call p unit) (kept_of left.monitor) left.bus.memory (kept_of between) left.bus.memory
     → KeepsBuffer left.core.entries entries left.monitor.grants between.grants
     → between ≡ record left.monitor { grants = between.grants; seats = between.seats; ready = between.ready; queues = between.queues; consoles = between.consoles; time = between.time; owed = between.owed }
     → Served (ends_in_call p old.core.system.epc) old new between entries p
-call_served {L} old left new between entries p unit unit_is above within kept leaves lawful serves buffer rest =
+call_served {L} old left new between entries p unit unit_is above within kept leaves orderly serves buffer rest =
     let lines_left : left.monitor.lines ≡ old.monitor.lines = ap (λ (x : Parts L). x.monitor.lines) leaves in
     let lines : between.lines ≡ left.monitor.lines = ap (λ (m : Monitor). m.lines) rest in
     let time_left : left.monitor.time ≡ old.monitor.time = ap (λ (x : Parts L). x.monitor.time) leaves in
@@ -235,5 +250,7 @@ call_served {L} old left new between entries p unit unit_is above within kept le
       next = ap (λ (m : Monitor). next_due (kept_of m)) rest ∙ ap (λ (x : Parts L). next_due (kept_of x.monitor)) leaves;
       lines = omega (arith, lines, lines_left);
       owed = sym (ap (λ (s : State). s.owed) (serves.state [])) ∙ ap (λ (n : ℕ). turn_of n p) time_left;
-      lawful = call_lawful (kept_of left.monitor) (kept_of between) p unit left.bus.memory left.bus.memory above within serves lawful;
+      kept = orderly;
+      due = ap (λ (m : Monitor). m.due) rest ∙ ap (λ (x : Parts L). x.monitor.due) leaves;
+      room = λ n h. subst (HasLogRoom n) (sym rest) (less_room n left.monitor (subst (HasLogRoom (n + 1)) (sym (ap (λ (x : Parts L). x.monitor) leaves)) h));
     }

@@ -3,6 +3,7 @@ pub mod Pending
 pub mod Silo
 pub mod Characters
 pub mod Clocks
+pub mod Rooms
 pub mod Sharing
 pub mod Waiting
 pub mod Arriving

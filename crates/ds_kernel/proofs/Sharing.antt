@@ -1,16 +1,17 @@
--- A boundary that serves no command is what is done to queues and processes.
+-- A boundary does the commands that are due, and then what is to be done to queues and processes.
 use Rattle.std.proofs.Common.{◌≡◌, ℕ, zero, suc, ◌+◌, Bool, true, false, cond, not, nat_le, List, [], ◌∷◌, length, take, filter, Option, Some, None, refl, sym, ap, subst, ◌∙◌, arith, ◌-◌, ◌<◌, ◌≤◌, map}
-use Rattle.std.specs.Prelude.{IfSome, slice_index_or}
+use Rattle.std.specs.Prelude.{IfSome, ◌&&◌, slice_index_or}
+use Rattle.std.proofs.Math.Seq.{map-set_same}
+use Rattle.std.proofs.lemmas.Bool.Decides.{nat_tests}
 use Rattle.std.specs.List.{All}
 use Rattle.std.proofs.lemmas.List.{get_or-map, length-map}
 use Rattle.std.proofs.lemmas.List.Elements.{All-head}
-use Rattle.ds_policy.specs.declared.command.TimedCommand.{TimedCommand}
 use Rattle.ds_policy.specs.declared.command.Character.{Character}
 use Rattle.ds_policy.specs.Grants.{PageState}
 use Rattle.ds_log.specs.declared.line.Line.{Line}
 use Rattle.ds_pagemap.specs.declared.turn.Turn.{Turn}
-use Rattle.ds_pagemap.specs.Machine.{State, Process, no_process, made_ready, first}
-use Rattle.ds_pagemap.specs.Boundary.{after_commands, all_queued, wakes, woken, has_passed, is_first, rotated, owed_boundary, boundary}
+use Rattle.ds_pagemap.specs.Machine.{State, Process, no_process, process_of, has_ended, is_waiting, made_ready, first}
+use Rattle.ds_pagemap.specs.Boundary.{all_queued, wakes, woken, has_passed, is_first, rotated, owed_boundary, boundary}
 use Rattle.ds_pagemap_laws.specs.Lawful.{IsReady, IsWellFormed, IsLawful}
 use Rattle.ds_pagemap_laws.proofs.LawfulBoundaries.{typed_formed, woken_lawful, rotated_lawful}
 use Rattle.ds_pagemap_laws.specs.Due.{come}
@@ -18,7 +19,12 @@ use Rattle.ds_grants.specs.State.{page_state}
 use Rattle.ds_refinement.specs.Held.{Kept, whole}
 use Rattle.ds_monitor.specs.Blind.{IsBlind}
 use Rattle.ds_monitor.specs.Kept.{kept_after}
-use Rattle.ds_kernel.specs.Attended.{shared, to_come}
+use Rattle.ds_monitor.specs.Ended.{marks_of}
+use Rattle.ds_monitor.specs.Orderly as monitor
+use Rattle.ds_monitor.proofs.Lawful.{good_as}
+use Rattle.ds_procs.specs.declared.process.Standing.{Standing}
+use Rattle.ds_procs.specs.declared.process.Standing.TheVariants.{Ready, Waiting, Parked, Ended}
+use Rattle.ds_kernel.specs.Attended.{shared, ruled, to_come}
 
 if_blind : (b : Bool) (m : State) (p : ℕ) (memory : PageState) (log : List Line)
     → cond b (made_ready (record m { memory = memory; log = log }) p) (record m { memory = memory; log = log }) ≡ record (cond b (made_ready m p) m) { memory = memory; log = log }
@@ -46,19 +52,10 @@ shared_blind cs passed runner m memory log =
     ap (λ (s : State). cond passed (rotated s runner) s) (woken_blind 1 (length typed.processes) typed memory log)
     ∙ last_blind passed runner awake memory log
 
--- with commands that are due and commands that come later
-abbrev by_commands : Turn → State → List TimedCommand → List TimedCommand → State
-by_commands turn m later due =
-    let served : State = after_commands (record m { commands = later; characters = to_come m; owed = None }) due in
-    shared (take 64 (come m)) (has_passed m.rate turn.began m.time) turn.runner served
-
-pub boundary_shared : (m : State) (turn : Turn) → m.owed ≡ Some turn → m.commands ≡ []
-    → boundary m ≡ shared (take 64 (come m)) (has_passed m.rate turn.began m.time) turn.runner (record m { characters = to_come m; owed = None })
+pub boundary_ruled : (m : State) (turn : Turn) → m.owed ≡ Some turn
+    → boundary m ≡ ruled m.time (take 64 (come m)) (has_passed m.rate turn.began m.time) turn.runner (record m { characters = to_come m; owed = None })
 unfolding boundary
-boundary_shared m turn owed none =
-    ap (λ (o : Option Turn). owed_boundary o m) owed
-    ∙ (ap (λ (cs : List TimedCommand). by_commands turn m (filter (λ (c : TimedCommand). not (nat_le c.time m.time)) cs) (filter (λ (c : TimedCommand). nat_le c.time m.time) cs)) none
-    ∙ ap (λ (cs : List TimedCommand). by_commands turn m cs []) (sym none))
+boundary_ruled m turn owed = ap (λ (o : Option Turn). owed_boundary o m) owed
 
 -- What it leaves is lawful.
 
@@ -99,7 +96,81 @@ woken_kept k n is w =
     subst (λ (x : Kept). IsLawful (whole x [] [])) (sym is)
     (subst IsLawful (woken_blind 1 (length k.state.processes) k.state (page_state k.grants []) []) (woken_lawful (whole k [] []) w))
 
-pub rotated_kept : (runner : Option ℕ) (k n : Kept) → n ≡ kept_after (λ (m : State). rotated m runner) k → IsLawful (whole k [] []) → IsLawful (whole n [] [])
+rotated_kept : (runner : Option ℕ) (k n : Kept) → n ≡ kept_after (λ (m : State). rotated m runner) k → IsLawful (whole k [] []) → IsLawful (whole n [] [])
 rotated_kept runner k n is w =
     subst (λ (x : Kept). IsLawful (whole x [] [])) (sym is)
     (subst IsLawful (rotated_blind runner k.state (page_state k.grants []) []) (rotated_lawful (whole k [] []) runner w))
+
+-- Who wakes or rotates hasn't ended.
+
+waiting_alive : (s : Standing) → is_waiting s ≡ true → has_ended s ≡ false
+waiting_alive Waiting e = refl
+waiting_alive Ready e = absurd (cc)
+waiting_alive Parked e = absurd (cc)
+waiting_alive Ended e = absurd (cc)
+
+first_both : (a b : Bool) → (a && b) ≡ true → a ≡ true
+first_both true b e = refl
+first_both false b e = absurd (cc)
+
+marks_ready : (m : State) (p : ℕ) → has_ended (process_of m p).standing ≡ false → marks_of (made_ready m p) ≡ marks_of m
+marks_ready m p alive = map-set_same (λ (q : Process). has_ended q.standing) m.processes (p - 1) (record (process_of m p) { standing = Ready }) no_process (sym alive)
+
+marks_woken_by : (b : Bool) (m : State) (p : ℕ) → wakes m p ≡ b → marks_of (cond b (made_ready m p) m) ≡ marks_of m
+marks_woken_by true m p e = marks_ready m p (waiting_alive (process_of m p).standing (first_both (is_waiting (process_of m p).standing) _ e))
+marks_woken_by false m p e = refl
+
+marks_woken : (n p : ℕ) (m : State) → marks_of (woken m p n) ≡ marks_of m
+marks_woken zero p m = refl
+marks_woken (suc n) p m = marks_woken n (p + 1) (cond (wakes m p) (made_ready m p) m) ∙ marks_woken_by (wakes m p) m p refl
+
+ready_alive : (s : Standing) → s ≡ Ready → has_ended s ≡ false
+ready_alive s e = ap has_ended e
+
+first_is : (queue : List ℕ) (p : ℕ) (m : State) → is_first (first queue) p ≡ true → All (IsReady m) queue → has_ended (process_of m p).standing ≡ false
+first_is [] p m is all = absurd (cc)
+first_is (q ∷ rest) p m is all =
+    let same : q ≡ p = grind (arith, nat_tests) in
+    subst (λ (n : ℕ). has_ended (process_of m n).standing ≡ false) same (ready_alive (process_of m q).standing (All-head (IsReady m) q rest all).2)
+
+marks_rotated_by : (b : Bool) (m : State) (p : ℕ) → (b ≡ true → has_ended (process_of m p).standing ≡ false) → marks_of (cond b (made_ready m p) m) ≡ marks_of m
+marks_rotated_by true m p alive = marks_ready m p (alive refl)
+marks_rotated_by false m p alive = refl
+
+marks_rotated : (runner : Option ℕ) (m : State) → All (IsReady m) m.ready → marks_of (rotated m runner) ≡ marks_of m
+marks_rotated None m all = refl
+marks_rotated (Some p) m all = marks_rotated_by (is_first (first m.ready) p) m p (λ e. first_is m.ready p m e all)
+
+-- nor are commands and pages touched
+same_commands : (b : Bool) (m : State) (p : ℕ) → (cond b (made_ready m p) m).commands ≡ m.commands
+same_commands true m p = refl
+same_commands false m p = refl
+
+commands_woken : (n p : ℕ) (m : State) → (woken m p n).commands ≡ m.commands
+commands_woken zero p m = refl
+commands_woken (suc n) p m = commands_woken n (p + 1) (cond (wakes m p) (made_ready m p) m) ∙ same_commands (wakes m p) m p
+
+commands_rotated : (runner : Option ℕ) (m : State) → (rotated m runner).commands ≡ m.commands
+commands_rotated None m = refl
+commands_rotated (Some p) m = same_commands (is_first (first m.ready) p) m p
+
+-- behind the waking
+pub woken_orderly : (k between n : Kept) (cs : List Character) → between ≡ kept_after (λ (m : State). record m { queues = all_queued m.queues cs }) k
+    → n ≡ kept_after (λ (m : State). woken m 1 (length m.processes)) between → monitor.IsOrderly k → monitor.IsOrderly n
+woken_orderly k between n cs drained woke it = record {
+  lawful = woken_kept between n woke (drained_formed k between cs drained it.lawful);
+  ended =
+      ap (λ (x : Kept). marks_of x.state) woke
+      ∙ (marks_woken (length between.state.processes) 1 between.state
+      ∙ (ap (λ (x : Kept). marks_of x.state) drained ∙ (it.ended ∙ sym (ap (λ (x : Kept). x.grants.ended) woke ∙ ap (λ (x : Kept). x.grants.ended) drained))));
+  commands = good_as n.grants.named k.grants.named n.state.commands k.state.commands (ap (λ (x : Kept). x.grants.named) woke ∙ ap (λ (x : Kept). x.grants.named) drained)
+      (ap (λ (x : Kept). x.state.commands) woke ∙ (commands_woken (length between.state.processes) 1 between.state ∙ ap (λ (x : Kept). x.state.commands) drained)) it.commands;
+}
+
+-- and behind the rotation
+pub rotated_orderly : (runner : Option ℕ) (k n : Kept) → n ≡ kept_after (λ (m : State). rotated m runner) k → monitor.IsOrderly k → monitor.IsOrderly n
+rotated_orderly runner k n is it = record {
+  lawful = rotated_kept runner k n is it.lawful;
+  ended = ap (λ (x : Kept). marks_of x.state) is ∙ (marks_rotated runner k.state it.lawful.formed.ready ∙ (it.ended ∙ sym (ap (λ (x : Kept). x.grants.ended) is)));
+  commands = good_as n.grants.named k.grants.named n.state.commands k.state.commands (ap (λ (x : Kept). x.grants.named) is) (ap (λ (x : Kept). x.state.commands) is ∙ commands_rotated runner k.state) it.commands;
+}

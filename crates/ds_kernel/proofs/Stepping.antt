@@ -1,5 +1,5 @@
 -- What single steps of a station do: an instruction, a boundary, an idle turn; and a failure.
-use Rattle.std.proofs.Common.{◌≡◌, ◌≢◌, ℕ, ◌+◌, ◌-◌, ◌*◌, ◌^◌, ◌<◌, ◌≤◌, Bool, true, false, not, [], Option, None, refl, sym, ap, ap₂, subst, ◌∙◌, arith}
+use Rattle.std.proofs.Common.{◌≡◌, ◌≢◌, ℕ, ◌+◌, ◌-◌, ◌*◌, ◌^◌, ◌<◌, ◌≤◌, Bool, true, false, not, [], length, Option, None, refl, sym, ap, ap₂, subst, ◌∙◌, arith}
 use Rattle.std.specs.Prelude.{IsSome, is_some, ◌==◌, ◌&&◌, ◌||◌}
 use Rattle.ds_word.specs.Word.{truth}
 use Rattle.ds_cp0.specs.System.{System, is_user}
@@ -11,15 +11,12 @@ use Rattle.ds_core.specs.Effect.{step}
 use Rattle.ds_core.specs.Ahead.{is_raised}
 use Rattle.ds_core.proofs.Users.{keeps_system}
 use Rattle.ds_dev.specs.Bus.{BusState}
-use Rattle.ds_grants.specs.State.{page_state}
 use Rattle.ds_pagemap.specs.declared.turn.Turn.{Turn}
 use Rattle.ds_pagemap.specs.Machine.{State}
 use Rattle.ds_pagemap.specs.Run.{is_over}
-use Rattle.ds_pagemap_laws.specs.Lawful.{IsLawful}
-use Rattle.ds_pagemap_laws.proofs.Formed.{formed_with}
 use Rattle.ds_refinement.specs.declared.step.Step.{Step}
 use Rattle.ds_refinement.specs.declared.step.Step.TheVariants.{Inside, Over}
-use Rattle.ds_refinement.specs.Held.{Held, Kept, whole}
+use Rattle.ds_refinement.specs.Held.{Held}
 use Rattle.ds_refinement.specs.Stands.{Stands, IsSound}
 use Rattle.ds_refinement.specs.Services.{after_event, step_of, with_failure, with_one_spent}
 use Rattle.ds_refinement.specs.Steps.{Follows, Moves, is_in_kernel, ticks_of}
@@ -31,23 +28,14 @@ use Rattle.ds_refinement.proofs.Quieter.{user_status_of}
 use Rattle.ds_refinement.proofs.Stages.{step_follows}
 use Rattle.ds_monitor.specs.Coming.{next_due}
 use Rattle.ds_monitor.specs.Kept.{kept_of}
-use Rattle.ds_monitor.specs.Room.{HasRoom}
+use Rattle.ds_monitor.specs.Room.{HasRoom, HasBoundaryRoom, HasTurnRoom}
+use Rattle.ds_monitor.proofs.Lawful.{turn_orderly}
+use Rattle.ds_kernel.proofs.Rooms.{room_later, unit_room, turn_room_still, boundary_room}
 use Rattle.ds_monitor.specs.declared.monitor.Monitor.{Monitor}
 use Rattle.ds_kernel.specs.declared.parts.Parts.{Parts}
 use Rattle.ds_kernel.specs.Parts.{held}
 use Rattle.ds_kernel.specs.Good.{IsOrderly, IsGood}
 use Rattle.ds_kernel.specs.Ended.{Does}
-
--- the room is no matter of time and turns
-pub room_later : (m : Monitor) (time : ℕ) (owed : Option Turn) → HasRoom 1 m → HasRoom 1 (record m { time = time; owed = owed })
-room_later m time owed r = record { consoles = r.consoles; log = r.log }
-
--- nor is lawfulness
-pub lawful_later : (k : Kept) (time : ℕ) (owed : Option Turn) → IsLawful (whole k [] []) → IsLawful (whole (record k { state = record k.state { time = time; owed = owed } }) [] [])
-lawful_later k time owed w = record {
-  formed = formed_with (whole k [] []) (page_state k.grants []) k.state.queues k.state.consoles [] time k.state.commands k.state.characters owed refl refl refl w.formed;
-  asleep = w.asleep;
-}
 
 pub none_is_not_some : (o : Option Turn) → o ≡ None → IsSome o → ⊥
 none_is_not_some o none some = let no : false ≡ true = sym (ap is_some none) ∙ some in absurd (cc)
@@ -65,7 +53,7 @@ failure_unseen h m k = record { buffer = k.buffer; grants = k.grants; size = k.s
 
 -- a failure leaves the station as it should be
 pub failed_good : {L : Type 0} (old new : Parts L) → IsGood old → old.monitor.owed ≡ None → held new ≡ with_failure (held old)
-    → new.monitor.quiet_until ≡ old.monitor.quiet_until → (0 < new.spent → HasRoom 1 new.monitor) → (new.has_room ≡ true → HasRoom 1 new.monitor) → IsGood new
+    → new.monitor.quiet_until ≡ old.monitor.quiet_until → (0 < new.spent → HasTurnRoom new.monitor) → (new.has_room ≡ true → HasRoom 1 new.monitor) → IsGood new
 failed_good old new good unowed is until room roomy =
     let o = good.orderly in
     let marks : IsOrderly (with_failure (held old)) = record {
@@ -76,13 +64,14 @@ failed_good old new good unowed is until room roomy =
       spent = o.spent;
       lines = o.lines;
       ticked = o.ticked;
-      lawful = o.lawful;
+      kept = o.kept;
       early = o.early;
       rate = o.rate;
     } in record {
       sound = subst IsSound (sym is) (record { state = good.sound.state; stands = failure_unseen (held old) good.sound.state good.sound.stands });
       orderly = subst IsOrderly (sym is) marks;
       room = room;
+      owed = λ some. absurd (none_is_not_some new.monitor.owed (ap (λ (h : Held). h.kept.state.owed) is ∙ unowed) some);
       roomy = roomy;
       next = until ∙ (good.next ∙ sym (ap (λ (h : Held). next_due h.kept) is));
     }
@@ -155,7 +144,7 @@ module _ (h : Held) (sound : IsSound h) (orderly : IsOrderly h) (working : h.own
     spent = omega (arith, few);
     lines = orderly.lines;
     ticked = orderly.ticked;
-    lawful = orderly.lawful;
+    kept = orderly.kept;
     early = orderly.early;
     rate = orderly.rate;
   }
@@ -163,7 +152,7 @@ module _ (h : Held) (sound : IsSound h) (orderly : IsOrderly h) (working : h.own
   marks : (e : Event) → s.event ≡ e → IsOrderly (behind e)
   marks Retired at =
       let tick : 1 ≤ ticks_of h.core.slot = some_tick h.core.slot in
-      let lines : h.kept.lines ≤ h.kept.state.time = orderly.lines in
+      let lines : h.kept.lines + length h.kept.state.commands ≤ h.kept.state.time + 4096 = orderly.lines in
       let ticked : h.kept.ticked ≤ h.kept.state.time = orderly.ticked in
       record {
         begun = λ some. (let no : 0 < 0 = some in absurd (omega (arith, no)));
@@ -173,7 +162,7 @@ module _ (h : Held) (sound : IsSound h) (orderly : IsOrderly h) (working : h.own
         spent = omega arith;
         lines = omega (arith, lines, tick);
         ticked = omega (arith, ticked, tick);
-        lawful = lawful_later h.kept (behind Retired).kept.state.time (behind Retired).kept.state.owed orderly.lawful;
+        kept = turn_orderly h.kept (behind Retired).kept.state.time (behind Retired).kept.state.owed orderly.kept;
         early = (let most : ticks_of h.core.slot ≤ 2 = two_ticks h.core.slot in omega (arith, soon, most));
         rate = orderly.rate;
       }
@@ -198,9 +187,24 @@ over_does old unowed nobody over = record {
   };
 }
 
+-- inside of a unit no tick is over
+inside_time : (e : Event) (h : Held) (s : core.Step) → 0 < (after_event e h s).own.spent → (after_event e h s).kept.state.time ≡ h.kept.state.time
+inside_time Retired h s some = (let no : 0 < 0 = some in absurd (omega (arith, no)))
+inside_time Branched h s some = refl
+inside_time (Raised code) h s some = refl
+
+ticks_few : (slot : Bool) → ticks_of slot ≤ 2
+ticks_few true = omega arith
+ticks_few false = omega arith
+
+event_time : (e : Event) (h : Held) (s : core.Step) → (after_event e h s).kept.state.time ≤ h.kept.state.time + 2
+event_time Retired h s = (let few : ticks_of h.core.slot ≤ 2 = ticks_few h.core.slot in omega (arith, few))
+event_time Branched h s = omega arith
+event_time (Raised code) h s = omega arith
+
 -- An instruction of the process that runs, counted and done.
 module _ {L : Type 0} (old between new : Parts L) (kind : Step) (good : IsGood old) (working : old.failed ≡ false) (unowed : old.monitor.owed ≡ None) (ready : old.monitor.ready ≢ [])
-    (user : is_user old.core.system ≡ true) (word : old.core.pc < 2 ^ 32) (few : old.spent < 64) (soon : old.monitor.time < 1000000000) (begun : held between ≡ with_one_spent (held old)) (until : between.monitor.quiet_until ≡ old.monitor.quiet_until) (room : HasRoom 1 between.monitor)
+    (user : is_user old.core.system ≡ true) (word : old.core.pc < 2 ^ 32) (few : old.spent < 64) (soon : old.monitor.time < 1000000000) (begun : held between ≡ with_one_spent (held old)) (until : between.monitor.quiet_until ≡ old.monitor.quiet_until) (room : HasTurnRoom between.monitor)
     (done : (s : core.Step) → s ≡ step between.core between.bus → (held new ≡ after_event s.event (held between) s) × (kind ≡ step_of s.event))
     (rest : new ≡ record between { core = new.core; bus = new.bus; monitor = record between.monitor { time = new.monitor.time; owed = new.monitor.owed }; spent = new.spent }) where
   abbrev stepped : core.Step
@@ -219,15 +223,38 @@ module _ {L : Type 0} (old between new : Parts L) (kind : Step) (good : IsGood o
       (subst (Does (step_of stepped.event) (held old)) (sym new_is)
       (instruction_does (held old) good.sound good.orderly working unowed ready user word few soon))
 
-  room_behind : HasRoom 1 new.monitor
-  room_behind = subst (λ (m : Monitor). HasRoom 1 m) (sym (ap (λ (x : Parts L). x.monitor) rest)) (room_later between.monitor new.monitor.time new.monitor.owed room)
+  monitor_behind : new.monitor ≡ record between.monitor { time = new.monitor.time; owed = new.monitor.owed }
+  monitor_behind = ap (λ (x : Parts L). x.monitor) rest
+
+  between_time : between.monitor.time ≡ old.monitor.time
+  between_time = ap (λ (x : Held). x.kept.state.time) begun
+
+  time_behind : new.monitor.time ≡ (after_event stepped.event (with_one_spent (held old)) stepped).kept.state.time
+  time_behind = ap (λ (x : Held). x.kept.state.time) new_is
+
+  -- where a unit goes on no tick is over
+  unit_room_behind : 0 < new.spent → HasTurnRoom new.monitor
+  unit_room_behind some =
+      let same : new.monitor.time ≡ between.monitor.time = time_behind ∙ (inside_time stepped.event (with_one_spent (held old)) stepped (subst (λ (n : ℕ). 0 < n) (ap (λ (x : Held). x.own.spent) new_is) some) ∙ sym between_time) in
+      subst HasTurnRoom (sym monitor_behind) (turn_room_still between.monitor new.monitor.time new.monitor.owed same room)
+
+  boundary_room_then : HasBoundaryRoom new.monitor
+  boundary_room_then =
+      let most : (after_event stepped.event (with_one_spent (held old)) stepped).kept.state.time ≤ old.monitor.time + 2 = event_time stepped.event (with_one_spent (held old)) stepped in
+      let time = time_behind in
+      let before = between_time in
+      subst HasBoundaryRoom (sym monitor_behind) (boundary_room between.monitor new.monitor.time new.monitor.owed (omega (arith, most, time, before)) room)
+
+  one_room_behind : HasRoom 1 new.monitor
+  one_room_behind = subst (HasRoom 1) (sym monitor_behind) (room_later 1 between.monitor new.monitor.time new.monitor.owed (unit_room between.monitor room))
 
   pub attempt_good : IsGood new
   attempt_good = record {
     sound = subst IsSound (sym new_is) (instruction_sound (held old) good.sound good.orderly working unowed ready user word few soon);
     orderly = subst IsOrderly (sym new_is) (instruction_orderly (held old) good.sound good.orderly working unowed ready user word few soon);
-    room = λ some. room_behind;
-    roomy = λ some. room_behind;
+    room = unit_room_behind;
+    owed = λ some. boundary_room_then;
+    roomy = λ some. one_room_behind;
     next =
         ap (λ (x : Parts L). x.monitor.quiet_until) rest
         ∙ (until ∙ (good.next ∙ sym (ap (λ (x : Parts L). next_due (kept_of x.monitor)) rest ∙ ap (λ (x : Held). next_due x.kept) begun)));

@@ -1,5 +1,5 @@
 -- What a boundary makes of what is held.
-use Rattle.std.specs.Prelude.{◌≡◌, ◌⊎◌, ℕ, ◌-◌, Bool, false, not, nat_le, filter, if◌then◌else◌, [], List, length, Option, Some, None}
+use Rattle.std.specs.Prelude.{◌≡◌, ◌⊎◌, ℕ, ◌+◌, ◌-◌, ◌≤◌, Bool, false, not, nat_le, filter, if◌then◌else◌, [], List, length, Option, Some, None}
 use Rattle.ds_dev.specs.Clock.{read_flags}
 use Rattle.ds_dev.specs.Bus.{BusState, with_serial, with_clock, after_ticks}
 use Rattle.ds_policy.specs.declared.command.Character.{Character}
@@ -7,12 +7,13 @@ use Rattle.ds_pagemap.specs.declared.turn.Turn.{Turn}
 use Rattle.ds_pagemap.specs.Machine.{State}
 use Rattle.ds_pagemap.specs.Boundary.{all_queued, woken, rotated, boundary}
 use Rattle.ds_pagemap_laws.specs.Due.{come}
-use Rattle.ds_pagemap_laws.specs.Lawful.{IsLawful}
-use Rattle.ds_refinement.specs.Held.{Held, Kept, whole}
+use Rattle.ds_refinement.specs.Held.{Held, Kept}
 use Rattle.ds_refinement.specs.Quiet.{IsQuiet}
 use Rattle.ds_refinement.specs.Services.{EndsBy, with_boundary, with_none_spent}
 use Rattle.ds_monitor.specs.Coming.{next_due}
 use Rattle.ds_monitor.specs.Kept.{kept_of}
+use Rattle.ds_monitor.specs.Commands.{commanded}
+use Rattle.ds_monitor.specs.Orderly as monitor
 use Rattle.ds_kernel.specs.declared.parts.Parts.{Parts}
 use Rattle.ds_kernel.specs.Parts.{held}
 use Rattle.ds_kernel.specs.Devices.{all_received, emptied}
@@ -49,6 +50,10 @@ shared cs passed runner m =
     let awake : State = woken typed 1 (length typed.processes) in
     if passed then rotated awake runner else awake
 
+-- The commands that are due at a time are done, and then the rest of the boundary.
+abbrev pub ruled : ℕ → List Character → Bool → Option ℕ → State → State
+ruled now cs passed runner m = shared cs passed runner (commanded now m)
+
 -- The boundary.
 
 -- the boundary that was owed is served, and the station's own marks are those of a new unit
@@ -56,12 +61,12 @@ pub record HasAttended {L : Type 0} (old new : Parts L) : Type 0 where
   pub ends : EndsBy boundary (held old) (held new)
   pub own : (held new).own ≡ with_none_spent (held old).own
   pub random : new.core.random ≡ old.core.random
-  pub lines : new.monitor.lines ≡ old.monitor.lines
+  pub lines : new.monitor.lines + length new.monitor.due.commands ≤ old.monitor.lines + length old.monitor.due.commands
   pub time : new.monitor.time ≡ old.monitor.time
   pub ticked : new.monitor.ticked ≡ old.monitor.time
   pub rate : new.monitor.rate ≡ old.monitor.rate
   pub next : new.monitor.quiet_until ≡ next_due (kept_of new.monitor)
-  pub lawful : IsLawful (whole (kept_of new.monitor) [] [])
+  pub kept : monitor.IsOrderly (kept_of new.monitor)
   pub closed : new.has_room ≡ false
 
 -- a boundary that was owed had nothing to do, or was served

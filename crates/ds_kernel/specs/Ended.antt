@@ -1,14 +1,15 @@
 -- The end of a unit in a service, and what a step of a station does.
-use Rattle.std.specs.Prelude.{◌≡◌, ◌+◌, ◌≤◌, false, []}
+use Rattle.std.specs.Prelude.{◌≡◌, ℕ, ◌+◌, ◌≤◌, false}
 use Rattle.ds_pagemap.specs.Machine.{State}
-use Rattle.ds_pagemap_laws.specs.Lawful.{IsLawful}
 use Rattle.ds_refinement.specs.declared.step.Step.{Step}
-use Rattle.ds_refinement.specs.Held.{Held, whole}
+use Rattle.ds_refinement.specs.Held.{Held}
 use Rattle.ds_refinement.specs.Services.{EndsBy, with_none_spent}
 use Rattle.ds_refinement.specs.Steps.{Follows, Moves}
 use Rattle.ds_refinement.specs.Real.{IsReal}
 use Rattle.ds_monitor.specs.Coming.{next_due}
 use Rattle.ds_monitor.specs.Kept.{kept_of}
+use Rattle.ds_monitor.specs.Orderly as monitor
+use Rattle.ds_monitor.specs.Room.{HasLogRoom}
 use Rattle.ds_kernel.specs.declared.parts.Parts.{Parts}
 use Rattle.ds_kernel.specs.Parts.{held}
 
@@ -22,7 +23,9 @@ pub record HasEnded {L : Type 0} (f : State → State) (old new : Parts L) : Typ
   pub rate : new.monitor.rate ≡ old.monitor.rate
   pub until : new.monitor.quiet_until ≡ old.monitor.quiet_until
   pub next : next_due (kept_of new.monitor) ≡ next_due (kept_of old.monitor)
-  pub lawful : IsLawful (whole (kept_of new.monitor) [] [])
+  pub kept : monitor.IsOrderly (kept_of new.monitor)
+  pub due : new.monitor.due ≡ old.monitor.due
+  pub room : (n : ℕ) → HasLogRoom (n + 1) old.monitor → HasLogRoom n new.monitor
   pub closed : new.has_room ≡ false
 
 -- it is followed by the machine with its counts, and it is real

@@ -1,13 +1,13 @@
 -- What is true of a station's parts at any time, and while a unit goes on.
-use Rattle.std.specs.Prelude.{◌≡◌, ◌≢◌, ℕ, ◌<◌, ◌≤◌, true, false, [], Some, None}
+use Rattle.std.specs.Prelude.{◌≡◌, ◌≢◌, ℕ, ◌+◌, ◌<◌, ◌≤◌, true, false, [], length, Some, None, IsSome}
 use Rattle.ds_monitor.specs.Coming.{next_due}
 use Rattle.ds_monitor.specs.Kept.{kept_of}
 use Rattle.ds_pagemap.specs.Machine.{first}
-use Rattle.ds_pagemap_laws.specs.Lawful.{IsLawful}
-use Rattle.ds_refinement.specs.Held.{Held, whole}
+use Rattle.ds_refinement.specs.Held.{Held}
 use Rattle.ds_refinement.specs.Stands.{IsSound}
 use Rattle.ds_refinement.specs.Steps.{is_in_kernel}
-use Rattle.ds_monitor.specs.Room.{HasRoom}
+use Rattle.ds_monitor.specs.Room.{HasBoundaryRoom, HasRoom, HasTurnRoom}
+use Rattle.ds_monitor.specs.Orderly as monitor
 use Rattle.ds_kernel.specs.declared.parts.Parts.{Parts}
 use Rattle.ds_kernel.specs.Parts.{held}
 
@@ -25,17 +25,20 @@ pub record IsOrderly (h : Held) : Type 0 where
   pub raised : is_in_kernel h ≡ true → 0 < h.own.spent
   pub running : 0 < h.own.spent → h.kept.state.ready ≢ []
   pub spent : h.own.spent ≤ 64
-  pub lines : h.kept.lines ≤ h.kept.state.time
+  -- a unit writes a line of the log at most, and so does a command
+  pub lines : h.kept.lines + length h.kept.state.commands ≤ h.kept.state.time + 4096
   pub ticked : h.kept.ticked ≤ h.kept.state.time
   pub early : h.kept.state.time ≤ 1000000001
   pub rate : IsRate h.kept.state.rate
-  pub lawful : IsLawful (whole h.kept [] [])
+  pub kept : monitor.IsOrderly h.kept
 
 -- what is true of a station's parts at any time
 pub record IsGood {L : Type 0} (p : Parts L) : Type 0 where
   pub sound : IsSound (held p)
   pub orderly : IsOrderly (held p)
-  pub room : 0 < p.spent → HasRoom 1 p.monitor
+  -- a unit that has begun has room for what it may write, and a boundary for its commands
+  pub room : 0 < p.spent → HasTurnRoom p.monitor
+  pub owed : IsSome p.monitor.owed → HasBoundaryRoom p.monitor
   pub roomy : p.has_room ≡ true → HasRoom 1 p.monitor
   -- before this time no boundary has anything to do
   pub next : p.monitor.quiet_until ≡ next_due (kept_of p.monitor)

@@ -32,8 +32,9 @@ impl<L: Lookaside> Parts<L> {
     }
 
     /// The most instructions that may go ahead in a run for n, if any may: the process is at the
-    /// beginning of its unit or in the slot of its branch, and each unit begins before n. An
-    /// exception that waits has been counted in its unit, so none waits there.
+    /// beginning of its unit or in the slot of its branch, and each unit begins before n, and so
+    /// early that no command is due behind it. An exception that waits has been counted in its unit,
+    /// so none waits there.
     #[inline(always)]
     pub(crate) fn may_run_ahead(&self, n: u64) -> Option<u32>
         requires good { IsGood self.now }
@@ -41,15 +42,15 @@ impl<L: Lookaside> Parts<L> {
         ensures ahead { IfSome result (λ limit. GoesAhead limit (held self.now)) }
         ensures some { IfSome result (λ limit. 1 ≤ limit) }
         ensures end { IfSome result (λ limit. self.now.monitor.time + limit + 1
-            ≡ min n (self.now.monitor.quiet_until - 1)) }
-        ensures any { self.now.monitor.time + 1 < n → GoesAhead 1 (held self.now)
+            ≡ min n (self.now.monitor.quiet_until - 2)) }
+        ensures any { self.now.monitor.time + 1 < n → GoesAhead 2 (held self.now)
             → IsSome result }
     {
         if self.monitor.time >= n || self.monitor.owed.is_some() {
             return None;
         }
         self.monitor.due.look_at_order();
-        let end = n.min(self.monitor.quiet_until.saturating_sub(1));
+        let end = n.min(self.monitor.quiet_until.saturating_sub(2));
         if end <= self.monitor.time + 1 {
             return None;
         }
@@ -69,6 +70,7 @@ impl<L: Lookaside> Parts<L> {
         requires unowed { self.old.monitor.owed ≡ None }
         ensures good { IsGood self.new }
         ensures room { OnOk result (HasRoom 1 self.new.monitor) }
+        ensures until { self.new.monitor.quiet_until ≡ self.old.monitor.quiet_until }
         ensures still { OnOk result (held self.new ≡ held self.old) }
         ensures halts { IfErr result (λ halt. Halts halt (held self.old)) }
         ensures marked { OnErr result (held self.new ≡ with_failure (held self.old)) }
@@ -122,6 +124,7 @@ impl<L: Lookaside> Parts<L> {
         requires ahead { GoesAhead limit (held self.old) }
         requires some { 1 ≤ limit }
         requires early { self.old.monitor.time + limit + 1 ≤ 1000000000 }
+        requires before { self.old.monitor.time + limit + 3 ≤ self.old.monitor.quiet_until }
         requires room { HasRoom 1 self.old.monitor }
         ensures good { IsGood self.new }
         ensures goes { (n : ℕ) → self.old.monitor.time + limit + owed_tick self.old.core.slot ≤ n

@@ -1,14 +1,15 @@
 //! The boundary behind a turn: it has nothing to do, or it is served.
-ghost use Rattle.std.specs.Prelude.{◌≡◌, ◌<◌, ◌≤◌, ◌^◌, map, All, [], IsSome};
-ghost use Rattle.ds_pagemap_laws.specs.Lawful.{IsLawful};
-ghost use Rattle.ds_refinement.specs.Held.{whole};
-ghost use Rattle.ds_refinement.specs.Services.{seated};
+ghost use Rattle.std.specs.Prelude.{◌≡◌, ◌+◌, ◌<◌, ◌≤◌, ◌^◌, length, map, All, IsSome};
+ghost use Rattle.ds_grants.specs.Buffer.{KeepsBuffer};
+ghost use Rattle.ds_refinement.specs.Services.{Serves, seated};
 ghost use Rattle.ds_monitor.specs.Kept.{kept_of, kept_after};
+ghost use Rattle.ds_monitor.specs.Orderly as monitor;
+ghost use Rattle.ds_monitor.specs.Room.{HasBoundaryRoom};
 ghost use Rattle.ds_kernel.specs.Parts.{held};
 ghost use Rattle.ds_kernel.specs.Good.{IsGood};
 ghost use Rattle.ds_kernel.specs.Devices.{IsOfLine, typed, emptied};
 ghost use Rattle.ds_dev.specs.Bus.{with_serial};
-ghost use Rattle.ds_kernel.specs.Attended.{runner_of, unowed, shared, read_out, HasAttended, IsBounded};
+ghost use Rattle.ds_kernel.specs.Attended.{runner_of, unowed, shared, ruled, read_out, HasAttended, IsBounded};
 
 use crate::devices::read_clock;
 use crate::parts::Parts;
@@ -28,9 +29,9 @@ fn runner_of(owed: Option<Turn>) -> Option<u32>
 impl<L: Lookaside> Parts<L> {
     /// The process that runs leaves the processor for its seat, if one does.
     fn leave_first(&mut self)
-        requires lawful { IsLawful (whole (kept_of self.old.monitor) [] []) }
+        requires orderly { monitor.IsOrderly (kept_of self.old.monitor) }
         ensures kept { kept_of self.new.monitor ≡ seated self.old.core (kept_of self.old.monitor) }
-        ensures lawful { IsLawful (whole (kept_of self.new.monitor) [] []) }
+        ensures orderly { monitor.IsOrderly (kept_of self.new.monitor) }
         ensures rest { self.new ≡ record self.old {
           monitor = record self.old.monitor { seats = self.new.monitor.seats };
         } }
@@ -44,11 +45,11 @@ impl<L: Lookaside> Parts<L> {
     /// and where a period has ended the process that ran goes behind the others.
     fn share(&mut self, passed: bool, runner: Option<u32>)
         requires lines { All IsOfLine self.old.bus.serial.silo }
-        requires lawful { IsLawful (whole (kept_of self.old.monitor) [] []) }
+        requires orderly { monitor.IsOrderly (kept_of self.old.monitor) }
         ensures kept { kept_of self.new.monitor
             ≡ kept_after (shared (map typed self.old.bus.serial.silo) passed runner)
             (kept_of self.old.monitor) }
-        ensures lawful { IsLawful (whole (kept_of self.new.monitor) [] []) }
+        ensures orderly { monitor.IsOrderly (kept_of self.new.monitor) }
         ensures bus { self.new.bus ≡ with_serial self.old.bus (emptied self.old.bus.serial) }
         ensures rest { self.new ≡ record self.old {
           bus = self.new.bus;
@@ -66,29 +67,47 @@ impl<L: Lookaside> Parts<L> {
         }
     }
 
-    /// The turn whose boundary is owed is over: who ran is in its seat, and what was received and
-    /// the clock's flags are read and served.
+    /// The turn whose boundary is owed is over: who ran is in its seat, the commands that are due
+    /// are done, and what was received and the clock's flags are read and served.
     fn serve_turn(&mut self)
         requires lines { All IsOfLine self.old.bus.serial.silo }
-        requires lawful { IsLawful (whole (kept_of self.old.monitor) [] []) }
-        ensures kept { kept_of self.new.monitor
-            ≡ kept_after (shared (map typed self.old.bus.serial.silo) self.old.bus.clock.flagged
+        requires orderly { monitor.IsOrderly (kept_of self.old.monitor) }
+        requires early { self.old.monitor.time < 2 ^ 62 }
+        requires count { self.old.monitor.lines + length self.old.monitor.due.commands < 2 ^ 63 }
+        requires room { HasBoundaryRoom self.old.monitor }
+        ensures serves { Serves (ruled self.old.monitor.time
+            (map typed self.old.bus.serial.silo) self.old.bus.clock.flagged
             (runner_of self.old.monitor.owed))
-            (unowed (seated self.old.core (kept_of self.old.monitor))) }
-        ensures lawful { IsLawful (whole (kept_of self.new.monitor) [] []) }
+            (unowed (seated self.old.core (kept_of self.old.monitor))) self.old.bus.memory
+            (kept_of self.new.monitor) self.new.bus.memory }
+        ensures orderly { monitor.IsOrderly (kept_of self.new.monitor) }
+        ensures count { self.new.monitor.lines + length self.new.monitor.due.commands
+            ≤ self.old.monitor.lines + length self.old.monitor.due.commands }
         ensures bus { self.new.bus ≡ read_out self.old.bus }
+        ensures buffer { KeepsBuffer self.old.core.entries self.new.core.entries
+            self.old.monitor.grants self.new.monitor.grants }
+        ensures random { self.new.core.random ≡ self.old.core.random }
         ensures rest { self.new ≡ record self.old {
+          core = record self.old.core { entries = self.new.core.entries };
           bus = self.new.bus;
           monitor = record self.old.monitor {
+            grants = self.new.monitor.grants;
             seats = self.new.monitor.seats;
             ready = self.new.monitor.ready;
             queues = self.new.monitor.queues;
+            log = self.new.monitor.log;
+            lines = self.new.monitor.lines;
             owed = self.new.monitor.owed;
+            due = record self.old.monitor.due {
+              commands = self.new.monitor.due.commands;
+            };
           };
         } }
     {
         self.leave_first();
         let runner = runner_of(self.monitor.take_owed());
+        self.monitor
+            .commands(self.bus.memory(), &mut self.core.tlb);
         let passed = read_clock(&mut self.bus);
         self.share(passed, runner);
     }

@@ -94,7 +94,9 @@ impl<L: Lookaside> Parts<L> {
           bus = with_serial self.old.bus
               (all_received self.old.bus.serial (come (kept_of self.old.monitor).state));
           monitor = record self.old.monitor {
-            due = to_come (kept_of self.old.monitor).state;
+            due = record self.old.monitor.due {
+              characters = to_come (kept_of self.old.monitor).state;
+            };
           };
         } }
         ensures lines { All IsOfLine self.new.bus.serial.silo }
@@ -119,7 +121,9 @@ impl<L: Lookaside> Parts<L> {
           bus = bus_at self.old.bus (kept_of self.old.monitor);
           monitor = record self.old.monitor {
             ticked = self.old.monitor.time;
-            due = to_come (kept_of self.old.monitor).state;
+            due = record self.old.monitor.due {
+              characters = to_come (kept_of self.old.monitor).state;
+            };
           };
         } }
         ensures lines { All IsOfLine self.new.bus.serial.silo }

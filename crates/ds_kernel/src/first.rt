@@ -2,6 +2,7 @@
 ghost use Rattle.std.specs.Prelude.{◌≡◌, ◌≤◌, length, IfOk};
 ghost use Rattle.ds_tlb.specs.Entries.{empty_entries};
 ghost use Rattle.ds_policy.specs.PolicyParts.{sources_of};
+ghost use Rattle.ds_policy.specs.InputFacts.{AreGoodCommands};
 ghost use Rattle.ds_pagemap.specs.First.{first_state};
 ghost use Rattle.ds_refinement.specs.Stands.{Stands};
 ghost use Rattle.ds_refinement.specs.First.{first_system, first_core, first_bus, IsFirst};
@@ -101,6 +102,7 @@ impl<L: Lookaside> Parts<L> {
         tlb: L,
     ) -> Result<Parts<L>, OutOfMemory>
         requires slots { L.SLOTS ≡ 64 }
+        requires commands { AreGoodCommands (length policy.now.pages) events.commands }
         requires images { length images.now ≡ length (sources_of policy.now.pages) }
         requires empty { L.entries tlb ≡ empty_entries L.SLOTS }
         ensures first { IfOk result (λ p. IsFirst policy.now images.now events

@@ -1,12 +1,13 @@
 //! How a process leaves the processor for its seat, and how the next one comes on the processor.
-ghost use Rattle.std.specs.Prelude.{◌≡◌, ℕ, ◌<◌, ◌≤◌, length, slice_index, Some, All, []};
+ghost use Rattle.std.specs.Prelude.{◌≡◌, ℕ, ◌<◌, ◌≤◌, length, slice_index, Some, All};
 ghost use Rattle.ds_tlb.specs.Entries.{empty_entries};
 ghost use Rattle.ds_pagemap.specs.Machine.{State, process_of, first};
-ghost use Rattle.ds_pagemap_laws.specs.Lawful.{AreRegisters, IsReady, IsLawful};
+ghost use Rattle.ds_pagemap_laws.specs.Lawful.{AreRegisters, IsReady};
 ghost use Rattle.ds_grants.specs.Buffer.{BufferHolds};
-ghost use Rattle.ds_refinement.specs.Held.{space_of, whole};
+ghost use Rattle.ds_refinement.specs.Held.{space_of};
 ghost use Rattle.ds_refinement.specs.Services.{resume_address, seated, EntersBy};
 ghost use Rattle.ds_monitor.specs.Kept.{kept_of};
+ghost use Rattle.ds_monitor.specs.Orderly as monitor;
 ghost use Rattle.ds_kernel.specs.Seats.{on_processor};
 
 use crate::parts::Parts;
@@ -67,8 +68,8 @@ impl<L: Lookaside> Parts<L> {
         ensures kept { kept_of self.new.monitor ≡ seated self.old.core (kept_of self.old.monitor) }
         ensures as_many { length self.new.monitor.seats.items
             ≡ length self.old.monitor.seats.items }
-        ensures lawful { IsLawful (whole (kept_of self.old.monitor) [] [])
-            → IsLawful (whole (kept_of self.new.monitor) [] []) }
+        ensures orderly { monitor.IsOrderly (kept_of self.old.monitor)
+            → monitor.IsOrderly (kept_of self.new.monitor) }
         ensures rest { self.new ≡ record self.old {
           monitor = record self.old.monitor { seats = self.new.monitor.seats };
         } }

@@ -4,7 +4,8 @@ ghost use Rattle.ds_cp0.specs.System.{is_user};
 ghost use Rattle.ds_pagemap.specs.Run.{is_over};
 ghost use Rattle.ds_refinement.specs.Services.{with_failure, with_one_spent};
 ghost use Rattle.ds_monitor.specs.Kept.{kept_of};
-ghost use Rattle.ds_monitor.specs.Room.{HasRoom};
+ghost use Rattle.ds_monitor.specs.Coming.{next_due};
+ghost use Rattle.ds_monitor.specs.Room.{HasRoom, HasTurnRoom};
 ghost use Rattle.ds_kernel.specs.Parts.{held};
 ghost use Rattle.ds_kernel.specs.Good.{IsGood};
 ghost use Rattle.ds_kernel.specs.Ended.{Does};
@@ -19,10 +20,11 @@ use ds_tlb::Lookaside;
 const MOST_SPENT: u32 = 64;
 
 impl<L: Lookaside> Parts<L> {
-    /// Makes room for what one unit may write, if it can.
+    /// Makes room for what one unit and the commands that are due behind it may write, if it can.
     #[inline(never)]
     pub(crate) fn reserve(&mut self) -> bool
-        ensures room { result ≡ true → HasRoom 1 self.new.monitor }
+        requires early { self.old.monitor.time < 2 ^ 62 }
+        ensures room { result ≡ true → HasTurnRoom self.new.monitor }
         ensures held { held self.new ≡ held self.old }
         ensures told { self.new.has_room ≡ result }
         ensures rest { self.new ≡ record self.old {
@@ -33,20 +35,27 @@ impl<L: Lookaside> Parts<L> {
           has_room = self.new.has_room;
         } }
     {
-        self.has_room = self.monitor.reserve(1);
+        let commands = self.monitor.due.commands_by(self.monitor.time + 2);
+        self.has_room = self.monitor.reserve(1 + commands);
         self.has_room
     }
 
-    /// Whether there is room for what one unit may write; it is made where there is none.
+    /// Whether there is room for what one unit and the commands that are due behind it may write;
+    /// it is made where there is none, or where commands may be due.
     #[inline(always)]
     pub(crate) fn make_room(&mut self) -> bool
+        requires early { self.old.monitor.time < 2 ^ 62 }
         requires roomy { self.old.has_room ≡ true → HasRoom 1 self.old.monitor }
-        ensures room { result ≡ true → HasRoom 1 self.new.monitor }
+        requires next { self.old.monitor.quiet_until ≡ next_due (kept_of self.old.monitor) }
+        ensures room { result ≡ true → HasTurnRoom self.new.monitor }
         ensures held { held self.new ≡ held self.old }
         ensures told { self.new.has_room ≡ result }
         ensures next { self.new.monitor.quiet_until ≡ self.old.monitor.quiet_until }
     {
-        self.has_room || self.reserve()
+        if self.has_room && self.monitor.time + 2 < self.monitor.quiet_until {
+            return true;
+        }
+        self.reserve()
     }
 
     /// Counts the instruction that comes next; where it begins a unit, there is room for the unit,
@@ -57,8 +66,8 @@ impl<L: Lookaside> Parts<L> {
         requires working { self.old.failed ≡ false }
         ensures ok { OnOk result (held self.new ≡ with_one_spent (held self.old)) }
         ensures few { OnOk result (self.old.spent < 64) }
-        ensures room { OnOk result (HasRoom 1 self.new.monitor) }
-        ensures still { OnErr result (0 < self.old.spent → HasRoom 1 self.new.monitor) }
+        ensures room { OnOk result (HasTurnRoom self.new.monitor) }
+        ensures still { OnErr result (0 < self.old.spent → HasTurnRoom self.new.monitor) }
         ensures roomy { self.new.has_room ≡ true → HasRoom 1 self.new.monitor }
         ensures halts { IfErr result (λ halt. Halts halt (held self.old)) }
         ensures marked { OnErr result (held self.new ≡ with_failure (held self.old)) }

@@ -12,6 +12,8 @@ ghost use Rattle.ds_refinement.specs.Stands.{ends_in_stop, ends_in_call};
 ghost use Rattle.ds_refinement.specs.Services.{EntersBy, Serves};
 ghost use Rattle.ds_refinement.specs.Told.{own_in};
 ghost use Rattle.ds_monitor.specs.Kept.{kept_of};
+ghost use Rattle.ds_monitor.specs.Ended.{IsAlive};
+ghost use Rattle.ds_monitor.specs.Orderly as monitor;
 ghost use Rattle.ds_monitor.specs.Room.{HasRoom};
 ghost use Rattle.ds_monitor.specs.Sending.{bus_behind};
 ghost use Rattle.ds_kernel.specs.Good.{IsBusy};
@@ -38,7 +40,8 @@ impl<L: Lookaside> Parts<L> {
         ensures early { self.now.monitor.time < 1000000000 }
         ensures count { self.now.monitor.lines < 2 ^ 63 }
         ensures room { HasRoom 1 self.now.monitor }
-        ensures lawful { IsLawful (whole (kept_of self.now.monitor) [] []) }
+        ensures orderly { monitor.IsOrderly (kept_of self.now.monitor) }
+        ensures alive { IsAlive (kept_of self.now.monitor).state process }
     {
         let _spent = self.spent;
     }
@@ -109,7 +112,8 @@ impl<L: Lookaside> Parts<L> {
         requires within { process ≤ length self.old.monitor.seats.items }
         requires early { self.old.monitor.time < 1000000000 }
         requires room { HasRoom 1 self.old.monitor }
-        requires lawful { IsLawful (whole (kept_of self.old.monitor) [] []) }
+        requires orderly { monitor.IsOrderly (kept_of self.old.monitor) }
+        requires alive { IsAlive (kept_of self.old.monitor).state process }
         requires on { self.old.bus.serial.master_scan ≡ true }
         ensures serves { Serves (ends_in_call process unit)
             (kept_of self.old.monitor) self.old.bus.memory
@@ -117,6 +121,7 @@ impl<L: Lookaside> Parts<L> {
         ensures bus { self.new.bus ≡ bus_behind
             (call_of (process_of (kept_of self.old.monitor).state process).registers.general)
             (process_of (kept_of self.old.monitor).state process).line self.old.bus }
+        ensures orderly { monitor.IsOrderly (kept_of self.new.monitor) }
         ensures memory { self.new.bus.memory ≡ self.old.bus.memory }
         ensures buffer { KeepsBuffer self.old.core.entries self.new.core.entries
             self.old.monitor.grants self.new.monitor.grants }

@@ -7,6 +7,7 @@ use Rattle.ds_policy.specs.Value.{PolicyValue, InputValue}
 use Rattle.ds_policy.specs.declared.command.Character.{Character}
 use Rattle.ds_policy.specs.declared.command.TimedCommand.{TimedCommand}
 use Rattle.ds_policy.specs.PolicyFacts.{IsGoodProcess}
+use Rattle.ds_policy.specs.InputFacts.{AreGoodCommands}
 use Rattle.ds_policy.specs.declared.policy.PolicyProcess.{PolicyProcess}
 use Rattle.ds_policy.specs.Pages.{Pages}
 use Rattle.ds_procs.specs.Queue.{without}
@@ -76,15 +77,13 @@ beginning processes ready queues consoles log rate commands characters grants = 
   ticked = 0;
 }
 
-pub begins : (policy : PolicyValue) (images : List (List ℕ)) (input : InputValue) (processes : List Process) (ready : List ℕ) (queues consoles : List (List ℕ)) (log : List ℕ) (rate : ℕ) (characters : List Character) (grants : GrantsState)
+pub begins : (policy : PolicyValue) (images : List (List ℕ)) (input : InputValue) (processes : List Process) (ready : List ℕ) (queues consoles : List (List ℕ)) (log : List ℕ) (rate : ℕ) (commands : List TimedCommand) (characters : List Character) (grants : GrantsState)
     → processes ≡ map first_process policy.processes → ready ≡ numbers (length policy.processes) 1 → queues ≡ replicate 4 [] → consoles ≡ [] ∷ [] ∷ [] ∷ [] ∷ []
-    → log ≡ [] → rate ≡ policy.rate → characters ≡ input.characters → grants ≡ first_grants policy → input.commands ≡ [] → beginning processes ready queues consoles log rate [] characters grants ≡ first_kept policy images input
-begins policy images input processes ready queues consoles log rate characters grants a b c d e f h g none =
-    let seats : Kept = beginning (map first_process policy.processes) (numbers (length policy.processes) 1) (replicate 4 []) (replicate 4 []) [] policy.rate [] input.characters (first_grants policy) in
-    let all : beginning processes ready queues consoles log rate [] characters grants ≡ seats = rw (a, b, c, d, e, f, h, g) refl in
-    all
-    ∙ (ap (λ (ps : List Process). beginning ps (numbers (length policy.processes) 1) (replicate 4 []) (replicate 4 []) [] policy.rate [] input.characters (first_grants policy)) (sym (settled_first policy.processes))
-    ∙ ap (λ (cs : List TimedCommand). beginning (map settled_process (map first_process policy.processes)) (numbers (length policy.processes) 1) (replicate 4 []) (replicate 4 []) [] policy.rate cs input.characters (first_grants policy)) (sym none))
+    → log ≡ [] → rate ≡ policy.rate → commands ≡ input.commands → characters ≡ input.characters → grants ≡ first_grants policy → beginning processes ready queues consoles log rate commands characters grants ≡ first_kept policy images input
+begins policy images input processes ready queues consoles log rate commands characters grants a b c d e f i h g =
+    let seats : Kept = beginning (map first_process policy.processes) (numbers (length policy.processes) 1) (replicate 4 []) (replicate 4 []) [] policy.rate input.commands input.characters (first_grants policy) in
+    let all : beginning processes ready queues consoles log rate commands characters grants ≡ seats = rw (a, b, c, d, e, f, i, h, g) refl in
+    all ∙ ap (λ (ps : List Process). beginning ps (numbers (length policy.processes) 1) (replicate 4 []) (replicate 4 []) [] policy.rate input.commands input.characters (first_grants policy)) (sym (settled_first policy.processes))
 
 -- nobody is on the processor, and all is kept of the first state
 pub first_is_kept : (policy : PolicyValue) (images : List (List ℕ)) (input : InputValue) (memory : List ℕ) → pages_in (first_grants policy) memory ≡ first_pages policy images → IsKept (first_kept policy images input) memory (first_state policy images input)
@@ -96,8 +95,8 @@ first_is_kept policy images input memory pages = record {
 }
 
 -- the first state is one that runs have
-pub first_orderly : (policy : PolicyValue) (images : List (List ℕ)) (input : InputValue) → length policy.processes ≤ 100 → All IsGoodProcess policy.processes → IsOrderly (first_kept policy images input)
-first_orderly policy images input few good =
+pub first_orderly : (policy : PolicyValue) (images : List (List ℕ)) (input : InputValue) → length policy.processes ≤ 100 → All IsGoodProcess policy.processes → AreGoodCommands (length policy.pages) input.commands → IsOrderly (first_kept policy images input)
+first_orderly policy images input few good commands =
     let l = first_lawful policy images input few good in
     let k = first_kept policy images input in
     let lawful : IsLawful (record (whole k [] []) { processes = map first_process policy.processes }) = record {
@@ -107,4 +106,5 @@ first_orderly policy images input few good =
     record {
       lawful = subst (λ (ps : List Process). IsLawful (record (whole k [] []) { processes = ps })) (sym (settled_first policy.processes)) lawful;
       ended = ap (map (λ (q : Process). has_ended q.standing)) (settled_first policy.processes) ∙ none_has_ended policy.processes;
+      commands = commands;
     }

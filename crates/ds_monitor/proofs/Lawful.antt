@@ -9,17 +9,23 @@ use Rattle.ds_procs.specs.declared.process.Standing.TheVariants.{Ready, Waiting,
 use Rattle.ds_procs.specs.declared.call.Call.{Call}
 use Rattle.ds_procs.specs.declared.call.Call.TheVariants as call
 use Rattle.ds_procs.specs.Calls.{call_of}
+use Rattle.ds_policy.specs.declared.command.TimedCommand.{TimedCommand}
+use Rattle.ds_policy.specs.declared.command.Command.{Command}
+use Rattle.ds_policy.specs.InputFacts.{IsGoodCommand, AreGoodCommands}
+use Rattle.std.proofs.lemmas.List.Elements.{All-tail}
+use Rattle.ds_grants.specs.State.{page_state}
 use Rattle.ds_policy.specs.Grants.{PageState, give, take, drop_own}
 use Rattle.ds_log.specs.declared.line.Line.{Line}
 use Rattle.ds_pagemap.specs.declared.turn.Turn.{Turn}
 use Rattle.ds_pagemap.specs.Machine.{State, Process, no_process, process_of, with_process, lives, has_ended, made_unready}
-use Rattle.ds_pagemap.specs.Calls.{answered, queue_of, after_get, after_wait, or_number, or_denied, served}
+use Rattle.ds_pagemap.specs.Calls.{answered, queue_of, after_get, after_wait, or_number, or_denied, after_command, served}
 use Rattle.ds_pagemap.specs.Unit.{Stop, at_pc, settle, parked, after_call}
 use Rattle.ds_pagemap.proofs.Processes.{process_of-with_process}
 use Rattle.ds_pagemap_laws.specs.Lawful.{AreRegisters, IsLawful}
-use Rattle.ds_pagemap_laws.proofs.Formed.{put_formed}
+use Rattle.ds_pagemap_laws.proofs.Formed.{put_formed, formed_with}
 use Rattle.ds_pagemap_laws.proofs.Asleep.{put_asleep}
 use Rattle.ds_pagemap_laws.proofs.LawfulUnits.{parked_lawful, after_call_lawful}
+use Rattle.ds_pagemap_laws.proofs.LawfulCalls.{command_lawful}
 use Rattle.ds_refinement.specs.Held.{Kept, whole}
 use Rattle.ds_refinement.specs.Stands.{ends_in_stop, ends_in_call}
 use Rattle.ds_refinement.specs.Services.{Serves}
@@ -60,7 +66,7 @@ lawful_behind f a b x y s keeps it = lawful_anywhere b y [] ([] ++ s.lines) [] (
 marks_same : (m : State) (p : ℕ) (q : Process) → has_ended q.standing ≡ has_ended (process_of m p).standing → marks_of (with_process m p q) ≡ marks_of m
 marks_same m p q same = map-set_same (λ (x : Process). has_ended x.standing) m.processes (p - 1) q no_process same
 
-marks_put : (m : State) (p : ℕ) (q : Process) → IsAlive m p → has_ended q.standing ≡ false → marks_of (with_process m p q) ≡ marks_of m
+pub marks_put : (m : State) (p : ℕ) (q : Process) → IsAlive m p → has_ended q.standing ≡ false → marks_of (with_process m p q) ≡ marks_of m
 marks_put m p q alive same = marks_same m p q (same ∙ sym alive)
 
 alive_put : (m : State) (p : ℕ) (q : Process) → 0 < p → p ≤ length m.processes → has_ended q.standing ≡ false → IsAlive (with_process m p q) p
@@ -125,25 +131,51 @@ marks_stopped p unit pc stop m above within alive =
 
 -- What is kept behind the ends of units.
 
+-- commands are good while as many pages are named
+pub good_as : (n k : ℕ) (cs ds : List TimedCommand) → n ≡ k → cs ≡ ds → AreGoodCommands k ds → AreGoodCommands n cs
+good_as n k cs ds named commands good = subst (λ (x : ℕ). AreGoodCommands x cs) (sym named) (subst (λ (xs : List TimedCommand). AreGoodCommands k xs) (sym commands) good)
+
 -- a call leaves it orderly
 pub call_orderly : (p pc : ℕ) (a b : Kept) (x y : List ℕ) → 0 < p → p ≤ length a.state.processes → IsAlive a.state p → Serves (ends_in_call p pc) a x b y
-    → b.grants.ended ≡ ended_behind (asked_at p pc (whole a x [])) p a.grants.ended → IsOrderly a → IsOrderly b
-call_orderly p pc a b x y above within alive s ended it =
+    → b.grants.ended ≡ ended_behind (asked_at p pc (whole a x [])) p a.grants.ended → b.grants.named ≡ a.grants.named → b.state.commands ≡ a.state.commands → IsOrderly a → IsOrderly b
+call_orderly p pc a b x y above within alive s ended named commands it =
     let m = whole a x [] in
     record {
       lawful = lawful_behind (ends_in_call p pc) a b x y s (λ l. lawful_whenever (after_call m p pc) (after_call m p pc).time (Some (record { began = m.time; runner = Some p })) (after_call_lawful m p pc above within l)) it.lawful;
       ended = sym (ap (λ (n : State). marks_of n) (s.state [])) ∙ (marks_called p pc m above within alive ∙ (ap (ended_behind (asked_at p pc m) p) it.ended ∙ sym ended));
+      commands = good_as b.grants.named a.grants.named b.state.commands a.state.commands named commands it.commands;
     }
 
 -- a stop leaves it orderly
 pub stop_orderly : (p unit pc : ℕ) (stop : Stop) (a b : Kept) (x y : List ℕ) → 0 < p → p ≤ length a.state.processes → IsAlive a.state p → Serves (ends_in_stop p unit pc stop) a x b y
-    → b.grants.ended ≡ a.grants.ended → IsOrderly a → IsOrderly b
-stop_orderly p unit pc stop a b x y above within alive s ended it =
+    → b.grants.ended ≡ a.grants.ended → b.grants.named ≡ a.grants.named → b.state.commands ≡ a.state.commands → IsOrderly a → IsOrderly b
+stop_orderly p unit pc stop a b x y above within alive s ended named commands it =
     let m = whole a x [] in
     record {
       lawful = lawful_behind (ends_in_stop p unit pc stop) a b x y s (λ l. lawful_whenever (parked m p unit pc stop) (parked m p unit pc stop).time (Some (record { began = m.time; runner = Some p })) (parked_lawful m p unit pc stop above l)) it.lawful;
       ended = sym (ap (λ (n : State). marks_of n) (s.state [])) ∙ (marks_stopped p unit pc stop m above within alive ∙ (it.ended ∙ sym ended));
+      commands = good_as b.grants.named a.grants.named b.state.commands a.state.commands named commands it.commands;
     }
+
+-- a command leaves it orderly
+pub command_orderly : (n : ℕ) (c : Command) (a b : Kept) (x y : List ℕ) → Serves (λ (m : State). after_command m n c) a x b y
+    → marks_of b.state ≡ b.grants.ended → b.grants.named ≡ a.grants.named → b.state.commands ≡ a.state.commands → IsOrderly a → IsOrderly b
+command_orderly n c a b x y s ended named commands it = record {
+  lawful = lawful_behind (λ (m : State). after_command m n c) a b x y s (λ l. command_lawful (whole a x []) n c l) it.lawful;
+  ended = ended;
+  commands = good_as b.grants.named a.grants.named b.state.commands a.state.commands named commands it.commands;
+}
+
+-- and so does one that is taken out of those to come
+pub taken_orderly : (k : Kept) (c : TimedCommand) (rest : List TimedCommand) → k.state.commands ≡ c ∷ rest → IsOrderly k → IsOrderly (record k { state = record k.state { commands = rest } })
+taken_orderly k c rest is it = record {
+  lawful = record {
+    formed = formed_with (whole k [] []) (page_state k.grants []) k.state.queues k.state.consoles [] k.state.time rest k.state.characters k.state.owed refl refl refl it.lawful.formed;
+    asleep = it.lawful.asleep;
+  };
+  ended = it.ended;
+  commands = All-tail (λ (x : TimedCommand). IsGoodCommand k.grants.named x.command) c rest (subst (λ (cs : List TimedCommand). AreGoodCommands k.grants.named cs) is it.commands);
+}
 
 -- What is kept where the processor's registers come to a seat, or a turn ends.
 
@@ -159,8 +191,9 @@ seat_orderly k p pc r good it =
         asleep = put_asleep m p q refl it.lawful.asleep;
       };
       ended = marks_same k.state p q refl ∙ it.ended;
+      commands = it.commands;
     }
 
 -- a turn that is done
 pub turn_orderly : (k : Kept) (time : ℕ) (owed : Option Turn) → IsOrderly k → IsOrderly (record k { state = record k.state { time = time; owed = owed } })
-turn_orderly k time owed it = record { lawful = lawful_whenever (whole k [] []) time owed it.lawful; ended = it.ended }
+turn_orderly k time owed it = record { lawful = lawful_whenever (whole k [] []) time owed it.lawful; ended = it.ended; commands = it.commands }

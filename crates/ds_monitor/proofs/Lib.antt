@@ -7,3 +7,5 @@ pub mod Beginning
 pub mod Lawful
 pub mod Waking
 pub mod Coming
+pub mod Commanding
+pub mod Living

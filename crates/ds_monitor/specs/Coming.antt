@@ -1,21 +1,26 @@
 -- When a boundary next has something to do.
 use Rattle.std.specs.Prelude.{ℕ, ◌+◌, ◌*◌, ◌/◌, ◌^◌, ◌==◌, if◌then◌else◌, min, List, [], ◌∷◌}
-use Rattle.ds_policy.specs.declared.command.Character.{Character}
+use Rattle.ds_policy.specs.InputFacts.{has_time, comes_at}
+use Rattle.ds_policy.specs.Value.{InputValue}
 use Rattle.ds_refinement.specs.Held.{Kept}
 
 -- a time to which no run comes
 abbrev pub never : ℕ
 never = 2 ^ 63
 
--- when the first of the characters comes
-abbrev pub first_time : List Character → ℕ
-first_time [] = never
-first_time (c ∷ rest) = c.time
+-- when the first of these comes
+abbrev pub first_time : {X : Type 0} → (X → ℕ) → List X → ℕ
+first_time time [] = never
+first_time time (x ∷ rest) = time x
+
+-- when the first event of an input comes
+abbrev pub first_event : InputValue → ℕ
+first_event i = min (first_time has_time i.commands) (first_time comes_at i.characters)
 
 -- when the period of a rate ends in which a time lies
 abbrev pub period_end : ℕ → ℕ → ℕ
 period_end rate time = if rate == 0 then never else (time / 2 ^ (rate + 2) + 1) * 2 ^ (rate + 2)
 
--- when a character comes, or a period ends since the clock was ticked
+-- when an event comes, or a period ends since the clock was ticked
 abbrev pub next_due : Kept → ℕ
-next_due k = min (first_time k.state.characters) (period_end k.state.rate k.ticked)
+next_due k = min (first_event (record { commands = k.state.commands; characters = k.state.characters })) (period_end k.state.rate k.ticked)

@@ -5,7 +5,7 @@ use Rattle.ds_refinement.specs.Held.{Kept, no_memory}
 use Rattle.ds_monitor.specs.Consoles.{texts_of}
 use Rattle.ds_monitor.specs.declared.monitor.Monitor.{Monitor}
 
--- what a monitor keeps; no command is to come
+-- what a monitor keeps
 abbrev pub kept_of : Monitor → Kept
 kept_of m = record {
   state = record {
@@ -17,8 +17,8 @@ kept_of m = record {
     consoles = texts_of m.consoles;
     log = [];
     time = m.time;
-    commands = [];
-    characters = m.due;
+    commands = m.due.commands;
+    characters = m.due.characters;
     owed = m.owed;
   };
   grants = m.grants;

@@ -1,6 +1,7 @@
 pub mod Consoles
 pub mod Kept
 pub mod Coming
+pub mod Commands
 pub mod Blind
 pub mod Room
 pub mod Asked

@@ -1,53 +1,99 @@
 //! What is still to come of the input.
-ghost use Rattle.std.specs.Prelude.{◌≡◌, ◌∷◌, ◌<◌, ◌≤◌, IfSome, IsNone, All};
+ghost use Rattle.std.specs.Prelude.{◌≡◌, ◌∷◌, ◌<◌, ◌≤◌, IfSome, IsNone, All, length};
 ghost use Rattle.std.specs.List.Sorted.{IsNonDecreasingBy};
-ghost use Rattle.ds_policy.specs.InputFacts.{comes_at};
-ghost use Rattle.ds_monitor.specs.Coming.{first_time};
+ghost use Rattle.ds_policy.specs.InputFacts.{has_time, comes_at};
+ghost use Rattle.ds_monitor.specs.Coming.{first_event};
+ghost use Rattle.ds_monitor.specs.Commands.{commands_by};
 
-use ds_policy::{Character, Events};
+use ds_policy::{Character, Events, TimedCommand};
 use std::marker::Model;
 
 /// A time to which no run comes.
 pub(crate) const NEVER: u64 = 1 << 63;
 
-/// The characters of an input that have not come in yet, in their order.
+/// What has not come in yet of an input: its commands and its characters, each in their order.
 #[derive(Drop)]
 pub struct Due {
     events: Events,
+    // How many of its commands were taken.
+    taken: usize,
     // How many of its characters have come in.
     come: usize,
 }
 
 impl Model for Due {
-    ghost use Rattle.std.specs.Prelude.{List, drop};
-    ghost use Rattle.ds_policy.specs.declared.command.Character.{Character};
+    ghost use Rattle.std.specs.Prelude.{◌≤◌, drop, length};
+    ghost use Rattle.ds_policy.specs.Value.{InputValue};
 
-    ghost Value = { List Character };
+    ghost Value = { InputValue };
 
-    ghost view = { λ d. drop d.come d.events.characters };
+    ghost view = { λ d. record {
+      commands = drop d.taken d.events.commands;
+      characters = drop d.come d.events.characters;
+    } };
+
+    ghost invariant = { λ d. d.taken ≤ length d.events.commands };
+}
+
+/// How many of these commands are due at a time, from the first on.
+fn count_due(commands: &[TimedCommand], now: u64) -> usize
+    ensures exact { result ≡ commands_by now commands.now }
+    ensures few { result ≤ length commands.now }
+{
+    commands
+        .iter()
+        .take_while(|command| command.time <= now)
+        .count()
 }
 
 impl Due {
-    /// All characters of an input.
+    /// All of an input.
     pub fn new(events: Events) -> Due
-        ensures { result ≡ events.characters }
+        ensures { result ≡ events }
     {
-        Due { events, come: 0 }
+        Due {
+            events,
+            taken: 0,
+            come: 0,
+        }
     }
 
-    /// They come in order, each on one of four lines.
+    /// Commands and characters come in order, each character on one of four lines.
     pub fn look_at_order(&self)
-        ensures order { IsNonDecreasingBy comes_at self.now }
-        ensures lines { All (λ c. c.line < 4) self.now }
+        ensures commands { IsNonDecreasingBy has_time self.now.commands }
+        ensures order { IsNonDecreasingBy comes_at self.now.characters }
+        ensures lines { All (λ c. c.line < 4) self.now.characters }
     {
+        let _orders = self.events.commands();
         let _all = self.events.characters();
     }
 
-    /// The first, if it is due at a time, comes in.
-    pub fn take(&mut self, now: u64) -> Option<Character>
-        ensures some { IfSome result (λ c. (self.old ≡ c ∷ self.new) × (c.time ≤ now)) }
+    /// The first command, if it is due at a time, is taken.
+    pub fn take_command(&mut self, now: u64) -> Option<TimedCommand>
+        ensures some { IfSome result
+            (λ c. (self.old.commands ≡ c ∷ self.new.commands) × (c.time ≤ now)) }
+        ensures few { IfSome result (λ c. c.number ≤ 4096) }
         ensures none { IsNone result → self.new ≡ self.old }
-        ensures later { IsNone result → All (λ c. now < c.time) self.old }
+        ensures later { IsNone result → All (λ c. now < has_time c) self.old.commands }
+        ensures rest { self.new ≡ record self.old { commands = self.new.commands } }
+    {
+        match self.events.commands().get(self.taken) {
+            Some(command) if command.time <= now => {
+                let command = *command;
+                self.taken += 1;
+                Some(command)
+            }
+            _ => None,
+        }
+    }
+
+    /// The first character, if it is due at a time, comes in.
+    pub fn take(&mut self, now: u64) -> Option<Character>
+        ensures some { IfSome result
+            (λ c. (self.old.characters ≡ c ∷ self.new.characters) × (c.time ≤ now)) }
+        ensures none { IsNone result → self.new ≡ self.old }
+        ensures later { IsNone result → All (λ c. now < comes_at c) self.old.characters }
+        ensures rest { self.new ≡ record self.old { characters = self.new.characters } }
     {
         match self.events.characters().get(self.come) {
             Some(character) if character.time <= now => {
@@ -59,13 +105,26 @@ impl Due {
         }
     }
 
-    /// When the first comes, or never.
+    /// When the first command or character comes, or never.
     pub fn next_time(&self) -> u64
-        ensures { result ≡ first_time self.now }
+        ensures { result ≡ first_event self.now }
     {
-        match self.events.characters().get(self.come) {
+        let command = match self.events.commands().get(self.taken) {
+            Some(command) => command.time,
+            None => NEVER,
+        };
+        let character = match self.events.characters().get(self.come) {
             Some(character) => character.time,
             None => NEVER,
-        }
+        };
+        command.min(character)
+    }
+
+    /// How many commands are due at a time.
+    pub fn commands_by(&self, now: u64) -> usize
+        ensures exact { result ≡ commands_by now self.now.commands }
+        ensures few { result ≤ 4096 }
+    {
+        count_due(&self.events.commands()[self.taken..], now)
     }
 }

@@ -1,6 +1,7 @@
 //! What is kept at the beginning of a run.
 ghost use Rattle.std.specs.Prelude.{◌≡◌, ◌≤◌, length, map, replicate, [], IfOk, OnErr, ℕ, ◌<◌};
 ghost use Rattle.ds_policy.specs.PolicyParts.{sources_of};
+ghost use Rattle.ds_policy.specs.InputFacts.{AreGoodCommands};
 ghost use Rattle.ds_pagemap.specs.First.{first_process, first_state, numbers};
 ghost use Rattle.ds_refinement.specs.First.{first_kept};
 ghost use Rattle.ds_refinement.specs.Stands.{IsKept};
@@ -73,20 +74,22 @@ impl Monitor {
         events: Events,
         memory: &mut Memory,
     ) -> Result<Monitor, OutOfMemory>
+        requires commands { AreGoodCommands (length policy.now.pages) events.commands }
         requires images { length images.now ≡ length (sources_of policy.now.pages) }
         ensures first { IfOk result (λ m. kept_of m ≡ first_kept policy.now images.now events) }
         ensures kept { IfOk result (λ m. IsKept (kept_of m) memory.new
             (first_state policy.now images.now events)) }
         ensures orderly { IfOk result (λ m. IsOrderly (kept_of m)) }
         ensures next { IfOk result (λ m. m.quiet_until ≡ next_due (kept_of m)) }
+        ensures few { IfOk result (λ m. length m.due.commands ≤ 4096) }
         ensures elsewhere { (f : ℕ) → f < 402 → frame_of memory.new f ≡ frame_of memory.old f }
         ensures refused { OnErr result (memory.new ≡ memory.old) }
     {
         let seats = seats_of(alloc, policy.processes())?;
         let queues = empty_queues(alloc)?;
         let grants = Grants::new(alloc, policy, images, memory)?;
-        // No command is served yet, so none is kept.
-        prove!(events.commands().is_empty());
+        // The commands are of this policy.
+        let _orders = events.commands();
         let mut monitor = Monitor {
             grants,
             seats,

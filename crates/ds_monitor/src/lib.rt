@@ -5,6 +5,7 @@
 
 mod boundary;
 mod calls;
+mod commands;
 mod consoles;
 mod due;
 mod first;

@@ -3,6 +3,7 @@ ghost use Rattle.std.specs.Prelude.{◌≡◌, ℕ, ◌+◌, ◌-◌, ◌<◌, �
 ghost use Rattle.ds_procs.specs.Calls.{call_of};
 ghost use Rattle.ds_log.specs.Length.{IsShortRule};
 ghost use Rattle.ds_grants.specs.Buffer.{KeepsBuffer};
+ghost use Rattle.ds_grants.specs.State.{IsAsLarge};
 ghost use Rattle.ds_pagemap.specs.Machine.{State, process_of};
 ghost use Rattle.ds_pagemap.specs.Calls.{ended, served};
 ghost use Rattle.ds_refinement.specs.Stands.{ends_in_call, ends_in_stop};
@@ -98,6 +99,7 @@ impl Monitor {
         ensures random { L.random_place tlb.new ≡ L.random_place tlb.old }
         ensures ended { self.new.grants.ended
             ≡ slice_set self.old.grants.ended (process - 1) true }
+        ensures same { IsAsLarge self.old.grants self.new.grants }
         ensures rest { self.new ≡ record self.old {
           grants = self.new.grants;
           seats = self.new.seats;
@@ -129,6 +131,7 @@ impl Monitor {
         ensures random { L.random_place tlb.new ≡ L.random_place tlb.old }
         ensures ended { self.new.grants.ended
             ≡ ended_behind call process self.old.grants.ended }
+        ensures same { IsAsLarge self.old.grants self.new.grants }
         ensures rest { self.new ≡ record self.old {
           grants = self.new.grants;
           seats = self.new.seats;
@@ -186,6 +189,7 @@ impl Monitor {
             (process_of (kept_of self.old).state process).line bus.old }
         ensures buffer { KeepsBuffer (L.entries tlb.old) (L.entries tlb.new)
             self.old.grants self.new.grants }
+        ensures same { IsAsLarge self.old.grants self.new.grants }
         ensures random { L.random_place tlb.new ≡ L.random_place tlb.old }
         ensures rest { self.new ≡ record self.old {
           grants = self.new.grants;

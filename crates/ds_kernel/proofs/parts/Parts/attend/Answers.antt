@@ -1,13 +1,14 @@
-use Rattle.std.proofs.Common.{[], ap, sym, subst, ◌∙◌, arith}
+use Rattle.std.proofs.Common.{◌≡◌, ◌+◌, ◌^◌, ◌<◌, ◌≤◌, [], length, ap, sym, subst, ◌∙◌, arith}
 use Rattle.ds_pagemap_laws.specs.Lawful.{IsLawful}
 use Rattle.ds_refinement.specs.Held.{whole}
 use Rattle.ds_refinement.proofs.Boundaries.{some_turn}
 use Rattle.ds_monitor.specs.declared.monitor.Monitor.{Monitor}
 use Rattle.ds_monitor.specs.Kept.{kept_of}
+use Rattle.ds_monitor.specs.Room.{HasBoundaryRoom}
 use Rattle.ds_kernel.specs.declared.parts.Parts.{Parts}
 use Rattle.ds_kernel.specs.Parts.{held}
 use Rattle.ds_kernel.proofs.Attending.{at_boundary, is_scanned, is_empty}
-use Rattle.ds_kernel.proofs.Served.{none_received, arrived_lawful, has_attended}
+use Rattle.ds_kernel.proofs.Served.{none_received, arrived_orderly, has_attended}
 use Rattle.ds_kernel.proofs.parts.Parts.attend.Goals as goal
 
 pub arrive-requires : goal.arrive-requires
@@ -24,9 +25,22 @@ arrive-requires g c =
       mode = (at_boundary (held old) turn.0 sound turn.1).0;
     }
 
-pub serve_turn-requires-clause-lawful : goal.serve_turn-requires-clause-lawful
-serve_turn-requires-clause-lawful g c =
-    arrived_lawful (kept_of c.args.self.now.monitor) (kept_of c.arrive.new.self.monitor) (ap (λ (p : Parts g.row.L.Denot). kept_of p.monitor) c.arrive.ensures.state) c.requires.good.orderly.lawful
+pub serve_turn-requires : goal.serve_turn-requires
+serve_turn-requires g c =
+    let old = c.args.self.now in
+    let came = c.arrive.new.self in
+    let state = c.arrive.ensures.state in
+    let few : old.monitor.lines + length old.monitor.due.commands ≤ old.monitor.time + 4096 = c.requires.good.orderly.lines in
+    let early : old.monitor.time < 2 ^ 62 = c.requires.early in
+    let time : came.monitor.time ≡ old.monitor.time = ap (λ (p : Parts g.row.L.Denot). p.monitor.time) state in
+    let same : came.monitor.lines + length came.monitor.due.commands ≡ old.monitor.lines + length old.monitor.due.commands = ap (λ (p : Parts g.row.L.Denot). p.monitor.lines + length p.monitor.due.commands) state in
+    record {
+      lines = c.arrive.ensures.lines;
+      orderly = arrived_orderly (kept_of old.monitor) (kept_of came.monitor) (ap (λ (p : Parts g.row.L.Denot). kept_of p.monitor) state) c.requires.good.orderly.kept;
+      early = omega (arith, early, time);
+      count = omega (arith, few, early, same);
+      room = subst (λ (p : Parts g.row.L.Denot). HasBoundaryRoom p.monitor) (sym state) (c.requires.good.owed c.requires.owed);
+    }
 
 pub look_ahead-requires : goal.look_ahead-requires
 look_ahead-requires g c =
@@ -38,7 +52,7 @@ look_ahead-requires g c =
 
 pub end_unit-requires : goal.end_unit-requires
 end_unit-requires g c = record {
-  lawful = subst (λ (m : Monitor). IsLawful (whole (kept_of m) [] [])) (sym c.look_ahead.ensures) c.serve_turn.ensures.lawful;
+  lawful = subst (λ (m : Monitor). IsLawful (whole (kept_of m) [] [])) (sym c.look_ahead.ensures) c.serve_turn.ensures.orderly.lawful;
 }
 
 pub returns : goal.returns
@@ -46,5 +60,5 @@ returns g c =
     let old = c.args.self.now in
     let turn = some_turn old.monitor.owed c.requires.owed in
     has_attended old c.arrive.new.self c.serve_turn.new.self c.end_unit.new.self c.look_ahead.new.self turn.0 c.requires.good.sound turn.1 c.requires.good.orderly.ticked
-    c.requires.high c.requires.low c.look_at_order.ensures.lines c.arrive.ensures.state c.serve_turn.ensures.kept c.serve_turn.ensures.lawful c.serve_turn.ensures.bus c.serve_turn.ensures.rest
+    c.requires.high c.requires.low c.look_at_order.ensures.lines c.arrive.ensures.state c.serve_turn.ensures.serves c.serve_turn.ensures.orderly c.serve_turn.ensures.count c.serve_turn.ensures.bus c.serve_turn.ensures.buffer c.serve_turn.ensures.random c.serve_turn.ensures.rest
     c.look_ahead.ensures c.end_unit.ensures.enters c.end_unit.ensures.buffer c.end_unit.ensures.pages c.end_unit.ensures.random c.end_unit.ensures.rest

@@ -2,7 +2,7 @@ use Rattle.std.proofs.Common.{◌≤◌, ℕ, List, sym, ap, subst, ◌∙◌}
 use Rattle.ds_procs.specs.Calls.{call_of}
 use Rattle.ds_pagemap.specs.Machine.{process_of}
 use Rattle.ds_kernel.specs.declared.parts.Parts.{Parts}
-use Rattle.ds_kernel.proofs.Keeping.{call_lawful}
+use Rattle.ds_kernel.proofs.Keeping.{left_alive}
 use Rattle.ds_kernel.proofs.Finishing.{has_ended, rest_alike, call_rests, comes_in, call_served}
 use Rattle.ds_refinement.specs.Held.{Kept}
 use Rattle.ds_refinement.specs.Stands.{AreResting, ends_in_call}
@@ -11,10 +11,13 @@ use Rattle.ds_monitor.specs.Kept.{kept_of}
 use Rattle.ds_monitor.specs.Sending.{bus_behind}
 use Rattle.ds_kernel.proofs.parts.Parts.call.Goals as goal
 
+pub serve_call-requires-clause-alive : goal.serve_call-requires-clause-alive
+serve_call-requires-clause-alive g c =
+    left_alive c.args.self.now.core (kept_of c.args.self.now.monitor) (kept_of c.leave.new.self.monitor) c.args.process c.leave.ensures.kept c.look_at_unit.ensures.first c.look_at_unit.ensures.above c.look_at_unit.ensures.within c.look_at_unit.ensures.alive
+
 pub end_unit-requires : goal.end_unit-requires
 end_unit-requires g c = record {
-  lawful = call_lawful (kept_of c.leave.new.self.monitor) (kept_of c.serve_call.new.self.monitor) c.args.process c.unit_address-unit.result c.leave.new.self.bus.memory c.serve_call.new.self.bus.memory
-      c.look_at_unit.ensures.above (subst (λ (n : ℕ). c.args.process ≤ n) (sym c.leave.ensures.as_many) c.look_at_unit.ensures.within) c.serve_call.ensures.serves (c.leave.ensures.lawful c.look_at_unit.ensures.lawful);
+  lawful = c.serve_call.ensures.orderly.lawful;
 }
 
 pub returns-clause-ends : goal.returns-clause-ends
@@ -34,7 +37,7 @@ returns-clause-ends g c =
     (call_rests (call_of caller.registers.general) left.bus caller.line k resting) in
     has_ended f old new mid.monitor mid.core.entries p c.requires.busy.good.sound c.look_at_unit.ensures.unowed
     (call_served old left new mid.monitor mid.core.entries p unit c.unit_address-unit.ensures
-    c.look_at_unit.ensures.above (subst (λ (n : ℕ). p ≤ n) (sym c.leave.ensures.as_many) c.look_at_unit.ensures.within) c.leave.ensures.kept c.leave.ensures.rest (c.leave.ensures.lawful c.look_at_unit.ensures.lawful)
+    c.look_at_unit.ensures.above (subst (λ (n : ℕ). p ≤ n) (sym c.leave.ensures.as_many) c.look_at_unit.ensures.within) c.leave.ensures.kept c.leave.ensures.rest c.serve_call.ensures.orderly
     (subst (λ (m : List ℕ). Serves (ends_in_call p unit) (kept_of left.monitor) left.bus.memory (kept_of mid.monitor) m) c.serve_call.ensures.memory c.serve_call.ensures.serves)
     c.serve_call.ensures.buffer (ap (λ (x : Parts g.row.L.Denot). x.monitor) served))
     (comes_in f old left new mid.monitor mid.core.entries p c.leave.ensures.rest c.end_unit.ensures.enters c.end_unit.ensures.buffer c.end_unit.ensures.pages (c.end_unit.ensures.random ∙ c.serve_call.ensures.random)

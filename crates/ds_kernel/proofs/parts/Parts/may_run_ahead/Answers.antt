@@ -1,18 +1,18 @@
 use Rattle.std.proofs.Common.{◌-◌, ℕ, ap, sym, ◌∙◌, arith}
 use Rattle.std.specs.Prelude.{Option, is_some, min}
-use Rattle.ds_kernel.proofs.Ahead.{goes_ahead, goes_one, within_quiet, no_end, none_owed, some_ready}
+use Rattle.ds_kernel.proofs.Ahead.{goes_ahead, goes_two, within_quiet, no_end, none_owed, some_ready}
 use Rattle.ds_kernel.proofs.parts.Parts.may_run_ahead.Goals as goal
 
 pub returns-then-end-self-clause-any : goal.returns-then-end-self-clause-any
 returns-then-end-self-clause-any g c = λ soon goes.
     let m = c.args.self.now.monitor in
-    absurd (no_end m.time c.args.n m.quiet_until c.min-end.result (c.min-end.ensures ∙ ap (λ (q : ℕ). min c.args.n q) c.saturating_sub.ensures) c.if-end-self.true soon (goes_one c.args.self.now c.requires.good goes))
+    absurd (no_end m.time c.args.n m.quiet_until c.min-end.result (c.min-end.ensures ∙ ap (λ (q : ℕ). min c.args.n q) c.saturating_sub.ensures) c.if-end-self.true soon (goes_two c.args.self.now c.requires.good goes))
 
 pub returns-then-is_some-2-clause-ahead : goal.returns-then-is_some-2-clause-ahead
 returns-then-is_some-2-clause-ahead g c =
     let m = c.args.self.now.monitor in
     let later = c.if-end-self.false in
-    goes_ahead c.args.self.now (c.min-end.result - m.time - 1) c.requires.good c.look_at_order.ensures.order
+    goes_ahead c.args.self.now (c.min-end.result - m.time - 1) c.requires.good c.look_at_order.ensures.commands c.look_at_order.ensures.order
     (none_owed m.owed (sym c.is_some.ensures ∙ c.if-is_some.false))
     (some_ready m.ready (sym (c.is_some-then-whole.ensures ∙ ap (λ (o : Option ℕ). is_some o) c.first_ready.ensures) ∙ c.if-is_some-2.true))
     (c.if-whole.true ∙ c.slot_tick.ensures)

@@ -12,8 +12,8 @@ invariant-loop-character g l = record {
   later : to_come (kept_of l.self.monitor).state ≡ to_come (kept_of l.fn.self.monitor).state;
   on : l.self.bus.serial.master_scan ≡ true;
   lines : All IsOfLine l.self.bus.serial.silo;
-  rest : l.self ≡ record l.fn.self { bus = with_serial l.fn.self.bus l.self.bus.serial; monitor = record l.fn.self.monitor { due = l.self.monitor.due } };
+  rest : l.self ≡ record l.fn.self { bus = with_serial l.fn.self.bus l.self.bus.serial; monitor = record l.fn.self.monitor { due = record l.fn.self.monitor.due { characters = l.self.monitor.due.characters } } };
 }
 
 abbrev pub decreases-loop-character : goal.decreases-loop-character
-decreases-loop-character g l = length l.self.monitor.due
+decreases-loop-character g l = length l.self.monitor.due.characters

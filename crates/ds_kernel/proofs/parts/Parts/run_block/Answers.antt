@@ -19,7 +19,7 @@ returns-in-None-clause-good g c =
     let advances = subst (λ (o : Option ExceptionCode). AdvancesTo n o (hardware_of old.core old.bus) (hardware_of mid.core mid.bus)) c.in-None.is c.go_ahead-ahead.ensures.steps in
     let all : n ≡ c.args.limit = c.go_ahead-ahead.ensures.all (ap is_some c.in-None.is) in
     subst IsGood (sym (counted_is old mid c.count.new.self _ _ c.go_ahead-ahead.ensures.rest c.count.ensures))
-    (calm_good c.args.limit n old mid.core mid.bus _ _ c.requires.good c.requires.ahead c.requires.room c.requires.early c.go_ahead-ahead.ensures.words (omega (arith, all)) advances
+    (calm_good c.args.limit n old mid.core mid.bus _ _ c.requires.good c.requires.ahead c.requires.room c.requires.early c.requires.before c.go_ahead-ahead.ensures.words (omega (arith, all)) advances
     (c.go_ahead-ahead.ensures.ticks (ap is_some c.in-None.is)) (ap₂ (λ (x y : ℕ). n + x - y) c.slot_tick-before.ensures c.slot_tick-left.ensures) c.slot_tick-left.ensures)
 
 pub returns-in-None-clause-goes : goal.returns-in-None-clause-goes
@@ -31,7 +31,7 @@ returns-in-None-clause-goes g c = λ end soon.
     let all : n ≡ c.args.limit = c.go_ahead-ahead.ensures.all (ap is_some c.in-None.is) in
     let some : 1 ≤ c.args.limit = c.requires.some in
     subst (λ (p : Parts g.row.L.Denot). GoesOn end (held old) (held p)) (sym (counted_is old mid c.count.new.self _ _ c.go_ahead-ahead.ensures.rest c.count.ensures))
-    (calm_goes c.args.limit n old mid.core mid.bus _ _ c.requires.good c.requires.ahead c.requires.room c.requires.early c.go_ahead-ahead.ensures.words (omega (arith, all)) advances
+    (calm_goes c.args.limit n old mid.core mid.bus _ _ c.requires.good c.requires.ahead c.requires.room c.requires.early c.requires.before c.go_ahead-ahead.ensures.words (omega (arith, all)) advances
     (c.go_ahead-ahead.ensures.ticks (ap is_some c.in-None.is)) (ap₂ (λ (x y : ℕ). n + x - y) c.slot_tick-before.ensures c.slot_tick-left.ensures) c.slot_tick-left.ensures end (omega (arith, all, some)) soon)
 
 pub overflow_sub-ahead-in-Some : goal.overflow_sub-ahead-in-Some
@@ -54,7 +54,7 @@ returns-in-Some-clause-good g c =
     let fewer = subst (λ (o : Option ExceptionCode). IfSome o (λ (code : ExceptionCode). n < c.args.limit)) c.in-Some.is c.go_ahead-ahead.ensures.fewer in
     let left : c.owed_tick-left.result ≡ owed_tick (is_delayed mid.core.system) = c.owed_tick-left.ensures ∙ ap owed_tick c.is_delayed.ensures in
     subst IsGood (sym (counted_is old mid c.count-in-Some.new.self _ _ c.go_ahead-ahead.ensures.rest c.count-in-Some.ensures))
-    (raised_good c.args.limit n old mid.core mid.bus _ _ c.requires.good c.requires.ahead c.requires.room c.requires.early c.go_ahead-ahead.ensures.words c.in-Some.field-0 fewer leads
+    (raised_good c.args.limit n old mid.core mid.bus _ _ c.requires.good c.requires.ahead c.requires.room c.requires.early c.requires.before c.go_ahead-ahead.ensures.words c.in-Some.field-0 fewer leads
     (raised_ticks n c.in-Some.field-0 (hardware_of old.core old.bus) (hardware_of mid.core mid.bus) leads) (ap₂ (λ (x y : ℕ). n + x - y) c.slot_tick-before.ensures left) (ap (λ (x : ℕ). x + 1) left))
 
 pub returns-in-Some-clause-goes : goal.returns-in-Some-clause-goes
@@ -66,5 +66,5 @@ returns-in-Some-clause-goes g c = λ end soon.
     let fewer = subst (λ (o : Option ExceptionCode). IfSome o (λ (code : ExceptionCode). n < c.args.limit)) c.in-Some.is c.go_ahead-ahead.ensures.fewer in
     let left : c.owed_tick-left.result ≡ owed_tick (is_delayed mid.core.system) = c.owed_tick-left.ensures ∙ ap owed_tick c.is_delayed.ensures in
     subst (λ (p : Parts g.row.L.Denot). GoesOn end (held old) (held p)) (sym (counted_is old mid c.count-in-Some.new.self _ _ c.go_ahead-ahead.ensures.rest c.count-in-Some.ensures))
-    (raised_goes c.args.limit n old mid.core mid.bus _ _ c.requires.good c.requires.ahead c.requires.room c.requires.early c.go_ahead-ahead.ensures.words c.in-Some.field-0 fewer leads
+    (raised_goes c.args.limit n old mid.core mid.bus _ _ c.requires.good c.requires.ahead c.requires.room c.requires.early c.requires.before c.go_ahead-ahead.ensures.words c.in-Some.field-0 fewer leads
     (raised_ticks n c.in-Some.field-0 (hardware_of old.core old.bus) (hardware_of mid.core mid.bus) leads) (ap₂ (λ (x y : ℕ). n + x - y) c.slot_tick-before.ensures left) (ap (λ (x : ℕ). x + 1) left) end soon)

@@ -9,6 +9,7 @@ use Rattle.ds_pagemap.specs.Calls.{served}
 use Rattle.ds_refinement.specs.Held.{Kept, whole}
 use Rattle.ds_refinement.specs.Stands.{ends_in_call}
 use Rattle.ds_monitor.specs.Kept.{kept_of, kept_after}
+use Rattle.ds_monitor.specs.declared.monitor.Monitor.{Monitor}
 use Rattle.ds_monitor.proofs.Serving.{serves_then, serves_as}
 use Rattle.ds_procs.specs.declared.call.Call.{Call}
 use Rattle.ds_monitor.specs.Ended.{ended_behind}
@@ -56,7 +57,11 @@ returns-clause-orderly g c = λ it alive.
     ∙ (c.serve.ensures.ended
     ∙ (ap (λ (z : Kept). ended_behind c.asked-call.result p z.grants.ended) c.go_to.ensures.kept
     ∙ ap (λ (z : Call). ended_behind z p old) (asked ∙ settled))) in
-    call_orderly p pc k (kept_of c.end_turn.new.self) x c.serve.new.bus.memory c.requires.above c.requires.within alive (returns-clause-serves g c) ended it
+    let named : (kept_of c.end_turn.new.self).grants.named ≡ k.grants.named =
+    ap (λ (z : Kept). z.grants.named) c.end_turn.ensures.kept ∙ (c.serve.ensures.same.named ∙ ap (λ (z : Kept). z.grants.named) c.go_to.ensures.kept) in
+    let commands : (kept_of c.end_turn.new.self).state.commands ≡ k.state.commands =
+    ap (λ (z : Kept). z.state.commands) c.end_turn.ensures.kept ∙ (ap (λ (z : Monitor). z.due.commands) c.serve.ensures.rest ∙ ap (λ (z : Kept). z.state.commands) c.go_to.ensures.kept) in
+    call_orderly p pc k (kept_of c.end_turn.new.self) x c.serve.new.bus.memory c.requires.above c.requires.within alive (returns-clause-serves g c) ended named commands it
 
 pub returns-clause-bus : goal.returns-clause-bus
 returns-clause-bus g c =

@@ -1,5 +1,6 @@
 use Rattle.std.proofs.Common.{◌∙◌, sym, ap, subst, length, map, List}
 use Rattle.ds_policy.specs.declared.policy.PolicyProcess.{PolicyProcess}
+use Rattle.ds_policy.specs.Value.{InputValue}
 use Rattle.ds_grants.specs.State.{GrantsState, pages_in}
 use Rattle.ds_pagemap.specs.First.{first_process, first_state, numbers}
 use Rattle.ds_refinement.specs.Held.{Kept}
@@ -15,10 +16,10 @@ pub returns-clause-first : goal.returns-clause-first
 returns-clause-first c =
     let policy = c.args.policy.now in
     ap (λ (m : Monitor). kept_of m) c.look_ahead.ensures
-    ∙ begins policy c.args.images.now c.args.events _ _ _ _ _ _ _ _
+    ∙ begins policy c.args.images.now c.args.events _ _ _ _ _ _ _ _ _
     (c.in_ok-seats.ensures ∙ ap (map first_process) c.processes.ensures.all)
     (c.all_ready.ensures ∙ ap (λ (ps : List PolicyProcess). numbers (length ps) 1) c.processes-2.ensures.all)
-    c.in_ok-queues.ensures c.new-2.ensures c.new-3.ensures.items c.rate.ensures.all c.new-4.ensures c.in_ok-grants.ensures.state c.commands.ensures.none_yet
+    c.in_ok-queues.ensures c.new-2.ensures c.new-3.ensures.items c.rate.ensures.all (ap (λ (i : InputValue). i.commands) c.new-4.ensures) (ap (λ (i : InputValue). i.characters) c.new-4.ensures) c.in_ok-grants.ensures.state
 
 pub returns-clause-kept : goal.returns-clause-kept
 returns-clause-kept c =
@@ -32,7 +33,7 @@ pub returns-clause-orderly : goal.returns-clause-orderly
 returns-clause-orderly c =
     let policy = c.args.policy.now in
     subst IsOrderly (sym (returns-clause-first c)) (first_orderly policy c.args.images.now c.args.events c.processes.ensures.few
-    c.processes.ensures.good)
+    c.processes.ensures.good c.requires.commands)
 
 pub returns-clause-next : goal.returns-clause-next
 returns-clause-next c =

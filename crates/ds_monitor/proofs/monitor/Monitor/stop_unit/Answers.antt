@@ -32,6 +32,8 @@ returns-clause-orderly c = λ it alive.
     let stop : Stop = record { kind = c.args.kind; address = c.args.address; rule = c.args.rule; code = c.args.code } in
     stop_orderly c.args.process c.args.unit c.args.pc stop k n [] [] c.requires.above c.requires.within alive (returns-clause-serves c [])
     (ap (λ (x : Kept). x.grants.ended) c.end_turn.ensures.kept ∙ (ap (λ (x : Kept). x.grants.ended) c.log_line.ensures.kept ∙ (ap (λ (x : Kept). x.grants.ended) c.go_to.ensures.kept ∙ ap (λ (x : Kept). x.grants.ended) c.make_unready.ensures.kept)))
+    (ap (λ (x : Kept). x.grants.named) c.end_turn.ensures.kept ∙ (ap (λ (x : Kept). x.grants.named) c.log_line.ensures.kept ∙ (ap (λ (x : Kept). x.grants.named) c.go_to.ensures.kept ∙ ap (λ (x : Kept). x.grants.named) c.make_unready.ensures.kept)))
+    (ap (λ (x : Kept). x.state.commands) c.end_turn.ensures.kept ∙ (ap (λ (x : Kept). x.state.commands) c.log_line.ensures.kept ∙ (ap (λ (x : Kept). x.state.commands) c.go_to.ensures.kept ∙ ap (λ (x : Kept). x.state.commands) c.make_unready.ensures.kept)))
     it
 
 pub returns-clause-room : goal.returns-clause-room

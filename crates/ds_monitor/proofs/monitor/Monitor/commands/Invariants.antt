@@ -1,0 +1,32 @@
+use Rattle.std.proofs.Common.{◌≡◌, ◌+◌, ◌≤◌, ℕ, List, length}
+use Rattle.ds_grants.specs.Buffer.{KeepsBuffer}
+use Rattle.ds_refinement.specs.Held.{Kept}
+use Rattle.ds_refinement.specs.Services.{Serves}
+use Rattle.ds_monitor.specs.Kept.{kept_of}
+use Rattle.ds_monitor.specs.Commands.{commanded, commands_by}
+use Rattle.ds_monitor.specs.Orderly.{IsOrderly}
+use Rattle.ds_monitor.specs.Room.{HasLogRoom}
+use Rattle.ds_monitor.proofs.monitor.Monitor.commands.Given as goal
+
+abbrev pub invariant-loop-order : goal.invariant-loop-order
+invariant-loop-order g l = record {
+  serves : (z : Kept) (w : List ℕ) → Serves (commanded l.fn.self.time) (kept_of l.self) l.memory z w → Serves (commanded l.fn.self.time) (kept_of l.fn.self) l.fn.memory z w;
+  orderly : IsOrderly (kept_of l.self);
+  named : l.self.grants.named ≡ l.fn.self.grants.named;
+  count : l.self.lines + length l.self.due.commands ≤ l.fn.self.lines + length l.fn.self.due.commands;
+  memory : l.memory ≡ l.fn.memory;
+  buffer : KeepsBuffer (g.L.Lookaside.entries l.fn.tlb) (g.L.Lookaside.entries l.tlb) l.fn.self.grants l.self.grants;
+  random : g.L.Lookaside.random_place l.tlb ≡ g.L.Lookaside.random_place l.fn.tlb;
+  room : HasLogRoom (commands_by l.fn.self.time l.self.due.commands) l.self;
+  rest : l.self ≡ record l.fn.self {
+    grants = l.self.grants;
+    seats = l.self.seats;
+    ready = l.self.ready;
+    log = l.self.log;
+    lines = l.self.lines;
+    due = record l.fn.self.due { commands = l.self.due.commands };
+  };
+}
+
+abbrev pub decreases-loop-order : goal.decreases-loop-order
+decreases-loop-order g l = length l.self.due.commands

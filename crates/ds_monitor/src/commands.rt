@@ -1,0 +1,216 @@
+//! What an operator's commands do, at a boundary.
+ghost use Rattle.std.specs.Prelude.{◌≡◌, ℕ, ◌+◌, ◌<◌, ◌≤◌, ◌^◌, List, length};
+ghost use Rattle.ds_policy.specs.declared.command.Command.{Command};
+ghost use Rattle.ds_grants.specs.Buffer.{KeepsBuffer};
+ghost use Rattle.ds_grants.specs.State.{IsAsLarge};
+ghost use Rattle.ds_pagemap.specs.Machine.{State, lives};
+ghost use Rattle.ds_pagemap.specs.Calls.{after_command};
+ghost use Rattle.ds_refinement.specs.Services.{Serves};
+ghost use Rattle.ds_monitor.specs.Kept.{kept_of};
+ghost use Rattle.ds_monitor.specs.Commands.{Obeys, commanded, commands_by, with_refusal};
+ghost use Rattle.ds_monitor.specs.Ended.{marks_of};
+ghost use Rattle.ds_policy.specs.InputFacts.{IsGoodCommand};
+ghost use Rattle.ds_monitor.specs.Orderly.{IsOrderly};
+ghost use Rattle.ds_monitor.specs.Room.{HasLogRoom};
+
+use crate::monitor::Monitor;
+use ds_grants::GrantFault;
+use ds_log::Line;
+use ds_mem::Memory;
+use ds_policy::{Command, TimedCommand};
+use ds_procs::Standing;
+use ds_tlb::Lookaside;
+
+/// The rule of an operator's command is its number behind this one.
+const COMMAND_RULES: u32 = 1000;
+
+impl Monitor {
+    /// Whether there is such a process, and it has not ended.
+    fn lives(&self, process: u32) -> bool
+        ensures { result ≡ lives (kept_of self.now).state process }
+    {
+        if process == 0 || process as usize > self.seats.len() {
+            return false;
+        }
+        !matches!(
+            self.seats[process as usize - 1].standing(),
+            Standing::Ended
+        )
+    }
+
+    /// A parked process becomes ready.
+    fn resume(&mut self, process: u32) -> Result<(), GrantFault>
+        requires few { length self.old.seats.items ≤ 100 }
+        ensures obeys { (n : ℕ) (memory : List ℕ) → Obeys n (Command.Resume process)
+            (kept_of self.old) memory (kept_of self.new) memory result }
+        ensures marks { marks_of (kept_of self.new).state ≡ marks_of (kept_of self.old).state }
+        ensures rest { self.new ≡ record self.old {
+          seats = self.new.seats;
+          ready = self.new.ready;
+        } }
+    {
+        if !self.lives(process) {
+            return Err(GrantFault::NoProcess);
+        }
+        match self.seats[process as usize - 1].standing() {
+            Standing::Parked => {
+                self.make_ready(process);
+                Ok(())
+            }
+            Standing::Ready | Standing::Waiting | Standing::Ended => Err(GrantFault::NotAllowed),
+        }
+    }
+
+    /// A process is ended.
+    fn stop<L: Lookaside>(
+        &mut self,
+        process: u32,
+        memory: &mut Memory,
+        tlb: &mut L,
+    ) -> Result<(), GrantFault>
+        requires table { length self.old.grants.table ≡ length self.old.seats.items }
+        requires marks { marks_of (kept_of self.old).state ≡ self.old.grants.ended }
+        ensures obeys { (n : ℕ) → Obeys n (Command.Stop process)
+            (kept_of self.old) memory.old (kept_of self.new) memory.new result }
+        ensures marks { marks_of (kept_of self.new).state ≡ self.new.grants.ended }
+        ensures same { IsAsLarge self.old.grants self.new.grants }
+        ensures memory { memory.new ≡ memory.old }
+        ensures buffer { KeepsBuffer (L.entries tlb.old) (L.entries tlb.new)
+            self.old.grants self.new.grants }
+        ensures random { L.random_place tlb.new ≡ L.random_place tlb.old }
+        ensures rest { self.new ≡ record self.old {
+          grants = self.new.grants;
+          seats = self.new.seats;
+          ready = self.new.ready;
+        } }
+    {
+        if !self.lives(process) {
+            return Err(GrantFault::NoProcess);
+        }
+        self.exit(process, memory, tlb);
+        Ok(())
+    }
+
+    /// Does a command, or answers why it is to be refused.
+    fn obey<L: Lookaside>(
+        &mut self,
+        number: u32,
+        command: Command,
+        memory: &mut Memory,
+        tlb: &mut L,
+    ) -> Result<(), GrantFault>
+        requires few { length self.old.seats.items ≤ 100 }
+        requires table { length self.old.grants.table ≡ length self.old.seats.items }
+        requires marks { marks_of (kept_of self.old).state ≡ self.old.grants.ended }
+        requires good { IsGoodCommand self.old.grants.named command }
+        requires number { number ≤ 4096 }
+        ensures obeys { Obeys number command
+            (kept_of self.old) memory.old (kept_of self.new) memory.new result }
+        ensures marks { marks_of (kept_of self.new).state ≡ self.new.grants.ended }
+        ensures same { IsAsLarge self.old.grants self.new.grants }
+        ensures memory { memory.new ≡ memory.old }
+        ensures buffer { KeepsBuffer (L.entries tlb.old) (L.entries tlb.new)
+            self.old.grants self.new.grants }
+        ensures random { L.random_place tlb.new ≡ L.random_place tlb.old }
+        ensures rest { self.new ≡ record self.old {
+          grants = self.new.grants;
+          seats = self.new.seats;
+          ready = self.new.ready;
+        } }
+    {
+        let rule = COMMAND_RULES + number;
+        let grants = &mut self.grants;
+        match command {
+            Command::Grant { process, address, page, right, give } => {
+                grants.grant(process, address, page, right, give, rule, memory, tlb)
+            }
+            Command::Narrow { process, address } => grants.narrow(process, address, memory, tlb),
+            Command::Revoke { process, address } => {
+                grants.revoke(process, address, rule, memory, tlb)
+            }
+            Command::Drop { process, address } => {
+                grants.drop_page(process, address, true, memory, tlb)
+            }
+            Command::Resume { process } => self.resume(process),
+            Command::Stop { process } => self.stop(process, memory, tlb),
+        }
+    }
+
+    /// The log tells that a command was refused.
+    fn refuse(&mut self, number: u32, fault: GrantFault)
+        requires early { self.old.time < 2 ^ 62 }
+        requires count { self.old.lines < 2 ^ 63 }
+        requires room { HasLogRoom 1 self.old }
+        ensures kept { kept_of self.new
+            ≡ with_refusal number fault (kept_of self.old) }
+        ensures room { (n : ℕ) → HasLogRoom (n + 1) self.old → HasLogRoom n self.new }
+        ensures rest { self.new ≡ record self.old { log = self.new.log; lines = self.new.lines } }
+    {
+        self.log_line(&Line::Refused {
+            time: self.time,
+            command: number,
+            number: fault.number(),
+        });
+    }
+
+    /// Does one command, or tells in the log why it is refused.
+    fn command<L: Lookaside>(&mut self, order: TimedCommand, memory: &mut Memory, tlb: &mut L)
+        requires orderly { IsOrderly (kept_of self.old) }
+        requires good { IsGoodCommand self.old.grants.named order.command }
+        requires number { order.number ≤ 4096 }
+        requires early { self.old.time < 2 ^ 62 }
+        requires count { self.old.lines < 2 ^ 63 }
+        requires room { HasLogRoom 1 self.old }
+        ensures serves { Serves (λ (m : State). after_command m order.number order.command)
+            (kept_of self.old) memory.old (kept_of self.new) memory.new }
+        ensures orderly { IsOrderly (kept_of self.new) }
+        ensures named { self.new.grants.named ≡ self.old.grants.named }
+        ensures lines { self.new.lines ≤ self.old.lines + 1 }
+        ensures room { (n : ℕ) → HasLogRoom (n + 1) self.old → HasLogRoom n self.new }
+        ensures memory { memory.new ≡ memory.old }
+        ensures buffer { KeepsBuffer (L.entries tlb.old) (L.entries tlb.new)
+            self.old.grants self.new.grants }
+        ensures random { L.random_place tlb.new ≡ L.random_place tlb.old }
+        ensures rest { self.new ≡ record self.old {
+          grants = self.new.grants;
+          seats = self.new.seats;
+          ready = self.new.ready;
+          log = self.new.log;
+          lines = self.new.lines;
+        } }
+    {
+        if let Err(fault) = self.obey(order.number, order.command, memory, tlb) {
+            self.refuse(order.number, fault);
+        }
+    }
+
+    /// Does the commands that are due, in their order.
+    pub fn commands<L: Lookaside>(&mut self, memory: &mut Memory, tlb: &mut L)
+        requires orderly { IsOrderly (kept_of self.old) }
+        requires early { self.old.time < 2 ^ 62 }
+        requires count { self.old.lines + length self.old.due.commands < 2 ^ 63 }
+        requires room { HasLogRoom (commands_by self.old.time self.old.due.commands) self.old }
+        ensures serves { Serves (commanded self.old.time)
+            (kept_of self.old) memory.old (kept_of self.new) memory.new }
+        ensures orderly { IsOrderly (kept_of self.new) }
+        ensures named { self.new.grants.named ≡ self.old.grants.named }
+        ensures count { self.new.lines + length self.new.due.commands
+            ≤ self.old.lines + length self.old.due.commands }
+        ensures memory { memory.new ≡ memory.old }
+        ensures buffer { KeepsBuffer (L.entries tlb.old) (L.entries tlb.new)
+            self.old.grants self.new.grants }
+        ensures random { L.random_place tlb.new ≡ L.random_place tlb.old }
+        ensures rest { self.new ≡ record self.old {
+          grants = self.new.grants;
+          seats = self.new.seats;
+          ready = self.new.ready;
+          log = self.new.log;
+          lines = self.new.lines;
+          due = record self.old.due { commands = self.new.due.commands };
+        } }
+    {
+        while let Some(order) = self.due.take_command(self.time) {
+            self.command(order, memory, tlb);
+        }
+    }
+}
