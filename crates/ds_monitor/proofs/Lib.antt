@@ -5,6 +5,7 @@ pub mod Stops
 pub mod Called
 pub mod Beginning
 pub mod Lawful
+pub mod Living
 pub mod Waking
 pub mod Coming
 pub mod Commanding

@@ -1,11 +1,11 @@
 -- Who lives: what the marks of the grants tell is what the processes' standings tell.
-use Rattle.std.proofs.Common.{◌≡◌, ◌∙◌, ℕ, zero, suc, ◌+◌, ◌-◌, ◌<◌, Bool, true, false, not, ◌&&◌, nat_lt, List, [], ◌∷◌, length, map, refl, sym, ap, arith}
+use Rattle.std.proofs.Common.{◌≡◌, ◌∙◌, ℕ, zero, suc, ◌+◌, ◌-◌, Bool, true, false, not, ◌&&◌, nat_lt, List, [], ◌∷◌, length, map, refl, sym, ap, ap₂, arith}
 use Rattle.std.specs.Prelude.{slice_index_or}
 use Rattle.std.proofs.lemmas.Bool.Decides.{nat_tests}
 use Rattle.ds_policy.specs.declared.grant.Right.{Right}
-use Rattle.ds_policy.specs.Grants.{PageState, grant, narrow, revoke, drop_by_command}
+use Rattle.ds_policy.specs.Grants.{PageState, give, take, grant, narrow, revoke, drop_by_command}
 use Rattle.ds_grants.specs.State.{GrantsState, lives_in}
-use Rattle.ds_pagemap.specs.Machine.{State, Process, no_process, process_of, has_ended, lives}
+use Rattle.ds_pagemap.specs.Machine.{State, Process, no_process, has_ended, lives}
 use Rattle.ds_monitor.specs.Ended.{marks_of}
 
 below_next : (i n : ℕ) → nat_lt (suc i) (suc n) ≡ nat_lt i n
@@ -29,21 +29,10 @@ lives_as m g zero marks = refl
 lives_as m g (suc i) marks =
     let next : length m.processes + 1 ≡ suc (length m.processes) = omega arith in
     let before : suc i - 1 ≡ i = omega arith in
-    rw before
-    (ap (λ (b : Bool). nat_lt 0 (suc i) && b)
-    (ap (λ (n : ℕ). nat_lt (suc i) n && not (has_ended (slice_index_or m.processes i no_process).standing)) next
+    ap (λ (b : Bool). nat_lt 0 (suc i) && b)
+    (ap₂ (λ (n k : ℕ). nat_lt (suc i) n && not (has_ended (slice_index_or m.processes k no_process).standing)) next before
     ∙ (ap (λ (b : Bool). b && not (has_ended (slice_index_or m.processes i no_process).standing)) (below_next i (length m.processes))
-    ∙ (marked m.processes i ∙ ap (λ (bs : List Bool). not (slice_index_or bs i true)) marks))))
-
--- who lives hasn't ended
-pub lives_alive : (m : State) (p : ℕ) → lives m p ≡ true → has_ended (process_of m p).standing ≡ false
-lives_alive m p is = by (nat_lt 0 p) (nat_lt p (length m.processes + 1)) (has_ended (process_of m p).standing) is
-  where
-    by : (a b e : Bool) → (a && (b && not e)) ≡ true → e ≡ false
-    by true true false is = refl
-    by true true true is = absurd (cc)
-    by true false e is = absurd (cc)
-    by false b e is = absurd (cc)
+    ∙ (marked m.processes i ∙ ap₂ (λ (bs : List Bool) (k : ℕ). not (slice_index_or bs k true)) marks (sym before))))
 
 -- Each command asks of one process alone whether it lives.
 module _ (f g : ℕ → Bool) (s : PageState) (p address : ℕ) (same : f p ≡ g p) where
@@ -58,3 +47,11 @@ module _ (f g : ℕ → Bool) (s : PageState) (p address : ℕ) (same : f p ≡ 
 
   pub drop_as : drop_by_command f s p address ≡ drop_by_command g s p address
   drop_as = rw same refl
+
+-- And so does each call.
+
+pub give_as : (f g : ℕ → Bool) (s : PageState) (caller address receiver to mode : ℕ) → f receiver ≡ g receiver → give f s caller address receiver to mode ≡ give g s caller address receiver to mode
+give_as f g s caller address receiver to mode same = rw same refl
+
+pub take_as : (f g : ℕ → Bool) (s : PageState) (caller p address : ℕ) → f p ≡ g p → take f s caller p address ≡ take g s caller p address
+take_as f g s caller p address same = rw same refl
