@@ -63,7 +63,7 @@ lawful_behind f a b x y s keeps it = lawful_anywhere b y [] ([] ++ s.lines) [] (
 
 -- Who has ended.
 
-marks_same : (m : State) (p : ℕ) (q : Process) → has_ended q.standing ≡ has_ended (process_of m p).standing → marks_of (with_process m p q) ≡ marks_of m
+pub marks_same : (m : State) (p : ℕ) (q : Process) → has_ended q.standing ≡ has_ended (process_of m p).standing → marks_of (with_process m p q) ≡ marks_of m
 marks_same m p q same = map-set_same (λ (x : Process). has_ended x.standing) m.processes (p - 1) q no_process same
 
 pub marks_put : (m : State) (p : ℕ) (q : Process) → IsAlive m p → has_ended q.standing ≡ false → marks_of (with_process m p q) ≡ marks_of m

@@ -6,7 +6,7 @@ pub mod Called
 pub mod Beginning
 pub mod Lawful
 pub mod Living
+pub mod Granting
 pub mod Waking
 pub mod Coming
 pub mod Commanding
-pub mod Living

@@ -5,7 +5,7 @@ use Rattle.std.proofs.lemmas.Bool.Decides.{nat_tests}
 use Rattle.ds_policy.specs.declared.grant.Right.{Right}
 use Rattle.ds_policy.specs.Grants.{PageState, give, take, grant, narrow, revoke, drop_by_command}
 use Rattle.ds_grants.specs.State.{GrantsState, lives_in}
-use Rattle.ds_pagemap.specs.Machine.{State, Process, no_process, has_ended, lives}
+use Rattle.ds_pagemap.specs.Machine.{State, Process, no_process, process_of, has_ended, lives}
 use Rattle.ds_monitor.specs.Ended.{marks_of}
 
 below_next : (i n : ℕ) → nat_lt (suc i) (suc n) ≡ nat_lt i n
@@ -33,6 +33,16 @@ lives_as m g (suc i) marks =
     (ap₂ (λ (n k : ℕ). nat_lt (suc i) n && not (has_ended (slice_index_or m.processes k no_process).standing)) next before
     ∙ (ap (λ (b : Bool). b && not (has_ended (slice_index_or m.processes i no_process).standing)) (below_next i (length m.processes))
     ∙ (marked m.processes i ∙ ap₂ (λ (bs : List Bool) (k : ℕ). not (slice_index_or bs k true)) marks (sym before))))
+
+-- who lives hasn't ended
+pub lives_alive : (m : State) (p : ℕ) → lives m p ≡ true → has_ended (process_of m p).standing ≡ false
+lives_alive m p is = by (nat_lt 0 p) (nat_lt p (length m.processes + 1)) (has_ended (process_of m p).standing) is
+  where
+    by : (a b e : Bool) → (a && (b && not e)) ≡ true → e ≡ false
+    by true true false is = refl
+    by true true true is = absurd (cc)
+    by true false e is = absurd (cc)
+    by false b e is = absurd (cc)
 
 -- Each command asks of one process alone whether it lives.
 module _ (f g : ℕ → Bool) (s : PageState) (p address : ℕ) (same : f p ≡ g p) where

@@ -4,7 +4,6 @@ pub mod Coming
 pub mod Commands
 pub mod Blind
 pub mod Room
-pub mod Asked
 pub mod Ended
 pub mod Orderly
 pub mod Sending

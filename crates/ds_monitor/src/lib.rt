@@ -9,6 +9,7 @@ mod commands;
 mod consoles;
 mod due;
 mod first;
+mod gifts;
 mod laws;
 mod line_queue;
 mod monitor;

@@ -2,6 +2,7 @@
 ghost use Rattle.std.specs.Prelude.{◌≡◌, ℕ, ◌+◌, ◌-◌, ◌<◌, ◌≤◌, ◌^◌, true, List, length, slice_set, None};
 ghost use Rattle.ds_procs.specs.Calls.{call_of};
 ghost use Rattle.ds_log.specs.Length.{IsShortRule};
+ghost use Rattle.ds_grants.specs.State.{IsAsLarge};
 ghost use Rattle.ds_grants.specs.Buffer.{KeepsBuffer};
 ghost use Rattle.ds_grants.specs.State.{IsAsLarge};
 ghost use Rattle.ds_pagemap.specs.Machine.{State, process_of};
@@ -9,10 +10,8 @@ ghost use Rattle.ds_pagemap.specs.Calls.{ended, served};
 ghost use Rattle.ds_refinement.specs.Stands.{ends_in_call, ends_in_stop};
 ghost use Rattle.ds_refinement.specs.Services.{Serves};
 ghost use Rattle.ds_monitor.specs.Kept.{kept_of};
-ghost use Rattle.ds_monitor.specs.Consoles as consoles;
-ghost use Rattle.ds_monitor.specs.Room.{HasLogRoom};
-ghost use Rattle.ds_monitor.specs.Asked.{IsForItself};
-ghost use Rattle.ds_monitor.specs.Ended.{IsAlive, ended_behind};
+ghost use Rattle.ds_monitor.specs.Room.{HasLogRoom, HasRoom};
+ghost use Rattle.ds_monitor.specs.Ended.{IsAlive, marks_of, ended_behind};
 ghost use Rattle.ds_monitor.specs.Orderly.{IsOrderly};
 ghost use Rattle.ds_monitor.specs.Sending.{bus_behind};
 
@@ -110,34 +109,42 @@ impl Monitor {
         self.grants.end_process(process, memory, tlb);
     }
 
-    /// Serves a call of a process that stands behind it and asks for itself alone.
-    fn serve<L: Lookaside>(&mut self, process: u32, call: Call, bus: &mut Bus, tlb: &mut L)
+    /// Serves a call of a process that stands behind it; it is at `pc`.
+    fn serve<L: Lookaside>(&mut self, process: u32, pc: u32, call: Call, bus: &mut Bus, tlb: &mut L)
         requires above { 0 < process }
         requires within { process ≤ length self.old.seats.items }
         requires few { length self.old.seats.items ≤ 100 }
         requires line { (process_of (kept_of self.old).state process).line < 4 }
         requires queues { length self.old.queues.items ≡ 4 }
         requires table { length self.old.grants.table ≡ length self.old.seats.items }
+        requires marks { marks_of (kept_of self.old).state ≡ self.old.grants.ended }
         requires early { self.old.time < 1000000000 }
-        requires room { consoles.HasRoom self.old.consoles }
-        requires asked { IsForItself call }
+        requires count { self.old.lines < 2 ^ 63 }
+        requires room { HasRoom 1 self.old }
         requires on { bus.old.serial.master_scan ≡ true }
-        ensures serves { (pc : ℕ) → Serves (λ (m : State). served m process pc call)
+        ensures serves { Serves (λ (m : State). served m process pc call)
             (kept_of self.old) bus.old.memory (kept_of self.new) bus.new.memory }
-        ensures bus { bus.new
-            ≡ bus_behind call (process_of (kept_of self.old).state process).line bus.old }
+        ensures bus { bus.new ≡ record (bus_behind call
+            (process_of (kept_of self.old).state process).line bus.old) {
+              memory = bus.new.memory;
+            } }
+        ensures size { length bus.new.memory ≡ length bus.old.memory }
         ensures buffer { KeepsBuffer (L.entries tlb.old) (L.entries tlb.new)
             self.old.grants self.new.grants }
         ensures random { L.random_place tlb.new ≡ L.random_place tlb.old }
         ensures ended { self.new.grants.ended
             ≡ ended_behind call process self.old.grants.ended }
         ensures same { IsAsLarge self.old.grants self.new.grants }
+        ensures lines { self.new.lines ≤ self.old.lines + 1 }
+        ensures room { (n : ℕ) → HasLogRoom (n + 1) self.old → HasLogRoom n self.new }
         ensures rest { self.new ≡ record self.old {
           grants = self.new.grants;
           seats = self.new.seats;
           ready = self.new.ready;
           queues = self.new.queues;
           consoles = self.new.consoles;
+          log = self.new.log;
+          lines = self.new.lines;
         } }
     {
         match call {
@@ -150,9 +157,19 @@ impl Monitor {
             Call::Yield => self.yield_turn(process),
             Call::Time => self.tell_time(process),
             Call::Own => self.tell_number(process),
+            Call::Give {
+                address,
+                receiver,
+                to,
+                mode,
+            } => self.give(process, pc, address, receiver, to, mode, bus.memory(), tlb),
+            Call::Take {
+                process: holder,
+                address,
+            } => self.take_back(process, holder, address, bus.memory(), tlb),
+            Call::Drop { address } => self.drop_own(process, address, bus.memory(), tlb),
             Call::Wait => self.wait(process),
             Call::Unknown => self.answer(process, NOTHING),
-            Call::Give { .. } | Call::Take { .. } | Call::Drop { .. } => unreachable!(),
         }
     }
 
@@ -162,13 +179,12 @@ impl Monitor {
         requires within { process ≤ length self.now.seats.items }
         ensures value { result
             ≡ call_of (process_of (kept_of self.now).state process).registers.general }
-        ensures own { IsForItself result }
     {
         self.seats[process as usize - 1].call()
     }
 
     /// The call of a process at an address: the process goes on behind it and is served, and its
-    /// turn is done.
+    /// turn is done. A copy that it gives is written to memory, and a refused give to the log.
     pub fn call<L: Lookaside>(&mut self, process: u32, pc: u32, bus: &mut Bus, tlb: &mut L)
         requires above { 0 < process }
         requires within { process ≤ length self.old.seats.items }
@@ -176,27 +192,35 @@ impl Monitor {
         requires line { (process_of (kept_of self.old).state process).line < 4 }
         requires queues { length self.old.queues.items ≡ 4 }
         requires table { length self.old.grants.table ≡ length self.old.seats.items }
+        requires marks { marks_of (kept_of self.old).state ≡ self.old.grants.ended }
         requires early { self.old.time < 1000000000 }
-        requires room { consoles.HasRoom self.old.consoles }
+        requires count { self.old.lines < 2 ^ 63 }
+        requires room { HasRoom 1 self.old }
         requires on { bus.old.serial.master_scan ≡ true }
         ensures serves { Serves (ends_in_call process pc)
             (kept_of self.old) bus.old.memory (kept_of self.new) bus.new.memory }
         ensures orderly { IsOrderly (kept_of self.old) → IsAlive (kept_of self.old).state process
             → IsOrderly (kept_of self.new) }
-        ensures memory { bus.new.memory ≡ bus.old.memory }
-        ensures bus { bus.new
-            ≡ bus_behind (call_of (process_of (kept_of self.old).state process).registers.general)
-            (process_of (kept_of self.old).state process).line bus.old }
+        ensures bus { bus.new ≡ record (bus_behind
+            (call_of (process_of (kept_of self.old).state process).registers.general)
+            (process_of (kept_of self.old).state process).line bus.old) {
+              memory = bus.new.memory;
+            } }
+        ensures size { length bus.new.memory ≡ length bus.old.memory }
         ensures buffer { KeepsBuffer (L.entries tlb.old) (L.entries tlb.new)
             self.old.grants self.new.grants }
         ensures same { IsAsLarge self.old.grants self.new.grants }
         ensures random { L.random_place tlb.new ≡ L.random_place tlb.old }
+        ensures lines { self.new.lines ≤ self.old.lines + 1 }
+        ensures room { (n : ℕ) → HasLogRoom (n + 1) self.old → HasLogRoom n self.new }
         ensures rest { self.new ≡ record self.old {
           grants = self.new.grants;
           seats = self.new.seats;
           ready = self.new.ready;
           queues = self.new.queues;
           consoles = self.new.consoles;
+          log = self.new.log;
+          lines = self.new.lines;
           time = self.new.time;
           owed = self.new.owed;
         } }
@@ -204,7 +228,7 @@ impl Monitor {
         self.has_no_late_load(process);
         self.go_to(process, wrapping_sum(pc, 4));
         let call = self.asked(process);
-        self.serve(process, call, bus, tlb);
+        self.serve(process, pc, call, bus, tlb);
         self.end_turn(Some(process), 1);
     }
 }

@@ -1,9 +1,11 @@
-use Rattle.std.proofs.Common.{[], sym, ◌≡◌, ◌∙◌, ◌+◌, ℕ, ap, refl}
+use Rattle.std.proofs.Common.{[], sym, ◌≡◌, ◌∙◌, ◌+◌, ℕ, ap, subst, refl}
 use Rattle.ds_word.specs.Word.{word}
+use Rattle.ds_dev.specs.Bus.{BusState}
 use Rattle.ds_procs.specs.Calls.{call_of}
 use Rattle.ds_pagemap.specs.Machine.{State, Process, process_of}
 use Rattle.ds_pagemap.proofs.Processes.{process_of-with_process}
 use Rattle.ds_monitor.specs.Sending.{bus_behind}
+use Rattle.ds_monitor.specs.Room.{HasLogRoom}
 use Rattle.ds_pagemap.specs.Unit.{at_pc}
 use Rattle.ds_pagemap.specs.Calls.{served}
 use Rattle.ds_refinement.specs.Held.{Kept, whole}
@@ -12,11 +14,23 @@ use Rattle.ds_monitor.specs.Kept.{kept_of, kept_after}
 use Rattle.ds_monitor.specs.declared.monitor.Monitor.{Monitor}
 use Rattle.ds_monitor.proofs.Serving.{serves_then, serves_as}
 use Rattle.ds_procs.specs.declared.call.Call.{Call}
-use Rattle.ds_monitor.specs.Ended.{ended_behind}
+use Rattle.ds_monitor.specs.Ended.{marks_of, ended_behind}
 use Rattle.ds_monitor.proofs.Stops.{settle_same}
-use Rattle.ds_monitor.proofs.Lawful.{asked_at, call_orderly}
+use Rattle.ds_monitor.proofs.Lawful.{marks_same, asked_at, call_orderly}
 use Rattle.ds_monitor.proofs.Called.{by_kept, with_end, called, call_ends}
 use Rattle.ds_monitor.proofs.monitor.Monitor.call.Goals as goal
+
+pub serve-requires-clause-marks : goal.serve-requires-clause-marks
+serve-requires-clause-marks g c =
+    let p = c.args.process in
+    let k = kept_of c.args.self.now in
+    let behind : Process = record (process_of k.state p) { pc = c.wrapping_sum.result } in
+    ap (λ (z : Kept). marks_of z.state) c.go_to.ensures.kept
+    ∙ (marks_same k.state p behind refl ∙ (c.requires.marks ∙ sym (ap (λ (z : Kept). z.grants.ended) c.go_to.ensures.kept)))
+
+pub returns-clause-room : goal.returns-clause-room
+returns-clause-room g c = λ n h.
+    subst (HasLogRoom n) (sym c.end_turn.ensures.rest) (c.serve.ensures.room n (subst (HasLogRoom (n + 1)) (sym c.go_to.ensures.rest) h))
 
 pub returns-clause-serves : goal.returns-clause-serves
 returns-clause-serves g c =
@@ -38,7 +52,7 @@ returns-clause-serves g c =
     (serves_then (λ (m : State). serve (step m)) (with_end p) k done last x y y
     (serves_then step serve k behind done x x y
     (by_kept step k behind x (λ m memory log. refl) (record { memory = refl; log = refl }) there)
-    (c.serve.ensures.serves pc))
+    c.serve.ensures.serves)
     (by_kept (with_end p) done last y (λ m memory log. refl) (record { memory = refl; log = refl }) c.end_turn.ensures.kept))
 
 pub returns-clause-orderly : goal.returns-clause-orderly
@@ -71,5 +85,6 @@ returns-clause-bus g c =
     let there : kept_of c.go_to.new.self ≡ kept_after (λ (m : State). at_pc m p pc) k = c.go_to.ensures.kept ∙ ap (λ (t : ℕ). kept_after (λ (m : State). at_pc m p t) k) c.wrapping_sum.ensures in
     let moved : process_of (kept_of c.go_to.new.self).state p ≡ record (process_of k.state p) { pc = pc } = ap (λ (z : Kept). process_of z.state p) there ∙ process_of-with_process k.state p (record (process_of k.state p) { pc = pc }) c.requires.above c.requires.within in
     c.serve.ensures.bus
-    ∙ (ap (λ (x : Call). bus_behind x (process_of (kept_of c.go_to.new.self).state p).line c.args.bus.now) c.asked-call.ensures.value
+    ∙ ap (λ (b : BusState). record b { memory = c.serve.new.bus.memory })
+    (ap (λ (x : Call). bus_behind x (process_of (kept_of c.go_to.new.self).state p).line c.args.bus.now) c.asked-call.ensures.value
     ∙ ap (λ (q : Process). bus_behind (call_of q.registers.general) q.line c.args.bus.now) moved)
