@@ -2,6 +2,7 @@
 ghost use Rattle.std.specs.Prelude.{◌≡◌, ◌%◌, ◌^◌, ◌<◌, ◌≤◌, OnErr};
 ghost use Rattle.std.specs.Borrow.{sem};
 ghost use Rattle.ds_isa.specs.Instruction.{instruction_of};
+ghost use Rattle.ds_isa.specs.declared.instr.Size.TheVariants.{Word};
 ghost use Rattle.ds_word.specs.Bytes.{word_at};
 ghost use Rattle.ds_dev.specs.Bus.{at_start, alignment, load, store, register_load, register_store, after_ticks, lines, devices_ask, asks, with_serial};
 ghost use Rattle.ds_dev.specs.Serial.{received, sent};
@@ -149,6 +150,24 @@ impl Bus {
         }
     }
 
+    /// Writes the serial lines' register of the enabled lines: as a store of a word at 1FE00010.
+    /// Which lines are enabled changes no request.
+    #[inline(always)]
+    pub fn set_enables(&mut self, value: u32)
+        ensures { self.new ≡ (store self.old 0x1fe0_0010 Word value).1 }
+    {
+        self.serial.set_enables(value);
+    }
+
+    /// Writes their register of the character to send: as a store of a word at 1FE00018. A character
+    /// that is sent changes no request.
+    #[inline(always)]
+    pub fn transmit(&mut self, value: u32)
+        ensures { self.new ≡ (store self.old 0x1fe0_0018 Word value).1 }
+    {
+        self.serial.transmit(value);
+    }
+
     /// Lets one tick pass, or two.
     #[inline(always)]
     pub fn tick(&mut self, ticks: u32)
@@ -180,13 +199,12 @@ impl Bus {
     }
 
     /// Hands out the character that waits to leave, as its line and its byte.
+    #[inline(always)]
     pub fn sent(&mut self) -> Option<(u8, u8)>
         ensures value { result ≡ (sent self.old.serial).0 }
         ensures state { self.new ≡ with_serial self.old (sent self.old.serial).1 }
     {
-        let character = self.serial.sent();
-        self.asks = devices_ask(&self.serial, &self.system, &self.clock);
-        character
+        self.serial.sent()
     }
 
     /// Reads a register.

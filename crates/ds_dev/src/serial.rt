@@ -111,6 +111,7 @@ impl SerialLines {
     }
 
     /// Writes the enables.
+    #[inline(always)]
     pub(crate) fn set_enables(&mut self, v: u32)
         ensures { self.new ≡ with_enables self.old v }
     {
@@ -155,6 +156,7 @@ impl SerialLines {
     }
 
     /// Sends a byte on the lowest enabled line, if there is one and lines are scanned.
+    #[inline(always)]
     pub(crate) fn transmit(&mut self, v: u32)
         ensures { self.new ≡ transmitted self.old (bits v 0 8) }
     {
@@ -167,6 +169,7 @@ impl SerialLines {
     }
 
     /// Hands out the character that waits to leave.
+    #[inline(always)]
     pub(crate) fn sent(&mut self) -> Option<(u8, u8)>
         ensures value { result ≡ (sent self.old).0 }
         ensures state { self.new ≡ (sent self.old).1 }
@@ -180,6 +183,7 @@ impl SerialLines {
     }
 
     /// Whether a character can be sent.
+    #[inline(always)]
     fn is_ready(&self) -> bool
         ensures { result ≡ is_ready self.now }
     {
@@ -187,6 +191,7 @@ impl SerialLines {
     }
 
     /// The line that a character is sent on: the lowest that is enabled.
+    #[inline(always)]
     fn line(&self) -> u32
         ensures value { result ≡ line_of self.now.enables }
     {
