@@ -2,10 +2,9 @@
 use Rattle.std.proofs.Common.{◌≡◌, ◌∙◌, ℕ, zero, suc, ◌*◌, ◌%◌, ◌<◌, ◌^◌, ◌&&◌, Bool, true, cond, refl, ap, arith}
 use Rattle.std.specs.Prelude.{Option, Some, None}
 use Rattle.ds_word.specs.Word.{bits}
-use Rattle.ds_isa.specs.declared.instr.Size.TheVariants.{Word}
 use Rattle.ds_dev.specs.Serial.{SerialState, is_ready, line_of, with_enables, transmitted, sent}
-use Rattle.ds_dev.specs.Bus.{BusState, store, with_serial}
-use Rattle.ds_monitor.specs.Sending.{with_sent}
+use Rattle.ds_dev.specs.Bus.{BusState, with_serial}
+use Rattle.ds_monitor.specs.Sending.{written, with_sent}
 
 -- the state of the lines with a line enabled
 abbrev enabled : SerialState → ℕ → SerialState
@@ -31,10 +30,6 @@ line_bit (suc zero) low = refl
 line_bit (suc (suc zero)) low = refl
 line_bit (suc (suc (suc zero))) low = refl
 line_bit (suc (suc (suc (suc n)))) low = absurd (omega (arith, low))
-
--- the bus once the line is enabled and the character is written
-abbrev pub written : BusState → ℕ → ℕ → BusState
-written b line byte = (store (store b 0x1FE00010 Word (2 ^ line)).1 0x1FE00018 Word byte).1
 
 -- what leaves, and the bus behind it
 pub record Sends (b : BusState) (line byte : ℕ) : Type 0 where

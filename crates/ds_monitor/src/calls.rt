@@ -2,8 +2,8 @@
 ghost use Rattle.std.specs.Prelude.{◌≡◌, ◌<◌, ◌≤◌, length, drop, slice_get, slice_set, nat_lt, ◌^◌, true};
 ghost use Rattle.ds_pagemap.specs.Machine.{State, process_of, made_ready};
 ghost use Rattle.ds_pagemap.specs.Calls.{answered, queue_of, after_put, after_get, after_wait};
-ghost use Rattle.ds_monitor.specs.Consoles.{HasRoom};
-ghost use Rattle.ds_monitor.specs.Sending.{with_sent};
+ghost use Rattle.ds_monitor.specs.Consoles.{HasRoom, texts_of};
+ghost use Rattle.ds_monitor.specs.Sending.{leaving, shown, with_sent};
 ghost use Rattle.ds_monitor.specs.Kept.{kept_of, kept_after};
 
 use crate::monitor::Monitor;
@@ -27,6 +27,8 @@ impl Monitor {
             ≡ kept_after (λ (m : State). after_put m process byte) (kept_of self.old) }
         ensures bus { bus.new
             ≡ with_sent bus.old (process_of (kept_of self.old).state process).line }
+        ensures shown { texts_of self.new.consoles ≡ shown (texts_of self.old.consoles)
+            (leaving bus.old (process_of (kept_of self.old).state process).line byte) }
         ensures rest { self.new ≡ record self.old { consoles = self.new.consoles } }
     {
         let line = self.seats[process as usize - 1].line();
