@@ -4,6 +4,7 @@ pub mod Documents
 pub mod Entries
 pub mod Filling
 pub mod InputSteps
+mod InputWords
 pub mod PolicyRegions
 pub mod Sources
 pub mod Binds

@@ -1,5 +1,5 @@
 //! The event that a line of an input is.
-ghost use Rattle.std.specs.Prelude.{◌≡◌, ◌<◌, ◌≤◌, ◌==◌, ◌^◌, length, map, position, bytes_eq, IfSome, IfOk};
+ghost use Rattle.std.specs.Prelude.{◌≡◌, ◌<◌, ◌≤◌, ◌==◌, ◌^◌, length, map, take, position, bytes_eq, IfSome, IfOk};
 ghost use Rattle.std.specs.List.{slice_split};
 ghost use Rattle.ds_policy.specs.PolicyParts.{page_named};
 ghost use Rattle.ds_policy.specs.InputLines.{words_of, process_of, line_of, right_of, give_of, of_process, of_entry, command_of, keys_of, event_of, timed_event_of};
@@ -15,11 +15,12 @@ use std::alloc::{AllocError, Global};
 /// The latest time at which an event can be due, in ticks.
 const LATEST: u32 = MOST_TICKS as u32;
 
-/// The words of a line, with one space between.
+/// The words of a line, with one space between; of more than eight the first eight, which are one more
+/// than an event has.
 pub(crate) fn words_of<'a>(alloc: Global, line: &'a [u8]) -> Result<Vec<&'a [u8]>, AllocError>
-    ensures { IfOk result (λ v. map (λ w. w.now) v.items ≡ words_of line.now) }
+    ensures { IfOk result (λ v. map (λ w. w.now) v.items ≡ take 8 (words_of line.now)) }
 {
-    line.split(|b| *b == b' ').collect(alloc)
+    line.split(|b| *b == b' ').take(8).collect(alloc)
 }
 
 /// The event of a line's words.

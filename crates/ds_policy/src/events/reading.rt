@@ -10,7 +10,7 @@ use std::alloc::{AllocError, Global};
 
 impl EventList {
     /// Adds what a line says, and answers whether it is a good one.
-    #[tactic(auto, unfolding(crate::specs::InputText::with_line))]
+    #[tactic(auto, unfolding(crate::specs::InputText::with_line), using(crate::proofs::InputWords::eight_words_tell))]
     pub(crate) fn add_line(
         &mut self,
         alloc: Global,
