@@ -1,4 +1,4 @@
--- Worked rows of the checks of a policy whose bounds a limit of today hides from every text.
+-- Worked rows of the checks of a policy at their bounds.
 use Rattle.std.specs.Prelude.{codes, refl, ◌≡◌, ℕ, zero, suc, ◌+◌, ◌*◌, ◌/◌, ◌%◌, pos, negsuc, nat_lt, Float, Bool, true, false, List, [], ◌∷◌, ◌++◌, length, map, Option, Some, None, option_and_then, Result, Ok, Err, is_some, if◌then◌else◌}
 use Rattle.toml.specs.Data.{Data, string, integer, boolean, float, array, table, Items, no_items, item, member, no_members}
 use Rattle.toml.specs.Parse.{parse_document}

@@ -26,7 +26,8 @@ pub struct PolicyPage {
     pub source: Option<Source>,
 }
 
-/// A rule of the policy: an entry of the first table. Pages count from 0.
+/// A rule of the policy: an entry of the first table. Pages count from 0. There is a page where there
+/// is a right.
 #[derive(Clone, Copy, Debug, PartialEq, Eq)]
 pub struct PolicyRule {
     pub process: u32,
