@@ -75,23 +75,30 @@ fn for_want_of_memory_there_is_no_table(rt: HostRuntime) {
     assert_eq!(rt; table.entry(1, 255 * 4096), None);
 }
 
-/// There are 14 growths: 11 of the policy, and 3 of the nine words; an empty input and comments
-/// have none. `collect` asks once more where it is refused, so no answer changes.
+/// There are 19 growths: 11 of the policy, 3 of the nine words, and 5 of the two commands and the
+/// characters: of their words, and of each list. An empty input and comments have none. `collect`
+/// asks once more where it is refused, so a growth of words changes no answer.
 #[test]
 fn for_want_of_memory_an_input_says_nothing_else(rt: HostRuntime) {
     let Some(policy) = policy_of(&rt, rt.alloc(), SMALLEST) else {
         return;
     };
-    for (text, wanted) in [
-        (b"".as_slice(), 0),
-        (b"# nothing\n\n".as_slice(), 0),
-        (b"\n#\n1 2 3 4 5 6 7 8 9".as_slice(), 3),
+    for (text, wanted, commands, characters) in [
+        (b"".as_slice(), 0, 0, 0),
+        (b"# nothing\n\n".as_slice(), 0, 0, 0),
+        (b"\n#\n1 2 3 4 5 6 7 8 9".as_slice(), 3, 0, 0),
+        (
+            b"1 stop 1\n1 key 0 4142\n2 drop 1 00000000".as_slice(),
+            0,
+            2,
+            2,
+        ),
     ] {
         match Events::read(rt.alloc(), text, &policy) {
             Ok(events) => {
                 assert_eq!(rt; wanted, 0, "{text:?}");
-                assert!(rt; events.commands().is_empty());
-                assert!(rt; events.characters().is_empty());
+                assert_eq!(rt; events.commands().len(), commands);
+                assert_eq!(rt; events.characters().len(), characters);
             }
             Err(EventsFault::InputFault(line)) => assert_eq!(rt; line, wanted, "{text:?}"),
             Err(EventsFault::Memory) => {}

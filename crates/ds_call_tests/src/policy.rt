@@ -1,6 +1,7 @@
 //! What a policy and an input say, where no run shows it.
 use ds_policy::{
-    Events, EventsFault, Policy, PolicyFault, PolicyProcess, PolicyRule, Right, address_of,
+    Character, Command, Events, EventsFault, Policy, PolicyFault, PolicyProcess, PolicyRule, Right,
+    TimedCommand, address_of,
 };
 use std::test::*;
 
@@ -60,6 +61,37 @@ fn a_small_policy_is_read(rt: HostRuntime) -> Result<(), Fail> {
 }
 
 #[test]
+fn a_rule_may_withhold_or_let_give(rt: HostRuntime) -> Result<(), Fail> {
+    let mut text = Vec::new(rt.alloc());
+    text.extend_from_slice(POLICY.as_bytes())?;
+    text.extend_from_slice(
+        b"[[rule]]\nprocess = 1\naddress = 0x7FFFF000\nright = \"none\"\n".as_slice(),
+    )?;
+    text.extend_from_slice(
+        b"[[rule]]\nprocess = 1\naddress = 0x1000\nright = \"write\"\npage = \"data\"\ngive = true\n".as_slice(),
+    )?;
+    let policy = Policy::read(rt.alloc(), &text)?;
+    let withheld = PolicyRule {
+        process: 1,
+        address: 0x7FFF_F000,
+        right: Right::Nothing,
+        page: None,
+        give: false,
+    };
+    let given = PolicyRule {
+        process: 1,
+        address: 0x1000,
+        right: Right::Write,
+        page: Some(1),
+        give: true,
+    };
+    assert_eq!(rt; policy.rules().len(), 3);
+    assert_eq!(rt; policy.rules()[1], withheld);
+    assert_eq!(rt; policy.rules()[2], given);
+    Ok(())
+}
+
+#[test]
 fn an_address_is_eight_hexadecimal_digits(rt: HostRuntime) {
     for (word, address) in [
         (b"00000000".as_slice(), Some(0)),
@@ -84,6 +116,94 @@ fn an_input_in_which_nothing_happens_has_no_events(rt: HostRuntime) -> Result<()
     let events = Events::read(rt.alloc(), b"#\r\n\n#5 key 0 41\n".as_slice(), &policy)?;
     assert!(rt; events.commands().is_empty());
     assert!(rt; events.characters().is_empty());
+    Ok(())
+}
+
+/// An event of each kind. The numbers of commands do not count the keys between them.
+const EVENTS: &[u8] =
+    b"0 grant 1 0041000a data write give\n3 key 3 4a\n3 grant 2 FFFFFFFF code read\n5 narrow 3 00410000\n5 revoke 4 00410000\n# 6 stop 1\n\n6 drop 5 00410000\n7 resume 4294967295\n9 key 0 00\n1000000000 stop 0";
+
+#[test]
+fn an_input_has_six_commands(rt: HostRuntime) -> Result<(), Fail> {
+    let policy = Policy::read(rt.alloc(), POLICY.as_bytes())?;
+    let events = Events::read(rt.alloc(), EVENTS, &policy)?;
+    let address = 0x0041_0000;
+    let wanted = [
+        (
+            0,
+            Command::Grant {
+                process: 1,
+                address: 0x0041_000A,
+                page: 1,
+                right: Right::Write,
+                give: true,
+            },
+        ),
+        (
+            3,
+            Command::Grant {
+                process: 2,
+                address: 0xFFFF_FFFF,
+                page: 0,
+                right: Right::Read,
+                give: false,
+            },
+        ),
+        (
+            5,
+            Command::Narrow {
+                process: 3,
+                address,
+            },
+        ),
+        (
+            5,
+            Command::Revoke {
+                process: 4,
+                address,
+            },
+        ),
+        (
+            6,
+            Command::Drop {
+                process: 5,
+                address,
+            },
+        ),
+        (
+            7,
+            Command::Resume {
+                process: 4_294_967_295,
+            },
+        ),
+        (1_000_000_000, Command::Stop { process: 0 }),
+    ];
+    assert_eq!(rt; events.commands().len(), wanted.len());
+    for (i, (time, command)) in wanted.iter().enumerate() {
+        let number = i as u32 + 1;
+        let timed = TimedCommand {
+            time: *time,
+            number,
+            command: *command,
+        };
+        assert_eq!(rt; events.commands()[i], timed);
+    }
+    assert_eq!(rt;
+        events.characters(),
+        [
+            Character {
+                time: 3,
+                line: 3,
+                byte: 0x4A
+            },
+            Character {
+                time: 9,
+                line: 0,
+                byte: 0
+            }
+        ]
+        .as_slice()
+    );
     Ok(())
 }
 
