@@ -36,10 +36,6 @@ owner_unseen f a k x y owner s = record { lines = s.lines; state = s.state; bare
 pub owner_orderly : (k : Kept) (owner : ℕ) → monitor.IsOrderly k → monitor.IsOrderly (record k { owner = owner })
 owner_orderly k owner it = record { lawful = lawful_elsewhere k [] [] [] [] it.lawful; ended = it.ended; commands = it.commands }
 
--- fewer lines need no more room
-pub less_room : (n : ℕ) (m : Monitor) → HasLogRoom (n + 1) m → HasLogRoom n m
-less_room n m h = omega (arith, h)
-
 at_most_one : (b : Bool) → cond b 1 0 ≤ 1
 at_most_one true = omega arith
 at_most_one false = omega arith
@@ -87,6 +83,10 @@ sent_rests b line k r = record {
   period = r.period;
 }
 
+-- what lies in memory is no matter of the devices
+pub memory_rests : (b : BusState) (memory : List ℕ) (k : Kept) → AreResting b k → AreResting (record b { memory = memory }) k
+memory_rests b memory k r = record { serial = r.serial; clock = r.clock; system = r.system; ticked = r.ticked; period = r.period }
+
 -- and so they do behind each call
 pub call_rests : (c : Call) (b : BusState) (line : ℕ) (k : Kept) → AreResting b k → AreResting (bus_behind c line b) k
 call_rests call.Exit b line k r = r
@@ -102,14 +102,14 @@ call_rests call.Wait b line k r = r
 call_rests call.Unknown b line k r = r
 
 -- What is kept between the service and who comes in.
-module _ {L : Type 0} (f : State → State) (old new : Parts L) (between : Monitor) (entries : List Entry) (p : ℕ) where
+module _ {L : Type 0} (f : State → State) (old new : Parts L) (between : Monitor) (entries : List Entry) (memory : List ℕ) (p : ℕ) where
   -- what comes in leaves
   pub record Comes : Type 0 where
     pub enters : EntersBy new.monitor.ready new.core (kept_of new.monitor)
     pub buffer : BufferHolds entries (space_of (kept_of between)) between.grants → BufferHolds new.core.entries (space_of (kept_of new.monitor)) new.monitor.grants
     pub pages : NamesPages between.grants
     pub random : new.core.random ≡ old.core.random
-    pub memory : new.bus.memory ≡ old.bus.memory
+    pub memory : new.bus.memory ≡ memory
     pub rests : (k : Kept) → AreResting old.bus k → AreResting new.bus k
     pub monitor : new.monitor ≡ record between { owner = new.monitor.owner }
     pub failed : new.failed ≡ old.failed
@@ -118,7 +118,8 @@ module _ {L : Type 0} (f : State → State) (old new : Parts L) (between : Monit
 
   -- what the service leaves
   pub record Served : Type 0 where
-    pub serves : Serves f (seated old.core (kept_of old.monitor)) old.bus.memory (kept_of between) old.bus.memory
+    pub serves : Serves f (seated old.core (kept_of old.monitor)) old.bus.memory (kept_of between) memory
+    pub size : length memory ≡ length old.bus.memory
     pub buffer : KeepsBuffer old.core.entries entries old.monitor.grants between.grants
     pub owner : between.owner ≡ old.monitor.owner
     pub rate : between.rate ≡ old.monitor.rate
@@ -141,13 +142,13 @@ module _ {L : Type 0} (f : State → State) (old new : Parts L) (between : Monit
   has_ended sound unowed a b = record {
     ends = record {
       serves = subst (λ (x : List ℕ). Serves f (seated old.core (kept_of old.monitor)) old.bus.memory (kept_of new.monitor) x) (sym b.memory)
-          (subst (λ (k : Kept). Serves f (seated old.core (kept_of old.monitor)) old.bus.memory k old.bus.memory) (sym (kept_is b))
-          (owner_unseen f (seated old.core (kept_of old.monitor)) (kept_of between) old.bus.memory old.bus.memory new.monitor.owner a.serves));
+          (subst (λ (k : Kept). Serves f (seated old.core (kept_of old.monitor)) old.bus.memory k memory) (sym (kept_is b))
+          (owner_unseen f (seated old.core (kept_of old.monitor)) (kept_of between) old.bus.memory memory new.monitor.owner a.serves));
       enters = b.enters;
       buffer = b.buffer (subst (λ (s : ℕ → ℕ). BufferHolds entries s between.grants) (same_space a)
           (a.buffer (space_of (kept_of old.monitor)) (one_space (kept_of old.monitor)) sound.stands.buffer));
       grants = subst NamesPages (sym (ap (λ (k : Kept). k.grants) (kept_is b))) b.pages;
-      size = ap (λ (x : List ℕ). length x) b.memory;
+      size = ap (λ (x : List ℕ). length x) b.memory ∙ a.size;
       devices = b.rests (kept_of new.monitor)
           (resting old.bus (kept_of old.monitor) (kept_of new.monitor) (Some p) unowed
           (ap (λ (m : Monitor). m.rate) b.monitor ∙ a.rate)
@@ -169,19 +170,19 @@ module _ {L : Type 0} (f : State → State) (old new : Parts L) (between : Monit
   }
 
 -- Who is first comes in behind a service of the process that left.
-pub comes_in : {L : Type 0} (f : State → State) (old left new : Parts L) (between : Monitor) (entries : List Entry) (p : ℕ)
+pub comes_in : {L : Type 0} (f : State → State) (old left new : Parts L) (between : Monitor) (entries : List Entry) (memory : List ℕ) (p : ℕ)
     → left ≡ record old { monitor = record old.monitor { seats = left.monitor.seats } }
     → EntersBy new.monitor.ready new.core (kept_of new.monitor)
     → (BufferHolds entries (space_of (kept_of between)) between.grants → BufferHolds new.core.entries (space_of (kept_of new.monitor)) new.monitor.grants)
-    → NamesPages between.grants → new.core.random ≡ left.core.random → new.bus.memory ≡ left.bus.memory → ((k : Kept) → AreResting left.bus k → AreResting new.bus k)
+    → NamesPages between.grants → new.core.random ≡ left.core.random → new.bus.memory ≡ memory → ((k : Kept) → AreResting left.bus k → AreResting new.bus k)
     → new.monitor ≡ record between { owner = new.monitor.owner } → new.failed ≡ left.failed → new.spent ≡ 0 → new.has_room ≡ false
-    → Comes f old new between entries p
-comes_in {L} f old left new between entries p leaves enters buffer pages random memory rests monitor failed spent closed = record {
+    → Comes f old new between entries memory p
+comes_in {L} f old left new between entries memory p leaves enters buffer pages random same rests monitor failed spent closed = record {
   enters = enters;
   buffer = buffer;
   pages = pages;
   random = random ∙ ap (λ (x : Parts L). x.core.random) leaves;
-  memory = memory ∙ ap (λ (x : Parts L). x.bus.memory) leaves;
+  memory = same;
   rests = λ k resting. rests k (subst (λ (b : BusState). AreResting b k) (sym (ap (λ (x : Parts L). x.bus) leaves)) resting);
   monitor = monitor;
   failed = failed ∙ ap (λ (x : Parts L). x.failed) leaves;
@@ -198,7 +199,7 @@ pub stop_served : {L : Type 0} (old left new : Parts L) (between : Monitor) (p u
     → ((memory : List ℕ) → Serves (ends_in_stop p unit pc stop) (kept_of left.monitor) memory (kept_of between) memory)
     → between.lines ≡ left.monitor.lines + 1
     → between ≡ record left.monitor { seats = between.seats; ready = between.ready; log = between.log; lines = between.lines; time = between.time; owed = between.owed }
-    → Served (ends_in_stop p old.core.system.epc (own_in old.core.system) stop) old new between left.core.entries p
+    → Served (ends_in_stop p old.core.system.epc (own_in old.core.system) stop) old new between left.core.entries old.bus.memory p
 stop_served {L} old left new between p unit pc stop unit_is pc_is above kept leaves orderly room serves lines rest =
     let lines_left : left.monitor.lines ≡ old.monitor.lines = ap (λ (x : Parts L). x.monitor.lines) leaves in
     let time_left : left.monitor.time ≡ old.monitor.time = ap (λ (x : Parts L). x.monitor.time) leaves in
@@ -207,6 +208,7 @@ stop_served {L} old left new between p unit pc stop unit_is pc_is above kept lea
       serves = subst (λ (n : ℕ). Serves (ends_in_stop p n (own_in old.core.system) stop) (seated old.core (kept_of old.monitor)) old.bus.memory (kept_of between) old.bus.memory) unit_is
           (subst (λ (n : ℕ). Serves (ends_in_stop p unit n stop) (seated old.core (kept_of old.monitor)) old.bus.memory (kept_of between) old.bus.memory) pc_is
           (subst (λ (k : Kept). Serves (ends_in_stop p unit pc stop) k old.bus.memory (kept_of between) old.bus.memory) kept (serves old.bus.memory)));
+      size = refl;
       buffer = λ numbers one holds. subst (λ (g : GrantsState). BufferHolds left.core.entries numbers g) (sym grants)
           (subst (λ (es : List Entry). BufferHolds es numbers old.monitor.grants) (sym entries) holds);
       owner = ap (λ (m : Monitor). m.owner) rest ∙ ap (λ (x : Parts L). x.monitor.owner) leaves;
@@ -222,25 +224,25 @@ stop_served {L} old left new between p unit pc stop unit_is pc_is above kept lea
     }
 
 -- What a call leaves.
-pub call_served : {L : Type 0} (old left new : Parts L) (between : Monitor) (entries : List Entry) (p unit : ℕ)
+pub call_served : {L : Type 0} (old left new : Parts L) (between : Monitor) (entries : List Entry) (memory : List ℕ) (p unit : ℕ)
     → unit ≡ old.core.system.epc → 0 < p → p ≤ length left.monitor.seats.items
     → kept_of left.monitor ≡ seated old.core (kept_of old.monitor)
     → left ≡ record old { monitor = record old.monitor { seats = left.monitor.seats } }
-    → monitor.IsOrderly (kept_of between)
-    → Serves (ends_in_call p unit) (kept_of left.monitor) left.bus.memory (kept_of between) left.bus.memory
+    → monitor.IsOrderly (kept_of between) → between.lines ≤ left.monitor.lines + 1 → ((n : ℕ) → HasLogRoom (n + 1) left.monitor → HasLogRoom n between)
+    → Serves (ends_in_call p unit) (kept_of left.monitor) left.bus.memory (kept_of between) memory → length memory ≡ length left.bus.memory
     → KeepsBuffer left.core.entries entries left.monitor.grants between.grants
-    → between ≡ record left.monitor { grants = between.grants; seats = between.seats; ready = between.ready; queues = between.queues; consoles = between.consoles; time = between.time; owed = between.owed }
-    → Served (ends_in_call p old.core.system.epc) old new between entries p
-call_served {L} old left new between entries p unit unit_is above within kept leaves orderly serves buffer rest =
+    → between ≡ record left.monitor { grants = between.grants; seats = between.seats; ready = between.ready; queues = between.queues; consoles = between.consoles; log = between.log; lines = between.lines; time = between.time; owed = between.owed }
+    → Served (ends_in_call p old.core.system.epc) old new between entries memory p
+call_served {L} old left new between entries memory p unit unit_is above within kept leaves orderly lines room serves size buffer rest =
     let lines_left : left.monitor.lines ≡ old.monitor.lines = ap (λ (x : Parts L). x.monitor.lines) leaves in
-    let lines : between.lines ≡ left.monitor.lines = ap (λ (m : Monitor). m.lines) rest in
     let time_left : left.monitor.time ≡ old.monitor.time = ap (λ (x : Parts L). x.monitor.time) leaves in
     let grants : left.monitor.grants ≡ old.monitor.grants = ap (λ (x : Parts L). x.monitor.grants) leaves in
     let before : left.core.entries ≡ old.core.entries = ap (λ (x : Parts L). x.core.entries) leaves in
-    let memory : left.bus.memory ≡ old.bus.memory = ap (λ (x : Parts L). x.bus.memory) leaves in record {
-      serves = subst (λ (n : ℕ). Serves (ends_in_call p n) (seated old.core (kept_of old.monitor)) old.bus.memory (kept_of between) old.bus.memory) unit_is
-          (subst (λ (m : List ℕ). Serves (ends_in_call p unit) (seated old.core (kept_of old.monitor)) m (kept_of between) m) memory
-          (subst (λ (k : Kept). Serves (ends_in_call p unit) k left.bus.memory (kept_of between) left.bus.memory) kept serves));
+    let held : left.bus.memory ≡ old.bus.memory = ap (λ (x : Parts L). x.bus.memory) leaves in record {
+      serves = subst (λ (n : ℕ). Serves (ends_in_call p n) (seated old.core (kept_of old.monitor)) old.bus.memory (kept_of between) memory) unit_is
+          (subst (λ (m : List ℕ). Serves (ends_in_call p unit) (seated old.core (kept_of old.monitor)) m (kept_of between) memory) held
+          (subst (λ (k : Kept). Serves (ends_in_call p unit) k left.bus.memory (kept_of between) memory) kept serves));
+      size = size ∙ ap (λ (x : List ℕ). length x) held;
       buffer = subst (λ (es : List Entry). KeepsBuffer es entries old.monitor.grants between.grants) before
           (subst (λ (g : GrantsState). KeepsBuffer left.core.entries entries g between.grants) grants buffer);
       owner = ap (λ (m : Monitor). m.owner) rest ∙ ap (λ (x : Parts L). x.monitor.owner) leaves;
@@ -252,5 +254,5 @@ call_served {L} old left new between entries p unit unit_is above within kept le
       owed = sym (ap (λ (s : State). s.owed) (serves.state [])) ∙ ap (λ (n : ℕ). turn_of n p) time_left;
       kept = orderly;
       due = ap (λ (m : Monitor). m.due) rest ∙ ap (λ (x : Parts L). x.monitor.due) leaves;
-      room = λ n h. subst (HasLogRoom n) (sym rest) (less_room n left.monitor (subst (HasLogRoom (n + 1)) (sym (ap (λ (x : Parts L). x.monitor) leaves)) h));
+      room = λ n h. room n (subst (HasLogRoom (n + 1)) (sym (ap (λ (x : Parts L). x.monitor) leaves)) h);
     }

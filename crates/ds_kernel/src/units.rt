@@ -1,6 +1,6 @@
 //! How a service ends the unit of the process that runs: that leaves for its seat, something is done
 //! to what is kept, and who is first comes in.
-ghost use Rattle.std.specs.Prelude.{◌≡◌, ◌<◌, ◌≤◌, ◌^◌, length, Some, None, [], true, false};
+ghost use Rattle.std.specs.Prelude.{◌≡◌, ℕ, ◌+◌, ◌<◌, ◌≤◌, ◌^◌, length, Some, None, [], true, false};
 ghost use Rattle.ds_log.specs.Length.{IsShortRule};
 ghost use Rattle.ds_procs.specs.Calls.{call_of};
 ghost use Rattle.ds_grants.specs.Buffer.{BufferHolds, KeepsBuffer};
@@ -14,7 +14,7 @@ ghost use Rattle.ds_refinement.specs.Told.{own_in};
 ghost use Rattle.ds_monitor.specs.Kept.{kept_of};
 ghost use Rattle.ds_monitor.specs.Ended.{IsAlive};
 ghost use Rattle.ds_monitor.specs.Orderly as monitor;
-ghost use Rattle.ds_monitor.specs.Room.{HasRoom};
+ghost use Rattle.ds_monitor.specs.Room.{HasLogRoom, HasRoom};
 ghost use Rattle.ds_monitor.specs.Sending.{bus_behind};
 ghost use Rattle.ds_kernel.specs.Good.{IsBusy};
 ghost use Rattle.ds_kernel.specs.Ended.{HasEnded};
@@ -111,6 +111,7 @@ impl<L: Lookaside> Parts<L> {
         requires above { 0 < process }
         requires within { process ≤ length self.old.monitor.seats.items }
         requires early { self.old.monitor.time < 1000000000 }
+        requires count { self.old.monitor.lines < 2 ^ 63 }
         requires room { HasRoom 1 self.old.monitor }
         requires orderly { monitor.IsOrderly (kept_of self.old.monitor) }
         requires alive { IsAlive (kept_of self.old.monitor).state process }
@@ -118,11 +119,16 @@ impl<L: Lookaside> Parts<L> {
         ensures serves { Serves (ends_in_call process unit)
             (kept_of self.old.monitor) self.old.bus.memory
             (kept_of self.new.monitor) self.new.bus.memory }
-        ensures bus { self.new.bus ≡ bus_behind
+        ensures bus { self.new.bus ≡ record (bus_behind
             (call_of (process_of (kept_of self.old.monitor).state process).registers.general)
-            (process_of (kept_of self.old.monitor).state process).line self.old.bus }
+            (process_of (kept_of self.old.monitor).state process).line self.old.bus) {
+              memory = self.new.bus.memory;
+            } }
+        ensures size { length self.new.bus.memory ≡ length self.old.bus.memory }
         ensures orderly { monitor.IsOrderly (kept_of self.new.monitor) }
-        ensures memory { self.new.bus.memory ≡ self.old.bus.memory }
+        ensures lines { self.new.monitor.lines ≤ self.old.monitor.lines + 1 }
+        ensures log { (n : ℕ) → HasLogRoom (n + 1) self.old.monitor
+            → HasLogRoom n self.new.monitor }
         ensures buffer { KeepsBuffer self.old.core.entries self.new.core.entries
             self.old.monitor.grants self.new.monitor.grants }
         ensures random { self.new.core.random ≡ self.old.core.random }
@@ -135,6 +141,8 @@ impl<L: Lookaside> Parts<L> {
             ready = self.new.monitor.ready;
             queues = self.new.monitor.queues;
             consoles = self.new.monitor.consoles;
+            log = self.new.monitor.log;
+            lines = self.new.monitor.lines;
             time = self.new.monitor.time;
             owed = self.new.monitor.owed;
           };

@@ -19,6 +19,7 @@ ghost use Rattle.std.specs.Prelude.{
 };
 ghost use Rattle.ds_log.specs.Text.{line_text};
 ghost use Rattle.ds_policy.specs.PolicyParts.{sources_of};
+ghost use Rattle.ds_policy.specs.InputFacts.{AreGoodCommands};
 ghost use Rattle.ds_pagemap.specs.Machine.{State};
 ghost use Rattle.ds_pagemap.specs.First.{first_state};
 ghost use Rattle.ds_refinement.specs.First.{IsFirst};
@@ -60,7 +61,7 @@ impl<L: Lookaside> Model for Station<L> {
 impl<L: Lookaside> Station<L> {
     /// A station at the beginning of its run: the processes at their start, the images in their
     /// pages, and Random at `start`. There is one image for each source name of the policy, in
-    /// their order.
+    /// their order, and the events were read for a policy with as many pages.
     pub fn new(
         alloc: Global,
         policy: &Policy,
@@ -71,6 +72,7 @@ impl<L: Lookaside> Station<L> {
         requires slots { L.SLOTS ≡ 64 }
         requires wired { L.WIRED ≡ 8 }
         requires images { length images.now ≡ length (sources_of policy.now.pages) }
+        requires commands { AreGoodCommands (length policy.now.pages) events.commands }
         ensures begins { IfOk result (IsFirst policy.now images.now events start) }
         ensures first { IfOk result (λ s. Stands s (first_state policy.now images.now events)) }
         ensures sound { IfOk result IsSound }

@@ -28,7 +28,7 @@ returns-in-Err-read-clause-err c =
     of_first_state c.args.policy.now s c.args.input.now c.args.n c.args.random
     ∙ under_images first_state c.args.policy.now c.in-Ok.images.items s c.args.input.now c.args.n c.args.random images in
     rw c.from.ensures (subst (Refuses (of_events c.in-Err-read.wrong)) (sym is)
-    (refused_by_input c.in-Err-read.wrong c.args.policy.now c.in-Ok.images.items c.args.input.now c.args.n c.args.random c.in-Err-read.ensures))
+    (refused_by_input c.in-Err-read.wrong c.args.policy.now c.in-Ok.images.items c.args.input.now c.args.n c.args.random c.in-Err-read.ensures.exact))
 
 pub returns-then-n-gt-MOST_TICKS-clause-err : goal.returns-then-n-gt-MOST_TICKS-clause-err
 returns-then-n-gt-MOST_TICKS-clause-err c =
@@ -36,7 +36,7 @@ returns-then-n-gt-MOST_TICKS-clause-err c =
     let images = images_are s _ (sources_of c.args.policy.now.pages) c.in-Ok.images.items c.sources.ensures.all c.in-Ok.ensures.images in
     of_first_state c.args.policy.now s c.args.input.now c.args.n c.args.random
     ∙ (under_images first_state c.args.policy.now c.in-Ok.images.items s c.args.input.now c.args.n c.args.random images
-    ∙ (under_input first_state c.args.policy.now c.in-Ok.images.items c.in-Ok-read.events c.args.input.now c.args.n c.args.random c.in-Ok-read.ensures
+    ∙ (under_input first_state c.args.policy.now c.in-Ok.images.items c.in-Ok-read.events c.args.input.now c.args.n c.args.random c.in-Ok-read.ensures.exact
     ∙ refused_by_ticks first_state c.args.policy.now c.in-Ok.images.items c.in-Ok-read.events c.args.n c.args.random c.if-n-gt-MOST_TICKS.true))
 
 pub returns-in-Ok-new-clause-ok : goal.returns-in-Ok-new-clause-ok
@@ -45,7 +45,7 @@ returns-in-Ok-new-clause-ok c =
     let images = images_are s _ (sources_of c.args.policy.now.pages) c.in-Ok.images.items c.sources.ensures.all c.in-Ok.ensures.images in
     let is =
     of_first_state c.args.policy.now s c.args.input.now c.args.n c.args.random
-    ∙ under_all first_state c.args.policy.now c.in-Ok.images.items c.in-Ok-read.events s c.args.input.now c.args.n c.args.random images c.in-Ok-read.ensures c.if-n-gt-MOST_TICKS.false in
+    ∙ under_all first_state c.args.policy.now c.in-Ok.images.items c.in-Ok-read.events s c.args.input.now c.args.n c.args.random images c.in-Ok-read.ensures.exact c.if-n-gt-MOST_TICKS.false in
     prepared first_state (Stands c.in-Ok-new.station) _ c.args.policy.now c.in-Ok.images.items c.in-Ok-read.events c.args.random is
     (subst (λ (xs : List (List ℕ)). Stands c.in-Ok-new.station (first_state c.args.policy.now xs c.in-Ok-read.events)) c.deref.ensures.value c.in-Ok-new.ensures.first)
     (λ b. ok_is_no_err c.in-Ok-new.station BadRandom (c.in-Ok-new.ensures.refused b))
@@ -54,7 +54,7 @@ pub returns-in-Ok-new-clause-real : goal.returns-in-Ok-new-clause-real
 returns-in-Ok-new-clause-real c =
     let s = sources_seen c.args.sources.now in
     let images = images_are s _ (sources_of c.args.policy.now.pages) c.in-Ok.images.items c.sources.ensures.all c.in-Ok.ensures.images in
-    let is = under_all loaded c.args.policy.now c.in-Ok.images.items c.in-Ok-read.events s c.args.input.now c.args.n c.args.random images c.in-Ok-read.ensures c.if-n-gt-MOST_TICKS.false in
+    let is = under_all loaded c.args.policy.now c.in-Ok.images.items c.in-Ok-read.events s c.args.input.now c.args.n c.args.random images c.in-Ok-read.ensures.exact c.if-n-gt-MOST_TICKS.false in
     prepared loaded (BeginsWith c.args.random c.in-Ok-new.station) _ c.args.policy.now c.in-Ok.images.items c.in-Ok-read.events c.args.random is
     (subst (λ (xs : List (List ℕ)). IsFirst c.args.policy.now xs c.in-Ok-read.events c.args.random c.in-Ok-new.station) c.deref.ensures.value c.in-Ok-new.ensures.begins)
     (λ b. ok_is_no_err c.in-Ok-new.station BadRandom (c.in-Ok-new.ensures.refused b))
@@ -65,5 +65,5 @@ returns-clause-err c =
     let images = images_are s _ (sources_of c.args.policy.now.pages) c.in-Ok.images.items c.sources.ensures.all c.in-Ok.ensures.images in
     let is =
     of_first_state c.args.policy.now s c.args.input.now c.args.n c.args.random
-    ∙ under_all first_state c.args.policy.now c.in-Ok.images.items c.in-Ok-read.events s c.args.input.now c.args.n c.args.random images c.in-Ok-read.ensures c.if-n-gt-MOST_TICKS.false in
+    ∙ under_all first_state c.args.policy.now c.in-Ok.images.items c.in-Ok-read.events s c.args.input.now c.args.n c.args.random images c.in-Ok-read.ensures.exact c.if-n-gt-MOST_TICKS.false in
     unprepared_by first_state c.in-Err-new.refused _ c.args.policy.now c.in-Ok.images.items c.in-Ok-read.events c.args.random is c.in-Err-new.ensures.faults

@@ -1,12 +1,11 @@
-use Rattle.std.proofs.Common.{◌≤◌, ℕ, List, sym, ap, subst, ◌∙◌}
+use Rattle.std.proofs.Common.{◌≤◌, ℕ, sym, ap, subst, ◌∙◌}
 use Rattle.ds_procs.specs.Calls.{call_of}
 use Rattle.ds_pagemap.specs.Machine.{process_of}
 use Rattle.ds_kernel.specs.declared.parts.Parts.{Parts}
 use Rattle.ds_kernel.proofs.Keeping.{left_alive}
-use Rattle.ds_kernel.proofs.Finishing.{has_ended, rest_alike, call_rests, comes_in, call_served}
+use Rattle.ds_kernel.proofs.Finishing.{has_ended, rest_alike, memory_rests, call_rests, comes_in, call_served}
 use Rattle.ds_refinement.specs.Held.{Kept}
 use Rattle.ds_refinement.specs.Stands.{AreResting, ends_in_call}
-use Rattle.ds_refinement.specs.Services.{Serves}
 use Rattle.ds_monitor.specs.Kept.{kept_of}
 use Rattle.ds_monitor.specs.Sending.{bus_behind}
 use Rattle.ds_kernel.proofs.parts.Parts.call.Goals as goal
@@ -28,17 +27,19 @@ returns-clause-ends g c =
     let left = c.leave.new.self in
     let mid = c.serve_call.new.self in
     let new = c.end_unit.new.self in
+    let memory = mid.bus.memory in
     let f = ends_in_call p old.core.system.epc in
     let served = c.serve_call.ensures.rest in
     let rest = c.end_unit.ensures.rest in
     let caller = process_of (kept_of left.monitor).state p in
+    let behind = bus_behind (call_of caller.registers.general) caller.line left.bus in
     let rests : (k : Kept) → AreResting left.bus k → AreResting new.bus k = λ k resting.
-    rest_alike (bus_behind (call_of caller.registers.general) caller.line left.bus) new.bus (ap (λ (x : Parts g.row.L.Denot). x.bus) rest ∙ c.serve_call.ensures.bus) k
-    (call_rests (call_of caller.registers.general) left.bus caller.line k resting) in
-    has_ended f old new mid.monitor mid.core.entries p c.requires.busy.good.sound c.look_at_unit.ensures.unowed
-    (call_served old left new mid.monitor mid.core.entries p unit c.unit_address-unit.ensures
-    c.look_at_unit.ensures.above (subst (λ (n : ℕ). p ≤ n) (sym c.leave.ensures.as_many) c.look_at_unit.ensures.within) c.leave.ensures.kept c.leave.ensures.rest c.serve_call.ensures.orderly
-    (subst (λ (m : List ℕ). Serves (ends_in_call p unit) (kept_of left.monitor) left.bus.memory (kept_of mid.monitor) m) c.serve_call.ensures.memory c.serve_call.ensures.serves)
+    rest_alike (record behind { memory = memory }) new.bus (ap (λ (x : Parts g.row.L.Denot). x.bus) rest ∙ c.serve_call.ensures.bus) k
+    (memory_rests behind memory k (call_rests (call_of caller.registers.general) left.bus caller.line k resting)) in
+    has_ended f old new mid.monitor mid.core.entries memory p c.requires.busy.good.sound c.look_at_unit.ensures.unowed
+    (call_served old left new mid.monitor mid.core.entries memory p unit c.unit_address-unit.ensures
+    c.look_at_unit.ensures.above (subst (λ (n : ℕ). p ≤ n) (sym c.leave.ensures.as_many) c.look_at_unit.ensures.within) c.leave.ensures.kept c.leave.ensures.rest
+    c.serve_call.ensures.orderly c.serve_call.ensures.lines c.serve_call.ensures.log c.serve_call.ensures.serves c.serve_call.ensures.size
     c.serve_call.ensures.buffer (ap (λ (x : Parts g.row.L.Denot). x.monitor) served))
-    (comes_in f old left new mid.monitor mid.core.entries p c.leave.ensures.rest c.end_unit.ensures.enters c.end_unit.ensures.buffer c.end_unit.ensures.pages (c.end_unit.ensures.random ∙ c.serve_call.ensures.random)
-    (ap (λ (x : Parts g.row.L.Denot). x.bus.memory) rest ∙ c.serve_call.ensures.memory) rests (ap (λ (x : Parts g.row.L.Denot). x.monitor) rest) (ap (λ (x : Parts g.row.L.Denot). x.failed) rest ∙ ap (λ (x : Parts g.row.L.Denot). x.failed) served) (ap (λ (x : Parts g.row.L.Denot). x.spent) rest) (ap (λ (x : Parts g.row.L.Denot). x.has_room) rest))
+    (comes_in f old left new mid.monitor mid.core.entries memory p c.leave.ensures.rest c.end_unit.ensures.enters c.end_unit.ensures.buffer c.end_unit.ensures.pages (c.end_unit.ensures.random ∙ c.serve_call.ensures.random)
+    (ap (λ (x : Parts g.row.L.Denot). x.bus.memory) rest) rests (ap (λ (x : Parts g.row.L.Denot). x.monitor) rest) (ap (λ (x : Parts g.row.L.Denot). x.failed) rest ∙ ap (λ (x : Parts g.row.L.Denot). x.failed) served) (ap (λ (x : Parts g.row.L.Denot). x.spent) rest) (ap (λ (x : Parts g.row.L.Denot). x.has_room) rest))

@@ -29,8 +29,8 @@ returns-clause-ends g c =
     let stop : Stop = record { kind = c.args.kind; address = c.args.address; rule = c.args.rule; code = c.args.code } in
     let f = ends_in_stop c.args.process old.core.system.epc (own_in old.core.system) stop in
     let rest = c.end_unit.ensures.rest in
-    has_ended f old new between left.core.entries c.args.process c.requires.busy.good.sound c.look_at_unit.ensures.unowed
+    has_ended f old new between left.core.entries old.bus.memory c.args.process c.requires.busy.good.sound c.look_at_unit.ensures.unowed
     (stop_served old left new between c.args.process c.unit_address-unit.result c.own_address-pc.result stop c.unit_address-unit.ensures c.own_address-pc.ensures
     c.look_at_unit.ensures.above c.leave.ensures.kept c.leave.ensures.rest (stopped_orderly g c) c.stop_unit.ensures.room c.stop_unit.ensures.serves c.stop_unit.ensures.lines c.stop_unit.ensures.rest)
-    (comes_in f old left new between left.core.entries c.args.process c.leave.ensures.rest c.end_unit.ensures.enters c.end_unit.ensures.buffer c.end_unit.ensures.pages c.end_unit.ensures.random
-    (ap (λ (x : Parts g.row.L.Denot). x.bus.memory) rest) (rest_alike left.bus new.bus (ap (λ (x : Parts g.row.L.Denot). x.bus) rest)) (ap (λ (x : Parts g.row.L.Denot). x.monitor) rest) (ap (λ (x : Parts g.row.L.Denot). x.failed) rest) (ap (λ (x : Parts g.row.L.Denot). x.spent) rest) (ap (λ (x : Parts g.row.L.Denot). x.has_room) rest))
+    (comes_in f old left new between left.core.entries old.bus.memory c.args.process c.leave.ensures.rest c.end_unit.ensures.enters c.end_unit.ensures.buffer c.end_unit.ensures.pages c.end_unit.ensures.random
+    (ap (λ (x : Parts g.row.L.Denot). x.bus.memory) rest ∙ ap (λ (x : Parts g.row.L.Denot). x.bus.memory) c.leave.ensures.rest) (rest_alike left.bus new.bus (ap (λ (x : Parts g.row.L.Denot). x.bus) rest)) (ap (λ (x : Parts g.row.L.Denot). x.monitor) rest) (ap (λ (x : Parts g.row.L.Denot). x.failed) rest) (ap (λ (x : Parts g.row.L.Denot). x.spent) rest) (ap (λ (x : Parts g.row.L.Denot). x.has_room) rest))
