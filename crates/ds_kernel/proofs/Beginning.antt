@@ -1,5 +1,5 @@
 -- The beginning of a run leaves the station as it should be.
-use Rattle.std.proofs.Common.{◌≡◌, ℕ, List, true, false, not, None, sym, ap, subst, ◌∙◌, arith}
+use Rattle.std.proofs.Common.{◌≡◌, ℕ, ◌+◌, ◌≤◌, List, length, true, false, not, None, sym, ap, subst, ◌∙◌, arith}
 use Rattle.ds_cp0.specs.System.{is_user}
 use Rattle.ds_core.specs.Core.{CoreState}
 use Rattle.ds_policy.specs.Value.{PolicyValue, InputValue}
@@ -14,6 +14,7 @@ use Rattle.ds_kernel.specs.declared.parts.Parts.{Parts}
 use Rattle.ds_kernel.specs.Parts.{held}
 use Rattle.ds_monitor.specs.Coming.{next_due}
 use Rattle.ds_kernel.specs.Good.{IsRate, IsGood}
+use Rattle.ds_kernel.proofs.Stepping.{none_is_not_some}
 
 pub first_good : {L : Type 0} (p : Parts L) (policy : PolicyValue) (images : List (List ℕ)) (input : InputValue) (start : ℕ) → IsFirst policy images input start (held p)
     → Stands (held p) (first_state policy images input) → monitor.IsOrderly (kept_of p.monitor) → IsRate policy.rate → p.monitor.quiet_until ≡ next_due (kept_of p.monitor) → length p.monitor.due.commands ≤ 4096 → p.has_room ≡ false → IsGood p

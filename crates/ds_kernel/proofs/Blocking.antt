@@ -1,5 +1,5 @@
 -- A block of instructions of a process goes on in a run.
-use Rattle.std.proofs.Common.{◌≡◌, ◌≢◌, ℕ, zero, suc, ◌+◌, ◌-◌, ◌*◌, ◌<◌, ◌≤◌, Bool, true, false, cond, [], Option, Some, None, refl, sym, ap, ap₂, subst, ◌∙◌, arith}
+use Rattle.std.proofs.Common.{◌≡◌, ◌≢◌, ℕ, zero, suc, ◌+◌, ◌-◌, ◌*◌, ◌<◌, ◌≤◌, Bool, true, false, cond, [], Option, Some, None, refl, sym, ap, ap₂, subst, ◌∙◌, length, arith}
 use Rattle.std.specs.Prelude.{is_some, not, ◌==◌}
 use Rattle.ds_word.specs.Word.{truth, bits}
 use Rattle.ds_cp0.specs.declared.exception.ExceptionCode.{ExceptionCode}
@@ -29,7 +29,7 @@ use Rattle.ds_kernel.specs.Good.{IsRate, IsGood}
 use Rattle.ds_kernel.specs.Ran.{HasRun}
 use Rattle.ds_kernel.specs.Going.{rank, GoesOn}
 use Rattle.ds_monitor.proofs.Lawful.{turn_orderly}
-use Rattle.ds_monitor.specs.Orderly as monitor
+use Rattle.ds_monitor.specs.Orderly as state
 use Rattle.ds_kernel.proofs.Rooms.{room_later, turn_room}
 use Rattle.ds_kernel.proofs.Stepping.{none_is_not_some}
 
@@ -98,7 +98,7 @@ later_good old new good sound unowed ready monitor failed later raised few room 
         ticked = omega (arith, ticked, before, later);
         early = early;
         rate = subst (λ (m : Monitor). IsRate m.rate) (sym monitor) good.orderly.rate;
-        kept = subst (λ (m : Monitor). monitor.IsOrderly (kept_of m)) (sym monitor) (turn_orderly (kept_of old.monitor) new.monitor.time old.monitor.owed good.orderly.kept);
+        kept = subst (λ (m : Monitor). state.IsOrderly (kept_of m)) (sym monitor) (turn_orderly (kept_of old.monitor) new.monitor.time old.monitor.owed good.orderly.kept);
       };
       room = λ some. turn_room new.monitor still_room next (let before = quiet some in omega (arith, before, until));
       owed = λ some. absurd (none_is_not_some new.monitor.owed owed some);

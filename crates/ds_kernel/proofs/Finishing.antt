@@ -1,5 +1,5 @@
 -- A service ends the unit.
-use Rattle.std.proofs.Common.{◌≡◌, ℕ, ◌+◌, ◌%◌, ◌^◌, ◌<◌, ◌≤◌, ◌==◌, Bool, true, false, cond, List, [], length, Option, Some, None, sym, ap, ap₂, subst, ◌∙◌, arith}
+use Rattle.std.proofs.Common.{◌≡◌, ℕ, ◌+◌, ◌%◌, ◌^◌, ◌<◌, ◌≤◌, ◌==◌, Bool, true, false, cond, List, [], length, Option, Some, None, refl, sym, ap, ap₂, subst, ◌∙◌, arith}
 use Rattle.ds_tlb.specs.declared.entry.Entry.{Entry}
 use Rattle.ds_dev.specs.Serial.{SerialState}
 use Rattle.ds_dev.specs.Clock.{ClockState}
@@ -102,14 +102,14 @@ call_rests call.Wait b line k r = r
 call_rests call.Unknown b line k r = r
 
 -- What is kept between the service and who comes in.
-module _ {L : Type 0} (f : State → State) (old new : Parts L) (between : Monitor) (entries : List Entry) (memory : List ℕ) (p : ℕ) where
+module _ {L : Type 0} (f : State → State) (old new : Parts L) (between : Monitor) (entries : List Entry) (last : List ℕ) (p : ℕ) where
   -- what comes in leaves
   pub record Comes : Type 0 where
     pub enters : EntersBy new.monitor.ready new.core (kept_of new.monitor)
     pub buffer : BufferHolds entries (space_of (kept_of between)) between.grants → BufferHolds new.core.entries (space_of (kept_of new.monitor)) new.monitor.grants
     pub pages : NamesPages between.grants
     pub random : new.core.random ≡ old.core.random
-    pub memory : new.bus.memory ≡ memory
+    pub memory : new.bus.memory ≡ last
     pub rests : (k : Kept) → AreResting old.bus k → AreResting new.bus k
     pub monitor : new.monitor ≡ record between { owner = new.monitor.owner }
     pub failed : new.failed ≡ old.failed
@@ -118,8 +118,8 @@ module _ {L : Type 0} (f : State → State) (old new : Parts L) (between : Monit
 
   -- what the service leaves
   pub record Served : Type 0 where
-    pub serves : Serves f (seated old.core (kept_of old.monitor)) old.bus.memory (kept_of between) memory
-    pub size : length memory ≡ length old.bus.memory
+    pub serves : Serves f (seated old.core (kept_of old.monitor)) old.bus.memory (kept_of between) last
+    pub size : length last ≡ length old.bus.memory
     pub buffer : KeepsBuffer old.core.entries entries old.monitor.grants between.grants
     pub owner : between.owner ≡ old.monitor.owner
     pub rate : between.rate ≡ old.monitor.rate
@@ -142,8 +142,8 @@ module _ {L : Type 0} (f : State → State) (old new : Parts L) (between : Monit
   has_ended sound unowed a b = record {
     ends = record {
       serves = subst (λ (x : List ℕ). Serves f (seated old.core (kept_of old.monitor)) old.bus.memory (kept_of new.monitor) x) (sym b.memory)
-          (subst (λ (k : Kept). Serves f (seated old.core (kept_of old.monitor)) old.bus.memory k memory) (sym (kept_is b))
-          (owner_unseen f (seated old.core (kept_of old.monitor)) (kept_of between) old.bus.memory memory new.monitor.owner a.serves));
+          (subst (λ (k : Kept). Serves f (seated old.core (kept_of old.monitor)) old.bus.memory k last) (sym (kept_is b))
+          (owner_unseen f (seated old.core (kept_of old.monitor)) (kept_of between) old.bus.memory last new.monitor.owner a.serves));
       enters = b.enters;
       buffer = b.buffer (subst (λ (s : ℕ → ℕ). BufferHolds entries s between.grants) (same_space a)
           (a.buffer (space_of (kept_of old.monitor)) (one_space (kept_of old.monitor)) sound.stands.buffer));

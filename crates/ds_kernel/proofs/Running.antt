@@ -1,5 +1,5 @@
 -- A run of a station, by blocks of instructions and by steps.
-use Rattle.std.proofs.Common.{◌≡◌, ℕ, ◌+◌, ◌-◌, ◌*◌, ◌<◌, ◌≤◌, Bool, true, false, cond, [], Option, Some, None, refl, sym, ap, subst, ◌∙◌, arith, inr}
+use Rattle.std.proofs.Common.{◌≡◌, ℕ, ◌+◌, ◌-◌, ◌*◌, ◌<◌, ◌≤◌, Bool, true, false, cond, [], Option, Some, None, refl, sym, ap, subst, ◌∙◌, arith, inr, zero, suc}
 use Rattle.std.proofs.lemmas.Bool.Decides.{nat_tests}
 use Rattle.std.specs.Prelude.{IsSome, is_some, not, ◌||◌, ◌&&◌, nat_lt, min}
 use Rattle.std.proofs.Math.Nat.{min-le_left}
@@ -141,6 +141,14 @@ pub raised_goes_on : (n : ℕ) (h : Held) → IsSound h → IsOrderly h → is_i
 raised_goes_on n h sound orderly kernel before =
     let some : 0 < h.own.spent = orderly.raised kernel in
     begins_goes n h sound.state sound.stands (inr (orderly.running some, before some))
+
+none_of : (k : ℕ) → (0 < k → ⊥) → k ≡ 0
+none_of zero none = refl
+none_of (suc k) none = absurd (none (omega arith))
+
+-- where it doesn't go on, no unit is begun that was begun before its end
+pub none_begun : (n : ℕ) (h : Held) → IsSound h → IsOrderly h → held_goes_on n h ≡ false → (0 < h.own.spent → h.kept.state.time < n) → h.own.spent ≡ 0
+none_begun n h sound orderly over before = none_of h.own.spent (λ some. let no : true ≡ false = sym (begins_goes n h sound.state sound.stands (inr (orderly.running some, before some))) ∙ over in absurd (cc))
 
 -- and where a boundary is owed
 pub owed_goes_on : (n : ℕ) (h : Held) → IsSome h.kept.state.owed → held_goes_on n h ≡ true

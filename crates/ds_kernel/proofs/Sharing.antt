@@ -1,5 +1,5 @@
 -- A boundary does the commands that are due, and then what is to be done to queues and processes.
-use Rattle.std.proofs.Common.{◌≡◌, ℕ, zero, suc, ◌+◌, Bool, true, false, cond, not, nat_le, List, [], ◌∷◌, length, take, filter, Option, Some, None, refl, sym, ap, subst, ◌∙◌, arith, ◌-◌, ◌<◌, ◌≤◌, map}
+use Rattle.std.proofs.Common.{◌≡◌, ℕ, zero, suc, ◌+◌, Bool, true, false, cond, not, nat_le, List, [], ◌∷◌, length, take, filter, Option, Some, None, refl, sym, ap, ap₂, subst, ◌∙◌, arith, ◌-◌, ◌<◌, ◌≤◌, map}
 use Rattle.std.specs.Prelude.{IfSome, ◌&&◌, slice_index_or}
 use Rattle.std.proofs.Math.Seq.{map-set_same}
 use Rattle.std.proofs.lemmas.Bool.Decides.{nat_tests}
@@ -17,6 +17,12 @@ use Rattle.ds_pagemap_laws.proofs.LawfulBoundaries.{typed_formed, woken_lawful, 
 use Rattle.ds_pagemap_laws.specs.Due.{come}
 use Rattle.ds_grants.specs.State.{page_state}
 use Rattle.ds_refinement.specs.Held.{Kept, whole}
+use Rattle.ds_refinement.specs.Services.{IsBare, Serves}
+use Rattle.ds_monitor.specs.Commands.{commanded}
+use Rattle.ds_monitor.proofs.Serving.{serves_then}
+use Rattle.ds_monitor.proofs.Called.{by_kept}
+use Rattle.ds_dev.specs.declared.serial.Character.{Character as Received}
+use Rattle.ds_kernel.specs.Devices.{typed}
 use Rattle.ds_monitor.specs.Blind.{IsBlind}
 use Rattle.ds_monitor.specs.Kept.{kept_after}
 use Rattle.ds_monitor.specs.Ended.{marks_of}
@@ -56,6 +62,17 @@ pub boundary_ruled : (m : State) (turn : Turn) → m.owed ≡ Some turn
     → boundary m ≡ ruled m.time (take 64 (come m)) (has_passed m.rate turn.began m.time) turn.runner (record m { characters = to_come m; owed = None })
 unfolding boundary
 boundary_ruled m turn owed = ap (λ (o : Option Turn). owed_boundary o m) owed
+
+-- commands that are done and then what is shared are the rest of a boundary
+pub rules : (now : ℕ) (silo read : List Received) (flag passed : Bool) (owed runner : Option ℕ) (a b n : Kept) (x y : List ℕ) → read ≡ silo → passed ≡ flag → runner ≡ owed
+    → Serves (commanded now) a x b y → IsBare b.state → n ≡ kept_after (shared (map typed read) passed runner) b → Serves (ruled now (map typed silo) flag owed) a x n y
+rules now silo read flag passed owed runner a b n x y same told ran s bare is =
+    let f : State → State = shared (map typed silo) flag owed in
+    let by : n ≡ kept_after f b =
+    is
+    ∙ (ap (λ (cs : List Received). kept_after (shared (map typed cs) passed runner) b) same
+    ∙ ap₂ (λ (p : Bool) (r : Option ℕ). kept_after (shared (map typed silo) p r) b) told ran) in
+    serves_then (commanded now) f a b n x y y s (by_kept f b n y (shared_blind (map typed silo) flag owed) bare by)
 
 -- What it leaves is lawful.
 

@@ -3,6 +3,7 @@ ghost use Rattle.std.specs.Prelude.{◌≡◌, ◌+◌, ◌<◌, ◌≤◌, ◌^
 ghost use Rattle.ds_grants.specs.Buffer.{KeepsBuffer};
 ghost use Rattle.ds_refinement.specs.Services.{Serves, seated};
 ghost use Rattle.ds_monitor.specs.Kept.{kept_of, kept_after};
+ghost use Rattle.ds_monitor.specs.Commands.{commanded};
 ghost use Rattle.ds_monitor.specs.Orderly as monitor;
 ghost use Rattle.ds_monitor.specs.Room.{HasBoundaryRoom};
 ghost use Rattle.ds_kernel.specs.Parts.{held};
@@ -67,6 +68,39 @@ impl<L: Lookaside> Parts<L> {
         }
     }
 
+    /// The commands that are due are done.
+    fn command(&mut self)
+        requires orderly { monitor.IsOrderly (kept_of self.old.monitor) }
+        requires early { self.old.monitor.time < 2 ^ 62 }
+        requires count { self.old.monitor.lines + length self.old.monitor.due.commands < 2 ^ 63 }
+        requires room { HasBoundaryRoom self.old.monitor }
+        ensures serves { Serves (commanded self.old.monitor.time)
+            (kept_of self.old.monitor) self.old.bus.memory
+            (kept_of self.new.monitor) self.old.bus.memory }
+        ensures orderly { monitor.IsOrderly (kept_of self.new.monitor) }
+        ensures count { self.new.monitor.lines + length self.new.monitor.due.commands
+            ≤ self.old.monitor.lines + length self.old.monitor.due.commands }
+        ensures buffer { KeepsBuffer self.old.core.entries self.new.core.entries
+            self.old.monitor.grants self.new.monitor.grants }
+        ensures random { self.new.core.random ≡ self.old.core.random }
+        ensures rest { self.new ≡ record self.old {
+          core = record self.old.core { entries = self.new.core.entries };
+          monitor = record self.old.monitor {
+            grants = self.new.monitor.grants;
+            seats = self.new.monitor.seats;
+            ready = self.new.monitor.ready;
+            log = self.new.monitor.log;
+            lines = self.new.monitor.lines;
+            due = record self.old.monitor.due {
+              commands = self.new.monitor.due.commands;
+            };
+          };
+        } }
+    {
+        self.monitor
+            .commands(self.bus.memory(), &mut self.core.tlb);
+    }
+
     /// The turn whose boundary is owed is over: who ran is in its seat, the commands that are due
     /// are done, and what was received and the clock's flags are read and served.
     fn serve_turn(&mut self)
@@ -106,8 +140,7 @@ impl<L: Lookaside> Parts<L> {
     {
         self.leave_first();
         let runner = runner_of(self.monitor.take_owed());
-        self.monitor
-            .commands(self.bus.memory(), &mut self.core.tlb);
+        self.command();
         let passed = read_clock(&mut self.bus);
         self.share(passed, runner);
     }

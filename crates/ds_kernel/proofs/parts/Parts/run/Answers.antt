@@ -1,6 +1,6 @@
-use Rattle.std.proofs.Common.{◌∙◌, arith, inl, inr}
+use Rattle.std.proofs.Common.{◌∙◌, sym, arith, inl, inr}
 use Rattle.ds_kernel.specs.Parts.{held}
-use Rattle.ds_kernel.proofs.Running.{no_run, failed_again}
+use Rattle.ds_kernel.proofs.Running.{no_run, failed_again, none_begun}
 use Rattle.ds_kernel.proofs.parts.Parts.run.Goals as goal
 
 pub returns-then-self-clause-cut : goal.returns-then-self-clause-cut
@@ -26,3 +26,9 @@ loop-self-preserved g c =
       working = goes.working ∙ c.loop-self.invariant.working;
       begun = λ before some. goes.begun some;
     }
+
+pub returns-clause-unit : goal.returns-clause-unit
+returns-clause-unit g c = λ before.
+    let last = c.loop-self.self in
+    let good = c.loop-self.invariant.good in
+    none_begun c.args.n (held last) good.sound good.orderly (sym c.goes_on.ensures ∙ c.loop-self-test.false) (c.loop-self.invariant.begun before)

@@ -1,4 +1,4 @@
-use Rattle.std.proofs.Common.{ap, []}
+use Rattle.std.proofs.Common.{ap, [], ◌∙◌}
 use Rattle.ds_kernel.specs.declared.parts.Parts.{Parts}
 use Rattle.ds_kernel.proofs.Keeping.{left_alive}
 use Rattle.ds_kernel.proofs.Finishing.{has_ended, rest_alike, comes_in, stop_served}
@@ -6,18 +6,12 @@ use Rattle.ds_refinement.specs.Stands.{ends_in_stop}
 use Rattle.ds_refinement.specs.Told.{own_in}
 use Rattle.ds_pagemap.specs.Unit.{Stop}
 use Rattle.ds_monitor.specs.Kept.{kept_of}
-use Rattle.ds_monitor.specs.Orderly as monitor
 use Rattle.ds_kernel.proofs.parts.Parts.stop.Goals as goal
-
--- what is kept behind the stop
-stopped_orderly : (g : goal.Generics) (c : goal.end_unit-requires-Context g) → monitor.IsOrderly (kept_of c.stop_unit.new.self)
-stopped_orderly g c =
-    c.stop_unit.ensures.orderly (c.leave.ensures.orderly c.look_at_unit.ensures.orderly)
-    (left_alive c.args.self.now.core (kept_of c.args.self.now.monitor) (kept_of c.leave.new.self.monitor) c.args.process c.leave.ensures.kept c.look_at_unit.ensures.first c.look_at_unit.ensures.above c.look_at_unit.ensures.within c.look_at_unit.ensures.alive)
 
 pub end_unit-requires : goal.end_unit-requires
 end_unit-requires g c = record {
-  lawful = (stopped_orderly g c).lawful;
+  lawful = (c.stop_unit.ensures.orderly (c.leave.ensures.orderly c.look_at_unit.ensures.orderly)
+      (left_alive c.args.self.now.core (kept_of c.args.self.now.monitor) (kept_of c.leave.new.self.monitor) c.args.process c.leave.ensures.kept c.look_at_unit.ensures.first c.look_at_unit.ensures.above c.look_at_unit.ensures.within c.look_at_unit.ensures.alive)).lawful;
 }
 
 pub returns-clause-ends : goal.returns-clause-ends
@@ -31,6 +25,7 @@ returns-clause-ends g c =
     let rest = c.end_unit.ensures.rest in
     has_ended f old new between left.core.entries old.bus.memory c.args.process c.requires.busy.good.sound c.look_at_unit.ensures.unowed
     (stop_served old left new between c.args.process c.unit_address-unit.result c.own_address-pc.result stop c.unit_address-unit.ensures c.own_address-pc.ensures
-    c.look_at_unit.ensures.above c.leave.ensures.kept c.leave.ensures.rest (stopped_orderly g c) c.stop_unit.ensures.room c.stop_unit.ensures.serves c.stop_unit.ensures.lines c.stop_unit.ensures.rest)
+    c.look_at_unit.ensures.above c.leave.ensures.kept c.leave.ensures.rest (c.stop_unit.ensures.orderly (c.leave.ensures.orderly c.look_at_unit.ensures.orderly)
+      (left_alive c.args.self.now.core (kept_of c.args.self.now.monitor) (kept_of c.leave.new.self.monitor) c.args.process c.leave.ensures.kept c.look_at_unit.ensures.first c.look_at_unit.ensures.above c.look_at_unit.ensures.within c.look_at_unit.ensures.alive)) c.stop_unit.ensures.room c.stop_unit.ensures.serves c.stop_unit.ensures.lines c.stop_unit.ensures.rest)
     (comes_in f old left new between left.core.entries old.bus.memory c.args.process c.leave.ensures.rest c.end_unit.ensures.enters c.end_unit.ensures.buffer c.end_unit.ensures.pages c.end_unit.ensures.random
     (ap (λ (x : Parts g.row.L.Denot). x.bus.memory) rest ∙ ap (λ (x : Parts g.row.L.Denot). x.bus.memory) c.leave.ensures.rest) (rest_alike left.bus new.bus (ap (λ (x : Parts g.row.L.Denot). x.bus) rest)) (ap (λ (x : Parts g.row.L.Denot). x.monitor) rest) (ap (λ (x : Parts g.row.L.Denot). x.failed) rest) (ap (λ (x : Parts g.row.L.Denot). x.spent) rest) (ap (λ (x : Parts g.row.L.Denot). x.has_room) rest))
