@@ -28,6 +28,30 @@ fn a_call_is_read_off_the_registers(rt: HostRuntime) {
 }
 
 #[test]
+fn calls_about_grants_have_up_to_four_arguments(rt: HostRuntime) {
+    let mut process = asks(6, 0x0041_0000);
+    process.registers[5] = 2;
+    process.registers[6] = 0x0080_0000;
+    process.registers[7] = 3;
+    let give = Call::Give {
+        address: 0x0041_0000,
+        receiver: 2,
+        to: 0x0080_0000,
+        mode: 3,
+    };
+    assert_eq!(rt; Call::of(&process), give);
+    process.registers[2] = 8;
+    assert_eq!(rt; Call::of(&process), Call::Drop { address: 0x0041_0000 });
+    let mut process = asks(7, 2);
+    process.registers[5] = 0x0080_0000;
+    let take = Call::Take {
+        process: 2,
+        address: 0x0080_0000,
+    };
+    assert_eq!(rt; Call::of(&process), take);
+}
+
+#[test]
 fn turns_go_round_among_those_that_are_ready(rt: HostRuntime) {
     let mut ready = Queue::new();
     ready.rotate();

@@ -47,25 +47,40 @@ pub enum Call {
 /// The register that holds a call's number.
 const NUMBER: usize = 2;
 
-/// The register that holds its first argument.
-const ARGUMENT: usize = 4;
+/// The registers that hold its arguments, of which no call has more than four.
+const FIRST: usize = 4;
+const SECOND: usize = 5;
+const THIRD: usize = 6;
+const FOURTH: usize = 7;
 
 impl Call {
-    /// The call that a process asks for by its registers, where it stands behind a SYSCALL. The
-    /// numbers 6, 7 and 8, of the calls about grants, name none yet.
+    /// The call that a process asks for by its registers, where it stands behind a SYSCALL.
     pub fn of(process: &Process) -> Call
         ensures { result ≡ call_of process.now.registers }
     {
-        let argument = process.registers[ARGUMENT];
-        match process.registers[NUMBER] {
+        let registers = &process.registers;
+        match registers[NUMBER] {
             0 => Call::Exit,
             1 => Call::Put {
-                byte: (argument % 256) as u8,
+                byte: (registers[FIRST] % 256) as u8,
             },
             2 => Call::Get,
             3 => Call::Yield,
             4 => Call::Time,
             5 => Call::Own,
+            6 => Call::Give {
+                address: registers[FIRST],
+                receiver: registers[SECOND],
+                to: registers[THIRD],
+                mode: registers[FOURTH],
+            },
+            7 => Call::Take {
+                process: registers[FIRST],
+                address: registers[SECOND],
+            },
+            8 => Call::Drop {
+                address: registers[FIRST],
+            },
             9 => Call::Wait,
             _ => Call::Unknown,
         }
