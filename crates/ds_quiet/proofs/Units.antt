@@ -1,7 +1,7 @@
 -- A quiet unit makes twins of twins.
 use Rattle.std.proofs.Common.{◌≡◌, ℕ, ◌+◌, ◌-◌, Bool, true, false, cond, List, [], ◌∷◌, ◌++◌, refl, sym, ap, ap₂, ◌∙◌, subst, arith, length-set, ◌<◌, ◌%◌}
 use Rattle.std.proofs.Math.Path.{fun_ext}
-use Rattle.std.specs.Prelude.{◌^◌, ◌&&◌, ◌==◌, nat_lt, not, slice_index_or, slice_set, Some, Result, Ok, Err}
+use Rattle.std.specs.Prelude.{◌^◌, ◌&&◌, ◌==◌, nat_lt, not, slice_index, slice_index_or, slice_set, Some, Result, Ok, Err}
 use Rattle.ds_word.specs.Word.{word}
 use Rattle.ds_isa.specs.declared.instr.Size.TheVariants.{Word}
 use Rattle.ds_isa.specs.Registers.{Registers, settled}
@@ -163,9 +163,18 @@ served_alike a qs p pc call.Unknown k = answered_alike a (twin a qs) p (2 ^ 32 -
 served_twins : (a b : State) (p pc : ℕ) (c d : Call) → IsTwin a b → c ≡ d → IsTwin (served a p pc c) (served b p pc d)
 served_twins a b p pc c d k e = rw e (via (λ m. served m p pc d) a b (λ qs t. served_alike a qs p pc d t) k)
 
+-- the call of a number with its arguments
+abbrev call_by : ℕ → ℕ → ℕ → ℕ → ℕ → Call
+call_by n a b c d =
+    cond (n == 0) call.Exit (cond (n == 1) (call.Put (a % 256)) (cond (n == 2) call.Get (cond (n == 3) call.Yield (cond (n == 4) call.Time (cond (n == 5) call.Own
+    (cond (n == 6) (call.Give a b c d) (cond (n == 7) (call.Take a b) (cond (n == 8) (call.Drop a) (cond (n == 9) call.Wait call.Unknown)))))))))
+
 -- a call's registers are none that a touch can reach
 call_alike : (r s : Registers) → AreAlike r s → call_of r.general ≡ call_of s.general
-call_alike r s k = ap₂ (λ (n a : ℕ). cond (n == 0) call.Exit (cond (n == 1) (call.Put (a % 256)) (cond (n == 2) call.Get (cond (n == 3) call.Yield (cond (n == 4) call.Time (cond (n == 5) call.Own (cond (n == 9) call.Wait call.Unknown))))))) (k.general 2 refl) (k.general 4 refl)
+call_alike r s k =
+    ap₂ (λ (n a : ℕ). call_by n a (slice_index r.general 5) (slice_index r.general 6) (slice_index r.general 7)) (k.general 2 refl) (k.general 4 refl)
+    ∙ (ap₂ (λ (b c : ℕ). call_by (slice_index s.general 2) (slice_index s.general 4) b c (slice_index r.general 7)) (k.general 5 refl) (k.general 6 refl)
+    ∙ ap (call_by (slice_index s.general 2) (slice_index s.general 4) (slice_index s.general 5) (slice_index s.general 6)) (k.general 7 refl))
 
 registers_of_twin : (a b : State) (p : ℕ) → IsTwin a b → AreAlike (process_of a p).registers (process_of b p).registers
 registers_of_twin a b p k = subst (λ (m : State). AreAlike (process_of a p).registers (process_of m p).registers) (sym k.is) ((k.twins.each (p - 1)).registers)
