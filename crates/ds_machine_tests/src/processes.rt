@@ -41,7 +41,10 @@ fn calls_about_grants_have_up_to_four_arguments(rt: HostRuntime) {
     };
     assert_eq!(rt; Call::of(&process), give);
     process.registers[2] = 8;
-    assert_eq!(rt; Call::of(&process), Call::Drop { address: 0x0041_0000 });
+    let drop = Call::Drop {
+        address: 0x0041_0000,
+    };
+    assert_eq!(rt; Call::of(&process), drop);
     let mut process = asks(7, 2);
     process.registers[5] = 0x0080_0000;
     let take = Call::Take {

@@ -47,10 +47,16 @@ pub enum Call {
 /// The register that holds a call's number.
 const NUMBER: usize = 2;
 
-/// The registers that hold its arguments, of which no call has more than four.
+/// The register that holds its first argument.
 const FIRST: usize = 4;
+
+/// That of its second argument.
 const SECOND: usize = 5;
+
+/// That of its third argument.
 const THIRD: usize = 6;
+
+/// That of its fourth argument.
 const FOURTH: usize = 7;
 
 impl Call {
