@@ -3,3 +3,4 @@ pub mod Advances
 pub mod Slots
 pub mod Users
 pub mod Codes
+pub mod Wholes

@@ -17,12 +17,16 @@ const NO_PAGE: u64 = 0x1_0000_0000;
 /// The first address that is not mapped.
 const KSEG0: u32 = 0x8000_0000;
 
-/// A page of code, and the first address of its frame in memory.
+/// A page of code, its first address, and that of its frame in memory.
 #[derive(Clone, Copy)]
 pub(super) struct CodePage {
     pub vpn: u64,
     pub base: u32,
+    first: u64,
+    ghost low: { vpn ≤ 2 ^ 32 },
+    ghost begins: { first ≡ vpn * 4096 },
     ghost inside: { base + 4096 ≤ 2 ^ 23 },
+    ghost whole: { base % 4096 ≡ 0 },
 }
 
 impl CodePage {
@@ -34,6 +38,7 @@ impl CodePage {
         CodePage {
             vpn: NO_PAGE,
             base: 0,
+            first: NO_PAGE * 4096,
         }
     }
 
@@ -46,8 +51,10 @@ impl CodePage {
         ensures place { IfSome result (λ place. place ≡ self.now.base + pc % 2 ^ 12) }
         ensures inside { IfSome result (λ place. place < 2 ^ 23) }
     {
-        if u64::from(pc >> 12) == self.vpn && pc % 4 == 0 {
-            Some(self.base + pc % 4096)
+        let offset = u64::from(pc).wrapping_sub(self.first);
+        if offset % 4 == 0 && offset < 4096 {
+            // The base ends in zeros: told here, so that the sum has the offset as its last bits.
+            Some(self.base / 4096 * 4096 + offset as u32)
         } else {
             None
         }
@@ -58,6 +65,7 @@ impl<L: Lookaside> Core<L> {
     /// The page of the instruction at `pc`, where the buffer remembers it, and no instruction can
     /// change what it is: only a device can interrupt, so coprocessor 0 may not be used.
     #[inline(always)]
+    #[tactic(auto, using(crate::proofs::Wholes::base_is_whole))]
     pub(super) fn code_page(&self) -> CodePage
         ensures { KnowsPage result.vpn result.base self.now }
     {
@@ -69,6 +77,7 @@ impl<L: Lookaside> Core<L> {
             Some(base) => CodePage {
                 vpn: u64::from(vpn),
                 base,
+                first: u64::from(vpn) * 4096,
             },
             None => CodePage::none(),
         }
