@@ -126,6 +126,38 @@ fn registers_take_words_alone_and_no_place_around_them_does(rt: HostRuntime) -> 
     Ok(())
 }
 
+/// Whether a character goes out of two buses alike: of the one by two stores of words, of the other
+/// by the registers' names.
+fn leaves_alike(stored: &mut Bus, named: &mut Bus, enables: u32, character: u32) -> bool {
+    let stores = write(stored, ENABLES, enables) && write(stored, TRANSMIT, character);
+    named.set_enables(enables);
+    named.transmit(character);
+    let read_alike = read(stored, ENABLES) == read(named, ENABLES);
+    stores && read_alike && stored.sent() == named.sent()
+}
+
+#[test]
+fn a_character_goes_out_by_name_as_by_address(rt: HostRuntime) -> Result<(), Fail> {
+    let mut stored = new_bus(rt.alloc())?;
+    let mut named = new_bus(rt.alloc())?;
+    assert!(rt; leaves_alike(&mut stored, &mut named, 2, 0x41));
+    assert_eq!(rt; named.sent(), None);
+    assert!(rt; write(&mut stored, CONTROL, 0x20));
+    assert!(rt; write(&mut named, CONTROL, 0x20));
+    for enables in 0..0x20u32 {
+        let character = enables ^ 0x1aa;
+        assert!(rt;
+            leaves_alike(&mut stored, &mut named, enables, character),
+            "{enables}"
+        );
+    }
+    named.set_enables(0x1c);
+    named.transmit(0x141);
+    assert_eq!(rt; named.sent(), Some((2, 0x41)));
+    assert_eq!(rt; named.sent(), None);
+    Ok(())
+}
+
 #[test]
 fn the_memory_is_that_of_the_bus(rt: HostRuntime) -> Result<(), Fail> {
     let mut memory = Memory::new(rt.alloc())?;
