@@ -60,7 +60,7 @@ fn check<'a>(
         ("index", index),
         ("a/policy", POLICY),
         ("a/nothing", ""),
-        ("a/stop", "1 stop 1\n"),
+        ("a/stop", "1 stop\n"),
         ("a/written", WRITTEN),
         ("a/refused", "dsmon: 20 InputFault 1\n"),
         ("a/cases", cases),
@@ -115,8 +115,8 @@ a 0 written run policy nothing 20: as expected
 fn the_cases_of_a_table_are_counted(rt: HostRuntime) -> Result<(), Fail> {
     let cases = "# Inputs.
 
-== a command
-1 stop 1
+== a command that names no process
+1 stop
 -- 20 InputFault 1
 
 == nothing
@@ -144,8 +144,8 @@ time 20
 #[test]
 fn each_other_case_is_told(rt: HostRuntime) -> Result<(), Fail> {
     let cases = "\
-== a command that is served
-1 stop 1
+== a command that names no process
+1 stop
 -- ok
 == a comment that is refused
 # nothing
@@ -159,7 +159,7 @@ console 0 1
 -- ok
 ";
     let wanted = "\
-a command that is served: the status is 2
+a command that names no process: the status is 2
 a comment that is refused: the status is 0
 a comment that writes something: the first 10 bytes are as expected, and no more
 nothing is said of it: words are missing, or the cases have no form

@@ -6,8 +6,8 @@ use super::*;
 /// A source whose second line is no statement, since an operand is missing.
 const BAD_SECOND_LINE: &[u8] = b".word 0x24040041\nlw $1\n";
 
-/// A command is not served yet.
-const COMMAND: &[u8] = b"5 stop 1\n";
+/// A command that names no process.
+const BAD_LINE: &[u8] = b"5 stop\n";
 
 const TOO_MANY: u64 = 1_000_000_001;
 
@@ -56,7 +56,7 @@ fn a_source_that_is_not_there_is_told(rt: HostRuntime) -> Result<(), Fail> {
     };
     check(&rt, alloc, policy, "8 BadToml")?;
     let input = Run {
-        input: COMMAND,
+        input: BAD_LINE,
         ..none
     };
     check(&rt, alloc, input, "24 NoSource one.s")
@@ -112,7 +112,7 @@ fn more_ticks_than_are_served_are_refused_behind_the_input_and_before_random(
         check(&rt, alloc, Run { random, ..many }, "10 Limit n")?;
     }
     let input = Run {
-        input: COMMAND,
+        input: BAD_LINE,
         ..many
     };
     check(&rt, alloc, input, "20 InputFault 1")?;
