@@ -1,0 +1,17 @@
+# Stores a, gives the other process a copy of the page, stores b, and puts what it has.
+        lui   $8,0x41
+        addiu $9,$0,97
+        sb    $9,0($8)
+        addu  $4,$8,$0
+        addiu $5,$0,2
+        addu  $6,$8,$0
+        addiu $7,$0,3           # a copy
+        addiu $2,$0,6
+        syscall
+        addiu $9,$0,98
+        sb    $9,0($8)
+        lbu   $4,0($8)
+        addiu $2,$0,1
+        syscall
+        addiu $2,$0,0
+        syscall
