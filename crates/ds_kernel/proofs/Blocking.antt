@@ -10,9 +10,8 @@ use Rattle.ds_dev.specs.Bus.{BusState}
 use Rattle.ds_core.specs.Core.{CoreState}
 use Rattle.ds_core.proofs.Users.{keeps_system}
 use Rattle.ds_pagemap.specs.declared.turn.Turn.{Turn}
-use Rattle.ds_pagemap_laws.specs.Lawful.{IsLawful}
 use Rattle.ds_refinement.specs.Told.{is_delayed}
-use Rattle.ds_refinement.specs.Held.{Held, whole}
+use Rattle.ds_refinement.specs.Held.{Held}
 use Rattle.ds_refinement.specs.Stands.{IsSound, user_status}
 use Rattle.ds_refinement.specs.Steps.{is_in_kernel, steps_left}
 use Rattle.ds_refinement.specs.Blocks.{moved, time_behind, with_block, with_exception, GoesAhead}

@@ -10,7 +10,7 @@ use Rattle.ds_grants.specs.Sound.{NamesPages}
 use Rattle.ds_pagemap.specs.declared.turn.Turn.{Turn}
 use Rattle.ds_pagemap.specs.Boundary.{has_passed}
 use Rattle.ds_pagemap.specs.Machine.{State}
-use Rattle.ds_refinement.specs.Held.{Kept, Own, whole, space_of, began_or, last_boundary}
+use Rattle.ds_refinement.specs.Held.{Kept, Own, space_of, began_or, last_boundary}
 use Rattle.ds_pagemap.specs.Unit.{Stop}
 use Rattle.ds_refinement.specs.Told.{own_in}
 use Rattle.ds_refinement.specs.Stands.{AreResting, IsSound, ends_in_stop, ends_in_call}

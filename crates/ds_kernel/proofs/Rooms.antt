@@ -1,5 +1,5 @@
 -- Room for what a unit and the commands behind it may write.
-use Rattle.std.proofs.Common.{◌≡◌, ◌∙◌, ℕ, ◌+◌, ◌<◌, ◌≤◌, Option, sym, ap, subst, arith}
+use Rattle.std.proofs.Common.{◌≡◌, ℕ, ◌+◌, ◌<◌, ◌≤◌, Option, sym, ap, subst, arith}
 use Rattle.std.proofs.Math.Nat.{min-le_left}
 use Rattle.ds_policy.specs.Value.{InputValue}
 use Rattle.ds_policy.specs.InputFacts.{has_time, comes_at}

@@ -31,7 +31,6 @@ use Rattle.ds_monitor.specs.Kept.{kept_of}
 use Rattle.ds_monitor.specs.Room.{HasRoom, HasBoundaryRoom, HasTurnRoom}
 use Rattle.ds_monitor.proofs.Lawful.{turn_orderly}
 use Rattle.ds_kernel.proofs.Rooms.{room_later, unit_room, turn_room_still, boundary_room}
-use Rattle.ds_monitor.specs.declared.monitor.Monitor.{Monitor}
 use Rattle.ds_kernel.specs.declared.parts.Parts.{Parts}
 use Rattle.ds_kernel.specs.Parts.{held}
 use Rattle.ds_kernel.specs.Good.{IsOrderly, IsGood}

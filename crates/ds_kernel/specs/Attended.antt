@@ -1,5 +1,5 @@
 -- What a boundary makes of what is held.
-use Rattle.std.specs.Prelude.{◌≡◌, ◌⊎◌, ℕ, ◌+◌, ◌-◌, ◌≤◌, Bool, false, not, nat_le, filter, if◌then◌else◌, [], List, length, Option, Some, None}
+use Rattle.std.specs.Prelude.{◌≡◌, ◌⊎◌, ℕ, ◌+◌, ◌-◌, ◌≤◌, Bool, false, not, nat_le, filter, if◌then◌else◌, List, length, Option, Some, None}
 use Rattle.ds_dev.specs.Clock.{read_flags}
 use Rattle.ds_dev.specs.Bus.{BusState, with_serial, with_clock, after_ticks}
 use Rattle.ds_policy.specs.declared.command.Character.{Character}

@@ -97,8 +97,7 @@ impl<L: Lookaside> Parts<L> {
           };
         } }
     {
-        self.monitor
-            .commands(self.bus.memory(), &mut self.core.tlb);
+        self.monitor.commands(self.bus.memory(), &mut self.core.tlb);
     }
 
     /// The turn whose boundary is owed is over: who ran is in its seat, the commands that are due

@@ -1,6 +1,6 @@
 -- Commands of an operator, one after the other.
-use Rattle.std.proofs.Common.{◌≡◌, ◌∙◌, ℕ, suc, ◌+◌, ◌<◌, ◌≤◌, Bool, true, false, cond, not, nat_le, List, [], ◌∷◌, ◌++◌, length, filter, refl, sym, ap, ap₂, subst, arith, Result, Ok, Err}
-use Rattle.std.specs.Prelude.{OnErr, ◌*◌, vec_len, vec_capacity}
+use Rattle.std.proofs.Common.{◌≡◌, ◌∙◌, ℕ, ◌+◌, ◌<◌, ◌≤◌, Bool, true, false, cond, not, nat_le, List, [], ◌∷◌, ◌++◌, filter, refl, sym, ap, ap₂, subst, arith, Result, Ok, Err}
+use Rattle.std.specs.Prelude.{OnErr}
 use Rattle.std.specs.List.{All}
 use Rattle.std.proofs.lemmas.Bool.Decides.{nat_tests}
 use Rattle.std.proofs.lemmas.List.{append-nil}
@@ -24,7 +24,7 @@ use Rattle.ds_monitor.specs.Commands.{commanded, commands_by, with_refusal, Obey
 use Rattle.ds_monitor.specs.Coming.{first_time}
 use Rattle.ds_monitor.specs.Room.{HasLogRoom}
 use Rattle.ds_monitor.specs.declared.monitor.Monitor.{Monitor}
-use Rattle.ds_monitor.proofs.Coming.{all_later, none_come, all_stay, later_so}
+use Rattle.ds_monitor.proofs.Coming.{none_come, all_stay, later_so}
 use Rattle.ds_monitor.proofs.Serving.{serves_then}
 
 -- One command.

@@ -32,10 +32,7 @@ impl Monitor {
         if process == 0 || process as usize > self.seats.len() {
             return false;
         }
-        !matches!(
-            self.seats[process as usize - 1].standing(),
-            Standing::Ended
-        )
+        !matches!(self.seats[process as usize - 1].standing(), Standing::Ended)
     }
 
     /// A parked process becomes ready.
@@ -121,9 +118,13 @@ impl Monitor {
         let rule = COMMAND_RULES + number;
         let grants = &mut self.grants;
         match command {
-            Command::Grant { process, address, page, right, give } => {
-                grants.grant(process, address, page, right, give, rule, memory, tlb)
-            }
+            Command::Grant {
+                process,
+                address,
+                page,
+                right,
+                give,
+            } => { grants.grant(process, address, page, right, give, rule, memory, tlb) }
             Command::Narrow { process, address } => grants.narrow(process, address, memory, tlb),
             Command::Revoke { process, address } => {
                 grants.revoke(process, address, rule, memory, tlb)

@@ -1,5 +1,4 @@
-use Rattle.std.proofs.Common.{◌≡◌, ◌∙◌, ◌+◌, ℕ, List, [], refl, sym, ap, subst, Result}
-use Rattle.ds_grants.specs.declared.fault.GrantFault.{GrantFault}
+use Rattle.std.proofs.Common.{◌∙◌, ◌+◌, ℕ, List, refl, sym, ap, subst}
 use Rattle.ds_pagemap.specs.Machine.{State}
 use Rattle.ds_pagemap.specs.Calls.{after_command}
 use Rattle.ds_refinement.specs.Held.{Kept}
@@ -7,7 +6,7 @@ use Rattle.ds_refinement.specs.Services.{Serves}
 use Rattle.ds_monitor.specs.declared.monitor.Monitor.{Monitor}
 use Rattle.ds_monitor.specs.Kept.{kept_of}
 use Rattle.ds_monitor.specs.Room.{HasLogRoom}
-use Rattle.ds_monitor.specs.Commands.{Obeys, with_refusal}
+use Rattle.ds_monitor.specs.Commands.{with_refusal}
 use Rattle.ds_monitor.proofs.Commanding.{refusal_serves}
 use Rattle.ds_monitor.proofs.Lawful.{command_orderly}
 use Rattle.ds_monitor.proofs.monitor.Monitor.command.Goals as goal

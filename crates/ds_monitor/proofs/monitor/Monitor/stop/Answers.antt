@@ -1,11 +1,8 @@
 use Rattle.std.proofs.Common.{◌∙◌, ◌-◌, sym, ap, true, List, []}
 use Rattle.std.specs.Prelude.{Bool, slice_set}
 use Rattle.std.proofs.lemmas.List.{map-set}
-use Rattle.ds_procs.specs.declared.process.Standing.TheVariants.{Ended}
-use Rattle.ds_pagemap.specs.Machine.{State, Process, process_of, has_ended, made_unready}
-use Rattle.ds_pagemap.specs.Calls.{ended}
+use Rattle.ds_pagemap.specs.Machine.{State, Process, has_ended}
 use Rattle.ds_monitor.specs.Kept.{kept_of}
-use Rattle.ds_refinement.specs.Held.{whole}
 use Rattle.ds_monitor.specs.Ended.{marks_of}
 use Rattle.ds_monitor.proofs.monitor.Monitor.stop.Goals as goal
 
