@@ -17,7 +17,7 @@ word_length (Ok w) more h = let same : bytes_of_word w ≡ more = cc in sym (ap 
 word_length (Err e) more h = cc
 
 -- a statement's bytes are as many as its size
-statement_length : (n : ℕ) (find : List ℕ → Option ℕ) (at : ℕ) (s : Statement) (more : List ℕ) → statement_bytes n find at s ≡ Ok more → length more ≡ size_of s
+pub statement_length : (n : ℕ) (find : List ℕ → Option ℕ) (at : ℕ) (s : Statement) (more : List ℕ) → statement_bytes n find at s ≡ Ok more → length more ≡ size_of s
 statement_length n find at (Encoded i) more h = word_length (resolved n find (origin + at + 4) i i.target) more h
 statement_length n find at (WordNumber x) more h = word_length (Ok (as_word x)) more h
 statement_length n find at (WordLabel name) more h = word_length (known n (find name)) more h
@@ -25,7 +25,7 @@ statement_length n find at (Byte x) more h = let same : (as_word x % 2 ^ 8) ∷ 
 statement_length n find at (Space x) more h = let same : replicate x.magnitude 0 ≡ more = cc in sym (ap length same) ∙ length-replicate x.magnitude 0
 
 -- a statement that is let in makes the image longer by its size, and no longer than it may be
-sized_more : (n at : ℕ) (s : Statement) (size : ℕ) → sized n at (Some s) ≡ Ok size → (size ≡ at + size_of s) × (size ≤ 65536)
+pub sized_more : (n at : ℕ) (s : Statement) (size : ℕ) → sized n at (Some s) ≡ Ok size → (size ≡ at + size_of s) × (size ≤ 65536)
 sized_more n at s size h = elim (cases_Bool (is_in_range s && is_aligned at s)) [
   | inr bad ↦ let k = rw bad at h in cc
   | inl good ↦ let k = rw good at h in elim (cases_Bool (nat_lt most_bytes (at + size_of s))) [
@@ -85,7 +85,7 @@ module _ (f g : List ℕ → Option ℕ) (alike : (name : List ℕ) → f name �
   optional_alike n at None = refl
   optional_alike n at (Some s) = statement_alike n at s
 
-  line_alike : (n at : ℕ) (x : Option Line) → line_bytes n f at x ≡ line_bytes n g at x
+  pub line_alike : (n at : ℕ) (x : Option Line) → line_bytes n f at x ≡ line_bytes n g at x
   line_alike n at None = refl
   line_alike n at (Some line) = optional_alike n at line.statement
 

@@ -2,3 +2,4 @@ pub mod WrittenForms
 pub mod Pages
 pub mod SourceLines
 pub mod ImageSizes
+pub mod AllFaults

@@ -7,6 +7,7 @@ pub mod Lines
 pub mod Plain
 pub mod Assembly
 pub mod Assembling
+pub mod Faults
 pub mod Images
 pub mod OnLiterals
 pub mod Worked

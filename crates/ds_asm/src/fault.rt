@@ -1,7 +1,7 @@
 //! Why a source has no image.
 ghost use Rattle.std.specs.Prelude.{◌≡◌};
 ghost use Rattle.ds_asm.specs.Assembling.{fault_number, source_fault_line, source_fault_name, source_fault_number};
-ghost use Rattle.ds_asm.specs.declared.fault.AsmFault.TheVariants.{Memory};
+ghost use Rattle.ds_asm.specs.declared.fault.AsmFault.TheVariants.{Memory, Source};
 
 use std::alloc::{AllocError, AllocFailed};
 use std::{error, fmt};
@@ -92,6 +92,14 @@ impl AsmFault {
             AsmFault::Source(fault) => fault.number(),
             AsmFault::Memory => 25,
         }
+    }
+}
+
+impl From<SourceFault> for AsmFault {
+    ghost from_gives = { λ fault e. e ≡ Source fault };
+
+    fn from(fault: SourceFault) -> AsmFault {
+        AsmFault::Source(fault)
     }
 }
 

@@ -1,8 +1,9 @@
 //! The first pass: where labels stand, and whether everything fits.
-ghost use Rattle.std.specs.Prelude.{◌≡◌, ◌≤◌, ◌∷◌, Some, None, Ok, option_map, IfOk};
+ghost use Rattle.std.specs.Prelude.{◌≡◌, ◌≢◌, ◌≤◌, ◌∷◌, Some, None, Ok, option_map, IfOk, IfErr};
 ghost use Rattle.ds_asm.specs.Assembling.{IsLaid, Holds, Assembles, Comes};
 ghost use Rattle.ds_asm.specs.Assembly.{empty_layout, labelled, sized, with_line, with_lines, lines_of};
 ghost use Rattle.ds_asm.specs.Assembly as assembly;
+ghost use Rattle.ds_asm.specs.Faults.{labels_past};
 ghost use Rattle.ds_asm.specs.Lines.{line_of};
 ghost use Rattle.ds_asm.specs.Plain.{plain_statement};
 
@@ -13,7 +14,7 @@ use crate::source::first_line;
 use std::alloc::Global;
 
 /// Where the image begins.
-pub(crate) const ORIGIN: u32 = 0x40_0000;
+pub const ORIGIN: u32 = 0x40_0000;
 
 /// Where the labels stand, and how long the image is, as far as lines were taken.
 #[derive(Drop)]
@@ -42,7 +43,7 @@ pub(crate) fn layout_of(alloc: Global, text: &[u8]) -> Result<Layout<'_>, AsmFau
 
 impl<'a> Layout<'a> {
     /// No lines were taken.
-    fn new(alloc: Global) -> Layout<'a>
+    pub(crate) fn new(alloc: Global) -> Layout<'a>
         ensures { IsLaid result empty_layout }
     {
         Layout {
@@ -52,11 +53,13 @@ impl<'a> Layout<'a> {
     }
 
     /// Takes line `number`.
-    fn add_line(&mut self, number: u64, line: &'a [u8]) -> Result<(), AsmFault>
+    pub(crate) fn add_line(&mut self, number: u64, line: &'a [u8]) -> Result<(), AsmFault>
         requires { self.old.size ≤ 65536 }
         ensures said { (l : assembly.Layout) → IsLaid self.old l
             → Comes (λ _ m. IsLaid self.new m) result (with_line number (line_of line.now) l) }
         ensures fits { IfOk result (λ _. self.new.size ≤ 65536) }
+        ensures left { IfErr result (λ fault. fault ≢ AsmFault.Memory → (l : assembly.Layout)
+            → IsLaid self.old l → Holds self.new.labels (labels_past number (line_of line.now) l)) }
     {
         let line = match line_of(line) {
             Some(line) => line,
@@ -74,6 +77,7 @@ impl<'a> Layout<'a> {
             → Comes (λ _ more. Holds self.new.labels more) result
             (labelled number self.old.size (option_map (λ t. t.now) label.entry) labels) }
         ensures size { self.new.size ≡ self.old.size }
+        ensures left { IfErr result (λ fault. fault ≢ AsmFault.Memory → self.new ≡ self.old) }
     {
         let name = match label {
             Some(name) => name,

@@ -5,6 +5,7 @@
 mod assembler;
 mod characters;
 mod fault;
+mod faults;
 mod form;
 mod image;
 mod instruction;
@@ -18,4 +19,7 @@ mod source;
 
 pub use assembler::assemble;
 pub use fault::{AsmFault, SourceFault};
+pub use faults::all_faults;
 pub use image::Image;
+pub use layout::ORIGIN;
+pub use source::{SourceLine, first_line, source_line};

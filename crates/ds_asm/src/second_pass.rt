@@ -85,15 +85,14 @@ fn add_statement<'a>(
 }
 
 /// The word of an instruction whose slot has an address.
-fn resolved<'a>(
+pub(crate) fn resolved<'a>(
     number: u64,
     labels: &Labels<'a>,
     slot: u64,
     instruction: &Instruction<'a>,
-) -> Result<u32, AsmFault>
-    ensures { Assembles (λ w. w) result
-        (resolved number (held_address labels.now) slot (plain_instruction instruction.now)
-        (plain_target instruction.now.target)) }
+) -> Result<u32, SourceFault>
+    ensures { result ≡ resolved number (held_address labels.now) slot
+        (plain_instruction instruction.now) (plain_target instruction.now.target) }
 {
     let (place, field) = match instruction.target {
         Target::Nowhere => return Ok(instruction.word),
@@ -108,17 +107,21 @@ fn resolved<'a>(
     };
     match field {
         Some(field) => Ok(instruction.with_value(place, field).word),
-        None => Err(AsmFault::Source(SourceFault::Range(number))),
+        None => Err(SourceFault::Range(number)),
     }
 }
 
 /// The address of a label that has to stand somewhere.
-fn known<'a>(number: u64, labels: &Labels<'a>, name: &'a [u8]) -> Result<u32, AsmFault>
-    ensures { Assembles (λ a. a) result (known number (held_address labels.now name.now)) }
+pub(crate) fn known<'a>(
+    number: u64,
+    labels: &Labels<'a>,
+    name: &'a [u8],
+) -> Result<u32, SourceFault>
+    ensures { result ≡ known number (held_address labels.now name.now) }
 {
     match labels.address_of(name) {
         Some(address) => Ok(address),
-        None => Err(AsmFault::Source(SourceFault::UnknownLabel(number))),
+        None => Err(SourceFault::UnknownLabel(number)),
     }
 }
 

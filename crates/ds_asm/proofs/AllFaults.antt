@@ -1,0 +1,128 @@
+-- All faults of a source: a line at a time, and which is first.
+use Rattle.std.proofs.Common.{◌≡◌, ◌∙◌, sym, ap, subst, refl, ℕ, ◌+◌, ◌≤◌, List, [], ◌∷◌, ◌++◌, length, length-append, append_assoc, Option, Some, None, Result, Ok, Err, arith}
+use Rattle.std.specs.Option.{option_to_list}
+use Rattle.ds_word.proofs.ResultBinding.{bind_ok}
+use Rattle.ds_word.specs.ResultBinding.{◌>>=◌}
+use Rattle.ds_asm.specs.Lines.{Statement, Line, line_of}
+use Rattle.ds_asm.specs.declared.fault.SourceFault.{SourceFault}
+use Rattle.ds_asm.specs.Assembly.{Labels, Layout, empty_layout, address_of, labelled, sized, with_line, with_lines, optional_bytes, line_bytes, bytes_from, lines_of, assembled}
+use Rattle.ds_asm.specs.Faults.{optional_size, size_in, fault_in, labels_past, layout_past, first_faults, second_faults, faults_by, all_faults, BeginsWith}
+use Rattle.ds_asm.proofs.ImageSizes.{statement_length, sized_more}
+
+-- a line that is let in makes the image longer by its size
+optional_more : (n at : ℕ) (s : Option Statement) (size : ℕ) → at ≤ 65536 → sized n at s ≡ Ok size → (size ≡ at + optional_size s) × (size ≤ 65536)
+optional_more n at None size few h = let same : at ≡ size = cc in (omega arith, omega arith)
+optional_more n at (Some s) size few h = sized_more n at s size h
+
+pub laid_size : (n : ℕ) (m next : Layout) (x : Option Line) → m.size ≤ 65536 → with_line n x m ≡ Ok next → (next.size ≡ m.size + size_in x) × (next.size ≤ 65536)
+laid_size n m next None few h = cc
+laid_size n m next (Some line) few h =
+    let (labels, a, b) = bind_ok (labelled n m.size line.label m.labels) _ next h in
+    let (size, c, d) = bind_ok (sized n m.size line.statement) (λ size. Ok (record { labels = labels; size = size })) next b in
+    let same : size ≡ next.size = (let e : record { labels = labels; size = size } ≡ next = cc in ap (λ (l : Layout). l.size) e) in
+    let (grown, room) = optional_more n m.size line.statement size few c in
+    (omega arith, omega arith)
+
+-- and its bytes are as many
+optional_length : (n : ℕ) (find : List ℕ → Option ℕ) (at : ℕ) (s : Option Statement) (more : List ℕ) → optional_bytes n find at s ≡ Ok more → length more ≡ optional_size s
+optional_length n find at None more h = let e : [] ≡ more = cc in sym (ap (λ (xs : List ℕ). length xs) e)
+optional_length n find at (Some s) more h = statement_length n find at s more h
+
+pub line_length : (n : ℕ) (find : List ℕ → Option ℕ) (at : ℕ) (x : Option Line) (more : List ℕ) → line_bytes n find at x ≡ Ok more → length more ≡ size_in x
+line_length n find at None more h = let e : [] ≡ more = cc in sym (ap (λ (xs : List ℕ). length xs) e)
+line_length n find at (Some line) more h = optional_length n find at line.statement more h
+
+-- One line more.
+pub one_more : (xs more tail rest whole : List SourceFault) → rest ≡ more ++ tail → xs ++ rest ≡ whole → (xs ++ more) ++ tail ≡ whole
+one_more xs more tail rest whole e h = append_assoc xs more tail ∙ (ap (λ ys. xs ++ ys) (sym e) ∙ h)
+
+pub first_good : (n : ℕ) (m next : Layout) (text line behind : List ℕ) → lines_of text ≡ line ∷ lines_of behind → with_line n (line_of line) m ≡ Ok next
+    → first_faults n m (lines_of text) ≡ first_faults (n + 1) next (lines_of behind)
+first_good n m next text line behind first said =
+    ap (first_faults n m) first
+    ∙ ap (λ r. option_to_list (fault_in r) ++ first_faults (n + 1) (layout_past r (labels_past n (line_of line) m)) (lines_of behind)) said
+
+pub first_bad : (n : ℕ) (m : Layout) (fault : SourceFault) (text line behind : List ℕ) → lines_of text ≡ line ∷ lines_of behind → with_line n (line_of line) m ≡ Err fault
+    → first_faults n m (lines_of text) ≡ fault ∷ [] ++ first_faults (n + 1) (record { labels = labels_past n (line_of line) m; size = 0 }) (lines_of behind)
+first_bad n m fault text line behind first said =
+    ap (first_faults n m) first
+    ∙ ap (λ r. option_to_list (fault_in r) ++ first_faults (n + 1) (layout_past r (labels_past n (line_of line) m)) (lines_of behind)) said
+
+pub first_end : (n : ℕ) (m : Layout) (text : List ℕ) → length text ≡ 0 → first_faults n m (lines_of text) ≡ []
+first_end n m [] none = refl
+first_end n m (x ∷ xs) none = absurd (omega arith)
+
+pub second_step : (n : ℕ) (find : List ℕ → Option ℕ) (at : ℕ) (text line behind : List ℕ) → lines_of text ≡ line ∷ lines_of behind
+    → second_faults n find at (lines_of text) ≡ option_to_list (fault_in (line_bytes n find at (line_of line))) ++ second_faults (n + 1) find (at + size_in (line_of line)) (lines_of behind)
+second_step n find at text line behind first = ap (second_faults n find at) first
+
+pub second_end : (n : ℕ) (find : List ℕ → Option ℕ) (at : ℕ) (text : List ℕ) → length text ≡ 0 → second_faults n find at (lines_of text) ≡ []
+second_end n find at [] none = refl
+second_end n find at (x ∷ xs) none = absurd (omega arith)
+
+-- Which fault is first.
+first_by : (n : ℕ) (r : Result Layout SourceFault) (labels : Labels) (lines : List (List ℕ)) (fault : SourceFault)
+    → ((next : Layout) → with_lines (n + 1) next lines ≡ Err fault → BeginsWith fault (first_faults (n + 1) next lines))
+    → (r >>= (λ more. with_lines (n + 1) more lines)) ≡ Err fault
+    → BeginsWith fault (option_to_list (fault_in r) ++ first_faults (n + 1) (layout_past r labels) lines)
+first_by n (Ok next) labels lines fault more h = more next h
+first_by n (Err e) labels lines fault more h =
+    let same : e ≡ fault = cc in
+    (first_faults (n + 1) (record { labels = labels; size = 0 }) lines, ap (λ x. x ∷ first_faults (n + 1) (record { labels = labels; size = 0 }) lines) same)
+
+first_told : (n : ℕ) (l : Layout) (lines : List (List ℕ)) (fault : SourceFault) → with_lines n l lines ≡ Err fault → BeginsWith fault (first_faults n l lines)
+first_told n l [] fault h = cc
+first_told n l (line ∷ lines) fault h = first_by n (with_line n (line_of line) l) (labels_past n (line_of line) l) lines fault (λ next k. first_told (n + 1) next lines fault k) h
+
+second_by : (n at : ℕ) (find : List ℕ → Option ℕ) (r : Result (List ℕ) SourceFault) (size : ℕ) (bytes : List ℕ) (lines : List (List ℕ)) (fault : SourceFault)
+    → ((more : List ℕ) → r ≡ Ok more → bytes_from (n + 1) find (bytes ++ more) lines ≡ Err fault → BeginsWith fault (second_faults (n + 1) find (at + size) lines))
+    → (r >>= (λ more. bytes_from (n + 1) find (bytes ++ more) lines)) ≡ Err fault
+    → BeginsWith fault (option_to_list (fault_in r) ++ second_faults (n + 1) find (at + size) lines)
+second_by n at find (Ok more) size bytes lines fault next h = next more refl h
+second_by n at find (Err e) size bytes lines fault next h =
+    let same : e ≡ fault = cc in
+    (second_faults (n + 1) find (at + size) lines, ap (λ x. x ∷ second_faults (n + 1) find (at + size) lines) same)
+
+second_told : (n at : ℕ) (find : List ℕ → Option ℕ) (bytes : List ℕ) (lines : List (List ℕ)) (fault : SourceFault) → length bytes ≡ at → bytes_from n find bytes lines ≡ Err fault
+    → BeginsWith fault (second_faults n find at lines)
+second_told n at find bytes [] fault size h = cc
+second_told n at find bytes (line ∷ lines) fault size h =
+    let k = subst (λ (p : ℕ). (line_bytes n find p (line_of line) >>= (λ more. bytes_from (n + 1) find (bytes ++ more) lines)) ≡ Err fault) size h in
+    second_by n at find (line_bytes n find at (line_of line)) (size_in (line_of line)) bytes lines fault
+    (λ more is j. let long = line_length n find at (line_of line) more is in
+    second_told (n + 1) (at + size_in (line_of line)) find (bytes ++ more) lines fault (omega (arith, length-append bytes more)) j) k
+
+-- a source that is good has none
+second_none : (n at : ℕ) (find : List ℕ → Option ℕ) (bytes out : List ℕ) (lines : List (List ℕ)) → length bytes ≡ at → bytes_from n find bytes lines ≡ Ok out → second_faults n find at lines ≡ []
+second_none n at find bytes out [] size h = refl
+second_none n at find bytes out (line ∷ lines) size h =
+    let (more, a, b) = bind_ok (line_bytes n find (length bytes) (line_of line)) (λ more. bytes_from (n + 1) find (bytes ++ more) lines) out h in
+    let good : line_bytes n find at (line_of line) ≡ Ok more = subst (λ (p : ℕ). line_bytes n find p (line_of line) ≡ Ok more) size a in
+    let long = line_length n find at (line_of line) more good in
+    ap (λ r. option_to_list (fault_in r) ++ second_faults (n + 1) find (at + size_in (line_of line)) lines) good
+    ∙ second_none (n + 1) (at + size_in (line_of line)) find (bytes ++ more) out lines (omega (arith, length-append bytes more)) b
+
+faults_first : (r : Result Layout SourceFault) (lines : List (List ℕ)) (fault : SourceFault) → with_lines 1 empty_layout lines ≡ r
+    → (r >>= (λ layout. bytes_from 1 (address_of layout.labels) [] lines)) ≡ Err fault → BeginsWith fault (faults_by r lines)
+faults_first (Ok layout) lines fault is h = second_told 1 0 (address_of layout.labels) [] lines fault refl h
+faults_first (Err e) lines fault is h = let same : e ≡ fault = cc in first_told 1 empty_layout lines fault (is ∙ ap (λ x. Err x) same)
+
+faults_none : (r : Result Layout SourceFault) (lines : List (List ℕ)) (image : List ℕ)
+    → (r >>= (λ layout. bytes_from 1 (address_of layout.labels) [] lines)) ≡ Ok image → faults_by r lines ≡ []
+faults_none (Ok layout) lines image h = second_none 1 0 (address_of layout.labels) [] image lines refl h
+faults_none (Err e) lines image h = cc
+
+-- the first of all faults is that of the source
+pub first_of_all : (text : List ℕ) (faults : List SourceFault) (fault : SourceFault) → faults ≡ all_faults text → assembled text ≡ Err fault → BeginsWith fault faults
+first_of_all text faults fault all h = subst (BeginsWith fault) (sym all) (faults_first (with_lines 1 empty_layout (lines_of text)) (lines_of text) fault refl h)
+
+pub none_of_all : (text : List ℕ) (faults : List SourceFault) (image : List ℕ) → faults ≡ all_faults text → assembled text ≡ Ok image → faults ≡ []
+none_of_all text faults image all h = all ∙ faults_none (with_lines 1 empty_layout (lines_of text)) (lines_of text) image h
+
+-- labels that are looked up alike give the same faults
+module _ (f g : List ℕ → Option ℕ) (alike : (n at : ℕ) (x : Option Line) → line_bytes n f at x ≡ line_bytes n g at x) where
+  pub second_alike : (n at : ℕ) (lines : List (List ℕ)) → second_faults n f at lines ≡ second_faults n g at lines
+  second_alike n at [] = refl
+  second_alike n at (line ∷ lines) =
+      ap (λ r. option_to_list (fault_in r) ++ second_faults (n + 1) f (at + size_in (line_of line)) lines) (alike n at (line_of line))
+      ∙ ap (λ more. option_to_list (fault_in (line_bytes n g at (line_of line))) ++ more) (second_alike (n + 1) (at + size_in (line_of line)) lines)

@@ -1,0 +1,69 @@
+-- All faults of a source.
+use Rattle.std.specs.Prelude.{◌≡◌, ℕ, ◌+◌, List, [], ◌∷◌, ◌++◌, Option, Some, None, Result, Ok, Err}
+use Rattle.std.specs.Option.{option_to_list}
+use Rattle.ds_asm.specs.declared.fault.SourceFault.{SourceFault}
+use Rattle.ds_asm.specs.Lines.{Statement, Line, line_of}
+use Rattle.ds_asm.specs.Assembly.{Labels, Layout, empty_layout, address_of, size_of, labelled, with_line, with_lines, line_bytes, lines_of}
+
+-- the label of a line, if it can be read and has one
+abbrev pub label_in : Option Line → Option (List ℕ)
+label_in None = None
+label_in (Some line) = line.label
+
+-- how many bytes a statement has, where there is one
+abbrev pub optional_size : Option Statement → ℕ
+optional_size None = 0
+optional_size (Some s) = size_of s
+
+-- how many bytes a line has; one that can't be read has none
+abbrev pub size_in : Option Line → ℕ
+size_in None = 0
+size_in (Some line) = optional_size line.statement
+
+-- the fault of a result, if it has one
+abbrev pub fault_in : {A : Type 0} → Result A SourceFault → Option SourceFault
+fault_in (Ok x) = None
+fault_in (Err fault) = Some fault
+
+-- labels with one more, or as they are where that can't be
+abbrev pub or_kept : Result Labels SourceFault → Labels → Labels
+or_kept (Ok more) labels = more
+or_kept (Err fault) labels = labels
+
+-- the labels behind line n, whatever else is wrong in it
+abbrev pub labels_past : ℕ → Option Line → Layout → Labels
+labels_past n None l = l.labels
+labels_past n (Some line) l = or_kept (labelled n l.size line.label l.labels) l.labels
+
+-- the layout behind a good line; behind one at fault the image begins anew, so that no later line is
+-- at fault for its sake
+abbrev pub layout_past : Result Layout SourceFault → Labels → Layout
+layout_past (Ok more) labels = more
+layout_past (Err fault) labels = record { labels = labels; size = 0 }
+
+-- the faults of lines in the first pass, at most one of each line, of which the first is line n
+abbrev pub first_faults : ℕ → Layout → List (List ℕ) → List SourceFault
+first_faults n l [] = []
+first_faults n l (line ∷ lines) =
+    option_to_list (fault_in (with_line n (line_of line) l))
+    ++ first_faults (n + 1) (layout_past (with_line n (line_of line) l) (labels_past n (line_of line) l)) lines
+
+-- their faults in the second pass, of which the first line stands at a place of the image
+abbrev pub second_faults : ℕ → (List ℕ → Option ℕ) → ℕ → List (List ℕ) → List SourceFault
+second_faults n find at [] = []
+second_faults n find at (line ∷ lines) =
+    option_to_list (fault_in (line_bytes n find at (line_of line)))
+    ++ second_faults (n + 1) find (at + size_in (line_of line)) lines
+
+-- the faults of the second pass over what the first has laid out, or those of the first
+abbrev pub faults_by : Result Layout SourceFault → List (List ℕ) → List SourceFault
+faults_by (Ok layout) lines = second_faults 1 (address_of layout.labels) 0 lines
+faults_by (Err fault) lines = first_faults 1 empty_layout lines
+
+-- all faults of a source: those of the first pass, or, where it has none, those of the second
+abbrev pub all_faults : List ℕ → List SourceFault
+all_faults text = faults_by (with_lines 1 empty_layout (lines_of text)) (lines_of text)
+
+-- this is the first of the faults
+abbrev pub BeginsWith : SourceFault → List SourceFault → Type 0
+BeginsWith fault faults = (others : List SourceFault) × (faults ≡ fault ∷ others)

@@ -1,0 +1,112 @@
+//! All faults of a source.
+ghost use Rattle.std.specs.Prelude.{◌≡◌, ◌≤◌, ◌++◌, ℕ, List, [], IfOk, OnOk, Ok, Err};
+ghost use Rattle.std.specs.Option.{option_to_list};
+ghost use Rattle.ds_asm.specs.Assembling.{held_address};
+ghost use Rattle.ds_asm.specs.Assembly.{assembled, empty_layout, line_bytes, lines_of, with_lines};
+ghost use Rattle.ds_asm.specs.Assembly as assembly;
+ghost use Rattle.ds_asm.specs.Faults.{BeginsWith, all_faults, fault_in, first_faults, second_faults};
+ghost use Rattle.ds_asm.specs.Lines.{line_of};
+
+use crate::fault::{AsmFault, SourceFault};
+use crate::labels::Labels;
+use crate::layout::{Layout, ORIGIN, layout_of};
+use crate::line::{Statement, line_of};
+use crate::second_pass::{known, resolved};
+use crate::source::{first_line, source_line};
+use std::alloc::{AllocError, Global};
+
+/// All faults of a source, at most one for each line, in the order of the lines: those of the first
+/// pass, or, where it has none, those of the second. The first of them is the one that `assemble`
+/// tells; there are none where it answers an image.
+pub fn all_faults(alloc: Global, text: &[u8]) -> Result<Vec<SourceFault>, AllocError>
+    ensures all { IfOk result (λ faults. faults.items ≡ all_faults text.now) }
+    ensures first { IfOk result (λ faults. (fault : SourceFault) → assembled text.now ≡ Err fault
+        → BeginsWith fault faults.items) }
+    ensures none { IfOk result (λ faults. (image : List ℕ) → assembled text.now ≡ Ok image
+        → faults.items ≡ []) }
+{
+    match layout_of(alloc, text) {
+        Ok(layout) => second_faults(alloc, text, &layout.labels),
+        Err(AsmFault::Source(_)) => first_faults(alloc, text),
+        Err(AsmFault::Memory) => Err(AllocError),
+    }
+}
+
+/// The faults of the first pass.
+fn first_faults(alloc: Global, text: &[u8]) -> Result<Vec<SourceFault>, AllocError>
+    ensures { IfOk result (λ faults.
+        faults.items ≡ first_faults 1 empty_layout (lines_of text.now)) }
+{
+    let mut faults = Vec::new(alloc);
+    let mut layout = Layout::new(alloc);
+    let mut number = 0u64;
+    let mut rest = text;
+    while !rest.is_empty() {
+        let (line, behind) = first_line(rest);
+        number += 1;
+        match layout.add_line(number, line) {
+            Ok(()) => {}
+            Err(AsmFault::Source(fault)) => {
+                faults.push(fault)?;
+                layout.size = 0;
+            }
+            Err(AsmFault::Memory) => return Err(AllocError),
+        }
+        rest = behind;
+    }
+    Ok(faults)
+}
+
+/// The faults of the second pass over a source that the first has laid out.
+fn second_faults<'a>(
+    alloc: Global,
+    text: &'a [u8],
+    labels: &Labels<'a>,
+) -> Result<Vec<SourceFault>, AllocError>
+    requires { (last : assembly.Layout) × (with_lines 1 empty_layout (lines_of text.now) ≡ Ok last) }
+    ensures { IfOk result (λ faults.
+        faults.items ≡ second_faults 1 (held_address labels.now) 0 (lines_of text.now)) }
+{
+    let mut faults = Vec::new(alloc);
+    let mut place = 0u64;
+    let mut number = 0u64;
+    let mut rest = text;
+    while !rest.is_empty() {
+        let (line, behind) = first_line(rest);
+        number += 1;
+        push_fault(&mut faults, second_fault(number, labels, place, line))?;
+        place += source_line(line).size;
+        rest = behind;
+    }
+    Ok(faults)
+}
+
+/// The fault of line `number` in the second pass, where it stands at a place of the image.
+fn second_fault<'a>(
+    number: u64,
+    labels: &Labels<'a>,
+    place: u64,
+    line: &'a [u8],
+) -> Option<SourceFault>
+    requires { place ≤ 65536 }
+    ensures { result
+        ≡ fault_in (line_bytes number (held_address labels.now) place (line_of line.now)) }
+{
+    match line_of(line)?.statement? {
+        Statement::Instruction(instruction) => {
+            resolved(number, labels, u64::from(ORIGIN) + place + 4, &instruction).err()
+        }
+        Statement::WordOf(name) => known(number, labels, name).err(),
+        Statement::Word(_) | Statement::Byte(_) | Statement::Space(_) => None,
+    }
+}
+
+/// Adds a fault, where there is one.
+fn push_fault(faults: &mut Vec<SourceFault>, fault: Option<SourceFault>) -> Result<(), AllocError>
+    ensures { OnOk result (faults.new.items ≡ faults.old.items ++ option_to_list fault) }
+{
+    if let Some(fault) = fault {
+        faults.push(fault)?;
+    }
+    Ok(())
+}
