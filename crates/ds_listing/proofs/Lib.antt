@@ -8,3 +8,4 @@ pub mod Statements
 pub mod Rows
 pub mod Table
 pub mod Sources
+pub mod Listings

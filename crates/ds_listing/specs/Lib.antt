@@ -1,4 +1,5 @@
 pub mod Texts
+pub mod Listing
 pub mod Plain
 pub mod Laws
 pub mod Worked

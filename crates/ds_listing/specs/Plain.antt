@@ -1,9 +1,11 @@
 -- How the code has forms and operands.
-use Rattle.std.specs.Prelude.{map}
+use Rattle.std.specs.Prelude.{map, option_map}
 use Rattle.ds_isa.specs.Fields as fields
 use Rattle.ds_listing.specs.declared.operand.Operand.{Operand}
 use Rattle.ds_listing.specs.declared.operand.Operand.TheVariants as operand
 use Rattle.ds_listing.specs.declared.form.Form as code
+use Rattle.ds_listing.specs.declared.sheet.Row as sheet
+use Rattle.ds_listing.specs.Listing.{Row}
 use Rattle.ds_listing.specs.Texts.{Form}
 
 -- the operand that a word of the code stands for
@@ -24,3 +26,7 @@ operand_of operand.Indexed = fields.Indexed fields.rs fields.imm
 -- a form of the code
 abbrev pub plain_form : code.Form → Form
 plain_form f = record { name = f.name.now; operands = map operand_of f.operands.now }
+
+-- a line of the code's listing
+abbrev pub plain_row : sheet.Row → Row
+plain_row r = record { number = r.number; place = r.place; bytes = r.bytes.now; label = option_map (λ t. t.now) r.label; text = r.text.now }

@@ -51,7 +51,7 @@ pub(crate) fn push_distance(text: &mut String, half: u16) -> Result<(), AllocErr
 }
 
 /// The hexadecimal digit of a number.
-fn hex_digit(number: u32) -> u8
+pub(crate) fn hex_digit(number: u32) -> u8
     requires { number < 16 }
     ensures value { result ≡ hex_digit number }
     ensures ascii { result < 128 }

@@ -1,0 +1,68 @@
+//! The listing of a source.
+ghost use Rattle.std.specs.Prelude.{◌≡◌, ◌≤◌, ◌++◌, ℕ, List, IfOk, Ok, length, take, drop};
+ghost use Rattle.std.specs.List.{flat_map};
+ghost use Rattle.ds_asm.specs.Assembling.{Assembles};
+ghost use Rattle.ds_asm.specs.Assembly.{assembled};
+ghost use Rattle.ds_listing.specs.Listing.{Shows, listing_of, rows_of, rows_text};
+
+use crate::sheet::Row;
+use ds_asm::{AsmFault, assemble, first_line, source_line};
+use std::alloc::{AllocError, Global};
+
+/// The listing of a source, or its first fault: each line with its number, and, where it has bytes,
+/// their address and the bytes; behind the lines each label with its value.
+pub fn listing(alloc: Global, text: &[u8]) -> Result<Vec<u8>, AsmFault>
+    ensures text { Assembles (λ v. v.items) result (listing_of text.now) }
+    ensures image { (image : List ℕ) → assembled text.now ≡ Ok image
+        → Shows (rows_of text.now image) image }
+{
+    let image = assemble(alloc, text)?;
+    let sheet = sheet_of(alloc, text, image.bytes())?;
+    Ok(sheet)
+}
+
+/// The listing of a source that has this image.
+fn sheet_of(alloc: Global, text: &[u8], image: &[u8]) -> Result<Vec<u8>, AllocError>
+    requires { length image.now ≤ 65536 }
+    ensures { IfOk result (λ v. v.items ≡ rows_text (rows_of text.now image.now)) }
+{
+    let mut lines = Vec::new(alloc);
+    let mut labels = Vec::new(alloc);
+    let mut number = 0u64;
+    let mut place = 0u32;
+    let mut rest = text;
+    let mut left = image;
+    while !rest.is_empty() {
+        let (line, behind) = first_line(rest);
+        let said = source_line(line);
+        let (bytes, further) = cut(left, said.size);
+        number += 1;
+        let row = Row {
+            number,
+            place,
+            bytes,
+            label: said.label,
+            text: line,
+        };
+        row.push(&mut lines)?;
+        row.push_label(&mut labels)?;
+        place += bytes.len() as u32;
+        left = further;
+        rest = behind;
+    }
+    lines.extend_from_slice(b"labels\n")?;
+    lines.extend_from_slice(&labels)?;
+    Ok(lines)
+}
+
+/// So many bytes, or all where they are fewer, and what stands behind them.
+fn cut(bytes: &[u8], size: u64) -> (&[u8], &[u8])
+    ensures front { result.0.now ≡ take size bytes.now }
+    ensures behind { result.1.now ≡ drop size bytes.now }
+{
+    if size < bytes.len() as u64 {
+        bytes.split_at(size as usize)
+    } else {
+        (bytes, &[])
+    }
+}

@@ -1,0 +1,165 @@
+//! Parts of a listing, as bytes.
+ghost use Rattle.std.specs.Prelude.{◌≡◌, ◌+◌, ◌<◌, ◌≤◌, ◌++◌, ◌∷◌, [], OnOk, codes, decimal, length, option_map, replicate};
+ghost use Rattle.ds_asm.specs.Assembly.{origin};
+ghost use Rattle.ds_listing.specs.Listing.{address_text, behind_number, bytes_text, hex2, label_text, blanks_before, row_text, shown_text};
+ghost use Rattle.ds_listing.specs.Plain.{plain_row};
+ghost use Rattle.ds_listing.specs.Texts.{hex4, hex8};
+
+use crate::digits::hex_digit;
+use ds_asm::ORIGIN;
+use itoa::Buffer;
+use std::alloc::AllocError;
+
+/// How wide the number of a line is at least.
+const NUMBER_WIDTH: usize = 5;
+
+/// How wide the bytes of a line are at least.
+const BYTES_WIDTH: usize = 10;
+
+/// How wide an address and bytes are together.
+const SHOWN_WIDTH: usize = 20;
+
+/// A line of a source, with what it has of the image.
+#[derive(Clone, Copy)]
+pub(crate) struct Row<'a> {
+    /// Its number, from 1.
+    pub(crate) number: u64,
+    /// Where it stands in the image.
+    pub(crate) place: u32,
+    /// Its bytes there.
+    pub(crate) bytes: &'a [u8],
+    pub(crate) label: Option<&'a [u8]>,
+    /// The line itself.
+    pub(crate) text: &'a [u8],
+}
+
+impl<'a> Row<'a> {
+    /// Adds the line with its number, its place and its bytes.
+    pub(crate) fn push(&self, sheet: &mut Vec<u8>) -> Result<(), AllocError>
+        requires { self.now.place ≤ 65536 }
+        ensures { OnOk result (sheet.new.items ≡ sheet.old.items ++ row_text (plain_row self.now)) }
+    {
+        push_number(sheet, self.number)?;
+        if !self.text.is_empty() {
+            self.push_behind_number(sheet)?;
+        }
+        sheet.push(b'\n')?;
+        Ok(())
+    }
+
+    fn push_behind_number(&self, sheet: &mut Vec<u8>) -> Result<(), AllocError>
+        requires within { self.now.place ≤ 65536 }
+        requires text { 0 < length self.now.text.now }
+        ensures { OnOk result (sheet.new.items
+            ≡ sheet.old.items ++ behind_number (plain_row self.now) self.now.text.now) }
+    {
+        sheet.extend_from_slice(b"  ")?;
+        push_shown(sheet, self.place, self.bytes)?;
+        sheet.extend_from_slice(b"  ")?;
+        sheet.extend_from_slice(self.text)
+    }
+
+    /// Adds the label with its value, where there is one.
+    pub(crate) fn push_label(&self, sheet: &mut Vec<u8>) -> Result<(), AllocError>
+        requires { self.now.place ≤ 65536 }
+        ensures { OnOk result (sheet.new.items ≡ sheet.old.items
+            ++ label_text self.now.place (option_map (λ t. t.now) self.now.label)) }
+    {
+        match self.label {
+            Some(name) => {
+                push_address(sheet, self.place)?;
+                sheet.extend_from_slice(b"  ")?;
+                sheet.extend_from_slice(name)?;
+                sheet.push(b'\n')?;
+                Ok(())
+            }
+            None => Ok(()),
+        }
+    }
+}
+
+fn push_number(sheet: &mut Vec<u8>, number: u64) -> Result<(), AllocError>
+    ensures { OnOk result (sheet.new.items ≡ sheet.old.items ++ blanks_before 5 (decimal number)) }
+{
+    let mut buffer = Buffer::new();
+    let digits = buffer.format(number).as_bytes();
+    push_blanks(sheet, NUMBER_WIDTH.saturating_sub(digits.len()))?;
+    sheet.extend_from_slice(digits)
+}
+
+/// Adds where bytes stand, and the bytes, or blanks where there are none.
+fn push_shown(sheet: &mut Vec<u8>, place: u32, bytes: &[u8]) -> Result<(), AllocError>
+    requires { place ≤ 65536 }
+    ensures { OnOk result (sheet.new.items ≡ sheet.old.items ++ shown_text place bytes.now) }
+{
+    if bytes.is_empty() {
+        return push_blanks(sheet, SHOWN_WIDTH);
+    }
+    push_address(sheet, place)?;
+    sheet.extend_from_slice(b"  ")?;
+    let start = sheet.len();
+    push_bytes(sheet, bytes)?;
+    let width = sheet.len() - start;
+    push_blanks(sheet, BYTES_WIDTH.saturating_sub(width))
+}
+
+/// Adds four bytes as their word, one byte, or the number of zeros.
+fn push_bytes(sheet: &mut Vec<u8>, bytes: &[u8]) -> Result<(), AllocError>
+    ensures { OnOk result (sheet.new.items ≡ sheet.old.items ++ bytes_text bytes.now) }
+{
+    match bytes {
+        [a, b, c, d] => {
+            push_byte(sheet, *d)?;
+            push_byte(sheet, *c)?;
+            push_byte(sheet, *b)?;
+            push_byte(sheet, *a)
+        }
+        [byte] => push_byte(sheet, *byte),
+        zeros => {
+            let mut buffer = Buffer::new();
+            sheet.extend_from_slice(b"00 x ")?;
+            sheet.extend_from_slice(buffer.format(zeros.len()).as_bytes())
+        }
+    }
+}
+
+/// Adds the two hexadecimal digits of a byte.
+fn push_byte(sheet: &mut Vec<u8>, byte: u8) -> Result<(), AllocError>
+    ensures { OnOk result (sheet.new.items ≡ sheet.old.items ++ hex2 byte) }
+{
+    sheet.push(hex_digit(u32::from(byte / 16)))?;
+    sheet.push(hex_digit(u32::from(byte % 16)))?;
+    Ok(())
+}
+
+/// Adds the address of a place of the image.
+#[tactic(auto, unfolding(crate::specs::Texts::hex8))]
+fn push_address(sheet: &mut Vec<u8>, place: u32) -> Result<(), AllocError>
+    requires { place ≤ 65536 }
+    ensures { OnOk result (sheet.new.items ≡ sheet.old.items ++ address_text place) }
+{
+    let address = ORIGIN + place;
+    push_half(sheet, address / 0x1_0000)?;
+    push_half(sheet, address % 0x1_0000)
+}
+
+/// Adds the four hexadecimal digits of a half.
+#[tactic(auto, unfolding(crate::specs::Texts::hex4))]
+fn push_half(sheet: &mut Vec<u8>, half: u32) -> Result<(), AllocError>
+    ensures { OnOk result (sheet.new.items ≡ sheet.old.items ++ hex4 half) }
+{
+    sheet.push(hex_digit(half / 0x1000 % 16))?;
+    sheet.push(hex_digit(half / 0x100 % 16))?;
+    sheet.push(hex_digit(half / 0x10 % 16))?;
+    sheet.push(hex_digit(half % 16))?;
+    Ok(())
+}
+
+fn push_blanks(sheet: &mut Vec<u8>, count: usize) -> Result<(), AllocError>
+    ensures { OnOk result (sheet.new.items ≡ sheet.old.items ++ replicate count 32) }
+{
+    for _ in 0..count {
+        sheet.push(b' ')?;
+    }
+    Ok(())
+}
