@@ -35,8 +35,8 @@ abbrev pub labels_past : ℕ → Option Line → Layout → Labels
 labels_past n None l = l.labels
 labels_past n (Some line) l = or_kept (labelled n l.size line.label l.labels) l.labels
 
--- the layout behind a good line; behind one at fault the image begins anew, so that no later line is
--- at fault for its sake
+-- the layout behind a good line; behind one at fault the image begins anew, so that a wrong place and
+-- too many bytes are told once
 abbrev pub layout_past : Result Layout SourceFault → Labels → Layout
 layout_past (Ok more) labels = more
 layout_past (Err fault) labels = record { labels = labels; size = 0 }
