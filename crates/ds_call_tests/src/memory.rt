@@ -1,5 +1,7 @@
 //! Want of memory. These tests pass whichever growth is refused: `rt try --test --fail-alloc N`.
-use ds_policy::{Command, EventList, Events, EventsFault, Grant, Policy, PolicyRule, Right, Table};
+use ds_policy::{
+    Character, Command, EventList, Events, EventsFault, Grant, Policy, PolicyRule, Right, Table,
+};
 use std::alloc::Global;
 use std::process::Abort;
 use std::test::*;
@@ -75,9 +77,10 @@ fn for_want_of_memory_there_is_no_table(rt: HostRuntime) {
     assert_eq!(rt; table.entry(1, 255 * 4096), None);
 }
 
-/// There are 19 growths: 11 of the policy, 3 of the nine words, and 5 of the two commands and the
-/// characters: of their words, and of each list. An empty input and comments have none. `collect`
-/// asks once more where it is refused, so a growth of words changes no answer.
+/// There are 20 growths: 11 of the policy, 3 of the nine words, and 6 of the two commands and the
+/// characters: of their words, of the commands, and of the `key` line and its bytes. An empty input
+/// and comments have none. `collect` asks once more where it is refused, so a growth of words
+/// changes no answer.
 #[test]
 fn for_want_of_memory_an_input_says_nothing_else(rt: HostRuntime) {
     let Some(policy) = policy_of(&rt, rt.alloc(), SMALLEST) else {
@@ -107,21 +110,26 @@ fn for_want_of_memory_an_input_says_nothing_else(rt: HostRuntime) {
 }
 
 /// Stops unless the list has so many commands, one a tick, and so many characters, two a tick.
-fn check_list(rt: &impl Abort, list: &EventList, commands: usize, characters: usize) {
+fn check_list(rt: &impl Abort, list: EventList, commands: usize, characters: usize) {
     assert_eq!(rt; list.commands().len(), commands);
     for (i, command) in list.commands().iter().enumerate() {
         assert_eq!(rt; command.time, i as u64);
         assert_eq!(rt; command.number as usize, i + 1);
     }
-    assert_eq!(rt; list.characters().len(), characters);
-    for (i, character) in list.characters().iter().enumerate() {
-        assert_eq!(rt; character.time, i as u64 / 2);
-        assert_eq!(rt; character.line, 3);
-        assert_eq!(rt; character.byte, b'A' + (i % 2) as u8);
+    let mut left = list.into_characters();
+    assert_eq!(rt; left.len(), characters);
+    for i in 0..characters {
+        let wanted = Character {
+            time: i as u64 / 2,
+            line: 3,
+            byte: b'A' + (i % 2) as u8,
+        };
+        assert_eq!(rt; left.take_first(), Some(wanted));
     }
+    assert_eq!(rt; left.take_first(), None);
 }
 
-/// Both lists grow several times. Where a growth is refused, the list is as it was.
+/// Each list grows several times. Where a growth is refused, the list is as it was.
 #[test]
 fn for_want_of_memory_an_event_is_not_added(rt: HostRuntime) {
     let mut list = EventList::new(rt.alloc());
@@ -132,13 +140,13 @@ fn for_want_of_memory_an_event_is_not_added(rt: HostRuntime) {
             .add_command(time, Command::Stop { process: time })
             .is_err()
         {
-            return check_list(&rt, &list, added, 2 * added);
+            return check_list(&rt, list, added, 2 * added);
         }
         assert!(rt; list.follows(time));
         if list.add_characters(time, 3, b"AB".as_slice()).is_err() {
-            return check_list(&rt, &list, added + 1, 2 * added);
+            return check_list(&rt, list, added + 1, 2 * added);
         }
     }
     assert!(rt; !list.follows(7));
-    check_list(&rt, &list, 9, 18);
+    check_list(&rt, list, 9, 18);
 }

@@ -126,7 +126,7 @@ const EVENTS: &[u8] =
 #[test]
 fn an_input_has_six_commands(rt: HostRuntime) -> Result<(), Fail> {
     let policy = Policy::read(rt.alloc(), POLICY.as_bytes())?;
-    let events = Events::read(rt.alloc(), EVENTS, &policy)?;
+    let mut events = Events::read(rt.alloc(), EVENTS, &policy)?;
     let address = 0x0041_0000;
     let wanted = [
         (
@@ -188,22 +188,14 @@ fn an_input_has_six_commands(rt: HostRuntime) -> Result<(), Fail> {
         };
         assert_eq!(rt; events.commands()[i], timed);
     }
-    assert_eq!(rt;
-        events.characters(),
-        [
-            Character {
-                time: 3,
-                line: 3,
-                byte: 0x4A
-            },
-            Character {
-                time: 9,
-                line: 0,
-                byte: 0
-            }
-        ]
-        .as_slice()
-    );
+    assert_eq!(rt; events.characters().len(), 2);
+    for (time, line, byte) in [(3, 3, 0x4A), (9, 0, 0)] {
+        let wanted = Some(Character { time, line, byte });
+        assert_eq!(rt; events.characters().first(), wanted);
+        assert_eq!(rt; events.take_character(), wanted);
+    }
+    assert!(rt; events.characters().is_empty());
+    assert_eq!(rt; events.take_character(), None);
     Ok(())
 }
 

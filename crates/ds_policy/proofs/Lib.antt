@@ -4,6 +4,7 @@ pub mod Documents
 pub mod Entries
 pub mod Filling
 pub mod InputSteps
+pub mod KeyLineSteps
 mod InputWords
 pub mod PolicyRegions
 pub mod Sources

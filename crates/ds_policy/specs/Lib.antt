@@ -12,6 +12,7 @@ pub mod FirstTable
 pub mod InputNumbers
 pub mod InputLines
 pub mod InputText
+pub mod KeyLines
 pub mod InputRows
 pub mod InputEvents
 pub mod InputFacts

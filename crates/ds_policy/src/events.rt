@@ -1,9 +1,10 @@
 //! What an input says: commands and characters, each with its time.
-ghost use Rattle.std.specs.Prelude.{◌≡◌, ◌==◌, ◌≤◌, length, IfOk};
+ghost use Rattle.std.specs.Prelude.{◌≡◌, ◌==◌, ◌≤◌, length, drop, slice_get, IfOk};
 ghost use Rattle.std.specs.List.{position_or_len, before_first, after_first};
 ghost use Rattle.ds_policy.specs.InputText.{Gives, input_of};
 ghost use Rattle.ds_policy.specs.InputFacts.{AreGoodCommands};
 
+mod characters;
 mod digits;
 mod event;
 mod fault;
@@ -14,6 +15,7 @@ mod reading;
 
 use crate::command::{Character, TimedCommand};
 use crate::policy::{Policy, PolicyPage};
+pub use characters::Characters;
 pub use digits::address_of;
 pub use fault::EventsFault;
 pub use list::EventList;
@@ -23,11 +25,11 @@ use std::marker::Model;
 /// The latest time at which an event can be due, in ticks, and the most ticks of a run.
 pub const MOST_TICKS: u64 = 1_000_000_000;
 
-/// The commands and characters of an input, in order.
+/// The commands and characters of an input, in order. Characters can be taken, from the first on.
 #[derive(Drop)]
 pub struct Events {
     commands: Vec<TimedCommand>,
-    characters: Vec<Character>,
+    characters: Characters,
 }
 
 impl Model for Events {
@@ -36,10 +38,10 @@ impl Model for Events {
 
     ghost Value = { InputValue };
 
-    ghost view = { λ e. record { commands = e.commands.items; characters = e.characters.items } };
+    ghost view = { λ e. record { commands = e.commands.items; characters = e.characters } };
 
     ghost invariant = { λ e.
-        IsGoodInput (record { commands = e.commands.items; characters = e.characters.items }) };
+        IsGoodInput (record { commands = e.commands.items; characters = e.characters }) };
 }
 
 impl Events {
@@ -68,13 +70,22 @@ impl Events {
         &self.commands
     }
 
-    /// The characters, each with its time and its line.
-    pub fn characters(&self) -> &[Character]
+    /// The characters that are left, each with its time and its line.
+    pub fn characters(&self) -> &Characters
         ensures all { result.now ≡ self.now.characters }
         ensures good { All IsGoodCharacter self.now.characters }
         ensures order { IsNonDecreasingBy comes_at self.now.characters }
     {
         &self.characters
+    }
+
+    /// Takes the first character that is left.
+    pub fn take_character(&mut self) -> Option<Character>
+        ensures value { result ≡ slice_get self.old.characters 0 }
+        ensures rest { self.new
+            ≡ record self.old { characters = drop 1 self.old.characters } }
+    {
+        self.characters.take_first()
     }
 }
 

@@ -17,7 +17,7 @@ mod text;
 pub use access::{Access, Rule, Verdict};
 pub use command::{Character, Command, TimedCommand};
 pub use ds_isa::{Kind, Size};
-pub use events::{EventList, Events, EventsFault, MOST_TICKS, address_of};
+pub use events::{Characters, EventList, Events, EventsFault, MOST_TICKS, address_of};
 pub use fault::PolicyFault;
 pub use grant::{Entry, Grant, Right};
 pub use memory::OutOfMemory;

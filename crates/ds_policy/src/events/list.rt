@@ -1,8 +1,9 @@
 //! The events of an input, one behind the other.
-ghost use Rattle.std.specs.Prelude.{◌≡◌, ◌≤◌, ◌<◌, ◌+◌, ◌++◌, length, OnOk, OnErr, true, vec_len, vec_capacity};
-ghost use Rattle.ds_policy.specs.InputText.{nothing_said, follows, with_command, with_characters, characters_of};
+ghost use Rattle.std.specs.Prelude.{◌≡◌, ◌≤◌, ◌<◌, ◌+◌, ◌++◌, length, OnOk, OnErr, true};
+ghost use Rattle.ds_policy.specs.InputText.{nothing_said, follows, with_command, with_characters};
 
-use crate::command::{Character, Command, TimedCommand};
+use crate::command::{Command, TimedCommand};
+use crate::events::characters::Characters;
 use std::alloc::{AllocError, Global};
 use std::marker::Model;
 
@@ -18,7 +19,7 @@ pub struct EventList {
     /// How many events there were.
     events: u32,
     pub(crate) commands: Vec<TimedCommand>,
-    pub(crate) characters: Vec<Character>,
+    pub(crate) characters: Characters,
 }
 
 impl Model for EventList {
@@ -31,7 +32,7 @@ impl Model for EventList {
       latest = r.latest;
       events = r.events;
       commands = r.commands.items;
-      characters = r.characters.items;
+      characters = r.characters;
     } };
 
     ghost invariant = { λ r. (length r.commands.items ≤ r.events) × (r.events ≤ 4096) };
@@ -46,7 +47,7 @@ impl EventList {
             latest: 0,
             events: 0,
             commands: Vec::new(alloc),
-            characters: Vec::new(alloc),
+            characters: Characters::new(alloc),
         }
     }
 
@@ -82,7 +83,7 @@ impl EventList {
         ensures added { OnOk result (self.new ≡ with_characters self.old time line bytes.now) }
         ensures kept { OnErr result (self.new ≡ self.old) }
     {
-        append(&mut self.characters, time as u64, line, bytes)?;
+        self.characters.push(time, line, bytes)?;
         self.latest = time;
         self.events += 1;
         Ok(())
@@ -96,33 +97,9 @@ impl EventList {
     }
 
     /// The characters, each with its time and its line.
-    pub fn characters(&self) -> &[Character]
-        ensures { result.now ≡ self.now.characters }
+    pub fn into_characters(self) -> Characters
+        ensures { result ≡ self.characters }
     {
-        &self.characters
+        self.characters
     }
-}
-
-/// Appends characters that come in on a line, or none where memory runs out.
-fn append(
-    characters: &mut Vec<Character>,
-    time: u64,
-    line: u8,
-    bytes: &[u8],
-) -> Result<(), AllocError>
-    ensures ok { OnOk result (characters.new.items
-        ≡ characters.old.items ++ characters_of time line bytes.now) }
-    ensures err { OnErr result (characters.new.items ≡ characters.old.items) }
-{
-    characters.reserve(bytes.len())?;
-    for byte in bytes {
-        characters
-            .push(Character {
-                time,
-                line,
-                byte: *byte,
-            })
-            .unwrap();
-    }
-    Ok(())
 }
