@@ -8,4 +8,6 @@ pub mod Statements
 pub mod Rows
 pub mod Table
 pub mod Sources
+pub mod ByteSources
 pub mod Listings
+pub mod LabelValues

@@ -44,7 +44,7 @@ cut_length k left bytes further b d =
     rw (b, d) (omega (arith, length-append (take k left) (drop k left)))
 
 -- The bytes of the lines are those of the image.
-drop_seam : (xs ys : List ℕ) → drop (length xs) (xs ++ ys) ≡ ys
+pub drop_seam : (xs ys : List ℕ) → drop (length xs) (xs ++ ys) ≡ ys
 drop_seam xs ys = ap (λ (k : ℕ). drop k (xs ++ ys)) (omega arith) ∙ drop-append-add xs ys 0
 
 -- and each line's are told

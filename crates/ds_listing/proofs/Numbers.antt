@@ -62,7 +62,7 @@ digit_behind base limit n (x ∷ xs) c =
 decimal_digit_of : (d : ℕ) → d < 10 → digit_of 10 (48 + d) ≡ Some d
 decimal_digit_of d l = said _ d (below_at (λ k. says (digit_of 10 (48 + k)) k) 10 d refl l)
 
-hex_digit_of : (d : ℕ) → d < 16 → digit_of 16 (hex_digit d) ≡ Some d
+pub hex_digit_of : (d : ℕ) → d < 16 → digit_of 16 (hex_digit d) ≡ Some d
 hex_digit_of d l = said _ d (below_at (λ k. says (digit_of 16 (hex_digit k)) k) 16 d refl l)
 
 -- a number in decimal digits is read back

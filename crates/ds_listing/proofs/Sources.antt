@@ -23,18 +23,18 @@ lines_of_source (w ∷ ws) read =
     ∙ ap (λ ls. text ∷ ls) (lines_of_source ws read.1))
 
 -- a layout without labels
-abbrev plain_layout : ℕ → Layout
+abbrev pub plain_layout : ℕ → Layout
 plain_layout at = record { labels = []; size = at }
 
 -- the first pass over a line that says a word
-word_laid : (n at w : ℕ) (line : Option Line) → Says line w → at % 4 ≡ 0 → at + 4 ≤ 65536 → with_line n line (plain_layout at) ≡ Ok (plain_layout (at + 4))
+pub word_laid : (n at w : ℕ) (line : Option Line) → Says line w → at % 4 ≡ 0 → at + 4 ≤ 65536 → with_line n line (plain_layout at) ≡ Ok (plain_layout (at + 4))
 word_laid n at w line s even room =
     let fits : nat_lt most_bytes (at + 4) ≡ false = le-ltb _ _ (omega arith) in
     let good : is_in_range s.statement && is_aligned at s.statement ≡ true = and_from _ _ s.word.in_range (s.word.aligned at even) in
     ap (λ x. with_line n x (plain_layout at)) s.is ∙ (rw (good, s.word.size, fits) refl)
 
 -- and the second
-word_added : (n w at : ℕ) (find : List ℕ → Option ℕ) (line : Option Line) → Says line w → line_bytes n find at line ≡ Ok (bytes_of_word w)
+pub word_added : (n w at : ℕ) (find : List ℕ → Option ℕ) (line : Option Line) → Says line w → line_bytes n find at line ≡ Ok (bytes_of_word w)
 word_added n w at find line s = ap (line_bytes n find at) s.is ∙ s.word.bytes n find at
 
 source_laid : (n at : ℕ) (ws : List ℕ) → EachIsRead ws → at % 4 ≡ 0 → at + 4 * length ws ≤ 65536 → with_lines n (plain_layout at) (map text_of ws) ≡ Ok (plain_layout (at + 4 * length ws))

@@ -1,12 +1,12 @@
 -- The listing of a source: each line with its place in the image and its bytes there, and the labels.
-use Rattle.std.specs.Prelude.{◌≡◌, ◌⊎◌, codes, decimal, ℕ, ◌+◌, ◌-◌, ◌/◌, ◌%◌, List, [], ◌∷◌, ◌++◌, length, replicate, take, drop, Option, None, Some, Result, Ok, ⊤}
+use Rattle.std.specs.Prelude.{◌≡◌, ◌⊎◌, codes, decimal, ℕ, ◌+◌, ◌-◌, List, [], ◌∷◌, ◌++◌, length, replicate, take, drop, reverse, Option, None, Some, Result, Ok, ⊤}
 use Rattle.std.specs.List.{flat_map}
 use Rattle.ds_word.specs.ResultBinding.{◌>>=◌}
 use Rattle.ds_asm.specs.declared.fault.SourceFault.{SourceFault}
 use Rattle.ds_asm.specs.Lines.{line_of}
-use Rattle.ds_asm.specs.Assembly.{origin, lines_of, assembled}
+use Rattle.ds_asm.specs.Assembly.{Labels, origin, lines_of, assembled}
 use Rattle.ds_asm.specs.Faults.{label_in, size_in}
-use Rattle.ds_listing.specs.Texts.{hex_digit, hex8}
+use Rattle.ds_listing.specs.Texts.{hex2, hex8}
 
 -- a line: its number, where it stands in the image, its bytes there, its label and its text
 pub record Row : Type 0 where
@@ -36,10 +36,6 @@ rows_from n at left (line ∷ lines) =
 -- the lines of a source that has an image
 abbrev pub rows_of : List ℕ → List ℕ → List Row
 rows_of text image = rows_from 1 0 image (lines_of text)
-
--- the two hexadecimal digits of a byte
-abbrev pub hex2 : ℕ → List ℕ
-hex2 b = hex_digit (b / 16) ∷ hex_digit (b % 16) ∷ []
 
 -- four bytes as their word, with the highest byte first; one byte; and zeros by their number
 abbrev pub bytes_text : List ℕ → List ℕ
@@ -77,9 +73,13 @@ abbrev pub label_text : ℕ → Option (List ℕ) → List ℕ
 label_text at None = []
 label_text at (Some name) = address_text at ++ (codes "  " ++ (name ++ 10 ∷ []))
 
+-- the labels of lines, and a line that says so before them
+abbrev pub labels_text : List Row → List ℕ
+labels_text rows = codes "labels\n" ++ flat_map (λ r. label_text r.place r.label) rows
+
 -- the lines, and behind them the labels
 abbrev pub rows_text : List Row → List ℕ
-rows_text rows = flat_map row_text rows ++ (codes "labels\n" ++ flat_map (λ r. label_text r.place r.label) rows)
+rows_text rows = flat_map row_text rows ++ labels_text rows
 
 -- the listing of a source, or its first fault
 abbrev pub listing_of : List ℕ → Result (List ℕ) SourceFault
@@ -99,3 +99,11 @@ EachIsTold (r ∷ rows) = IsTold r.bytes × EachIsTold rows
 pub record Shows (rows : List Row) (image : List ℕ) : Type 0 where
   pub bytes : flat_map (λ r. r.bytes) rows ≡ image
   pub told : EachIsTold rows
+
+-- a label with its value
+abbrev pub value_text : List ℕ × ℕ → List ℕ
+value_text l = hex8 l.1 ++ (codes "  " ++ (l.0 ++ 10 ∷ []))
+
+-- a listing ends with these labels, the oldest first
+abbrev pub EndsWithLabels : Labels → List ℕ → Type 0
+EndsWithLabels labels listing = (front : List ℕ) × (listing ≡ front ++ (codes "labels\n" ++ flat_map value_text (reverse labels)))

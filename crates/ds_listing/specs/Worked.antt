@@ -2,6 +2,7 @@
 use Rattle.std.specs.Prelude.{codes, refl, ◌≡◌, ℕ, List, [], ◌∷◌}
 use Rattle.std.specs.Fmt.{digits}
 use Rattle.ds_listing.specs.Texts.{hex4, hex8, is_label, form_of, text_of, source_of}
+use Rattle.ds_listing.specs.Sources.{source_of_bytes}
 
 -- The nine words of the refill handler (Kane and Heinrich, chapter 6).
 abbrev refill_words : List ℕ
@@ -27,3 +28,13 @@ distances : source_of (0x04118000 ∷ 0x14007FFF ∷ 0x1820FFFE ∷ [])
     ≡ codes ".word 0x04118000 # bgezal $0,.-131068\n.word 0x14007FFF # bne $0,$0,.+131072\n.word 0x1820FFFE # blez $1,.-4\n"
 unfolding text_of form_of hex4 hex8 is_label digits
 distances = refl
+
+-- bytes that are left behind the words
+bytes_left : source_of_bytes (0x41 ∷ 0x00 ∷ 0x04 ∷ 0x24 ∷ 0x0C ∷ 0x00 ∷ 0x00 ∷ 0x00 ∷ 0xFF ∷ 0x0A ∷ [])
+    ≡ codes "addiu $4,$0,65\nsyscall\n.byte 0xFF\n.byte 0x0A\n"
+unfolding text_of form_of hex4 hex8 is_label digits
+bytes_left = refl
+
+words_alone : source_of_bytes (0xFF ∷ 0xFF ∷ 0xFF ∷ 0xFF ∷ []) ≡ codes ".word 0xFFFFFFFF\n"
+unfolding text_of form_of hex4 hex8 is_label digits
+words_alone = refl

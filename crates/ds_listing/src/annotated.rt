@@ -2,19 +2,22 @@
 ghost use Rattle.std.specs.Prelude.{◌≡◌, ◌≤◌, ◌++◌, ℕ, List, IfOk, Ok, length, take, drop};
 ghost use Rattle.std.specs.List.{flat_map};
 ghost use Rattle.ds_asm.specs.Assembling.{Assembles};
-ghost use Rattle.ds_asm.specs.Assembly.{assembled};
-ghost use Rattle.ds_listing.specs.Listing.{Shows, listing_of, rows_of, rows_text};
+ghost use Rattle.ds_asm.specs.Assembly.{Layout, assembled, empty_layout, lines_of, with_lines};
+ghost use Rattle.ds_listing.specs.Listing.{EndsWithLabels, Shows, listing_of, rows_of, rows_text};
 
 use crate::sheet::Row;
 use ds_asm::{AsmFault, assemble, first_line, source_line};
 use std::alloc::{AllocError, Global};
 
 /// The listing of a source, or its first fault: each line with its number, and, where it has bytes,
-/// their address and the bytes; behind the lines each label with its value.
+/// their address and the bytes; behind the lines each label with the value that the assembler gives
+/// it, in the order of the source.
 pub fn listing(alloc: Global, text: &[u8]) -> Result<Vec<u8>, AsmFault>
     ensures text { Assembles (λ v. v.items) result (listing_of text.now) }
     ensures image { (image : List ℕ) → assembled text.now ≡ Ok image
         → Shows (rows_of text.now image) image }
+    ensures labels { (layout : Layout) → with_lines 1 empty_layout (lines_of text.now) ≡ Ok layout
+        → IfOk result (λ v. EndsWithLabels layout.labels v.items) }
 {
     let image = assemble(alloc, text)?;
     let sheet = sheet_of(alloc, text, image.bytes())?;

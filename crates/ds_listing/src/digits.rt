@@ -1,7 +1,7 @@
 //! Numbers as a source writes them.
 ghost use Rattle.std.specs.Prelude.{◌≡◌, ◌+◌, ◌%◌, ◌<◌, ◌++◌, ◌∷◌, [], OnOk, decimal};
 ghost use Rattle.std.specs.String.{string_bytes};
-ghost use Rattle.ds_listing.specs.Texts.{hex_digit, hex4, hex8, register_text, signed_text, distance_text};
+ghost use Rattle.ds_listing.specs.Texts.{hex2, hex4, hex8, hex_digit, register_text, signed_text, distance_text};
 
 use itoa::Buffer;
 use std::alloc::AllocError;
@@ -70,6 +70,14 @@ fn push_digit(text: &mut String, number: u32) -> Result<(), AllocError>
         (string_bytes text.new ≡ string_bytes text.old ++ hex_digit number ∷ []) }
 {
     text.push(char::from(hex_digit(number)))
+}
+
+/// Adds the two hexadecimal digits of a byte.
+pub(crate) fn push_byte(text: &mut String, byte: u8) -> Result<(), AllocError>
+    ensures { OnOk result (string_bytes text.new ≡ string_bytes text.old ++ hex2 byte) }
+{
+    push_digit(text, u32::from(byte / 16))?;
+    push_digit(text, u32::from(byte % 16))
 }
 
 /// Adds the four hexadecimal digits of a half.

@@ -2,6 +2,7 @@
 #![tactic(auto)]
 
 mod annotated;
+mod bytes;
 mod digits;
 mod form;
 mod law;
@@ -11,6 +12,7 @@ mod sheet;
 mod source;
 
 pub use annotated::listing;
+pub use bytes::source_of_bytes;
 pub use law::a_word_is_read_back;
 pub use line::push_word;
 pub use source::source_of_words;

@@ -1,9 +1,9 @@
 //! Parts of a listing, as bytes.
 ghost use Rattle.std.specs.Prelude.{◌≡◌, ◌+◌, ◌<◌, ◌≤◌, ◌++◌, ◌∷◌, [], OnOk, codes, decimal, length, option_map, replicate};
 ghost use Rattle.ds_asm.specs.Assembly.{origin};
-ghost use Rattle.ds_listing.specs.Listing.{address_text, behind_number, bytes_text, hex2, label_text, blanks_before, row_text, shown_text};
+ghost use Rattle.ds_listing.specs.Listing.{address_text, behind_number, bytes_text, label_text, blanks_before, row_text, shown_text};
 ghost use Rattle.ds_listing.specs.Plain.{plain_row};
-ghost use Rattle.ds_listing.specs.Texts.{hex4, hex8};
+ghost use Rattle.ds_listing.specs.Texts.{hex2, hex4, hex8};
 
 use crate::digits::hex_digit;
 use ds_asm::ORIGIN;

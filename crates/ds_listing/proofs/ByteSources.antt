@@ -1,0 +1,162 @@
+-- The text of bytes assembles to them.
+use Rattle.std.proofs.Common.{◌≡◌, ◌∙◌, ap, sym, refl, ℕ, ◌+◌, ◌*◌, ◌/◌, ◌%◌, ◌^◌, ◌<◌, ◌≤◌, true, false, ◌==◌, nat_le, nat_lt, List, [], ◌∷◌, ◌++◌, length, length-append, map, Option, Some, option_map, Ok, arith, append-nil, append_assoc}
+use Rattle.std.specs.Prelude.{codes}
+use Rattle.std.specs.List.{All, list_all}
+use Rattle.std.proofs.lemmas.Bool.{and_from, le-leb, le-ltb, ne_eqb}
+use Rattle.std.proofs.lemmas.List.Elements.{All-head, All-tail}
+use Rattle.ds_word.specs.Bytes.{bytes_of_word}
+use Rattle.ds_word.specs.Digits.{digits_from}
+use Rattle.ds_word.specs.ResultBinding.{◌>>=◌}
+use Rattle.ds_asm.specs.Numbers.{number_of}
+use Rattle.ds_asm.specs.Lines.{Byte, statement_named, statement_of, line_of}
+use Rattle.ds_asm.specs.Assembly.{empty_layout, most_bytes, with_line, with_lines, line_bytes, bytes_from, lines_of, address_of, assembled}
+use Rattle.ds_asm.proofs.SourceLines.{lines_of-first}
+use Rattle.ds_listing.specs.Laws.{alone, IsLineOf}
+use Rattle.ds_listing.specs.Texts.{hex2, hex_digit, text_of}
+use Rattle.ds_listing.specs.Sources.{word_of_bytes, byte_text, byte_lines, source_of_bytes}
+use Rattle.ds_listing.proofs.Numbers.{below_at, hex_digit_of, digit_read, digits_end}
+use Rattle.ds_listing.proofs.Values.{number_hexadecimal}
+use Rattle.ds_listing.proofs.Parts.{IsBody, all_both, all_weaker, is_other, body_line, until_seam, after_seam}
+use Rattle.ds_listing.proofs.Statements.{is_inside, inside_line, operands_body, statement_with}
+use Rattle.ds_listing.proofs.Sources.{plain_layout, word_laid, word_added}
+
+-- two hexadecimal digits are read back
+hex2_digits : (b : ℕ) → b < 256 → digits_from 16 4294967295 0 (hex2 b) ≡ Some b
+hex2_digits b l =
+    digit_read 16 4294967295 0 _ (b / 16) _ (hex_digit_of (b / 16) (omega arith)) (omega arith)
+    ∙ digit_read 16 4294967295 (0 * 16 + b / 16) _ (b % 16) [] (hex_digit_of (b % 16) (omega arith)) (omega arith)
+    ∙ digits_end 16 4294967295 _ ∙ ap (λ (k : ℕ). Some k) (omega arith)
+
+number_byte : (b : ℕ) → b < 256 → number_of (codes "0x" ++ hex2 b) ≡ Some (record { negative = false; magnitude = b })
+number_byte b l = number_hexadecimal (hex2 b) b (omega arith) (omega arith) (hex2_digits b l)
+
+hex2_inside : (b : ℕ) → b < 256 → list_all is_inside (codes "0x" ++ hex2 b) ≡ true
+hex2_inside b l =
+    and_from (is_inside (hex_digit (b / 16))) _ (below_at (λ d. is_inside (hex_digit d)) 16 (b / 16) refl (omega arith))
+    (and_from (is_inside (hex_digit (b % 16))) true (below_at (λ d. is_inside (hex_digit d)) 16 (b % 16) refl (omega arith)) refl)
+
+-- the line of a byte
+byte_body : (b : ℕ) → b < 256 → IsBody (byte_text b)
+byte_body b l = operands_body 46 (codes "byte") 48 (120 ∷ hex2 b) refl (hex2_inside b l)
+
+byte_statement : (b : ℕ) → b < 256 → statement_of (byte_text b) ≡ Some (Byte (record { negative = false; magnitude = b }))
+unfolding statement_named
+byte_statement b l =
+    statement_with (codes ".byte") 48 (120 ∷ hex2 b) refl (hex2_inside b l)
+    ∙ ap (option_map (λ n. Byte n)) (number_byte b l)
+
+byte_said : (b : ℕ) → b < 256 → line_of (byte_text b) ≡ alone (Some (Byte (record { negative = false; magnitude = b })))
+byte_said b l = body_line (byte_text b) (byte_body b l) ∙ ap alone (byte_statement b l)
+
+byte_one_line : (b : ℕ) → b < 256 → list_all (is_other 10) (byte_text b) ≡ true
+byte_one_line b l = all_both (is_other 10) (codes ".byte ") (codes "0x" ++ hex2 b) refl (all_weaker is_inside (is_other 10) inside_line (codes "0x" ++ hex2 b) (hex2_inside b l))
+
+-- both passes over it
+byte_laid : (n at b : ℕ) → b < 256 → at + 1 ≤ 65536 → with_line n (line_of (byte_text b)) (plain_layout at) ≡ Ok (plain_layout (at + 1))
+byte_laid n at b l room =
+    let fits : nat_lt most_bytes (at + 1) ≡ false = le-ltb _ _ (omega arith) in
+    let good : nat_le b 255 ≡ true = le-leb b 255 (omega arith) in
+    ap (λ x. with_line n x (plain_layout at)) (byte_said b l) ∙ (rw (good, fits) refl)
+
+byte_added : (n at b : ℕ) (find : List ℕ → Option ℕ) → b < 256 → line_bytes n find at (line_of (byte_text b)) ≡ Ok (b ∷ [])
+byte_added n at b find l = ap (line_bytes n find at) (byte_said b l) ∙ ap (λ (k : ℕ). Ok (k ∷ [])) (omega arith)
+
+-- the first of lines
+line_before : (text rest : List ℕ) → list_all (is_other 10) text ≡ true → lines_of (text ++ 10 ∷ rest) ≡ text ∷ lines_of rest
+line_before text rest one =
+    let some : (length (text ++ 10 ∷ rest) == 0) ≡ false = ne_eqb _ 0 (λ e. omega (arith, length-append text (10 ∷ rest))) in
+    lines_of-first (text ++ 10 ∷ rest) text rest some (sym (until_seam 10 text rest one refl)) (sym (after_seam 10 text rest one refl))
+
+-- the lines of bytes
+lines_of_left : (bytes : List ℕ) → All (λ b. b < 256) bytes → lines_of (byte_lines bytes) ≡ map byte_text bytes
+lines_of_left [] small = refl
+lines_of_left (b ∷ bytes) small =
+    ap lines_of (append_assoc (byte_text b) (10 ∷ []) (byte_lines bytes))
+    ∙ (line_before (byte_text b) (byte_lines bytes) (byte_one_line b (All-head (λ b. b < 256) b bytes small))
+    ∙ ap (λ ls. byte_text b ∷ ls) (lines_of_left bytes (All-tail (λ b. b < 256) b bytes small)))
+
+left_laid : (n at : ℕ) (bytes : List ℕ) → All (λ b. b < 256) bytes → at + length bytes ≤ 65536 → with_lines n (plain_layout at) (map byte_text bytes) ≡ Ok (plain_layout (at + length bytes))
+left_laid n at [] small room = ap (λ (k : ℕ). Ok (plain_layout k)) (omega arith)
+left_laid n at (b ∷ bytes) small room =
+    ap (λ r. r >>= (λ more. with_lines (n + 1) more (map byte_text bytes))) (byte_laid n at b (All-head (λ b. b < 256) b bytes small) (omega arith))
+    ∙ (left_laid (n + 1) (at + 1) bytes (All-tail (λ b. b < 256) b bytes small) (omega arith) ∙ ap (λ (k : ℕ). Ok (plain_layout k)) (omega arith))
+
+left_added : (n : ℕ) (find : List ℕ → Option ℕ) (before bytes : List ℕ) → All (λ b. b < 256) bytes → bytes_from n find before (map byte_text bytes) ≡ Ok (before ++ bytes)
+left_added n find before [] small = ap (λ bs. Ok bs) (sym (append-nil before))
+left_added n find before (b ∷ bytes) small =
+    ap (λ r. r >>= (λ more. bytes_from (n + 1) find (before ++ more) (map byte_text bytes))) (byte_added n (length before) b find (All-head (λ b. b < 256) b bytes small))
+    ∙ (left_added (n + 1) find (before ++ b ∷ []) bytes (All-tail (λ b. b < 256) b bytes small) ∙ ap (λ bs. Ok bs) (append_assoc before (b ∷ []) bytes))
+
+-- a word's text is read back as its bytes
+pub record IsWordOf (a b c d : ℕ) : Type 0 where
+  pub read : IsLineOf (text_of (word_of_bytes a b c d)) (word_of_bytes a b c d)
+  pub bytes : bytes_of_word (word_of_bytes a b c d) ≡ a ∷ b ∷ c ∷ d ∷ []
+
+-- each word is, and the others are bytes
+abbrev pub AreSaid : List ℕ → Type 0
+AreSaid (a ∷ b ∷ c ∷ d ∷ bytes) = IsWordOf a b c d × AreSaid bytes
+AreSaid bytes = All (λ b. b < 256) bytes
+
+abbrev lines_in : List ℕ → List (List ℕ)
+lines_in (a ∷ b ∷ c ∷ d ∷ bytes) = text_of (word_of_bytes a b c d) ∷ lines_in bytes
+lines_in bytes = map byte_text bytes
+
+lines_of_source : (bytes : List ℕ) → AreSaid bytes → lines_of (source_of_bytes bytes) ≡ lines_in bytes
+lines_of_source [] said = lines_of_left [] said
+lines_of_source (a ∷ []) said = lines_of_left (a ∷ []) said
+lines_of_source (a ∷ b ∷ []) said = lines_of_left (a ∷ b ∷ []) said
+lines_of_source (a ∷ b ∷ c ∷ []) said = lines_of_left (a ∷ b ∷ c ∷ []) said
+lines_of_source (a ∷ b ∷ c ∷ d ∷ bytes) said =
+    let text = text_of (word_of_bytes a b c d) in
+    line_before text (source_of_bytes bytes) said.0.read.one_line ∙ ap (λ ls. text ∷ ls) (lines_of_source bytes said.1)
+
+source_laid : (n at : ℕ) (bytes : List ℕ) → AreSaid bytes → at % 4 ≡ 0 → at + length bytes ≤ 65536 → with_lines n (plain_layout at) (lines_in bytes) ≡ Ok (plain_layout (at + length bytes))
+source_laid n at [] said even room = left_laid n at [] said room
+source_laid n at (a ∷ []) said even room = left_laid n at (a ∷ []) said room
+source_laid n at (a ∷ b ∷ []) said even room = left_laid n at (a ∷ b ∷ []) said room
+source_laid n at (a ∷ b ∷ c ∷ []) said even room = left_laid n at (a ∷ b ∷ c ∷ []) said room
+source_laid n at (a ∷ b ∷ c ∷ d ∷ bytes) said even room =
+    let w = word_of_bytes a b c d in
+    ap (λ r. r >>= (λ more. with_lines (n + 1) more (lines_in bytes))) (word_laid n at w (line_of (text_of w)) said.0.read.says even (omega arith))
+    ∙ (source_laid (n + 1) (at + 4) bytes said.1 (omega arith) (omega arith) ∙ ap (λ (k : ℕ). Ok (plain_layout k)) (omega arith))
+
+source_added : (n : ℕ) (find : List ℕ → Option ℕ) (before bytes : List ℕ) → AreSaid bytes → bytes_from n find before (lines_in bytes) ≡ Ok (before ++ bytes)
+source_added n find before [] said = left_added n find before [] said
+source_added n find before (a ∷ []) said = left_added n find before (a ∷ []) said
+source_added n find before (a ∷ b ∷ []) said = left_added n find before (a ∷ b ∷ []) said
+source_added n find before (a ∷ b ∷ c ∷ []) said = left_added n find before (a ∷ b ∷ c ∷ []) said
+source_added n find before (a ∷ b ∷ c ∷ d ∷ bytes) said =
+    let w = word_of_bytes a b c d in
+    ap (λ r. r >>= (λ more. bytes_from (n + 1) find (before ++ more) (lines_in bytes))) (word_added n w (length before) find (line_of (text_of w)) said.0.read.says ∙ ap (λ bs. Ok bs) said.0.bytes)
+    ∙ (source_added (n + 1) find (before ++ a ∷ b ∷ c ∷ d ∷ []) bytes said.1 ∙ ap (λ bs. Ok bs) (append_assoc before (a ∷ b ∷ c ∷ d ∷ []) bytes))
+
+-- the text of bytes, as many as an image holds, says them
+pub bytes_read : (bytes : List ℕ) → AreSaid bytes → length bytes ≤ 65536 → assembled (source_of_bytes bytes) ≡ Ok bytes
+bytes_read bytes said few =
+    ap (λ ls. with_lines 1 empty_layout ls >>= (λ layout. bytes_from 1 (address_of layout.labels) [] ls)) (lines_of_source bytes said)
+    ∙ (ap (λ r. r >>= (λ layout. bytes_from 1 (address_of layout.labels) [] (lines_in bytes))) (source_laid 1 0 bytes said refl (omega arith))
+    ∙ source_added 1 (address_of []) [] bytes said)
+
+-- fewer than four bytes are no word
+pub few_lines : (bytes : List ℕ) → length bytes < 4 → source_of_bytes bytes ≡ byte_lines bytes
+few_lines [] few = refl
+few_lines (a ∷ []) few = refl
+few_lines (a ∷ b ∷ []) few = refl
+few_lines (a ∷ b ∷ c ∷ []) few = refl
+few_lines (a ∷ b ∷ c ∷ d ∷ bytes) few = absurd (omega arith)
+
+pub few_said : (bytes : List ℕ) → length bytes < 4 → All (λ b. b < 256) bytes → AreSaid bytes
+few_said [] few small = small
+few_said (a ∷ []) few small = small
+few_said (a ∷ b ∷ []) few small = small
+few_said (a ∷ b ∷ c ∷ []) few small = small
+few_said (a ∷ b ∷ c ∷ d ∷ bytes) few small = absurd (omega arith)
+
+-- four bytes are those of their word
+pub word_of_four : (a b c d : ℕ) → a < 256 → b < 256 → c < 256 → d < 256 → bytes_of_word (word_of_bytes a b c d) ≡ a ∷ b ∷ c ∷ d ∷ []
+word_of_four a b c d la lb lc ld =
+    let lowest : word_of_bytes a b c d % 2 ^ 8 ≡ a = omega arith in
+    let low : word_of_bytes a b c d / 2 ^ 8 % 2 ^ 8 ≡ b = omega arith in
+    let high : word_of_bytes a b c d / 2 ^ 16 % 2 ^ 8 ≡ c = omega arith in
+    let highest : word_of_bytes a b c d / 2 ^ 24 ≡ d = omega arith in
+    rw (lowest, low, high, highest) refl

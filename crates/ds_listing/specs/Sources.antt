@@ -1,0 +1,25 @@
+-- The source of bytes.
+use Rattle.std.specs.Prelude.{codes, ℕ, ◌+◌, ◌*◌, ◌^◌, List, [], ◌∷◌, ◌++◌}
+use Rattle.std.specs.List.{flat_map}
+use Rattle.ds_listing.specs.Texts.{hex2, text_of}
+
+-- the word of four bytes, the lowest first
+abbrev pub word_of_bytes : ℕ → ℕ → ℕ → ℕ → ℕ
+word_of_bytes a b c d = a + 2 ^ 8 * b + 2 ^ 16 * c + 2 ^ 24 * d
+
+-- a byte by its number
+abbrev pub byte_text : ℕ → List ℕ
+byte_text b = codes ".byte 0x" ++ hex2 b
+
+-- a line of it
+abbrev pub byte_line : ℕ → List ℕ
+byte_line b = byte_text b ++ 10 ∷ []
+
+-- a line for each byte
+abbrev pub byte_lines : List ℕ → List ℕ
+byte_lines bytes = flat_map byte_line bytes
+
+-- the text of bytes: a line for the word of each four, and for each byte that is left a line of its own
+abbrev pub source_of_bytes : List ℕ → List ℕ
+source_of_bytes (a ∷ b ∷ c ∷ d ∷ bytes) = text_of (word_of_bytes a b c d) ++ 10 ∷ source_of_bytes bytes
+source_of_bytes bytes = byte_lines bytes
