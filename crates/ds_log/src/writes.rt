@@ -11,8 +11,9 @@ use thiserror::Error;
 #[error("the text could not be written")]
 pub struct WriteFailed;
 
-/// Hands bytes to the writer, in as many writes as it takes.
-fn send<W: Write>(out: &mut W, text: &[u8]) -> Result<(), WriteFailed>
+/// Hands bytes to the writer, in as many writes as it takes. Where a write fails, or takes nothing, it
+/// is `WriteFailed`, and the writer has taken a prefix of them.
+pub fn send<W: Write>(out: &mut W, text: &[u8]) -> Result<(), WriteFailed>
     ensures ok { OnOk result (Appends (W.contents out.old) (W.contents out.new) text.now) }
     ensures err { OnErr result (AppendsPart (W.contents out.old) (W.contents out.new) text.now) }
 {
