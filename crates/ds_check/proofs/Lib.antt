@@ -1,0 +1,6 @@
+pub mod FirstLines
+pub mod EventCounts
+pub mod LimitTexts
+pub mod RuleLines
+pub mod PlaceSteps
+pub mod EventSteps

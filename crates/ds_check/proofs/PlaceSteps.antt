@@ -1,0 +1,23 @@
+-- A byte more of a text.
+use Rattle.std.proofs.Common.{ℕ, ◌+◌, ◌≤◌, arith, inl, inr, ◌==◌}
+use Rattle.std.proofs.lemmas.Bool.{cases_Bool}
+use Rattle.ds_check.specs.declared.places.Place.{Place}
+use Rattle.ds_check.specs.Places.{behind, goes_on}
+
+pub line_step : (p : Place) (b n : ℕ) → p.line ≤ n → (behind p b).line ≤ n + 1
+line_step p b n l = elim (cases_Bool (b == 10)) [
+  | inl feed ↦ rw feed (omega arith)
+  | inr other ↦ rw other (elim (cases_Bool (goes_on b)) [
+    | inl on ↦ rw on (omega arith)
+    | inr new ↦ rw new (omega arith)
+  ])
+]
+
+pub column_step : (p : Place) (b n : ℕ) → p.column ≤ n → 1 ≤ n → (behind p b).column ≤ n + 1
+column_step p b n l some = elim (cases_Bool (b == 10)) [
+  | inl feed ↦ rw feed (omega arith)
+  | inr other ↦ rw other (elim (cases_Bool (goes_on b)) [
+    | inl on ↦ rw on (omega arith)
+    | inr new ↦ rw new (omega arith)
+  ])
+]

@@ -1,0 +1,31 @@
+use Rattle.std.proofs.Common.{◌≡◌, ◌∙◌, ap, sym, subst, refl, ℕ, List, ◌+◌, ◌-◌, ◌≤◌, take, ◌++◌, drop, length, arith, rules}
+use Rattle.std.specs.Prelude.{Some}
+use Rattle.std.proofs.lemmas.List.{length-drop, take_all}
+use Rattle.ds_policy.specs.Value.{InputValue}
+use Rattle.ds_policy.specs.declared.command.TimedCommand.{TimedCommand}
+use Rattle.ds_policy.specs.declared.command.Character.{Character}
+use Rattle.ds_check.proofs.EventSteps.{event_more}
+use Rattle.ds_check.specs.Coming.{events_from, events_text, step_count, step_text}
+use Rattle.ds_check.proofs.coming.push_events.Goals as goal
+
+pub loop-character-preserved : goal.loop-character-preserved
+loop-character-preserved c =
+    let old = c.loop-character.events in
+    let commands : c.take_character.new.self.commands ≡ old.commands = ap (λ (v : InputValue). v.commands) c.take_character.ensures.rest in
+    let left : c.take_character.new.self.characters ≡ drop 1 old.characters = ap (λ (v : InputValue). v.characters) c.take_character.ensures.rest in
+    let ks = c.commands.result.now in
+    let here : take (length ks - c.loop-character.done) (drop c.loop-character.done ks) ≡ drop c.loop-character.done old.commands =
+    take_all (length ks - c.loop-character.done) (drop c.loop-character.done ks) (omega (arith, length-drop c.loop-character.done ks))
+    ∙ ap (drop c.loop-character.done) (c.commands.ensures.all ∙ commands) in
+    let more = c.loop-character.done + c.in_ok-done.field-0 in
+    record {
+      text =
+          ap (λ (ks : List TimedCommand). c.push_character.new.sheet.items ++ events_from c.args.pages.now (Some c.in-Some.character) (drop more ks) c.take_character.new.self.characters) commands
+          ∙ (ap (λ (cs : List Character). c.push_character.new.sheet.items ++ events_from c.args.pages.now (Some c.in-Some.character) (drop more old.commands) cs) left
+          ∙ event_more c.args.pages.now c.loop-character.last old.commands old.characters c.in-Some.character c.loop-character.done c.in_ok-done.field-0 c.loop-character.sheet.items c.push_character.new.sheet.items _
+          (search rules)
+          (subst (λ (ks : List TimedCommand). c.in_ok-done.field-0 ≡ step_count c.loop-character.last ks c.in-Some.character) here c.in_ok-done.ensures.count)
+          (subst (λ (ks : List TimedCommand). c.push_character.new.sheet.items ≡ c.loop-character.sheet.items ++ step_text c.args.pages.now c.loop-character.last ks c.in-Some.character) here c.in_ok-done.ensures.text)
+          c.loop-character.invariant.text);
+      within = omega (arith, length-drop c.loop-character.done old.commands, subst (λ (ks : List TimedCommand). c.in_ok-done.field-0 ≤ length ks) here c.in_ok-done.ensures.within, ap (λ (ks : List TimedCommand). length ks) commands, c.loop-character.invariant.within);
+    }

@@ -1,0 +1,86 @@
+-- What comes during a run, as a reader is told it: commands, and characters between them.
+use Rattle.std.specs.Prelude.{codes, decimal, ℕ, ◌+◌, Bool, true, false, ◌&&◌, ◌==◌, nat_le, if◌then◌else◌, List, [], ◌∷◌, ◌++◌, take, drop, Option, None, Some}
+use Rattle.std.specs.List.{flat_map, slice_get, prefix_len}
+use Rattle.ds_policy.specs.declared.command.Command.{Command}
+use Rattle.ds_policy.specs.declared.command.Command.TheVariants.{Grant, Narrow, Revoke, Drop, Resume, Stop}
+use Rattle.ds_policy.specs.declared.command.TimedCommand.{TimedCommand}
+use Rattle.ds_policy.specs.declared.command.Character.{Character}
+use Rattle.ds_policy.specs.declared.grant.Right.{Right}
+use Rattle.ds_policy.specs.declared.grant.Right.TheVariants.{Nothing, Read, Write}
+use Rattle.ds_policy.specs.declared.policy.PolicyPage.{PolicyPage}
+use Rattle.ds_policy.specs.Value.{InputValue}
+use Rattle.ds_listing.specs.Texts.{hex8}
+use Rattle.ds_listing.specs.Texts.{hex2}
+
+-- the name of a page, where there is one
+abbrev pub name_text : Option PolicyPage → List ℕ
+name_text None = []
+name_text (Some p) = p.name
+
+-- the right that a command gives
+abbrev pub given_text : Right → List ℕ
+given_text Nothing = codes " none"
+given_text Read = codes " read"
+given_text Write = codes " write"
+
+-- whether the process may give it on
+abbrev pub may_give_text : Bool → List ℕ
+may_give_text true = codes " give"
+may_give_text false = []
+
+-- a verb, a process and an address
+abbrev pub entry_words : List ℕ → ℕ → ℕ → List ℕ
+entry_words verb process address = verb ++ decimal process ++ codes " " ++ hex8 address
+
+-- a command in the words of an input, where these are the policy's pages
+abbrev pub words_text : List PolicyPage → Command → List ℕ
+words_text pages (Grant process address page right give) =
+    entry_words (codes "grant ") process address ++ codes " " ++ name_text (slice_get pages page) ++ given_text right ++ may_give_text give
+words_text pages (Narrow process address) = entry_words (codes "narrow ") process address
+words_text pages (Revoke process address) = entry_words (codes "revoke ") process address
+words_text pages (Drop process address) = entry_words (codes "drop ") process address
+words_text pages (Resume process) = codes "resume " ++ decimal process
+words_text pages (Stop process) = codes "stop " ++ decimal process
+
+-- the line of a command: its time, its number, the rule that the log names for it, and its words
+abbrev pub command_text : List PolicyPage → TimedCommand → List ℕ
+command_text pages k =
+    decimal k.time ++ codes " command " ++ decimal k.number ++ codes ", rule " ++ decimal (1000 + k.number) ++ codes ": "
+    ++ words_text pages k.command ++ codes "\n"
+
+-- how many commands come no later
+abbrev pub count_due : ℕ → List TimedCommand → ℕ
+count_due time ks = prefix_len (λ (k : TimedCommand). nat_le k.time time) ks
+
+-- the first of the characters of a line: their time, their line, and the character itself
+abbrev pub key_text : Character → List ℕ
+key_text c = decimal c.time ++ codes " key " ++ decimal c.line ++ codes " " ++ hex2 c.byte
+
+-- a character comes in on the line and at the time of the one before it
+abbrev pub comes_with : Option Character → Character → Bool
+comes_with None c = false
+comes_with (Some b) c = b.time == c.time && b.line == c.line
+
+-- the end of a line of characters
+abbrev pub end_text : Option Character → List ℕ
+end_text None = []
+end_text (Some c) = codes "\n"
+
+-- a character: behind those that it comes with, or behind the commands that come no later
+abbrev pub step_text : List PolicyPage → Option Character → List TimedCommand → Character → List ℕ
+step_text pages last ks c =
+    if comes_with last c then hex2 c.byte
+    else end_text last ++ flat_map (command_text pages) (take (count_due c.time ks) ks) ++ key_text c
+
+-- how many commands come before a character, and behind the one before it
+abbrev pub step_count : Option Character → List TimedCommand → Character → ℕ
+step_count last ks c = if comes_with last c then 0 else count_due c.time ks
+
+-- characters behind one, and commands between them
+abbrev pub events_from : List PolicyPage → Option Character → List TimedCommand → List Character → List ℕ
+events_from pages last ks [] = end_text last ++ flat_map (command_text pages) ks
+events_from pages last ks (c ∷ cs) = step_text pages last ks c ++ events_from pages (Some c) (drop (step_count last ks c) ks) cs
+
+-- what an input says, where these are the policy's pages: at one time the commands first
+abbrev pub events_text : List PolicyPage → InputValue → List ℕ
+events_text pages v = events_from pages None v.commands v.characters

@@ -1,0 +1,11 @@
+pub mod Permissions
+pub mod PermissionRows
+pub mod Limits
+pub mod LimitRows
+pub mod Coming
+pub mod ComingRows
+pub mod Explained
+pub mod Mending
+pub mod MendingRows
+pub mod Places
+pub mod PlaceRows

@@ -1,0 +1,21 @@
+//! What a reader of a policy and its input may ask before a run: what stands where, what is near a
+//! limit, what comes when, and how a refusal is mended.
+#![tactic(auto)]
+
+mod coming;
+mod counts;
+mod explained;
+mod limits;
+mod mend;
+mod permissions;
+mod places;
+mod refusals;
+mod sheet;
+mod words;
+
+pub use coming::events_text;
+pub use explained::explain;
+pub use limits::limits_text;
+pub use mend::mend_text;
+pub use permissions::table_text;
+pub use places::{Place, rule_line, toml_place};
