@@ -1,6 +1,6 @@
 -- What is still to come: it is in order, so the first is the earliest.
-use Rattle.std.proofs.Common.{◌≡◌, ◌∙◌, ℕ, ◌+◌, ◌<◌, ◌≤◌, Bool, false, cond, not, nat_le, List, [], ◌∷◌, length, filter, drop, refl, sym, ap, subst, arith}
-use Rattle.std.specs.Prelude.{slice_index_or}
+use Rattle.std.proofs.Common.{◌≡◌, ◌∙◌, ℕ, ◌+◌, ◌<◌, ◌≤◌, Bool, false, cond, not, nat_le, List, [], ◌∷◌, length, filter, drop, refl, sym, ap, subst, arith, Some}
+use Rattle.std.specs.Prelude.{slice_index_or, slice_get}
 use Rattle.std.specs.List.{All}
 use Rattle.std.specs.List.Sorted.{IsNonDecreasingBy}
 use Rattle.std.proofs.lemmas.Bool.Decides.{nat_tests}
@@ -25,6 +25,11 @@ module _ {X : Type 0} (time : X → ℕ) where
   -- the first comes later than a time, and all behind it
   pub later_from : (now : ℕ) (xs : List X) (i : ℕ) (x : X) → IsNonDecreasingBy time xs → i < length xs → x ≡ slice_index_or xs i x → now < time x → All (λ (y : X). now < time y) (drop i xs)
   later_from now xs i x order within is late = all_later now (drop i xs) (IsNonDecreasingBy-drop time i xs order) (subst (λ (ys : List X). now < first_time time ys) (sym (first_from xs i x within is)) late)
+
+  -- the same where the first is all that was looked at
+  pub later_first : (now : ℕ) (xs : List X) (x : X) → IsNonDecreasingBy time xs → slice_get xs 0 ≡ Some x → now < time x → All (λ (y : X). now < time y) xs
+  later_first now [] x order is late = λ k d below. absurd (omega (arith, below))
+  later_first now (y ∷ rest) x order is late = let same : y ≡ x = cc in all_later now (y ∷ rest) order (subst (λ (z : X). now < time z) (sym same) late)
 
   -- of those that come later none is due
   pub none_come : (now : ℕ) (xs : List X) → All (λ (x : X). now < time x) xs → filter (λ (x : X). nat_le (time x) now) xs ≡ []

@@ -17,8 +17,6 @@ pub struct Due {
     events: Events,
     // How many of its commands were taken.
     taken: usize,
-    // How many of its characters have come in.
-    come: usize,
 }
 
 impl Model for Due {
@@ -29,7 +27,7 @@ impl Model for Due {
 
     ghost view = { λ d. record {
       commands = drop d.taken d.events.commands;
-      characters = drop d.come d.events.characters;
+      characters = d.events.characters;
     } };
 
     ghost invariant = { λ d. d.taken ≤ length d.events.commands };
@@ -51,11 +49,7 @@ impl Due {
     pub fn new(events: Events) -> Due
         ensures { result ≡ events }
     {
-        Due {
-            events,
-            taken: 0,
-            come: 0,
-        }
+        Due { events, taken: 0 }
     }
 
     /// Commands and characters come in order, each character on one of four lines.
@@ -95,12 +89,8 @@ impl Due {
         ensures later { IsNone result → All (λ c. now < comes_at c) self.old.characters }
         ensures rest { self.new ≡ record self.old { characters = self.new.characters } }
     {
-        match self.events.characters().get(self.come) {
-            Some(character) if character.time <= now => {
-                let character = *character;
-                self.come += 1;
-                Some(character)
-            }
+        match self.events.characters().first() {
+            Some(character) if character.time <= now => self.events.take_character(),
             _ => None,
         }
     }
@@ -113,7 +103,7 @@ impl Due {
             Some(command) => command.time,
             None => NEVER,
         };
-        let character = match self.events.characters().get(self.come) {
+        let character = match self.events.characters().first() {
             Some(character) => character.time,
             None => NEVER,
         };
