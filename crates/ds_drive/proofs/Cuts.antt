@@ -1,5 +1,5 @@
 -- What is left on the writer where a run is refused or cut short.
-use Rattle.std.proofs.Common.{◌⊎◌, inl, inr, ℕ, List, [], append-nil}
+use Rattle.std.proofs.Common.{◌≡◌, ◌⊎◌, inl, inr, ℕ, List, [], append-nil}
 use Rattle.std.specs.Prelude.{Option, Result}
 use Rattle.std.specs.Io.KnownBytes.{Keeps}
 use Rattle.clap.specs.Words.{Text}
@@ -12,11 +12,15 @@ use Rattle.ds_station.specs.declared.fault.Fault.TheVariants as fault
 use Rattle.ds_station.proofs.Headlines.{keeps_same}
 use Rattle.ds_drive.specs.declared.failure.Failure.{Failure}
 use Rattle.ds_drive.specs.declared.failure.Failure.TheVariants as failure
+use Rattle.ds_drive.specs.declared.words.CheckRequest.{CheckRequest}
+use Rattle.ds_drive.specs.declared.words.ListRequest.{ListRequest}
 use Rattle.ds_drive.specs.declared.words.Request.{Request}
 use Rattle.ds_drive.specs.Demo.{demo_inputs}
 use Rattle.ds_drive.specs.Done.{IsCutShort}
-use Rattle.ds_drive.specs.Failures.{CutsFiles, StopsBy}
-use Rattle.ds_drive.specs.Words.{AsksForDemo, AsksForRun}
+use Rattle.ds_drive.specs.Failures.{CutsFiles, IsUnread, StopsBy}
+use Rattle.ds_drive.specs.Checked.{CutsExplanation}
+use Rattle.ds_drive.specs.Listed.{FailsBy}
+use Rattle.ds_drive.specs.Words.{AsksForDemo, AsksForRun, AsksForList, AsksForCheck}
 
 -- a whole text is a front of it
 part_of_prefix : (old new : Option (List ℕ)) (n : ℕ) (first : State) → WritesPrefix old new n first → WritesPart old new n first
@@ -63,5 +67,24 @@ demo_cut words holds f old new asks ends = elim (cut_by f demo_inputs old new 10
 pub run_cut : (words : List Text) (holds : List ℕ → List ℕ → Type 0) (request : Request) (f : Failure) (old new : Option (List ℕ)) → AsksForRun words request → StopsBy f holds request old new → IsCutShort words holds old new
 run_cut words holds request f old new asks stops = elim (files_cut_by f holds request old new stops) [
   | inl kept ↦ inl kept
-  | inr cut ↦ inr (inr (request, asks, cut))
+  | inr cut ↦ inr (inr (inl (request, asks, cut)))
 ]
+
+-- a failure of a listing
+pub list_cut : (words : List Text) (holds : List ℕ → List ℕ → Type 0) (request : ListRequest) (f : Failure) (old new : Option (List ℕ)) → AsksForList words request → FailsBy f holds request old new → IsCutShort words holds old new
+list_cut words holds request (failure.Fault fault.WriteFault) old new asks cut = inr (inr (inr (inl (request, asks, cut))))
+list_cut words holds request (failure.Fault fault.Memory) old new asks kept = inl kept
+list_cut words holds request (failure.UnreadableFile name) old new asks kept = inl kept
+list_cut words holds request f old new asks none = absurd none
+
+-- where the file was not read, nothing is written
+pub unread_keeps : (holds : List ℕ → List ℕ → Type 0) (request : ListRequest) (f : Failure) (known : Option (List ℕ)) → IsUnread f → FailsBy f holds request known known
+unread_keeps holds request (failure.UnreadableFile name) known unread = keeps_same known
+unread_keeps holds request (failure.Fault fault.Memory) known unread = keeps_same known
+unread_keeps holds request f known none = absurd none
+
+-- a check that was refused, or whose text did not go out whole
+pub check_cut : (words : List Text) (holds : List ℕ → List ℕ → Type 0) (request : CheckRequest) (n : ℕ) (old new : Option (List ℕ)) → AsksForCheck words request
+    → Keeps old new ⊎ ((n ≡ 23) × CutsExplanation holds request old new) → IsCutShort words holds old new
+check_cut words holds request n old new asks (inl kept) = inl kept
+check_cut words holds request n old new asks (inr cut) = inr (inr (inr (inr (request, asks, cut.1))))

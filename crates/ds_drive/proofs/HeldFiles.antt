@@ -9,6 +9,10 @@ use Rattle.ds_policy.specs.Refusal.{PolicyRefusal}
 use Rattle.ds_pagemap.specs.Machine.{State}
 use Rattle.ds_pagemap.specs.Inputs.{Refusal, Sources, inputs, inputs_under}
 use Rattle.ds_station.proofs.Preparing.{under_policy}
+use Rattle.std.specs.Prelude.{Option, Some, None}
+use Rattle.std.specs.Borrow.{Bor}
+use Rattle.ds_station.specs.Headline.{Begins}
+use Rattle.ds_drive.specs.Checked.{IsInput}
 use Rattle.ds_drive.specs.declared.words.Request.{Request}
 use Rattle.ds_drive.specs.declared.run.SourceText.{SourceText}
 use Rattle.ds_drive.specs.Failures.{AreHeld}
@@ -24,6 +28,31 @@ value_or other (Err e) = other
 same_value : (read : Result PolicyValue PolicyRefusal) (a b : PolicyValue) → read ≡ Ok a → read ≡ Ok b → a ≡ b
 same_value read a b x y = ap (value_or a) (sym x ∙ y)
 
+-- the sources as they were read
+pub all_held : (holds later : List ℕ → List ℕ → Type 0) (texts : List SourceText) (sources : Sources)
+    → ((file bytes : List ℕ) → later file bytes → holds file bytes)
+    → All (λ s. later s.name s.text.items) texts
+    → sources ≡ map (λ s. (s.name, s.text.items)) texts
+    → All (λ s. holds s.0 s.1) sources
+all_held holds later texts sources kept found lent =
+    subst (All (λ (s : List ℕ × List ℕ). holds s.0 s.1)) (sym lent)
+    (All-map (λ (s : List ℕ × List ℕ). holds s.0 s.1) (λ (s : SourceText). (s.name, s.text.items)) texts
+    (All-weaker (λ (s : SourceText). later s.name s.text.items) (λ (s : SourceText). holds s.name s.text.items) (λ s h. kept s.name s.text.items h) texts found))
+
+-- and their names
+pub names_held : (texts : List SourceText) (sources : Sources) (names : List (List ℕ))
+    → sources ≡ map (λ s. (s.name, s.text.items)) texts
+    → map (λ s. s.name) texts ≡ names
+    → map (λ s. s.0) sources ≡ names
+names_held texts sources names lent are = ap (map (λ (s : List ℕ × List ℕ). s.0)) lent ∙ (names_of texts ∙ are)
+
+-- an input that was read, or that nobody named
+pub input_kept : (holds later : List ℕ → List ℕ → Type 0) (name : Option (Bor (List ℕ))) (input : List ℕ)
+    → ((file bytes : List ℕ) → later file bytes → holds file bytes)
+    → IsInput later name input → IsInput holds name input
+input_kept holds later None input kept none = none
+input_kept holds later (Some name) input kept found = kept name.now input found
+
 -- the policy, its sources and the input as they were read, one after the other
 pub are_held : (holds later : List ℕ → List ℕ → Type 0) (request : Request) (policy input : List ℕ) (texts : List SourceText) (sources : Sources) (value : PolicyValue)
     → holds request.policy.now policy → holds request.input.now input
@@ -36,8 +65,8 @@ pub are_held : (holds later : List ℕ → List ℕ → Type 0) (request : Reque
 are_held holds later request policy input texts sources value first second kept found names read lent = record {
   policy_held = first;
   input_held = second;
-  sources_held = subst (All (λ (s : List ℕ × List ℕ). holds s.0 s.1)) (sym lent) (All-map (λ (s : List ℕ × List ℕ). holds s.0 s.1) (λ (s : SourceText). (s.name, s.text.items)) texts (All-weaker (λ (s : SourceText). later s.name s.text.items) (λ (s : SourceText). holds s.name s.text.items) (λ s h. kept s.name s.text.items h) texts found));
-  sources_named = λ v is. ap (map (λ (s : List ℕ × List ℕ). s.0)) lent ∙ (names_of texts ∙ (names ∙ ap (λ (x : PolicyValue). sources_of x.pages) (same_value (policy_of policy) value v read is)));
+  sources_held = all_held holds later texts sources kept found lent;
+  sources_named = λ v is. names_held texts sources (sources_of v.pages) lent (names ∙ ap (λ (x : PolicyValue). sources_of x.pages) (same_value (policy_of policy) value v read is));
 }
 
 -- what holds of the inputs under the policy's value holds of those of the texts
@@ -47,3 +76,8 @@ of_texts P value text s t i j n random read e f h =
     subst P (sym (under_policy value text t j n random read))
     (subst (λ (x : List ℕ). P (inputs_under value t x n random)) f
     (subst (λ (x : Sources). P (inputs_under value x i n random)) e h))
+
+-- and so a run begins
+pub begins_over : {Q : State → Type 0} (value : PolicyValue) (text : List ℕ) (s t : Sources) (i j : List ℕ)
+    → policy_of text ≡ Ok value → s ≡ t → i ≡ j → Begins (inputs_under value s i 0 63) Q → Begins (inputs text t j 0 63) Q
+begins_over {Q} value text s t i j read e f h = of_texts (λ made. Begins made Q) value text s t i j 0 63 read e f h

@@ -1,5 +1,5 @@
 -- Why the program could not do what its words ask for, and what was written then.
-use Rattle.std.specs.Prelude.{◌≡◌, ◌⊎◌, ℕ, List, map, Option, Result, Ok, All}
+use Rattle.std.specs.Prelude.{◌≡◌, ◌⊎◌, ℕ, List, map, Option, Result, Ok, All, ⊤}
 use Rattle.std.specs.Io.KnownBytes.{Keeps}
 use Rattle.ds_policy.specs.PolicyText.{policy_of}
 use Rattle.ds_policy.specs.PolicyParts.{sources_of}
@@ -23,6 +23,12 @@ failure_number (failure.Fault fault) = number_of fault
 -- the failure for want of memory
 abbrev pub memory_failure : Failure
 memory_failure = failure.Fault Memory
+
+-- a file that the words name was not read
+abbrev pub IsUnread : Failure → Type 0
+IsUnread (failure.UnreadableFile name) = ⊤
+IsUnread (failure.Fault Memory) = ⊤
+IsUnread f = ⊥
 
 -- a policy, the sources that it names and an input, each as its file holds it
 pub record AreHeld (holds : List ℕ → List ℕ → Type 0) (request : Request) (policy : List ℕ) (sources : Sources) (input : List ℕ) : Type 0 where

@@ -1,4 +1,6 @@
 pub mod Demo
+pub mod Listed
+pub mod Checked
 pub mod Done
 pub mod Failures
 pub mod Statuses

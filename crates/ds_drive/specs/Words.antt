@@ -1,8 +1,11 @@
 -- What the program's words ask for, over what clap reads of its command line.
-use Rattle.std.specs.Prelude.{◌≡◌, ℕ, List, [], ◌∷◌, Option, Some, None, true, codes, option_map}
+use Rattle.std.specs.Prelude.{◌≡◌, ℕ, List, [], ◌∷◌, Option, Some, None, true, false, codes, option_map}
 use Rattle.std.specs.Str.Parse.{digits_value, without_leading_plus}
 use Rattle.clap.specs.Words.{App, Row, Rule, Text, fault_of, first_of, one_of, new_app, new_rule, subcommand_of, with_rule, with_subcommand}
+use Rattle.ds_drive.specs.declared.words.CheckRequest.{CheckRequest}
+use Rattle.ds_drive.specs.declared.words.ListRequest.{ListRequest}
 use Rattle.ds_drive.specs.declared.words.Request.{Request}
+use Rattle.clap.specs.declared.builder.action.ArgAction.TheVariants.{SetTrue}
 use Rattle.clap.specs.declared.builder.value_parser.ValueParser.TheVariants.{Unsigned}
 
 -- an argument that has to be there
@@ -26,13 +29,29 @@ abbrev pub run_app : App
 run_app = with_rule (with_rule (with_rule (with_rule (new_app (codes "run"))
     (required_rule (codes "POLICY"))) (required_rule (codes "INPUT"))) time_rule) random_rule
 
+-- `--words`
+abbrev pub words_rule : Rule
+words_rule = record (new_rule (codes "words")) { long = Some (codes "words"); action = Some SetTrue }
+
+-- `list FILE [--words]`
+abbrev pub list_app : App
+list_app = with_rule (with_rule (new_app (codes "list")) (required_rule (codes "FILE"))) words_rule
+
 -- the command line with no command yet: one is wanted, and there is a version
 abbrev pub bare_app : App
 bare_app = record { top = record (new_app (codes "dsmon")).top { has_version = true; subcommand_required = true }; subs = [] }
 
+-- the command line with the commands that read files
+abbrev pub files_app : App
+files_app = with_subcommand (with_subcommand bare_app run_app.top) list_app.top
+
+-- `check POLICY [INPUT]`
+abbrev pub check_app : App
+check_app = with_rule (with_rule (new_app (codes "check")) (required_rule (codes "POLICY"))) (new_rule (codes "INPUT"))
+
 -- the whole command line
 abbrev pub dsmon_app : App
-dsmon_app = with_subcommand (with_subcommand bare_app run_app.top) (new_app (codes "demo")).top
+dsmon_app = with_subcommand (with_subcommand files_app check_app.top) (new_app (codes "demo")).top
 
 -- the command that the words name
 abbrev pub command_named : List Text → Option Text
@@ -61,3 +80,28 @@ pub record AsksForRun (words : List Text) (request : Request) : Type 0 where
   pub rows : List Row
   pub named : subcommand_of dsmon_app words ≡ Some (codes "run", rows)
   pub names : NamesRun rows request
+
+-- what stands behind `list` names the file, and says whether it holds words
+pub record NamesList (rows : List Row) (request : ListRequest) : Type 0 where
+  pub file : first_of (codes "FILE") rows ≡ Some request.file.now
+  pub words : one_of (codes "words") rows ≡ Some (codes "true") → request.words ≡ true
+  pub source : one_of (codes "words") rows ≡ Some (codes "false") → request.words ≡ false
+
+-- clap takes the words, and they ask for the listing of this file
+pub record AsksForList (words : List Text) (request : ListRequest) : Type 0 where
+  pub taken : fault_of dsmon_app words ≡ []
+  pub rows : List Row
+  pub named : subcommand_of dsmon_app words ≡ Some (codes "list", rows)
+  pub names : NamesList rows request
+
+-- what stands behind `check` names the policy, and the input where one is wanted
+pub record NamesCheck (rows : List Row) (request : CheckRequest) : Type 0 where
+  pub policy : first_of (codes "POLICY") rows ≡ Some request.policy.now
+  pub input : first_of (codes "INPUT") rows ≡ option_map (λ s. s.now) request.input
+
+-- clap takes the words, and they ask what this policy and this input mean
+pub record AsksForCheck (words : List Text) (request : CheckRequest) : Type 0 where
+  pub taken : fault_of dsmon_app words ≡ []
+  pub rows : List Row
+  pub named : subcommand_of dsmon_app words ≡ Some (codes "check", rows)
+  pub names : NamesCheck rows request

@@ -1,15 +1,21 @@
 //! The program `dsmon` as a call: what its words ask for is done over files and writers.
 #![tactic(auto)]
 
+mod check;
 mod demo;
 mod failure;
 mod files;
+mod list;
 mod program;
+mod refused;
 mod run;
 mod status;
 mod words;
 
+pub use check::check_files;
 pub use failure::Failure;
 pub use files::{FileFault, Files, MOST_BYTES, SystemFiles};
+pub use list::{Listing, list_file, tell_faults};
 pub use program::{drive, refuse_words, tell};
-pub use words::{Request, Wish, program_words, wish_of};
+pub use refused::{Refused, tell_refused};
+pub use words::{CheckRequest, ListRequest, Request, Wish, program_words, wish_of};

@@ -6,9 +6,12 @@ ghost use Rattle.ds_drive.specs.Failures.{failure_number};
 ghost use Rattle.ds_drive.specs.Statuses.{fault_status};
 ghost use Rattle.ds_drive.specs.Words.{AsksForDemo};
 
+use crate::check::check_files;
 use crate::demo::run_demo;
 use crate::failure::Failure;
 use crate::files::Files;
+use crate::list::{Listing, list_file, tell_faults};
+use crate::refused::tell_refused;
 use crate::run::run_request;
 use crate::status::{DONE, WORDS_REFUSED, status_of};
 use crate::words::{Wish, wish_of};
@@ -19,7 +22,7 @@ use std::io::{ErrorKind, Write};
 /// Does what the words ask for, the program's own name first, and answers the status: 0 done; 1 the
 /// words were refused for another cause than memory, or ask for help; 2 refused input; 3 a fault of
 /// the run. What was refused is told on `err`; that a write there fails changes no status.
-#[tactic(auto, using(crate::proofs::WordLemmas::alone, crate::proofs::Cuts::nothing_written, crate::proofs::Cuts::demo_cut, crate::proofs::Cuts::run_cut))]
+#[tactic(auto, using(crate::proofs::WordLemmas::alone, crate::proofs::Cuts::nothing_written, crate::proofs::Cuts::demo_cut, crate::proofs::Cuts::run_cut, crate::proofs::Cuts::list_cut, crate::proofs::Cuts::check_cut))]
 pub fn drive<F: Files, W: Write, E: Write>(
     alloc: Global,
     words: &[String],
@@ -51,6 +54,15 @@ pub fn drive<F: Files, W: Write, E: Write>(
         Ok(Some(Wish::Run(request))) => match run_request(alloc, &request, files, out) {
             Ok(()) => DONE,
             Err(failure) => tell(err, &failure),
+        },
+        Ok(Some(Wish::List(request))) => match list_file(alloc, &request, files, out) {
+            Ok(Listing::Written) => DONE,
+            Ok(Listing::Faults(faults)) => tell_faults(err, request.file, &faults),
+            Err(unlisted) => tell(err, &unlisted),
+        },
+        Ok(Some(Wish::Check(request))) => match check_files(alloc, &request, files, out) {
+            Ok(()) => DONE,
+            Err(refused) => tell_refused(err, &refused),
         },
         Ok(None) => {
             let _ = write!(err, "dsmon: the words leave something out\n");

@@ -1,7 +1,7 @@
 //! A run of files: the policy, the input, and the sources that the policy names.
-ghost use Rattle.std.specs.Prelude.{◌≡◌, ℕ, List, IfErr, IfOk, OnOk, All, length, map};
+ghost use Rattle.std.specs.Prelude.{◌≡◌, ◌≤◌, ℕ, List, IfErr, IfOk, OnOk, All, length, map};
 ghost use Rattle.ds_station.specs.Headline.{sources_seen};
-ghost use Rattle.ds_drive.specs.Failures.{RunsFiles, StopsBy};
+ghost use Rattle.ds_drive.specs.Failures.{IsUnread, RunsFiles, StopsBy};
 
 use crate::failure::Failure;
 use crate::files::{FileFault, Files};
@@ -13,9 +13,9 @@ use std::io::Write;
 
 /// The text of a source's file.
 #[derive(Drop)]
-struct SourceText {
-    name: Text<64>,
-    text: Vec<u8>,
+pub(crate) struct SourceText {
+    pub(crate) name: Text<64>,
+    pub(crate) text: Vec<u8>,
 }
 
 /// Reads the policy, then the input, then, where the policy is good, each source by its name, and
@@ -56,12 +56,14 @@ pub fn run_request<'a, F: Files, W: Write>(
 }
 
 /// The bytes of a file that the words name.
-fn named_file<'a, F: Files>(
+pub(crate) fn named_file<'a, F: Files>(
     alloc: Global,
     files: &mut F,
     name: &'a str,
 ) -> Result<Vec<u8>, Failure<'a>>
     ensures found { IfOk result (λ bytes. F.holds files.old name.entry.now bytes.items) }
+    ensures limit { IfOk result (λ bytes. length bytes.items ≤ 16777216) }
+    ensures unread { IfErr result IsUnread }
     ensures kept { (file bytes : List ℕ) → F.holds files.new file bytes
         → F.holds files.old file bytes }
 {
@@ -73,7 +75,7 @@ fn named_file<'a, F: Files>(
 }
 
 /// The texts of the files of these sources, in order.
-fn source_texts<'a, F: Files>(
+pub(crate) fn source_texts<'a, F: Files>(
     alloc: Global,
     files: &mut F,
     names: &[Text<64>],
@@ -97,7 +99,10 @@ fn source_texts<'a, F: Files>(
 }
 
 /// The names and texts, lent.
-fn lent<'a>(alloc: Global, texts: &'a [SourceText]) -> Result<Vec<(&'a str, &'a [u8])>, AllocError>
+pub(crate) fn lent<'a>(
+    alloc: Global,
+    texts: &'a [SourceText],
+) -> Result<Vec<(&'a str, &'a [u8])>, AllocError>
     ensures { IfOk result (λ sources. sources_seen sources.items
         ≡ map (λ s. (s.name, s.text.items)) texts.entry.now) }
 {

@@ -1,11 +1,11 @@
 //! What the program's words ask for.
 ghost use Rattle.std.specs.Prelude.{◌≡◌, ◌↔◌, IfOk, IfSome, Some, codes, false, map, string_bytes};
-ghost use Rattle.clap.specs.Words.{FailsBy, app_of, fault_of, found_of, new_app, rows_of, rule_of, subcommand_name_of, subcommand_of, subcommand_rows_of};
+ghost use Rattle.clap.specs.Words.{FailsBy, app_of, fault_of, found_of, new_app, new_rule, rows_of, rule_of, subcommand_name_of, subcommand_of, subcommand_rows_of};
 ghost use Rattle.clap.specs.declared.builder.command.Command.TheViews.{out-Command as fields_of};
-ghost use Rattle.ds_drive.specs.Words.{AsksForRun, NamesRun, command_named, dsmon_app, random_rule, required_rule, run_app, time_rule};
+ghost use Rattle.ds_drive.specs.Words.{AsksForCheck, AsksForList, AsksForRun, NamesCheck, NamesList, NamesRun, check_app, command_named, dsmon_app, files_app, list_app, random_rule, required_rule, run_app, time_rule, words_rule};
 
 use clap::builder::ValueParser;
-use clap::{Arg, ArgMatches, Command, Error};
+use clap::{Arg, ArgAction, ArgMatches, Command, Error};
 use std::alloc::{AllocError, Global};
 use std::rt::Env;
 use std::{env, io};
@@ -23,6 +23,24 @@ pub struct Request<'a> {
     pub random: u8,
 }
 
+/// A file that the words want listed.
+#[derive(Clone, Copy, Debug, PartialEq, Eq)]
+pub struct ListRequest<'a> {
+    /// Its name.
+    pub file: &'a str,
+    /// Whether it holds words, and not a source.
+    pub words: bool,
+}
+
+/// A policy, and an input where one is named, that the words want explained.
+#[derive(Clone, Copy, Debug, PartialEq, Eq)]
+pub struct CheckRequest<'a> {
+    /// The name of the policy's file.
+    pub policy: &'a str,
+    /// The name of the input's file.
+    pub input: Option<&'a str>,
+}
+
 /// What the words ask for.
 #[derive(Clone, Copy, Debug, PartialEq, Eq)]
 pub enum Wish<'a> {
@@ -30,6 +48,10 @@ pub enum Wish<'a> {
     Demo,
     /// A run of files.
     Run(Request<'a>),
+    /// The listing of a file.
+    List(ListRequest<'a>),
+    /// What a policy and an input mean.
+    Check(CheckRequest<'a>),
 }
 
 /// The words that the program was started with, its own name first.
@@ -53,6 +75,29 @@ an input in which nothing happens.
 
 Example:
   dsmon run policy.toml input.txt 1000 --random 40";
+
+/// What stands at the end of the help of `check`.
+const CHECK_HELP: &str =
+    "POLICY, its sources and INPUT are read as a run reads them. Where all is good, the permission table
+at the start is written, process by process; then what is near a limit; then what comes when. Where
+something is refused, standard error tells the refusal as a run does, where it is as far as that is
+known, all faults of the source, and how it is mended. The status is 2 then.
+
+Example:
+  dsmon check policy.toml
+  dsmon check policy.toml input.txt";
+
+/// What stands at the end of the help of `list`.
+const LIST_HELP: &str =
+    "A source is listed line by line: its number, the address and the bytes that it has there, and the
+line; behind the lines each label with its value. Where lines are at fault, a line on standard error
+tells the number, the name and the place of each fault, and the status is 2. With --words FILE holds
+words, four bytes to each with the lowest first; each is written as the assembler takes it, and a
+byte that is left at the end as .byte.
+
+Example:
+  dsmon list guest.s
+  dsmon list --words guest.bin";
 
 /// What stands at the end of the help of `demo`.
 const DEMO_HELP: &str = "Its policy and its source are held in the program; it writes 66 bytes.
@@ -114,18 +159,65 @@ fn run_command<'a>(alloc: Global) -> Result<Command<'a>, AllocError>
         .arg(random_argument(alloc))
 }
 
-fn command<'a>(alloc: Global) -> Result<Command<'a>, AllocError>
-    ensures { IfOk result (λ c. app_of c ≡ dsmon_app) }
+fn input_argument<'a>(alloc: Global) -> Arg<'a>
+    ensures rule { rule_of result ≡ new_rule (codes "INPUT") }
+    ensures local { result.global ≡ false }
 {
-    let demo = Command::new(alloc, "demo")
-        .about("Runs a process that writes one letter")
-        .after_help(DEMO_HELP);
+    Arg::new(alloc, "INPUT").help("The file of the input; without it nothing comes")
+}
+
+fn check_command<'a>(alloc: Global) -> Result<Command<'a>, AllocError>
+    ensures app { IfOk result (λ c. app_of c ≡ check_app) }
+    ensures local { IfOk result (λ c. (fields_of c).has_globals ≡ false) }
+{
+    Command::new(alloc, "check")
+        .about("Explains a policy and an input, or why they are refused")
+        .after_help(CHECK_HELP)
+        .arg(file_argument(alloc, "POLICY", "The file of the policy, in TOML"))?
+        .arg(input_argument(alloc))
+}
+
+fn words_argument<'a>(alloc: Global) -> Arg<'a>
+    ensures rule { rule_of result ≡ words_rule }
+    ensures local { result.global ≡ false }
+{
+    Arg::new(alloc, "words")
+        .long("words")
+        .action(ArgAction::SetTrue)
+        .help("FILE holds words: each is written as the assembler takes it")
+}
+
+fn list_command<'a>(alloc: Global) -> Result<Command<'a>, AllocError>
+    ensures app { IfOk result (λ c. app_of c ≡ list_app) }
+    ensures local { IfOk result (λ c. (fields_of c).has_globals ≡ false) }
+{
+    Command::new(alloc, "list")
+        .about("Lists a source with its bytes, or the words of a file as a source")
+        .after_help(LIST_HELP)
+        .arg(file_argument(alloc, "FILE", "The file of the source, or of the words"))?
+        .arg(words_argument(alloc))
+}
+
+fn files_command<'a>(alloc: Global) -> Result<Command<'a>, AllocError>
+    ensures { IfOk result (λ c. app_of c ≡ files_app) }
+{
     Command::new(alloc, "dsmon")
         .version("0.1.0")
         .about("Runs a simulated MIPS workstation under a page policy")
         .after_help(HELP)
         .subcommand_required(true)
         .subcommand(run_command(alloc)?)?
+        .subcommand(list_command(alloc)?)
+}
+
+fn command<'a>(alloc: Global) -> Result<Command<'a>, AllocError>
+    ensures { IfOk result (λ c. app_of c ≡ dsmon_app) }
+{
+    let demo = Command::new(alloc, "demo")
+        .about("Runs a process that writes one letter")
+        .after_help(DEMO_HELP);
+    files_command(alloc)?
+        .subcommand(check_command(alloc)?)?
         .subcommand(demo)
 }
 
@@ -150,6 +242,26 @@ fn request_of<'a>(found: &ArgMatches<'a>) -> Option<Request<'a>>
     })
 }
 
+/// What the words behind `list` ask for.
+fn list_request_of<'a>(found: &ArgMatches<'a>) -> Option<ListRequest<'a>>
+    ensures { IfSome result (λ request. NamesList (rows_of (found_of found.now)) request) }
+{
+    Some(ListRequest {
+        file: found.get_str("FILE")?,
+        words: found.get_flag("words"),
+    })
+}
+
+/// What the words behind `check` ask for.
+fn check_request_of<'a>(found: &ArgMatches<'a>) -> Option<CheckRequest<'a>>
+    ensures { IfSome result (λ request. NamesCheck (rows_of (found_of found.now)) request) }
+{
+    Some(CheckRequest {
+        policy: found.get_str("POLICY")?,
+        input: found.get_str("INPUT"),
+    })
+}
+
 /// What `words` ask for, the program's own name first. An error is clap's: a mistake in the words,
 /// a call for help or the version, or memory that ran out. `None` would stand for words that clap
 /// accepts although they name no command or leave an argument out. It is not reached, since clap
@@ -160,11 +272,18 @@ pub fn wish_of<'a>(alloc: Global, words: &'a [String]) -> Result<Option<Wish<'a>
         ↔ (command_named (map string_bytes words.entry.now) ≡ Some (codes "demo"))) }
     ensures run { IfOk result (λ wish. (request : Request) → wish ≡ Some (Wish.Run request)
         → AsksForRun (map string_bytes words.entry.now) request) }
+    ensures list { IfOk result (λ wish. (request : ListRequest) → wish ≡ Some (Wish.List request)
+        → AsksForList (map string_bytes words.entry.now) request) }
+    ensures check { IfOk result (λ wish. (request : CheckRequest)
+        → wish ≡ Some (Wish.Check request)
+        → AsksForCheck (map string_bytes words.entry.now) request) }
 {
     let matches = read_words(alloc, words)?;
     match matches.subcommand() {
         Some(("demo", _)) => Ok(Some(Wish::Demo)),
         Some(("run", found)) => Ok(request_of(found).map(Wish::Run)),
+        Some(("check", found)) => Ok(check_request_of(found).map(Wish::Check)),
+        Some(("list", found)) => Ok(list_request_of(found).map(Wish::List)),
         _ => Ok(None),
     }
 }

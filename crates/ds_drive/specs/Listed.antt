@@ -1,0 +1,54 @@
+-- What a listing of a file is, and what is left where there is none.
+use Rattle.std.specs.Prelude.{◌≡◌, ℕ, List, Bool, true, false, Option, Result, Ok}
+use Rattle.std.specs.Io.KnownBytes.{Keeps, Appends}
+use Rattle.ds_asm.specs.declared.fault.SourceFault.{SourceFault}
+use Rattle.ds_asm.specs.Faults.{all_faults}
+use Rattle.ds_listing.specs.Listing.{listing_of}
+use Rattle.ds_listing.specs.Sources.{source_of_bytes}
+use Rattle.ds_log.specs.Sent.{AppendsPart}
+use Rattle.ds_station.specs.declared.fault.Fault.TheVariants as fault
+use Rattle.ds_drive.specs.declared.failure.Failure.{Failure}
+use Rattle.ds_drive.specs.declared.failure.Failure.TheVariants as failure
+use Rattle.ds_drive.specs.declared.list.Listing.{Listing}
+use Rattle.ds_drive.specs.declared.list.Listing.TheVariants as listing
+use Rattle.ds_drive.specs.declared.words.ListRequest.{ListRequest}
+
+-- the source of a file's bytes; or the listing of a source, or its first fault
+abbrev pub listed : Bool → List ℕ → Result (List ℕ) SourceFault
+listed true bytes = Ok (source_of_bytes bytes)
+listed false text = listing_of text
+
+-- the named file holds bytes that are listed so, and of their listing this holds
+pub record OfListing (holds : List ℕ → List ℕ → Type 0) (request : ListRequest) (P : List ℕ → Type 0) : Type 0 where
+  pub bytes : List ℕ
+  pub text : List ℕ
+  pub held : holds request.file.now bytes
+  pub is : listed request.words bytes ≡ Ok text
+  pub so : P text
+
+-- its listing is written
+abbrev pub ListsFile : (List ℕ → List ℕ → Type 0) → ListRequest → Option (List ℕ) → Option (List ℕ) → Type 0
+ListsFile holds request old new = OfListing holds request (λ text. Appends old new text)
+
+-- a front of its listing is written
+abbrev pub CutsListing : (List ℕ → List ℕ → Type 0) → ListRequest → Option (List ℕ) → Option (List ℕ) → Type 0
+CutsListing holds request old new = OfListing holds request (λ text. AppendsPart old new text)
+
+-- the named file holds a source, and these are its faults
+pub record HasFaults (holds : List ℕ → List ℕ → Type 0) (request : ListRequest) (faults : List SourceFault) : Type 0 where
+  pub text : List ℕ
+  pub held : holds request.file.now text
+  pub source : request.words ≡ false
+  pub all : faults ≡ all_faults text
+
+-- what comes of a listing: it is written, or the faults are all that the source has, and nothing is
+abbrev pub Lists : Listing → (List ℕ → List ℕ → Type 0) → ListRequest → Option (List ℕ) → Option (List ℕ) → Type 0
+Lists listing.Written holds request old new = ListsFile holds request old new
+Lists (listing.Faults faults) holds request old new = HasFaults holds request faults.items × Keeps old new
+
+-- what each failure leaves
+abbrev pub FailsBy : Failure → (List ℕ → List ℕ → Type 0) → ListRequest → Option (List ℕ) → Option (List ℕ) → Type 0
+FailsBy (failure.Fault fault.WriteFault) holds request old new = CutsListing holds request old new
+FailsBy (failure.Fault fault.Memory) holds request old new = Keeps old new
+FailsBy (failure.UnreadableFile name) holds request old new = Keeps old new
+FailsBy f holds request old new = ⊥
