@@ -1,0 +1,2 @@
+j there
+nop

@@ -1,0 +1,4 @@
+j there
+nop
+beq $0,$0,nowhere
+nop
