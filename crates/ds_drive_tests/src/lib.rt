@@ -3,6 +3,8 @@
 #![tactic(auto)]
 
 #[cfg(test)]
+mod before_a_run;
+#[cfg(test)]
 mod program;
 #[cfg(test)]
 mod rows;

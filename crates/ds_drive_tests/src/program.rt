@@ -10,10 +10,10 @@ use std::{fs, io};
 
 /// Files in memory: names with their bytes.
 #[derive(Drop)]
-struct Held<'a> {
-    files: &'a [(&'a str, &'a [u8])],
+pub(crate) struct Held<'a> {
+    pub(crate) files: &'a [(&'a str, &'a [u8])],
     /// The names that were asked for, each followed by a line feed.
-    asked: String,
+    pub(crate) asked: String,
 }
 
 impl<'a> Files for Held<'a> {
@@ -35,8 +35,8 @@ impl<'a> Files for Held<'a> {
 
 /// A place where memory runs out at the file that is asked for after so many others.
 #[derive(Drop)]
-struct Exhausted {
-    before: u32,
+pub(crate) struct Exhausted {
+    pub(crate) before: u32,
 }
 
 impl Files for Exhausted {
@@ -54,7 +54,7 @@ impl Files for Exhausted {
 
 /// A writer that takes nothing.
 #[derive(Drop)]
-struct Closed;
+pub(crate) struct Closed;
 
 impl Write for Closed {
     fn write(&mut self, _bytes: &[u8]) -> io::Result<usize> {
@@ -66,7 +66,7 @@ impl Write for Closed {
     }
 }
 
-const POLICY: &str = "version = 1
+pub(crate) const POLICY: &str = "version = 1
 frames = 16
 [[process]]
 start = 0x00400000
@@ -83,7 +83,7 @@ page = \"code\"
 ";
 
 /// Puts `A` and exits.
-const SOURCE: &str = ".word 0x24040041
+pub(crate) const SOURCE: &str = ".word 0x24040041
 .word 0x24020001
 .word 0x0000000C
 .word 0x24020000
@@ -106,7 +106,7 @@ time 5
 const RUN: &str = "dsmon run p.toml in.txt 100";
 
 /// The words of a line, with one space between; an empty line has none.
-fn words_of(alloc: Global, line: &str) -> Result<Vec<String>, AllocError> {
+pub(crate) fn words_of(alloc: Global, line: &str) -> Result<Vec<String>, AllocError> {
     let mut words = Vec::new(alloc);
     if line.is_empty() {
         return Ok(words);
@@ -120,14 +120,14 @@ fn words_of(alloc: Global, line: &str) -> Result<Vec<String>, AllocError> {
 /// What the program answers over files: the status, what it wrote, and the names of the files that
 /// it asked for.
 #[derive(Drop)]
-struct Answer {
-    status: u8,
-    out: Vec<u8>,
-    err: Vec<u8>,
-    asked: String,
+pub(crate) struct Answer {
+    pub(crate) status: u8,
+    pub(crate) out: Vec<u8>,
+    pub(crate) err: Vec<u8>,
+    pub(crate) asked: String,
 }
 
-fn answer_to(
+pub(crate) fn answer_to(
     alloc: Global,
     words: &[String],
     files: &[(&str, &[u8])],
