@@ -80,11 +80,19 @@ fn is_reserved_word(word: u32) -> bool
 }
 
 /// What a line says, up to its comment.
+#[inline(always)]
 #[tactic(auto, unfolding(crate::specs::Lines::line_of))]
 pub(crate) fn line_of(line: &[u8]) -> Option<Line<'_>>
     ensures { option_map plain_line result ≡ line_of line.now }
 {
-    line_parts(trimmed(until(b'#', line)))
+    let said = trimmed(until(b'#', line));
+    if said.is_empty() {
+        return Some(Line {
+            label: None,
+            statement: None,
+        });
+    }
+    line_parts(said)
 }
 
 fn line_parts(text: &[u8]) -> Option<Line<'_>>

@@ -1,3 +1,4 @@
+pub mod Blanks
 pub mod Forms
 pub mod Labels
 pub mod Numbers

@@ -19,6 +19,9 @@ const BYTES_WIDTH: usize = 10;
 /// How wide an address and bytes are together.
 const SHOWN_WIDTH: usize = 20;
 
+/// As many blanks as stand together at most.
+const BLANKS: [u8; SHOWN_WIDTH] = [b' '; SHOWN_WIDTH];
+
 /// A line of a source, with what it has of the image.
 #[derive(Clone, Copy)]
 pub(crate) struct Row<'a> {
@@ -155,11 +158,10 @@ fn push_half(sheet: &mut Vec<u8>, half: u32) -> Result<(), AllocError>
     Ok(())
 }
 
+#[tactic(auto, using(crate::proofs::Blanks::some_blanks))]
 fn push_blanks(sheet: &mut Vec<u8>, count: usize) -> Result<(), AllocError>
+    requires { count ≤ 20 }
     ensures { OnOk result (sheet.new.items ≡ sheet.old.items ++ replicate count 32) }
 {
-    for _ in 0..count {
-        sheet.push(b' ')?;
-    }
-    Ok(())
+    sheet.extend_from_slice(&BLANKS[..count])
 }
