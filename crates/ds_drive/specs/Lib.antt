@@ -4,5 +4,6 @@ pub mod Checked
 pub mod Done
 pub mod Failures
 pub mod Statuses
+pub mod Told
 pub mod Words
 pub mod Worked

@@ -4,6 +4,7 @@
 mod check;
 mod demo;
 mod failure;
+mod faults;
 mod files;
 mod list;
 mod program;

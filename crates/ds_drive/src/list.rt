@@ -1,10 +1,12 @@
 //! A file listed: a source with its bytes, or the words of a file as a source.
-ghost use Rattle.std.specs.Prelude.{◌≡◌, ℕ, List, IfErr, IfOk};
+ghost use Rattle.std.specs.Prelude.{◌≡◌, ℕ, List, IfErr, IfOk, codes, flat_map};
 ghost use Rattle.ds_asm.specs.Assembling.{Assembles};
 ghost use Rattle.ds_drive.specs.Listed.{listed, Lists, FailsBy};
-ghost use Rattle.ds_drive.specs.Statuses.{fault_status};
+ghost use Rattle.ds_drive.specs.Told.{fault_line};
+ghost use Rattle.ds_log.specs.Sent.{AppendsPart};
 
 use crate::failure::Failure;
+use crate::faults::{Wording, tell_lines};
 use crate::files::Files;
 use crate::run::named_file;
 use crate::status::INPUT_REFUSED;
@@ -62,19 +64,18 @@ pub fn list_file<'a, F: Files, W: Write>(
     }
 }
 
-/// Tells of the faults of a source, a line for each, and answers the status.
-pub fn tell_faults<E: Write>(err: &mut E, file: &str, faults: &[SourceFault]) -> u8
-    ensures { result ≡ 2 }
+/// Tells of the faults of a source, a line for each, and answers the status. Where the writer fails,
+/// or memory runs out, the rest is not told.
+#[tactic(auto, using(crate::proofs::Tellings::told_either))]
+pub fn tell_faults<E: Write>(alloc: Global, err: &mut E, file: &str, faults: &[SourceFault]) -> u8
+    ensures status { result ≡ 2 }
+    ensures told { AppendsPart (E.contents err.old) (E.contents err.new)
+        (flat_map (fault_line (codes "dsmon: ") file.now) faults.now) }
 {
-    for fault in faults {
-        let _ = write!(
-            err,
-            "dsmon: {} {} {} {}\n",
-            fault.number(),
-            fault.name(),
-            file,
-            fault.line()
-        );
-    }
+    let wording = Wording {
+        front: "dsmon: ",
+        place: file,
+    };
+    let _ = tell_lines(alloc, err, wording, faults);
     INPUT_REFUSED
 }

@@ -57,12 +57,12 @@ pub fn drive<F: Files, W: Write, E: Write>(
         },
         Ok(Some(Wish::List(request))) => match list_file(alloc, &request, files, out) {
             Ok(Listing::Written) => DONE,
-            Ok(Listing::Faults(faults)) => tell_faults(err, request.file, &faults),
+            Ok(Listing::Faults(faults)) => tell_faults(alloc, err, request.file, &faults),
             Err(unlisted) => tell(err, &unlisted),
         },
         Ok(Some(Wish::Check(request))) => match check_files(alloc, &request, files, out) {
             Ok(()) => DONE,
-            Err(refused) => tell_refused(err, &refused),
+            Err(refused) => tell_refused(alloc, err, &refused),
         },
         Ok(None) => {
             let _ = write!(err, "dsmon: the words leave something out\n");

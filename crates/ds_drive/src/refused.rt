@@ -5,6 +5,7 @@ ghost use Rattle.ds_drive.specs.Statuses.{fault_status};
 ghost use Rattle.ds_drive.specs.declared.failure.Failure.TheVariants as failure;
 
 use crate::failure::Failure;
+use crate::faults::{Wording, tell_lines};
 use crate::program::tell;
 use crate::run::SourceText;
 use ds_asm::{SourceFault, all_faults};
@@ -109,12 +110,12 @@ impl<'a> From<AllocError> for Refused<'a> {
 
 /// Tells of a refusal as a run does, and below it where it is, the other faults of the source, and
 /// how it is mended; and answers the status.
-pub fn tell_refused<'a, E: Write>(err: &mut E, refused: &Refused<'a>) -> u8
+pub fn tell_refused<'a, E: Write>(alloc: Global, err: &mut E, refused: &Refused<'a>) -> u8
     ensures { result ≡ fault_status (failure_number refused.now.failure) }
 {
     let status = tell(err, &refused.failure);
     tell_place(err, refused);
-    tell_others(err, refused);
+    tell_others(alloc, err, refused);
     if let Some(words) = mend_text(refused.failure.number()) {
         let _ = write!(err, "{words}");
     }
@@ -133,21 +134,16 @@ fn tell_place<'a, E: Write>(err: &mut E, refused: &Refused<'a>) {
     }
 }
 
-fn tell_others<'a, E: Write>(err: &mut E, refused: &Refused<'a>) {
+/// Tells of the faults of the source behind the first.
+fn tell_others<'a, E: Write>(alloc: Global, err: &mut E, refused: &Refused<'a>) {
     let Some(faults) = &refused.faults else {
         return;
     };
-    let mut is_first = true;
-    for fault in faults {
-        if !is_first {
-            let _ = write!(
-                err,
-                "and {} {} in line {}\n",
-                fault.number(),
-                fault.name(),
-                fault.line()
-            );
-        }
-        is_first = false;
+    let wording = Wording {
+        front: "and ",
+        place: "in line",
+    };
+    if let [_, others @ ..] = faults.as_slice() {
+        let _ = tell_lines(alloc, err, wording, others);
     }
 }

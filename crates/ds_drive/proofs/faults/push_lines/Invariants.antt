@@ -1,0 +1,7 @@
+use Rattle.std.proofs.Common.{◌≡◌, ◌++◌, take}
+use Rattle.std.specs.Prelude.{flat_map}
+use Rattle.ds_drive.specs.Told.{fault_line}
+use Rattle.ds_drive.proofs.faults.push_lines.Given as goal
+
+abbrev pub invariant-loop-fault : goal.invariant-loop-fault
+invariant-loop-fault l = l.text.items ≡ l.fn.text.items ++ flat_map (fault_line l.wording.front.now l.wording.place.now) (take l.fault-index l.faults)

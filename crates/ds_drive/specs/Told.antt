@@ -1,0 +1,12 @@
+-- The line that tells of a fault of a source.
+use Rattle.std.specs.Prelude.{ℕ, List, ◌++◌, codes, decimal}
+use Rattle.ds_asm.specs.declared.fault.SourceFault.{SourceFault}
+use Rattle.ds_asm.specs.Assembling.{source_fault_line, source_fault_name, source_fault_number}
+
+-- its number and name
+abbrev pub fault_name : SourceFault → List ℕ
+fault_name fault = decimal (source_fault_number fault) ++ (codes " " ++ (source_fault_name fault ++ codes " "))
+
+-- what the line begins with, its number and name, and behind some words the number of the source's line
+abbrev pub fault_line : List ℕ → List ℕ → SourceFault → List ℕ
+fault_line front place fault = front ++ (fault_name fault ++ (place ++ (codes " " ++ (decimal (source_fault_line fault) ++ codes "\n"))))
