@@ -1,6 +1,7 @@
 //! A buffer that is searched by an index from virtual pages to slots.
-ghost use Rattle.std.specs.Prelude.{◌≡◌, ◌<◌, ◌≤◌, ◌%◌, ◌^◌, length, Some, IfSome, true, false};
+ghost use Rattle.std.specs.Prelude.{◌≡◌, ◌+◌, ◌<◌, ◌≤◌, ◌%◌, ◌^◌, length, Some, IfSome, true, false};
 ghost use Rattle.std.proofs.Props.{props};
+ghost use Rattle.std.proofs.Math.Nat.{le-add_right};
 ghost use Rattle.ds_isa.specs.Access.{is_store};
 ghost use Rattle.ds_tlb.specs.Frames.{base_of};
 ghost use Rattle.ds_tlb.specs.Entries.{find, empty_entries};
@@ -21,14 +22,14 @@ const BUCKETS: usize = 128;
 pub struct Indexed<const N: usize, const WIRED: usize> {
     entries: [Entry; N],
     buckets: [u64; BUCKETS],
-    random: usize,
+    // How far Random is above the first slot that isn't wired.
+    above: usize,
     // The last page for each kind of access that a search found. Each write drops all three.
     code: Window,
     loads: Window,
     stores: Window,
     ghost size: { length entries ≡ N },
-    ghost low: { WIRED ≤ random },
-    ghost high: { random < N },
+    ghost high: { WIRED + above < N },
     ghost some_wired: { 1 ≤ WIRED },
     ghost few: { N ≤ 64 },
     ghost indexed: { IsIndexOf buckets entries },
@@ -47,11 +48,11 @@ impl<const N: usize, const WIRED: usize> Lookaside for Indexed<N, WIRED> {
 
     ghost entries = { λ t. t.entries };
 
-    ghost random_place = { λ t. t.random };
+    ghost random_place = { λ t. WIRED + t.above };
 
     ghost size = { λ t. t.size };
 
-    ghost low = { λ t. t.low };
+    ghost low = { λ t. le-add_right WIRED t.above };
 
     ghost high = { λ t. t.high };
 
@@ -71,7 +72,7 @@ impl<const N: usize, const WIRED: usize> Lookaside for Indexed<N, WIRED> {
         Ok(Indexed {
             entries: empty_entries(),
             buckets: empty_buckets(N),
-            random: start,
+            above: start - WIRED,
             code: Window::none(),
             loads: Window::none(),
             stores: Window::none(),
@@ -99,22 +100,23 @@ impl<const N: usize, const WIRED: usize> Lookaside for Indexed<N, WIRED> {
     }
 
     fn write_random(&mut self, entry: Entry) -> usize {
-        self.write(self.random, entry);
-        self.random
+        self.write(self.random(), entry);
+        self.random()
     }
 
     #[inline(always)]
     fn random(&self) -> usize {
-        self.random
+        WIRED + self.above
     }
 
     #[inline(always)]
     fn tick(&mut self) {
-        self.random = if self.random == WIRED {
-            N - 1
-        } else {
-            self.random - 1
-        };
+        // Counted down first, and mended where it was the last: two instructions, as a rule.
+        let (above, passed) = self.above.overflowing_sub(1);
+        self.above = above;
+        if passed {
+            start_over(&mut self.above, N - 1 - WIRED);
+        }
     }
 
     fn probe(&self, vpn: u32, asid: u8) -> u32 {
@@ -156,7 +158,7 @@ impl<const N: usize, const WIRED: usize> Indexed<N, WIRED> {
         requires { base_of self.now.entries (is_store kind) window.vpn window.asid
             ≡ Some window.base }
         ensures entries { self.new.entries ≡ self.old.entries }
-        ensures random { self.new.random ≡ self.old.random }
+        ensures random { self.new.above ≡ self.old.above }
     {
         match kind {
             Kind::Fetch => self.code = window,
@@ -164,6 +166,15 @@ impl<const N: usize, const WIRED: usize> Indexed<N, WIRED> {
             Kind::Store => self.stores = window,
         }
     }
+}
+
+/// A count begins anew. It stays a call, so that it is not the common way.
+#[cold]
+#[inline(never)]
+fn start_over(count: &mut usize, top: usize)
+    ensures { count.new ≡ top }
+{
+    *count = top;
 }
 
 /// The bucket that a virtual page falls into.
