@@ -17,8 +17,8 @@ use Rattle.ds_kernel.specs.Good.{IsRate, IsGood}
 use Rattle.ds_kernel.proofs.Stepping.{none_is_not_some}
 
 pub first_good : {L : Type 0} (p : Parts L) (policy : PolicyValue) (images : List (List ℕ)) (input : InputValue) (start : ℕ) → IsFirst policy images input start (held p)
-    → Stands (held p) (first_state policy images input) → monitor.IsOrderly (kept_of p.monitor) → IsRate policy.rate → p.monitor.quiet_until ≡ next_due (kept_of p.monitor) → length p.monitor.due.commands ≤ 4096 → p.has_room ≡ false → IsGood p
-first_good p policy images input start first stands orderly is_rate next few closed =
+    → Stands (held p) (first_state policy images input) → monitor.IsOrderly (kept_of p.monitor) → IsRate policy.rate → p.monitor.quiet_until ≡ next_due (kept_of p.monitor) → length p.monitor.due.commands ≤ 4096 → IsGood p
+first_good p policy images input start first stands orderly is_rate next few =
     let spent : p.spent ≡ 0 = ap (λ (o : Own). o.spent) first.own in
     let unowed : p.monitor.owed ≡ None = ap (λ (k : Kept). k.state.owed) first.kept in
     let lines : p.monitor.lines ≡ 0 = ap (λ (k : Kept). k.lines) first.kept in
@@ -42,6 +42,5 @@ first_good p policy images input start first stands orderly is_rate next few clo
       };
       room = λ some. absurd (omega (arith, spent, some));
       owed = λ some. absurd (none_is_not_some p.monitor.owed unowed some);
-      roomy = λ is. (let no : false ≡ true = sym closed ∙ is in absurd (cc));
       next = next;
     }

@@ -101,7 +101,6 @@ later_good old new good sound unowed ready monitor failed later raised few room 
       };
       room = λ some. turn_room new.monitor still_room next (let before = quiet some in omega (arith, before, until));
       owed = λ some. absurd (none_is_not_some new.monitor.owed owed some);
-      roomy = λ some. still_room;
       next = next;
     }
 

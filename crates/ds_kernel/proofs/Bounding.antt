@@ -19,7 +19,7 @@ use Rattle.ds_refinement.proofs.Boundaries.{quiet, idle, stands_waited}
 use Rattle.ds_refinement.proofs.Attended.{boundary_served, idle_served, served_moves, idle_served_moves}
 use Rattle.ds_monitor.specs.Coming.{first_time, first_event, period_end, next_due}
 use Rattle.ds_monitor.specs.Kept.{kept_of}
-use Rattle.ds_monitor.specs.Room.{HasRoom, HasBoundaryRoom, HasTurnRoom}
+use Rattle.ds_monitor.specs.Room.{HasBoundaryRoom, HasTurnRoom}
 use Rattle.ds_monitor.specs.declared.monitor.Monitor.{Monitor}
 use Rattle.ds_kernel.specs.declared.parts.Parts.{Parts}
 use Rattle.ds_kernel.specs.Parts.{held}
@@ -30,7 +30,7 @@ use Rattle.ds_monitor.proofs.Coming.{none_due}
 use Rattle.ds_monitor.proofs.Lawful.{turn_orderly}
 use Rattle.ds_kernel.proofs.Waiting.{none_passed}
 use Rattle.ds_kernel.proofs.Doing.{enters_user}
-use Rattle.ds_kernel.proofs.Rooms.{room_later, unit_room, turn_room_still, boundary_room}
+use Rattle.ds_kernel.proofs.Rooms.{turn_room_still, boundary_room}
 use Rattle.ds_kernel.proofs.Stepping.{none_is_not_some, sound_behind}
 
 -- before the time at which something next comes, a boundary has nothing to do
@@ -98,7 +98,6 @@ module _ {L : Type 0} (old : Parts L) (good : IsGood old) (owed : IsSome old.mon
         };
         room = λ some. turn_room_still old.monitor old.monitor.time None refl (good.room some);
         owed = λ some. absurd (none_is_not_some None refl some);
-        roomy = λ some. room_later 1 old.monitor old.monitor.time None (good.roomy some);
         next = good.next;
       }
 
@@ -128,7 +127,6 @@ module _ {L : Type 0} (old : Parts L) (good : IsGood old) (owed : IsSome old.mon
         };
         room = λ some. absurd (omega (arith, none, some));
         owed = λ some. absurd (none_is_not_some new.monitor.owed moves.0 some);
-        roomy = λ is. (let no : false ≡ true = sym a.closed ∙ is in absurd (cc));
         next = a.next;
       }
 
@@ -195,6 +193,5 @@ module _ {L : Type 0} (old between waiting : Parts L) (good : IsGood old) (unowe
         orderly = subst IsOrderly (sym waiting_is) marks;
         room = λ some. absurd (omega (arith, spent, begun, some));
         owed = λ some. subst (λ (x : Parts L). HasBoundaryRoom x.monitor) (sym rest) (boundary_room between.monitor waiting.monitor.time waiting.monitor.owed (omega (arith, time, later)) room);
-        roomy = λ some. subst (λ (x : Parts L). HasRoom 1 x.monitor) (sym rest) (room_later 1 between.monitor waiting.monitor.time waiting.monitor.owed (unit_room between.monitor room));
         next = ap (λ (x : Parts L). x.monitor.quiet_until) rest ∙ (until ∙ (good.next ∙ sym (ap (λ (x : Held). next_due x.kept) waiting_is)));
       }

@@ -38,8 +38,8 @@ use Rattle.ds_refinement.proofs.Ending.{denied_ends, fault_ends, slot_ends, call
 use Rattle.ds_refinement.proofs.Counting.{stop_moves, call_moves}
 use Rattle.ds_refinement.proofs.Filling.{refill_comes, refill_goes_back}
 use Rattle.ds_policy.specs.Value.{InputValue}
-use Rattle.ds_monitor.specs.Room.{HasRoom, HasBoundaryRoom, HasTurnRoom}
-use Rattle.ds_kernel.proofs.Rooms.{unit_room, boundary_room_behind}
+use Rattle.ds_monitor.specs.Room.{HasBoundaryRoom, HasTurnRoom}
+use Rattle.ds_kernel.proofs.Rooms.{boundary_room_behind}
 use Rattle.ds_monitor.specs.declared.monitor.Monitor.{Monitor}
 use Rattle.ds_kernel.specs.declared.parts.Parts.{Parts}
 use Rattle.ds_kernel.specs.Parts.{held}
@@ -166,7 +166,6 @@ ended_good f p old new busy ended does =
       };
       room = λ some. absurd (omega (arith, none, some));
       owed = λ some. boundary_room_behind old.monitor new.monitor (omega (arith, time, most)) ended.due ended.room (busy.good.room busy.begun);
-      roomy = λ is. (let no : false ≡ true = sym ended.closed ∙ is in absurd (cc));
       next = ended.until ∙ (busy.good.next ∙ sym ended.next);
     }
 
@@ -240,7 +239,6 @@ module _ {L : Type 0} (p : ℕ) (old new : Parts L) (busy : IsBusy p old) (kerne
         orderly = subst IsOrderly (sym is) good;
         room = λ some. subst HasTurnRoom (sym monitor) (busy.good.room busy.begun);
         owed = λ some. subst HasBoundaryRoom (sym monitor) (busy.good.owed (subst (λ (m : Monitor). IsSome m.owed) monitor some));
-        roomy = λ some. subst (HasRoom 1) (sym monitor) (unit_room old.monitor (busy.good.room busy.begun));
         next = subst (λ (m : Monitor). m.quiet_until ≡ next_due (kept_of m)) (sym monitor) busy.good.next;
       }
 

@@ -114,7 +114,6 @@ module _ {L : Type 0} (f : State → State) (old new : Parts L) (between : Monit
     pub monitor : new.monitor ≡ record between { owner = new.monitor.owner }
     pub failed : new.failed ≡ old.failed
     pub spent : new.spent ≡ 0
-    pub closed : new.has_room ≡ false
 
   -- what the service leaves
   pub record Served : Type 0 where
@@ -166,7 +165,6 @@ module _ {L : Type 0} (f : State → State) (old new : Parts L) (between : Monit
     kept = subst (λ (k : Kept). monitor.IsOrderly k) (sym (kept_is b)) (owner_orderly (kept_of between) new.monitor.owner a.kept);
     due = ap (λ (m : Monitor). m.due) b.monitor ∙ a.due;
     room = λ n h. subst (HasLogRoom n) (sym b.monitor) (a.room n h);
-    closed = b.closed;
   }
 
 -- Who is first comes in behind a service of the process that left.
@@ -175,9 +173,9 @@ pub comes_in : {L : Type 0} (f : State → State) (old left new : Parts L) (betw
     → EntersBy new.monitor.ready new.core (kept_of new.monitor)
     → (BufferHolds entries (space_of (kept_of between)) between.grants → BufferHolds new.core.entries (space_of (kept_of new.monitor)) new.monitor.grants)
     → NamesPages between.grants → new.core.random ≡ left.core.random → new.bus.memory ≡ memory → ((k : Kept) → AreResting left.bus k → AreResting new.bus k)
-    → new.monitor ≡ record between { owner = new.monitor.owner } → new.failed ≡ left.failed → new.spent ≡ 0 → new.has_room ≡ false
+    → new.monitor ≡ record between { owner = new.monitor.owner } → new.failed ≡ left.failed → new.spent ≡ 0
     → Comes f old new between entries memory p
-comes_in {L} f old left new between entries memory p leaves enters buffer pages random same rests monitor failed spent closed = record {
+comes_in {L} f old left new between entries memory p leaves enters buffer pages random same rests monitor failed spent = record {
   enters = enters;
   buffer = buffer;
   pages = pages;
@@ -187,7 +185,6 @@ comes_in {L} f old left new between entries memory p leaves enters buffer pages 
   monitor = monitor;
   failed = failed ∙ ap (λ (x : Parts L). x.failed) leaves;
   spent = spent;
-  closed = closed;
 }
 
 -- What a stop leaves.

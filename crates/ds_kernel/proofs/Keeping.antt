@@ -20,7 +20,8 @@ lawful_elsewhere k a b l l' w = record {
   asleep = w.asleep;
 }
 
-ready_first : (m : State) (p : ℕ) (queue : List ℕ) → first queue ≡ Some p → All (IsReady m) queue → IsReady m p
+-- and so is who is first of them
+pub ready_first : (m : State) (p : ℕ) (queue : List ℕ) → first queue ≡ Some p → All (IsReady m) queue → IsReady m p
 ready_first m p [] is all = absurd cc
 ready_first m p (q ∷ rest) is all = let e : q ≡ p = cc in subst (IsReady m) e (All-head (IsReady m) q rest all)
 
@@ -40,3 +41,10 @@ left_alive c k n p is first above within alive =
     let seat : n.state ≡ with_process k.state p (seated_process c (process_of k.state p)) = ap (λ (x : Kept). x.state) is ∙ ap (with_first_seated c k.state) r.1 in
     ap (λ (m : State). has_ended (process_of m p).standing) seat
     ∙ (ap (λ (q : Process). has_ended q.standing) (process_of-with_process k.state p (seated_process c (process_of k.state p)) above within) ∙ alive)
+
+-- who was first is in its seat as the processor had it
+pub first_left : (c : CoreState) (k n : Kept) (p : ℕ) → n ≡ seated c k → first k.state.ready ≡ Some p → 0 < p → p ≤ length k.state.processes → process_of n.state p ≡ seated_process c (process_of k.state p)
+first_left c k n p is first above within =
+    let r = first_rest k.state.ready p first in
+    ap (λ (m : State). process_of m p) (ap (λ (x : Kept). x.state) is ∙ ap (with_first_seated c k.state) r.1)
+    ∙ process_of-with_process k.state p (seated_process c (process_of k.state p)) above within

@@ -1,4 +1,5 @@
 pub mod Entering
+pub mod Answering
 pub mod Pending
 pub mod Silo
 pub mod Characters

@@ -86,7 +86,7 @@ module _ {L : Type 0} (old came served new : Parts L) (ahead : Monitor) (turn : 
     (enters : EntersBy new.monitor.ready new.core (kept_of new.monitor))
     (buffer : BufferHolds served.core.entries (space_of (kept_of ahead)) ahead.grants → BufferHolds new.core.entries (space_of (kept_of new.monitor)) new.monitor.grants)
     (pages : NamesPages ahead.grants) (random : new.core.random ≡ served.core.random)
-    (ends : new ≡ record (record served { monitor = ahead }) { core = new.core; monitor = record ahead { owner = new.monitor.owner }; spent = 0; has_room = false }) where
+    (ends : new ≡ record (record served { monitor = ahead }) { core = new.core; monitor = record ahead { owner = new.monitor.owner }; spent = 0 }) where
   abbrev k : Kept
   k = kept_of old.monitor
 
@@ -262,5 +262,4 @@ module _ {L : Type 0} (old came served new : Parts L) (ahead : Monitor) (turn : 
     rate = ap (λ (m : Monitor). m.rate) all;
     next = ap (λ (m : Monitor). m.quiet_until) all ∙ sym (ap next_due last);
     kept = subst (λ (x : Kept). monitor.IsOrderly x) (sym last) (owner_orderly (kept_of served.monitor) new.monitor.owner orderly);
-    closed = ap (λ (p : Parts L). p.has_room) ends;
   }

@@ -28,9 +28,9 @@ use Rattle.ds_refinement.proofs.Quieter.{user_status_of}
 use Rattle.ds_refinement.proofs.Stages.{step_follows}
 use Rattle.ds_monitor.specs.Coming.{next_due}
 use Rattle.ds_monitor.specs.Kept.{kept_of}
-use Rattle.ds_monitor.specs.Room.{HasRoom, HasBoundaryRoom, HasTurnRoom}
+use Rattle.ds_monitor.specs.Room.{HasBoundaryRoom, HasTurnRoom}
 use Rattle.ds_monitor.proofs.Lawful.{turn_orderly}
-use Rattle.ds_kernel.proofs.Rooms.{room_later, unit_room, turn_room_still, boundary_room}
+use Rattle.ds_kernel.proofs.Rooms.{turn_room_still, boundary_room}
 use Rattle.ds_kernel.specs.declared.parts.Parts.{Parts}
 use Rattle.ds_kernel.specs.Parts.{held}
 use Rattle.ds_kernel.specs.Good.{IsOrderly, IsGood}
@@ -52,8 +52,8 @@ failure_unseen h m k = record { buffer = k.buffer; grants = k.grants; size = k.s
 
 -- a failure leaves the station as it should be
 pub failed_good : {L : Type 0} (old new : Parts L) → IsGood old → old.monitor.owed ≡ None → held new ≡ with_failure (held old)
-    → new.monitor.quiet_until ≡ old.monitor.quiet_until → (0 < new.spent → HasTurnRoom new.monitor) → (new.has_room ≡ true → HasRoom 1 new.monitor) → IsGood new
-failed_good old new good unowed is until room roomy =
+    → new.monitor.quiet_until ≡ old.monitor.quiet_until → (0 < new.spent → HasTurnRoom new.monitor) → IsGood new
+failed_good old new good unowed is until room =
     let o = good.orderly in
     let marks : IsOrderly (with_failure (held old)) = record {
       begun = λ some. unowed;
@@ -71,7 +71,6 @@ failed_good old new good unowed is until room roomy =
       orderly = subst IsOrderly (sym is) marks;
       room = room;
       owed = λ some. absurd (none_is_not_some new.monitor.owed (ap (λ (h : Held). h.kept.state.owed) is ∙ unowed) some);
-      roomy = roomy;
       next = until ∙ (good.next ∙ sym (ap (λ (h : Held). next_due h.kept) is));
     }
 
@@ -244,16 +243,12 @@ module _ {L : Type 0} (old between new : Parts L) (kind : Step) (good : IsGood o
       let before = between_time in
       subst HasBoundaryRoom (sym monitor_behind) (boundary_room between.monitor new.monitor.time new.monitor.owed (omega (arith, most, time, before)) room)
 
-  one_room_behind : HasRoom 1 new.monitor
-  one_room_behind = subst (HasRoom 1) (sym monitor_behind) (room_later 1 between.monitor new.monitor.time new.monitor.owed (unit_room between.monitor room))
-
   pub attempt_good : IsGood new
   attempt_good = record {
     sound = subst IsSound (sym new_is) (instruction_sound (held old) good.sound good.orderly working unowed ready user word few soon);
     orderly = subst IsOrderly (sym new_is) (instruction_orderly (held old) good.sound good.orderly working unowed ready user word few soon);
     room = unit_room_behind;
     owed = λ some. boundary_room_then;
-    roomy = λ some. one_room_behind;
     next =
         ap (λ (x : Parts L). x.monitor.quiet_until) rest
         ∙ (until ∙ (good.next ∙ sym (ap (λ (x : Parts L). next_due (kept_of x.monitor)) rest ∙ ap (λ (x : Held). next_due x.kept) begun)));

@@ -1,5 +1,5 @@
 -- What a boundary makes of what is held.
-use Rattle.std.specs.Prelude.{◌≡◌, ◌⊎◌, ℕ, ◌+◌, ◌-◌, ◌≤◌, Bool, false, not, nat_le, filter, if◌then◌else◌, List, length, Option, Some, None}
+use Rattle.std.specs.Prelude.{◌≡◌, ◌⊎◌, ℕ, ◌+◌, ◌-◌, ◌≤◌, Bool, not, nat_le, filter, if◌then◌else◌, List, length, Option, Some, None}
 use Rattle.ds_dev.specs.Clock.{read_flags}
 use Rattle.ds_dev.specs.Bus.{BusState, with_serial, with_clock, after_ticks}
 use Rattle.ds_policy.specs.declared.command.Character.{Character}
@@ -67,7 +67,6 @@ pub record HasAttended {L : Type 0} (old new : Parts L) : Type 0 where
   pub rate : new.monitor.rate ≡ old.monitor.rate
   pub next : new.monitor.quiet_until ≡ next_due (kept_of new.monitor)
   pub kept : monitor.IsOrderly (kept_of new.monitor)
-  pub closed : new.has_room ≡ false
 
 -- a boundary that was owed had nothing to do, or was served
 abbrev pub IsBounded : Held → Held → Type 0

@@ -1,5 +1,5 @@
 -- The end of a unit in a service, and what a step of a station does.
-use Rattle.std.specs.Prelude.{◌≡◌, ℕ, ◌+◌, ◌≤◌, false}
+use Rattle.std.specs.Prelude.{◌≡◌, ℕ, ◌+◌, ◌≤◌}
 use Rattle.ds_pagemap.specs.Machine.{State}
 use Rattle.ds_refinement.specs.declared.step.Step.{Step}
 use Rattle.ds_refinement.specs.Held.{Held}
@@ -26,7 +26,6 @@ pub record HasEnded {L : Type 0} (f : State → State) (old new : Parts L) : Typ
   pub kept : monitor.IsOrderly (kept_of new.monitor)
   pub due : new.monitor.due ≡ old.monitor.due
   pub room : (n : ℕ) → HasLogRoom (n + 1) old.monitor → HasLogRoom n new.monitor
-  pub closed : new.has_room ≡ false
 
 -- it is followed by the machine with its counts, and it is real
 pub record Does (step : Step) (old new : Held) : Type 0 where

@@ -6,7 +6,7 @@ use Rattle.ds_pagemap.specs.Machine.{first}
 use Rattle.ds_refinement.specs.Held.{Held}
 use Rattle.ds_refinement.specs.Stands.{IsSound}
 use Rattle.ds_refinement.specs.Steps.{is_in_kernel}
-use Rattle.ds_monitor.specs.Room.{HasBoundaryRoom, HasRoom, HasTurnRoom}
+use Rattle.ds_monitor.specs.Room.{HasBoundaryRoom, HasTurnRoom}
 use Rattle.ds_monitor.specs.Orderly as monitor
 use Rattle.ds_kernel.specs.declared.parts.Parts.{Parts}
 use Rattle.ds_kernel.specs.Parts.{held}
@@ -39,7 +39,6 @@ pub record IsGood {L : Type 0} (p : Parts L) : Type 0 where
   -- a unit that has begun has room for what it may write, and a boundary for its commands
   pub room : 0 < p.spent → HasTurnRoom p.monitor
   pub owed : IsSome p.monitor.owed → HasBoundaryRoom p.monitor
-  pub roomy : p.has_room ≡ true → HasRoom 1 p.monitor
   -- before this time no boundary has anything to do
   pub next : p.monitor.quiet_until ≡ next_due (kept_of p.monitor)
 

@@ -1,6 +1,7 @@
 -- A process that comes on the processor.
-use Rattle.std.specs.Prelude.{◌+◌, ◌^◌, false}
+use Rattle.std.specs.Prelude.{◌≡◌, ◌+◌, ◌^◌, false, slice_index, slice_set}
 use Rattle.ds_word.specs.Word.{word}
+use Rattle.ds_isa.specs.Registers.{Registers, settled}
 use Rattle.ds_core.specs.Core.{CoreState}
 use Rattle.ds_pagemap.specs.Machine.{Process, touched_process}
 use Rattle.ds_refinement.specs.Stands.{user_status}
@@ -14,3 +15,7 @@ on_processor c q = record c {
   slot = false;
   system = record c.system { status = user_status; entry_hi = 2 ^ 6 };
 }
+
+-- registers as a call leaves them, which answers in register 2: no other differs, and no load is late
+abbrev pub AreAnswered : Registers → Registers → Type 0
+AreAnswered before behind = behind ≡ record (settled before) { general = slice_set before.general 2 (slice_index behind.general 2) }

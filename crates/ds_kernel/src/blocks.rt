@@ -75,7 +75,7 @@ impl<L: Lookaside> Parts<L> {
         ensures halts { IfErr result (λ halt. Halts halt (held self.old)) }
         ensures marked { OnErr result (held self.new ≡ with_failure (held self.old)) }
     {
-        if self.spent == 0 && !self.make_room() {
+        if self.spent == 0 && !self.make_unit_room() {
             self.failed = true;
             return Err(Halt::Memory);
         }

@@ -38,7 +38,8 @@ impl<L: Lookaside> Parts<L> {
         } }
     {
         if let Some(process) = self.monitor.first_ready() {
-            self.leave(process);
+            let pc = self.resume_address();
+            self.leave(process, pc);
         }
     }
 
@@ -161,7 +162,7 @@ impl<L: Lookaside> Parts<L> {
         self.arrive();
         self.serve_turn();
         self.monitor.look_ahead();
-        self.end_unit();
+        self.end_unit(None);
     }
 
     /// The boundary that is owed is done: it has nothing to do, or it is served.

@@ -122,7 +122,6 @@ impl<L: Lookaside> Parts<L> {
             monitor,
             failed: false,
             spent: 0,
-            has_room: false,
         })
     }
 }

@@ -17,6 +17,4 @@ pub struct Parts<L: Lookaside> {
     pub failed: bool,
     /// The instructions that the unit has taken so far.
     pub spent: u32,
-    /// A unit may begin without a new reservation.
-    pub has_room: bool,
 }

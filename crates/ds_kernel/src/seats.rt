@@ -1,5 +1,6 @@
 //! How a process leaves the processor for its seat, and how the next one comes on the processor.
 ghost use Rattle.std.specs.Prelude.{◌≡◌, ℕ, ◌<◌, ◌≤◌, length, slice_index, Some, All};
+ghost use Rattle.ds_isa.specs.Registers.{settled};
 ghost use Rattle.ds_tlb.specs.Entries.{empty_entries};
 ghost use Rattle.ds_pagemap.specs.Machine.{State, process_of, first};
 ghost use Rattle.ds_pagemap_laws.specs.Lawful.{AreRegisters, IsReady};
@@ -8,7 +9,7 @@ ghost use Rattle.ds_refinement.specs.Held.{space_of};
 ghost use Rattle.ds_refinement.specs.Services.{resume_address, seated, EntersBy};
 ghost use Rattle.ds_monitor.specs.Kept.{kept_of};
 ghost use Rattle.ds_monitor.specs.Orderly as monitor;
-ghost use Rattle.ds_kernel.specs.Seats.{on_processor};
+ghost use Rattle.ds_kernel.specs.Seats.{on_processor, AreAnswered};
 
 use crate::parts::Parts;
 use ds_cp0::register;
@@ -41,7 +42,7 @@ fn look_at_size(registers: &[u32; 32])
 
 impl<L: Lookaside> Parts<L> {
     /// Where the process that runs goes on: in a service at EPC.
-    fn resume_address(&self) -> u32
+    pub(crate) fn resume_address(&self) -> u32
         ensures { result ≡ resume_address self.now.core }
     {
         if self.core.cp0.user() {
@@ -52,16 +53,18 @@ impl<L: Lookaside> Parts<L> {
     }
 
     /// The processor has 32 registers, of which register 0 is 0.
-    fn look_at_registers(&self)
+    pub(crate) fn look_at_registers(&self)
         ensures size { length self.now.core.registers.general ≡ 32 }
         ensures nought { slice_index self.now.core.registers.general 0 ≡ 0 }
     {
         look_at_size(&self.core.registers);
     }
 
-    /// The process that runs leaves the processor for its seat. A late load is finished.
+    /// The process that runs leaves the processor for its seat, where it goes on at an address. A
+    /// late load is finished.
     #[inline(always)]
-    pub fn leave(&mut self, process: u32)
+    pub fn leave(&mut self, process: u32, pc: u32)
+        requires place { pc ≡ resume_address self.old.core }
         requires above { 0 < process }
         requires within { process ≤ length self.old.monitor.seats.items }
         requires first { first self.old.monitor.ready ≡ Some process }
@@ -75,7 +78,6 @@ impl<L: Lookaside> Parts<L> {
         } }
     {
         self.look_at_registers();
-        let pc = self.resume_address();
         self.monitor.keep(
             process,
             &self.core.registers,
@@ -104,26 +106,51 @@ impl<L: Lookaside> Parts<L> {
         }
     }
 
-    /// The process comes on the processor, touched, at the beginning of its unit.
+    /// The processor has the registers of the process as its seat has them. Where the process ran
+    /// until its call, which answers in register 2, it has the others already.
     #[inline(always)]
-    fn put_on(&mut self, process: u32)
+    fn take_registers(&mut self, process: u32, caller: Option<u32>)
         requires above { 0 < process }
         requires within { process ≤ length self.old.monitor.seats.items }
         requires nought { slice_index
             (process_of (kept_of self.old.monitor).state process).registers.general 0 ≡ 0 }
+        requires answered { caller ≡ Some process → AreAnswered self.old.core.registers
+            (process_of (kept_of self.old.monitor).state process).registers }
+        ensures { self.new ≡ record self.old {
+          core = record self.old.core {
+            registers = settled (process_of (kept_of self.old.monitor).state process).registers;
+          };
+        } }
+    {
+        let seat = &self.monitor.seats[process as usize - 1];
+        if caller == Some(process) {
+            self.core.registers[2] = seat.general()[2];
+        } else {
+            self.core.hi = seat.hi();
+            self.core.lo = seat.lo();
+            self.core.registers = *seat.general();
+        }
+        self.core.late = None;
+    }
+
+    /// The process comes on the processor, touched, at the beginning of its unit.
+    #[inline(always)]
+    fn put_on(&mut self, process: u32, caller: Option<u32>)
+        requires above { 0 < process }
+        requires within { process ≤ length self.old.monitor.seats.items }
+        requires nought { slice_index
+            (process_of (kept_of self.old.monitor).state process).registers.general 0 ≡ 0 }
+        requires answered { caller ≡ Some process → AreAnswered self.old.core.registers
+            (process_of (kept_of self.old.monitor).state process).registers }
         ensures { self.new ≡ record self.old {
           core = on_processor self.old.core
               (process_of (kept_of self.old.monitor).state process);
         } }
     {
-        let seat = &self.monitor.seats[process as usize - 1];
-        let pc = seat.pc();
-        self.core.hi = seat.hi();
-        self.core.lo = seat.lo();
-        self.core.registers = *seat.general();
+        let pc = self.monitor.seats[process as usize - 1].pc();
+        self.take_registers(process, caller);
         self.core.registers[26] = 0;
         self.core.registers[27] = pc;
-        self.core.late = None;
         self.core.pc = pc;
         self.core.next = wrapping_sum(pc, 4);
         self.core.slot = false;
@@ -131,12 +158,15 @@ impl<L: Lookaside> Parts<L> {
         self.core.cp0.write(register::ENTRY_HI, ONE_SPACE);
     }
 
-    /// The first of those that are ready comes on the processor; where nobody is ready, it rests.
+    /// The first of those that are ready comes on the processor; where nobody is ready, it rests. Of
+    /// a caller that left for its call nothing but register 2 differs.
     #[inline(always)]
-    pub fn enter(&mut self)
+    pub fn enter(&mut self, caller: Option<u32>)
         requires ready { All (IsReady (kept_of self.old.monitor).state) self.old.monitor.ready }
         requires registers { (p : ℕ)
             → AreRegisters (process_of (kept_of self.old.monitor).state p).registers }
+        requires answered { (p : ℕ) → caller ≡ Some p → AreAnswered self.old.core.registers
+            (process_of (kept_of self.old.monitor).state p).registers }
         ensures enters { EntersBy self.new.monitor.ready self.new.core (kept_of self.new.monitor) }
         ensures buffer { BufferHolds self.old.core.entries (space_of (kept_of self.old.monitor))
             self.old.monitor.grants
@@ -151,7 +181,7 @@ impl<L: Lookaside> Parts<L> {
         match self.monitor.first_ready() {
             Some(process) => {
                 self.claim_space(process);
-                self.put_on(process);
+                self.put_on(process, caller);
             }
             None => self.core.cp0.write(register::STATUS, USER_STATUS),
         }

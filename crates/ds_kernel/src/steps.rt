@@ -26,18 +26,27 @@ impl<L: Lookaside> Parts<L> {
         requires early { self.old.monitor.time < 2 ^ 62 }
         ensures room { result ≡ true → HasTurnRoom self.new.monitor }
         ensures held { held self.new ≡ held self.old }
-        ensures told { self.new.has_room ≡ result }
         ensures rest { self.new ≡ record self.old {
           monitor = record self.old.monitor {
             consoles = self.new.monitor.consoles;
             log = self.new.monitor.log;
           };
-          has_room = self.new.has_room;
         } }
     {
         let commands = self.monitor.due.commands_by(self.monitor.time + 2);
-        self.has_room = self.monitor.reserve(1 + commands);
-        self.has_room
+        self.monitor.reserve(1 + commands)
+    }
+
+    /// Whether there is room for what one unit may write; it is made where there is none.
+    #[inline(always)]
+    pub(crate) fn make_unit_room(&mut self) -> bool
+        requires early { self.old.monitor.time < 2 ^ 62 }
+        ensures room { result ≡ true → HasRoom 1 self.new.monitor }
+        ensures held { held self.new ≡ held self.old }
+        ensures next { self.new.monitor.quiet_until ≡ self.old.monitor.quiet_until }
+        ensures rest { self.new ≡ record self.old { monitor = self.new.monitor } }
+    {
+        self.monitor.has_room() || self.reserve()
     }
 
     /// Whether there is room for what one unit and the commands that are due behind it may write;
@@ -45,14 +54,12 @@ impl<L: Lookaside> Parts<L> {
     #[inline(always)]
     pub(crate) fn make_room(&mut self) -> bool
         requires early { self.old.monitor.time < 2 ^ 62 }
-        requires roomy { self.old.has_room ≡ true → HasRoom 1 self.old.monitor }
         requires next { self.old.monitor.quiet_until ≡ next_due (kept_of self.old.monitor) }
         ensures room { result ≡ true → HasTurnRoom self.new.monitor }
         ensures held { held self.new ≡ held self.old }
-        ensures told { self.new.has_room ≡ result }
         ensures next { self.new.monitor.quiet_until ≡ self.old.monitor.quiet_until }
     {
-        if self.has_room && self.monitor.time + 2 < self.monitor.quiet_until {
+        if self.monitor.has_room() && self.monitor.time + 2 < self.monitor.quiet_until {
             return true;
         }
         self.reserve()
@@ -68,7 +75,6 @@ impl<L: Lookaside> Parts<L> {
         ensures few { OnOk result (self.old.spent < 64) }
         ensures room { OnOk result (HasTurnRoom self.new.monitor) }
         ensures still { OnErr result (0 < self.old.spent → HasTurnRoom self.new.monitor) }
-        ensures roomy { self.new.has_room ≡ true → HasRoom 1 self.new.monitor }
         ensures halts { IfErr result (λ halt. Halts halt (held self.old)) }
         ensures marked { OnErr result (held self.new ≡ with_failure (held self.old)) }
         ensures next { self.new.monitor.quiet_until ≡ self.old.monitor.quiet_until }

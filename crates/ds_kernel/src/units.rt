@@ -2,6 +2,7 @@
 //! to what is kept, and who is first comes in.
 ghost use Rattle.std.specs.Prelude.{◌≡◌, ℕ, ◌+◌, ◌<◌, ◌≤◌, ◌^◌, length, Some, None, [], true, false};
 ghost use Rattle.ds_log.specs.Length.{IsShortRule};
+ghost use Rattle.ds_cp0.specs.System.{is_user};
 ghost use Rattle.ds_procs.specs.Calls.{call_of};
 ghost use Rattle.ds_grants.specs.Buffer.{BufferHolds, KeepsBuffer};
 ghost use Rattle.ds_grants.specs.Sound.{NamesPages};
@@ -18,6 +19,7 @@ ghost use Rattle.ds_monitor.specs.Room.{HasLogRoom, HasRoom};
 ghost use Rattle.ds_monitor.specs.Sending.{bus_behind};
 ghost use Rattle.ds_kernel.specs.Good.{IsBusy};
 ghost use Rattle.ds_kernel.specs.Ended.{HasEnded};
+ghost use Rattle.ds_kernel.specs.Seats.{AreAnswered};
 
 use crate::parts::Parts;
 use ds_log::Denied;
@@ -58,10 +60,13 @@ impl<L: Lookaside> Parts<L> {
         let _spent = self.spent;
     }
 
-    /// Who is first comes in, with nothing spent.
+    /// Who is first comes in, with nothing spent. Of a caller nothing but register 2 differs from what
+    /// the processor has.
     #[inline(always)]
-    pub(crate) fn end_unit(&mut self)
+    pub(crate) fn end_unit(&mut self, caller: Option<u32>)
         requires lawful { IsLawful (whole (kept_of self.old.monitor) [] []) }
+        requires answered { (p : ℕ) → caller ≡ Some p → AreAnswered self.old.core.registers
+            (process_of (kept_of self.old.monitor).state p).registers }
         ensures enters { EntersBy self.new.monitor.ready self.new.core (kept_of self.new.monitor) }
         ensures buffer { BufferHolds self.old.core.entries (space_of (kept_of self.old.monitor))
             self.old.monitor.grants
@@ -73,13 +78,11 @@ impl<L: Lookaside> Parts<L> {
           core = self.new.core;
           monitor = record self.old.monitor { owner = self.new.monitor.owner };
           spent = 0;
-          has_room = false;
         } }
     {
         let _table = self.monitor.grants.table();
         self.spent = 0;
-        self.has_room = false;
-        self.enter();
+        self.enter(caller);
     }
 
     /// The unit ends in a denial or a fault of its instruction: the process is parked where its unit
@@ -87,6 +90,7 @@ impl<L: Lookaside> Parts<L> {
     #[inline(never)]
     pub fn stop(&mut self, process: u32, kind: Denied, address: u32, rule: Rule, code: u32) -> Step
         requires busy { IsBusy process self.old }
+        requires kernel { is_user self.old.core.system ≡ false }
         requires rule { IsShortRule rule }
         requires code { code < 10 ^ 5 }
         ensures step { result ≡ Step.Unit }
@@ -98,10 +102,10 @@ impl<L: Lookaside> Parts<L> {
         self.look_at_unit(process);
         let unit = self.unit_address();
         let pc = self.own_address();
-        self.leave(process);
+        self.leave(process, unit);
         self.monitor
             .stop_unit(process, unit, pc, kind, address, rule, code);
-        self.end_unit();
+        self.end_unit(None);
         Step::Unit
     }
 
@@ -157,15 +161,17 @@ impl<L: Lookaside> Parts<L> {
     #[inline(always)]
     pub fn call(&mut self, process: u32) -> Step
         requires busy { IsBusy process self.old }
+        requires kernel { is_user self.old.core.system ≡ false }
         ensures step { result ≡ Step.Unit }
         ensures ends { HasEnded (ends_in_call process self.old.core.system.epc)
             self.old self.new }
     {
         self.look_at_unit(process);
+        self.look_at_registers();
         let unit = self.unit_address();
-        self.leave(process);
+        self.leave(process, unit);
         self.serve_call(process, unit);
-        self.end_unit();
+        self.end_unit(Some(process));
         Step::Unit
     }
 }

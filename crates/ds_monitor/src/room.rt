@@ -7,6 +7,14 @@ use crate::monitor::Monitor;
 use ds_log::LINE_ROOM;
 
 impl Monitor {
+    /// Whether there is room for a byte on each console and for one line of the log.
+    #[inline(always)]
+    pub fn has_room(&self) -> bool
+        ensures { result ≡ true → HasRoom 1 self.now }
+    {
+        self.consoles.have_room() && self.log.capacity() - self.log.len() >= LINE_ROOM
+    }
+
     /// Makes room for a byte on each console and for so many lines of the log, if it can.
     pub fn reserve(&mut self, lines: usize) -> bool
         requires few { lines ≤ 10000 }

@@ -53,6 +53,7 @@ look_ahead-requires g c =
 pub end_unit-requires : goal.end_unit-requires
 end_unit-requires g c = record {
   lawful = subst (λ (m : Monitor). IsLawful (whole (kept_of m) [] [])) (sym c.look_ahead.ensures) c.serve_turn.ensures.orderly.lawful;
+  answered = λ q is. absurd cc;
 }
 
 pub returns : goal.returns

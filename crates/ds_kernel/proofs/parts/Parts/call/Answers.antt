@@ -1,9 +1,13 @@
-use Rattle.std.proofs.Common.{◌≤◌, ℕ, sym, ap, subst, ◌∙◌}
+use Rattle.std.proofs.Common.{◌≡◌, ◌<◌, ◌≤◌, ℕ, length, arith, sym, ap, subst, ◌∙◌}
+use Rattle.ds_isa.specs.Registers.{Registers, settled}
 use Rattle.ds_procs.specs.Calls.{call_of}
-use Rattle.ds_pagemap.specs.Machine.{process_of}
+use Rattle.ds_pagemap.specs.Machine.{Process, process_of}
 use Rattle.ds_kernel.specs.declared.parts.Parts.{Parts}
-use Rattle.ds_kernel.proofs.Keeping.{left_alive}
+use Rattle.ds_kernel.proofs.Keeping.{left_alive, first_left}
+use Rattle.ds_kernel.proofs.Answering.{caller_answered}
 use Rattle.ds_kernel.proofs.Finishing.{has_ended, rest_alike, memory_rests, call_rests, comes_in, call_served}
+use Rattle.ds_kernel.specs.Seats.{AreAnswered}
+use Rattle.ds_refinement.specs.Services.{seated_process}
 use Rattle.ds_refinement.specs.Held.{Kept}
 use Rattle.ds_refinement.specs.Stands.{AreResting, ends_in_call}
 use Rattle.ds_monitor.specs.Kept.{kept_of}
@@ -14,10 +18,30 @@ pub serve_call-requires-clause-alive : goal.serve_call-requires-clause-alive
 serve_call-requires-clause-alive g c =
     left_alive c.args.self.now.core (kept_of c.args.self.now.monitor) (kept_of c.leave.new.self.monitor) c.args.process c.leave.ensures.kept c.look_at_unit.ensures.first c.look_at_unit.ensures.above c.look_at_unit.ensures.within c.look_at_unit.ensures.alive
 
+-- The caller's seat has what the processor has, but for the answer.
 pub end_unit-requires : goal.end_unit-requires
-end_unit-requires g c = record {
-  lawful = c.serve_call.ensures.orderly.lawful;
-}
+end_unit-requires g c =
+    let p = c.args.process in
+    let old = c.args.self.now in
+    let left = kept_of c.leave.new.self.monitor in
+    let within = subst (λ (n : ℕ). p ≤ n) (sym c.leave.ensures.as_many) c.look_at_unit.ensures.within in
+    let seat : process_of left.state p ≡ seated_process old.core (process_of (kept_of old.monitor).state p) =
+    first_left old.core (kept_of old.monitor) left p c.leave.ensures.kept c.look_at_unit.ensures.first c.look_at_unit.ensures.above c.look_at_unit.ensures.within in
+    let same : (process_of left.state p).registers ≡ settled old.core.registers = ap (λ (q : Process). q.registers) seat in
+    let size : length old.core.registers.general ≡ 32 = c.look_at_registers.ensures.size in
+    let as_long : length (process_of left.state p).registers.general ≡ length old.core.registers.general = ap (λ (r : Registers). length r.general) same in
+    let long : 2 < length (process_of left.state p).registers.general = omega (arith, size, as_long) in
+    record {
+      lawful = c.serve_call.ensures.orderly.lawful;
+      answered = λ q is.
+          let e : p ≡ q = cc in
+          let core : c.serve_call.new.self.core.registers ≡ old.core.registers =
+          ap (λ (x : Parts g.row.L.Denot). x.core.registers) c.serve_call.ensures.rest ∙ ap (λ (x : Parts g.row.L.Denot). x.core.registers) c.leave.ensures.rest in
+          subst (λ (n : ℕ). AreAnswered c.serve_call.new.self.core.registers (process_of (kept_of c.serve_call.new.self.monitor).state n).registers) e
+          (subst (λ (r : Registers). AreAnswered r (process_of (kept_of c.serve_call.new.self.monitor).state p).registers) (sym core)
+          (subst (λ (r : Registers). AreAnswered r (process_of (kept_of c.serve_call.new.self.monitor).state p).registers) same
+          (caller_answered left (kept_of c.serve_call.new.self.monitor) _ _ p c.unit_address-unit.result (c.look_at_unit.ensures.above, within) long c.serve_call.ensures.serves)));
+    }
 
 pub returns-clause-ends : goal.returns-clause-ends
 returns-clause-ends g c =
@@ -42,4 +66,4 @@ returns-clause-ends g c =
     c.serve_call.ensures.orderly c.serve_call.ensures.lines c.serve_call.ensures.log c.serve_call.ensures.serves c.serve_call.ensures.size
     c.serve_call.ensures.buffer (ap (λ (x : Parts g.row.L.Denot). x.monitor) served))
     (comes_in f old left new mid.monitor mid.core.entries memory p c.leave.ensures.rest c.end_unit.ensures.enters c.end_unit.ensures.buffer c.end_unit.ensures.pages (c.end_unit.ensures.random ∙ c.serve_call.ensures.random)
-    (ap (λ (x : Parts g.row.L.Denot). x.bus.memory) rest) rests (ap (λ (x : Parts g.row.L.Denot). x.monitor) rest) (ap (λ (x : Parts g.row.L.Denot). x.failed) rest ∙ ap (λ (x : Parts g.row.L.Denot). x.failed) served) (ap (λ (x : Parts g.row.L.Denot). x.spent) rest) (ap (λ (x : Parts g.row.L.Denot). x.has_room) rest))
+    (ap (λ (x : Parts g.row.L.Denot). x.bus.memory) rest) rests (ap (λ (x : Parts g.row.L.Denot). x.monitor) rest) (ap (λ (x : Parts g.row.L.Denot). x.failed) rest ∙ ap (λ (x : Parts g.row.L.Denot). x.failed) served) (ap (λ (x : Parts g.row.L.Denot). x.spent) rest))

@@ -10,7 +10,7 @@ pub returns-clause-orderly : goal.returns-clause-orderly
 returns-clause-orderly g c = λ it.
     let core = c.args.self.now.core in
     let p = c.args.process in
-    let pc = c.resume_address-pc.result in
+    let pc = c.args.pc in
     subst IsOrderly (sym c.keep.ensures.kept)
     (subst (λ (old : Parts g.row.L.Denot). IsOrderly (kept_after (λ (m : State). with_process m p (record (process_of m p) {
       registers = record { general = old.core.registers.general; hi = old.core.registers.hi; lo = old.core.registers.lo; late = None };

@@ -45,4 +45,4 @@ returns-clause-stands g c =
     first_stands c.args.policy.now c.args.images.now c.args.events _ _ some named (returns-clause-first g c)
 
 pub returns-clause-good : goal.returns-clause-good
-returns-clause-good g c = first_good _ c.args.policy.now c.args.images.now c.args.events _ (returns-clause-first g c) (returns-clause-stands g c) c.in_ok-monitor.ensures.orderly (record { high = c.rate.ensures.high; low = c.rate.ensures.low }) c.in_ok-monitor.ensures.next c.in_ok-monitor.ensures.few refl
+returns-clause-good g c = first_good _ c.args.policy.now c.args.images.now c.args.events _ (returns-clause-first g c) (returns-clause-stands g c) c.in_ok-monitor.ensures.orderly (record { high = c.rate.ensures.high; low = c.rate.ensures.low }) c.in_ok-monitor.ensures.next c.in_ok-monitor.ensures.few

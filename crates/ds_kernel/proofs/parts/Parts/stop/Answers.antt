@@ -12,6 +12,7 @@ pub end_unit-requires : goal.end_unit-requires
 end_unit-requires g c = record {
   lawful = (c.stop_unit.ensures.orderly (c.leave.ensures.orderly c.look_at_unit.ensures.orderly)
       (left_alive c.args.self.now.core (kept_of c.args.self.now.monitor) (kept_of c.leave.new.self.monitor) c.args.process c.leave.ensures.kept c.look_at_unit.ensures.first c.look_at_unit.ensures.above c.look_at_unit.ensures.within c.look_at_unit.ensures.alive)).lawful;
+  answered = λ q is. absurd cc;
 }
 
 pub returns-clause-ends : goal.returns-clause-ends
@@ -28,4 +29,4 @@ returns-clause-ends g c =
     c.look_at_unit.ensures.above c.leave.ensures.kept c.leave.ensures.rest (c.stop_unit.ensures.orderly (c.leave.ensures.orderly c.look_at_unit.ensures.orderly)
     (left_alive c.args.self.now.core (kept_of c.args.self.now.monitor) (kept_of c.leave.new.self.monitor) c.args.process c.leave.ensures.kept c.look_at_unit.ensures.first c.look_at_unit.ensures.above c.look_at_unit.ensures.within c.look_at_unit.ensures.alive)) c.stop_unit.ensures.room c.stop_unit.ensures.serves c.stop_unit.ensures.lines c.stop_unit.ensures.rest)
     (comes_in f old left new between left.core.entries old.bus.memory c.args.process c.leave.ensures.rest c.end_unit.ensures.enters c.end_unit.ensures.buffer c.end_unit.ensures.pages c.end_unit.ensures.random
-    (ap (λ (x : Parts g.row.L.Denot). x.bus.memory) rest ∙ ap (λ (x : Parts g.row.L.Denot). x.bus.memory) c.leave.ensures.rest) (rest_alike left.bus new.bus (ap (λ (x : Parts g.row.L.Denot). x.bus) rest)) (ap (λ (x : Parts g.row.L.Denot). x.monitor) rest) (ap (λ (x : Parts g.row.L.Denot). x.failed) rest) (ap (λ (x : Parts g.row.L.Denot). x.spent) rest) (ap (λ (x : Parts g.row.L.Denot). x.has_room) rest))
+    (ap (λ (x : Parts g.row.L.Denot). x.bus.memory) rest ∙ ap (λ (x : Parts g.row.L.Denot). x.bus.memory) c.leave.ensures.rest) (rest_alike left.bus new.bus (ap (λ (x : Parts g.row.L.Denot). x.bus) rest)) (ap (λ (x : Parts g.row.L.Denot). x.monitor) rest) (ap (λ (x : Parts g.row.L.Denot). x.failed) rest) (ap (λ (x : Parts g.row.L.Denot). x.spent) rest))

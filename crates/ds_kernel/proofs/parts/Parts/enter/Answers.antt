@@ -1,0 +1,33 @@
+use Rattle.std.proofs.Common.{sym, ap, subst, ◌≤◌, ◌∙◌, length}
+use Rattle.ds_pagemap.specs.Machine.{process_of, first}
+use Rattle.ds_pagemap_laws.specs.Lawful.{IsReady}
+use Rattle.ds_kernel.specs.Seats.{on_processor}
+use Rattle.ds_monitor.specs.Kept.{kept_of}
+use Rattle.ds_monitor.specs.declared.monitor.Monitor.{Monitor}
+use Rattle.ds_kernel.specs.declared.parts.Parts.{Parts}
+use Rattle.ds_kernel.proofs.Keeping.{ready_first}
+use Rattle.ds_kernel.proofs.Entering.{entering}
+use Rattle.ds_kernel.proofs.parts.Parts.enter.Goals as goal
+
+pub put_on-requires-clause-above : goal.put_on-requires-clause-above
+put_on-requires-clause-above g c =
+    (ready_first (kept_of c.args.self.now.monitor).state c.in-Some.process c.args.self.now.monitor.ready (ap (λ (x : Parts g.row.L.Denot). first x.monitor.ready) (sym c.self.view_is) ∙ (sym c.first_ready.ensures ∙ c.in-Some.is)) c.requires.ready).0
+
+pub put_on-requires-clause-within : goal.put_on-requires-clause-within
+put_on-requires-clause-within g c =
+    let p = c.in-Some.process in
+    let within : p ≤ length (kept_of c.args.self.now.monitor).state.processes = (ready_first (kept_of c.args.self.now.monitor).state p c.args.self.now.monitor.ready (ap (λ (x : Parts g.row.L.Denot). first x.monitor.ready) (sym c.self.view_is) ∙ (sym c.first_ready.ensures ∙ c.in-Some.is)) c.requires.ready).1 in
+    subst (λ (m : Monitor). p ≤ length (kept_of m).state.processes) (sym c.claim_space.ensures.owner) within
+
+pub returns-in-Some-clause-enters : goal.returns-in-Some-clause-enters
+returns-in-Some-clause-enters g c =
+    let p = c.in-Some.process in
+    let old = c.args.self.now.monitor in
+    let between = c.claim_space.new.self in
+    let monitor = ap (λ (x : Parts g.row.L.Denot). x.monitor) c.put_on.ensures ∙ c.claim_space.ensures.owner in
+    entering c.put_on.new.self.monitor.ready p between.core c.put_on.new.self.core (kept_of c.put_on.new.self.monitor)
+    (ap (λ (m : Monitor). first m.ready) monitor ∙ (ap (λ (x : Parts g.row.L.Denot). first x.monitor.ready) (sym c.self.view_is) ∙ (sym c.first_ready.ensures ∙ c.in-Some.is)))
+    (subst (λ (m : Monitor). IsReady (kept_of m).state p) (sym monitor) (ready_first (kept_of old).state p old.ready (ap (λ (x : Parts g.row.L.Denot). first x.monitor.ready) (sym c.self.view_is) ∙ (sym c.first_ready.ensures ∙ c.in-Some.is)) c.requires.ready))
+    (ap (λ (m : Monitor). m.owner) monitor)
+    (ap (λ (x : Parts g.row.L.Denot). x.core) c.put_on.ensures
+    ∙ ap (λ (m : Monitor). on_processor between.core (process_of (kept_of m).state p)) (sym (ap (λ (x : Parts g.row.L.Denot). x.monitor) c.put_on.ensures)))
