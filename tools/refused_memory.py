@@ -2,7 +2,7 @@
 """Refuses each growth of memory of a run of dsmon in turn, and looks at what stands on standard output.
 
 A run that is cut short for want of memory has to end with status 3 and to write its text so far: that of some number
-of whole turns, all of which are known from runs without a refusal. Where a growth of the preparation is refused,
+of whole turns, which are known from runs without a refusal. Where a growth of the preparation is refused,
 nothing is written, and no contract tells the two apart. For n = 0 all is preparation, so a growth that is refused for
 n = 0 too is none of the run.
 
@@ -22,7 +22,9 @@ GROWTH = 150
 STEP = 6  # so far it is moved where it does not fit
 MOST_BUILDS = 4
 LENGTHS = [0] + [3 << (k + 7) for k in range(1, 15)]  # of the comments, each one growth more than the one before
-TICKS = 24  # of the whole run, which is denied at time 19
+BYTES = 257  # one more than a console makes room for at once
+TICKS = 2 * BYTES + 6  # of the whole run, which is denied at time 515
+KNOWN = [*range(4), *range(2 * BYTES - 6, TICKS + 1)]  # the times near the growths of the run
 MEMORY = 3  # the status
 
 POLICY = """\
@@ -41,8 +43,8 @@ address = 0x00400000
 right = "read"
 page = "code"
 """
-# Puts nine bytes, so that its console grows twice, and is denied a store, so that the log grows.
-GUEST = "addiu $a0, $zero, 46\n" + 9 * "addiu $v0, $zero, 1\nsyscall\n" + "sw $zero, 0($zero)\n"
+# Puts so many bytes that its console grows twice, and is denied a store, so that the log grows.
+GUEST = "addiu $a0, $zero, 46\n" + BYTES * "addiu $v0, $zero, 1\nsyscall\n" + "sw $zero, 0($zero)\n"
 
 
 class Run(NamedTuple):
@@ -58,7 +60,7 @@ class Wrong(Exception):
 
 def cases():
     """Of each case by its name: the ticks, and the length of the comment in its input."""
-    found = {f"known-{n:02}": (n, 0) for n in range(TICKS + 1)}
+    found = {f"known-{n:03}": (n, 0) for n in KNOWN}
     for k, length in enumerate(LENGTHS):
         found[f"none-{k:02}"] = (0, length)
         found[f"whole-{k:02}"] = (TICKS, length)
@@ -130,7 +132,7 @@ def place(none, whole, known):
 
 
 def cut_texts(runs):
-    """The numbers of ticks of the texts that were cut short, the latest first, where all is as it has to be."""
+    """The places among the known texts of those that were cut short, the latest first, where all is as it has to be."""
     known = [run.text for run in column(runs, "known")]
     if any(run.status != 0 for run in column(runs, "known")):
         raise Wrong("a run without a refusal does not end well")

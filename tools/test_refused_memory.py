@@ -7,19 +7,19 @@ import unittest
 
 sys.dont_write_bytecode = True
 
-from refused_memory import GROWTH, LENGTHS, MOST_BUILDS, STEP, TICKS, Run, Wrong  # noqa: E402
+from refused_memory import BYTES, GROWTH, LENGTHS, MOST_BUILDS, STEP, TICKS, Run, Wrong  # noqa: E402
 from refused_memory import cases, fitting, read, verdict  # noqa: E402
 
 PREPARATION = GROWTH - 11  # the growths before the run
-CUTS = [0, 0, 0, 0, 0, 16, 19]  # the time at which each growth of the run comes
+CUTS = [0, 0, 0, 0, 0, 514, 516]  # the time at which each growth of the run comes
 FIRST = next(k for k in range(len(LENGTHS)) if PREPARATION + k + len(CUTS) >= GROWTH)  # the first case that is cut
 CUT = f"whole-{FIRST:02}"
 
 
 def text(ticks):
-    """What stands on standard output after so many ticks: a byte for each two, nine at most, and a line of the log."""
-    put = min(ticks // 2, 9)
-    line = "19 1 0040004C store 00000000 - 2\n" if ticks >= 19 else ""
+    """What stands on standard output after so many ticks: a byte for each two, up to their number, and a line of the log."""
+    put = min(ticks // 2, BYTES)
+    line = "515 1 0040080C store 00000000 - 2\n" if ticks >= 516 else ""
     rest = "".join(f"console {k} 0\n\n" for k in (1, 2, 3))
     return f"console 0 {put}\n{'.' * put}\n{rest}log {len(line) // 32}\n{line}time {ticks}\n"
 
@@ -58,7 +58,7 @@ class Tests(unittest.TestCase):
         self.assertEqual(verdict(runs()), "refused_memory: 7 growths of a run refused, each with a text of whole turns")
 
     def test_a_text_that_is_cut_within_a_turn_is_wrong(self):
-        for cut in (text(16)[:-8], text(16)[:9], text(16).replace("time 16", "time 15"), text(TICKS + 1), text(16) * 2):
+        for cut in (text(514)[:-8], text(514)[:9], text(514).replace("time 514", "time 513"), text(TICKS + 1), text(514) * 2):
             self.assert_wrong("no text of whole turns", **{CUT: Run(3, cut)})
 
     def test_an_empty_text_of_a_run_is_wrong(self):
@@ -67,7 +67,7 @@ class Tests(unittest.TestCase):
 
     def test_another_status_is_wrong(self):
         for status in (0, 1, 2, 4, None):
-            self.assert_wrong(f"the status is {status}", **{CUT: Run(status, text(16))})
+            self.assert_wrong(f"the status is {status}", **{CUT: Run(status, text(514))})
 
     def test_a_text_where_the_preparation_is_refused_is_wrong(self):
         last = len(LENGTHS) - 1
@@ -75,20 +75,20 @@ class Tests(unittest.TestCase):
         self.assert_wrong("for n = 0 the status is 3", **{f"whole-{last:02}": Run(3, text(0))})
 
     def test_a_run_that_differs_without_a_refusal_is_wrong(self):
-        self.assert_wrong("does not end well", known_05=Run(2, ""))
+        self.assert_wrong("does not end well", known_003=Run(2, ""))
         self.assert_wrong("for n = 0 the status is 0", **{f"none-{FIRST:02}": Run(0, text(1))})
         self.assert_wrong("the status is 0", whole_00=Run(0, text(3)))
 
     def test_a_growth_that_is_left_out_is_told_where_the_order_shows_it(self):
         self.assert_wrong("does not go through", **{f"whole-{FIRST + 1:02}": Run(0, text(TICKS))})
-        self.assert_wrong("was refused later", **{f"whole-{FIRST + 3:02}": Run(3, text(19))})
+        self.assert_wrong("was refused later", **{f"whole-{FIRST + 3:02}": Run(3, text(516))})
 
     def test_a_guest_that_grows_too_little_is_wrong(self):
         for at, why in [(0, "behind a line of the log"), (1, "behind a byte")]:
             names = {f"whole-{k:02}": Run(3, text(0)) for k in range(FIRST, FIRST + len(CUTS))}
-            names.update({CUT: Run(3, text(16 if at == 0 else 19))})
+            names.update({CUT: Run(3, text(514 if at == 0 else 516))})
             self.assert_wrong(why, **names)
-        names = {f"whole-{k:02}": Run(3, text(16)) for k in range(FIRST + 1, FIRST + len(CUTS))}
+        names = {f"whole-{k:02}": Run(3, text(514)) for k in range(FIRST + 1, FIRST + len(CUTS))}
         self.assert_wrong("before its first turn", **names)
 
     def test_what_is_written_is_read(self):
@@ -97,7 +97,7 @@ class Tests(unittest.TestCase):
         out, err = written(found)
         stopped = read(out, err.replace(f"case={CUT} run=ended status=3", f"case={CUT} run=fault"))
         self.assertEqual(stopped[CUT], Run(None, found[CUT].text))
-        with self.assertRaisesRegex(Wrong, "no run of known-00:\nno such crate"):
+        with self.assertRaisesRegex(Wrong, "no run of known-000:\nno such crate"):
             read("", "no such crate")
 
     def test_the_refused_growth_is_moved_until_it_fits(self):
