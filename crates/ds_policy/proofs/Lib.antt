@@ -1,5 +1,6 @@
 pub mod KeyLists
 pub mod Steps
+pub mod NamedPages
 pub mod Documents
 pub mod Entries
 pub mod Filling

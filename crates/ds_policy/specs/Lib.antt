@@ -2,6 +2,7 @@ pub mod Pages
 pub mod Grants
 pub mod Value
 pub mod Document
+pub mod Names
 pub mod PolicyParts
 pub mod PolicyText
 pub mod PolicyFacts

@@ -1,14 +1,15 @@
 //! The rules of a policy.
-ghost use Rattle.std.specs.Prelude.{◌≡◌, ◌≤◌, ◌==◌, ◌+◌, ◌&&◌, ◌∷◌, length, option_map, bytes_eq, count_by, nat_le};
+ghost use Rattle.std.specs.Prelude.{◌≡◌, ◌≤◌, ◌==◌, ◌+◌, ◌&&◌, ◌∷◌, length, option_map, count_by, nat_le};
 ghost use Rattle.std.specs.List.{list_any};
 ghost use Rattle.toml.specs.View.{view, table_view, items_view};
 ghost use Rattle.ds_policy.specs.Refusal.{Gives};
 ghost use Rattle.ds_policy.specs.Grants.{region, count_distinct};
-ghost use Rattle.ds_policy.specs.PolicyParts.{right_named, page_named, flag_of, grant_of, rule_of, has_same_place, new_rule, regions_of};
+ghost use Rattle.ds_policy.specs.PolicyParts.{right_named, flag_of, grant_of, rule_of, has_same_place, new_rule, regions_of};
 ghost use Rattle.ds_policy.specs.PolicyText.{rules_from, rules_of};
 
 use crate::fault::PolicyFault;
 use crate::grant::Right;
+use crate::names::NamedPages;
 use crate::policy::{PolicyPage, PolicyRule};
 use crate::reading::document::{has_only, items_between, number_of, text_at, value_at};
 use std::alloc::Global;
@@ -28,7 +29,10 @@ pub fn rules_of(
 {
     match found {
         Some(value) => match items_between(value, 0, 999) {
-            Some(values) => rules_in(alloc, processes, pages, values),
+            Some(values) => {
+                let pages = NamedPages::of(alloc, pages)?;
+                rules_in(alloc, processes, &pages, values)
+            }
             None => Err(PolicyFault::Limit("rule")),
         },
         None => Ok(Vec::new(alloc)),
@@ -38,7 +42,7 @@ pub fn rules_of(
 fn rules_in(
     alloc: Global,
     processes: u32,
-    pages: &[PolicyPage],
+    pages: &NamedPages<'_>,
     values: &[Value],
 ) -> Result<Vec<PolicyRule>, PolicyFault>
     requires pages_fit { length pages.now ≤ 1024 }
@@ -58,7 +62,7 @@ fn rules_in(
 #[tactic(auto, unfolding(crate::specs::PolicyParts::new_rule))]
 fn new_rule(
     processes: u32,
-    pages: &[PolicyPage],
+    pages: &NamedPages<'_>,
     before: &[PolicyRule],
     value: &Value,
 ) -> Option<PolicyRule>
@@ -80,7 +84,7 @@ fn new_rule(
 }
 
 #[tactic(auto, unfolding(crate::specs::PolicyParts::rule_of))]
-fn rule_of(processes: u32, pages: &[PolicyPage], value: &Value) -> Option<PolicyRule>
+fn rule_of(processes: u32, pages: &NamedPages<'_>, value: &Value) -> Option<PolicyRule>
     requires { length pages.now ≤ 1024 }
     ensures { result ≡ rule_of processes pages.now (view value.now) }
 {
@@ -116,7 +120,7 @@ fn right_named(text: &str) -> Option<Right>
 }
 
 #[tactic(auto, unfolding(crate::specs::PolicyParts::grant_of))]
-fn grant_of(pages: &[PolicyPage], right: Right, table: &Table) -> Option<(Option<u32>, bool)>
+fn grant_of(pages: &NamedPages<'_>, right: Right, table: &Table) -> Option<(Option<u32>, bool)>
     requires { length pages.now ≤ 1024 }
     ensures { result ≡ grant_of pages.now right (table_view table.now) }
 {
@@ -132,17 +136,11 @@ fn grant_of(pages: &[PolicyPage], right: Right, table: &Table) -> Option<(Option
                 return None;
             }
             let name = text_at(table, "page")?;
-            let page = page_named(pages, name)?;
+            let page = pages.number_of(name.as_bytes())?;
             let give = flag_of(value_at(table, "give"))?;
             Some((Some(page as u32), give))
         }
     }
-}
-
-fn page_named(pages: &[PolicyPage], name: &str) -> Option<usize>
-    ensures { result ≡ page_named pages.now name.now }
-{
-    pages.iter().position(|page| page.name.as_str() == name)
 }
 
 fn flag_of(found: Option<&Value>) -> Option<bool>
