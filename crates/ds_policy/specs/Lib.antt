@@ -4,6 +4,7 @@ pub mod Value
 pub mod Document
 pub mod Names
 pub mod PolicyParts
+pub mod OwnRules
 pub mod PolicyText
 pub mod PolicyFacts
 pub mod PolicyRows
