@@ -24,7 +24,7 @@ fn policy_of(rt: &impl Abort, alloc: Global, text: &str) -> Option<Policy> {
     }
 }
 
-/// There are 33 growths. Whichever is refused, the answer is `Memory`.
+/// Whichever growth is refused, the answer is `Memory`.
 #[test]
 fn for_want_of_memory_there_is_no_policy(rt: HostRuntime) {
     let Some(policy) = policy_of(&rt, rt.alloc(), SMALL) else {

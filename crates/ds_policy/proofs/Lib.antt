@@ -1,5 +1,7 @@
 pub mod KeyLists
 pub mod Steps
+pub mod NamedPages
+pub mod OwnRules
 pub mod Documents
 pub mod Entries
 pub mod Filling

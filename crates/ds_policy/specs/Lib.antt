@@ -2,7 +2,9 @@ pub mod Pages
 pub mod Grants
 pub mod Value
 pub mod Document
+pub mod Names
 pub mod PolicyParts
+pub mod OwnRules
 pub mod PolicyText
 pub mod PolicyFacts
 pub mod PolicyRows

@@ -14,6 +14,7 @@ mod list;
 mod reading;
 
 use crate::command::{Character, TimedCommand};
+use crate::names::NamedPages;
 use crate::policy::{Policy, PolicyPage};
 pub use characters::Characters;
 pub use digits::address_of;
@@ -94,13 +95,14 @@ fn events_of(alloc: Global, text: &[u8], pages: &[PolicyPage]) -> Result<Events,
     ensures exact { Gives result (input_of pages.now text.now) }
     ensures good { IfOk result (λ e. AreGoodCommands (length pages.now) e.commands) }
 {
+    let named = NamedPages::of(alloc, pages)?;
     let mut reading = EventList::new(alloc);
     let mut number = 0;
     let mut left = text;
     while !left.is_empty() {
         let (line, rest) = first_line(left);
         number += 1;
-        if !reading.add_line(alloc, pages, line)? {
+        if !reading.add_line(alloc, &named, line)? {
             return Err(EventsFault::InputFault(number));
         }
         left = rest;

@@ -7,6 +7,7 @@ mod events;
 mod fault;
 mod grant;
 mod memory;
+mod names;
 mod policy;
 mod reading;
 mod row;

@@ -5,6 +5,7 @@ ghost use Rattle.ds_policy.specs.Refusal.{Gives};
 ghost use Rattle.ds_policy.specs.PolicyText.{says, policy_of};
 
 mod document;
+mod own;
 mod pages;
 mod processes;
 mod rules;

@@ -1,5 +1,5 @@
 //! The event that a line of an input is.
-ghost use Rattle.std.specs.Prelude.{◌≡◌, ◌<◌, ◌≤◌, ◌==◌, ◌^◌, length, map, take, position, bytes_eq, IfSome, IfOk};
+ghost use Rattle.std.specs.Prelude.{◌≡◌, ◌≤◌, length, map, take, IfOk};
 ghost use Rattle.std.specs.List.{slice_split};
 ghost use Rattle.ds_policy.specs.PolicyParts.{page_named};
 ghost use Rattle.ds_policy.specs.InputLines.{words_of, process_of, line_of, right_of, give_of, of_process, of_entry, command_of, keys_of, event_of, timed_event_of};
@@ -9,7 +9,7 @@ use crate::events::MOST_TICKS;
 use crate::events::digits::{address_of, bytes_of, decimal_of};
 use crate::events::event::{Event, TimedEvent};
 use crate::grant::Right;
-use crate::policy::PolicyPage;
+use crate::names::NamedPages;
 use std::alloc::{AllocError, Global};
 
 /// The latest time at which an event can be due, in ticks.
@@ -25,7 +25,7 @@ pub(crate) fn words_of<'a>(alloc: Global, line: &'a [u8]) -> Result<Vec<&'a [u8]
 
 /// The event of a line's words.
 #[tactic(auto, unfolding(crate::specs::InputLines::timed_event_of))]
-pub(crate) fn timed_event_of(pages: &[PolicyPage], words: &[&[u8]]) -> Option<TimedEvent>
+pub(crate) fn timed_event_of(pages: &NamedPages<'_>, words: &[&[u8]]) -> Option<TimedEvent>
     requires { length pages.now ≤ 1024 }
     ensures { result ≡ timed_event_of pages.now (map (λ w. w.now) words.now) }
 {
@@ -39,7 +39,7 @@ pub(crate) fn timed_event_of(pages: &[PolicyPage], words: &[&[u8]]) -> Option<Ti
     }
 }
 
-fn event_of(pages: &[PolicyPage], verb: &[u8], words: &[&[u8]]) -> Option<Event>
+fn event_of(pages: &NamedPages<'_>, verb: &[u8], words: &[&[u8]]) -> Option<Event>
     requires { length pages.now ≤ 1024 }
     ensures { result ≡ event_of pages.now verb.now (map (λ w. w.now) words.now) }
 {
@@ -66,7 +66,7 @@ fn keys_of(words: &[&[u8]]) -> Option<Event>
 }
 
 #[tactic(auto, unfolding(crate::specs::InputLines::command_of))]
-fn command_of(pages: &[PolicyPage], verb: &[u8], words: &[&[u8]]) -> Option<Command>
+fn command_of(pages: &NamedPages<'_>, verb: &[u8], words: &[&[u8]]) -> Option<Command>
     requires { length pages.now ≤ 1024 }
     ensures { result ≡ command_of pages.now verb.now (map (λ w. w.now) words.now) }
 {
@@ -168,19 +168,10 @@ fn give_of(words: &[&[u8]]) -> Option<bool>
 }
 
 /// The number of the page that has this name.
-fn page_named(pages: &[PolicyPage], name: &[u8]) -> Option<u32>
+fn page_named(pages: &NamedPages<'_>, name: &[u8]) -> Option<u32>
     requires { length pages.now ≤ 1024 }
     ensures { result ≡ page_named pages.now name.now }
 {
-    let place = place_of(pages, name)?;
+    let place = pages.number_of(name)?;
     Some(place as u32)
-}
-
-fn place_of(pages: &[PolicyPage], name: &[u8]) -> Option<usize>
-    ensures exact { result ≡ page_named pages.now name.now }
-    ensures within { IfSome result (λ i. i < length pages.now) }
-{
-    pages
-        .iter()
-        .position(|page| page.name.as_str().as_bytes() == name)
 }

@@ -5,7 +5,7 @@ ghost use Rattle.ds_policy.specs.InputText.{with_event, follows, is_skipped, wit
 use crate::events::event::{Event, TimedEvent};
 use crate::events::line::{timed_event_of, words_of};
 use crate::events::list::EventList;
-use crate::policy::PolicyPage;
+use crate::names::NamedPages;
 use std::alloc::{AllocError, Global};
 
 impl EventList {
@@ -14,7 +14,7 @@ impl EventList {
     pub(crate) fn add_line(
         &mut self,
         alloc: Global,
-        pages: &[PolicyPage],
+        pages: &NamedPages<'_>,
         line: &[u8],
     ) -> Result<bool, AllocError>
         requires { length pages.now ≤ 1024 }

@@ -1,12 +1,15 @@
 //! The pages of a policy.
-ghost use Rattle.std.specs.Prelude.{◌≡◌, ◌≤◌, length, option_map, bytes_eq, IfOk};
-ghost use Rattle.std.specs.List.{list_any, list_all};
+ghost use Rattle.std.specs.Prelude.{◌≡◌, ◌≤◌, List, length, option_map, IfOk, IfSome, None};
+ghost use Rattle.std.specs.List.{list_all};
 ghost use Rattle.toml.specs.View.{view, table_view, items_view};
 ghost use Rattle.ds_policy.specs.Refusal.{Gives};
 ghost use Rattle.ds_policy.specs.PolicyParts.{is_name, is_name_byte, is_source_name, is_source_byte, source_of, page_of, new_page};
 ghost use Rattle.ds_policy.specs.PolicyText.{pages_from, pages_of};
+ghost use Rattle.ds_policy.specs.Names.{held_number, AreNamed};
+ghost use Rattle.ds_policy.specs.declared.policy.PolicyPage.{PolicyPage};
 
 use crate::fault::PolicyFault;
+use crate::names::Names;
 use crate::policy::{PolicyPage, Source};
 use crate::reading::document::{has_only, items_between, number_of, text_at};
 use crate::text::Text;
@@ -38,35 +41,38 @@ fn pages_in(alloc: Global, values: &[Value]) -> Result<Vec<PolicyPage>, PolicyFa
     ensures fits { IfOk result (λ v. length v.items ≤ length values.now) }
 {
     let mut pages = Vec::new(alloc);
+    let mut names = Names::new(alloc);
     for value in values {
-        match new_page(&pages, value) {
-            Some(page) => pages.push(page)?,
+        match new_page(&names, value) {
+            Some((name, page)) => {
+                names.insert(name, pages.len())?;
+                pages.push(page)?;
+            }
             None => return Err(PolicyFault::Limit("page")),
         }
     }
     Ok(pages)
 }
 
+/// A page whose name none has, and its name.
 #[tactic(auto, unfolding(crate::specs::PolicyParts::new_page))]
-fn new_page(before: &[PolicyPage], value: &Value) -> Option<PolicyPage>
-    ensures { result ≡ new_page before.now (view value.now) }
+fn new_page<'a>(names: &Names<'a>, value: &'a Value) -> Option<(&'a [u8], PolicyPage)>
+    ensures page { (before : List PolicyPage) → AreNamed names.now before
+        → option_map (λ p. p.1) result ≡ new_page before (view value.now) }
+    ensures name { IfSome result (λ p. p.0.now ≡ p.1.name) }
+    ensures absent { IfSome result (λ p. held_number names.now p.0.now ≡ None) }
 {
-    let page = page_of(value)?;
-    if has_name(before, page.name.as_str()) {
+    let found = page_of(value)?;
+    if names.number_of(found.0).is_some() {
         return None;
     }
-    Some(page)
-}
-
-fn has_name(pages: &[PolicyPage], name: &str) -> bool
-    ensures { result ≡ list_any (λ q. bytes_eq q.name name.now) pages.now }
-{
-    pages.iter().any(|page| page.name.as_str() == name)
+    Some(found)
 }
 
 #[tactic(auto, unfolding(crate::specs::PolicyParts::page_of))]
-fn page_of(value: &Value) -> Option<PolicyPage>
-    ensures { result ≡ page_of (view value.now) }
+fn page_of(value: &Value) -> Option<(&[u8], PolicyPage)>
+    ensures page { option_map (λ p. p.1) result ≡ page_of (view value.now) }
+    ensures name { IfSome result (λ p. p.0.now ≡ p.1.name) }
 {
     let table = value.as_table()?;
     let name = text_at(table, "name")?;
@@ -74,10 +80,13 @@ fn page_of(value: &Value) -> Option<PolicyPage>
         return None;
     }
     let source = source_of(table)?;
-    Some(PolicyPage {
-        name: Text::of(name),
-        source,
-    })
+    Some((
+        name.as_bytes(),
+        PolicyPage {
+            name: Text::of(name),
+            source,
+        },
+    ))
 }
 
 #[tactic(auto, unfolding(crate::specs::PolicyParts::source_of))]

@@ -1,17 +1,21 @@
 //! The rules of a policy.
-ghost use Rattle.std.specs.Prelude.{◌≡◌, ◌≤◌, ◌==◌, ◌+◌, ◌&&◌, ◌∷◌, length, option_map, bytes_eq, count_by, nat_le};
+ghost use Rattle.std.specs.Prelude.{◌≡◌, ◌≤◌, ◌==◌, ◌+◌, ◌&&◌, ◌∷◌, ◌++◌, [], List, length, option_map, count_by, nat_le, IfSome, OnOk};
 ghost use Rattle.std.specs.List.{list_any};
 ghost use Rattle.toml.specs.View.{view, table_view, items_view};
 ghost use Rattle.ds_policy.specs.Refusal.{Gives};
 ghost use Rattle.ds_policy.specs.Grants.{region, count_distinct};
-ghost use Rattle.ds_policy.specs.PolicyParts.{right_named, page_named, flag_of, grant_of, rule_of, has_same_place, new_rule, regions_of};
+ghost use Rattle.ds_policy.specs.PolicyParts.{right_named, flag_of, grant_of, rule_of, has_same_place, new_rule, regions_of};
 ghost use Rattle.ds_policy.specs.PolicyText.{rules_from, rules_of};
+ghost use Rattle.ds_policy.specs.OwnRules.{AreByProcess, leaves_room};
+ghost use Rattle.ds_policy.specs.declared.policy.PolicyRule.{PolicyRule};
 
 use crate::fault::PolicyFault;
 use crate::grant::Right;
+use crate::names::NamedPages;
 use crate::policy::{PolicyPage, PolicyRule};
 use crate::reading::document::{has_only, items_between, number_of, text_at, value_at};
-use std::alloc::Global;
+use crate::reading::own::{OwnRules, no_rules};
+use std::alloc::{AllocError, Global};
 use toml::{Table, Value};
 
 /// The rules, of which there are at most 999.
@@ -28,7 +32,10 @@ pub fn rules_of(
 {
     match found {
         Some(value) => match items_between(value, 0, 999) {
-            Some(values) => rules_in(alloc, processes, pages, values),
+            Some(values) => {
+                let pages = NamedPages::of(alloc, pages)?;
+                rules_in(alloc, processes, &pages, values)
+            }
             None => Err(PolicyFault::Limit("rule")),
         },
         None => Ok(Vec::new(alloc)),
@@ -38,7 +45,7 @@ pub fn rules_of(
 fn rules_in(
     alloc: Global,
     processes: u32,
-    pages: &[PolicyPage],
+    pages: &NamedPages<'_>,
     values: &[Value],
 ) -> Result<Vec<PolicyRule>, PolicyFault>
     requires pages_fit { length pages.now ≤ 1024 }
@@ -46,43 +53,70 @@ fn rules_in(
     ensures { Gives (λ v. v.items) result (rules_from processes pages.now (items_view values.now)) }
 {
     let mut rules = Vec::new(alloc);
+    let mut owns = no_rules(alloc, processes as usize)?;
     for value in values {
-        match new_rule(processes, pages, &rules, value) {
-            Some(rule) => rules.push(rule)?,
+        match new_rule(processes, pages, &owns, value) {
+            Some(rule) => {
+                add_to(&mut owns, rule)?;
+                rules.push(rule)?;
+            }
             None => return Err(PolicyFault::BadRule(rules.len() as u32 + 1)),
         }
     }
     Ok(rules)
 }
 
-#[tactic(auto, unfolding(crate::specs::PolicyParts::new_rule))]
+/// Adds a rule to those of its process.
+#[tactic(auto, using(crate::proofs::OwnRules::by_process_more))]
+fn add_to(owns: &mut Vec<OwnRules>, rule: PolicyRule) -> Result<(), AllocError>
+    requires low { 1 ≤ rule.process }
+    requires high { rule.process ≤ length owns.old.items }
+    ensures added { OnOk result ((rules : List PolicyRule) → AreByProcess owns.old.items rules
+        → AreByProcess owns.new.items (rules ++ rule ∷ [])) }
+    ensures same { length owns.new.items ≡ length owns.old.items }
+{
+    owns[rule.process as usize - 1].push(rule)?;
+    Ok(())
+}
+
+/// The rule that a value is, where those of its process leave room for it.
 fn new_rule(
     processes: u32,
-    pages: &[PolicyPage],
-    before: &[PolicyRule],
+    pages: &NamedPages<'_>,
+    owns: &[OwnRules],
     value: &Value,
 ) -> Option<PolicyRule>
     requires pages_fit { length pages.now ≤ 1024 }
-    requires rules_fit { length before.now ≤ 999 }
-    ensures { result ≡ new_rule processes pages.now before.now (view value.now) }
+    requires each { length owns.now ≡ processes }
+    ensures exact { (before : List PolicyRule) → AreByProcess owns.now before
+        → result ≡ new_rule processes pages.now before (view value.now) }
+    ensures within { IfSome result (λ r. (1 ≤ r.process) × (r.process ≤ processes)) }
 {
     let rule = rule_of(processes, pages, value)?;
-    if is_taken(before, &rule) {
-        return None;
-    }
-    if count_of(before, rule.process) >= 256 {
-        return None;
-    }
-    if !fits_regions(before, rule.process, rule.address) {
+    if !leaves_room(owns[rule.process as usize - 1].rules(), &rule) {
         return None;
     }
     Some(rule)
 }
 
+/// Whether there may be one more rule of a process beside those that it has.
+fn leaves_room(own: &[PolicyRule], rule: &PolicyRule) -> bool
+    ensures { result ≡ leaves_room own.now rule.now }
+{
+    if is_taken(own, rule) {
+        return false;
+    }
+    if count_of(own, rule.process) >= 256 {
+        return false;
+    }
+    fits_regions(own, rule.process, rule.address)
+}
+
 #[tactic(auto, unfolding(crate::specs::PolicyParts::rule_of))]
-fn rule_of(processes: u32, pages: &[PolicyPage], value: &Value) -> Option<PolicyRule>
+fn rule_of(processes: u32, pages: &NamedPages<'_>, value: &Value) -> Option<PolicyRule>
     requires { length pages.now ≤ 1024 }
-    ensures { result ≡ rule_of processes pages.now (view value.now) }
+    ensures exact { result ≡ rule_of processes pages.now (view value.now) }
+    ensures within { IfSome result (λ r. (1 ≤ r.process) × (r.process ≤ processes)) }
 {
     let table = value.as_table()?;
     let process = number_of(table, "process", 1, processes)?;
@@ -116,7 +150,7 @@ fn right_named(text: &str) -> Option<Right>
 }
 
 #[tactic(auto, unfolding(crate::specs::PolicyParts::grant_of))]
-fn grant_of(pages: &[PolicyPage], right: Right, table: &Table) -> Option<(Option<u32>, bool)>
+fn grant_of(pages: &NamedPages<'_>, right: Right, table: &Table) -> Option<(Option<u32>, bool)>
     requires { length pages.now ≤ 1024 }
     ensures { result ≡ grant_of pages.now right (table_view table.now) }
 {
@@ -132,17 +166,11 @@ fn grant_of(pages: &[PolicyPage], right: Right, table: &Table) -> Option<(Option
                 return None;
             }
             let name = text_at(table, "page")?;
-            let page = page_named(pages, name)?;
+            let page = pages.number_of(name.as_bytes())?;
             let give = flag_of(value_at(table, "give"))?;
             Some((Some(page as u32), give))
         }
     }
-}
-
-fn page_named(pages: &[PolicyPage], name: &str) -> Option<usize>
-    ensures { result ≡ page_named pages.now name.now }
-{
-    pages.iter().position(|page| page.name.as_str() == name)
 }
 
 fn flag_of(found: Option<&Value>) -> Option<bool>
@@ -170,14 +198,13 @@ fn count_of(rules: &[PolicyRule], process: u32) -> usize
 
 /// Whether a rule at this address leaves its process within four regions.
 fn fits_regions(rules: &[PolicyRule], process: u32, address: u32) -> bool
-    requires { length rules.now ≤ 999 }
     ensures { result ≡ nat_le (count_distinct (region address ∷ regions_of process rules.now)) 4 }
 {
     let regions = count_regions(rules, process);
     if has_region(rules, process, address / 4_194_304) {
         regions <= 4
     } else {
-        regions + 1 <= 4
+        regions < 4
     }
 }
 

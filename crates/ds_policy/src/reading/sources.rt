@@ -1,8 +1,9 @@
 //! The sources of a policy's pages.
-ghost use Rattle.std.specs.Prelude.{◌≡◌, IfOk, OnOk, bytes_eq};
-ghost use Rattle.std.specs.List.{list_any};
+ghost use Rattle.std.specs.Prelude.{◌≡◌, IfOk, OnOk};
 ghost use Rattle.ds_policy.specs.PolicyParts.{with_source, sources_of};
+ghost use Rattle.ds_policy.specs.Names.{AreHeld};
 
+use crate::names::Names;
 use crate::policy::{PolicyPage, Source};
 use crate::text::Text;
 use std::alloc::{AllocError, Global};
@@ -12,29 +13,32 @@ pub fn sources_of(alloc: Global, pages: &[PolicyPage]) -> Result<Vec<Text<64>>, 
     ensures { IfOk result (λ v. v.items ≡ sources_of pages.now) }
 {
     let mut sources = Vec::new(alloc);
+    let mut names = Names::new(alloc);
     for page in pages {
-        add_source(&mut sources, &page.source)?;
+        add_source(&mut sources, &mut names, &page.source)?;
     }
     Ok(sources)
 }
 
-fn add_source(sources: &mut Vec<Text<64>>, source: &Option<Source>) -> Result<(), AllocError>
-    ensures { OnOk result (sources.new.items ≡ with_source sources.old.items source.now) }
+/// Adds a source's name, where it is new. The names are those of the sources.
+fn add_source<'a>(
+    sources: &mut Vec<Text<64>>,
+    names: &mut Names<'a>,
+    source: &'a Option<Source>,
+) -> Result<(), AllocError>
+    requires { AreHeld names.old sources.old.items }
+    ensures added { OnOk result (sources.new.items ≡ with_source sources.old.items source.now) }
+    ensures held { OnOk result (AreHeld names.new sources.new.items) }
 {
     match source {
         Some(source) => {
             let name = source.name.as_str();
-            if !has_source(sources, name) {
+            if names.number_of(name.as_bytes()).is_none() {
+                names.insert(name.as_bytes(), sources.len())?;
                 sources.push(Text::of(name))?;
             }
             Ok(())
         }
         None => Ok(()),
     }
-}
-
-fn has_source(sources: &[Text<64>], name: &str) -> bool
-    ensures { result ≡ list_any (λ x. bytes_eq x name.now) sources.now }
-{
-    sources.iter().any(|source| source.as_str() == name)
 }

@@ -7,13 +7,13 @@ use Rattle.ds_policy.proofs.events.events_of.Goals as goal
 
 pub returns-then-not-branch : goal.returns-then-not-branch
 returns-then-not-branch c = record {
-  exact = ap as_input (sym c.loop-left.invariant.same ∙ lines_bad c.args.pages.now c.loop-left.reading (c.loop-left.number + 1) c.loop-left.left.now _ c.first_line.ensures.line (rw c.if-not-branch.true at c.in_ok-add_line.ensures));
+  exact = ap as_input (sym c.loop-left.invariant.same ∙ lines_bad c.args.pages.now c.loop-left.reading (c.loop-left.number + 1) c.loop-left.left.now _ c.first_line.ensures.line (rw (c.if-not-branch.true, c.in_ok-named.ensures) at c.in_ok-add_line.ensures));
   good = tt;
 }
 
 pub loop-left-preserved : goal.loop-left-preserved
 loop-left-preserved c = record {
-  same = sym (lines_good c.args.pages.now c.loop-left.reading c.add_line.new.self (c.loop-left.number + 1) c.loop-left.left.now _ _ c.first_line.ensures.line c.first_line.ensures.rest (rw c.if-not-branch.false at c.in_ok-add_line.ensures)) ∙ c.loop-left.invariant.same;
+  same = sym (lines_good c.args.pages.now c.loop-left.reading c.add_line.new.self (c.loop-left.number + 1) c.loop-left.left.now _ _ c.first_line.ensures.line c.first_line.ensures.rest (rw (c.if-not-branch.false, c.in_ok-named.ensures) at c.in_ok-add_line.ensures)) ∙ c.loop-left.invariant.same;
   within = rest_within c.loop-left.number (length c.args.text.now) c.loop-left.left.now _ c.first_line.ensures.rest (search rules) c.loop-left.invariant.within;
 }
 
