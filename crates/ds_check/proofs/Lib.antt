@@ -4,3 +4,4 @@ pub mod LimitTexts
 pub mod RuleLines
 pub mod PlaceSteps
 pub mod EventSteps
+pub mod LineSteps

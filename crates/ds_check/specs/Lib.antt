@@ -9,3 +9,5 @@ pub mod Mending
 pub mod MendingRows
 pub mod Places
 pub mod PlaceRows
+pub mod Lines
+pub mod LineRows

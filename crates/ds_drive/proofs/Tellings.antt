@@ -5,12 +5,19 @@ use Rattle.std.proofs.lemmas.Grind.{flat_map-append}
 use Rattle.std.proofs.Math.Seq.{take-add}
 use Rattle.std.specs.Prelude.{Option, Result, Ok, Err, OnOk, OnErr, flat_map}
 use Rattle.std.specs.Io.KnownBytes.{Appends}
+use Rattle.ds_asm.specs.declared.fault.SourceFault.{SourceFault}
 use Rattle.ds_log.specs.Sent.{AppendsPart}
 use Rattle.ds_log.proofs.Sends.{appends_both, part_behind, part_before}
+use Rattle.ds_drive.specs.Told.{told_line}
 
 -- a text that stands behind nothing
 pub behind_nothing : (text held before piece : List ℕ) → text ≡ held → held ≡ before ++ piece → before ≡ [] → text ≡ piece
 behind_nothing text held before piece same is none = same ∙ (is ∙ ap (λ (xs : List ℕ). xs ++ piece) none)
+
+-- faults that were told with the lines of one source were told with those of the same
+pub told_of : (front place : List ℕ) (faults : List SourceFault) (held before : List ℕ) (now old : Option (List ℕ)) → now ≡ old
+    → held ≡ before ++ flat_map (told_line front place now) faults → held ≡ before ++ flat_map (told_line front place old) faults
+told_of front place faults held before now old same is = subst (λ (s : Option (List ℕ)). held ≡ before ++ flat_map (told_line front place s) faults) same is
 
 module _ {X : Type 0} (f : X → List ℕ) (xs : List X) where
   -- those up to one place, and from there to another

@@ -70,7 +70,10 @@ fn read_good<'a, F: Files>(
         &mut sink(),
     ) {
         Ok(()) => {}
-        Err(fault) => return Err(Refused::of_source(alloc, fault, &texts)),
+        Err(fault) => {
+            drop(sources);
+            return Err(Refused::of_source(alloc, fault, texts));
+        }
     }
     match Events::read(alloc, input.as_slice(), &policy) {
         Ok(events) => Ok(Good {

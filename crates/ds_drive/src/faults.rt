@@ -1,10 +1,11 @@
 //! The faults of a source, told a line each.
 ghost use Rattle.std.specs.Prelude.{◌≡◌, ◌++◌, OnOk, OnErr, flat_map};
 ghost use Rattle.std.specs.Io.KnownBytes.{Appends};
-ghost use Rattle.ds_drive.specs.Told.{fault_line, fault_name};
+ghost use Rattle.ds_drive.specs.Told.{fault_line, fault_name, shown_in, told_line};
 ghost use Rattle.ds_log.specs.Sent.{AppendsPart};
 
 use ds_asm::SourceFault;
+use ds_check::Lines;
 use ds_log::{WriteFailed, send};
 use itoa::Buffer;
 use std::alloc::{AllocError, Global};
@@ -37,42 +38,76 @@ impl From<WriteFailed> for Untold {
     }
 }
 
-/// Tells of faults, a line each. Where the writer fails, or memory runs out, the rest is not told.
-pub(crate) fn tell_lines<'a, E: Write>(
+/// Tells of faults, a line each, and shows the source's line below it where the source's lines are
+/// lent. Where the writer fails, or memory runs out, the rest is not told.
+pub(crate) fn tell_lines<'a, 's, E: Write>(
     alloc: Global,
     err: &mut E,
     wording: Wording<'a>,
+    lines: &mut Option<Lines<'s>>,
     faults: &[SourceFault],
 ) -> Result<(), Untold>
     ensures all { OnOk result (Appends (E.contents err.old) (E.contents err.new)
-        (flat_map (fault_line wording.entry.front.now wording.entry.place.now) faults.now)) }
+        (flat_map (told_line wording.entry.front.now wording.entry.place.now lines.old) faults.now)) }
     ensures front { OnErr result (AppendsPart (E.contents err.old) (E.contents err.new)
-        (flat_map (fault_line wording.entry.front.now wording.entry.place.now) faults.now)) }
+        (flat_map (told_line wording.entry.front.now wording.entry.place.now lines.old) faults.now)) }
 {
     let mut text = Vec::new(alloc);
     let mut told = 0;
     while told < faults.len() {
         let end = faults.len().min(told + LINES_AT_ONCE);
         text.clear();
-        push_lines(&mut text, wording, &faults[told..end])?;
+        push_lines(&mut text, wording, lines, &faults[told..end])?;
         send(err, &text)?;
         told = end;
     }
     Ok(())
 }
 
-fn push_lines<'a>(
+fn push_lines<'a, 's>(
     text: &mut Vec<u8>,
     wording: Wording<'a>,
+    lines: &mut Option<Lines<'s>>,
     faults: &[SourceFault],
 ) -> Result<(), AllocError>
-    ensures { OnOk result (text.new.items ≡ text.old.items
-        ++ flat_map (fault_line wording.entry.front.now wording.entry.place.now) faults.now) }
+    ensures text { OnOk result (text.new.items ≡ text.old.items
+        ++ flat_map (told_line wording.entry.front.now wording.entry.place.now lines.old) faults.now) }
+    ensures same { lines.new ≡ lines.old }
 {
     for fault in faults {
-        push_line(text, wording, fault)?;
+        push_told(text, wording, lines, fault)?;
     }
     Ok(())
+}
+
+/// Adds the line of a fault, and the source's line below it where the source's lines are lent.
+fn push_told<'a, 's>(
+    text: &mut Vec<u8>,
+    wording: Wording<'a>,
+    lines: &mut Option<Lines<'s>>,
+    fault: &SourceFault,
+) -> Result<(), AllocError>
+    ensures text { OnOk result (text.new.items ≡ text.old.items
+        ++ told_line wording.entry.front.now wording.entry.place.now lines.old fault.now) }
+    ensures same { lines.new ≡ lines.old }
+{
+    push_line(text, wording, fault)?;
+    push_shown(text, lines, fault.line())
+}
+
+/// Adds the line of the source of this number, where the source's lines are lent.
+pub(crate) fn push_shown<'s>(
+    text: &mut Vec<u8>,
+    lines: &mut Option<Lines<'s>>,
+    number: u64,
+) -> Result<(), AllocError>
+    ensures text { OnOk result (text.new.items ≡ text.old.items ++ shown_in lines.old number) }
+    ensures same { lines.new ≡ lines.old }
+{
+    match lines {
+        Some(lines) => lines.push(text, number),
+        None => Ok(()),
+    }
 }
 
 /// Adds the line of a fault: its number and name, and the number of the source's line.

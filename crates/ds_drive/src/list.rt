@@ -1,8 +1,8 @@
 //! A file listed: a source with its bytes, or the words of a file as a source.
-ghost use Rattle.std.specs.Prelude.{◌≡◌, ℕ, List, IfErr, IfOk, codes, flat_map};
+ghost use Rattle.std.specs.Prelude.{◌≡◌, ℕ, List, IfErr, IfOk, None, codes, flat_map};
 ghost use Rattle.ds_asm.specs.Assembling.{Assembles};
 ghost use Rattle.ds_drive.specs.Listed.{listed, Lists, FailsBy};
-ghost use Rattle.ds_drive.specs.Told.{fault_line};
+ghost use Rattle.ds_drive.specs.Told.{told_line};
 ghost use Rattle.ds_log.specs.Sent.{AppendsPart};
 
 use crate::failure::Failure;
@@ -70,12 +70,12 @@ pub fn list_file<'a, F: Files, W: Write>(
 pub fn tell_faults<E: Write>(alloc: Global, err: &mut E, file: &str, faults: &[SourceFault]) -> u8
     ensures status { result ≡ 2 }
     ensures told { AppendsPart (E.contents err.old) (E.contents err.new)
-        (flat_map (fault_line (codes "dsmon: ") file.now) faults.now) }
+        (flat_map (told_line (codes "dsmon: ") file.now None) faults.now) }
 {
     let wording = Wording {
         front: "dsmon: ",
         place: file,
     };
-    let _ = tell_lines(alloc, err, wording, faults);
+    let _ = tell_lines(alloc, err, wording, &mut None, faults);
     INPUT_REFUSED
 }

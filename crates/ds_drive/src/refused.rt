@@ -5,22 +5,32 @@ ghost use Rattle.ds_drive.specs.Statuses.{fault_status};
 ghost use Rattle.ds_drive.specs.declared.failure.Failure.TheVariants as failure;
 
 use crate::failure::Failure;
-use crate::faults::{Wording, tell_lines};
+use crate::faults::{Untold, Wording, push_shown, tell_lines};
 use crate::program::tell;
 use crate::run::SourceText;
 use ds_asm::{SourceFault, all_faults};
-use ds_check::{mend_text, rule_line, toml_place};
+use ds_check::{Lines, mend_text, rule_line, toml_place};
+use ds_log::send;
 use ds_station::Fault;
 use std::alloc::{AllocError, Global};
 use std::io::Write;
+
+/// A source that is at fault.
+#[derive(Drop)]
+pub struct FaultySource {
+    /// Its text.
+    pub text: Vec<u8>,
+    /// All its faults.
+    pub faults: Vec<SourceFault>,
+}
 
 /// What a check refuses.
 #[derive(Drop)]
 pub struct Refused<'a> {
     /// The refusal as a run tells it.
     pub failure: Failure<'a>,
-    /// All faults of the source, where one is at fault.
-    pub faults: Option<Vec<SourceFault>>,
+    /// The source that is at fault, where one is.
+    pub source: Option<FaultySource>,
     /// The line of the policy's text that is at fault, from 1, where it is known.
     pub line: Option<u64>,
     /// The column there, from 1, where it is known.
@@ -30,11 +40,11 @@ pub struct Refused<'a> {
 impl<'a> Refused<'a> {
     /// A refusal of which nothing is known besides.
     pub(crate) fn plain(failure: Failure<'a>) -> Refused<'a>
-        ensures { result ≡ record { failure = failure.entry; faults = None; line = None; column = None } }
+        ensures { result ≡ record { failure = failure.entry; source = None; line = None; column = None } }
     {
         Refused {
             failure,
-            faults: None,
+            source: None,
             line: None,
             column: None,
         }
@@ -59,34 +69,36 @@ impl<'a> Refused<'a> {
         }
         Refused {
             failure: Failure::Fault(fault),
-            faults: None,
+            source: None,
             line,
             column,
         }
     }
 
     /// A refusal of what is read behind the policy, with these sources.
-    pub(crate) fn of_source(alloc: Global, fault: Fault, texts: &[SourceText]) -> Refused<'a>
+    pub(crate) fn of_source(alloc: Global, fault: Fault, texts: Vec<SourceText>) -> Refused<'a>
         ensures { result.failure ≡ failure.Fault fault }
     {
-        let faults = faults_in(alloc, &fault, texts);
+        let source = faulty_source(alloc, &fault, texts);
         Refused {
             failure: Failure::Fault(fault),
-            faults,
+            source,
             line: None,
             column: None,
         }
     }
 }
 
-/// All faults of the source that is at fault, if one is.
-fn faults_in(alloc: Global, fault: &Fault, texts: &[SourceText]) -> Option<Vec<SourceFault>> {
+/// The source that is at fault with all its faults, if one is.
+fn faulty_source(alloc: Global, fault: &Fault, texts: Vec<SourceText>) -> Option<FaultySource> {
     let Fault::InSource { name, .. } = fault else {
         return None;
     };
     for source in texts {
         if source.name.as_str() == name.as_str() {
-            return all_faults(alloc, &source.text).ok();
+            let text = source.text;
+            let faults = all_faults(alloc, &text).ok()?;
+            return Some(FaultySource { text, faults });
         }
     }
     None
@@ -108,14 +120,16 @@ impl<'a> From<AllocError> for Refused<'a> {
     }
 }
 
-/// Tells of a refusal as a run does, and below it where it is, the other faults of the source, and
-/// how it is mended; and answers the status.
+/// Tells of a refusal as a run does, and below it where it is, the source's line with the other faults
+/// of the source and their lines, and how it is mended; and answers the status.
 pub fn tell_refused<'a, E: Write>(alloc: Global, err: &mut E, refused: &Refused<'a>) -> u8
     ensures { result ≡ fault_status (failure_number refused.now.failure) }
 {
     let status = tell(err, &refused.failure);
     tell_place(err, refused);
-    tell_others(alloc, err, refused);
+    if let Some(source) = &refused.source {
+        let _ = tell_source(alloc, err, source);
+    }
     if let Some(words) = mend_text(refused.failure.number()) {
         let _ = write!(err, "{words}");
     }
@@ -134,16 +148,20 @@ fn tell_place<'a, E: Write>(err: &mut E, refused: &Refused<'a>) {
     }
 }
 
-/// Tells of the faults of the source behind the first.
-fn tell_others<'a, E: Write>(alloc: Global, err: &mut E, refused: &Refused<'a>) {
-    let Some(faults) = &refused.faults else {
-        return;
-    };
+/// Shows the line of a source's first fault, and tells of the other faults, each with its line.
+fn tell_source<E: Write>(alloc: Global, err: &mut E, source: &FaultySource) -> Result<(), Untold> {
     let wording = Wording {
         front: "and ",
         place: "in line",
     };
-    if let [_, others @ ..] = faults.as_slice() {
-        let _ = tell_lines(alloc, err, wording, others);
+    let mut lines = Some(Lines::of(&source.text));
+    match source.faults.as_slice() {
+        [first, others @ ..] => {
+            let mut text = Vec::new(alloc);
+            push_shown(&mut text, &mut lines, first.line())?;
+            send(err, &text)?;
+            tell_lines(alloc, err, wording, &mut lines, others)
+        }
+        [] => Ok(()),
     }
 }

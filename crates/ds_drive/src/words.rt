@@ -60,7 +60,9 @@ pub fn program_words<R: Env + AllocGlobal>(rt: &R) -> io::Result<Vec<String>> {
 }
 
 /// What stands at the end of the program's help.
-const HELP: &str = "Example:
+const HELP: &str = "Examples:
+  dsmon list guest.s
+  dsmon check policy.toml input.txt
   dsmon run policy.toml input.txt 1000
 
 The status is 0 where all was done, 1 where the words are wrong or ask for help,
@@ -81,11 +83,23 @@ const CHECK_HELP: &str =
     "POLICY, its sources and INPUT are read as a run reads them. Where all is good, the permission table
 at the start is written, process by process; then what is near a limit; then what comes when. Where
 something is refused, standard error tells the refusal as a run does, where it is as far as that is
-known, all faults of the source, and how it is mended. The status is 2 then.
+known, all faults of the source with their lines, and how it is mended. The status is 2 then.
 
-Example:
+Examples:
+  dsmon check policy.toml input.txt
+    table
+    process 1
+      00400000 read  code, part 0 of guest.s, rule 1
+    limits
+    processes 1 of 100
+    ..
+    events
+    5 command 1, rule 1001: stop 1
   dsmon check policy.toml
-  dsmon check policy.toml input.txt";
+    dsmon: 3 Syntax guest.s 2
+        addiu $v0, 1
+    The line cannot be read. `addiu $v0, 1` lacks a register: write
+    ..";
 
 /// What stands at the end of the help of `list`.
 const LIST_HELP: &str =
@@ -95,9 +109,15 @@ tells the number, the name and the place of each fault, and the status is 2. Wit
 words, four bytes to each with the lowest first; each is written as the assembler takes it, and a
 byte that is left at the end as .byte.
 
-Example:
+Examples:
   dsmon list guest.s
-  dsmon list --words guest.bin";
+        1  00400000  24020000    end:  addiu $2,$0,0
+        2  00400004  0000000C          syscall
+    labels
+    00400000  end
+  dsmon list --words guest.bin
+    addiu $2,$0,0
+    syscall";
 
 /// What stands at the end of the help of `demo`.
 const DEMO_HELP: &str = "Its policy and its source are held in the program; it writes 66 bytes.
@@ -153,7 +173,7 @@ fn run_command<'a>(alloc: Global) -> Result<Command<'a>, AllocError>
         .arg(file_argument(
             alloc,
             "INPUT",
-            "The file of the input: today comments and empty lines alone",
+            "The file of the input: commands and characters, each with its time",
         ))?
         .arg(time_argument(alloc))?
         .arg(random_argument(alloc))

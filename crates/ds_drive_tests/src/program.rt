@@ -205,6 +205,8 @@ dsmon --version|dsmon 0.1.0
 dsmon run --help|[default: 63]
 dsmon run --help|from 0 to 1000000000
 dsmon demo -h|Usage: dsmon demo
+dsmon list --help|  1  00400000  24020000    end:  addiu $2,$0,0
+dsmon check --help|  00400000 read  code, part 0 of guest.s, rule 1
 ";
 
 /// Each line has words that are refused with status 1, without output, and are told what stands

@@ -1,7 +1,10 @@
 use Rattle.std.proofs.Common.{◌≡◌, ◌++◌, take}
 use Rattle.std.specs.Prelude.{flat_map}
-use Rattle.ds_drive.specs.Told.{fault_line}
+use Rattle.ds_drive.specs.Told.{told_line}
 use Rattle.ds_drive.proofs.faults.push_lines.Given as goal
 
 abbrev pub invariant-loop-fault : goal.invariant-loop-fault
-invariant-loop-fault l = l.text.items ≡ l.fn.text.items ++ flat_map (fault_line l.wording.front.now l.wording.place.now) (take l.fault-index l.faults)
+invariant-loop-fault l = record {
+  text : l.text.items ≡ l.fn.text.items ++ flat_map (told_line l.wording.front.now l.wording.place.now l.fn.lines) (take l.fault-index l.faults);
+  same : l.lines ≡ l.fn.lines;
+}
