@@ -18,7 +18,7 @@ from pathlib import Path
 from typing import NamedTuple, Optional
 
 PROGRAM = Path(__file__).resolve().parent.parent / "crates" / "dsmon"
-GROWTH = 150
+GROWTH = 168
 STEP = 6  # so far it is moved where it does not fit
 MOST_BUILDS = 4
 LENGTHS = [0] + [3 << (k + 7) for k in range(1, 15)]  # of the comments, each one growth more than the one before
