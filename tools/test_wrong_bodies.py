@@ -12,7 +12,8 @@ sys.dont_write_bytecode = True
 from wrong_bodies.command import main  # noqa: E402
 from wrong_bodies.crates import Repository  # noqa: E402
 from wrong_bodies.kinds import Kind, kind_of  # noqa: E402
-from wrong_bodies.record import Record, sum_of  # noqa: E402
+from wrong_bodies.record import Record, sum_of, toolchain  # noqa: E402
+from wrong_bodies.trying import Tried  # noqa: E402
 
 CODE = """\
 //! Functions to break.
@@ -186,7 +187,7 @@ class Recorded(unittest.TestCase):
 
     def sum(self):
         repository = Repository(self.room.name)
-        return sum_of(repository, repository.crates["upper"], "a toolchain")
+        return sum_of(repository, repository.crates["upper"])
 
     def after(self, path, old, new):
         file = Path(self.room.name, "crates", path)
@@ -252,16 +253,40 @@ class Recorded(unittest.TestCase):
     def test_an_edit_changes_it(self):
         self.assertNotEqual(self.before, self.after("upper/wrong/first.none.edit", "new:     0", "new:     2"))
 
-    def test_nothing_is_tried_where_the_record_has_the_crate(self):
+    def record(self, *lines):
+        """The record with these lines of the upper crate: the toolchain of each, and the sum."""
         record = Record(f"{self.room.name}/tools/wrong_bodies.record")
-        repository = Repository(self.room.name)
-        from wrong_bodies.record import toolchain
+        record.path.parent.mkdir(exist_ok=True)
+        record.lines = {("upper", version): (found, {"public": 1, "private": 0, "script": 0}) for version, found in lines}
+        record.write(["lower", "upper"])
+        return record
 
-        record.path.parent.mkdir()
-        record.lines["upper"] = (sum_of(repository, repository.crates["upper"], toolchain()), {"public": 1, "private": 0, "script": 0})
-        record.write(repository.crates)
+    def tried(self):
+        crate = Repository(self.room.name).crates["upper"]
+        for it in crate.edits:
+            it.refuse(Kind.PUBLIC, "first: returns")
+        return Tried(crate, crate.edits)
+
+    def test_nothing_is_tried_where_the_record_has_the_crate(self):
+        self.record((toolchain(), self.before))
         status, said, checks = run(self.room.name, "--changed")
         self.assertEqual((0, "1 passed, 0 failed", ""), (status, said.splitlines()[-1], checks))
+
+    def test_a_line_of_another_toolchain_does_not_count(self):
+        record = self.record(("another", self.before))
+        self.assertIsNone(record.counts("upper", toolchain(), self.before))
+        self.assertEqual(1, record.counts("upper", "another", self.before)["public"])
+
+    def test_a_line_of_another_toolchain_stays_where_it_is_of_the_same_texts(self):
+        record = self.record(("another", self.before), ("a third", "other-texts"), ("this", "other-texts"))
+        record.put(self.tried(), "this", self.before, ["lower", "upper"])
+        self.assertEqual([("upper", "another"), ("upper", "this")], sorted(Record(record.path).lines))
+
+    def test_a_toolchain_that_lets_an_edit_through_loses_its_line(self):
+        record, tried = self.record(("another", self.before), ("this", self.before)), self.tried()
+        tried.edits[0].fail("NOT REFUSED", "")
+        record.put(tried, "this", self.before, ["lower", "upper"])
+        self.assertEqual([("upper", "another")], sorted(Record(record.path).lines))
 
 
 class Kinds(unittest.TestCase):

@@ -14,7 +14,7 @@ from .trying import try_crate
 
 USES = """Tries the wrong bodies of the crates, crates/NAME/wrong/*.edit: the prover must refuse each of them.
 
---changed tries those of each crate whose line in the record has another sum than its texts; --all tries all; names of crates, these.
+--changed tries those of each crate that has no line in the record for its texts and this toolchain; --all tries all; names of crates, these.
 Each brings the lines of the crates that it tried up to date. A name CRATE/EDIT tries one edit, and no line is written then.
 docs/gate.md says more.
 
@@ -68,15 +68,15 @@ def main(words):
     record = Record(given.record or f"{repository.root}/tools/wrong_bodies.record") if is_kept else None
     version = toolchain()
     crates = [it for it in repository.crates.values() if it.edits]
-    sums = {it.name: sum_of(repository, it, version) for it in crates}
-    known = {it.name: record.counts(it.name, sums[it.name]) for it in crates} if record else {}
+    sums = {it.name: sum_of(repository, it) for it in crates}
+    known = {it.name: record.counts(it.name, version, sums[it.name]) for it in crates} if record else {}
     chosen = [it for it in crates if given.all or it.name in named or given.changed and known.get(it.name) is None]
     tried = []
     for it in try_all(repository, chosen, given):
         print("\n".join(map(str, it.edits)), flush=True)
         tried.append(it)
         if record:
-            record.put(it, sums[it.crate.name], repository.crates)
+            record.put(it, version, sums[it.crate.name], repository.crates)
     recorded = [it for it in crates if it not in chosen and known.get(it.name) is not None]
     return tell(tried, time.monotonic() - began, recorded, known)
 
