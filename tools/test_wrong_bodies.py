@@ -278,7 +278,7 @@ class Recorded(unittest.TestCase):
         self.assertEqual(1, record.counts("upper", "another", self.before)["public"])
 
     def test_a_line_of_another_toolchain_stays_where_it_is_of_the_same_texts(self):
-        record = self.record(("another", self.before), ("a third", "other-texts"), ("this", "other-texts"))
+        record = self.record(("another", self.before), ("third", "other-texts"), ("this", "other-texts"))
         record.put(self.tried(), "this", self.before, ["lower", "upper"])
         self.assertEqual([("upper", "another"), ("upper", "this")], sorted(Record(record.path).lines))
 
