@@ -10,10 +10,12 @@ n = 0 too is none of the run.
 comment in the input: it is twice as long from case to case, and to read it takes one growth more, so the Nth growth is
 from case to case the one before. A text that lacks its last line end alone is not told from a whole one.
 """
+import os
 import re
 import subprocess
 import sys
 import tempfile
+from concurrent.futures import ThreadPoolExecutor
 from pathlib import Path
 from typing import NamedTuple, Optional
 
@@ -76,27 +78,35 @@ def command(growth, folder):
 
 
 def tried(growth):
-    """The runs of all cases by their names, with this growth refused in each."""
+    """The runs of all cases by their names, with this growth refused in each. The processors share them out, and each builds the program."""
+    found, lanes = list(cases().items()), len(os.sched_getaffinity(0))
+    with ThreadPoolExecutor(lanes) as pool:
+        parts = pool.map(lambda lane: tried_of(growth, dict(found[lane::lanes])), range(lanes))
+        return {name: run for part in parts for name, run in part.items()}
+
+
+def tried_of(growth, some):
+    """The runs of some cases."""
     with tempfile.TemporaryDirectory(prefix="refused-memory-") as folder:
         top = Path(folder)
         (top / "cases").mkdir()
         (top / "guest.toml").write_text(POLICY)
         (top / "guest.s").write_text(GUEST)
-        for name, (ticks, length) in cases().items():
+        for name, (ticks, length) in some.items():
             (top / "cases" / name).write_text("#" * length)
             (top / "cases" / f"{name}.args").write_text(f"{ticks}\n")
         words = command(growth, folder)
         done = subprocess.run(words, cwd=PROGRAM, stdin=subprocess.DEVNULL, capture_output=True, text=True)
-    return read(done.stdout, done.stderr)
+    return read(done.stdout, done.stderr, some)
 
 
-def read(out, err):
-    """The runs by their names, from what `rt try --cases` writes."""
+def read(out, err, wanted):
+    """The runs by their names, from what `rt try --cases` writes, which has to have those that are wanted."""
     pieces = re.split(r"^== (\S+)\n", out, flags=re.M)
     texts = dict(zip(pieces[1::2], pieces[2::2]))
     ends = re.findall(r"^case=(\S+) run=\S+(?: status=(\d+))?", err, re.M)
     runs = {name: Run(int(status) if status else None, texts.get(name, "")) for name, status in ends}
-    missing = sorted(set(cases()) - set(runs))
+    missing = sorted(set(wanted) - set(runs))
     if missing:
         raise Wrong(f"no run of {missing[0]}:\n{err}")
     return runs

@@ -93,12 +93,12 @@ class Tests(unittest.TestCase):
 
     def test_what_is_written_is_read(self):
         found = runs()
-        self.assertEqual(read(*written(found)), found)
+        self.assertEqual(read(*written(found), found), found)
         out, err = written(found)
-        stopped = read(out, err.replace(f"case={CUT} run=ended status=3", f"case={CUT} run=fault"))
+        stopped = read(out, err.replace(f"case={CUT} run=ended status=3", f"case={CUT} run=fault"), [CUT])
         self.assertEqual(stopped[CUT], Run(None, found[CUT].text))
         with self.assertRaisesRegex(Wrong, "no run of known-000:\nno such crate"):
-            read("", "no such crate")
+            read("", "no such crate", found)
 
     def test_the_refused_growth_is_moved_until_it_fits(self):
         said = io.StringIO()

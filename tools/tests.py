@@ -1,0 +1,45 @@
+#!/usr/bin/env python3
+"""Runs the tests of the scripts, and the scripts that test the program or the documents, side by side.
+
+Each says what it said when it is done. The last line is 'N passed, M failed', and the status is 0 where M is 0.
+"""
+import os
+import subprocess
+import sys
+import time
+from concurrent.futures import ThreadPoolExecutor, as_completed
+from pathlib import Path
+
+TOP = Path(__file__).resolve().parent.parent
+COMMANDS = [  # those that take longest first
+    ["tools/refused_memory.py"],
+    ["tools/test_wrong_bodies.py"],
+    ["tools/test_reading_cases.py"],
+    ["tools/test_grants_cases.py"],
+    ["tools/test_refused_memory.py"],
+    ["tools/test_refusals.py"],
+    ["tools/test_tests.py"],
+    ["tools/refusals.py", "--check"],
+]
+
+
+def ran(words, top=TOP):
+    """Runs a script, and returns its status, and what it said with the seconds that it took."""
+    began = time.monotonic()
+    done = subprocess.run([sys.executable, *words], cwd=top, stdin=subprocess.DEVNULL, stdout=subprocess.PIPE, stderr=subprocess.STDOUT, errors="replace")
+    return done.returncode, f"== {' '.join(words)}: {time.monotonic() - began:.0f} s, status {done.returncode}\n{done.stdout}"
+
+
+def main(commands, top=TOP):
+    failed = 0
+    with ThreadPoolExecutor(len(os.sched_getaffinity(0))) as lanes:
+        for it in as_completed([lanes.submit(ran, words, top) for words in commands]):
+            status, said = it.result()
+            failed += status != 0
+            print(said.rstrip("\n"), flush=True)
+    print(f"{len(commands) - failed} passed, {failed} failed")
+    return 1 if failed else 0
+
+
+if __name__ == "__main__":
+    sys.exit(main(COMMANDS))
