@@ -12,12 +12,15 @@ const PLACES: usize = 16;
 /// The first physical address behind memory. Devices lie behind it.
 const MEMORY_END: u32 = 0x80_0000;
 
+/// The first page of the upper half of the addresses, of which no page is remembered.
+const UPPER_HALF: u32 = 0x8_0000;
+
 /// The tag of a window that remembers nothing: no page of an address space has it.
-const NO_TAG: u64 = 0x100_0000_0000;
+const NO_TAG: u64 = 0x4000_0000_0000;
 
 /// Sixteen windows, each of which remembers a page of an address space and the first physical
-/// address of its frame, which lies in memory. A page has the window at the place of its number
-/// modulo 16, and is known there by a tag.
+/// address of its frame, which lies in memory. The page is one of the lower half of the addresses.
+/// It has the window at the place of its number modulo 16, and is known there by a tag.
 #[derive(Debug, Drop)]
 pub(crate) struct Windows {
     pub tags: [u64; PLACES],
@@ -51,14 +54,15 @@ impl Windows {
         }
     }
 
-    /// Remembers the frame of a page where it lies in memory, in place of what its window had.
+    /// Remembers the frame of a page of the lower half of the addresses where it lies in memory, in
+    /// place of what its window had.
     pub fn remember(&mut self, vpn: u32, asid: u8, base: u32)
         ensures { (store : Bool) → (entries : List Entry)
             → base_of entries store vpn asid ≡ Some base
             → AreRight self.old.tags self.old.bases store entries
             → AreRight self.new.tags self.new.bases store entries }
     {
-        if base <= MEMORY_END - PAGE_SIZE as u32 {
+        if vpn < UPPER_HALF && base <= MEMORY_END - PAGE_SIZE as u32 {
             let place = place_of(vpn);
             self.tags[place] = tag_of(vpn, asid);
             self.bases[place] = base;
@@ -70,8 +74,12 @@ impl Windows {
     pub fn forget(&mut self, page: u32, other: u32)
         ensures { Forgets page other self.old.tags self.old.bases self.new.tags self.new.bases }
     {
-        self.tags[place_of(page)] = NO_TAG;
-        self.tags[place_of(other)] = NO_TAG;
+        if page < UPPER_HALF {
+            self.tags[place_of(page)] = NO_TAG;
+        }
+        if other < UPPER_HALF {
+            self.tags[place_of(other)] = NO_TAG;
+        }
     }
 }
 
@@ -83,10 +91,11 @@ fn place_of(vpn: u32) -> usize
     vpn as usize % PLACES
 }
 
-/// What a page of an address space is known by.
+/// What a page of an address space is known by. The address space has the bits that it has in
+/// EntryHi, so that it need not be shifted.
 #[inline(always)]
 fn tag_of(vpn: u32, asid: u8) -> u64
     ensures { result ≡ tag_of vpn asid }
 {
-    u64::from(vpn) * 256 + u64::from(asid)
+    u64::from(vpn) * 0x4000 + u64::from(asid) * 64
 }
