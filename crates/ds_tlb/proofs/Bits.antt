@@ -30,7 +30,7 @@ read_set_same [] i y inside = absurd (omega arith)
 read_set_same (x ∷ xs) zero y inside = refl
 read_set_same (x ∷ xs) (suc i) y inside = read_set_same xs i y (omega arith)
 
-read_set_other : {X : Type 0} → (xs : List X) (i j : ℕ) (y : X) → j ≢ i → slice_get (set xs i y) j ≡ slice_get xs j
+pub read_set_other : {X : Type 0} → (xs : List X) (i j : ℕ) (y : X) → j ≢ i → slice_get (set xs i y) j ≡ slice_get xs j
 read_set_other [] i j y other = refl
 read_set_other (x ∷ xs) zero zero y other = absurd (other refl)
 read_set_other (x ∷ xs) zero (suc j) y other = refl

@@ -1,3 +1,4 @@
 pub mod Matches
 pub mod Bits
 pub mod Lookups
+pub mod Frames

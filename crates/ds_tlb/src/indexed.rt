@@ -1,15 +1,15 @@
 //! A buffer that is searched by an index from virtual pages to slots.
-ghost use Rattle.std.specs.Prelude.{◌≡◌, ◌+◌, ◌<◌, ◌≤◌, ◌%◌, ◌^◌, length, Some, IfSome, true, false};
-ghost use Rattle.std.proofs.Props.{props};
+ghost use Rattle.std.specs.Prelude.{◌≡◌, ◌+◌, ◌<◌, ◌≤◌, ◌%◌, length, IfSome, true, false};
 ghost use Rattle.std.proofs.Math.Nat.{le-add_right};
 ghost use Rattle.ds_isa.specs.Access.{is_store};
 ghost use Rattle.ds_tlb.specs.Frames.{base_of};
 ghost use Rattle.ds_tlb.specs.Entries.{find, empty_entries};
 ghost use Rattle.ds_tlb.specs.Buckets.{bucket_of, IsBucketOf, IsIndexOf};
+ghost use Rattle.ds_tlb.specs.Windows.{AreRight};
 
 use crate::entry::{Entry, empty_entries};
 use crate::lookaside::{BadRandom, Lookaside, index_word_of};
-use crate::window::Window;
+use crate::windows::Windows;
 use ds_isa::Kind;
 
 /// The number of buckets, which the low six bits of a virtual page number tell apart, and whether
@@ -24,21 +24,18 @@ pub struct Indexed<const N: usize, const WIRED: usize> {
     buckets: [u64; BUCKETS],
     // How far Random is above the first slot that isn't wired.
     above: usize,
-    // The last page for each kind of access that a search found. Each write drops all three.
-    code: Window,
-    loads: Window,
-    stores: Window,
+    // Pages that a search found, for each kind of access. A write forgets those of its entries.
+    code: Windows,
+    loads: Windows,
+    stores: Windows,
     ghost size: { length entries ≡ N },
     ghost high: { WIRED + above < N },
     ghost some_wired: { 1 ≤ WIRED },
     ghost few: { N ≤ 64 },
     ghost indexed: { IsIndexOf buckets entries },
-    ghost code_right: { code.vpn < 2 ^ 32 → base_of entries false code.vpn code.asid
-        ≡ Some code.base } by { Prim.hlevel props },
-    ghost loads_right: { loads.vpn < 2 ^ 32 → base_of entries false loads.vpn loads.asid
-        ≡ Some loads.base } by { Prim.hlevel props },
-    ghost stores_right: { stores.vpn < 2 ^ 32 → base_of entries true stores.vpn stores.asid
-        ≡ Some stores.base } by { Prim.hlevel props },
+    ghost code_right: { AreRight code.tags code.bases false entries },
+    ghost loads_right: { AreRight loads.tags loads.bases false entries },
+    ghost stores_right: { AreRight stores.tags stores.bases true entries },
 }
 
 impl<const N: usize, const WIRED: usize> Lookaside for Indexed<N, WIRED> {
@@ -73,9 +70,9 @@ impl<const N: usize, const WIRED: usize> Lookaside for Indexed<N, WIRED> {
             entries: empty_entries(),
             buckets: empty_buckets(N),
             above: start - WIRED,
-            code: Window::none(),
-            loads: Window::none(),
-            stores: Window::none(),
+            code: Windows::none(),
+            loads: Windows::none(),
+            stores: Windows::none(),
         })
     }
 
@@ -91,12 +88,13 @@ impl<const N: usize, const WIRED: usize> Lookaside for Indexed<N, WIRED> {
 
     #[inline(always)]
     fn write(&mut self, slot: usize, entry: Entry) {
-        self.buckets[bucket_of(self.entries[slot].vpn)] &= !(1 << slot);
+        let page = self.entries[slot].vpn;
+        self.buckets[bucket_of(page)] &= !(1 << slot);
         self.buckets[bucket_of(entry.vpn)] |= 1 << slot;
+        self.code.forget(page, entry.vpn);
+        self.loads.forget(page, entry.vpn);
+        self.stores.forget(page, entry.vpn);
         self.entries[slot] = entry;
-        self.code = Window::none();
-        self.loads = Window::none();
-        self.stores = Window::none();
     }
 
     fn write_random(&mut self, entry: Entry) -> usize {
@@ -134,8 +132,10 @@ impl<const N: usize, const WIRED: usize> Lookaside for Indexed<N, WIRED> {
 
     fn base(&mut self, kind: Kind, vpn: u32, asid: u8) -> Option<u32> {
         let base = self.searched(kind, vpn, asid)?;
-        if let Some(window) = Window::of(vpn, asid, base) {
-            self.remember(kind, window);
+        match kind {
+            Kind::Fetch => self.code.remember(vpn, asid, base),
+            Kind::Load => self.loads.remember(vpn, asid, base),
+            Kind::Store => self.stores.remember(vpn, asid, base),
         }
         Some(base)
     }
@@ -150,20 +150,6 @@ impl<const N: usize, const WIRED: usize> Indexed<N, WIRED> {
         match first_match(&self.entries, self.buckets[bucket_of(vpn)], vpn, asid) {
             Some(slot) => self.entries[slot].base_for(kind),
             None => None,
-        }
-    }
-
-    /// Remembers what was found, in place of what was remembered for the kind.
-    fn remember(&mut self, kind: Kind, window: Window)
-        requires { base_of self.now.entries (is_store kind) window.vpn window.asid
-            ≡ Some window.base }
-        ensures entries { self.new.entries ≡ self.old.entries }
-        ensures random { self.new.above ≡ self.old.above }
-    {
-        match kind {
-            Kind::Fetch => self.code = window,
-            Kind::Load => self.loads = window,
-            Kind::Store => self.stores = window,
         }
     }
 }

@@ -6,7 +6,7 @@ mod entry;
 mod indexed;
 mod lookaside;
 mod tlb;
-mod window;
+mod windows;
 
 pub use entry::Entry;
 pub use indexed::Indexed;
