@@ -23,6 +23,7 @@ PROGRAM = Path(__file__).resolve().parent.parent / "crates" / "dsmon"
 GROWTH = 168
 STEP = 6  # so far it is moved where it does not fit
 MOST_BUILDS = 4
+MOST_LANES = 2  # so many share the cases, and each builds the program
 LENGTHS = [0] + [3 << (k + 7) for k in range(1, 15)]  # of the comments, each one growth more than the one before
 BYTES = 257  # one more than a console makes room for at once
 TICKS = 2 * BYTES + 6  # of the whole run, which is denied at time 515
@@ -78,8 +79,8 @@ def command(growth, folder):
 
 
 def tried(growth):
-    """The runs of all cases by their names, with this growth refused in each. The processors share them out, and each builds the program."""
-    found, lanes = list(cases().items()), len(os.sched_getaffinity(0))
+    """The runs of all cases by their names, with this growth refused in each. Lanes share them out."""
+    found, lanes = list(cases().items()), min(len(os.sched_getaffinity(0)), MOST_LANES)
     with ThreadPoolExecutor(lanes) as pool:
         parts = pool.map(lambda lane: tried_of(growth, dict(found[lane::lanes])), range(lanes))
         return {name: run for part in parts for name, run in part.items()}
