@@ -1,3 +1,4 @@
+pub mod Keyed
 pub mod WrittenForms
 pub mod Pages
 pub mod SourceLines

@@ -2,6 +2,7 @@ pub mod Characters
 pub mod Numbers
 pub mod RegisterNames
 pub mod Forms
+pub mod Keys
 pub mod Operands
 pub mod Lines
 pub mod Plain

@@ -1,5 +1,5 @@
 //! The reading of an input, line by line.
-ghost use Rattle.std.specs.Prelude.{◌≡◌, ◌≤◌, ◌<◌, ◌==◌, length, IfOk, OnOk, OnErr, if◌then◌else◌, true, Some, None};
+ghost use Rattle.std.specs.Prelude.{◌≡◌, ◌≤◌, ◌<◌, ◌==◌, length, IfOk, OnOk, OnErr, if◌then◌else◌, true, false, Some, None};
 ghost use Rattle.ds_policy.specs.InputText.{with_event, follows, is_skipped, with_line};
 
 use crate::events::event::{Event, TimedEvent};
@@ -10,7 +10,7 @@ use std::alloc::{AllocError, Global};
 
 impl EventList {
     /// Adds what a line says, and answers whether it is a good one.
-    #[tactic(auto, unfolding(crate::specs::InputText::with_line), using(crate::proofs::InputWords::eight_words_tell))]
+    #[tactic(auto, unfolding(crate::specs::InputText::with_line))]
     pub(crate) fn add_line(
         &mut self,
         alloc: Global,
@@ -22,8 +22,27 @@ impl EventList {
             ≡ (if good then Some self.new else None)) }
     {
         if is_skipped(line) {
-            return Ok(true);
+            Ok(true)
+        } else {
+            self.add_said(alloc, pages, line)
         }
+    }
+
+    /// Adds what the words of a line say, and answers whether they are good. It is called apart, so
+    /// that a line that is skipped takes no room for an event.
+    #[inline(never)]
+    #[tactic(auto, unfolding(crate::specs::InputText::with_line), using(crate::proofs::InputWords::eight_words_tell))]
+    fn add_said(
+        &mut self,
+        alloc: Global,
+        pages: &NamedPages<'_>,
+        line: &[u8],
+    ) -> Result<bool, AllocError>
+        requires few { length pages.now ≤ 1024 }
+        requires said { is_skipped line.now ≡ false }
+        ensures { IfOk result (λ good. with_line pages.now self.old line.now
+            ≡ (if good then Some self.new else None)) }
+    {
         let words = words_of(alloc, line)?;
         match timed_event_of(pages, &words) {
             Some(event) => {
