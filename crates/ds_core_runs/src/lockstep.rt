@@ -1,8 +1,9 @@
 //! One machine by single steps, and one ahead.
-ghost use Rattle.std.specs.Prelude.{◌≡◌};
+ghost use Rattle.std.specs.Prelude.{◌≡◌, ◌+◌, ◌≤◌};
 
 use crate::machine::Machine;
-use ds_core::{Core, Event};
+use crate::random::Reached;
+use ds_core::Core;
 use ds_dev::Bus;
 use ds_tlb::Lookaside;
 
@@ -12,17 +13,18 @@ const FRAMES: u32 = 5;
 /// The longest stretch.
 const LONGEST: u32 = 200;
 
-/// Goes ahead with each limit from 0 to 200 in turn, and as many single steps beside. Answers whether
-/// the two are in one state behind each.
+/// Goes ahead with each limit from 0 to 200 in turn, and as many single steps beside. Answers
+/// whether the two are in one state behind each.
 pub fn go_alike<A: Lookaside, B: Lookaside>(plain: &mut Machine<A>, ahead: &mut Machine<B>) -> bool
     requires slots { A.SLOTS ≡ 64 }
     requires wired { A.WIRED ≡ 8 }
     requires ahead_slots { B.SLOTS ≡ 64 }
     requires ahead_wired { B.WIRED ≡ 8 }
 {
+    let mut reached = Reached::new();
     let mut alike = true;
     for limit in 0..LONGEST + 1 {
-        alike = alike && go_alike_for(plain, ahead, limit);
+        alike = alike && go_alike_for(plain, ahead, limit, &mut reached);
     }
     alike
 }
@@ -32,43 +34,39 @@ fn go_alike_for<A: Lookaside, B: Lookaside>(
     plain: &mut Machine<A>,
     ahead: &mut Machine<B>,
     limit: u32,
+    reached: &mut Reached,
 ) -> bool
     requires slots { A.SLOTS ≡ 64 }
     requires wired { A.WIRED ≡ 8 }
     requires ahead_slots { B.SLOTS ≡ 64 }
     requires ahead_wired { B.WIRED ≡ 8 }
 {
+    let walked = plain.walk(limit, reached);
     let went = ahead.core.run_ahead(&mut ahead.bus, limit);
-    let mut alike = true;
-    for _ in 0..went.steps {
-        let event = plain.core.step(&mut plain.bus);
-        alike = alike && !matches!(event, Event::Raised(_));
-    }
+    let alike = went == walked && are_alike(plain, ahead);
     if let Some(code) = went.raised {
-        alike = alike && plain.core.step(&mut plain.bus) == Event::Raised(code);
-        alike = alike && are_alike(plain, ahead);
         plain.serve(code);
         ahead.serve(code);
     }
-    alike && are_alike(plain, ahead)
+    alike && are_frames_alike(&mut plain.bus, &mut ahead.bus, 0, FRAMES)
 }
 
-/// Whether two machines are in one state.
-fn are_alike<A: Lookaside, B: Lookaside>(a: &mut Machine<A>, b: &mut Machine<B>) -> bool
+/// Whether two machines are in one state, but for their memories.
+pub fn are_alike<A: Lookaside, B: Lookaside>(a: &Machine<A>, b: &Machine<B>) -> bool
     requires slots { A.SLOTS ≡ 64 }
     requires ahead_slots { B.SLOTS ≡ 64 }
 {
-    let devices = a.bus.lines() == b.bus.lines();
-    devices
-        && are_frames_alike(&mut a.bus, &mut b.bus)
+    a.bus.lines() == b.bus.lines()
         && are_cores_alike(&a.core, &b.core)
         && are_buffers_alike(&a.core.tlb, &b.core.tlb)
 }
 
-/// Whether the frames of two memories are the same.
-fn are_frames_alike(a: &mut Bus, b: &mut Bus) -> bool {
+/// Whether so many frames of two memories, from the first on, are the same.
+pub fn are_frames_alike(a: &mut Bus, b: &mut Bus, first: u32, count: u32) -> bool
+    requires { first + count ≤ 2048 }
+{
     let mut alike = true;
-    for f in 0..FRAMES {
+    for f in first..first + count {
         alike = alike && a.memory().frame(f) == b.memory().frame(f);
     }
     alike
