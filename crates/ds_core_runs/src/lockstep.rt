@@ -13,8 +13,8 @@ const FRAMES: u32 = 5;
 /// The longest stretch.
 const LONGEST: u32 = 200;
 
-/// Goes ahead with each limit from 0 to 200 in turn, and as many single steps beside. Answers whether
-/// the two are in one state behind each.
+/// Goes ahead with each limit from 0 to 200 in turn, and as many single steps beside. Answers
+/// whether the two are in one state behind each.
 pub fn go_alike<A: Lookaside, B: Lookaside>(plain: &mut Machine<A>, ahead: &mut Machine<B>) -> bool
     requires slots { A.SLOTS ≡ 64 }
     requires wired { A.WIRED ≡ 8 }

@@ -55,7 +55,8 @@ fn run_one<R: Files + Print>(rt: &R, alloc: Global, name: &str, count: u32) -> i
     Ok(true)
 }
 
-/// Goes through each program of data/ both ways, over either buffer. Answers whether all went alike.
+/// Goes through each program of data/ both ways, over either buffer. Answers whether all went
+/// alike.
 fn run_sources<R: Files + Print>(rt: &R, alloc: Global) -> io::Result<bool> {
     let mut all = true;
     for name in PROGRAMS {

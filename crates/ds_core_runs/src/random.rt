@@ -17,8 +17,8 @@ use std::io;
 /// The steps of a program.
 const STEPS: u32 = 1000;
 
-/// Goes through so many programs, each over either buffer in turn, and tells what they reached. Answers whether
-/// all went alike.
+/// Goes through so many programs, each over either buffer in turn, and tells what they reached.
+/// Answers whether all went alike.
 pub fn run_random<R: Print>(rt: &R, alloc: Global, programs: u32) -> io::Result<bool> {
     let mut over_indexed: Pair<Tlb<64, 8>, Indexed<64, 8>> = Pair::new(alloc)?;
     let mut over_tlb: Pair<Indexed<64, 8>, Tlb<64, 8>> = Pair::new(alloc)?;
@@ -52,7 +52,7 @@ fn tell<R: Print>(rt: &R, reached: &Reached) -> io::Result<()> {
         late,
         ..
     } = reached;
-    println!(rt; "{steps} steps: {user} to user mode, {branches} branches, {late} late loads")?;
+    println!(rt; "{steps} steps: {user} in user mode, {branches} branches, {late} late loads")?;
     for code in EXCEPTIONS {
         let count = reached.exceptions[code.number() as usize % 16];
         println!(rt; "{count} of {code:?}")?;

@@ -42,8 +42,8 @@ impl<A: Lookaside, B: Lookaside> Pair<A, B> {
         })
     }
 
-    /// Goes through the program of a number. Answers where the two were found to differ, if they were:
-    /// behind so many steps.
+    /// Goes through the program of a number. Answers where the two were found to differ, if they
+    /// were: behind so many steps.
     pub fn differ(&mut self, number: u32, reached: &mut Reached) -> io::Result<Option<u32>>
         requires slots { A.SLOTS ≡ 64 }
         requires wired { A.WIRED ≡ 8 }

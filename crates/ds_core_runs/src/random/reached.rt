@@ -25,7 +25,7 @@ pub const EXCEPTIONS: [ExceptionCode; 13] = [
 #[derive(Drop)]
 pub struct Reached {
     pub steps: u32,
-    /// Those that ended in user mode.
+    /// Those behind which the processor was in user mode.
     pub user: u32,
     pub branches: u32,
     /// Those behind which a load was late.

@@ -126,7 +126,8 @@ fn value(dice: &mut Dice) -> u32 {
     }
 }
 
-/// An address of data: as a rule in the program's pages, else past the mapping, at a device, or anywhere.
+/// An address of data: as a rule in the program's pages, else past the mapping, at a device, or
+/// anywhere.
 fn data_address(dice: &mut Dice) -> u32 {
     let offset = dice.word() % (PAGES * 1024) * 4;
     match dice.below(32) {

@@ -106,8 +106,8 @@ impl Row {
     }
 }
 
-/// The immediate of a short branch: up to 15 words forward from its slot on, or once in 8 times up to 8
-/// words backward.
+/// The immediate of a short branch: up to 15 words forward from its slot on, or once in 8 times up
+/// to 8 words backward.
 fn way(random: u32) -> u32 {
     let forward = random % 16;
     if random >> 29 == 0 {
@@ -126,8 +126,8 @@ fn distance(random: u32) -> u32 {
     }
 }
 
-/// A random word of code: an instruction with operands that let its program go on, but now and then one
-/// with any operands, or any word at all. Of 64 words `system` are for the system coprocessor.
+/// A random word of code: an instruction with operands that let its program go on, but now and then
+/// one with any operands, or any word at all. Of 64 words `system` are for the system coprocessor.
 pub fn random_word(dice: &mut Dice, system: u32) -> u32 {
     let row = random_row(dice, system);
     let random = dice.word();
