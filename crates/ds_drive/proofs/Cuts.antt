@@ -12,15 +12,15 @@ use Rattle.ds_station.specs.declared.fault.Fault.TheVariants as fault
 use Rattle.ds_station.proofs.Headlines.{keeps_same}
 use Rattle.ds_drive.specs.declared.failure.Failure.{Failure}
 use Rattle.ds_drive.specs.declared.failure.Failure.TheVariants as failure
-use Rattle.ds_drive.specs.declared.words.CheckRequest.{CheckRequest}
-use Rattle.ds_drive.specs.declared.words.ListRequest.{ListRequest}
-use Rattle.ds_drive.specs.declared.words.Request.{Request}
+use Rattle.ds_words.specs.declared.words.CheckRequest.{CheckRequest}
+use Rattle.ds_words.specs.declared.words.ListRequest.{ListRequest}
+use Rattle.ds_words.specs.declared.words.Request.{Request}
 use Rattle.ds_drive.specs.Demo.{demo_inputs}
 use Rattle.ds_drive.specs.Done.{IsCutShort}
 use Rattle.ds_drive.specs.Failures.{CutsFiles, IsUnread, StopsBy}
 use Rattle.ds_drive.specs.Checked.{CutsExplanation}
 use Rattle.ds_drive.specs.Listed.{FailsBy}
-use Rattle.ds_drive.specs.Words.{AsksForDemo, AsksForRun, AsksForList, AsksForCheck}
+use Rattle.ds_words.specs.Words.{AsksForDemo, AsksForRun, AsksForList, AsksForCheck}
 
 -- a whole text is a front of it
 part_of_prefix : (old new : Option (List ℕ)) (n : ℕ) (first : State) → WritesPrefix old new n first → WritesPart old new n first

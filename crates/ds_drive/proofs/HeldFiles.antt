@@ -13,7 +13,7 @@ use Rattle.std.specs.Prelude.{Option, Some, None}
 use Rattle.std.specs.Borrow.{Bor}
 use Rattle.ds_station.specs.Headline.{Begins}
 use Rattle.ds_drive.specs.Checked.{IsInput}
-use Rattle.ds_drive.specs.declared.words.Request.{Request}
+use Rattle.ds_words.specs.declared.words.Request.{Request}
 use Rattle.ds_drive.specs.declared.run.SourceText.{SourceText}
 use Rattle.ds_drive.specs.Failures.{AreHeld}
 

@@ -1,5 +1,3 @@
 pub mod Cuts
 pub mod HeldFiles
-pub mod Requests
-pub mod WordLemmas
 pub mod Tellings

@@ -10,7 +10,7 @@ use Rattle.ds_log.specs.Sent.{AppendsPart}
 use Rattle.ds_pagemap.specs.Machine.{State}
 use Rattle.ds_pagemap.specs.Inputs.{Sources, inputs}
 use Rattle.ds_check.specs.Explained.{explained}
-use Rattle.ds_drive.specs.declared.words.CheckRequest.{CheckRequest}
+use Rattle.ds_words.specs.declared.words.CheckRequest.{CheckRequest}
 
 -- the input is what its file holds, or nothing where none is named
 abbrev pub IsInput : (List ℕ → List ℕ → Type 0) → Option (Bor (List ℕ)) → List ℕ → Type 0

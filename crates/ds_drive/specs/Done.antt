@@ -3,14 +3,14 @@ use Rattle.std.specs.Prelude.{◌⊎◌, ℕ, List, Option}
 use Rattle.std.specs.Io.KnownBytes.{Keeps}
 use Rattle.clap.specs.Words.{Text}
 use Rattle.ds_station.specs.Headline.{Begins, Writes, WritesPart}
-use Rattle.ds_drive.specs.declared.words.CheckRequest.{CheckRequest}
-use Rattle.ds_drive.specs.declared.words.ListRequest.{ListRequest}
-use Rattle.ds_drive.specs.declared.words.Request.{Request}
+use Rattle.ds_words.specs.declared.words.CheckRequest.{CheckRequest}
+use Rattle.ds_words.specs.declared.words.ListRequest.{ListRequest}
+use Rattle.ds_words.specs.declared.words.Request.{Request}
 use Rattle.ds_drive.specs.Demo.{demo_inputs}
 use Rattle.ds_drive.specs.Failures.{RunsFiles, CutsFiles}
 use Rattle.ds_drive.specs.Checked.{Explains, CutsExplanation}
 use Rattle.ds_drive.specs.Listed.{ListsFile, CutsListing}
-use Rattle.ds_drive.specs.Words.{AsksForDemo, AsksForRun, AsksForList, AsksForCheck}
+use Rattle.ds_words.specs.Words.{AsksForDemo, AsksForRun, AsksForList, AsksForCheck}
 
 -- the words ask for the demonstration, for a run of files, for a listing or for a check
 abbrev pub AsksForSomething : List Text → Type 0

@@ -10,7 +10,7 @@ use Rattle.ds_station.specs.Faults.{number_of}
 use Rattle.ds_station.specs.Headline.{Begins, Writes, WritesPart, EndsBy}
 use Rattle.ds_station.specs.declared.fault.Fault.{Fault}
 use Rattle.ds_station.specs.declared.fault.Fault.TheVariants.{Memory}
-use Rattle.ds_drive.specs.declared.words.Request.{Request}
+use Rattle.ds_words.specs.declared.words.Request.{Request}
 use Rattle.ds_drive.specs.declared.failure.Failure.{Failure}
 use Rattle.ds_drive.specs.declared.failure.Failure.TheVariants as failure
 

@@ -5,5 +5,4 @@ pub mod Done
 pub mod Failures
 pub mod Statuses
 pub mod Told
-pub mod Words
 pub mod Worked

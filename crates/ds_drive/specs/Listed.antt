@@ -11,7 +11,7 @@ use Rattle.ds_drive.specs.declared.failure.Failure.{Failure}
 use Rattle.ds_drive.specs.declared.failure.Failure.TheVariants as failure
 use Rattle.ds_drive.specs.declared.list.Listing.{Listing}
 use Rattle.ds_drive.specs.declared.list.Listing.TheVariants as listing
-use Rattle.ds_drive.specs.declared.words.ListRequest.{ListRequest}
+use Rattle.ds_words.specs.declared.words.ListRequest.{ListRequest}
 
 -- the source of a file's bytes; or the listing of a source, or its first fault
 abbrev pub listed : Bool → List ℕ → Result (List ℕ) SourceFault

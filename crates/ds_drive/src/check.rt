@@ -9,11 +9,11 @@ use crate::failure::Failure;
 use crate::files::Files;
 use crate::refused::Refused;
 use crate::run::{lent, named_file, source_texts};
-use crate::words::CheckRequest;
 use ds_check::explain;
 use ds_log::send;
 use ds_policy::{Events, Policy};
 use ds_station::{Fault, run_policy};
+use ds_words::CheckRequest;
 use std::alloc::Global;
 use std::io::{Write, sink};
 

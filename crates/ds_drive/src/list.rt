@@ -10,11 +10,11 @@ use crate::faults::{Wording, tell_lines};
 use crate::files::Files;
 use crate::run::named_file;
 use crate::status::INPUT_REFUSED;
-use crate::words::ListRequest;
 use ds_asm::{AsmFault, SourceFault, all_faults};
 use ds_listing::{listing, source_of_bytes};
 use ds_log::send;
 use ds_station::Fault;
+use ds_words::ListRequest;
 use std::alloc::Global;
 use std::io::Write;
 

@@ -4,7 +4,7 @@ ghost use Rattle.std.specs.Io.KnownBytes.{Keeps};
 ghost use Rattle.ds_drive.specs.Done.{AsksForSomething, IsCutShort, IsDone};
 ghost use Rattle.ds_drive.specs.Failures.{failure_number};
 ghost use Rattle.ds_drive.specs.Statuses.{fault_status};
-ghost use Rattle.ds_drive.specs.Words.{AsksForDemo};
+ghost use Rattle.ds_words.specs.Words.{AsksForDemo};
 
 use crate::check::check_files;
 use crate::demo::run_demo;
@@ -14,15 +14,15 @@ use crate::list::{Listing, list_file, tell_faults};
 use crate::refused::tell_refused;
 use crate::run::run_request;
 use crate::status::{DONE, WORDS_REFUSED, status_of};
-use crate::words::{Wish, wish_of};
 use ds_station::Fault;
+use ds_words::{Wish, wish_of};
 use std::alloc::Global;
 use std::io::{ErrorKind, Write};
 
 /// Does what the words ask for, the program's own name first, and answers the status: 0 done; 1 the
 /// words were refused for another cause than memory, or ask for help; 2 refused input; 3 a fault of
 /// the run. What was refused is told on `err`; that a write there fails changes no status.
-#[tactic(auto, using(crate::proofs::WordLemmas::alone, crate::proofs::Cuts::nothing_written, crate::proofs::Cuts::demo_cut, crate::proofs::Cuts::run_cut, crate::proofs::Cuts::list_cut, crate::proofs::Cuts::check_cut))]
+#[tactic(auto, using(ds_words::proofs::WordLemmas::alone, crate::proofs::Cuts::nothing_written, crate::proofs::Cuts::demo_cut, crate::proofs::Cuts::run_cut, crate::proofs::Cuts::list_cut, crate::proofs::Cuts::check_cut))]
 pub fn drive<F: Files, W: Write, E: Write>(
     alloc: Global,
     words: &[String],

@@ -5,9 +5,9 @@ ghost use Rattle.ds_drive.specs.Failures.{IsUnread, RunsFiles, StopsBy};
 
 use crate::failure::Failure;
 use crate::files::{FileFault, Files};
-use crate::words::Request;
 use ds_policy::{Policy, Text};
 use ds_station::{Fault, run_policy};
+use ds_words::Request;
 use std::alloc::{AllocError, Global};
 use std::io::Write;
 

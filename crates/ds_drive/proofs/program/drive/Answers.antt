@@ -1,6 +1,6 @@
 use Rattle.std.proofs.Common.{rules}
 use Rattle.ds_drive.proofs.Cuts.{demo_cut, run_cut}
-use Rattle.ds_drive.proofs.WordLemmas.{alone, fails_for_memory}
+use Rattle.ds_words.proofs.WordLemmas.{alone, fails_for_memory}
 use Rattle.ds_drive.proofs.program.drive.Goals as goal
 
 pub returns-in-Err-run_demo-clause-cut : goal.returns-in-Err-run_demo-clause-cut

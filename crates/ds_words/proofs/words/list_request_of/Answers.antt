@@ -1,8 +1,8 @@
 use Rattle.std.proofs.Common.{◌∙◌}
 use Rattle.clap.specs.Words.{found_of}
 use Rattle.clap.proofs.WalkLemmas.{one_text-rows}
-use Rattle.ds_drive.proofs.Requests.{word_found}
-use Rattle.ds_drive.proofs.words.list_request_of.Goals as goal
+use Rattle.ds_words.proofs.Requests.{word_found}
+use Rattle.ds_words.proofs.words.list_request_of.Goals as goal
 
 pub returns : goal.returns
 returns c =

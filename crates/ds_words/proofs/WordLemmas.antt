@@ -4,7 +4,7 @@ use Rattle.clap.specs.Words.{HasKind, IsAmong, Text, fault_of, kind_of}
 use Rattle.clap.specs.declared.error.Error.{Error}
 use Rattle.clap.specs.declared.error.kind.ErrorKind.TheVariants.{OutOfMemory}
 use Rattle.clap.proofs.OnLiterals.{clap_on_literals}
-use Rattle.ds_drive.specs.Words.{AsksForDemo, dsmon_app}
+use Rattle.ds_words.specs.Words.{AsksForDemo, dsmon_app}
 
 -- the one word `demo` asks for the demonstration, whatever the program's own name is
 pub alone : (program : Text) (words : List Text) → words ≡ program ∷ codes "demo" ∷ []

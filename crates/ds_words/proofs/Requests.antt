@@ -6,7 +6,7 @@ use Rattle.clap.specs.Words.{Text, first_of, first_value, one_of, one_text, rows
 use Rattle.std.proofs.lemmas.Bool.{true≢false}
 use Rattle.clap.proofs.WalkLemmas.{first_value-rows, one_text-rows}
 use Rattle.clap.specs.declared.parser.matches.Found.{Found}
-use Rattle.ds_drive.specs.Words.{IsNumber}
+use Rattle.ds_words.specs.Words.{IsNumber}
 
 -- a word that was found is that of the rows
 pub word_found : (f : Found) (id : Text) (r : Option (Bor (List ℕ))) (word : Bor (List ℕ)) → option_map (λ s. s.now) r ≡ first_value f id → r ≡ Some word → first_of id (rows_of f) ≡ Some word.now

@@ -1,7 +1,7 @@
 use Rattle.std.specs.Str.Parse.{ParsesUnsigned, ExplainsUnsignedError, HasUnsignedDigitsIfOk}
 use Rattle.clap.specs.Words.{found_of}
-use Rattle.ds_drive.proofs.Requests.{word_found, number_found}
-use Rattle.ds_drive.proofs.words.request_of.Goals as goal
+use Rattle.ds_words.proofs.Requests.{word_found, number_found}
+use Rattle.ds_words.proofs.words.request_of.Goals as goal
 
 pub returns : goal.returns
 returns c =

@@ -1,8 +1,8 @@
 //! What the program's words ask for.
 ghost use Rattle.std.specs.Prelude.{◌≡◌, ◌↔◌, IfOk, IfSome, Some, codes, false, map, string_bytes};
-ghost use Rattle.clap.specs.Words.{FailsBy, app_of, fault_of, found_of, new_app, new_rule, rows_of, rule_of, subcommand_name_of, subcommand_of, subcommand_rows_of};
+ghost use Rattle.clap.specs.Words.{FailsBy, app_of, fault_of, found_of, new_app, new_rule, rows_of, rule_of, subcommand_name_of, subcommand_of, subcommand_rows_of, with_rule, with_subcommand};
 ghost use Rattle.clap.specs.declared.builder.command.Command.TheViews.{out-Command as fields_of};
-ghost use Rattle.ds_drive.specs.Words.{AsksForCheck, AsksForList, AsksForRun, NamesCheck, NamesList, NamesRun, check_app, command_named, dsmon_app, files_app, list_app, random_rule, required_rule, run_app, time_rule, words_rule};
+ghost use Rattle.ds_words.specs.Words.{AsksForCheck, AsksForList, AsksForRun, NamesCheck, NamesList, NamesRun, bare_app, check_app, command_named, dsmon_app, files_app, list_app, random_rule, required_rule, run_app, time_rule, words_rule};
 
 use clap::builder::ValueParser;
 use clap::{Arg, ArgAction, ArgMatches, Command, Error};
@@ -164,8 +164,9 @@ fn run_described<'a>(alloc: Global) -> Command<'a>
         .after_help(RUN_HELP)
 }
 
-fn run_command<'a>(alloc: Global) -> Result<Command<'a>, AllocError>
-    ensures app { IfOk result (λ c. app_of c ≡ run_app) }
+fn run_of_files<'a>(alloc: Global) -> Result<Command<'a>, AllocError>
+    ensures app { IfOk result (λ c. app_of c ≡ with_rule (with_rule (new_app (codes "run"))
+        (required_rule (codes "POLICY"))) (required_rule (codes "INPUT"))) }
     ensures local { IfOk result (λ c. (fields_of c).has_globals ≡ false) }
 {
     run_described(alloc)
@@ -174,7 +175,14 @@ fn run_command<'a>(alloc: Global) -> Result<Command<'a>, AllocError>
             alloc,
             "INPUT",
             "The file of the input: commands and characters, each with its time",
-        ))?
+        ))
+}
+
+fn run_command<'a>(alloc: Global) -> Result<Command<'a>, AllocError>
+    ensures app { IfOk result (λ c. app_of c ≡ run_app) }
+    ensures local { IfOk result (λ c. (fields_of c).has_globals ≡ false) }
+{
+    run_of_files(alloc)?
         .arg(time_argument(alloc))?
         .arg(random_argument(alloc))
 }
@@ -218,27 +226,50 @@ fn list_command<'a>(alloc: Global) -> Result<Command<'a>, AllocError>
         .arg(words_argument(alloc))
 }
 
-fn files_command<'a>(alloc: Global) -> Result<Command<'a>, AllocError>
-    ensures { IfOk result (λ c. app_of c ≡ files_app) }
+fn bare_command<'a>(alloc: Global) -> Command<'a>
+    ensures { app_of result ≡ bare_app }
 {
     Command::new(alloc, "dsmon")
         .version("0.1.0")
         .about("Runs a simulated MIPS workstation under a page policy")
         .after_help(HELP)
         .subcommand_required(true)
-        .subcommand(run_command(alloc)?)?
-        .subcommand(list_command(alloc)?)
+}
+
+fn with_run<'a>(alloc: Global) -> Result<Command<'a>, AllocError>
+    ensures { IfOk result (λ c. app_of c ≡ with_subcommand bare_app run_app.top) }
+{
+    let run = run_command(alloc)?;
+    bare_command(alloc).subcommand(run)
+}
+
+fn files_command<'a>(alloc: Global) -> Result<Command<'a>, AllocError>
+    ensures { IfOk result (λ c. app_of c ≡ files_app) }
+{
+    let list = list_command(alloc)?;
+    with_run(alloc)?.subcommand(list)
+}
+
+fn with_check<'a>(alloc: Global) -> Result<Command<'a>, AllocError>
+    ensures { IfOk result (λ c. app_of c ≡ with_subcommand files_app check_app.top) }
+{
+    let check = check_command(alloc)?;
+    files_command(alloc)?.subcommand(check)
+}
+
+fn demo_command<'a>(alloc: Global) -> Command<'a>
+    ensures app { app_of result ≡ new_app (codes "demo") }
+    ensures local { (fields_of result).has_globals ≡ false }
+{
+    Command::new(alloc, "demo")
+        .about("Runs a process that writes one letter")
+        .after_help(DEMO_HELP)
 }
 
 fn command<'a>(alloc: Global) -> Result<Command<'a>, AllocError>
     ensures { IfOk result (λ c. app_of c ≡ dsmon_app) }
 {
-    let demo = Command::new(alloc, "demo")
-        .about("Runs a process that writes one letter")
-        .after_help(DEMO_HELP);
-    files_command(alloc)?
-        .subcommand(check_command(alloc)?)?
-        .subcommand(demo)
+    with_check(alloc)?.subcommand(demo_command(alloc))
 }
 
 // What clap reads in the words.

@@ -1,0 +1,6 @@
+//! What the words that the program was started with ask for.
+#![tactic(auto)]
+
+mod words;
+
+pub use words::{CheckRequest, ListRequest, Request, Wish, program_words, wish_of};
