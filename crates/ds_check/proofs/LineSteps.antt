@@ -1,9 +1,9 @@
 -- From one line of a text to another.
-use Rattle.std.proofs.Common.{◌≡◌, ◌∙◌, refl, sym, ap, ℕ, zero, suc, ◌+◌, ◌-◌, ◌≤◌, ◌<◌, ◌==◌, false, List, [], ◌∷◌, length, drop, drop-drop, ne_eqb, arith}
+use Rattle.std.proofs.Common.{◌≡◌, ◌∙◌, refl, sym, ap, ℕ, suc, ◌+◌, ◌-◌, ◌≤◌, ◌<◌, ◌==◌, false, List, [], ◌∷◌, length, drop, drop-drop, ne_eqb, arith}
 use Rattle.std.specs.List.{before_first, after_first}
 use Rattle.ds_asm.specs.Assembly.{lines_of}
 use Rattle.ds_asm.proofs.SourceLines.{lines_of-first}
-use Rattle.ds_check.specs.Lines.{first_of, line_at, StandAt}
+use Rattle.ds_check.specs.Lines.{first_of, StandAt}
 
 -- a line less is to go
 pub one_less : (n : ℕ) (text line behind : List ℕ) → lines_of text ≡ line ∷ lines_of behind → 0 < n

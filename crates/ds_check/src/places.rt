@@ -1,8 +1,8 @@
 //! Where in its text a policy is refused.
-ghost use Rattle.std.specs.Prelude.{ℕ, ◌≡◌, ◌≤◌, ◌+◌, ◌==◌, length, not, is_some, IfOk, IfSome, true, take};
+ghost use Rattle.std.specs.Prelude.{ℕ, ◌≡◌, ◌≤◌, ◌+◌, ◌==◌, ◌&&◌, ◌||◌, nat_le, length, not, is_some, IfOk, IfSome, true, take};
 ghost use Rattle.std.specs.List.{fold, prefix_len};
 ghost use Rattle.ds_policy.specs.Document.{document};
-ghost use Rattle.ds_check.specs.Places.{rule_line, begins_rule, is_blank, place_at, behind, goes_on};
+ghost use Rattle.ds_check.specs.Places.{rule_line, rules_in, begins_array, begins_with, is_blank, place_at, behind, goes_on};
 
 use ds_asm::first_line;
 use ds_policy::OutOfMemory;
@@ -15,32 +15,69 @@ pub struct Place {
     pub column: u64,
 }
 
-/// The line, from 1, at which the rule of this number begins: the one of so many lines that begin
-/// with `[[rule]]` behind blanks. A policy whose rules stand in another form has none.
+/// The line, from 1, in which the rule of this number begins: a line that begins with `[[rule]]`
+/// behind blanks, or one with the brace of a table of `rule = [..]`. A policy that writes the key
+/// in another way has none.
 pub fn rule_line(text: &[u8], number: u32) -> Option<u64>
     ensures { result ≡ rule_line text.now number }
 {
     let mut seen = 0;
-    let mut wanted = number;
+    let mut wanted = number as usize;
+    let mut in_array = false;
     let mut left = text;
     while !left.is_empty() {
         let (line, rest) = first_line(left);
         seen += 1;
-        if begins_rule(line) {
-            if wanted == 1 {
-                return Some(seen);
-            }
-            wanted = wanted.saturating_sub(1);
+        in_array = stands_in_array(in_array, line);
+        let count = rules_in(in_array, line);
+        if is_among(wanted, count) {
+            return Some(seen);
         }
+        wanted = wanted.saturating_sub(count);
         left = rest;
     }
     None
 }
 
-fn begins_rule(line: &[u8]) -> bool
-    ensures { result ≡ begins_rule line.now }
+/// Whether a line stands in an array of rules, where the one before it may.
+fn stands_in_array(in_array: bool, line: &[u8]) -> bool
+    ensures { result ≡ (in_array || begins_array line.now) }
 {
-    line[count_blanks(line)..].starts_with(b"[[rule]]")
+    in_array || begins_array(line)
+}
+
+/// Whether so many have one of this number, from 1.
+fn is_among(number: usize, count: usize) -> bool
+    ensures { result ≡ (nat_le 1 number && nat_le number count) }
+{
+    1 <= number && number <= count
+}
+
+/// How many rules begin in a line, which may stand in an array of rules.
+fn rules_in(in_array: bool, line: &[u8]) -> usize
+    ensures { result ≡ rules_in in_array line.now }
+{
+    if in_array {
+        line.iter().filter(|b| **b == b'{').count()
+    } else if begins_with(b"[[rule]]", line) {
+        1
+    } else {
+        0
+    }
+}
+
+/// Whether an array of rules begins in a line.
+fn begins_array(line: &[u8]) -> bool
+    ensures { result ≡ begins_array line.now }
+{
+    begins_with(b"rule ", line) || begins_with(b"rule=", line) || begins_with(b"rule\t", line)
+}
+
+/// Whether a line begins with a word, behind blanks.
+fn begins_with(word: &[u8], line: &[u8]) -> bool
+    ensures { result ≡ begins_with word.now line.now }
+{
+    line[count_blanks(line)..].starts_with(word)
 }
 
 /// How many blanks a line begins with.

@@ -1,11 +1,11 @@
-use Rattle.std.proofs.Common.{◌≡◌, ◌∙◌, ap, sym, subst, refl, ℕ, List, ◌+◌, ◌-◌, ◌≤◌, take, ◌++◌, drop, length, arith, rules}
+use Rattle.std.proofs.Common.{◌≡◌, ◌∙◌, ap, subst, List, ◌+◌, ◌-◌, ◌≤◌, take, ◌++◌, drop, length, arith, rules}
 use Rattle.std.specs.Prelude.{Some}
 use Rattle.std.proofs.lemmas.List.{length-drop, take_all}
 use Rattle.ds_policy.specs.Value.{InputValue}
 use Rattle.ds_policy.specs.declared.command.TimedCommand.{TimedCommand}
 use Rattle.ds_policy.specs.declared.command.Character.{Character}
 use Rattle.ds_check.proofs.EventSteps.{event_more}
-use Rattle.ds_check.specs.Coming.{events_from, events_text, step_count, step_text}
+use Rattle.ds_check.specs.Coming.{events_from, step_count, step_text}
 use Rattle.ds_check.proofs.coming.push_events.Goals as goal
 
 pub loop-character-preserved : goal.loop-character-preserved

@@ -5,7 +5,7 @@ use Rattle.ds_check.proofs.places.rule_line.Given as goal
 
 abbrev pub invariant-loop-left : goal.invariant-loop-left
 invariant-loop-left l = record {
-  same : rule_from (l.seen + 1) l.wanted (lines_of l.left) ≡ rule_line l.text l.number;
+  same : rule_from (l.seen + 1) l.wanted l.in_array (lines_of l.left) ≡ rule_line l.text l.number;
   within : l.seen + length l.left ≤ length l.text;
 }
 
