@@ -3,7 +3,8 @@ ghost use Rattle.std.specs.Prelude.{◌≡◌, ◌%◌, ◌^◌, ◌<◌, ◌≤
 ghost use Rattle.std.specs.Borrow.{sem};
 ghost use Rattle.ds_isa.specs.Instruction.{instruction_of};
 ghost use Rattle.ds_isa.specs.declared.instr.Size.TheVariants.{Word};
-ghost use Rattle.ds_word.specs.Bytes.{word_at};
+ghost use Rattle.ds_operations.specs.Does.{MeansAs};
+ghost use Rattle.ds_word.specs.Bytes.{word_at, with_word};
 ghost use Rattle.ds_dev.specs.Bus.{at_start, alignment, load, store, register_load, register_store, after_ticks, lines, devices_ask, asks, with_serial};
 ghost use Rattle.ds_dev.specs.Serial.{received, sent};
 ghost use Rattle.ds_dev.specs.Lending.{LendsMemory};
@@ -16,6 +17,7 @@ use crate::serial::{self, SerialLines};
 use crate::system::{self, SystemRegister};
 use ds_isa::{Instr, Size};
 use ds_mem::{Memory, SIZE};
+use ds_operations::Operation;
 use std::marker::Model;
 
 /// The bus, which contracts see as the record of its memory and its devices.
@@ -129,6 +131,39 @@ impl Bus {
         let word = access::load(&self.memory, physical, Size::Part);
         let place = physical as usize / 4 % PAGE_WORDS;
         self.memo.decoded(place, word)
+    }
+
+    /// The operation of the word at a place in memory, which is remembered as its instruction is. It
+    /// is looked for by its offset in its page; another offset is no fault, but is slower.
+    #[inline(always)]
+    pub fn operation(&mut self, physical: u32, offset: u32) -> Operation
+        requires aligned { physical % 4 ≡ 0 }
+        requires inside { physical < SIZE }
+        ensures value { MeansAs result (instruction_of (word_at self.old.memory physical)) }
+        ensures state { self.new ≡ self.old }
+    {
+        let word = self.memory.word(physical);
+        self.memo.operation(offset as usize / 4 % PAGE_WORDS, word)
+    }
+
+    /// The aligned word that holds a place in memory.
+    #[inline(always)]
+    pub fn word(&self, physical: u32) -> u32
+        requires { physical < SIZE }
+        ensures { result ≡ word_at self.now.memory physical }
+    {
+        access::load(&self.memory, physical, Size::Part)
+    }
+
+    /// Replaces the aligned word that holds a place in memory.
+    #[inline(always)]
+    pub fn put_word(&mut self, physical: u32, word: u32)
+        requires { physical < SIZE }
+        ensures { self.new ≡ record self.old {
+          memory = with_word self.old.memory physical word;
+        } }
+    {
+        access::store(&mut self.memory, physical, Size::Part, word);
     }
 
     /// Writes at a physical address: in memory the byte, half or word, or for a part of a word
