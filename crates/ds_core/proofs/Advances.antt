@@ -38,7 +38,8 @@ comes_on n old h before advances here = λ k within. elim (cases_lt k n) [
       subst (λ (t : Hardware). t.core.pc < 2 ^ 32) (advances.state ∙ ap (λ (j : ℕ). after_steps j old) last) here
 ]
 
-after_both : (a b : ℕ) (h : Hardware) → after_steps (a + b) h ≡ after_steps b (after_steps a h)
+-- so many steps, and so many more behind them
+pub after_both : (a b : ℕ) (h : Hardware) → after_steps (a + b) h ≡ after_steps b (after_steps a h)
 after_both a zero h =
     let e : a + zero ≡ a = omega arith in
     ap (λ (n : ℕ). after_steps n h) e

@@ -6,3 +6,4 @@ pub mod Refilled
 pub mod Worked
 pub mod Ahead
 pub mod Code
+pub mod Operations

@@ -8,7 +8,10 @@ mod code;
 mod coprocessor;
 mod execute;
 mod flow;
+mod operate;
+mod operations;
 mod registers;
+mod sprint;
 mod transfer;
 
 use crate::event::Event;

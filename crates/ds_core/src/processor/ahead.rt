@@ -1,12 +1,17 @@
 //! Steps, one by one and many at once.
-ghost use Rattle.std.specs.Prelude.{◌≡◌, ◌<◌, ◌+◌, if◌then◌else◌, IsNone, IfSome};
+ghost use Rattle.std.specs.Prelude.{◌≡◌, ◌<◌, ◌≤◌, ◌+◌, ◌^◌, ℕ, false, if◌then◌else◌, Some, None, IsNone, IfSome};
 ghost use Rattle.ds_core.specs.Coprocessor.{only_devices_interrupt};
+ghost use Rattle.ds_cp0.specs.declared.exception.ExceptionCode.TheVariants.{SystemCall};
+ghost use Rattle.ds_dev.specs.Bus.{BusState};
+ghost use Rattle.ds_core.specs.Core.{with_tick, trapped};
+ghost use Rattle.ds_core.specs.Code.{KnowsPage};
 ghost use Rattle.ds_core.specs.Effect.{step};
-ghost use Rattle.ds_core.specs.Ahead.{hardware_of, AdvancesTo, ComesByWords, ticks, owed_tick};
+ghost use Rattle.ds_core.specs.Ahead.{hardware_of, after_steps, is_raised, AdvancesTo, ComesByWords, ticks, owed_tick};
 
 use super::Core;
+use super::code::CodePage;
 use crate::event::Event;
-use ds_cp0::ExceptionCode;
+use ds_cp0::{Exception, ExceptionCode};
 use ds_dev::Bus;
 use ds_tlb::Lookaside;
 
@@ -26,6 +31,15 @@ impl Ahead {
         ensures { result ≡ record { steps = steps; raised = Some code } }
     {
         let raised = Some(code);
+        Ahead { steps, raised }
+    }
+
+    /// So many steps, none of which entered an exception.
+    #[inline(always)]
+    fn calm(steps: u32) -> Ahead
+        ensures { result ≡ record { steps = steps; raised = None } }
+    {
+        let raised = None;
         Ahead { steps, raised }
     }
 }
@@ -68,25 +82,90 @@ impl<L: Lookaside> Core<L> {
         let mut code = self.code_page();
         let mut steps = 0;
         while steps < limit {
-            // The address is looked at, so that it is known to be a word; so it is behind the loop.
-            let _here = self.pc;
-            match self.fetch_ahead(bus, &code) {
-                Some(instr) => {
-                    if let Event::Raised(code) = self.execute_ahead(instr, bus) {
-                        return Ahead::behind(steps, code);
-                    }
-                }
-                None => {
-                    if let Event::Raised(code) = self.proceed_anew(bus, &mut code) {
-                        return Ahead::behind(steps, code);
-                    }
-                }
+            let stride = self.stride(bus, &mut code, limit - steps);
+            steps += stride.steps;
+            if let Some(code) = stride.raised {
+                return Ahead::behind(steps, code);
             }
-            steps += 1;
         }
+        // The address is looked at, so that it is known to be a word behind the loop.
         let _here = self.pc;
-        let raised = None;
-        Ahead { steps, raised }
+        Ahead::calm(steps)
+    }
+
+    /// Takes steps by their operations, and behind them a plain step where there are fewer than
+    /// `left`, which is one at least.
+    #[inline(always)]
+    fn stride(&mut self, bus: &mut Bus, code: &mut CodePage, left: u32) -> Ahead
+        requires slots { L.SLOTS ≡ 64 }
+        requires wired { L.WIRED ≡ 8 }
+        requires some { 0 < left }
+        requires known { KnowsPage code.old.vpn code.old.base self.old }
+        ensures within { result.steps ≤ left }
+        ensures on { IsNone result.raised → 0 < result.steps }
+        ensures fewer { IfSome result.raised (λ _. result.steps < left) }
+        ensures steps { AdvancesTo result.steps result.raised
+            (hardware_of self.old bus.old)
+            (hardware_of self.new bus.new) }
+        ensures words { (k : ℕ) → k < result.steps
+            → (after_steps k (hardware_of self.old bus.old)).core.pc < 2 ^ 32 }
+        ensures raised { IfSome result.raised (λ _.
+            (after_steps result.steps (hardware_of self.old bus.old)).core.pc < 2 ^ 32) }
+        ensures known { IsNone result.raised → KnowsPage code.new.vpn code.new.base self.new }
+    {
+        let sprint = self.sprint(bus, code, left);
+        let _here = self.pc;
+        if sprint.calls {
+            return self.call_behind(sprint.steps);
+        }
+        if sprint.steps == left {
+            return Ahead::calm(left);
+        }
+        if let Event::Raised(code) = self.single(bus, code) {
+            return Ahead::behind(sprint.steps, code);
+        }
+        Ahead::calm(sprint.steps + 1)
+    }
+
+    /// Enters the exception of a system call, behind so many steps.
+    #[inline(always)]
+    fn call_behind(&mut self, steps: u32) -> Ahead
+        requires slots { L.SLOTS ≡ 64 }
+        requires wired { L.WIRED ≡ 8 }
+        ensures value { result ≡ record { steps = steps; raised = Some SystemCall } }
+        ensures core { (bus : BusState) → (record {
+          event = Event.Raised SystemCall;
+          core = self.new;
+          bus = bus;
+        })
+            ≡ with_tick (trapped self.old bus SystemCall) }
+    {
+        self.raise(Exception {
+            code: ExceptionCode::SystemCall,
+            pc: self.pc,
+            slot: self.slot,
+            unit: 0,
+            addr: None,
+            miss: false,
+        });
+        self.tlb.tick();
+        Ahead::behind(steps, ExceptionCode::SystemCall)
+    }
+
+    /// Takes one step, by the page of code where it is known.
+    #[inline(always)]
+    fn single(&mut self, bus: &mut Bus, code: &mut CodePage) -> Event
+        requires slots { L.SLOTS ≡ 64 }
+        requires wired { L.WIRED ≡ 8 }
+        requires known { KnowsPage code.old.vpn code.old.base self.old }
+        ensures does { (record { event = result; core = self.new; bus = bus.new })
+            ≡ step self.old bus.old }
+        ensures known { is_raised result ≡ false → KnowsPage code.new.vpn code.new.base self.new }
+    {
+        match self.fetch_ahead(bus, code) {
+            Some(instr) => self.execute_ahead(instr, bus),
+            None => self.proceed_anew(bus, code),
+        }
     }
 
     /// Whether only a device can interrupt: coprocessor 0 may not be used, so that nothing is let

@@ -1,5 +1,5 @@
 //! The page whose instructions a stretch goes through, remembered while nothing can change it.
-ghost use Rattle.std.specs.Prelude.{◌≡◌, ◌+◌, ◌*◌, ◌/◌, ◌%◌, ◌<◌, ◌≤◌, ◌^◌, IfSome, false};
+ghost use Rattle.std.specs.Prelude.{◌≡◌, ◌+◌, ◌*◌, ◌/◌, ◌%◌, ◌<◌, ◌≤◌, ◌^◌, IfSome, true, false};
 ghost use Rattle.ds_cp0.specs.System.{is_pending};
 ghost use Rattle.ds_dev.specs.Bus.{lines};
 ghost use Rattle.ds_core.specs.Code.{KnowsPage};
@@ -42,6 +42,30 @@ impl CodePage {
         }
     }
 
+    /// Whether a page is known.
+    #[inline(always)]
+    pub(super) fn is_known(&self) -> bool
+        ensures { result ≡ true → self.now.vpn < 2 ^ 32 }
+    {
+        self.vpn < NO_PAGE
+    }
+
+    /// The offset in its page of the instruction at an address, where that is a word of this page.
+    #[inline(always)]
+    pub(super) fn offset(&self, pc: u32) -> Option<u32>
+        ensures known { IfSome result (λ offset. self.now.vpn < 2 ^ 32) }
+        ensures page { IfSome result (λ offset. self.now.vpn ≡ pc / 2 ^ 12) }
+        ensures aligned { IfSome result (λ offset. pc % 4 ≡ 0) }
+        ensures value { IfSome result (λ offset. offset ≡ pc % 2 ^ 12) }
+    {
+        let offset = u64::from(pc).wrapping_sub(self.first);
+        if offset % 4 == 0 && offset < 4096 {
+            Some(offset as u32)
+        } else {
+            None
+        }
+    }
+
     /// The place in memory of the instruction at an address, where that is a word of the page.
     #[inline(always)]
     fn place(&self, pc: u32) -> Option<u32>
@@ -51,13 +75,8 @@ impl CodePage {
         ensures place { IfSome result (λ place. place ≡ self.now.base + pc % 2 ^ 12) }
         ensures inside { IfSome result (λ place. place < 2 ^ 23) }
     {
-        let offset = u64::from(pc).wrapping_sub(self.first);
-        if offset % 4 == 0 && offset < 4096 {
-            // The base ends in zeros: told here, so that the sum has the offset as its last bits.
-            Some(self.base / 4096 * 4096 + offset as u32)
-        } else {
-            None
-        }
+        // The base ends in zeros: told here, so that the sum has the offset as its last bits.
+        Some(self.base / 4096 * 4096 + self.offset(pc)?)
     }
 }
 

@@ -1,39 +1,42 @@
-use Rattle.std.proofs.Common.{◌∙◌, ap, arith}
-use Rattle.ds_core.specs.Effect.{step}
-use Rattle.ds_core.specs.Ahead.{hardware_of}
-use Rattle.ds_core.proofs.Codes.{is_step_ahead, stays_known_ahead}
-use Rattle.ds_core.proofs.Advances.{calm_event, advances_on, comes_on}
+use Rattle.std.proofs.Common.{◌≡◌, ◌+◌, ◌<◌, ◌^◌, subst, arith, inl, inr, ap}
+use Rattle.std.specs.Prelude.{Option, Some, None, IfSome}
+use Rattle.std.proofs.lemmas.Bool.{cases_lt}
+use Rattle.ds_cp0.specs.declared.exception.ExceptionCode.{ExceptionCode}
+use Rattle.ds_core.specs.Ahead.{hardware_of, after_steps, AdvancesTo}
 use Rattle.ds_core.proofs.Slots.{ticks_of_advance}
+use Rattle.ds_core.proofs.Sprints.{join_to, word_behind, words_join, words_to}
 use Rattle.ds_core.proofs.processor.Core.run_ahead.Goals as goal
-use Rattle.ds_core.proofs.processor.Core.run_ahead.Goals.{in-Some+in_default, in-None+in_default-proceed_anew}
+
+pub returns-in-Some-clause-steps : goal.returns-in-Some-clause-steps
+returns-in-Some-clause-steps g c = rw c.behind.ensures (
+    join_to c.loop-steps.steps c.stride-stride.result.steps (Some c.in-Some.code) (hardware_of c.args.self.now c.args.bus.now)
+    (hardware_of c.loop-steps.self c.loop-steps.bus)
+    (hardware_of c.stride-stride.new.self c.stride-stride.new.bus)
+    c.loop-steps.invariant.advances
+    (subst (λ (r : Option ExceptionCode). AdvancesTo c.stride-stride.result.steps r (hardware_of c.loop-steps.self c.loop-steps.bus) (hardware_of c.stride-stride.new.self c.stride-stride.new.bus)) c.in-Some.is c.stride-stride.ensures.steps))
+
+pub returns-in-Some-clause-words : goal.returns-in-Some-clause-words
+returns-in-Some-clause-words g c = rw c.behind.ensures (λ k within.
+    words_to c.loop-steps.steps c.stride-stride.result.steps (hardware_of c.args.self.now c.args.bus.now) (hardware_of c.loop-steps.self c.loop-steps.bus)
+    c.loop-steps.invariant.advances c.loop-steps.invariant.words c.stride-stride.ensures.words
+    (subst (λ (r : Option ExceptionCode). IfSome r (λ _. (after_steps c.stride-stride.result.steps (hardware_of c.loop-steps.self c.loop-steps.bus)).core.pc < 2 ^ 32)) c.in-Some.is c.stride-stride.ensures.raised)
+    k within)
 
 pub loop-steps-preserved : goal.loop-steps-preserved
-loop-steps-preserved g c = elim c.match-fetch_ahead.branch [
-  | in-Some+in_default w ↦
-      let calm = calm_event _ w.in_default.not-Raised in
-      rw (w.self-is, w.bus-is, w.code-is) (record {
-        within = omega arith;
-        advances = advances_on _ _ _ _ _ c.loop-steps.invariant.advances
-            (is_step_ahead c.loop-steps.self c.loop-steps.bus c.fetch_ahead.new.bus w.in-Some.instr _ w.in-Some.ensures.calm w.in-Some.ensures.fetched c.fetch_ahead.ensures.same w.execute_ahead.ensures) calm;
-        words = λ k below.
-            comes_on c.loop-steps.steps _ (hardware_of c.loop-steps.self c.loop-steps.bus)
-            c.loop-steps.invariant.words c.loop-steps.invariant.advances (grind (arith)) k (omega arith);
-        known = stays_known_ahead c.loop-steps.self c.loop-steps.bus c.fetch_ahead.new.bus w.in-Some.instr _ _ _ w.in-Some.ensures.calm w.in-Some.ensures.fetched c.fetch_ahead.ensures.same w.execute_ahead.ensures calm c.loop-steps.invariant.known;
-      })
-  | in-None+in_default-proceed_anew w ↦
-      rw (w.self-is, w.bus-is, w.code-is) (record {
-        within = omega arith;
-        advances = advances_on _ _ _ _ _ c.loop-steps.invariant.advances
-            (w.proceed_anew.ensures.does ∙ ap (λ b. step c.loop-steps.self b) c.fetch_ahead.ensures.same) (calm_event _ w.in_default-proceed_anew.not-Raised);
-        words = λ k below.
-            comes_on c.loop-steps.steps _ (hardware_of c.loop-steps.self c.loop-steps.bus)
-            c.loop-steps.invariant.words c.loop-steps.invariant.advances (grind (arith)) k (omega arith);
-        known = w.proceed_anew.ensures.known;
-      })
-]
+loop-steps-preserved g c = record {
+  within = omega arith;
+  advances = join_to c.loop-steps.steps c.stride-stride.result.steps None (hardware_of c.args.self.now c.args.bus.now)
+      (hardware_of c.loop-steps.self c.loop-steps.bus)
+      (hardware_of c.stride-stride.new.self c.stride-stride.new.bus)
+      c.loop-steps.invariant.advances
+      (subst (λ (r : Option ExceptionCode). AdvancesTo c.stride-stride.result.steps r (hardware_of c.loop-steps.self c.loop-steps.bus) (hardware_of c.stride-stride.new.self c.stride-stride.new.bus)) c.in_default.is c.stride-stride.ensures.steps);
+  words = words_join c.loop-steps.steps c.stride-stride.result.steps (hardware_of c.args.self.now c.args.bus.now) (hardware_of c.loop-steps.self c.loop-steps.bus)
+      c.loop-steps.invariant.advances c.loop-steps.invariant.words c.stride-stride.ensures.words;
+  known = c.stride-stride.ensures.known cc;
+}
 
 pub returns-clause-ticks : goal.returns-clause-ticks
-returns-clause-ticks g c = λ _. ticks_of_advance c.loop-steps.steps
+returns-clause-ticks g c = rw c.calm.ensures (λ _. ticks_of_advance c.loop-steps.steps
     (hardware_of c.args.self.now c.args.bus.now)
     (hardware_of c.loop-steps.self c.loop-steps.bus)
-    c.loop-steps.invariant.advances
+    c.loop-steps.invariant.advances)
