@@ -56,7 +56,7 @@ abbrev resting_clock : ℕ → ℕ → ClockState
 resting_clock x y = record { rate = x; enabled = true; flagged = false; time = y % 2 ^ 17 }
 
 -- the devices rest as before behind a unit, whose boundary is owed
-resting : (b : BusState) (k k' : Kept) (runner : Option ℕ) → k.state.owed ≡ None → k'.state.rate ≡ k.state.rate → k'.ticked ≡ k.ticked
+pub resting : (b : BusState) (k k' : Kept) (runner : Option ℕ) → k.state.owed ≡ None → k'.state.rate ≡ k.state.rate → k'.ticked ≡ k.ticked
     → k'.state.owed ≡ Some (record { began = k.state.time; runner = runner }) → AreResting b k → AreResting b k'
 resting b k k' runner none rate ticked owed r =
     let last : last_boundary k'.state ≡ last_boundary k.state =

@@ -20,3 +20,4 @@ pub mod Stepping
 pub mod Beginning
 pub mod Blocking
 pub mod Running
+pub mod AtOnce

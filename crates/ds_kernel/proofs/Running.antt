@@ -1,10 +1,8 @@
 -- A run of a station, by blocks of instructions and by steps.
 use Rattle.std.proofs.Common.{◌≡◌, ℕ, ◌+◌, ◌-◌, ◌*◌, ◌<◌, ◌≤◌, Bool, true, false, cond, [], Option, Some, None, refl, sym, ap, subst, ◌∙◌, arith, inr, zero, suc}
 use Rattle.std.proofs.lemmas.Bool.Decides.{nat_tests}
-use Rattle.std.specs.Prelude.{IsSome, is_some, not, ◌||◌, ◌&&◌, nat_lt, min}
-use Rattle.std.proofs.Math.Nat.{min-le_left}
+use Rattle.std.specs.Prelude.{IsSome, is_some, not, ◌||◌, ◌&&◌, nat_lt}
 use Rattle.ds_word.specs.Word.{truth}
-use Rattle.ds_core.specs.Ahead.{owed_tick}
 use Rattle.ds_pagemap.specs.declared.turn.Turn.{Turn}
 use Rattle.ds_pagemap.specs.Machine.{State}
 use Rattle.ds_pagemap.specs.Run.{goes_on, is_over}
@@ -21,7 +19,7 @@ use Rattle.ds_kernel.specs.Good.{IsOrderly}
 use Rattle.ds_kernel.specs.Ended.{Does}
 use Rattle.ds_kernel.specs.Ran.{HasRun, WasCut}
 use Rattle.ds_kernel.specs.Going.{rank, GoesOn}
-use Rattle.ds_kernel.proofs.Blocking.{truth_small, few_left, rank_of, owed_small}
+use Rattle.ds_kernel.proofs.Blocking.{truth_small, few_left, rank_of}
 
 unowed_goes : (n : ℕ) (h : Held) → h.kept.state.owed ≡ None → held_goes_on n h ≡ (nat_lt h.kept.state.time n && not (is_over h.kept.state))
 unowed_goes n h owed = ap (λ (o : Option Turn). is_some o || (nat_lt h.kept.state.time n && not (is_over h.kept.state))) owed
@@ -124,17 +122,6 @@ goes_join n a b c first second =
       working = second.working ∙ first.working;
       begun = second.begun;
     }
-
--- what is the lesser of two is at most the first
-pub end_before : (n q x : ℕ) → x ≡ min n q → x ≤ n
-end_before n q x is = subst (λ (y : ℕ). y ≤ n) (sym is) (min-le_left n q)
-
--- a block begins where room was made
-pub block_goes : (n limit : ℕ) (old roomy new : Held) → roomy ≡ old → old.kept.state.time + limit + 1 ≤ n → (roomy.kept.state.time + limit + owed_tick roomy.core.slot ≤ n → GoesOn n roomy new) → GoesOn n old new
-block_goes n limit old roomy new still end goes =
-    let same : roomy.kept.state.time ≡ old.kept.state.time = ap (λ (h : Held). h.kept.state.time) still in
-    let small : owed_tick roomy.core.slot ≤ 1 = owed_small roomy.core.slot in
-    subst (λ (h : Held). GoesOn n h new) still (goes (omega (arith, same, end, small)))
 
 -- a run goes on where an exception waits in a unit that was begun before its end
 pub raised_goes_on : (n : ℕ) (h : Held) → IsSound h → IsOrderly h → is_in_kernel h ≡ true → (0 < h.own.spent → h.kept.state.time < n) → held_goes_on n h ≡ true

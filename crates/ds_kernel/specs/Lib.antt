@@ -9,3 +9,4 @@ pub mod Attended
 pub mod Halts
 pub mod Ran
 pub mod Going
+pub mod AtOnce

@@ -1,20 +1,31 @@
 -- A process that comes on the processor.
-use Rattle.std.specs.Prelude.{◌≡◌, ◌+◌, ◌^◌, false, slice_index, slice_set}
+use Rattle.std.specs.Prelude.{◌≡◌, ℕ, ◌+◌, ◌^◌, false, slice_index, slice_set}
 use Rattle.ds_word.specs.Word.{word}
 use Rattle.ds_isa.specs.Registers.{Registers, settled}
 use Rattle.ds_core.specs.Core.{CoreState}
-use Rattle.ds_pagemap.specs.Machine.{Process, touched_process}
+use Rattle.ds_pagemap.specs.Machine.{Process}
 use Rattle.ds_refinement.specs.Stands.{user_status}
 
--- the processor with a process, touched, at the beginning of its unit in the one address space
-abbrev pub on_processor : CoreState → Process → CoreState
-on_processor c q = record c {
-  registers = (touched_process q).registers;
-  pc = q.pc;
-  next = word (q.pc + 4);
+-- the processor at the beginning of a unit at an address: no load is late, and registers 26 and 27 have what the refill of a translation leaves there
+abbrev pub begun_at : CoreState → ℕ → CoreState
+begun_at c pc = record c {
+  registers = record (settled c.registers) { general = slice_set (slice_set c.registers.general 26 0) 27 pc };
+  pc = pc;
+  next = word (pc + 4);
   slot = false;
   system = record c.system { status = user_status; entry_hi = 2 ^ 6 };
 }
+
+-- the process that runs behind its call, with an answer in register 2
+abbrev pub behind_call : CoreState → ℕ → Process → Process
+behind_call c answer q = record q {
+  registers = record (settled c.registers) { general = slice_set c.registers.general 2 answer };
+  pc = word (c.system.epc + 4);
+}
+
+-- the processor with a process, touched, at the beginning of its unit in the one address space
+abbrev pub on_processor : CoreState → Process → CoreState
+on_processor c q = begun_at (record c { registers = q.registers }) q.pc
 
 -- registers as a call leaves them, which answers in register 2: no other differs, and no load is late
 abbrev pub AreAnswered : Registers → Registers → Type 0

@@ -84,7 +84,7 @@ impl<L: Lookaside> Parts<L> {
 
     /// So many ticks are over, and the unit has taken so many instructions.
     #[inline(always)]
-    fn count(&mut self, ticks: u32, spent: u32)
+    pub(crate) fn count(&mut self, ticks: u32, spent: u32)
         requires early { self.old.monitor.time ≤ 1000000000 }
         ensures { self.new ≡ record self.old {
           monitor = record self.old.monitor { time = self.old.monitor.time + ticks };
@@ -129,6 +129,13 @@ impl<L: Lookaside> Parts<L> {
         ensures good { IsGood self.new }
         ensures goes { (n : ℕ) → self.old.monitor.time + limit + owed_tick self.old.core.slot ≤ n
             → GoesOn n (held self.old) (held self.new) }
+        ensures soon { self.new.monitor.time ≤ self.old.monitor.time + limit + 1 }
+        ensures rest { self.new ≡ record self.old {
+          core = self.new.core;
+          bus = self.new.bus;
+          monitor = record self.old.monitor { time = self.new.monitor.time };
+          spent = self.new.spent;
+        } }
     {
         let before = self.slot_tick();
         let ahead = self.go_ahead(limit);

@@ -1,5 +1,5 @@
 //! Why the processor left the program, as the coprocessor's registers tell it.
-ghost use Rattle.std.specs.Prelude.{◌≡◌, ◌<◌, ◌≤◌, ◌^◌, length, IfSome};
+ghost use Rattle.std.specs.Prelude.{◌≡◌, ◌==◌, ◌<◌, ◌≤◌, ◌^◌, length, IfSome};
 ghost use Rattle.ds_grants.specs.State.{page_state};
 ghost use Rattle.ds_grants.specs.Sound.{NamesPages};
 ghost use Rattle.ds_refinement.specs.Told.{code_in, is_delayed, own_in, kind_told, size_told, size_at, told};
@@ -23,6 +23,14 @@ impl<L: Lookaside> Parts<L> {
         ensures { result ≡ code_in self.now.core.system }
     {
         ((self.core.cp0.read(register::CAUSE) >> 2) & 0xf) as u8
+    }
+
+    /// Whether a call left the program.
+    #[inline(always)]
+    pub(crate) fn is_call(&self) -> bool
+        ensures { result ≡ (code_in self.now.core.system == 8) }
+    {
+        self.code() == SYSTEM_CALL
     }
 
     /// Whether the instruction stood in the slot of a branch.

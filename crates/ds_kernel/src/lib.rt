@@ -2,6 +2,7 @@
 //! the steps of a station between them.
 #![tactic(auto)]
 
+mod at_once;
 mod blocks;
 mod boundary;
 mod cause;

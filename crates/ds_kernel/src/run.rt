@@ -1,5 +1,5 @@
 //! Runs of a station, by blocks of instructions where it can and by single steps elsewhere.
-ghost use Rattle.std.specs.Prelude.{◌≡◌, ◌⊎◌, ℕ, ◌<◌, ◌≤◌, true, false, IfErr, OnOk, OnErr, IsErrOf};
+ghost use Rattle.std.specs.Prelude.{◌≡◌, ◌⊎◌, ℕ, ◌+◌, ◌<◌, ◌≤◌, true, false, IfErr, OnOk, OnErr, IsErrOf};
 ghost use Rattle.ds_refinement.specs.Held.{Held};
 ghost use Rattle.ds_refinement.specs.Steps.{is_in_kernel};
 ghost use Rattle.ds_refinement.specs.Runs.{held_goes_on};
@@ -8,6 +8,9 @@ ghost use Rattle.ds_kernel.specs.Parts.{held};
 ghost use Rattle.ds_kernel.specs.Good.{IsGood};
 ghost use Rattle.ds_kernel.specs.Going.{GoesOn};
 ghost use Rattle.ds_kernel.specs.Halts.{Halts};
+ghost use Rattle.ds_kernel.specs.AtOnce.{MayGoOn};
+ghost use Rattle.ds_monitor.specs.Room.{HasLogRoom, HasRoom};
+ghost use Rattle.ds_refinement.specs.Blocks.{GoesAhead};
 ghost use Rattle.ds_kernel.specs.Ran.{HasRun, WasCut};
 
 use crate::halt::Halt;
@@ -54,25 +57,61 @@ impl<L: Lookaside> Parts<L> {
     }
 
     /// The service of the exception that waits, where one does, and the boundary behind it, where
-    /// that ended the unit.
+    /// that ended the unit. Whether another block may begin at once, as it may behind a call that was
+    /// answered at once; it is to leave time for a unit before the end.
     #[inline(always)]
-    fn serve_raised(&mut self, n: u64)
+    fn serve_raised(&mut self, n: u64, end: u64) -> bool
         requires slots { L.SLOTS ≡ 64 }
         requires wired { L.WIRED ≡ 8 }
         requires good { IsGood self.old }
         requires working { self.old.failed ≡ false }
         requires few { n ≤ 1000000000 }
         requires begun { 0 < self.old.spent → self.old.monitor.time < n }
+        requires early { self.old.monitor.time + 1 < self.old.monitor.quiet_until }
+        requires quiet { end + 2 ≤ self.old.monitor.quiet_until }
+        requires log { HasLogRoom 1 self.old.monitor }
         ensures good { IsGood self.new }
         ensures goes { (start : Held) → GoesOn n start (held self.old)
             → GoesOn n start (held self.new) }
+        ensures nearer { result ≡ true → GoesOn n (held self.old) (held self.new) }
+        ensures on { result ≡ true → MayGoOn end self.new }
+        ensures until { result ≡ true
+            → self.new.monitor.quiet_until ≡ self.old.monitor.quiet_until }
     {
         match self.monitor.first_ready() {
             Some(process) if self.is_in_kernel() => {
+                if self.answer_at_once(process) {
+                    return self.may_go_on(end);
+                }
                 self.serve(process);
                 self.do_owed();
+                false
             }
-            _ => {}
+            _ => false,
+        }
+    }
+
+    /// Blocks of instructions, the first of so many, each with the service of the exception that ends
+    /// it: one behind the other as long as that is a call that is answered at once.
+    #[inline(always)]
+    fn run_blocks(&mut self, n: u64, limit: u32)
+        requires slots { L.SLOTS ≡ 64 }
+        requires wired { L.WIRED ≡ 8 }
+        requires good { IsGood self.old }
+        requires working { self.old.failed ≡ false }
+        requires few { n ≤ 1000000000 }
+        requires ahead { GoesAhead limit (held self.old) }
+        requires some { 1 ≤ limit }
+        requires end { self.old.monitor.time + limit + 1 ≤ n }
+        requires before { self.old.monitor.time + limit + 3 ≤ self.old.monitor.quiet_until }
+        requires room { HasRoom 1 self.old.monitor }
+        ensures good { IsGood self.new }
+        ensures goes { GoesOn n (held self.old) (held self.new) }
+    {
+        let end = self.monitor.time + u64::from(limit) + 1;
+        self.run_block(limit);
+        while self.serve_raised(n, end) {
+            self.run_block((end - self.monitor.time - 1) as u32);
         }
     }
 
@@ -94,8 +133,7 @@ impl<L: Lookaside> Parts<L> {
         match self.may_run_ahead(n) {
             Some(limit) => {
                 self.begin_block()?;
-                self.run_block(limit);
-                self.serve_raised(n);
+                self.run_blocks(n, limit);
             }
             None => {
                 self.step()?;

@@ -1,15 +1,14 @@
 //! How a process leaves the processor for its seat, and how the next one comes on the processor.
-ghost use Rattle.std.specs.Prelude.{◌≡◌, ℕ, ◌<◌, ◌≤◌, length, slice_index, Some, All};
-ghost use Rattle.ds_isa.specs.Registers.{settled};
+ghost use Rattle.std.specs.Prelude.{◌≡◌, ℕ, ◌+◌, ◌<◌, ◌≤◌, length, slice_index, Some, All};
 ghost use Rattle.ds_tlb.specs.Entries.{empty_entries};
-ghost use Rattle.ds_pagemap.specs.Machine.{State, process_of, first};
+ghost use Rattle.ds_pagemap.specs.Machine.{State, Process, process_of, first};
 ghost use Rattle.ds_pagemap_laws.specs.Lawful.{AreRegisters, IsReady};
 ghost use Rattle.ds_grants.specs.Buffer.{BufferHolds};
 ghost use Rattle.ds_refinement.specs.Held.{space_of};
 ghost use Rattle.ds_refinement.specs.Services.{resume_address, seated, EntersBy};
 ghost use Rattle.ds_monitor.specs.Kept.{kept_of};
 ghost use Rattle.ds_monitor.specs.Orderly as monitor;
-ghost use Rattle.ds_kernel.specs.Seats.{on_processor, AreAnswered};
+ghost use Rattle.ds_kernel.specs.Seats.{begun_at, behind_call, on_processor, AreAnswered};
 
 use crate::parts::Parts;
 use ds_cp0::register;
@@ -118,7 +117,9 @@ impl<L: Lookaside> Parts<L> {
             (process_of (kept_of self.old.monitor).state process).registers }
         ensures { self.new ≡ record self.old {
           core = record self.old.core {
-            registers = settled (process_of (kept_of self.old.monitor).state process).registers;
+            registers = record (process_of (kept_of self.old.monitor).state process).registers {
+              late = self.old.core.registers.late;
+            };
           };
         } }
     {
@@ -130,7 +131,39 @@ impl<L: Lookaside> Parts<L> {
             self.core.lo = seat.lo();
             self.core.registers = *seat.general();
         }
+    }
+
+    /// The process whose registers the processor has is touched, and stands at the beginning of its
+    /// unit, at an address.
+    #[inline(always)]
+    fn begin_at(&mut self, pc: u32)
+        ensures { self.new ≡ record self.old { core = begun_at self.old.core pc } }
+    {
         self.core.late = None;
+        self.core.registers[26] = 0;
+        self.core.registers[27] = pc;
+        self.core.pc = pc;
+        self.core.next = wrapping_sum(pc, 4);
+        self.core.slot = false;
+        self.core.cp0.write(register::STATUS, USER_STATUS);
+        self.core.cp0.write(register::ENTRY_HI, ONE_SPACE);
+    }
+
+    /// The process that runs goes on behind its call, with an answer: it stays on the processor, and
+    /// its next unit begins a tick later.
+    #[inline(always)]
+    pub(crate) fn go_on_behind_call(&mut self, answer: u32)
+        requires early { self.old.monitor.time ≤ 1000000000 }
+        ensures { (q : Process) → self.new ≡ record self.old {
+          core = on_processor self.old.core (behind_call self.old.core answer q);
+          monitor = record self.old.monitor { time = self.old.monitor.time + 1 };
+          spent = 0;
+        } }
+    {
+        let behind = wrapping_sum(self.unit_address(), 4);
+        self.core.registers[2] = answer;
+        self.begin_at(behind);
+        self.count(1, 0);
     }
 
     /// The process comes on the processor, touched, at the beginning of its unit.
@@ -149,13 +182,7 @@ impl<L: Lookaside> Parts<L> {
     {
         let pc = self.monitor.seats[process as usize - 1].pc();
         self.take_registers(process, caller);
-        self.core.registers[26] = 0;
-        self.core.registers[27] = pc;
-        self.core.pc = pc;
-        self.core.next = wrapping_sum(pc, 4);
-        self.core.slot = false;
-        self.core.cp0.write(register::STATUS, USER_STATUS);
-        self.core.cp0.write(register::ENTRY_HI, ONE_SPACE);
+        self.begin_at(pc);
     }
 
     /// The first of those that are ready comes on the processor; where nobody is ready, it rests. Of

@@ -92,8 +92,8 @@ impl<L: Lookaside> Parts<L> {
         self.stop(process, Denied::Exec, own, Rule::I, CALL_IN_A_SLOT)
     }
 
-    /// The unit is a call.
-    #[inline(always)]
+    /// The unit is a call. It stands apart, so that a refill need not save the registers that it uses.
+    #[inline(never)]
     fn call_outside_slot(&mut self, process: u32) -> Step
         requires busy { IsBusy process self.old }
         requires kernel { is_user self.old.core.system ≡ false }

@@ -48,6 +48,14 @@ impl<L: Lookaside> Parts<L> {
         let _spent = self.spent;
     }
 
+    /// The process that runs has one of the four lines.
+    pub(crate) fn look_at_line(&self, process: u32)
+        requires lawful { IsLawful (whole (kept_of self.now.monitor) [] []) }
+        ensures { (process_of (kept_of self.now.monitor).state process).line < 4 }
+    {
+        let _spent = self.spent;
+    }
+
     /// What is kept has the sizes that a call asks for.
     fn look_at_sizes(&self, process: u32)
         requires lawful { IsLawful (whole (kept_of self.now.monitor) [] []) }

@@ -1,4 +1,4 @@
-mod Gets
+pub mod Gets
 pub mod Sends
 pub mod Serving
 pub mod Stops

@@ -7,3 +7,4 @@ pub mod Room
 pub mod Ended
 pub mod Orderly
 pub mod Sending
+pub mod Taking

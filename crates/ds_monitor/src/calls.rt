@@ -4,6 +4,7 @@ ghost use Rattle.ds_pagemap.specs.Machine.{State, process_of, made_ready};
 ghost use Rattle.ds_pagemap.specs.Calls.{answered, queue_of, after_put, after_get, after_wait};
 ghost use Rattle.ds_monitor.specs.Consoles.{HasRoom, texts_of};
 ghost use Rattle.ds_monitor.specs.Sending.{leaving, shown, with_sent};
+ghost use Rattle.ds_monitor.specs.Taking.{got, with_taken};
 ghost use Rattle.ds_monitor.specs.Kept.{kept_of, kept_after};
 
 use crate::monitor::Monitor;
@@ -32,9 +33,8 @@ impl Monitor {
         ensures rest { self.new ≡ record self.old { consoles = self.new.consoles } }
     {
         let line = self.seats[process as usize - 1].line();
-        if let Some(sent) = send(bus, line, byte) {
-            self.consoles.push_reserved(usize::from(sent.0), sent.1);
-        }
+        let _sent = send(bus, line, byte);
+        self.consoles.push_reserved(usize::from(line), byte);
     }
 
     /// Takes the oldest character of the line of the process, if there is one.
@@ -44,14 +44,29 @@ impl Monitor {
         requires line { (process_of (kept_of self.old).state process).line
             < length self.old.queues.items }
         ensures value { result ≡ slice_get (queue_of (kept_of self.old).state process) 0 }
-        ensures kept { kept_of self.new ≡ kept_after (λ (m : State). record m {
-          queues = slice_set m.queues (process_of m process).line (drop 1 (queue_of m process));
-        })
-            (kept_of self.old) }
+        ensures kept { kept_of self.new ≡ kept_after (with_taken process) (kept_of self.old) }
         ensures rest { self.new ≡ record self.old { queues = self.new.queues } }
     {
         let line = self.seats[process as usize - 1].line() as usize;
         self.queues[line].take()
+    }
+
+    /// What a call for a character answers: the oldest of the line of the process, which is taken, or
+    /// all ones where there is none.
+    #[inline(always)]
+    pub fn take_answer(&mut self, process: u32) -> u32
+        requires above { 0 < process }
+        requires within { process ≤ length self.old.seats.items }
+        requires line { (process_of (kept_of self.old).state process).line
+            < length self.old.queues.items }
+        ensures value { result ≡ got (queue_of (kept_of self.old).state process) }
+        ensures kept { kept_of self.new ≡ kept_after (with_taken process) (kept_of self.old) }
+        ensures rest { self.new ≡ record self.old { queues = self.new.queues } }
+    {
+        match self.take_character(process) {
+            Some(byte) => u32::from(byte),
+            None => NOTHING,
+        }
     }
 
     /// The oldest character of the line of the process, or all ones where there is none.
@@ -68,10 +83,8 @@ impl Monitor {
           queues = self.new.queues;
         } }
     {
-        match self.take_character(process) {
-            Some(byte) => self.answer(process, u32::from(byte)),
-            None => self.answer(process, NOTHING),
-        }
+        let answer = self.take_answer(process);
+        self.answer(process, answer);
     }
 
     /// The process goes behind the others that are ready.

@@ -1,0 +1,35 @@
+-- Calls that are answered at once, and the block of instructions behind one.
+use Rattle.std.specs.Prelude.{◌≡◌, ℕ, ◌+◌, ◌-◌, ◌<◌, false, None}
+use Rattle.ds_cp0.specs.System.{is_user}
+use Rattle.ds_core.specs.Ahead.{owed_tick}
+use Rattle.ds_refinement.specs.Told.{code_in, is_delayed}
+use Rattle.ds_refinement.specs.Blocks.{GoesAhead}
+use Rattle.ds_monitor.specs.Room.{HasLogRoom, HasRoom}
+use Rattle.ds_kernel.specs.declared.parts.Parts.{Parts}
+use Rattle.ds_kernel.specs.Parts.{held}
+use Rattle.ds_kernel.specs.Good.{IsBusy, IsGood}
+use Rattle.ds_kernel.specs.Going.{GoesOn}
+
+-- a call of a process outside the slot of a branch waits, and the boundary behind its turn has nothing to do
+pub record IsQuietCall {L : Type 0} (process : ℕ) (p : Parts L) : Type 0 where
+  pub busy : IsBusy process p
+  pub kernel : is_user p.core.system ≡ false
+  pub code : code_in p.core.system ≡ 8
+  pub outside : is_delayed p.core.system ≡ false
+  pub early : p.monitor.time + 1 < p.monitor.quiet_until
+
+-- it is answered, and its turn and the boundary behind that are over: the same process is at the beginning of its next unit
+pub record IsAnswered {L : Type 0} (old new : Parts L) : Type 0 where
+  pub good : IsGood new
+  pub goes : (n : ℕ) → old.monitor.time < n → GoesOn n (held old) (held new)
+  pub unowed : new.monitor.owed ≡ None
+  pub ready : new.monitor.ready ≡ old.monitor.ready
+  pub begins : new.spent ≡ owed_tick new.core.slot
+  pub until : new.monitor.quiet_until ≡ old.monitor.quiet_until
+  pub log : HasLogRoom 1 old.monitor → HasLogRoom 1 new.monitor
+
+-- a block of some instructions may begin, behind which a unit still begins before a time
+pub record MayGoOn {L : Type 0} (end : ℕ) (p : Parts L) : Type 0 where
+  pub early : p.monitor.time + 1 < end
+  pub ahead : GoesAhead (end - p.monitor.time - 1) (held p)
+  pub room : HasRoom 1 p.monitor
