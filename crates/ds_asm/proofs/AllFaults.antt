@@ -74,6 +74,23 @@ first_told : (n : ℕ) (l : Layout) (lines : List (List ℕ)) (fault : SourceFau
 first_told n l [] fault h = cc
 first_told n l (line ∷ lines) fault h = first_by n (with_line n (line_of line) l) (labels_past n (line_of line) l) lines fault (λ next k. first_told (n + 1) next lines fault k) h
 
+-- a source that the first pass lets in has none there
+pub first_none : (n : ℕ) (l last : Layout) (lines : List (List ℕ)) → with_lines n l lines ≡ Ok last → first_faults n l lines ≡ []
+first_none n l last [] h = refl
+first_none n l last (line ∷ lines) h =
+    let (next, a, b) = bind_ok (with_line n (line_of line) l) (λ more. with_lines (n + 1) more lines) last h in
+    ap (λ r. option_to_list (fault_in r) ++ first_faults (n + 1) (layout_past r (labels_past n (line_of line) l)) lines) a
+    ∙ first_none (n + 1) next last lines b
+
+pub no_fault : (faults : List SourceFault) → length faults ≡ 0 → faults ≡ []
+no_fault [] h = refl
+no_fault (x ∷ xs) h = absurd (omega arith)
+
+-- a list is not empty behind one more
+pub none_with : (xs : List SourceFault) (x : SourceFault) → xs ++ (x ∷ []) ≡ [] → ⊥
+none_with [] x h = cc
+none_with (y ∷ ys) x h = cc
+
 second_by : (n at : ℕ) (find : List ℕ → Option ℕ) (r : Result (List ℕ) SourceFault) (size : ℕ) (bytes : List ℕ) (lines : List (List ℕ)) (fault : SourceFault)
     → ((more : List ℕ) → r ≡ Ok more → bytes_from (n + 1) find (bytes ++ more) lines ≡ Err fault → BeginsWith fault (second_faults (n + 1) find (at + size) lines))
     → (r >>= (λ more. bytes_from (n + 1) find (bytes ++ more) lines)) ≡ Err fault
@@ -118,6 +135,16 @@ first_of_all text faults fault all h = subst (BeginsWith fault) (sym all) (fault
 
 pub none_of_all : (text : List ℕ) (faults : List SourceFault) (image : List ℕ) → faults ≡ all_faults text → assembled text ≡ Ok image → faults ≡ []
 none_of_all text faults image all h = all ∙ faults_none (with_lines 1 empty_layout (lines_of text)) (lines_of text) image h
+
+-- a source with faults in the first pass has that fault, and these are all
+refused_by : (r : Result Layout SourceFault) (lines : List (List ℕ)) (faults : List SourceFault) → with_lines 1 empty_layout lines ≡ r → faults ≡ first_faults 1 empty_layout lines → (faults ≡ [] → ⊥)
+    → (fault : SourceFault) × ((r >>= (λ layout. bytes_from 1 (address_of layout.labels) [] lines)) ≡ Err fault) × (faults ≡ faults_by r lines)
+refused_by (Ok l) lines faults is all some = absurd (some (all ∙ first_none 1 empty_layout l lines is))
+refused_by (Err e) lines faults is all some = (e, refl, all)
+
+pub refused_first : (text : List ℕ) (faults : List SourceFault) → faults ≡ first_faults 1 empty_layout (lines_of text) → (faults ≡ [] → ⊥)
+    → (fault : SourceFault) × (assembled text ≡ Err fault) × (faults ≡ all_faults text)
+refused_first text faults all some = refused_by (with_lines 1 empty_layout (lines_of text)) (lines_of text) faults refl all some
 
 -- labels that are looked up alike give the same faults
 module _ (f g : List ℕ → Option ℕ) (alike : (n at : ℕ) (x : Option Line) → line_bytes n f at x ≡ line_bytes n g at x) where

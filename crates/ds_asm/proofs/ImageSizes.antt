@@ -48,7 +48,7 @@ optional_size n find at (Some s) size more few h k =
     let long = statement_length n find at s more k in
     (omega arith, room)
 
-line_size : (n : ℕ) (find : List ℕ → Option ℕ) (m next : Layout) (x : Option Line) (more : List ℕ) → m.size ≤ 65536 → with_line n x m ≡ Ok next → line_bytes n find m.size x ≡ Ok more
+pub line_size : (n : ℕ) (find : List ℕ → Option ℕ) (m next : Layout) (x : Option Line) (more : List ℕ) → m.size ≤ 65536 → with_line n x m ≡ Ok next → line_bytes n find m.size x ≡ Ok more
     → (next.size ≡ m.size + length more) × (next.size ≤ 65536)
 line_size n find m next None more few h k = cc
 line_size n find m next (Some line) more few h k =

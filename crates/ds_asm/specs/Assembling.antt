@@ -67,3 +67,7 @@ Holds m labels = (name : List ℕ) → held_address m name ≡ address_of labels
 pub record IsLaid (m : held.Layout) (l : Layout) : Type 0 where
   pub labels : Holds m.labels l.labels
   pub size : m.size ≡ l.size
+
+-- the text says a layout, and that is held
+abbrev pub Lays : held.Layout → Result Layout SourceFault → Type 0
+Lays m said = (l : Layout) × (said ≡ Ok l) × IsLaid m l

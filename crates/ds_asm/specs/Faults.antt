@@ -2,8 +2,10 @@
 use Rattle.std.specs.Prelude.{◌≡◌, ℕ, ◌+◌, List, [], ◌∷◌, ◌++◌, Option, Some, None, Result, Ok, Err}
 use Rattle.std.specs.Option.{option_to_list}
 use Rattle.ds_asm.specs.declared.fault.SourceFault.{SourceFault}
+use Rattle.ds_asm.specs.declared.faults.Assembled.{Assembled}
+use Rattle.ds_asm.specs.declared.faults.Assembled.TheVariants as came
 use Rattle.ds_asm.specs.Lines.{Statement, Line, line_of}
-use Rattle.ds_asm.specs.Assembly.{Labels, Layout, empty_layout, address_of, size_of, labelled, with_line, with_lines, line_bytes, lines_of}
+use Rattle.ds_asm.specs.Assembly.{Labels, Layout, empty_layout, address_of, size_of, labelled, with_line, with_lines, line_bytes, lines_of, assembled}
 
 -- the label of a line, if it can be read and has one
 abbrev pub label_in : Option Line → Option (List ℕ)
@@ -67,3 +69,8 @@ all_faults text = faults_by (with_lines 1 empty_layout (lines_of text)) (lines_o
 -- this is the first of the faults
 abbrev pub BeginsWith : SourceFault → List SourceFault → Type 0
 BeginsWith fault faults = (others : List SourceFault) × (faults ≡ fault ∷ others)
+
+-- what comes of a source is its image, or all its faults, of which it has one at least
+abbrev pub ComesOf : List ℕ → Assembled → Type 0
+ComesOf text (came.Image image) = assembled text ≡ Ok image
+ComesOf text (came.Faults faults) = (fault : SourceFault) × (assembled text ≡ Err fault) × (faults.items ≡ all_faults text)

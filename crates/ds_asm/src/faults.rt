@@ -1,19 +1,35 @@
 //! All faults of a source.
 ghost use Rattle.std.specs.Prelude.{◌≡◌, ◌≤◌, ◌++◌, ℕ, List, [], IfOk, OnOk, Ok, Err};
 ghost use Rattle.std.specs.Option.{option_to_list};
-ghost use Rattle.ds_asm.specs.Assembling.{held_address};
+ghost use Rattle.ds_asm.specs.Assembling.{Lays, held_address};
 ghost use Rattle.ds_asm.specs.Assembly.{assembled, empty_layout, line_bytes, lines_of, with_lines};
 ghost use Rattle.ds_asm.specs.Assembly as assembly;
-ghost use Rattle.ds_asm.specs.Faults.{BeginsWith, all_faults, fault_in, first_faults, second_faults};
+ghost use Rattle.ds_asm.specs.Faults.{BeginsWith, ComesOf, all_faults, fault_in, first_faults, second_faults};
 ghost use Rattle.ds_asm.specs.Lines.{line_of};
 
 use crate::fault::{AsmFault, SourceFault};
+use crate::image::Image;
 use crate::labels::Labels;
-use crate::layout::{Layout, ORIGIN, layout_of};
+use crate::layout::{Layout, ORIGIN};
 use crate::line::{Statement, line_of};
-use crate::second_pass::{known, resolved};
+use crate::second_pass::{bytes_of, known, resolved};
 use crate::source::{first_line, source_line};
 use std::alloc::{AllocError, Global};
+
+/// What comes of a source: its image, or all its faults.
+#[derive(Drop)]
+pub enum Assembled {
+    Image(Image),
+    /// At most one for each line, in the order of the lines; there is one at least.
+    Faults(Vec<SourceFault>),
+}
+
+/// What the first pass finds: its faults, and where it has none the layout.
+#[derive(Drop)]
+struct FirstPass<'a> {
+    layout: Layout<'a>,
+    faults: Vec<SourceFault>,
+}
 
 /// All faults of a source, at most one for each line, in the order of the lines: those of the first
 /// pass, or, where it has none, those of the second. The first of them is the one that `assemble`
@@ -25,17 +41,37 @@ pub fn all_faults(alloc: Global, text: &[u8]) -> Result<Vec<SourceFault>, AllocE
     ensures none { IfOk result (λ faults. (image : List ℕ) → assembled text.now ≡ Ok image
         → faults.items ≡ []) }
 {
-    match layout_of(alloc, text) {
-        Ok(layout) => second_faults(alloc, text, &layout.labels),
-        Err(AsmFault::Source(_)) => first_faults(alloc, text),
+    match assemble_or_faults(alloc, text)? {
+        Assembled::Image(_) => Ok(Vec::new(alloc)),
+        Assembled::Faults(faults) => Ok(faults),
+    }
+}
+
+/// The image of a source, or all faults that it has, by one walk over its labels.
+pub fn assemble_or_faults(alloc: Global, text: &[u8]) -> Result<Assembled, AllocError>
+    ensures { IfOk result (λ came. ComesOf text.now came) }
+{
+    let FirstPass { layout, faults } = first_pass(alloc, text)?;
+    if !faults.is_empty() {
+        return Ok(Assembled::Faults(faults));
+    }
+    match bytes_of(alloc, text, &layout) {
+        Ok(bytes) => Ok(Assembled::Image(Image::of(bytes))),
+        Err(AsmFault::Source(_)) => {
+            let faults = second_faults(alloc, text, &layout.labels)?;
+            Ok(Assembled::Faults(faults))
+        }
         Err(AsmFault::Memory) => Err(AllocError),
     }
 }
 
-/// The faults of the first pass.
-fn first_faults(alloc: Global, text: &[u8]) -> Result<Vec<SourceFault>, AllocError>
-    ensures { IfOk result (λ faults.
-        faults.items ≡ first_faults 1 empty_layout (lines_of text.now)) }
+/// The first pass, which goes on behind a fault.
+#[inline(never)]
+fn first_pass(alloc: Global, text: &[u8]) -> Result<FirstPass<'_>, AllocError>
+    ensures faults { IfOk result (λ p.
+        p.faults.items ≡ first_faults 1 empty_layout (lines_of text.now)) }
+    ensures laid { IfOk result (λ p. p.faults.items ≡ []
+        → Lays p.layout (with_lines 1 empty_layout (lines_of text.now))) }
 {
     let mut faults = Vec::new(alloc);
     let mut layout = Layout::new(alloc);
@@ -54,7 +90,7 @@ fn first_faults(alloc: Global, text: &[u8]) -> Result<Vec<SourceFault>, AllocErr
         }
         rest = behind;
     }
-    Ok(faults)
+    Ok(FirstPass { layout, faults })
 }
 
 /// The faults of the second pass over a source that the first has laid out.

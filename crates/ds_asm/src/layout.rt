@@ -9,7 +9,7 @@ ghost use Rattle.ds_asm.specs.Plain.{plain_statement};
 
 use crate::fault::{AsmFault, SourceFault};
 use crate::labels::Labels;
-use crate::line::{MOST_BYTES, Statement, line_of};
+use crate::line::{MOST_BYTES, Statement, line_of, says_nothing};
 use crate::source::first_line;
 use std::alloc::Global;
 
@@ -61,6 +61,9 @@ impl<'a> Layout<'a> {
         ensures left { IfErr result (λ fault. fault ≢ AsmFault.Memory → (l : assembly.Layout)
             → IsLaid self.old l → Holds self.new.labels (labels_past number (line_of line.now) l)) }
     {
+        if says_nothing(line) {
+            return Ok(());
+        }
         let line = match line_of(line) {
             Some(line) => line,
             None => return Err(AsmFault::Source(SourceFault::Syntax(number))),

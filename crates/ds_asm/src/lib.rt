@@ -19,7 +19,7 @@ mod source;
 
 pub use assembler::assemble;
 pub use fault::{AsmFault, SourceFault};
-pub use faults::all_faults;
+pub use faults::{Assembled, all_faults, assemble_or_faults};
 pub use image::Image;
 pub use layout::ORIGIN;
 pub use source::{SourceLine, first_line, source_line};

@@ -1,9 +1,9 @@
 //! What a line says: a label, a statement, both or nothing.
-ghost use Rattle.std.specs.Prelude.{◌≡◌, ◌≤◌, option_map, length};
+ghost use Rattle.std.specs.Prelude.{◌≡◌, ◌≤◌, IsTrue, Some, option_map, length};
 ghost use Rattle.std.specs.List.{position_or_len};
 ghost use Rattle.ds_asm.specs.Characters.{is_blank};
 ghost use Rattle.ds_asm.specs.Numbers.{number_of};
-ghost use Rattle.ds_asm.specs.Lines.{mnemonic_of, behind_mnemonic, number_word, instruction_named, statement_named, statement_of, statement_in, with_statement, line_parts, line_of};
+ghost use Rattle.ds_asm.specs.Lines.{mnemonic_of, behind_mnemonic, number_word, instruction_named, statement_named, statement_of, statement_in, with_statement, line_parts, line_of, is_comment, nothing};
 ghost use Rattle.ds_asm.specs.Assembly.{is_reserved_word, is_in_range, is_aligned, size_of};
 ghost use Rattle.ds_asm.specs.Plain.{plain_instruction, plain_statement, plain_line};
 
@@ -93,6 +93,24 @@ pub(crate) fn line_of(line: &[u8]) -> Option<Line<'_>>
         });
     }
     line_parts(said)
+}
+
+/// Whether a line has nothing but blanks before its comment or its end.
+#[inline(always)]
+pub(crate) fn says_nothing(line: &[u8]) -> bool
+    ensures { IsTrue result → line_of line.now ≡ Some nothing }
+{
+    is_comment(without_front_blanks(line))
+}
+
+/// Whether a text is empty or a comment.
+fn is_comment(text: &[u8]) -> bool
+    ensures { result ≡ is_comment text.now }
+{
+    match text {
+        [] => true,
+        [first, ..] => *first == b'#',
+    }
 }
 
 fn line_parts(text: &[u8]) -> Option<Line<'_>>

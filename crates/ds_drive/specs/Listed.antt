@@ -1,8 +1,10 @@
 -- What a listing of a file is, and what is left where there is none.
-use Rattle.std.specs.Prelude.{◌≡◌, ℕ, List, Bool, true, false, Option, Result, Ok}
+use Rattle.std.specs.Prelude.{◌≡◌, ℕ, List, Bool, true, false, Option, Result, Ok, Err}
 use Rattle.std.specs.Io.KnownBytes.{Keeps, Appends}
 use Rattle.ds_asm.specs.declared.fault.SourceFault.{SourceFault}
 use Rattle.ds_asm.specs.Faults.{all_faults}
+use Rattle.ds_listing.specs.declared.annotated.Listed.{Listed}
+use Rattle.ds_listing.specs.declared.annotated.Listed.TheVariants as came
 use Rattle.ds_listing.specs.Listing.{listing_of}
 use Rattle.ds_listing.specs.Sources.{source_of_bytes}
 use Rattle.ds_log.specs.Sent.{AppendsPart}
@@ -17,6 +19,11 @@ use Rattle.ds_words.specs.declared.words.ListRequest.{ListRequest}
 abbrev pub listed : Bool → List ℕ → Result (List ℕ) SourceFault
 listed true bytes = Ok (source_of_bytes bytes)
 listed false text = listing_of text
+
+-- what comes of it: the text, or all faults of the source, of which it has one at least
+abbrev pub IsListed : Bool → List ℕ → Listed → Type 0
+IsListed words bytes (came.Sheet sheet) = listed words bytes ≡ Ok sheet.items
+IsListed words bytes (came.Faults faults) = (fault : SourceFault) × (words ≡ false) × (listed words bytes ≡ Err fault) × (faults.items ≡ all_faults bytes)
 
 -- the named file holds bytes that are listed so, and of their listing this holds
 pub record OfListing (holds : List ℕ → List ℕ → Type 0) (request : ListRequest) (P : List ℕ → Type 0) : Type 0 where
@@ -39,6 +46,8 @@ pub record HasFaults (holds : List ℕ → List ℕ → Type 0) (request : ListR
   pub text : List ℕ
   pub held : holds request.file.now text
   pub source : request.words ≡ false
+  pub first : SourceFault
+  pub refused : listed request.words text ≡ Err first
   pub all : faults ≡ all_faults text
 
 -- what comes of a listing: it is written, or the faults are all that the source has, and nothing is

@@ -8,9 +8,13 @@ use Rattle.ds_check.specs.Lines.{shown_line}
 abbrev pub fault_name : SourceFault → List ℕ
 fault_name fault = decimal (source_fault_number fault) ++ (codes " " ++ (source_fault_name fault ++ codes " "))
 
--- what the line begins with, its number and name, and behind some words the number of the source's line
+-- what its line begins with: some words, its number and name, and some words before the place
+abbrev pub fault_head : List ℕ → List ℕ → SourceFault → List ℕ
+fault_head front place fault = front ++ (fault_name fault ++ (place ++ codes " "))
+
+-- behind that the number of the source's line
 abbrev pub fault_line : List ℕ → List ℕ → SourceFault → List ℕ
-fault_line front place fault = front ++ (fault_name fault ++ (place ++ (codes " " ++ (decimal (source_fault_line fault) ++ codes "\n"))))
+fault_line front place fault = fault_head front place fault ++ (decimal (source_fault_line fault) ++ codes "\n")
 
 -- the line of a source with this number, where the source is shown
 abbrev pub shown_in : Option (List ℕ) → ℕ → List ℕ

@@ -72,7 +72,7 @@ fn read_good<'a, F: Files>(
         Ok(()) => {}
         Err(fault) => {
             drop(sources);
-            return Err(Refused::of_source(alloc, fault, texts));
+            return Err(Refused::of_texts(alloc, fault, texts, input));
         }
     }
     match Events::read(alloc, input.as_slice(), &policy) {

@@ -1,7 +1,7 @@
 //! The faults of a source, told a line each.
-ghost use Rattle.std.specs.Prelude.{◌≡◌, ◌++◌, OnOk, OnErr, flat_map};
+ghost use Rattle.std.specs.Prelude.{◌≡◌, ◌++◌, IfOk, OnOk, OnErr, flat_map};
 ghost use Rattle.std.specs.Io.KnownBytes.{Appends};
-ghost use Rattle.ds_drive.specs.Told.{fault_line, fault_name, shown_in, told_line};
+ghost use Rattle.ds_drive.specs.Told.{fault_head, fault_line, fault_name, shown_in, told_line};
 ghost use Rattle.ds_log.specs.Sent.{AppendsPart};
 
 use ds_asm::SourceFault;
@@ -10,6 +10,7 @@ use ds_log::{WriteFailed, send};
 use itoa::Buffer;
 use std::alloc::{AllocError, Global};
 use std::io::Write;
+use std::marker::Model;
 
 /// How many lines go to the writer at once.
 const LINES_AT_ONCE: usize = 1024;
@@ -38,6 +39,91 @@ impl From<WriteFailed> for Untold {
     }
 }
 
+/// What the lines that tell of faults begin with, up to the number of the source's line, for each
+/// kind of fault.
+#[derive(Drop)]
+struct Heads<'a> {
+    wording: Wording<'a>,
+    syntax: Vec<u8>,
+    unknown_label: Vec<u8>,
+    double_label: Vec<u8>,
+    range: Vec<u8>,
+    too_long: Vec<u8>,
+}
+
+impl<'a> Model for Heads<'a> {
+    ghost use Rattle.std.specs.Prelude.{◌≡◌, ℕ, List};
+    ghost use Rattle.ds_drive.specs.Told.{fault_head};
+    ghost use Rattle.ds_asm.specs.declared.fault.SourceFault.TheVariants as fault;
+
+    ghost Value = { List ℕ × List ℕ };
+
+    ghost view = { λ h. (h.wording.front.now, h.wording.place.now) };
+
+    ghost invariant = { λ h.
+        (h.syntax.items
+        ≡ fault_head h.wording.front.now h.wording.place.now (fault.Syntax 0))
+        × ((h.unknown_label.items
+        ≡ fault_head h.wording.front.now h.wording.place.now (fault.UnknownLabel 0))
+        × ((h.double_label.items
+        ≡ fault_head h.wording.front.now h.wording.place.now (fault.DoubleLabel 0))
+        × ((h.range.items
+        ≡ fault_head h.wording.front.now h.wording.place.now (fault.Range 0))
+        × (h.too_long.items
+        ≡ fault_head h.wording.front.now h.wording.place.now (fault.TooLong 0))))) };
+}
+
+impl<'a> Heads<'a> {
+    fn of(alloc: Global, wording: Wording<'a>) -> Result<Heads<'a>, AllocError>
+        ensures { IfOk result (λ heads.
+            heads ≡ (wording.entry.front.now, wording.entry.place.now)) }
+    {
+        let syntax = head_of(alloc, wording, &SourceFault::Syntax(0))?;
+        let unknown_label = head_of(alloc, wording, &SourceFault::UnknownLabel(0))?;
+        let double_label = head_of(alloc, wording, &SourceFault::DoubleLabel(0))?;
+        let range = head_of(alloc, wording, &SourceFault::Range(0))?;
+        let too_long = head_of(alloc, wording, &SourceFault::TooLong(0))?;
+        Ok(Heads {
+            wording,
+            syntax,
+            unknown_label,
+            double_label,
+            range,
+            too_long,
+        })
+    }
+
+    /// The head of a fault's line.
+    fn head(&self, fault: &SourceFault) -> &[u8]
+        ensures { result.now ≡ fault_head self.now.0 self.now.1 fault.now }
+    {
+        match fault {
+            SourceFault::Syntax(_) => self.syntax.as_slice(),
+            SourceFault::UnknownLabel(_) => self.unknown_label.as_slice(),
+            SourceFault::DoubleLabel(_) => self.double_label.as_slice(),
+            SourceFault::Range(_) => self.range.as_slice(),
+            SourceFault::TooLong(_) => self.too_long.as_slice(),
+        }
+    }
+}
+
+/// What the line of a fault begins with: its number and name, and where it is.
+fn head_of<'a>(
+    alloc: Global,
+    wording: Wording<'a>,
+    fault: &SourceFault,
+) -> Result<Vec<u8>, AllocError>
+    ensures { IfOk result (λ head.
+        head.items ≡ fault_head wording.entry.front.now wording.entry.place.now fault.now) }
+{
+    let mut head = Vec::new(alloc);
+    head.extend_from_slice(wording.front.as_bytes())?;
+    push_name(&mut head, fault)?;
+    head.extend_from_slice(wording.place.as_bytes())?;
+    head.extend_from_slice(b" ")?;
+    Ok(head)
+}
+
 /// Tells of faults, a line each, and shows the source's line below it where the source's lines are
 /// lent. Where the writer fails, or memory runs out, the rest is not told.
 pub(crate) fn tell_lines<'a, 's, E: Write>(
@@ -52,51 +138,40 @@ pub(crate) fn tell_lines<'a, 's, E: Write>(
     ensures front { OnErr result (AppendsPart (E.contents err.old) (E.contents err.new)
         (flat_map (told_line wording.entry.front.now wording.entry.place.now lines.old) faults.now)) }
 {
+    let heads = Heads::of(alloc, wording)?;
     let mut text = Vec::new(alloc);
     let mut told = 0;
     while told < faults.len() {
         let end = faults.len().min(told + LINES_AT_ONCE);
         text.clear();
-        push_lines(&mut text, wording, lines, &faults[told..end])?;
+        push_lines(&mut text, &heads, lines, &faults[told..end])?;
         send(err, &text)?;
         told = end;
     }
     Ok(())
 }
 
+#[inline(never)]
 fn push_lines<'a, 's>(
     text: &mut Vec<u8>,
-    wording: Wording<'a>,
+    heads: &Heads<'a>,
     lines: &mut Option<Lines<'s>>,
     faults: &[SourceFault],
 ) -> Result<(), AllocError>
     ensures text { OnOk result (text.new.items ≡ text.old.items
-        ++ flat_map (told_line wording.entry.front.now wording.entry.place.now lines.old) faults.now) }
+        ++ flat_map (told_line heads.now.0 heads.now.1 lines.old) faults.now) }
     ensures same { lines.new ≡ lines.old }
 {
+    let mut buffer = Buffer::new();
     for fault in faults {
-        push_told(text, wording, lines, fault)?;
+        push_line(text, &mut buffer, heads, fault)?;
+        push_shown(text, lines, fault.line())?;
     }
     Ok(())
 }
 
-/// Adds the line of a fault, and the source's line below it where the source's lines are lent.
-fn push_told<'a, 's>(
-    text: &mut Vec<u8>,
-    wording: Wording<'a>,
-    lines: &mut Option<Lines<'s>>,
-    fault: &SourceFault,
-) -> Result<(), AllocError>
-    ensures text { OnOk result (text.new.items ≡ text.old.items
-        ++ told_line wording.entry.front.now wording.entry.place.now lines.old fault.now) }
-    ensures same { lines.new ≡ lines.old }
-{
-    push_line(text, wording, fault)?;
-    push_shown(text, lines, fault.line())
-}
-
 /// Adds the line of the source of this number, where the source's lines are lent.
-pub(crate) fn push_shown<'s>(
+fn push_shown<'s>(
     text: &mut Vec<u8>,
     lines: &mut Option<Lines<'s>>,
     number: u64,
@@ -110,21 +185,20 @@ pub(crate) fn push_shown<'s>(
     }
 }
 
-/// Adds the line of a fault: its number and name, and the number of the source's line.
+/// Adds the line of a fault: its head, and the number of the source's line.
 fn push_line<'a>(
     text: &mut Vec<u8>,
-    wording: Wording<'a>,
+    buffer: &mut Buffer,
+    heads: &Heads<'a>,
     fault: &SourceFault,
 ) -> Result<(), AllocError>
     ensures { OnOk result (text.new.items ≡ text.old.items
-        ++ fault_line wording.entry.front.now wording.entry.place.now fault.now) }
+        ++ fault_line heads.now.0 heads.now.1 fault.now) }
 {
-    text.extend_from_slice(wording.front.as_bytes())?;
-    push_name(text, fault)?;
-    text.extend_from_slice(wording.place.as_bytes())?;
-    text.extend_from_slice(b" ")?;
-    text.extend_from_slice(Buffer::new().format(fault.line()).as_bytes())?;
-    text.extend_from_slice(b"\n")
+    text.extend_from_slice(heads.head(fault))?;
+    text.extend_from_slice(buffer.format(fault.line()).as_bytes())?;
+    text.push(b'\n')?;
+    Ok(())
 }
 
 /// Adds a fault's number and name.

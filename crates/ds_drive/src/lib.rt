@@ -18,4 +18,4 @@ pub use failure::Failure;
 pub use files::{FileFault, Files, MOST_BYTES, SystemFiles};
 pub use list::{Listing, list_file, tell_faults};
 pub use program::{drive, refuse_words, tell};
-pub use refused::{FaultySource, Refused, tell_refused};
+pub use refused::{FaultyInput, FaultySource, Refused, tell_refused};

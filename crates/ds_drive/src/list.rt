@@ -1,7 +1,6 @@
 //! A file listed: a source with its bytes, or the words of a file as a source.
 ghost use Rattle.std.specs.Prelude.{◌≡◌, ℕ, List, IfErr, IfOk, None, codes, flat_map};
-ghost use Rattle.ds_asm.specs.Assembling.{Assembles};
-ghost use Rattle.ds_drive.specs.Listed.{listed, Lists, FailsBy};
+ghost use Rattle.ds_drive.specs.Listed.{IsListed, Lists, FailsBy};
 ghost use Rattle.ds_drive.specs.Told.{told_line};
 ghost use Rattle.ds_log.specs.Sent.{AppendsPart};
 
@@ -10,12 +9,12 @@ use crate::faults::{Wording, tell_lines};
 use crate::files::Files;
 use crate::run::named_file;
 use crate::status::INPUT_REFUSED;
-use ds_asm::{AsmFault, SourceFault, all_faults};
-use ds_listing::{listing, source_of_bytes};
+use ds_asm::SourceFault;
+use ds_listing::{Listed, listing_or_faults, source_of_bytes};
 use ds_log::send;
 use ds_station::Fault;
 use ds_words::ListRequest;
-use std::alloc::Global;
+use std::alloc::{AllocError, Global};
 use std::io::Write;
 
 /// What came of a listing.
@@ -27,14 +26,15 @@ pub enum Listing {
     Faults(Vec<SourceFault>),
 }
 
-/// The source of a file's words, or the listing of a source.
-fn text_of(alloc: Global, words: bool, bytes: &[u8]) -> Result<Vec<u8>, AsmFault>
-    ensures { Assembles (λ v. v.items) result (listed words bytes.now) }
+/// The source of a file's words, or the listing of a source or all its faults.
+fn listed(alloc: Global, words: bool, bytes: &[u8]) -> Result<Listed, AllocError>
+    ensures { IfOk result (λ came. IsListed words bytes.now came) }
 {
     if words {
-        Ok(source_of_bytes(alloc, bytes)?.into_bytes())
+        let text = source_of_bytes(alloc, bytes)?;
+        Ok(Listed::Sheet(text.into_bytes()))
     } else {
-        listing(alloc, bytes)
+        listing_or_faults(alloc, bytes)
     }
 }
 
@@ -54,13 +54,12 @@ pub fn list_file<'a, F: Files, W: Write>(
         → F.holds files.old file bytes }
 {
     let bytes = named_file(alloc, files, request.file)?;
-    match text_of(alloc, request.words, &bytes) {
-        Ok(text) => match send(out, &text) {
+    match listed(alloc, request.words, &bytes)? {
+        Listed::Sheet(text) => match send(out, &text) {
             Ok(()) => Ok(Listing::Written),
             Err(_) => Err(Failure::Fault(Fault::WriteFault)),
         },
-        Err(AsmFault::Source(_)) => Ok(Listing::Faults(all_faults(alloc, &bytes)?)),
-        Err(AsmFault::Memory) => Err(Failure::Fault(Fault::Memory)),
+        Listed::Faults(faults) => Ok(Listing::Faults(faults)),
     }
 }
 

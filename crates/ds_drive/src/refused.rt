@@ -1,11 +1,13 @@
 //! What a check refuses, and what is told of it besides.
-ghost use Rattle.std.specs.Prelude.{◌≡◌, ◌≤◌, length, None};
+ghost use Rattle.std.specs.Prelude.{◌≡◌, ◌≤◌, ℕ, length, None, Some, OnOk};
+ghost use Rattle.std.specs.Io.KnownBytes.{Appends};
+ghost use Rattle.ds_check.specs.Lines.{shown_line};
 ghost use Rattle.ds_drive.specs.Failures.{failure_number, memory_failure};
 ghost use Rattle.ds_drive.specs.Statuses.{fault_status};
 ghost use Rattle.ds_drive.specs.declared.failure.Failure.TheVariants as failure;
 
 use crate::failure::Failure;
-use crate::faults::{Untold, Wording, push_shown, tell_lines};
+use crate::faults::{Untold, Wording, tell_lines};
 use crate::program::tell;
 use crate::run::SourceText;
 use ds_asm::{SourceFault, all_faults};
@@ -24,6 +26,15 @@ pub struct FaultySource {
     pub faults: Vec<SourceFault>,
 }
 
+/// An input that is at fault.
+#[derive(Drop)]
+pub struct FaultyInput {
+    /// Its text.
+    pub text: Vec<u8>,
+    /// The number of the line that is at fault, from 1.
+    pub line: u64,
+}
+
 /// What a check refuses.
 #[derive(Drop)]
 pub struct Refused<'a> {
@@ -31,6 +42,8 @@ pub struct Refused<'a> {
     pub failure: Failure<'a>,
     /// The source that is at fault, where one is.
     pub source: Option<FaultySource>,
+    /// The input that is at fault, where it is.
+    pub input: Option<FaultyInput>,
     /// The line of the policy's text that is at fault, from 1, where it is known.
     pub line: Option<u64>,
     /// The column there, from 1, where it is known.
@@ -40,11 +53,18 @@ pub struct Refused<'a> {
 impl<'a> Refused<'a> {
     /// A refusal of which nothing is known besides.
     pub(crate) fn plain(failure: Failure<'a>) -> Refused<'a>
-        ensures { result ≡ record { failure = failure.entry; source = None; line = None; column = None } }
+        ensures { result ≡ record {
+          failure = failure.entry;
+          source = None;
+          input = None;
+          line = None;
+          column = None;
+        } }
     {
         Refused {
             failure,
             source: None,
+            input: None,
             line: None,
             column: None,
         }
@@ -70,22 +90,41 @@ impl<'a> Refused<'a> {
         Refused {
             failure: Failure::Fault(fault),
             source: None,
+            input: None,
             line,
             column,
         }
     }
 
-    /// A refusal of what is read behind the policy, with these sources.
-    pub(crate) fn of_source(alloc: Global, fault: Fault, texts: Vec<SourceText>) -> Refused<'a>
+    /// A refusal of what is read behind the policy: of one of these sources, or of the input.
+    pub(crate) fn of_texts(
+        alloc: Global,
+        fault: Fault,
+        texts: Vec<SourceText>,
+        input: Vec<u8>,
+    ) -> Refused<'a>
         ensures { result.failure ≡ failure.Fault fault }
     {
         let source = faulty_source(alloc, &fault, texts);
+        let input = faulty_input(&fault, input);
         Refused {
             failure: Failure::Fault(fault),
             source,
+            input,
             line: None,
             column: None,
         }
+    }
+}
+
+/// The input, if it is at fault.
+fn faulty_input(fault: &Fault, text: Vec<u8>) -> Option<FaultyInput>
+    ensures { (line : ℕ) → fault.now ≡ Fault.InputFault line
+        → result ≡ Some (record { text = text; line = line }) }
+{
+    match fault {
+        Fault::InputFault(line) => Some(FaultyInput { text, line: *line }),
+        _ => None,
     }
 }
 
@@ -130,6 +169,9 @@ pub fn tell_refused<'a, E: Write>(alloc: Global, err: &mut E, refused: &Refused<
     if let Some(source) = &refused.source {
         let _ = tell_source(alloc, err, source);
     }
+    if let Some(input) = &refused.input {
+        let _ = tell_line(alloc, err, &input.text, input.line);
+    }
     if let Some(words) = mend_text(refused.failure.number()) {
         let _ = write!(err, "{words}");
     }
@@ -148,18 +190,28 @@ fn tell_place<'a, E: Write>(err: &mut E, refused: &Refused<'a>) {
     }
 }
 
+/// Shows the line of this number of a text.
+fn tell_line<E: Write>(alloc: Global, err: &mut E, text: &[u8], number: u64) -> Result<(), Untold>
+    ensures { OnOk result (Appends (E.contents err.old) (E.contents err.new)
+        (shown_line text.now number)) }
+{
+    let mut lines = Lines::of(text);
+    let mut shown = Vec::new(alloc);
+    lines.push(&mut shown, number)?;
+    send(err, &shown)?;
+    Ok(())
+}
+
 /// Shows the line of a source's first fault, and tells of the other faults, each with its line.
 fn tell_source<E: Write>(alloc: Global, err: &mut E, source: &FaultySource) -> Result<(), Untold> {
     let wording = Wording {
         front: "and ",
         place: "in line",
     };
-    let mut lines = Some(Lines::of(&source.text));
     match source.faults.as_slice() {
         [first, others @ ..] => {
-            let mut text = Vec::new(alloc);
-            push_shown(&mut text, &mut lines, first.line())?;
-            send(err, &text)?;
+            tell_line(alloc, err, &source.text, first.line())?;
+            let mut lines = Some(Lines::of(&source.text));
             tell_lines(alloc, err, wording, &mut lines, others)
         }
         [] => Ok(()),

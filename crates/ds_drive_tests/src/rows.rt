@@ -167,3 +167,23 @@ nothing is said of it: words are missing, or the cases have no form
     let index = "a input cases run policy input 20\n";
     check(&rt, rt.alloc(), index, cases, 1, wanted)
 }
+
+#[test]
+fn a_wrong_escape_and_a_line_outside_a_case_have_no_form(rt: HostRuntime) -> Result<(), Fail> {
+    let index = "a input cases run policy input 20\n";
+    let wanted = "\
+a input cases run policy input 20: words are missing, or the cases have no form
+";
+    for cases in [
+        "text\n",
+        "== a\n\\y\n-- ok\n",
+        "== a\n\\x\n-- ok\n",
+        "== a\n\\x4\n-- ok\n",
+        "== a\n\\xg0\n-- ok\n",
+        "== a\n-- ok\nmore\n",
+        "== a\n-- 3 Syntax one.s 1\nmore\n",
+    ] {
+        check(&rt, rt.alloc(), index, cases, 1, wanted)?;
+    }
+    Ok(())
+}

@@ -1,12 +1,19 @@
 //! The listing of a source.
-ghost use Rattle.std.specs.Prelude.{◌≡◌, ◌≤◌, ◌++◌, ℕ, List, IfOk, Ok, length, take, drop};
+ghost use Rattle.std.specs.Prelude.{◌≡◌, ◌≤◌, ◌++◌, ℕ, List, IfOk, Ok, length, take, drop, option_map};
+ghost use Rattle.ds_asm.specs.Faults.{label_in, size_in};
+ghost use Rattle.ds_asm.specs.Lines.{line_of};
 ghost use Rattle.std.specs.List.{flat_map};
 ghost use Rattle.ds_asm.specs.Assembling.{Assembles};
 ghost use Rattle.ds_asm.specs.Assembly.{Layout, assembled, empty_layout, lines_of, with_lines};
+ghost use Rattle.ds_listing.specs.Came.{ComesOf, EndsSo};
 ghost use Rattle.ds_listing.specs.Listing.{EndsWithLabels, Shows, listing_of, rows_of, rows_text};
 
 use crate::sheet::Row;
-use ds_asm::{AsmFault, assemble, first_line, source_line};
+use ds_asm::{
+    AsmFault, Assembled, SourceFault, SourceLine, assemble, assemble_or_faults, first_line,
+    source_line,
+};
+use itoa::Buffer;
 use std::alloc::{AllocError, Global};
 
 /// The listing of a source, or its first fault: each line with its number, and, where it has bytes,
@@ -24,20 +31,47 @@ pub fn listing(alloc: Global, text: &[u8]) -> Result<Vec<u8>, AsmFault>
     Ok(sheet)
 }
 
+/// What comes of a source that is to be listed: its listing, or all its faults.
+#[derive(Drop)]
+pub enum Listed {
+    Sheet(Vec<u8>),
+    /// At most one for each line, in the order of the lines; there is one at least.
+    Faults(Vec<SourceFault>),
+}
+
+/// The listing of a source, as `listing` answers it, or all faults that the source has.
+pub fn listing_or_faults(alloc: Global, text: &[u8]) -> Result<Listed, AllocError>
+    ensures text { IfOk result (λ came. ComesOf text.now came) }
+    ensures image { (image : List ℕ) → assembled text.now ≡ Ok image
+        → Shows (rows_of text.now image) image }
+    ensures labels { (layout : Layout) → with_lines 1 empty_layout (lines_of text.now) ≡ Ok layout
+        → IfOk result (λ came. EndsSo layout.labels came) }
+{
+    match assemble_or_faults(alloc, text)? {
+        Assembled::Image(image) => {
+            let sheet = sheet_of(alloc, text, image.bytes())?;
+            Ok(Listed::Sheet(sheet))
+        }
+        Assembled::Faults(faults) => Ok(Listed::Faults(faults)),
+    }
+}
+
 /// The listing of a source that has this image.
+#[inline(never)]
 fn sheet_of(alloc: Global, text: &[u8], image: &[u8]) -> Result<Vec<u8>, AllocError>
     requires { length image.now ≤ 65536 }
     ensures { IfOk result (λ v. v.items ≡ rows_text (rows_of text.now image.now)) }
 {
     let mut lines = Vec::new(alloc);
     let mut labels = Vec::new(alloc);
+    let mut buffer = Buffer::new();
     let mut number = 0u64;
     let mut place = 0u32;
     let mut rest = text;
     let mut left = image;
     while !rest.is_empty() {
         let (line, behind) = first_line(rest);
-        let said = source_line(line);
+        let said = said_by(line);
         let (bytes, further) = cut(left, said.size);
         number += 1;
         let row = Row {
@@ -47,7 +81,7 @@ fn sheet_of(alloc: Global, text: &[u8], image: &[u8]) -> Result<Vec<u8>, AllocEr
             label: said.label,
             text: line,
         };
-        row.push(&mut lines)?;
+        row.push(&mut lines, &mut buffer)?;
         row.push_label(&mut labels)?;
         place += bytes.len() as u32;
         left = further;
@@ -56,6 +90,22 @@ fn sheet_of(alloc: Global, text: &[u8], image: &[u8]) -> Result<Vec<u8>, AllocEr
     lines.extend_from_slice(b"labels\n")?;
     lines.extend_from_slice(&labels)?;
     Ok(lines)
+}
+
+/// What a line adds to its source; an empty one is known without a look at it.
+#[inline(always)]
+#[tactic(auto, unfolding(ds_asm::specs::Lines::line_of))]
+fn said_by(line: &[u8]) -> SourceLine<'_>
+    ensures label { option_map (λ t. t.now) result.label ≡ label_in (line_of line.now) }
+    ensures size { result.size ≡ size_in (line_of line.now) }
+{
+    if line.is_empty() {
+        return SourceLine {
+            label: None,
+            size: 0,
+        };
+    }
+    source_line(line)
 }
 
 /// So many bytes, or all where they are fewer, and what stands behind them.

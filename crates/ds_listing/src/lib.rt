@@ -11,7 +11,7 @@ mod operand;
 mod sheet;
 mod source;
 
-pub use annotated::listing;
+pub use annotated::{Listed, listing, listing_or_faults};
 pub use bytes::source_of_bytes;
 pub use law::a_word_is_read_back;
 pub use line::push_word;

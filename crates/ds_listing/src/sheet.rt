@@ -16,11 +16,11 @@ const NUMBER_WIDTH: usize = 5;
 /// How wide the bytes of a line are at least.
 const BYTES_WIDTH: usize = 10;
 
-/// How wide an address and bytes are together.
-const SHOWN_WIDTH: usize = 20;
+/// As many blanks as stand together before a number or behind bytes at most.
+const BLANKS: &[u8] = b"          ";
 
-/// As many blanks as stand together at most.
-const BLANKS: [u8; SHOWN_WIDTH] = [b' '; SHOWN_WIDTH];
+/// What stands behind the number of a line that has no bytes.
+const NO_BYTES: &[u8] = b"                        ";
 
 /// A line of a source, with what it has of the image.
 #[derive(Clone, Copy)]
@@ -38,11 +38,11 @@ pub(crate) struct Row<'a> {
 
 impl<'a> Row<'a> {
     /// Adds the line with its number, its place and its bytes.
-    pub(crate) fn push(&self, sheet: &mut Vec<u8>) -> Result<(), AllocError>
+    pub(crate) fn push(&self, sheet: &mut Vec<u8>, buffer: &mut Buffer) -> Result<(), AllocError>
         requires { self.now.place ≤ 65536 }
         ensures { OnOk result (sheet.new.items ≡ sheet.old.items ++ row_text (plain_row self.now)) }
     {
-        push_number(sheet, self.number)?;
+        push_number(sheet, buffer, self.number)?;
         if !self.text.is_empty() {
             self.push_behind_number(sheet)?;
         }
@@ -56,9 +56,7 @@ impl<'a> Row<'a> {
         ensures { OnOk result (sheet.new.items
             ≡ sheet.old.items ++ behind_number (plain_row self.now) self.now.text.now) }
     {
-        sheet.extend_from_slice(b"  ")?;
         push_shown(sheet, self.place, self.bytes)?;
-        sheet.extend_from_slice(b"  ")?;
         sheet.extend_from_slice(self.text)
     }
 
@@ -81,29 +79,34 @@ impl<'a> Row<'a> {
     }
 }
 
-fn push_number(sheet: &mut Vec<u8>, number: u64) -> Result<(), AllocError>
+fn push_number(sheet: &mut Vec<u8>, buffer: &mut Buffer, number: u64) -> Result<(), AllocError>
     ensures { OnOk result (sheet.new.items ≡ sheet.old.items ++ blanks_before 5 (decimal number)) }
 {
-    let mut buffer = Buffer::new();
     let digits = buffer.format(number).as_bytes();
-    push_blanks(sheet, NUMBER_WIDTH.saturating_sub(digits.len()))?;
+    if digits.len() < NUMBER_WIDTH {
+        push_blanks(sheet, NUMBER_WIDTH - digits.len())?;
+    }
     sheet.extend_from_slice(digits)
 }
 
-/// Adds where bytes stand, and the bytes, or blanks where there are none.
+/// Adds where bytes stand, and the bytes, with two blanks before and behind; blanks as wide where
+/// there are no bytes.
 fn push_shown(sheet: &mut Vec<u8>, place: u32, bytes: &[u8]) -> Result<(), AllocError>
     requires { place ≤ 65536 }
-    ensures { OnOk result (sheet.new.items ≡ sheet.old.items ++ shown_text place bytes.now) }
+    ensures { OnOk result (sheet.new.items ≡ sheet.old.items
+        ++ (codes "  " ++ (shown_text place bytes.now ++ codes "  "))) }
 {
     if bytes.is_empty() {
-        return push_blanks(sheet, SHOWN_WIDTH);
+        return sheet.extend_from_slice(NO_BYTES);
     }
+    sheet.extend_from_slice(b"  ")?;
     push_address(sheet, place)?;
     sheet.extend_from_slice(b"  ")?;
     let start = sheet.len();
     push_bytes(sheet, bytes)?;
     let width = sheet.len() - start;
-    push_blanks(sheet, BYTES_WIDTH.saturating_sub(width))
+    push_blanks(sheet, BYTES_WIDTH.saturating_sub(width))?;
+    sheet.extend_from_slice(b"  ")
 }
 
 /// Adds four bytes as their word, one byte, or the number of zeros.
@@ -160,7 +163,7 @@ fn push_half(sheet: &mut Vec<u8>, half: u32) -> Result<(), AllocError>
 
 #[tactic(auto, using(crate::proofs::Blanks::some_blanks))]
 fn push_blanks(sheet: &mut Vec<u8>, count: usize) -> Result<(), AllocError>
-    requires { count ≤ 20 }
+    requires { count ≤ 10 }
     ensures { OnOk result (sheet.new.items ≡ sheet.old.items ++ replicate count 32) }
 {
     sheet.extend_from_slice(&BLANKS[..count])

@@ -1,8 +1,5 @@
 //! The cases of a table, as its file has them.
 
-#[cfg(test)]
-mod tests;
-
 use ds_word::digit_of;
 use std::alloc::{AllocError, Global};
 

@@ -2,9 +2,6 @@
 ghost use Rattle.std.specs.Prelude.{◌≡◌, IfSome, None, Some};
 ghost use Rattle.ds_rows.specs.Outcomes.{DifferFrom, text_of};
 
-#[cfg(test)]
-mod tests;
-
 use std::fmt;
 
 /// What came of a row or a case.

@@ -5,6 +5,6 @@ use Rattle.ds_drive.proofs.faults.push_lines.Given as goal
 
 abbrev pub invariant-loop-fault : goal.invariant-loop-fault
 invariant-loop-fault l = record {
-  text : l.text.items ≡ l.fn.text.items ++ flat_map (told_line l.wording.front.now l.wording.place.now l.fn.lines) (take l.fault-index l.faults);
+  text : l.text.items ≡ l.fn.text.items ++ flat_map (told_line l.heads.0 l.heads.1 l.fn.lines) (take l.fault-index l.faults);
   same : l.lines ≡ l.fn.lines;
 }
