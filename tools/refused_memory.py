@@ -10,21 +10,19 @@ n = 0 too is none of the run.
 comment in the input: it is twice as long from case to case, and to read it takes one growth more, so the Nth growth is
 from case to case the one before. A text that lacks its last line end alone is not told from a whole one.
 """
-import os
 import re
 import subprocess
 import sys
 import tempfile
-from concurrent.futures import ThreadPoolExecutor
 from pathlib import Path
 from typing import NamedTuple, Optional
 
 PROGRAM = Path(__file__).resolve().parent.parent / "crates" / "dsmon"
-GROWTH = 168
-STEP = 6  # so far it is moved where it does not fit
-MOST_BUILDS = 4
-MOST_LANES = 2  # so many share the cases, and each builds the program
-LENGTHS = [0] + [3 << (k + 7) for k in range(1, 15)]  # of the comments, each one growth more than the one before
+GROWTH = 167
+STEP = 4  # so far it is moved where it does not fit
+MOST_BUILDS = 6
+# (of the comments, each one growth more than the one before; a longer one takes as long to read as the whole run)
+LENGTHS = [0] + [3 << (k + 7) for k in range(1, 12)]
 BYTES = 257  # one more than a console makes room for at once
 TICKS = 2 * BYTES + 6  # of the whole run, which is denied at time 515
 KNOWN = [*range(4), *range(2 * BYTES - 6, TICKS + 1)]  # the times near the growths of the run
@@ -79,15 +77,8 @@ def command(growth, folder):
 
 
 def tried(growth):
-    """The runs of all cases by their names, with this growth refused in each. Lanes share them out."""
-    found, lanes = list(cases().items()), min(len(os.sched_getaffinity(0)), MOST_LANES)
-    with ThreadPoolExecutor(lanes) as pool:
-        parts = pool.map(lambda lane: tried_of(growth, dict(found[lane::lanes])), range(lanes))
-        return {name: run for part in parts for name, run in part.items()}
-
-
-def tried_of(growth, some):
-    """The runs of some cases."""
+    """The runs of all cases by their names, with this growth refused in each. One build serves them all, and takes longer than they do."""
+    some = cases()
     with tempfile.TemporaryDirectory(prefix="refused-memory-") as folder:
         top = Path(folder)
         (top / "cases").mkdir()

@@ -10,7 +10,7 @@ sys.dont_write_bytecode = True
 from refused_memory import BYTES, GROWTH, LENGTHS, MOST_BUILDS, STEP, TICKS, Run, Wrong  # noqa: E402
 from refused_memory import cases, fitting, read, verdict  # noqa: E402
 
-PREPARATION = GROWTH - 11  # the growths before the run
+PREPARATION = GROWTH - 10  # the growths before the run
 CUTS = [0, 0, 0, 0, 0, 514, 516]  # the time at which each growth of the run comes
 FIRST = next(k for k in range(len(LENGTHS)) if PREPARATION + k + len(CUTS) >= GROWTH)  # the first case that is cut
 CUT = f"whole-{FIRST:02}"

@@ -12,6 +12,7 @@ sys.dont_write_bytecode = True
 from wrong_bodies.command import main  # noqa: E402
 from wrong_bodies.crates import Repository  # noqa: E402
 from wrong_bodies.kinds import Kind, kind_of  # noqa: E402
+from wrong_bodies.laws import read_turned  # noqa: E402
 from wrong_bodies.record import Record, sum_of, toolchain  # noqa: E402
 from wrong_bodies.trying import Tried  # noqa: E402
 
@@ -78,6 +79,52 @@ abbrev pub order_of : Lamp → ℕ
 order_of Red = 3
 order_of Green = 4
 """
+LAWS = """\
+//! Laws of definitions that may be turned.
+#![tactic(auto)]
+
+ghost use Rattle.std.specs.Prelude.{◌<◌};
+ghost use Rattle.laws.specs.Numbers.{after};
+
+/// The number after another is above it.
+pub fn a_number_is_below_the_next(n: u32)
+    ensures { n < after n }
+{
+}
+"""
+NUMBERS = """\
+use Rattle.std.specs.Prelude.{ℕ, ◌+◌}
+
+-- a number and itself
+abbrev pub double : ℕ → ℕ
+double n = n + n
+
+-- the number after another
+abbrev pub after : ℕ → ℕ
+after n = n + 1
+
+-- a number that nothing speaks of
+abbrev pub unused : ℕ
+unused = 1
+"""
+ROWS = """\
+use Rattle.std.specs.Prelude.{◌≡◌, refl}
+use Rattle.laws.specs.Numbers.{double}
+
+pub double_0_is_0 : double 0 ≡ 0
+double_0_is_0 = refl
+
+pub double_2_is_4 : double 2 ≡ 4
+double_2_is_4 = refl
+"""
+TURNED = {
+    "after.the_same.edit": ("after n = n + 1", "after n = n"),
+    "double.another_row.edit": ("double n = n + n", "double n = n + n + n", "row: double_0_is_0"),
+    "double.its_row.edit": ("double n = n + n", "double n = n + n + n", "row: double_2_is_4"),
+    "double.no_row.edit": ("double n = n + n", "double n = n + n + n", "row: double_3_is_6"),
+    "unused.harmless.edit": ("unused = 1", "unused = 2"),
+    "unused.unreadable.edit": ("unused = 1", "unused = missing"),
+}
 EDITS = {
     "next.a_constant.edit": ("const FIRST: u32 = 1;", "const FIRST: u32 = 2;"),
     "next.a_constant_named.edit": ("const FIRST: u32 = 1;", "const FIRST: u32 = 3;", "function: next"),
@@ -99,18 +146,25 @@ def write(root, files):
         Path(root, path).write_text(text, "utf-8")
 
 
-def edit_text(old, new, *more):
-    return "\n".join(["file: src/lib.rt", *more, f"old: {old}", f"new: {new}", ""])
+def edit_text(old, new, *more, file="src/lib.rt"):
+    return "\n".join([f"file: {file}", *more, f"old: {old}", f"new: {new}", ""])
+
+
+def crate_files(name, code, **specs):
+    """The files of a crate by their paths: its code, and its definitions by their modules."""
+    found = {f"crates/{name}/src/lib.rt": code, f"crates/{name}/specs/Lib.antt": "".join(f"pub mod {it}\n" for it in specs)}
+    return {**found, **{f"crates/{name}/specs/{it}.antt": text for it, text in specs.items()}}
 
 
 class Verdicts(unittest.TestCase):
-    """One run over a crate, and what it said of each edit."""
+    """One run over a crate of code and a crate of laws, and what it said of each edit."""
 
     @classmethod
     def setUpClass(cls):
         cls.room = tempfile.TemporaryDirectory(prefix="wrong-bodies-test-")
-        files = {"crates.txt": "toy:\n", "crates/toy/src/lib.rt": CODE, "crates/toy/specs/Lib.antt": "pub mod Lamps\n", "crates/toy/specs/Lamps.antt": SPEC}
-        write(cls.room.name, {**files, **{f"crates/toy/wrong/{name}": edit_text(*words) for name, words in EDITS.items()}})
+        write(cls.room.name, {"crates.txt": "toy:\nlaws:\n", **crate_files("toy", CODE, Lamps=SPEC), **crate_files("laws", LAWS, Numbers=NUMBERS, Rows=ROWS)})
+        write(cls.room.name, {f"crates/toy/wrong/{name}": edit_text(*words) for name, words in EDITS.items()})
+        write(cls.room.name, {f"crates/laws/wrong/{name}": edit_text(*words, file="specs/Numbers.antt") for name, words in TURNED.items()})
         Path(cls.room.name, "tools").mkdir()
         cls.status, cls.said, cls.checks = run(cls.room.name, "--all")
 
@@ -118,11 +172,11 @@ class Verdicts(unittest.TestCase):
     def tearDownClass(cls):
         cls.room.cleanup()
 
-    def verdict(self, name):
+    def verdict(self, name, crate="toy"):
         """Returns the line that tells of an edit, without its name."""
-        found = [it for it in self.said.splitlines() if f": toy/{name}.edit: " in it]
+        found = [it for it in self.said.splitlines() if f": {crate}/{name}.edit: " in it]
         self.assertTrue(found, self.said)
-        return found[0].replace(f"toy/{name}.edit: ", "")
+        return found[0].replace(f"{crate}/{name}.edit: ", "")
 
     def test_a_harmless_edit_is_not_refused(self):
         self.assertIn("NOT REFUSED: ", self.verdict("next.harmless"))
@@ -149,13 +203,28 @@ class Verdicts(unittest.TestCase):
         self.assertEqual("refused by a public clause: alone: next: returns", self.verdict("next.a_constant"))
         self.assertEqual("refused by a public clause: next: returns", self.verdict("next.a_constant_named"))
 
+    def test_a_turned_definition_is_refused_by_its_row_or_by_a_law(self):
+        self.assertEqual("refused by a law or a worked row: the row double_2_is_4", self.verdict("double.its_row", "laws"))
+        self.assertIn("refused by a law or a worked row: a_number_is_below_the_next: returns", self.verdict("after.the_same", "laws"))
+
+    def test_a_turned_definition_whose_row_still_holds_is_not_refused(self):
+        self.assertEqual("NOT REFUSED: the row double_0_is_0 still holds; refused is double_2_is_4", self.verdict("double.another_row", "laws"))
+
+    def test_a_turned_definition_that_breaks_nothing_is_not_refused(self):
+        self.assertEqual("NOT REFUSED: the crate is still proved with this edit", self.verdict("unused.harmless", "laws"))
+
+    def test_a_turned_definition_with_a_name_of_nothing_is_a_bad_edit(self):
+        self.assertEqual("BAD EDIT: the crate has no row double_3_is_6", self.verdict("double.no_row", "laws"))
+        self.assertIn("BAD EDIT: the prover cannot read it", self.verdict("unused.unreadable", "laws"))
+
     def test_edits_share_checks(self):
         shared = [it for it in self.checks.splitlines() if " 4 edits" in it or " 5 edits" in it or " 6 edits" in it]
         self.assertTrue(shared, self.checks)
 
     def test_the_last_line_counts(self):
         self.assertEqual(1, self.status)
-        self.assertEqual("8 passed, 3 failed", self.said.splitlines()[-1])
+        self.assertEqual("10 passed, 7 failed", self.said.splitlines()[-1])
+        self.assertIn("laws: 6 wrong bodies: 0 by a public clause, 0 by a private clause, 0 by a proof script, 2 by a law or a worked row", self.said)
 
     def test_a_crate_with_an_edit_that_is_not_refused_has_no_line_in_the_record(self):
         self.assertEqual({}, Record(f"{self.room.name}/tools/wrong_bodies.record").lines)
@@ -187,6 +256,7 @@ class Recorded(unittest.TestCase):
 
     def sum(self):
         repository = Repository(self.room.name)
+        read_turned(repository, "wrong")
         return sum_of(repository, repository.crates["upper"])
 
     def after(self, path, old, new):
@@ -250,6 +320,13 @@ class Recorded(unittest.TestCase):
     def test_its_own_body_changes_it(self):
         self.assertNotEqual(self.before, self.after("upper/src/lib.rt", "    one()", "    one() + 0"))
 
+    def test_an_edit_of_a_definition_changes_it(self):
+        file = "upper/specs/Twos.antt"
+        write(self.room.name, {f"crates/{file}": "abbrev pub two : ℕ\ntwo = 2\n", "crates/upper/wrong/two.three.edit": edit_text("two = 2", "two = 3", file="specs/Twos.antt")})
+        found = self.sum()
+        self.assertNotEqual(self.before, found)
+        self.assertNotEqual(found, self.after("upper/wrong/two.three.edit", "two = 3", "two = 4"))
+
     def test_an_edit_changes_it(self):
         self.assertNotEqual(self.before, self.after("upper/wrong/first.none.edit", "new:     0", "new:     2"))
 
@@ -257,7 +334,7 @@ class Recorded(unittest.TestCase):
         """The record with these lines of the upper crate: the toolchain of each, and the sum."""
         record = Record(f"{self.room.name}/tools/wrong_bodies.record")
         record.path.parent.mkdir(exist_ok=True)
-        record.lines = {("upper", version): (found, {"public": 1, "private": 0, "script": 0}) for version, found in lines}
+        record.lines = {("upper", version): (found, {"public": 1, "private": 0, "script": 0, "law": 0}) for version, found in lines}
         record.write(["lower", "upper"])
         return record
 

@@ -17,6 +17,7 @@ COMMANDS = [  # those that take longest first
     ["tools/test_reading_cases.py"],
     ["tools/test_grants_cases.py"],
     ["tools/test_refused_memory.py"],
+    ["tools/test_gate_times.py"],
     ["tools/test_refusals.py"],
     ["tools/test_tests.py"],
     ["tools/refusals.py", "--check"],

@@ -8,7 +8,7 @@ from concurrent.futures import ThreadPoolExecutor, as_completed
 from pathlib import Path
 
 from .crates import Repository
-from .kinds import Kind
+from .laws import KINDS, read_turned, try_turned
 from .record import Record, sum_of, toolchain
 from .trying import try_crate
 
@@ -41,24 +41,31 @@ def arguments(words):
 
 
 def by_kinds(counts):
-    return ", ".join(f"{counts[it.word]} by {it.words}" for it in Kind)
+    return ", ".join(f"{counts[it.word]} by {it.words}" for it in KINDS)
+
+
+def edits_of(crate):
+    """Returns the edits of a crate, those of code and those of definitions."""
+    return [*crate.edits, *crate.turned]
 
 
 def pick(repository, names):
     """Leaves the edits that are named, where some are, and returns the crates of the names. Raises `LookupError` at a name of nothing."""
     for name in names:
         crate, _, edit = name.partition("/")
-        if crate not in repository.crates or edit and not any(it.is_named(edit) for it in repository.crates[crate].edits):
+        if crate not in repository.crates or edit and not any(it.is_named(edit) for it in edits_of(repository.crates[crate])):
             raise LookupError(name)
     for crate in repository.crates.values():
         edits = [it.partition("/")[2] for it in names if it.startswith(f"{crate.name}/")]
-        crate.edits = [it for it in crate.edits if not edits or any(map(it.is_named, edits))]
+        is_left = lambda it: not edits or any(map(it.is_named, edits))
+        crate.edits, crate.turned = [*filter(is_left, crate.edits)], [*filter(is_left, crate.turned)]
     return {it.partition("/")[0] for it in names}
 
 
 def main(words):
     given, began = arguments(words), time.monotonic()
     repository = Repository(given.root, given.edits)
+    read_turned(repository, given.edits)
     try:
         named = pick(repository, given.names)
     except LookupError as error:
@@ -67,7 +74,7 @@ def main(words):
     is_kept = given.edits == "wrong" and not any("/" in it for it in given.names)
     record = Record(given.record or f"{repository.root}/tools/wrong_bodies.record") if is_kept else None
     version = toolchain()
-    crates = [it for it in repository.crates.values() if it.edits]
+    crates = [it for it in repository.crates.values() if edits_of(it)]
     sums = {it.name: sum_of(repository, it) for it in crates}
     known = {it.name: record.counts(it.name, version, sums[it.name]) for it in crates} if record else {}
     chosen = [it for it in crates if given.all or it.name in named or given.changed and known.get(it.name) is None]
@@ -87,23 +94,30 @@ def try_all(repository, crates, given):
     done = []
     jobs = lambda: max(given.lanes // max(len(crates) - len(done), 1), 1)
     with ThreadPoolExecutor(max(given.lanes, 1)) as lanes:
-        order = sorted(crates, key=lambda it: -len(it.edits))
-        for it in as_completed([lanes.submit(try_crate, repository, crate, given.proved, jobs, given.said) for crate in order]):
+        order = sorted(crates, key=lambda it: -len(edits_of(it)))
+        for it in as_completed([lanes.submit(try_edits, repository, crate, given.proved, jobs, given.said) for crate in order]):
             done.append(it)
             yield it.result()
+
+
+def try_edits(repository, crate, *how):
+    """Tries all edits of a crate, those of code first."""
+    tried = try_crate(repository, crate, *how)
+    try_turned(repository, crate, tried, *how)
+    return tried
 
 
 def tell(tried, seconds, recorded, known):
     """Prints what was found, and returns the status."""
     total, failed = Counter(), [it for crate in tried for it in crate.failed()]
     for it in tried:
-        counts = {kind.word: it.refused(kind) for kind in Kind}
+        counts = {kind.word: it.refused(kind) for kind in KINDS}
         total.update(counts)
         print(f"{it.crate.name}: {len(it.edits)} wrong bodies: {by_kinds(counts)}; {it.checks} checks, {it.seconds:.0f} s of processor time")
     for it in recorded:
         total.update(known[it.name])
     now = sum(len(it.edits) for it in tried)
-    print(f"{now} tried in {seconds:.0f} s, {sum(it.seconds for it in tried):.0f} s of processor time; {sum(map(len, (it.edits for it in recorded)))} by the record")
+    print(f"{now} tried in {seconds:.0f} s, {sum(it.seconds for it in tried):.0f} s of processor time; {sum(map(len, map(edits_of, recorded)))} by the record")
     for it in failed:
         print(it)
     print(f"refused: {by_kinds(total)}")

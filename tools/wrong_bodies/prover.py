@@ -142,12 +142,13 @@ def build_below(repository, crate):
 
 
 def is_left_by_ci(crate):
-    """Returns whether rt ci built a library, which it does without a stamp, from the texts that stand now."""
+    """Returns whether rt ci built a library, which it does without a stamp, from the texts that stand now. What it kept from an earlier run
+    has the time of that run, so the time counts at which it was put there."""
     made = Path(crate.folder, "out/rlib", f"{crate.name}.rlib", "format")
     if not made.is_file() or Path(crate.folder, "out/rlib/stamp").is_file():
         return False
     texts = [path for part in ("src", "specs", "proofs") for path in Path(crate.folder, part).rglob("*.*") if path.is_file()]
-    return all(it.stat().st_mtime <= made.stat().st_mtime for it in texts)
+    return all(it.stat().st_mtime <= made.stat().st_ctime for it in texts)
 
 
 def built(crate):

@@ -1,8 +1,8 @@
 """The record: what was found of each crate's wrong bodies, with which toolchain, and a sum of all else that this rests on.
 
-A line is `CRATE SUM TOOLCHAIN public=N private=N script=N`. It is written where every wrong body of the crate is refused. The sum is of the
+A line is `CRATE SUM TOOLCHAIN public=N private=N script=N law=N`. It is written where every wrong body of the crate is refused. The sum is of the
 crate's code, definitions and proofs, without comments and tests; of its edits; of what the crates below it state, and not of their bodies;
-and of the modules of this script that judge. A crate has a line for each toolchain with which the same texts were tried.
+and of the modules of this script that judge them, among which the one for definitions counts only where there are edits of these. A crate has a line for each toolchain with which the same texts were tried.
 """
 import hashlib
 import json
@@ -11,12 +11,13 @@ import subprocess
 from pathlib import Path
 
 from .crates import NAMED_PROOF
-from .kinds import Kind
+from .laws import KINDS
 
 JUDGING = ("sources", "crates", "edits", "prover", "kinds", "trying")
+JUDGING_TURNED = "laws"
 HEAD = """\
 # What tools/wrong_bodies.py found: CRATE, a sum of the texts that it rests on, the toolchain, and how many wrong bodies are refused
-# by a public clause, by a private clause, and by a proof script. Written by the script: docs/gate.md says how.
+# by a public clause, by a private clause, by a proof script, and by a law or a worked row. Written by the script: docs/gate.md says how.
 """
 
 
@@ -30,10 +31,16 @@ def sum_of(repository, crate):
     own = {path: crate.sources.words(path) for path in crate.sources.texts}
     logic = {**crate.logic("specs"), **crate.logic("proofs")}
     edits = [(it.name, it.words, it.unreadable) for it in crate.edits]
-    judges = [Path(__file__).with_name(f"{it}.py").read_text("utf-8") for it in JUDGING]
+    judges = [text_of_module(it) for it in JUDGING]
     below = [stated_to(crate, it) for it in repository.below(crate)]
-    parts = [judges, crate.name, crate.uses, own, logic, edits, below]
+    turned = [[text_of_module(JUDGING_TURNED), [(it.name, it.words, it.unreadable) for it in crate.turned]]] if crate.turned else []
+    parts = [judges, crate.name, crate.uses, own, logic, edits, below, *turned]
     return hashlib.sha256(json.dumps(parts, sort_keys=True).encode()).hexdigest()
+
+
+def text_of_module(name):
+    """Returns the text of a module of this script."""
+    return Path(__file__).with_name(f"{name}.py").read_text("utf-8")
 
 
 def stated_to(crate, lower):
@@ -68,7 +75,7 @@ class Record:
         name = tried.crate.name
         self.lines = {at: line for at, line in self.lines.items() if at[0] != name or at[1] != version and line[0] == found}
         if not tried.failed():
-            self.lines[name, version] = (found, {kind.word: tried.refused(kind) for kind in Kind})
+            self.lines[name, version] = (found, {kind.word: tried.refused(kind) for kind in KINDS})
         self.write(order)
 
     def write(self, order):
