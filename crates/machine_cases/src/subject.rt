@@ -2,7 +2,7 @@
 
 use crate::case::{numbers, step_of};
 use crate::programs::{entry_behind, fault_of, registers_behind};
-use crate::words::{instruction_of, kind_of_all, registers_of};
+use crate::words::{instruction_of, kind_of_all, operation_of, registers_of};
 use crate::{arithmetic, bus, system};
 use ds_cp0::Cp0;
 use ds_dev::Bus;
@@ -37,6 +37,8 @@ pub enum Subject {
     Decoded,
     /// Words and the registers that their instructions use.
     Registers,
+    /// Words and the operations of their instructions.
+    Operations,
     /// Words that fit no row.
     Rowless,
     /// Steps on the system coprocessor.
@@ -52,10 +54,11 @@ pub enum Subject {
 }
 
 /// All of them, in the order in which they are told.
-pub const SUBJECTS: [Subject; 12] = [
+pub const SUBJECTS: [Subject; 13] = [
     Subject::Arithmetic,
     Subject::Decoded,
     Subject::Registers,
+    Subject::Operations,
     Subject::Rowless,
     Subject::System,
     Subject::Bus,
@@ -81,6 +84,7 @@ impl Subject {
             Subject::Arithmetic => "arithmetic",
             Subject::Decoded => "decoded",
             Subject::Registers => "registers",
+            Subject::Operations => "operations",
             Subject::Rowless => "rowless",
             Subject::System => "system",
             Subject::Bus => "bus",
@@ -108,9 +112,10 @@ impl Subject {
             Subject::Arithmetic => arithmetic::answer(alloc, step, operands),
             Subject::System => system::answer(alloc, &mut machine.cp0, step, operands),
             Subject::Bus => bus::answer(alloc, &mut machine.bus, step, operands),
-            Subject::Decoded | Subject::Registers | Subject::Rowless => {
-                self.of_words(alloc, operands)
-            }
+            Subject::Decoded
+            | Subject::Registers
+            | Subject::Operations
+            | Subject::Rowless => self.of_words(alloc, operands),
             Subject::Faults(_) | Subject::Late(_) | Subject::Entries(_) => {
                 self.of_program(alloc, &mut machine.bus, operands)
             }
@@ -122,6 +127,7 @@ impl Subject {
         match (self, words) {
             (Subject::Decoded, [word]) => instruction_of(alloc, *word).map(Some),
             (Subject::Registers, [word]) => registers_of(alloc, *word).map(Some),
+            (Subject::Operations, [word]) => operation_of(alloc, *word).map(Some),
             (Subject::Rowless, words) => kind_of_all(alloc, words).map(Some),
             _ => Ok(None),
         }

@@ -3,6 +3,7 @@ ghost use Rattle.std.specs.Prelude.{◌≡◌, ℕ};
 ghost use Rattle.ds_isa.specs.Instruction.{instruction_of};
 
 use ds_isa::{Instr, decode, encode, is_branch, links, reads, writes};
+use ds_operations::Operation;
 use std::alloc::{AllocError, Global};
 use std::fmt;
 
@@ -39,6 +40,12 @@ pub fn registers_of(alloc: Global, word: u32) -> Result<String, AllocError> {
     let (written, linked) = (Register(writes(&instr)), Register(links(&instr)));
     let kind = if is_branch(&instr) { "branch" } else { "other" };
     format!(in alloc; "{rs} {rt} {written} {linked} {kind}")
+}
+
+/// The kind of a word's operation, by which a stretch does its instruction.
+pub fn operation_of(alloc: Global, word: u32) -> Result<String, AllocError> {
+    let kind = Operation::of(decode(word)).kind;
+    format!(in alloc; "{kind:?}")
 }
 
 /// Whether a word fits a row of the table.
