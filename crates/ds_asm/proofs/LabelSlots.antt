@@ -1,5 +1,5 @@
 -- Labels in slots: what is found there, and what of it a write leaves as it was.
-use Rattle.std.proofs.Common.{◌≡◌, ◌∙◌, sym, ap, subst, refl, inl, inr, ◌⊎◌, ℕ, zero, suc, ◌+◌, ◌-◌, ◌%◌, ◌<◌, ◌≤◌, ◌==◌, nat_lt, Bool, ◌&&◌, true, false, bytes_eq, if◌then◌else◌, List, [], ◌∷◌, length, length-set, take, drop, replicate, get_or, set, Option, Some, None, option_map, arith}
+use Rattle.std.proofs.Common.{◌≡◌, ◌∙◌, sym, ap, subst, refl, inl, inr, ℕ, zero, suc, ◌+◌, ◌-◌, ◌%◌, ◌<◌, ◌≤◌, ◌==◌, nat_lt, Bool, ◌&&◌, true, false, bytes_eq, if◌then◌else◌, List, [], ◌∷◌, length, length-set, take, drop, replicate, get_or, set, Option, Some, None, option_map, arith}
 use Rattle.std.specs.List.{find, position, position_or_len}
 use Rattle.std.proofs.lemmas.Bool.{cases_Bool, eq-eqb, ltb-true, ltb-false, true≢false}
 use Rattle.std.proofs.lemmas.List.{drop-set-add, drop-set-lt, drop-replicate, get_or-drop, get_or-take, get_or_past, length-drop, length-take}
@@ -170,7 +170,7 @@ slot_stands slots other labels l i name q named is at stands = elim (cases_Bool 
       let e = (bytes_eq-Decides name q).0 same in
       let (first, has) = put_stands slots other l i name is at in
       subst (λ n. Stands (set slots (start_of slots name + i) (Some l)) other ((name, l.address) ∷ labels) n) e
-          (let self : bytes_eq name name ≡ true = (bytes_eq-Decides name name).1 refl in rw self (first, has ∙ sym first))
+      (let self : bytes_eq name name ≡ true = (bytes_eq-Decides name name).1 refl in rw self (first, has ∙ sym first))
   | inr apart ↦
       let (within, passes, before) = position-Some (is_open name) (window_of slots name) i (Some l) at in
       let short = window_short slots name in
@@ -189,9 +189,9 @@ elsewhere_stands slots other after labels address name q updates none stands = e
   | inl same ↦
       let e = (bytes_eq-Decides name q).0 same in
       subst (λ n. Stands slots after ((name, address) ∷ labels) n) e
-          (let self : bytes_eq name name ≡ true = (bytes_eq-Decides name name).1 refl in
-           let new : after name ≡ Some address = updates name ∙ (rw self refl) in
-           rw (none_open name (window_of slots name) none, none_has name (window_of slots name) none, self) (new, refl))
+      (let self : bytes_eq name name ≡ true = (bytes_eq-Decides name name).1 refl in
+      let new : after name ≡ Some address = updates name ∙ (rw self refl) in
+      rw (none_open name (window_of slots name) none, none_has name (window_of slots name) none, self) (new, refl))
   | inr apart ↦
       let same : after q ≡ other q = updates q ∙ (rw apart refl) in
       rw (same, apart) (stands q)

@@ -1,6 +1,5 @@
 -- The slots in which labels stand.
 use Rattle.std.specs.Prelude.{ℕ, ◌+◌, ◌*◌, ◌/◌, ◌%◌, ◌^◌, Bool, true, false, ◌&&◌, ◌==◌, bytes_eq, List, length, take, drop, fold, Option, Some, None}
-use Rattle.std.specs.List.{find}
 use Rattle.ds_asm.specs.declared.labels.Label.{Label}
 
 -- a number of 32 bits that depends on each letter of a name

@@ -21,4 +21,4 @@ returns-in-Ok c =
     subst (Fails c.in-Err-bytes_of.fault) (sym (assembled_by c.args.text.now l (held_address c.in-Ok.layout.labels) said laid.labels.each)) c.in-Err-bytes_of.ensures
 
 pub returns : goal.returns
-returns c = fails_bind c.in-Err.fault (with_lines 1 empty_layout (lines_of c.args.text.now)) (λ layout. bytes_from 1 (address_of layout.labels) [] (lines_of c.args.text.now)) c.in-Err.ensures
+returns c = fails_bind c.in-Err.first (with_lines 1 empty_layout (lines_of c.args.text.now)) (λ layout. bytes_from 1 (address_of layout.labels) [] (lines_of c.args.text.now)) c.in-Err.ensures

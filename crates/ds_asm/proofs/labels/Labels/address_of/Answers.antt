@@ -1,7 +1,5 @@
-use Rattle.std.proofs.Common.{◌≡◌, ◌∙◌, ◌+◌, ◌%◌, sym, ap, refl, rules, ℕ, List, length, take, drop, get_or, Some, None, option_map}
-use Rattle.std.specs.List.{position}
+use Rattle.std.proofs.Common.{◌≡◌, ◌∙◌, rules, get_or, None, option_map}
 use Rattle.ds_asm.specs.Assembling.{other_address}
-use Rattle.ds_asm.specs.Slots.{hash_of, is_open, window_of}
 use Rattle.ds_asm.proofs.LabelSlots.{window_is, said_at, none_said}
 use Rattle.ds_asm.proofs.labels.Labels.address_of.Goals as goal
 

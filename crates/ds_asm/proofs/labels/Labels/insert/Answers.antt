@@ -1,9 +1,9 @@
-use Rattle.std.proofs.Common.{◌≡◌, ◌∙◌, ◌+◌, ◌%◌, ◌<◌, sym, ap, subst, refl, ℕ, List, length, arith, Some, None, bytes_eq, if◌then◌else◌, set, rules, ◌∷◌}
+use Rattle.std.proofs.Common.{◌≡◌, ◌+◌, sym, subst, refl, ℕ, List, length, arith, Some, None, set, rules, ◌∷◌}
 use Rattle.std.proofs.lemmas.Map.Text.{btree_map_updates_str}
 use Rattle.std.specs.List.{position}
 use Rattle.ds_asm.specs.declared.labels.Label.{Label}
 use Rattle.ds_asm.specs.Assembling.{other_address}
-use Rattle.ds_asm.specs.Slots.{hash_of, is_open, start_of, window_of}
+use Rattle.ds_asm.specs.Slots.{is_open, window_of}
 use Rattle.ds_asm.proofs.LabelSlots.{Stands, elsewhere_stands, has_own, slot_stands, slot_within, start_is, window_is}
 use Rattle.ds_asm.proofs.labels.Labels.insert.Goals as goal
 
@@ -26,8 +26,8 @@ returns-in-Some c = λ labels holds.
     let label : Label = record { name = c.args.name; hash = c.hash_of-hash.result; address = c.args.address } in
     let own = has_own c.args.name.now label refl c.hash_of-hash.ensures in
     let stands = λ (name : List ℕ).
-      subst (λ (k : ℕ). Stands (set slots (k + c.in-Some.place) (Some label)) (other_address c.args.self.now) ((c.args.name.now, c.args.address) ∷ labels) name) (sym at)
-          (slot_stands slots (other_address c.args.self.now) labels label c.in-Some.place c.args.name.now name refl own place (λ n. (holds.each n, holds.found n))) in
+    subst (λ (k : ℕ). Stands (set slots (k + c.in-Some.place) (Some label)) (other_address c.args.self.now) ((c.args.name.now, c.args.address) ∷ labels) name) (sym at)
+    (slot_stands slots (other_address c.args.self.now) labels label c.in-Some.place c.args.name.now name refl own place (λ n. (holds.each n, holds.found n))) in
     record { each = λ name. (stands name).0; found = λ name. (stands name).1 }
 
 pub returns-in_ok-insert-in-None : goal.returns-in_ok-insert-in-None
@@ -38,5 +38,5 @@ returns-in_ok-insert-in-None c = λ labels holds.
     let after = other_address (record { slots = c.args.self.now.slots; others = c.insert.new.self }) in
     let updates = btree_map_updates_str c.args.name.now c.args.self.now.others c.insert.new.self _ c.in_ok-insert-in-None.ensures.updates in
     let stands = λ (name : List ℕ).
-      elsewhere_stands slots (other_address c.args.self.now) after labels c.args.address c.args.name.now name updates none (λ n. (holds.each n, holds.found n)) in
+    elsewhere_stands slots (other_address c.args.self.now) after labels c.args.address c.args.name.now name updates none (λ n. (holds.each n, holds.found n)) in
     record { each = λ name. (stands name).0; found = λ name. (stands name).1 }
