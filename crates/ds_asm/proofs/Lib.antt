@@ -1,6 +1,7 @@
 pub mod Keyed
 pub mod Nothings
 pub mod WrittenForms
+pub mod LabelSlots
 pub mod Pages
 pub mod SourceLines
 pub mod ImageSizes

@@ -1,7 +1,7 @@
 -- A line of blanks and a comment says nothing.
-use Rattle.std.proofs.Common.{◌≡◌, ◌∙◌, sym, ap, refl, inl, inr, ℕ, suc, ◌+◌, ◌==◌, take, drop, Bool, true, false, List, [], ◌∷◌, Option, Some, arith}
+use Rattle.std.proofs.Common.{◌≡◌, ◌∙◌, sym, ap, refl, inl, inr, ℕ, suc, ◌+◌, ◌==◌, take, drop, true, false, List, [], ◌∷◌, Some, arith}
 use Rattle.std.specs.List.{prefix_len, position_or_len}
-use Rattle.std.proofs.lemmas.Bool.{cases_Bool, eqb-true, true≢false}
+use Rattle.std.proofs.lemmas.Bool.{cases_Bool, eqb-true}
 use Rattle.ds_asm.specs.Characters.{is_blank, without_front_blanks, without_back_blanks, trimmed, until}
 use Rattle.ds_asm.specs.Lines.{is_comment, line_parts, line_of, nothing}
 

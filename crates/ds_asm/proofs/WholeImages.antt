@@ -1,5 +1,5 @@
 -- Where the image is whole, the lines that are left have no bytes.
-use Rattle.std.proofs.Common.{◌≡◌, ◌∙◌, ap, subst, refl, ℕ, ◌+◌, ◌≤◌, List, [], ◌∷◌, ◌++◌, length, replicate, Option, Some, None, Ok, arith}
+use Rattle.std.proofs.Common.{◌≡◌, ◌∙◌, ap, refl, ℕ, ◌+◌, ◌≤◌, List, [], ◌∷◌, ◌++◌, length, replicate, Option, Some, None, Ok, arith}
 use Rattle.std.proofs.lemmas.List.{append-nil}
 use Rattle.ds_word.proofs.ResultBinding.{bind_ok}
 use Rattle.ds_word.specs.ResultBinding.{◌>>=◌}

@@ -10,6 +10,8 @@ use Rattle.ds_asm.specs.declared.fault.SourceFault.TheVariants.{Syntax, UnknownL
 use Rattle.ds_asm.specs.declared.labels.Labels as code
 use Rattle.ds_asm.specs.declared.layout.Layout as held
 use Rattle.ds_asm.specs.Assembly.{Labels, address_of, Layout}
+use Rattle.ds_asm.specs.Slots.{address_or, has_name, is_open, window_of}
+use Rattle.std.specs.List.{find}
 
 -- the text has this fault; want of memory says nothing of the text
 abbrev pub Fails : {A : Type 0} → AsmFault → Result A SourceFault → Type 0
@@ -55,13 +57,23 @@ abbrev pub fault_number : AsmFault → ℕ
 fault_number (asm.Source fault) = source_fault_number fault
 fault_number asm.Memory = 25
 
--- the address that is held for a name
-abbrev pub held_address : code.Labels → List ℕ → Option ℕ
-held_address m name = get_by (λ k. slice_cmp nat_cmp name k.now) m.addresses
+-- the address that the tree has for a name
+abbrev pub other_address : code.Labels → List ℕ → Option ℕ
+other_address m name = get_by (λ k. slice_cmp nat_cmp name k.now) m.others
 
--- the labels are held, each with its address
-abbrev pub Holds : code.Labels → Labels → Type 0
-Holds m labels = (name : List ℕ) → held_address m name ≡ address_of labels name
+-- the address that is held for a name: in its slots, of which the first free one ends the search, or
+-- where all are taken by others, in the tree
+abbrev pub held_address : code.Labels → List ℕ → Option ℕ
+held_address m name = address_or (other_address m name) (find (is_open name) (window_of m.slots.items name))
+
+-- the address that stands anywhere in a name's slots, or in the tree
+abbrev pub kept_address : code.Labels → List ℕ → Option ℕ
+kept_address m name = address_or (other_address m name) (find (has_name name) (window_of m.slots.items name))
+
+-- the labels are held, each with its address, and none stands behind a free slot
+pub record Holds (m : code.Labels) (labels : Labels) : Type 0 where
+  pub each : (name : List ℕ) → held_address m name ≡ address_of labels name
+  pub found : (name : List ℕ) → kept_address m name ≡ held_address m name
 
 -- what was laid out is held
 pub record IsLaid (m : held.Layout) (l : Layout) : Type 0 where

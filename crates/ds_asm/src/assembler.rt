@@ -19,6 +19,6 @@ pub fn assemble(alloc: Global, text: &[u8]) -> Result<Image, AsmFault>
             Ok(bytes) => Ok(Image::of(bytes)),
             Err(fault) => Err(fault),
         },
-        Err(fault) => Err(fault),
+        Err(first) => Err(first),
     }
 }

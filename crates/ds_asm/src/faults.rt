@@ -74,7 +74,7 @@ fn first_pass(alloc: Global, text: &[u8]) -> Result<FirstPass<'_>, AllocError>
         → Lays p.layout (with_lines 1 empty_layout (lines_of text.now))) }
 {
     let mut faults = Vec::new(alloc);
-    let mut layout = Layout::new(alloc);
+    let mut layout = Layout::new(alloc, text)?;
     let mut number = 0u64;
     let mut rest = text;
     while !rest.is_empty() {

@@ -11,7 +11,7 @@ use crate::fault::{AsmFault, SourceFault};
 use crate::labels::Labels;
 use crate::line::{MOST_BYTES, Statement, line_of, says_nothing};
 use crate::source::first_line;
-use std::alloc::Global;
+use std::alloc::{AllocError, Global};
 
 /// Where the image begins.
 pub const ORIGIN: u32 = 0x40_0000;
@@ -27,7 +27,7 @@ pub(crate) struct Layout<'a> {
 pub(crate) fn layout_of(alloc: Global, text: &[u8]) -> Result<Layout<'_>, AsmFault>
     ensures { Comes (λ m l. IsLaid m l) result (with_lines 1 empty_layout (lines_of text.now)) }
 {
-    let mut layout = Layout::new(alloc);
+    let mut layout = Layout::new(alloc, text)?;
     let mut number = 0u64;
     let mut rest = text;
     while !rest.is_empty() {
@@ -42,14 +42,12 @@ pub(crate) fn layout_of(alloc: Global, text: &[u8]) -> Result<Layout<'_>, AsmFau
 }
 
 impl<'a> Layout<'a> {
-    /// No lines were taken.
-    pub(crate) fn new(alloc: Global) -> Layout<'a>
-        ensures { IsLaid result empty_layout }
+    /// No lines of a source were taken.
+    pub(crate) fn new(alloc: Global, text: &[u8]) -> Result<Layout<'a>, AllocError>
+        ensures { IfOk result (λ layout. IsLaid layout empty_layout) }
     {
-        Layout {
-            labels: Labels::new(alloc),
-            size: 0,
-        }
+        let labels = Labels::new(alloc, text)?;
+        Ok(Layout { labels, size: 0 })
     }
 
     /// Takes line `number`.

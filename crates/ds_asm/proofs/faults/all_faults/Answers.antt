@@ -1,4 +1,4 @@
-use Rattle.std.proofs.Common.{◌≡◌, ◌∙◌, sym, refl, rules}
+use Rattle.std.proofs.Common.{◌∙◌, sym, refl}
 use Rattle.ds_asm.specs.Faults.{all_faults}
 use Rattle.ds_asm.proofs.AllFaults.{first_of_all, none_of_all}
 use Rattle.ds_asm.proofs.faults.all_faults.Goals as goal

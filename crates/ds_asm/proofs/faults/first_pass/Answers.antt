@@ -2,7 +2,7 @@ use Rattle.std.proofs.Common.{◌≡◌, ◌+◌, ◌∙◌, sym, ap, refl, leng
 use Rattle.ds_asm.specs.Faults.{labels_past}
 use Rattle.ds_asm.specs.Lines.{line_of}
 use Rattle.ds_asm.proofs.SourceLines.{lines_of-first, behind_within, layout_good, layout_end}
-use Rattle.ds_asm.proofs.AllFaults.{one_more, none_with, first_good, first_bad, first_end}
+use Rattle.ds_asm.proofs.AllFaults.{one_more, none_with, first_good, first_bad}
 use Rattle.ds_asm.proofs.faults.first_pass.Goals as goal
 
 pub loop-rest-preserved-in-Ok : goal.loop-rest-preserved-in-Ok

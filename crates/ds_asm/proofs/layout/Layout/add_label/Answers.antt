@@ -8,7 +8,7 @@ returns-in-None-clause-said c = λ labels h. (labels, rw c.in-None.is refl, h)
 
 pub returns-clause-said : goal.returns-clause-said
 returns-clause-said c = λ labels h.
-    let held = h c.in-Some.name.now in
+    let held = h.each c.in-Some.name.now in
     let looked = c.address_of.ensures in
     let tested = c.is_some.ensures in
     let new : is_some (address_of labels c.in-Some.name.now) ≡ false = ap is_some (sym (looked ∙ held)) ∙ (sym tested ∙ c.if-is_some.false) in (
