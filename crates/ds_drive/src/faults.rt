@@ -1,6 +1,7 @@
 //! The faults of a source, told a line each.
 ghost use Rattle.std.specs.Prelude.{◌≡◌, ◌++◌, IfOk, OnOk, OnErr, flat_map};
 ghost use Rattle.std.specs.Io.KnownBytes.{Appends};
+ghost use Rattle.ds_asm.specs.Assembling.{source_fault_line};
 ghost use Rattle.ds_drive.specs.Told.{fault_head, fault_line, fault_name, shown_in, told_line};
 ghost use Rattle.ds_log.specs.Sent.{AppendsPart};
 
@@ -165,22 +166,23 @@ fn push_lines<'a, 's>(
     let mut buffer = Buffer::new();
     for fault in faults {
         push_line(text, &mut buffer, heads, fault)?;
-        push_shown(text, lines, fault.line())?;
+        push_shown(text, lines, fault)?;
     }
     Ok(())
 }
 
-/// Adds the line of the source of this number, where the source's lines are lent.
+/// Adds the line of the source that is at fault, where the source's lines are lent.
 fn push_shown<'s>(
     text: &mut Vec<u8>,
     lines: &mut Option<Lines<'s>>,
-    number: u64,
+    fault: &SourceFault,
 ) -> Result<(), AllocError>
-    ensures text { OnOk result (text.new.items ≡ text.old.items ++ shown_in lines.old number) }
+    ensures text { OnOk result (text.new.items ≡ text.old.items
+        ++ shown_in lines.old (source_fault_line fault.now)) }
     ensures same { lines.new ≡ lines.old }
 {
     match lines {
-        Some(lines) => lines.push(text, number),
+        Some(lines) => lines.push(text, fault.line()),
         None => Ok(()),
     }
 }

@@ -4,11 +4,11 @@ use Rattle.std.proofs.lemmas.Bool.{cases_lt}
 use Rattle.std.proofs.lemmas.Fmt.{decimal_injective, decimal_digit}
 use Rattle.ds_drive.specs.Done.{IsDone}
 use Rattle.ds_rows.specs.declared.came.Came.{Came}
-use Rattle.ds_rows.specs.declared.case.Case.{Case}
-use Rattle.ds_rows.specs.declared.case.Expected.{Expected}
-use Rattle.ds_rows.specs.declared.case.Expected.TheVariants as expected
+use Rattle.ds_cases.specs.declared.case.Case.{Case}
+use Rattle.ds_cases.specs.declared.case.Expected.{Expected}
+use Rattle.ds_cases.specs.declared.case.Expected.TheVariants as expected
 use Rattle.ds_rows.specs.declared.files.Put.{Put}
-use Rattle.ds_rows.specs.Outcomes.{IsExpected}
+use Rattle.ds_rows.specs.Expected.{IsExpected}
 use Rattle.ds_rows.specs.Rows.{Beside, HeldAt, Inside, RunsAsExpected, command_of}
 use Rattle.ds_rows.specs.Tables.{DoesAs, IsPut, Meets}
 

@@ -1,3 +1,3 @@
-pub mod Outcomes
+pub mod Expected
 pub mod Rows
 pub mod Tables

@@ -1,7 +1,7 @@
 -- What a row says, and when rows run as expected.
-use Rattle.std.specs.Prelude.{◌≡◌, ◌≢◌, ◌==◌, ◌⊎◌, ℕ, List, [], ◌∷◌, ◌++◌, All, Option, Some, None, codes}
-use Rattle.std.specs.List.{slice_split}
+use Rattle.std.specs.Prelude.{◌≡◌, ◌≢◌, ◌⊎◌, ℕ, List, [], ◌∷◌, ◌++◌, All, Option, Some, None, codes}
 use Rattle.std.specs.Str.Lines.{lines}
+use Rattle.ds_cases.specs.Words.{words_of}
 use Rattle.ds_drive.specs.Done.{IsDone}
 use Rattle.ds_rows.specs.declared.files.Put.{Put}
 
@@ -22,10 +22,6 @@ Beside holds folder name text file bytes =
 abbrev pub HeldAt : (List ℕ → List ℕ → Type 0) → List ℕ → Option Put → List ℕ → List ℕ → Type 0
 HeldAt holds folder None file bytes = Inside holds folder file bytes
 HeldAt holds folder (Some put) file bytes = Beside holds folder put.name.now put.text.now file bytes
-
--- the words of a line, with one space between
-abbrev pub words_of : List ℕ → List (List ℕ)
-words_of line = slice_split (λ b. b == 32) line
 
 -- the command `dsmon WORD..`
 abbrev pub command_of : List (List ℕ) → List (List ℕ)

@@ -1,14 +1,15 @@
 -- When the cases of a table come to what is expected of them.
 use Rattle.std.specs.Prelude.{◌≡◌, ◌≢◌, ℕ, List, [], ◌∷◌, ◌++◌, All, Option, Some, None, codes, string_bytes}
 use Rattle.std.specs.Str.Lines.{lines}
+use Rattle.ds_cases.specs.Words.{words_of}
 use Rattle.ds_drive.specs.Done.{IsDone}
 use Rattle.ds_rows.specs.declared.came.Came.{Came}
-use Rattle.ds_rows.specs.declared.case.Case.{Case}
-use Rattle.ds_rows.specs.declared.case.Expected.{Expected}
-use Rattle.ds_rows.specs.declared.case.Expected.TheVariants as expected
+use Rattle.ds_cases.specs.declared.case.Case.{Case}
+use Rattle.ds_cases.specs.declared.case.Expected.{Expected}
+use Rattle.ds_cases.specs.declared.case.Expected.TheVariants as expected
 use Rattle.ds_rows.specs.declared.files.Put.{Put}
-use Rattle.ds_rows.specs.Outcomes.{IsExpected}
-use Rattle.ds_rows.specs.Rows.{Beside, Inside, command_of, words_of}
+use Rattle.ds_rows.specs.Expected.{IsExpected}
+use Rattle.ds_rows.specs.Rows.{Beside, Inside, command_of}
 
 -- a text is put in place of a file
 abbrev pub IsPut : Option Put → List ℕ → List ℕ → Type 0

@@ -1,9 +1,10 @@
 //! What a command comes to.
 ghost use Rattle.std.specs.Prelude.{◌≡◌, ◌≤◌, ◌↔◌, ℕ, [], Some, IfOk, map, string_bytes};
 ghost use Rattle.ds_drive.specs.Done.{IsDone};
-ghost use Rattle.ds_rows.specs.Outcomes.{IsExpected, DifferFrom};
+ghost use Rattle.ds_cases.specs.Outcomes.{DifferFrom};
+ghost use Rattle.ds_rows.specs.Expected.{IsExpected};
 
-use crate::outcome::{Outcome, first_difference};
+use ds_cases::{Outcome, first_difference};
 use ds_drive::{Files, drive};
 use std::alloc::{AllocError, Global};
 

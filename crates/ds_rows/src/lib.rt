@@ -2,14 +2,9 @@
 #![tactic(auto)]
 
 mod came;
-mod case;
 mod files;
-mod index;
-mod outcome;
 mod row;
-mod steps;
 mod table;
-mod words;
 
 pub use row::run_rows;
 pub use table::run_tables;

@@ -4,11 +4,9 @@ ghost use Rattle.ds_rows.specs.Rows.{AllRun, EachRuns, RunsAsExpected};
 
 use crate::came::Came;
 use crate::files::FolderFiles;
-use crate::index::index_lines;
-use crate::outcome::Outcome;
-use crate::steps::stations_write;
-use crate::words::{command_of, first_three, words_of};
+use ds_cases::{Outcome, command_of, first_three, index_lines, words_of};
 use ds_drive::Files;
+use ds_steps::stations_write;
 use std::alloc::Global;
 use std::io;
 use std::io::Write;

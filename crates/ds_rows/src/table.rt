@@ -3,13 +3,10 @@ ghost use Rattle.std.specs.Prelude.{◌≡◌, ◌≢◌, ℕ, List, [], All, If
 ghost use Rattle.ds_rows.specs.Tables.{AllTablesRun, CameAs, CaseRuns, EachTableRuns, IsPut, TableOf};
 
 use crate::came::Came;
-use crate::case::{Case, Expected, cases_of};
 use crate::files::{FolderFiles, Put};
-use crate::index::index_lines;
-use crate::outcome::Outcome;
-use crate::steps::stations_write;
-use crate::words::{command_of, first_three, words_of};
+use ds_cases::{Case, Expected, Outcome, cases_of, command_of, first_three, index_lines, words_of};
 use ds_drive::Files;
+use ds_steps::stations_write;
 use std::alloc::{AllocError, Global};
 use std::io;
 use std::io::Write;

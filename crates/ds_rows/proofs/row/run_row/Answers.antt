@@ -1,6 +1,6 @@
 use Rattle.std.proofs.Common.{rules, arith, ◌≡◌, [], Some, map}
 use Rattle.ds_rows.specs.Rows.{command_of}
-use Rattle.ds_rows.specs.declared.outcome.Outcome.TheVariants.{AsExpected}
+use Rattle.ds_cases.specs.declared.outcome.Outcome.TheVariants.{AsExpected}
 use Rattle.ds_rows.proofs.Ends.{inside_done, inside_held, row_well}
 use Rattle.ds_rows.proofs.row.run_row.Goals as goal
 

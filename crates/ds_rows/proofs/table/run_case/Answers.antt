@@ -1,6 +1,6 @@
 use Rattle.std.proofs.Common.{rules, arith, ◌≡◌, [], Some}
 use Rattle.ds_rows.specs.Rows.{Beside}
-use Rattle.ds_rows.specs.declared.outcome.Outcome.TheVariants.{AsExpected}
+use Rattle.ds_cases.specs.declared.outcome.Outcome.TheVariants.{AsExpected}
 use Rattle.ds_rows.proofs.Ends.{beside_done, case_well}
 use Rattle.ds_rows.proofs.table.run_case.Goals as goal
 

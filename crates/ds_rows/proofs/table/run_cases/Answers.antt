@@ -2,8 +2,8 @@ use Rattle.std.proofs.Common.{rules, ◌≡◌, ◌∙◌, IsTrue, map, subst}
 use Rattle.std.specs.Prelude.{string_bytes}
 use Rattle.std.proofs.lemmas.List.{get_or_default}
 use Rattle.ds_rows.specs.Tables.{CaseRuns}
-use Rattle.ds_rows.specs.declared.case.Case.{Case}
-use Rattle.ds_rows.specs.declared.outcome.Outcome.TheVariants.{AsExpected}
+use Rattle.ds_cases.specs.declared.case.Case.{Case}
+use Rattle.ds_cases.specs.declared.outcome.Outcome.TheVariants.{AsExpected}
 use Rattle.ds_rows.proofs.Ends.{each_to}
 use Rattle.ds_rows.proofs.table.run_cases.Goals as goal
 

@@ -1,7 +1,7 @@
 use Rattle.std.proofs.Common.{◌<◌, ℕ, IsTrue, map, slice_index_or}
 use Rattle.std.specs.Prelude.{string_bytes}
 use Rattle.ds_rows.specs.Tables.{CaseRuns}
-use Rattle.ds_rows.specs.declared.case.Case.{Case}
+use Rattle.ds_cases.specs.declared.case.Case.{Case}
 use Rattle.ds_rows.proofs.table.run_cases.Given as goal
 
 abbrev pub invariant-loop-case : goal.invariant-loop-case

@@ -1,19 +1,12 @@
 -- What came of a row.
-use Rattle.std.specs.Prelude.{◌≡◌, ◌≢◌, ℕ, List, [], ◌++◌, codes, decimal, slice_get, take}
-use Rattle.ds_rows.specs.declared.came.Came.{Came}
-use Rattle.ds_rows.specs.declared.outcome.Outcome.{Outcome}
-use Rattle.ds_rows.specs.declared.outcome.Outcome.TheVariants as outcome
+use Rattle.std.specs.Prelude.{◌≡◌, ◌≢◌, ℕ, List, ◌++◌, codes, decimal, slice_get, take}
+use Rattle.ds_cases.specs.declared.outcome.Outcome.{Outcome}
+use Rattle.ds_cases.specs.declared.outcome.Outcome.TheVariants as outcome
 
 -- the first n bytes of the two texts are the same, and the next is not: it is another, or one text has ended
 pub record DifferFrom (n : ℕ) (wanted written : List ℕ) : Type 0 where
   pub same : take n wanted ≡ take n written
   pub other : slice_get wanted n ≢ slice_get written n
-
--- the status has these digits, this text was written, and nothing beside it
-pub record IsExpected (came : Came) (status text : List ℕ) : Type 0 where
-  pub ended : decimal came.status ≡ status
-  pub told : came.told.items ≡ text
-  pub alone : came.other.items ≡ []
 
 -- the words that tell of it
 abbrev pub text_of : Outcome → List ℕ

@@ -94,13 +94,37 @@ impl Parts {
         requires slots { L.SLOTS ≡ 64 }
         requires wired { L.WIRED ≡ 8 }
     {
+        let at_once = self.text_at_once::<L>(alloc, request)?;
+        let by_steps = self.text_by_steps::<L>(alloc, request)?;
+        Some(at_once.as_slice() == wanted && by_steps.as_slice() == wanted)
+    }
+
+    /// The text of a station over this buffer that was run at once.
+    fn text_at_once<'a, L: Lookaside>(
+        &self,
+        alloc: Global,
+        request: &Request<'a>,
+    ) -> Option<Vec<u8>>
+        requires slots { L.SLOTS ≡ 64 }
+        requires wired { L.WIRED ≡ 8 }
+    {
         let mut station = self.station::<L>(alloc, request.random)?;
         station.run(request.most_time.min(MOST_TICKS)).ok()?;
-        let at_once = text_of(alloc, &station).ok()?;
+        text_of(alloc, &station).ok()
+    }
+
+    /// The text of a station over this buffer that was run by steps.
+    fn text_by_steps<'a, L: Lookaside>(
+        &self,
+        alloc: Global,
+        request: &Request<'a>,
+    ) -> Option<Vec<u8>>
+        requires slots { L.SLOTS ≡ 64 }
+        requires wired { L.WIRED ≡ 8 }
+    {
         let mut station = self.station::<L>(alloc, request.random)?;
         step_to_end(&mut station, request.most_time)?;
-        let by_steps = text_of(alloc, &station).ok()?;
-        Some(at_once.as_slice() == wanted && by_steps.as_slice() == wanted)
+        text_of(alloc, &station).ok()
     }
 }
 
@@ -135,15 +159,23 @@ fn step_to_end<L: Lookaside>(station: &mut Station<L>, n: u64) -> Option<()> {
 fn text_of<L: Lookaside>(alloc: Global, station: &Station<L>) -> io::Result<Vec<u8>> {
     let mut text = Vec::new(alloc);
     for line in 0..4 {
-        let put = station.console(line);
-        write!(text, "console {line} {}\n", put.len())?;
-        text.write_all(put)?;
-        text.write_all(b"\n")?;
+        push_console(&mut text, line, station.console(line))?;
     }
-    let log = station.log();
-    let lines = log.iter().filter(|byte| **byte == b'\n').count();
-    write!(text, "log {lines}\n")?;
-    text.write_all(log)?;
+    push_log(&mut text, station.log())?;
     write!(text, "time {}\n", station.time())?;
     Ok(text)
+}
+
+/// Adds what was put to a console line.
+fn push_console(text: &mut Vec<u8>, line: usize, put: &[u8]) -> io::Result<()> {
+    write!(text, "console {line} {}\n", put.len())?;
+    text.write_all(put)?;
+    text.write_all(b"\n")
+}
+
+/// Adds the log, behind the count of its lines.
+fn push_log(text: &mut Vec<u8>, log: &[u8]) -> io::Result<()> {
+    let lines = log.iter().filter(|byte| **byte == b'\n').count();
+    write!(text, "log {lines}\n")?;
+    text.write_all(log)
 }

@@ -1,6 +1,6 @@
 //! What came of a row or a case.
 ghost use Rattle.std.specs.Prelude.{◌≡◌, IfSome, None, Some};
-ghost use Rattle.ds_rows.specs.Outcomes.{DifferFrom, text_of};
+ghost use Rattle.ds_cases.specs.Outcomes.{DifferFrom, text_of};
 
 use std::fmt;
 

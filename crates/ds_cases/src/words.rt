@@ -1,7 +1,7 @@
 //! The lines of a text, and the words of a line.
 ghost use Rattle.std.specs.Prelude.{◌≡◌, ◌∷◌, IfOk, IfSome, codes, map, string_bytes};
 ghost use Rattle.std.specs.Str.Lines.{lines};
-ghost use Rattle.ds_rows.specs.Rows.{words_of};
+ghost use Rattle.ds_cases.specs.Words.{words_of};
 
 use std::alloc::{AllocError, Global};
 
