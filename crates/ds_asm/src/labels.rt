@@ -33,12 +33,13 @@ struct Label<'a> {
 
 impl<'a> Labels<'a> {
     /// No labels, and half as many slots again as a source has colons, since one stands behind each
-    /// label.
+    /// label; but no more than one for each four of its characters.
     pub(crate) fn new(alloc: Global, text: &[u8]) -> Result<Labels<'a>, AllocError>
         ensures { IfOk result (λ labels. Holds labels []) }
     {
         let colons = text.iter().filter(|c| **c == b':').count();
-        let slots = vec![in alloc; None; colons.saturating_add(colons / 2)]?;
+        let count = colons.saturating_add(colons / 2).min(text.len() / 4);
+        let slots = vec![in alloc; None; count]?;
         Ok(Labels {
             slots,
             others: BTreeMap::new(alloc),
