@@ -112,10 +112,8 @@ impl Subject {
             Subject::Arithmetic => arithmetic::answer(alloc, step, operands),
             Subject::System => system::answer(alloc, &mut machine.cp0, step, operands),
             Subject::Bus => bus::answer(alloc, &mut machine.bus, step, operands),
-            Subject::Decoded
-            | Subject::Registers
-            | Subject::Operations
-            | Subject::Rowless => self.of_words(alloc, operands),
+            Subject::Decoded | Subject::Registers | Subject::Operations | Subject::Rowless =>
+                self.of_words(alloc, operands),
             Subject::Faults(_) | Subject::Late(_) | Subject::Entries(_) => {
                 self.of_program(alloc, &mut machine.bus, operands)
             }
