@@ -4,6 +4,7 @@ A line is `CRATE SUM TOOLCHAIN public=N private=N script=N law=N`. It is written
 crate's code, definitions and proofs, without comments and tests; of its edits; of what the crates below it state, and not of their bodies;
 and of the modules of this script that judge them, among which the one for definitions counts only where there are edits of these. A crate has a line for each toolchain with which the same texts were tried.
 """
+import functools
 import hashlib
 import json
 import re
@@ -45,9 +46,21 @@ def text_of_module(name):
 
 def stated_to(crate, lower):
     """Returns what a lower crate states: its definitions, the contracts and types of its code, and the lemmas of its that the crate names."""
-    words = "\n".join([*crate.sources.texts.values(), *crate.logic("specs").values(), *crate.logic("proofs").values()])
-    lemmas = lower.lemmas(re.findall(NAMED_PROOF.format(name=lower.name), words))
-    return [lower.name, lower.uses, {it: lower.sources.stated(it) for it in lower.sources.texts}, lower.logic("specs"), lemmas]
+    lemmas = lower.lemmas(re.findall(NAMED_PROOF.format(name=lower.name), said_by(crate)))
+    contracts, definitions = stated_by(lower)
+    return [lower.name, lower.uses, contracts, definitions, lemmas]
+
+
+@functools.cache
+def said_by(crate):
+    """Returns all texts of a crate that may name a lemma, as one."""
+    return "\n".join([*crate.sources.texts.values(), *crate.logic("specs").values(), *crate.logic("proofs").values()])
+
+
+@functools.cache
+def stated_by(lower):
+    """Returns the contracts and types of a crate's code, and its definitions."""
+    return {it: lower.sources.stated(it) for it in lower.sources.texts}, lower.logic("specs")
 
 
 class Record:
