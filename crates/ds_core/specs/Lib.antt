@@ -6,4 +6,5 @@ pub mod Refilled
 pub mod Worked
 pub mod Ahead
 pub mod Code
+pub mod Placed
 pub mod Operations

@@ -1,5 +1,4 @@
 //! The processor and its step.
-ghost use Rattle.std.specs.Prelude.{◌≡◌, false};
 
 mod access;
 mod ahead;
@@ -10,15 +9,14 @@ mod execute;
 mod flow;
 mod operate;
 mod operations;
+mod position;
 mod registers;
 mod sprint;
 mod transfer;
 
-use crate::event::Event;
 pub use ahead::Ahead;
 use ds_cp0::Cp0;
-use ds_dev::Bus;
-use ds_isa::{Instr, Late};
+use ds_isa::Late;
 use ds_tlb::Lookaside;
 use std::marker::Model;
 
@@ -61,36 +59,4 @@ impl<L: Lookaside> Model for Core<L> {
 
     ghost invariant = { λ c. (slice_index c.registers 0 ≡ 0)
         × ForSome c.late (λ l. (0 < l.register) × (l.register < 32)) };
-}
-
-impl<L: Lookaside> Core<L> {
-    ghost use Rattle.ds_tlb.specs.Entries.{ticked};
-    ghost use Rattle.ds_core.specs.Core.{with_tick};
-    ghost use Rattle.ds_core.specs.Effect.{executed};
-
-    /// Carries out an instruction that was fetched ahead, and counts Random down.
-    #[inline(always)]
-    pub(super) fn execute_ahead(&mut self, instr: Instr, bus: &mut Bus) -> Event
-        requires slots { L.SLOTS ≡ 64 }
-        requires wired { L.WIRED ≡ 8 }
-        ensures { (record { event = result; core = self.new; bus = bus.new })
-            ≡ with_tick (executed self.old bus.old instr) }
-    {
-        let event = self.execute::<0>(instr, bus);
-        // Told apart here, so that the common way behind an instruction has no test of its event.
-        match event {
-            Event::Raised(_) => self.tick_behind_exception(),
-            Event::Retired | Event::Branched => self.tlb.tick(),
-        }
-        event
-    }
-
-    /// Counts Random down behind an exception. It stays a call, so that it is not the common way.
-    #[cold]
-    #[inline(never)]
-    fn tick_behind_exception(&mut self)
-        ensures { self.new ≡ record self.old { random = ticked L.SLOTS L.WIRED self.old.random } }
-    {
-        self.tlb.tick();
-    }
 }

@@ -91,6 +91,31 @@ impl<L: Lookaside> Parts<L> {
         }
     }
 
+    /// A block of so many instructions, which ends a unit before `end`, with the service of the
+    /// exception that ends it. Whether another block may begin at once.
+    #[inline(always)]
+    fn run_and_serve(&mut self, n: u64, end: u64, limit: u32) -> bool
+        requires slots { L.SLOTS ≡ 64 }
+        requires wired { L.WIRED ≡ 8 }
+        requires good { IsGood self.old }
+        requires working { self.old.failed ≡ false }
+        requires few { n ≤ 1000000000 }
+        requires ahead { GoesAhead limit (held self.old) }
+        requires some { 1 ≤ limit }
+        requires end { self.old.monitor.time + limit + 1 ≡ end }
+        requires within { end ≤ n }
+        requires quiet { end + 2 ≤ self.old.monitor.quiet_until }
+        requires room { HasRoom 1 self.old.monitor }
+        ensures good { IsGood self.new }
+        ensures goes { GoesOn n (held self.old) (held self.new) }
+        ensures on { result ≡ true → MayGoOn end self.new }
+        ensures until { result ≡ true
+            → self.new.monitor.quiet_until ≡ self.old.monitor.quiet_until }
+    {
+        self.run_block(limit);
+        self.serve_raised(n, end)
+    }
+
     /// Blocks of instructions, the first of so many, each with the service of the exception that ends
     /// it: one behind the other as long as that is a call that is answered at once.
     #[inline(always)]
@@ -109,9 +134,9 @@ impl<L: Lookaside> Parts<L> {
         ensures goes { GoesOn n (held self.old) (held self.new) }
     {
         let end = self.monitor.time + u64::from(limit) + 1;
-        self.run_block(limit);
-        while self.serve_raised(n, end) {
-            self.run_block((end - self.monitor.time - 1) as u32);
+        let mut ahead = limit;
+        while self.run_and_serve(n, end, ahead) {
+            ahead = (end - self.monitor.time - 1) as u32;
         }
     }
 

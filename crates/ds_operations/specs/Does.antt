@@ -1,7 +1,8 @@
 -- What an operation does, and when it does what an instruction means.
-use Rattle.std.specs.Prelude.{◌≡◌, ◌≢◌, ℕ, ◌+◌, ◌*◌, ◌/◌, ◌%◌, ◌^◌, ◌-◌, Bool, not, ◌||◌, nat_lt, ◌==◌, if◌then◌else◌, Some, bit_and, bit_or, bit_xor}
+use Rattle.std.specs.Prelude.{◌≡◌, ◌≢◌, ℕ, ◌+◌, ◌*◌, ◌/◌, ◌%◌, ◌^◌, ◌-◌, Bool, not, ◌||◌, nat_lt, ◌==◌, if◌then◌else◌, bit_and, bit_or, bit_xor}
 use Rattle.ds_word.specs.Word.{word, bits, sign_extended, is_negative, minus, signed_lt, truth}
 use Rattle.ds_word.specs.Arithmetic.{shifted_arithmetic, signed_sum, signed_difference}
+use Rattle.ds_word.specs.Product.{halves, product_signed, quotient_signed, quotient_unsigned}
 use Rattle.ds_word.specs.Merge.{with_bits}
 use Rattle.ds_isa.specs.declared.instr.Size.TheVariants as size
 use Rattle.ds_isa.specs.declared.instr.Instr.{Instr}
@@ -44,6 +45,10 @@ does_by kind.Mfhi d s t i pc r = Goes (written r d r.hi)
 does_by kind.Mthi d s t i pc r = with_hi_lo r (read r s, r.lo)
 does_by kind.Mflo d s t i pc r = Goes (written r d r.lo)
 does_by kind.Mtlo d s t i pc r = with_hi_lo r (r.hi, read r s)
+does_by kind.Mult d s t i pc r = with_hi_lo r (halves (product_signed (read r s) (read r t)))
+does_by kind.Multu d s t i pc r = with_hi_lo r (halves (read r s * read r t))
+does_by kind.Div d s t i pc r = with_hi_lo r (quotient_signed (read r s) (read r t))
+does_by kind.Divu d s t i pc r = with_hi_lo r (quotient_unsigned (read r s) (read r t))
 does_by kind.Add d s t i pc r = written_or_trap r d (signed_sum (read r s) (read r t))
 does_by kind.Addu d s t i pc r = Goes (written r d (word (read r s + read r t)))
 does_by kind.Sub d s t i pc r = written_or_trap r d (signed_difference (read r s) (read r t))

@@ -106,6 +106,19 @@ fn special(instr: Instr) -> Operation
     }
 }
 
+/// A product or a quotient.
+fn product(instr: Instr) -> Operation
+    ensures { MeansAs result instr }
+{
+    match instr {
+        Instr::Mult { rs, rt } => made(OperationKind::Mult, NO_TARGET, rs, rt, 0),
+        Instr::Multu { rs, rt } => made(OperationKind::Multu, NO_TARGET, rs, rt, 0),
+        Instr::Div { rs, rt } => made(OperationKind::Div, NO_TARGET, rs, rt, 0),
+        Instr::Divu { rs, rt } => made(OperationKind::Divu, NO_TARGET, rs, rt, 0),
+        _ => none(),
+    }
+}
+
 /// A result of two registers.
 fn of_two(instr: Instr) -> Operation
     ensures { MeansAs result instr }
@@ -304,9 +317,9 @@ fn transfer(instr: Instr) -> Operation
 }
 
 impl Operation {
-    /// The operation of an instruction: it does what the instruction means. Products, quotients,
-    /// unaligned parts of words, what the system coprocessor does, and instructions that write
-    /// register 0 are none, but for `nop`.
+    /// The operation of an instruction: it does what the instruction means. Unaligned parts of words,
+    /// what the system coprocessor does, and instructions that write register 0 are none, but for
+    /// `nop`.
     pub fn of(instr: Instr) -> Operation
         ensures { MeansAs result instr }
     {
@@ -327,6 +340,9 @@ impl Operation {
             | Instr::Nor { .. }
             | Instr::Slt { .. }
             | Instr::Sltu { .. } => of_two(instr),
+            Instr::Mult { .. } | Instr::Multu { .. } | Instr::Div { .. } | Instr::Divu { .. } => {
+                product(instr)
+            }
             Instr::Addi { .. }
             | Instr::Addiu { .. }
             | Instr::Slti { .. }

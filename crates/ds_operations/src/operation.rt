@@ -20,6 +20,11 @@ pub enum OperationKind {
     Mthi,
     Mflo,
     Mtlo,
+    /// Products and quotients of two registers, in HI and LO.
+    Mult,
+    Multu,
+    Div,
+    Divu,
     /// Results of two registers.
     Add,
     Addu,

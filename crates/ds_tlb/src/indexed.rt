@@ -1,5 +1,5 @@
 //! A buffer that is searched by an index from virtual pages to slots.
-ghost use Rattle.std.specs.Prelude.{◌≡◌, ◌+◌, ◌<◌, ◌≤◌, ◌%◌, length, IfSome, true, false};
+ghost use Rattle.std.specs.Prelude.{◌≡◌, ◌+◌, ◌-◌, ◌<◌, ◌≤◌, ◌%◌, length, IfSome, true, false};
 ghost use Rattle.std.proofs.Math.Nat.{le-add_right};
 ghost use Rattle.ds_isa.specs.Access.{is_store};
 ghost use Rattle.ds_tlb.specs.Frames.{base_of};
@@ -98,8 +98,10 @@ impl<const N: usize, const WIRED: usize> Lookaside for Indexed<N, WIRED> {
     }
 
     fn write_random(&mut self, entry: Entry) -> usize {
-        self.write(self.random(), entry);
-        self.random()
+        let slot = self.random();
+        self.write(slot, entry);
+        self.remember_for_all(entry.vpn, entry.asid);
+        slot
     }
 
     #[inline(always)]
@@ -114,6 +116,15 @@ impl<const N: usize, const WIRED: usize> Lookaside for Indexed<N, WIRED> {
         self.above = above;
         if passed {
             start_over(&mut self.above, N - 1 - WIRED);
+        }
+    }
+
+    #[inline(always)]
+    #[tactic(auto, using(crate::proofs::Passed::passed_above, crate::proofs::Passed::passed_round))]
+    fn pass(&mut self, count: u32) {
+        match self.above.checked_sub(count as usize) {
+            Some(above) => self.above = above,
+            None => self.above = gone_round(self.above, count, N - WIRED),
         }
     }
 
@@ -142,6 +153,22 @@ impl<const N: usize, const WIRED: usize> Lookaside for Indexed<N, WIRED> {
 }
 
 impl<const N: usize, const WIRED: usize> Indexed<N, WIRED> {
+    /// Remembers a page that was written for what comes to it next: loads, and stores where it may be
+    /// stored to, else fetches.
+    #[inline(always)]
+    fn remember_for_all(&mut self, vpn: u32, asid: u8)
+        ensures same { self.new.entries ≡ self.old.entries }
+        ensures random { self.new.above ≡ self.old.above }
+    {
+        if let Some(base) = self.searched(Kind::Store, vpn, asid) {
+            self.stores.remember(vpn, asid, base);
+            self.loads.remember(vpn, asid, base);
+        } else if let Some(base) = self.searched(Kind::Load, vpn, asid) {
+            self.code.remember(vpn, asid, base);
+            self.loads.remember(vpn, asid, base);
+        }
+    }
+
     /// Searches for a page.
     fn searched(&self, kind: Kind, vpn: u32, asid: u8) -> Option<u32>
         ensures base { result ≡ base_of self.now.entries (is_store kind) vpn asid }
@@ -161,6 +188,18 @@ fn start_over(count: &mut usize, top: usize)
     ensures { count.new ≡ top }
 {
     *count = top;
+}
+
+/// How far a count that began at `above` is above the first of so many places, after so many
+/// ticks, which took it round at least once. It stays a call, so that it is not the common way.
+#[cold]
+#[inline(never)]
+fn gone_round(above: usize, ticks: u32, places: usize) -> usize
+    requires few { above < places }
+    requires past { above < ticks }
+    ensures { result ≡ places - 1 - (ticks - above - 1) % places }
+{
+    places - 1 - (ticks as usize - above - 1) % places
 }
 
 /// The bucket that a virtual page falls into.

@@ -1,7 +1,7 @@
 //! What every translation lookaside buffer does, whichever way it is searched.
 ghost use Rattle.std.specs.Prelude.{◌≡◌, ℕ, ◌+◌, ◌%◌, ◌^◌, ◌<◌, ◌≤◌, ◌↔◌, All, List, length, slice_get, slice_set, IsTrue, IsOk, IfOk, IsNone, IfSome, not};
 ghost use Rattle.ds_isa.specs.Access.{is_store};
-ghost use Rattle.ds_tlb.specs.Entries.{matches, find, empty_entries, ticked, index_word};
+ghost use Rattle.ds_tlb.specs.Entries.{matches, find, empty_entries, ticked, passed, index_word};
 ghost use Rattle.ds_tlb.specs.Frames.{base_of};
 ghost use Rattle.ds_tlb.specs.Singles.{IsSingle, IsOnlyMatch, MatchesAt};
 
@@ -93,6 +93,16 @@ pub trait Lookaside: Drop {
     fn tick(&mut self)
         ensures same { entries self.new ≡ entries self.old }
         ensures random { random_place self.new ≡ ticked SLOTS WIRED (random_place self.old) };
+
+    /// Counts Random down so many times.
+    fn pass(&mut self, count: u32)
+        ensures same { entries self.new ≡ entries self.old }
+        ensures random { random_place self.new ≡ passed SLOTS WIRED count (random_place self.old) }
+    {
+        for _ in 0..count {
+            self.tick();
+        }
+    }
 
     /// The Index word of a probe: the lowest matching slot in bits 13 to 8, or 80000000
     /// (hexadecimal) where no entry matches.

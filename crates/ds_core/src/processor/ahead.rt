@@ -1,15 +1,13 @@
 //! Steps, one by one and many at once.
-ghost use Rattle.std.specs.Prelude.{◌≡◌, ◌<◌, ◌≤◌, ◌+◌, ◌^◌, ℕ, false, if◌then◌else◌, Some, None, IsNone, IfSome};
+ghost use Rattle.std.specs.Prelude.{◌≡◌, ◌<◌, ◌≤◌, ◌+◌, ◌^◌, ℕ, Some, None, IsNone, IfSome};
 ghost use Rattle.ds_core.specs.Coprocessor.{only_devices_interrupt};
 ghost use Rattle.ds_cp0.specs.declared.exception.ExceptionCode.TheVariants.{SystemCall};
 ghost use Rattle.ds_dev.specs.Bus.{BusState};
 ghost use Rattle.ds_core.specs.Core.{with_tick, trapped};
-ghost use Rattle.ds_core.specs.Code.{KnowsPage};
 ghost use Rattle.ds_core.specs.Effect.{step};
-ghost use Rattle.ds_core.specs.Ahead.{hardware_of, after_steps, is_raised, AdvancesTo, ComesByWords, ticks, owed_tick};
+ghost use Rattle.ds_core.specs.Ahead.{hardware_of, after_steps, AdvancesTo, ComesByWords, ticks, owed_tick};
 
 use super::Core;
-use super::code::CodePage;
 use crate::event::Event;
 use ds_cp0::{Exception, ExceptionCode};
 use ds_dev::Bus;
@@ -54,18 +52,14 @@ impl<L: Lookaside> Core<L> {
         ensures { (record { event = result; core = self.new; bus = bus.new })
             ≡ step self.old bus.old }
     {
-        match self.run_ahead(bus, 1).raised {
-            Some(code) => Event::Raised(code),
-            None => self.calm_event(),
-        }
+        self.step_anew(bus)
     }
 
     /// Takes `limit` steps, or fewer and behind them one that enters an exception. So many steps
     /// take so many ticks, but for a slot at either end; each begins at an address of 32 bits.
     ///
-    /// This alone reaches the code of the instructions: it is long, and a second place that reached
-    /// it would make it a call, for 30 host instructions on each.
-    #[inline(never)]
+    /// It is compiled into its caller, so that a stretch, which may be short, begins without a call.
+    #[inline(always)]
     pub fn run_ahead(&mut self, bus: &mut Bus, limit: u32) -> Ahead
         requires slots { L.SLOTS ≡ 64 }
         requires wired { L.WIRED ≡ 8 }
@@ -79,10 +73,9 @@ impl<L: Lookaside> Core<L> {
             → ticks result.steps (hardware_of self.old bus.old)
             + owed_tick self.new.slot ≡ result.steps + owed_tick self.old.slot }
     {
-        let mut code = self.code_page();
         let mut steps = 0;
         while steps < limit {
-            let stride = self.stride(bus, &mut code, limit - steps);
+            let stride = self.stride(bus, limit - steps);
             steps += stride.steps;
             if let Some(code) = stride.raised {
                 return Ahead::behind(steps, code);
@@ -96,11 +89,10 @@ impl<L: Lookaside> Core<L> {
     /// Takes steps by their operations, and behind them a plain step where there are fewer than
     /// `left`, which is one at least.
     #[inline(always)]
-    fn stride(&mut self, bus: &mut Bus, code: &mut CodePage, left: u32) -> Ahead
+    fn stride(&mut self, bus: &mut Bus, left: u32) -> Ahead
         requires slots { L.SLOTS ≡ 64 }
         requires wired { L.WIRED ≡ 8 }
         requires some { 0 < left }
-        requires known { KnowsPage code.old.vpn code.old.base self.old }
         ensures within { result.steps ≤ left }
         ensures on { IsNone result.raised → 0 < result.steps }
         ensures fewer { IfSome result.raised (λ _. result.steps < left) }
@@ -111,9 +103,8 @@ impl<L: Lookaside> Core<L> {
             → (after_steps k (hardware_of self.old bus.old)).core.pc < 2 ^ 32 }
         ensures raised { IfSome result.raised (λ _.
             (after_steps result.steps (hardware_of self.old bus.old)).core.pc < 2 ^ 32) }
-        ensures known { IsNone result.raised → KnowsPage code.new.vpn code.new.base self.new }
     {
-        let sprint = self.sprint(bus, code, left);
+        let sprint = self.sprint(bus, left);
         let _here = self.pc;
         if sprint.calls {
             return self.call_behind(sprint.steps);
@@ -121,7 +112,7 @@ impl<L: Lookaside> Core<L> {
         if sprint.steps == left {
             return Ahead::calm(left);
         }
-        if let Event::Raised(code) = self.single(bus, code) {
+        if let Event::Raised(code) = self.step_anew(bus) {
             return Ahead::behind(sprint.steps, code);
         }
         Ahead::calm(sprint.steps + 1)
@@ -152,22 +143,6 @@ impl<L: Lookaside> Core<L> {
         Ahead::behind(steps, ExceptionCode::SystemCall)
     }
 
-    /// Takes one step, by the page of code where it is known.
-    #[inline(always)]
-    fn single(&mut self, bus: &mut Bus, code: &mut CodePage) -> Event
-        requires slots { L.SLOTS ≡ 64 }
-        requires wired { L.WIRED ≡ 8 }
-        requires known { KnowsPage code.old.vpn code.old.base self.old }
-        ensures does { (record { event = result; core = self.new; bus = bus.new })
-            ≡ step self.old bus.old }
-        ensures known { is_raised result ≡ false → KnowsPage code.new.vpn code.new.base self.new }
-    {
-        match self.fetch_ahead(bus, code) {
-            Some(instr) => self.execute_ahead(instr, bus),
-            None => self.proceed_anew(bus, code),
-        }
-    }
-
     /// Whether only a device can interrupt: coprocessor 0 may not be used, so that nothing is let
     /// through or asked for by the program, and the program asks for no interrupt.
     #[inline(always)]
@@ -175,17 +150,5 @@ impl<L: Lookaside> Core<L> {
         ensures { result ≡ only_devices_interrupt self.now }
     {
         !self.is_usable(0) && !self.cp0.pending(false, false)
-    }
-
-    /// The event of the last step, where it entered no exception.
-    #[inline(always)]
-    fn calm_event(&self) -> Event
-        ensures { result ≡ (if self.now.slot then Event.Branched else Event.Retired) }
-    {
-        if self.slot {
-            Event::Branched
-        } else {
-            Event::Retired
-        }
     }
 }

@@ -2,12 +2,10 @@
 ghost use Rattle.std.specs.Prelude.{◌≡◌};
 ghost use Rattle.ds_cp0.specs.System.{is_pending};
 ghost use Rattle.ds_dev.specs.Bus.{lines};
-ghost use Rattle.ds_core.specs.Code.{KnowsPage};
 ghost use Rattle.ds_core.specs.Effect.{instruction, step};
 
 use super::Core;
 use super::access::fetch;
-use super::code::CodePage;
 use crate::event::Event;
 use ds_amap::{Access, Physical};
 use ds_cp0::ExceptionCode;
@@ -17,24 +15,10 @@ use ds_tlb::Lookaside;
 
 impl<L: Lookaside> Core<L> {
     /// A step that looks at everything: takes an interrupt that is pending, or does the instruction
-    /// at `pc`. The page of the next instruction is known from then on, where it can be.
+    /// at `pc`.
     #[cold]
     #[inline(never)]
-    pub(super) fn proceed_anew(&mut self, bus: &mut Bus, code: &mut CodePage) -> Event
-        requires slots { L.SLOTS ≡ 64 }
-        requires wired { L.WIRED ≡ 8 }
-        ensures known { KnowsPage code.new.vpn code.new.base self.new }
-        ensures does { (record { event = result; core = self.new; bus = bus.new })
-            ≡ step self.old bus.old }
-    {
-        let event = self.step_anew(bus);
-        *code = self.code_page();
-        event
-    }
-
-    /// The same, without the page.
-    #[inline(always)]
-    fn step_anew(&mut self, bus: &mut Bus) -> Event
+    pub(super) fn step_anew(&mut self, bus: &mut Bus) -> Event
         requires slots { L.SLOTS ≡ 64 }
         requires wired { L.WIRED ≡ 8 }
         ensures { (record { event = result; core = self.new; bus = bus.new })
@@ -68,7 +52,7 @@ impl<L: Lookaside> Core<L> {
             Err(fault) => return self.refuse(Access::Fetch, self.pc, fault),
         };
         match fetch(bus, place) {
-            Ok(instr) => self.execute::<1>(instr, bus),
+            Ok(instr) => self.execute(instr, bus),
             Err(_) => self.trap(ExceptionCode::FetchBus),
         }
     }

@@ -1,14 +1,9 @@
 //! The page whose instructions a stretch goes through, remembered while nothing can change it.
 ghost use Rattle.std.specs.Prelude.{◌≡◌, ◌+◌, ◌*◌, ◌/◌, ◌%◌, ◌<◌, ◌≤◌, ◌^◌, IfSome, true, false};
-ghost use Rattle.ds_cp0.specs.System.{is_pending};
-ghost use Rattle.ds_dev.specs.Bus.{lines};
 ghost use Rattle.ds_core.specs.Code.{KnowsPage};
-ghost use Rattle.ds_core.specs.Effect.{executed, instruction};
 
 use super::Core;
 use ds_amap::Access;
-use ds_dev::Bus;
-use ds_isa::Instr;
 use ds_tlb::Lookaside;
 
 /// The page number of a page that isn't known: no page has it.
@@ -65,19 +60,6 @@ impl CodePage {
             None
         }
     }
-
-    /// The place in memory of the instruction at an address, where that is a word of the page.
-    #[inline(always)]
-    fn place(&self, pc: u32) -> Option<u32>
-        ensures known { IfSome result (λ place. self.now.vpn < 2 ^ 32) }
-        ensures page { IfSome result (λ place. self.now.vpn ≡ pc / 2 ^ 12) }
-        ensures aligned { IfSome result (λ place. pc % 4 ≡ 0) }
-        ensures place { IfSome result (λ place. place ≡ self.now.base + pc % 2 ^ 12) }
-        ensures inside { IfSome result (λ place. place < 2 ^ 23) }
-    {
-        // The base ends in zeros: told here, so that the sum has the offset as its last bits.
-        Some(self.base / 4096 * 4096 + self.offset(pc)?)
-    }
 }
 
 impl<L: Lookaside> Core<L> {
@@ -99,26 +81,6 @@ impl<L: Lookaside> Core<L> {
                 first: u64::from(vpn) * 4096,
             },
             None => CodePage::none(),
-        }
-    }
-
-    /// The instruction at `pc`, where its page is known and no device asks for an interrupt: then
-    /// none is to be taken.
-    #[inline(always)]
-    pub(super) fn fetch_ahead(&self, bus: &mut Bus, code: &CodePage) -> Option<Instr>
-        requires known { KnowsPage code.now.vpn code.now.base self.now }
-        ensures calm { IfSome result (λ instr. is_pending self.now.system (lines bus.old).0 (lines bus.old).1
-            ≡ false) }
-        ensures fetched { IfSome result (λ instr. executed self.now bus.old instr
-            ≡ instruction self.now bus.old) }
-        ensures same { bus.new ≡ bus.old }
-    {
-        if bus.asks() {
-            return None;
-        }
-        match code.place(self.pc) {
-            Some(place) => Some(bus.fetch(place)),
-            None => None,
         }
     }
 }

@@ -33,10 +33,9 @@ pub(super) fn places(word: u32) -> u8
 }
 
 impl<L: Lookaside> Core<L> {
-    /// Carries out an instruction. It is compiled once for each `WAY` that leads here: it is long, and
-    /// with two callers it would be a call, for 30 host instructions on each instruction.
+    /// Carries out an instruction.
     #[inline(always)]
-    pub(super) fn execute<const WAY: usize>(&mut self, instr: Instr, bus: &mut Bus) -> Event
+    pub(super) fn execute(&mut self, instr: Instr, bus: &mut Bus) -> Event
         requires { L.SLOTS ≡ 64 }
         ensures { (record { event = result; core = self.new; bus = bus.new })
             ≡ executed self.old bus.old instr }

@@ -1,19 +1,19 @@
-//! One operation of a stretch, where no load is late: what seldom comes is left to the plain step.
-ghost use Rattle.std.specs.Prelude.{◌≡◌, ◌*◌, ◌<◌, ◌^◌, None, Ok, IfSome};
-ghost use Rattle.ds_isa.specs.Registers.{read, written, loaded, settled};
+//! One operation of a stretch: what seldom comes is left to the plain step.
+ghost use Rattle.std.specs.Prelude.{◌≡◌, ◌+◌, ◌*◌, ◌<◌, ◌^◌, slice_index, Ok, IfSome};
+ghost use Rattle.ds_isa.specs.Registers.{written, loaded, settled};
 ghost use Rattle.ds_isa.specs.Meaning.{written_or_trap, loads, stores, with_hi_lo, behind_slot, Branches};
 ghost use Rattle.ds_isa.specs.declared.instr.Size.TheVariants as size;
-ghost use Rattle.ds_word.specs.Word.{bits, sign_extended};
+ghost use Rattle.ds_word.specs.Word.{word, bits, sign_extended};
 ghost use Rattle.ds_word.specs.Merge.{with_bits};
-ghost use Rattle.ds_operations.specs.Does.{target_by, in_region, address_by};
+ghost use Rattle.ds_operations.specs.Does.{target_by, in_region};
 ghost use Rattle.ds_dev.specs.Bus.{lines};
-ghost use Rattle.ds_tlb.specs.Entries.{ticked};
-ghost use Rattle.ds_core.specs.Core.{core_at_next, branched_core};
 ghost use Rattle.ds_core.specs.Access.{reached};
+ghost use Rattle.ds_core.specs.Placed.{registers_at, with_general, at_next};
 ghost use Rattle.ds_core.specs.Operations.{ComesTo};
 
 use super::Core;
 use super::flow::behind_slot;
+use super::position::Position;
 use ds_amap::{Access, Physical, recalled};
 use ds_dev::Bus;
 use ds_isa::{Late, Size};
@@ -28,6 +28,8 @@ use ds_word::{
 pub(super) enum Outcome {
     /// It is done.
     Done,
+    /// It is done, and its load is late.
+    Loaded,
     /// It is a branch or jump, and its slot comes next.
     Branched,
     /// It is a system call, and nothing was done.
@@ -57,156 +59,121 @@ pub(super) fn in_region(pc: u32, place: u32) -> u32
 }
 
 impl<L: Lookaside> Core<L> {
-    /// A register that an operation reads, where no load is late.
+    /// What a register holds: what an operation reads there, but for a load that is late.
     #[inline(always)]
     pub(super) fn general(&self, register: Register) -> u32
-        requires settled { self.now.registers.late ≡ None }
-        ensures { result ≡ read self.now.registers register.number }
+        ensures { result ≡ slice_index self.now.registers.general register.number }
     {
         self.registers[register.number() as usize]
     }
 
-    /// Goes on behind the operation, which is done.
-    #[inline(always)]
-    pub(super) fn go_on(&mut self) -> Outcome
-        requires slots { L.SLOTS ≡ 64 }
-        requires wired { L.WIRED ≡ 8 }
-        ensures done { result ≡ Outcome.Done }
-        ensures core { self.new ≡ record (core_at_next self.old self.old.registers) {
-          random = ticked 64 8 self.old.random;
-        } }
-    {
-        self.pc = self.next;
-        self.next = wrapping_sum(self.next, 4);
-        self.slot = false;
-        self.tlb.tick();
-        Outcome::Done
-    }
-
     /// The operation is done, and a register written.
     #[inline(always)]
-    pub(super) fn put(&mut self, to: Target, value: u32) -> Outcome
-        requires slots { L.SLOTS ≡ 64 }
-        requires wired { L.WIRED ≡ 8 }
-        requires settled { self.old.registers.late ≡ None }
+    pub(super) fn put(&mut self, to: Target, value: u32, at: &mut Position) -> Outcome
         ensures done { result ≡ Outcome.Done }
-        ensures core { self.new
-            ≡ record (core_at_next self.old (written self.old.registers to.number value)) {
-              random = ticked 64 8 self.old.random;
-            } }
+        ensures core { self.new ≡ record self.old {
+          registers = with_general self.old.registers to.number value;
+        } }
+        ensures at { at.new ≡ at_next at.old }
     {
         self.registers[to.number() as usize] = value;
-        self.go_on()
+        at.go_on()
     }
 
     /// The operation is done, and a register loaded.
     #[inline(always)]
-    pub(super) fn put_late(&mut self, to: Target, value: u32) -> Outcome
-        requires slots { L.SLOTS ≡ 64 }
-        requires wired { L.WIRED ≡ 8 }
-        ensures done { result ≡ Outcome.Done }
-        ensures core { self.new
-            ≡ record (core_at_next self.old (loaded self.old.registers to.number value)) {
-              random = ticked 64 8 self.old.random;
-            } }
+    pub(super) fn put_late(&mut self, to: Target, value: u32, at: &mut Position) -> Outcome
+        ensures loaded { result ≡ Outcome.Loaded }
+        ensures core { self.new ≡ record self.old { registers = self.new.registers } }
+        ensures at { at.new ≡ record (at_next at.old) { late = at.new.late } }
+        ensures registers { registers_at self.new at.new
+            ≡ loaded (registers_at self.old at.old) to.number value }
     {
         let number = to.number();
-        self.late = Some(Late {
-            register: number,
-            old: self.registers[number as usize],
-        });
+        let old = self.registers[number as usize];
         self.registers[number as usize] = value;
-        self.go_on()
+        at.go_on();
+        at.late = Some(Late {
+            register: number,
+            old,
+        });
+        Outcome::Loaded
     }
 
     /// The operation is done with its result in a register; where it overflowed it is left.
     #[inline(always)]
-    pub(super) fn put_or_leave(&mut self, to: Target, value: Option<u32>, bus: &Bus) -> Outcome
-        requires slots { L.SLOTS ≡ 64 }
-        requires wired { L.WIRED ≡ 8 }
-        requires settled { self.old.registers.late ≡ None }
-        ensures comes { ComesTo result (written_or_trap self.old.registers to.number value)
-            self.old bus.now self.new bus.now }
+    pub(super) fn put_or_leave(
+        &mut self,
+        to: Target,
+        value: Option<u32>,
+        at: &mut Position,
+        bus: &Bus,
+    ) -> Outcome
+        ensures comes { ComesTo result (written_or_trap (registers_at self.old at.old) to.number value)
+            self.old at.old bus.now self.new at.new bus.now }
         ensures system { self.new.system ≡ self.old.system }
+        ensures entries { self.new.entries ≡ self.old.entries }
     {
         match value {
-            Some(value) => self.put(to, value),
+            Some(value) => self.put(to, value, at),
             None => Outcome::Left,
         }
     }
 
-    /// On into the slot, and behind it at the target.
-    #[inline(always)]
-    fn into_slot(&mut self, target: u32) -> Outcome
-        requires slots { L.SLOTS ≡ 64 }
-        requires wired { L.WIRED ≡ 8 }
-        ensures branched { result ≡ Outcome.Branched }
-        ensures core { self.new ≡ record (branched_core self.old self.old.registers target) {
-          random = ticked 64 8 self.old.random;
-        } }
-    {
-        self.pc = self.next;
-        self.next = target;
-        self.slot = true;
-        self.tlb.tick();
-        Outcome::Branched
-    }
-
     /// A branch or jump to the target. In a slot it is left: there it is reserved.
     #[inline(always)]
-    pub(super) fn jump(&mut self, target: u32, bus: &Bus) -> Outcome
-        requires slots { L.SLOTS ≡ 64 }
-        requires wired { L.WIRED ≡ 8 }
-        requires settled { self.old.registers.late ≡ None }
-        ensures comes { ComesTo result (Branches (settled self.old.registers) target)
-            self.old bus.now self.new bus.now }
+    pub(super) fn jump(&mut self, target: u32, at: &mut Position, bus: &Bus) -> Outcome
+        ensures comes { ComesTo result (Branches (settled (registers_at self.old at.old)) target)
+            self.old at.old bus.now self.new at.new bus.now }
         ensures system { self.new.system ≡ self.old.system }
+        ensures entries { self.new.entries ≡ self.old.entries }
     {
-        if self.slot {
+        if at.slot {
             Outcome::Left
         } else {
-            self.into_slot(target)
+            at.into_slot(target)
         }
     }
 
     /// The same, with the address behind the slot in a register.
     #[inline(always)]
-    pub(super) fn jump_and_link(&mut self, to: Target, target: u32, bus: &Bus) -> Outcome
-        requires slots { L.SLOTS ≡ 64 }
-        requires wired { L.WIRED ≡ 8 }
-        requires settled { self.old.registers.late ≡ None }
+    pub(super) fn jump_and_link(
+        &mut self,
+        to: Target,
+        target: u32,
+        at: &mut Position,
+        bus: &Bus,
+    ) -> Outcome
         ensures comes { ComesTo result
-            (Branches (written self.old.registers to.number (behind_slot self.old.pc)) target)
-            self.old bus.now self.new bus.now }
+            (Branches (written (registers_at self.old at.old) to.number (behind_slot at.old.pc)) target)
+            self.old at.old bus.now self.new at.new bus.now }
         ensures system { self.new.system ≡ self.old.system }
+        ensures entries { self.new.entries ≡ self.old.entries }
     {
-        if self.slot {
+        if at.slot {
             return Outcome::Left;
         }
-        self.registers[to.number() as usize] = behind_slot(self.pc);
-        self.into_slot(target)
+        self.registers[to.number() as usize] = behind_slot(at.pc);
+        at.into_slot(target)
     }
 
     /// The operation is done, and HI and LO written.
     #[inline(always)]
-    pub(super) fn put_hi_lo(&mut self, hi: u32, lo: u32, bus: &Bus) -> Outcome
-        requires slots { L.SLOTS ≡ 64 }
-        requires wired { L.WIRED ≡ 8 }
-        requires settled { self.old.registers.late ≡ None }
-        ensures comes { ComesTo result (with_hi_lo self.old.registers (hi, lo))
-            self.old bus.now self.new bus.now }
+    pub(super) fn put_hi_lo(&mut self, hi: u32, lo: u32, at: &mut Position, bus: &Bus) -> Outcome
+        ensures comes { ComesTo result (with_hi_lo (registers_at self.old at.old) (hi, lo))
+            self.old at.old bus.now self.new at.new bus.now }
         ensures system { self.new.system ≡ self.old.system }
+        ensures entries { self.new.entries ≡ self.old.entries }
     {
         self.hi = hi;
         self.lo = lo;
-        self.go_on()
+        at.go_on()
     }
 
     /// The address of a load or a store.
     #[inline(always)]
     pub(super) fn address_by(&self, base: Register, immediate: u32) -> u32
-        requires settled { self.now.registers.late ≡ None }
-        ensures { result ≡ address_by self.now.registers base.number immediate }
+        ensures { result ≡ word (slice_index self.now.registers.general base.number + immediate) }
     {
         wrapping_sum(self.general(base), immediate)
     }
@@ -225,16 +192,21 @@ impl<L: Lookaside> Core<L> {
 
     /// Loads a byte with its sign.
     #[inline(always)]
-    pub(super) fn take_byte(&mut self, to: Target, address: u32, bus: &Bus) -> Outcome
-        requires slots { L.SLOTS ≡ 64 }
-        requires wired { L.WIRED ≡ 8 }
-        ensures comes { ComesTo result (loads size.Byte self.old.registers to.number address
-            (λ w b. sign_extended 8 (bits w (8 * b) 8))) self.old bus.now self.new bus.now }
+    pub(super) fn take_byte(
+        &mut self,
+        to: Target,
+        address: u32,
+        at: &mut Position,
+        bus: &Bus,
+    ) -> Outcome
+        ensures comes { ComesTo result (loads size.Byte (registers_at self.old at.old) to.number address
+            (λ w b. sign_extended 8 (bits w (8 * b) 8))) self.old at.old bus.now self.new at.new bus.now }
         ensures system { self.new.system ≡ self.old.system }
+        ensures entries { self.new.entries ≡ self.old.entries }
     {
         match self.remembered(Access::Load, Size::Byte, address) {
             Some(Physical(place)) => {
-                self.put_late(to, byte_signed(bus.word(place), address % 4))
+                self.put_late(to, byte_signed(bus.word(place), address % 4), at)
             }
             None => Outcome::Left,
         }
@@ -242,16 +214,21 @@ impl<L: Lookaside> Core<L> {
 
     /// Loads a byte below zeros.
     #[inline(always)]
-    pub(super) fn take_byte_unsigned(&mut self, to: Target, address: u32, bus: &Bus) -> Outcome
-        requires slots { L.SLOTS ≡ 64 }
-        requires wired { L.WIRED ≡ 8 }
-        ensures comes { ComesTo result (loads size.Byte self.old.registers to.number address
-            (λ w b. bits w (8 * b) 8)) self.old bus.now self.new bus.now }
+    pub(super) fn take_byte_unsigned(
+        &mut self,
+        to: Target,
+        address: u32,
+        at: &mut Position,
+        bus: &Bus,
+    ) -> Outcome
+        ensures comes { ComesTo result (loads size.Byte (registers_at self.old at.old) to.number address
+            (λ w b. bits w (8 * b) 8)) self.old at.old bus.now self.new at.new bus.now }
         ensures system { self.new.system ≡ self.old.system }
+        ensures entries { self.new.entries ≡ self.old.entries }
     {
         match self.remembered(Access::Load, Size::Byte, address) {
             Some(Physical(place)) => {
-                self.put_late(to, byte_unsigned(bus.word(place), address % 4))
+                self.put_late(to, byte_unsigned(bus.word(place), address % 4), at)
             }
             None => Outcome::Left,
         }
@@ -259,16 +236,21 @@ impl<L: Lookaside> Core<L> {
 
     /// Loads a half with its sign.
     #[inline(always)]
-    pub(super) fn take_half(&mut self, to: Target, address: u32, bus: &Bus) -> Outcome
-        requires slots { L.SLOTS ≡ 64 }
-        requires wired { L.WIRED ≡ 8 }
-        ensures comes { ComesTo result (loads size.Half self.old.registers to.number address
-            (λ w b. sign_extended 16 (bits w (8 * b) 16))) self.old bus.now self.new bus.now }
+    pub(super) fn take_half(
+        &mut self,
+        to: Target,
+        address: u32,
+        at: &mut Position,
+        bus: &Bus,
+    ) -> Outcome
+        ensures comes { ComesTo result (loads size.Half (registers_at self.old at.old) to.number address
+            (λ w b. sign_extended 16 (bits w (8 * b) 16))) self.old at.old bus.now self.new at.new bus.now }
         ensures system { self.new.system ≡ self.old.system }
+        ensures entries { self.new.entries ≡ self.old.entries }
     {
         match self.remembered(Access::Load, Size::Half, address) {
             Some(Physical(place)) => {
-                self.put_late(to, half_signed(bus.word(place), address % 4))
+                self.put_late(to, half_signed(bus.word(place), address % 4), at)
             }
             None => Outcome::Left,
         }
@@ -276,16 +258,21 @@ impl<L: Lookaside> Core<L> {
 
     /// Loads a half below zeros.
     #[inline(always)]
-    pub(super) fn take_half_unsigned(&mut self, to: Target, address: u32, bus: &Bus) -> Outcome
-        requires slots { L.SLOTS ≡ 64 }
-        requires wired { L.WIRED ≡ 8 }
-        ensures comes { ComesTo result (loads size.Half self.old.registers to.number address
-            (λ w b. bits w (8 * b) 16)) self.old bus.now self.new bus.now }
+    pub(super) fn take_half_unsigned(
+        &mut self,
+        to: Target,
+        address: u32,
+        at: &mut Position,
+        bus: &Bus,
+    ) -> Outcome
+        ensures comes { ComesTo result (loads size.Half (registers_at self.old at.old) to.number address
+            (λ w b. bits w (8 * b) 16)) self.old at.old bus.now self.new at.new bus.now }
         ensures system { self.new.system ≡ self.old.system }
+        ensures entries { self.new.entries ≡ self.old.entries }
     {
         match self.remembered(Access::Load, Size::Half, address) {
             Some(Physical(place)) => {
-                self.put_late(to, half_unsigned(bus.word(place), address % 4))
+                self.put_late(to, half_unsigned(bus.word(place), address % 4), at)
             }
             None => Outcome::Left,
         }
@@ -293,35 +280,44 @@ impl<L: Lookaside> Core<L> {
 
     /// Loads a word.
     #[inline(always)]
-    pub(super) fn take_word(&mut self, to: Target, address: u32, bus: &Bus) -> Outcome
-        requires slots { L.SLOTS ≡ 64 }
-        requires wired { L.WIRED ≡ 8 }
-        ensures comes { ComesTo result (loads size.Word self.old.registers to.number address (λ w b. w))
-            self.old bus.now self.new bus.now }
+    pub(super) fn take_word(
+        &mut self,
+        to: Target,
+        address: u32,
+        at: &mut Position,
+        bus: &Bus,
+    ) -> Outcome
+        ensures comes { ComesTo result (loads size.Word (registers_at self.old at.old) to.number address (λ w b. w))
+            self.old at.old bus.now self.new at.new bus.now }
         ensures system { self.new.system ≡ self.old.system }
+        ensures entries { self.new.entries ≡ self.old.entries }
     {
         match self.remembered(Access::Load, Size::Word, address) {
-            Some(Physical(place)) => self.put_late(to, bus.word(place)),
+            Some(Physical(place)) => self.put_late(to, bus.word(place), at),
             None => Outcome::Left,
         }
     }
 
     /// Stores the low byte of a value.
     #[inline(always)]
-    pub(super) fn leave_byte(&mut self, value: u32, address: u32, bus: &mut Bus) -> Outcome
-        requires slots { L.SLOTS ≡ 64 }
-        requires wired { L.WIRED ≡ 8 }
-        requires settled { self.old.registers.late ≡ None }
+    pub(super) fn leave_byte(
+        &mut self,
+        value: u32,
+        address: u32,
+        at: &mut Position,
+        bus: &mut Bus,
+    ) -> Outcome
         ensures comes { ComesTo result (stores size.Byte address (λ w b. with_bits w (8 * b) 8 value))
-            self.old bus.old self.new bus.new }
+            self.old at.old bus.old self.new at.new bus.new }
         ensures system { self.new.system ≡ self.old.system }
+        ensures entries { self.new.entries ≡ self.old.entries }
         ensures lines { lines bus.new ≡ lines bus.old }
     {
         match self.remembered(Access::Store, Size::Byte, address) {
             Some(Physical(place)) => {
                 let word = bus.word(place);
                 bus.put_word(place, store_byte(word, value, address % 4));
-                self.go_on()
+                at.go_on()
             }
             None => Outcome::Left,
         }
@@ -329,20 +325,24 @@ impl<L: Lookaside> Core<L> {
 
     /// Stores the low half of a value.
     #[inline(always)]
-    pub(super) fn leave_half(&mut self, value: u32, address: u32, bus: &mut Bus) -> Outcome
-        requires slots { L.SLOTS ≡ 64 }
-        requires wired { L.WIRED ≡ 8 }
-        requires settled { self.old.registers.late ≡ None }
+    pub(super) fn leave_half(
+        &mut self,
+        value: u32,
+        address: u32,
+        at: &mut Position,
+        bus: &mut Bus,
+    ) -> Outcome
         ensures comes { ComesTo result (stores size.Half address (λ w b. with_bits w (8 * b) 16 value))
-            self.old bus.old self.new bus.new }
+            self.old at.old bus.old self.new at.new bus.new }
         ensures system { self.new.system ≡ self.old.system }
+        ensures entries { self.new.entries ≡ self.old.entries }
         ensures lines { lines bus.new ≡ lines bus.old }
     {
         match self.remembered(Access::Store, Size::Half, address) {
             Some(Physical(place)) => {
                 let word = bus.word(place);
                 bus.put_word(place, store_half(word, value, address % 4));
-                self.go_on()
+                at.go_on()
             }
             None => Outcome::Left,
         }
@@ -350,19 +350,23 @@ impl<L: Lookaside> Core<L> {
 
     /// Stores a word.
     #[inline(always)]
-    pub(super) fn leave_word(&mut self, value: u32, address: u32, bus: &mut Bus) -> Outcome
-        requires slots { L.SLOTS ≡ 64 }
-        requires wired { L.WIRED ≡ 8 }
-        requires settled { self.old.registers.late ≡ None }
+    pub(super) fn leave_word(
+        &mut self,
+        value: u32,
+        address: u32,
+        at: &mut Position,
+        bus: &mut Bus,
+    ) -> Outcome
         ensures comes { ComesTo result (stores size.Word address (λ w b. value))
-            self.old bus.old self.new bus.new }
+            self.old at.old bus.old self.new at.new bus.new }
         ensures system { self.new.system ≡ self.old.system }
+        ensures entries { self.new.entries ≡ self.old.entries }
         ensures lines { lines bus.new ≡ lines bus.old }
     {
         match self.remembered(Access::Store, Size::Word, address) {
             Some(Physical(place)) => {
                 bus.put_word(place, value);
-                self.go_on()
+                at.go_on()
             }
             None => Outcome::Left,
         }

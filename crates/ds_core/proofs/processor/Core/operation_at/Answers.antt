@@ -2,20 +2,22 @@ use Rattle.std.proofs.Common.{◌+◌, ap, refl, arith}
 use Rattle.ds_word.specs.Bytes.{word_at}
 use Rattle.ds_isa.specs.Instruction.{instruction_of}
 use Rattle.ds_amap.specs.Map.{at_physical}
-use Rattle.ds_core.specs.Core.{CoreState}
+use Rattle.ds_core.specs.Placed.{Place, placed}
 use Rattle.ds_core.proofs.Codes.{reaches_page}
+use Rattle.ds_core.proofs.Sprints.{knows_placed}
 use Rattle.ds_core.proofs.Fetches.{instruction_at, in_memory, kept_in_memory}
 use Rattle.ds_core.proofs.processor.Core.operation_at.Goals as goal
 
 pub returns-in-Some-clause-fetched : goal.returns-in-Some-clause-fetched
-returns-in-Some-clause-fetched g c =
+returns-in-Some-clause-fetched g c = λ n.
     let place = c.args.code.now.base + c.in-Some.offset in
     let instr = instruction_of (word_at c.args.bus.now.memory place) in
+    let here = placed n c.args.self.now c.args.at.now in
     record {
       instr = instr;
       means = c.operation.ensures.value;
-      lies = instruction_at c.args.self.now c.args.self.now c.args.bus.now c.args.bus.now (at_physical place) instr _
-          (reaches_page c.args.self.now _ _ place _ c.requires.known (ap (λ (k : CoreState). k.pc) c.self.view_is)
+      lies = instruction_at here here c.args.bus.now c.args.bus.now (at_physical place) instr _
+          (reaches_page here _ _ place _ (knows_placed n _ _ c.args.self.now c.args.at.now c.requires.known) (ap (λ (k : Place). k.pc) c.at.view_is)
           c.in-Some.ensures.known c.in-Some.ensures.page c.in-Some.ensures.aligned (ap (λ n. c.args.code.now.base + n) c.in-Some.ensures.value))
           refl
           (in_memory c.args.bus.now place instr (omega arith) refl)

@@ -1,10 +1,9 @@
-use Rattle.std.proofs.Common.{◌≡◌, ◌+◌, ◌<◌, ◌^◌, subst, arith, inl, inr, ap}
+use Rattle.std.proofs.Common.{◌<◌, ◌^◌, subst, arith}
 use Rattle.std.specs.Prelude.{Option, Some, None, IfSome}
-use Rattle.std.proofs.lemmas.Bool.{cases_lt}
 use Rattle.ds_cp0.specs.declared.exception.ExceptionCode.{ExceptionCode}
 use Rattle.ds_core.specs.Ahead.{hardware_of, after_steps, AdvancesTo}
 use Rattle.ds_core.proofs.Slots.{ticks_of_advance}
-use Rattle.ds_core.proofs.Sprints.{join_to, word_behind, words_join, words_to}
+use Rattle.ds_core.proofs.Sprints.{join_to, words_join, words_to}
 use Rattle.ds_core.proofs.processor.Core.run_ahead.Goals as goal
 
 pub returns-in-Some-clause-steps : goal.returns-in-Some-clause-steps
@@ -32,7 +31,6 @@ loop-steps-preserved g c = record {
       (subst (λ (r : Option ExceptionCode). AdvancesTo c.stride-stride.result.steps r (hardware_of c.loop-steps.self c.loop-steps.bus) (hardware_of c.stride-stride.new.self c.stride-stride.new.bus)) c.in_default.is c.stride-stride.ensures.steps);
   words = words_join c.loop-steps.steps c.stride-stride.result.steps (hardware_of c.args.self.now c.args.bus.now) (hardware_of c.loop-steps.self c.loop-steps.bus)
       c.loop-steps.invariant.advances c.loop-steps.invariant.words c.stride-stride.ensures.words;
-  known = c.stride-stride.ensures.known cc;
 }
 
 pub returns-clause-ticks : goal.returns-clause-ticks

@@ -1,5 +1,4 @@
 use Rattle.std.proofs.Common.{ℕ, ◌<◌, ◌≤◌, ◌-◌, ◌^◌}
-use Rattle.ds_core.specs.Code.{KnowsPage}
 use Rattle.ds_core.specs.Ahead.{Advances, after_steps, hardware_of}
 use Rattle.ds_core.proofs.processor.Core.run_ahead.Given as goal
 
@@ -8,7 +7,6 @@ invariant-loop-steps g l = record {
   within : l.steps ≤ l.limit;
   advances : Advances l.steps (hardware_of l.fn.self l.fn.bus) (hardware_of l.self l.bus);
   words : (k : ℕ) → k < l.steps → (after_steps k (hardware_of l.fn.self l.fn.bus)).core.pc < 2 ^ 32;
-  known : KnowsPage l.code.vpn l.code.base l.self;
 }
 
 abbrev pub decreases-loop-steps : goal.decreases-loop-steps

@@ -1,18 +1,23 @@
-use Rattle.std.proofs.Common.{◌+◌, ◌<◌, ◌≤◌}
-use Rattle.ds_monitor.specs.Room.{HasLogRoom}
+use Rattle.std.proofs.Common.{◌≡◌, false, ◌+◌, ◌≤◌}
+use Rattle.ds_refinement.specs.Blocks.{GoesAhead}
+use Rattle.ds_refinement.specs.Held.{Held}
+use Rattle.ds_monitor.specs.Room.{HasRoom}
 use Rattle.ds_kernel.specs.Parts.{held}
 use Rattle.ds_kernel.specs.Good.{IsGood}
 use Rattle.ds_kernel.specs.Going.{rank, GoesOn}
 use Rattle.ds_kernel.proofs.parts.Parts.run_blocks.Given as goal
 
-abbrev pub invariant-loop-self : goal.invariant-loop-self
-invariant-loop-self g l = record {
+abbrev pub invariant-loop-ahead : goal.invariant-loop-ahead
+invariant-loop-ahead g l = record {
   good : IsGood l.self;
-  goes : GoesOn l.n (held l.fn.self) (held l.self);
-  early : l.self.monitor.time + 1 < l.self.monitor.quiet_until;
+  working : l.self.failed ≡ false;
+  goes : (h : Held) → GoesOn l.n (held l.self) h → GoesOn l.n (held l.fn.self) h;
+  ahead : GoesAhead l.ahead (held l.self);
+  some : 1 ≤ l.ahead;
+  end : l.self.monitor.time + l.ahead + 1 ≡ l.end;
   quiet : l.end + 2 ≤ l.self.monitor.quiet_until;
-  log : HasLogRoom 1 l.self.monitor;
+  room : HasRoom 1 l.self.monitor;
 }
 
-abbrev pub decreases-loop-self : goal.decreases-loop-self
-decreases-loop-self g l = rank l.n (held l.self)
+abbrev pub decreases-loop-ahead : goal.decreases-loop-ahead
+decreases-loop-ahead g l = rank l.n (held l.self)
