@@ -1,7 +1,11 @@
 pub mod Keyed
 pub mod Nothings
+pub mod LabelsAlone
 pub mod WrittenForms
+pub mod NameKeys
 pub mod LabelSlots
+pub mod SlotEntries
+pub mod HeldLabels
 pub mod Pages
 pub mod SourceLines
 pub mod ImageSizes

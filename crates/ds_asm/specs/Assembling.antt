@@ -1,5 +1,5 @@
 -- What the calls of the assembler return, beside what a source says.
-use Rattle.std.specs.Prelude.{◌≡◌, ℕ, List, Option, Result, Ok, Err, codes}
+use Rattle.std.specs.Prelude.{◌≡◌, ◌≤◌, ℕ, List, Option, Result, Ok, Err, codes, length, map}
 use Rattle.std.specs.Ordering.{nat_cmp}
 use Rattle.std.specs.Cmp.Lexicographic.{slice_cmp}
 use Rattle.std.specs.BTreeMap.{get_by}
@@ -10,8 +10,8 @@ use Rattle.ds_asm.specs.declared.fault.SourceFault.TheVariants.{Syntax, UnknownL
 use Rattle.ds_asm.specs.declared.labels.Labels as code
 use Rattle.ds_asm.specs.declared.layout.Layout as held
 use Rattle.ds_asm.specs.Assembly.{Labels, address_of, Layout}
-use Rattle.ds_asm.specs.Slots.{address_or, has_name, is_open, window_of}
-use Rattle.std.specs.List.{find}
+use Rattle.ds_asm.specs.Slots.{Entry, address_or, entry_of, has_name, is_open, window_of}
+use Rattle.std.specs.List.{All, find}
 
 -- the text has this fault; want of memory says nothing of the text
 abbrev pub Fails : {A : Type 0} → AsmFault → Result A SourceFault → Type 0
@@ -61,19 +61,28 @@ fault_number asm.Memory = 25
 abbrev pub other_address : code.Labels → List ℕ → Option ℕ
 other_address m name = get_by (λ k. slice_cmp nat_cmp name k.now) m.others
 
+-- the long names in its slots
+abbrev pub names_in : code.Labels → List (List ℕ)
+names_in m = map (λ n. n.now) m.names.items
+
+-- its slots, each with the label that it has
+abbrev pub entries_in : code.Labels → List (Option Entry)
+entries_in m = map (entry_of (names_in m)) m.slots.items
+
 -- the address that is held for a name: in its slots, of which the first free one ends the search, or
 -- where all are taken by others, in the tree
 abbrev pub held_address : code.Labels → List ℕ → Option ℕ
-held_address m name = address_or (other_address m name) (find (is_open name) (window_of m.slots.items name))
+held_address m name = address_or (other_address m name) (find (is_open m.factor name) (window_of m.factor (entries_in m) name))
 
 -- the address that stands anywhere in a name's slots, or in the tree
 abbrev pub kept_address : code.Labels → List ℕ → Option ℕ
-kept_address m name = address_or (other_address m name) (find (has_name name) (window_of m.slots.items name))
+kept_address m name = address_or (other_address m name) (find (has_name m.factor name) (window_of m.factor (entries_in m) name))
 
--- the labels are held, each with its address, and none stands behind a free slot
+-- the labels are held, each with its address, none stands behind a free slot, and each slot's name is there
 pub record Holds (m : code.Labels) (labels : Labels) : Type 0 where
   pub each : (name : List ℕ) → held_address m name ≡ address_of labels name
   pub found : (name : List ℕ) → kept_address m name ≡ held_address m name
+  pub named : All (λ s. s.number ≤ length (names_in m)) m.slots.items
 
 -- what was laid out is held
 pub record IsLaid (m : held.Layout) (l : Layout) : Type 0 where

@@ -7,6 +7,7 @@ pub mod Operands
 pub mod Lines
 pub mod Plain
 pub mod Assembly
+pub mod NameKeys
 pub mod Slots
 pub mod Assembling
 pub mod Faults

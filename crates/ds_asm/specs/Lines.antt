@@ -86,6 +86,10 @@ is_comment (c ∷ cs) = c == 35
 abbrev pub nothing : Line
 nothing = record { label = None; statement = None }
 
+-- a line that says a label alone
+abbrev pub only_label : List ℕ → Line
+only_label name = record { label = Some name; statement = None }
+
 -- what a line says, up to its comment
 unfoldable pub line_of : List ℕ → Option Line
 line_of line = line_parts (trimmed (until 35 line))

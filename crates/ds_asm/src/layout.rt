@@ -84,10 +84,10 @@ impl<'a> Layout<'a> {
             Some(name) => name,
             None => return Ok(()),
         };
-        if self.labels.address_of(name).is_some() {
+        let is_new = self.labels.add(name, ORIGIN + self.size)?;
+        if !is_new {
             return Err(AsmFault::Source(SourceFault::DoubleLabel(number)));
         }
-        self.labels.insert(name, ORIGIN + self.size)?;
         Ok(())
     }
 }

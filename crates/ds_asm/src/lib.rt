@@ -12,6 +12,7 @@ mod instruction;
 mod labels;
 mod layout;
 mod line;
+mod name_key;
 mod number;
 mod register;
 mod second_pass;

@@ -1,9 +1,9 @@
 //! What a line says: a label, a statement, both or nothing.
-ghost use Rattle.std.specs.Prelude.{◌≡◌, ◌≤◌, IsTrue, Some, option_map, length};
+ghost use Rattle.std.specs.Prelude.{◌≡◌, ◌≤◌, IsTrue, IfSome, Some, option_map, length};
 ghost use Rattle.std.specs.List.{position_or_len};
 ghost use Rattle.ds_asm.specs.Characters.{is_blank};
 ghost use Rattle.ds_asm.specs.Numbers.{number_of};
-ghost use Rattle.ds_asm.specs.Lines.{mnemonic_of, behind_mnemonic, number_word, instruction_named, statement_named, statement_of, statement_in, with_statement, line_parts, line_of, is_comment, nothing};
+ghost use Rattle.ds_asm.specs.Lines.{mnemonic_of, behind_mnemonic, number_word, instruction_named, statement_named, statement_of, statement_in, with_statement, line_parts, line_of, is_comment, nothing, only_label};
 ghost use Rattle.ds_asm.specs.Assembly.{is_reserved_word, is_in_range, is_aligned, size_of};
 ghost use Rattle.ds_asm.specs.Plain.{plain_instruction, plain_statement, plain_line};
 
@@ -85,6 +85,12 @@ fn is_reserved_word(word: u32) -> bool
 pub(crate) fn line_of(line: &[u8]) -> Option<Line<'_>>
     ensures { option_map plain_line result ≡ line_of line.now }
 {
+    if let Some(name) = label_alone(line) {
+        return Some(Line {
+            label: Some(name),
+            statement: None,
+        });
+    }
     let said = trimmed(until(b'#', line));
     if said.is_empty() {
         return Some(Line {
@@ -93,6 +99,17 @@ pub(crate) fn line_of(line: &[u8]) -> Option<Line<'_>>
         });
     }
     line_parts(said)
+}
+
+/// The label of a line that has nothing else.
+#[inline(always)]
+fn label_alone(line: &[u8]) -> Option<&[u8]>
+    ensures { IfSome result (λ name. line_of line.now ≡ Some (only_label name.now)) }
+{
+    match line {
+        [name @ .., b':'] => { if is_name(name) { Some(name) } else { None } }
+        _ => None,
+    }
 }
 
 /// Whether a line has nothing but blanks before its comment or its end.

@@ -1,15 +1,18 @@
-use Rattle.std.proofs.Common.{◌≡◌, ◌∙◌, rules, get_or, None, option_map}
-use Rattle.ds_asm.specs.Assembling.{other_address}
-use Rattle.ds_asm.proofs.LabelSlots.{window_is, said_at, none_said}
+use Rattle.std.proofs.Common.{◌∙◌, ap, map}
+use Rattle.ds_asm.specs.Assembling.{names_in}
+use Rattle.ds_asm.proofs.HeldLabels.{looked, placed, said, said_elsewhere}
 use Rattle.ds_asm.proofs.labels.Labels.address_of.Goals as goal
 
 pub returns-in-Some : goal.returns-in-Some
 returns-in-Some c =
-    let window = window_is c.args.self.now.slots.items c.args.name.now c.hash_of-hash.result c.deref.result.now c.window_of-window.result.now c.deref.ensures.value c.hash_of-hash.ensures c.window_of-window.ensures in
-    let said : c.map.result ≡ option_map (λ l. l.address) (get_or c.window_of-window.result.now c.in-Some.place None) = search rules in
-    said ∙ said_at c.args.self.now.slots.items c.args.name.now (other_address c.args.self.now c.args.name.now) c.window_of-window.result.now c.in-Some.place window c.in-Some.ensures
+    let m = c.args.self.now in
+    let (start, window) = looked m c.args.name.now _ _ _ _ _ c.key_of_name-key.ensures c.start_of-start.ensures.at c.len.ensures c.deref.ensures.len c.deref.ensures.value c.window_at-window.ensures in
+    let place = placed m c.args.name.now _ _ _ window (ap (λ ns. map (λ n. n.now) ns) c.deref-2.ensures.value) c.in-Some.ensures in
+    c.address_in.ensures (names_in m) ∙ said m c.args.name.now _ _ _ window place
 
 pub returns-in-None : goal.returns-in-None
 returns-in-None c =
-    let window = window_is c.args.self.now.slots.items c.args.name.now c.hash_of-hash.result c.deref.result.now c.window_of-window.result.now c.deref.ensures.value c.hash_of-hash.ensures c.window_of-window.ensures in
-    (c.copied.ensures ∙ c.get.ensures.value) ∙ none_said c.args.self.now.slots.items c.args.name.now (other_address c.args.self.now c.args.name.now) c.window_of-window.result.now window c.in-None.ensures
+    let m = c.args.self.now in
+    let (start, window) = looked m c.args.name.now _ _ _ _ _ c.key_of_name-key.ensures c.start_of-start.ensures.at c.len.ensures c.deref.ensures.len c.deref.ensures.value c.window_at-window.ensures in
+    let none = placed m c.args.name.now _ _ _ window (ap (λ ns. map (λ n. n.now) ns) c.deref-2.ensures.value) c.in-None.ensures in
+    (c.copied.ensures ∙ c.get.ensures.value) ∙ said_elsewhere m c.args.name.now none
