@@ -9,7 +9,7 @@ ghost use Rattle.ds_asm.specs.Plain.{plain_statement};
 
 use crate::fault::{AsmFault, SourceFault};
 use crate::labels::Labels;
-use crate::line::{MOST_BYTES, Statement, line_of, says_nothing};
+use crate::line::{MOST_BYTES, Statement, label_alone, line_of, says_nothing};
 use crate::source::first_line;
 use std::alloc::{AllocError, Global};
 
@@ -59,6 +59,10 @@ impl<'a> Layout<'a> {
         ensures left { IfErr result (λ fault. fault ≢ AsmFault.Memory → (l : assembly.Layout)
             → IsLaid self.old l → Holds self.new.labels (labels_past number (line_of line.now) l)) }
     {
+        if let Some(name) = label_alone(line) {
+            self.add_label(number, Some(name))?;
+            return Ok(());
+        }
         if says_nothing(line) {
             return Ok(());
         }

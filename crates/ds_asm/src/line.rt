@@ -85,12 +85,6 @@ fn is_reserved_word(word: u32) -> bool
 pub(crate) fn line_of(line: &[u8]) -> Option<Line<'_>>
     ensures { option_map plain_line result ≡ line_of line.now }
 {
-    if let Some(name) = label_alone(line) {
-        return Some(Line {
-            label: Some(name),
-            statement: None,
-        });
-    }
     let said = trimmed(until(b'#', line));
     if said.is_empty() {
         return Some(Line {
@@ -103,7 +97,7 @@ pub(crate) fn line_of(line: &[u8]) -> Option<Line<'_>>
 
 /// The label of a line that has nothing else.
 #[inline(always)]
-fn label_alone(line: &[u8]) -> Option<&[u8]>
+pub(crate) fn label_alone(line: &[u8]) -> Option<&[u8]>
     ensures { IfSome result (λ name. line_of line.now ≡ Some (only_label name.now)) }
 {
     match line {
