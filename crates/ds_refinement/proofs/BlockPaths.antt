@@ -10,7 +10,7 @@ use Rattle.ds_core.specs.Core as core
 use Rattle.ds_core.specs.Core.{CoreState}
 use Rattle.ds_core.specs.Effect as whole
 use Rattle.ds_core.specs.Ahead as ahead
-use Rattle.ds_core.specs.Ahead.{Hardware, hardware_of, left_by, after_steps, is_raised, Advances, AdvancesTo, ComesByWords, owed_tick, ticks_behind, ticks}
+use Rattle.ds_core.specs.Ahead.{Hardware, hardware_of, left_by, after_steps, is_raised, Advances, AdvancesTo, ComesByWords, owed_tick, ticks_after, ticks}
 use Rattle.ds_core.proofs.Slots.{Slots, step_slots, ticks_of_advance}
 use Rattle.ds_core.proofs.Users.{keeps_system}
 use Rattle.ds_pagemap.specs.declared.turn.Turn.{Turn}
@@ -194,8 +194,8 @@ module _ (h : Held) (owed : h.kept.state.owed ≡ None) (ready : h.kept.state.re
     all_ticks : ticks (suc n) start + owed_tick s.core.slot ≡ suc n + owed_tick h.core.slot
     all_ticks = ticks_of_advance (suc n) start (at (suc n)) (record { state = refl; calm = calm })
 
-    more_ticks : (e : Event) → s.event ≡ e → ticks (suc n) start ≡ ticks n start + ticks_behind e (at n).core.slot
-    more_ticks e is = ap (λ (x : Event). ticks n start + ticks_behind x (at n).core.slot) is
+    more_ticks : (e : Event) → s.event ≡ e → ticks (suc n) start ≡ ticks n start + ticks_after e (at n).core.slot
+    more_ticks e is = ap (λ (x : Event). ticks n start + ticks_after x (at n).core.slot) is
 
     by : (e : Event) → s.event ≡ e → is_raised e ≡ false → P (with_block (suc n) h (left_by s))
     by Retired is quiet_step =
