@@ -97,7 +97,7 @@ impl<L: Lookaside> Parts<L> {
 
     /// Takes so many instructions, or fewer and behind them one that raises an exception.
     #[inline(always)]
-    fn go_ahead(&mut self, limit: u32) -> Ahead
+    fn run_ahead(&mut self, limit: u32) -> Ahead
         requires slots { L.SLOTS ≡ 64 }
         requires wired { L.WIRED ≡ 8 }
         ensures all { IsNone result.raised → result.steps ≡ limit }
@@ -138,7 +138,7 @@ impl<L: Lookaside> Parts<L> {
         } }
     {
         let before = self.slot_tick();
-        let ahead = self.go_ahead(limit);
+        let ahead = self.run_ahead(limit);
         match ahead.raised {
             None => {
                 let left = self.slot_tick();

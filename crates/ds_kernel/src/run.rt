@@ -143,7 +143,7 @@ impl<L: Lookaside> Parts<L> {
     /// A block of instructions where one may begin, with the service of the exception that ends it,
     /// or else one step.
     #[inline(always)]
-    fn advance(&mut self, n: u64) -> Result<(), Halt>
+    fn run_blocks_or_step(&mut self, n: u64) -> Result<(), Halt>
         requires slots { L.SLOTS ≡ 64 }
         requires wired { L.WIRED ≡ 8 }
         requires good { IsGood self.old }
@@ -190,7 +190,7 @@ impl<L: Lookaside> Parts<L> {
             return Err(Halt::Failed);
         }
         while self.goes_on(n) {
-            self.advance(n)?;
+            self.run_blocks_or_step(n)?;
         }
         Ok(())
     }
