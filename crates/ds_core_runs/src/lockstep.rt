@@ -10,11 +10,11 @@ use ds_tlb::Lookaside;
 /// The frames that the programs use, and frame 0.
 const FRAMES: u32 = 5;
 
-/// The longest stretch.
+/// The most steps ahead.
 const LONGEST: u32 = 200;
 
-/// Goes ahead with each limit from 0 to 200 in turn, and as many single steps beside. Answers
-/// whether the two are in one state behind each.
+/// Runs ahead with each limit from 0 to 200 in turn, and as many single steps beside. Answers
+/// whether the two are in one state after each.
 pub fn go_alike<A: Lookaside, B: Lookaside>(plain: &mut Machine<A>, ahead: &mut Machine<B>) -> bool
     requires slots { A.SLOTS ≡ 64 }
     requires wired { A.WIRED ≡ 8 }

@@ -120,7 +120,7 @@ impl<L: Lookaside> Machine<L> {
         self.core.cp0.write(register::STATUS, USER_STATUS);
     }
 
-    /// Serves an exception: behind the instruction, or where an interrupt came, whose request it
+    /// Serves an exception: after the instruction, or where an interrupt came, whose request it
     /// takes away.
     pub fn serve(&mut self, code: ExceptionCode) {
         let epc = self.core.cp0.read(register::EPC);
@@ -135,7 +135,7 @@ impl<L: Lookaside> Machine<L> {
         self.go_on_at(pc);
     }
 
-    /// Goes so many single steps, or fewer and behind them one that enters an exception.
+    /// Goes so many single steps, or fewer and after them one that enters an exception.
     #[inline(never)]
     pub fn walk(&mut self, limit: u32, reached: &mut Reached) -> Ahead
         requires slots { L.SLOTS ≡ 64 }
@@ -156,7 +156,7 @@ impl<L: Lookaside> Machine<L> {
         }
     }
 
-    /// Goes so many steps, ahead from exception to exception.
+    /// Takes so many steps, running ahead from exception to exception.
     #[inline(never)]
     pub fn run(&mut self, count: u32)
         requires slots { L.SLOTS ≡ 64 }

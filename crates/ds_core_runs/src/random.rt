@@ -30,7 +30,7 @@ pub fn run_random<R: Print>(rt: &R, alloc: Global, programs: u32) -> io::Result<
             over_tlb.differ(number, &mut reached)?
         };
         if let Some(steps) = differ {
-            println!(rt; "random program {number}: not alike behind {steps} steps")?;
+            println!(rt; "random program {number}: not alike after {steps} steps")?;
             return Ok(false);
         }
     }

@@ -15,13 +15,13 @@ use ds_tlb::Lookaside;
 use std::alloc::Global;
 use std::io;
 
-/// The longest stretch.
+/// The most steps ahead.
 const LONGEST: u32 = 200;
 
 /// The frame of the handlers of exceptions.
 const HANDLERS: u32 = 0;
 
-/// One machine that goes by single steps, and one that goes ahead.
+/// One machine that goes by single steps, and one that runs ahead.
 #[derive(Drop)]
 pub struct Pair<A: Lookaside, B: Lookaside> {
     pub plain: Machine<A>,
@@ -43,7 +43,7 @@ impl<A: Lookaside, B: Lookaside> Pair<A, B> {
     }
 
     /// Goes through the program of a number. Answers where the two were found to differ, if they
-    /// were: behind so many steps.
+    /// were: after so many steps.
     pub fn differ(&mut self, number: u32, reached: &mut Reached) -> io::Result<Option<u32>>
         requires slots { A.SLOTS ≡ 64 }
         requires wired { A.WIRED ≡ 8 }
@@ -59,7 +59,7 @@ impl<A: Lookaside, B: Lookaside> Pair<A, B> {
                 break;
             }
             let limit = dice.below(LONGEST + 1).min(STEPS - done);
-            match self.stretch(&mut dice, &start, limit, reached) {
+            match self.run_both(&mut dice, &start, limit, reached) {
                 Some(steps) => done = steps.saturating_add(done),
                 None => return Ok(Some(done)),
             }
@@ -108,8 +108,8 @@ impl<A: Lookaside, B: Lookaside> Pair<A, B> {
         }
     }
 
-    /// Goes a stretch, and answers its steps if both machines are in one state behind it.
-    fn stretch(
+    /// Takes steps on both, and answers how many if the two are in one state after them.
+    fn run_both(
         &mut self,
         dice: &mut Dice,
         start: &Start,
@@ -129,10 +129,10 @@ impl<A: Lookaside, B: Lookaside> Pair<A, B> {
         let (steps, turn) = match walked.raised {
             Some(code) => {
                 let epc = self.plain.core.cp0.read(register::EPC);
-                let turn = Turn::behind_exception(dice, start, code, epc);
+                let turn = Turn::after_exception(dice, start, code, epc);
                 (walked.steps.saturating_add(1), turn)
             }
-            None => (walked.steps, Turn::behind_calm(dice, start)),
+            None => (walked.steps, Turn::after_calm(dice, start)),
         };
         self.plain.turn(turn, steps);
         self.ahead.turn(turn, steps);

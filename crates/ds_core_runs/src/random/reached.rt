@@ -25,10 +25,10 @@ pub const EXCEPTIONS: [ExceptionCode; 13] = [
 #[derive(Drop)]
 pub struct Reached {
     pub steps: u32,
-    /// Those behind which the processor was in user mode.
+    /// Those after which the processor was in user mode.
     pub user: u32,
     pub branches: u32,
-    /// Those behind which a load was late.
+    /// Those after which a load was late.
     pub late: u32,
     /// Those that entered an exception, by its number.
     pub exceptions: [u32; 16],

@@ -26,7 +26,7 @@ pub const ENTRIES: usize = 16;
 /// The mode in which a program begins.
 #[derive(Clone, Copy)]
 enum Mode {
-    /// The user's, in which most stretches go over pages that are remembered.
+    /// The user's, in which most steps go over pages that are remembered.
     User,
     /// The same with the system coprocessor.
     Trusted,

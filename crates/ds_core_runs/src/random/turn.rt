@@ -1,4 +1,4 @@
-//! What is done to both machines between two stretches.
+//! What is done to both machines before they run on.
 ghost use Rattle.std.specs.Prelude.{◌≡◌};
 
 use super::dice::Dice;
@@ -7,10 +7,10 @@ use crate::machine::Machine;
 use ds_cp0::{ExceptionCode, register};
 use ds_tlb::{Entry, Lookaside};
 
-/// What is done to both machines between two stretches.
+/// What is done to both machines before they run on.
 #[derive(Clone, Copy)]
 pub enum Turn {
-    /// Nothing: behind an exception its handler goes on.
+    /// Nothing: after an exception its handler goes on.
     GoOn,
     /// The exception is served.
     Serve(ExceptionCode),
@@ -30,8 +30,8 @@ pub enum Turn {
 }
 
 impl Turn {
-    /// A random one behind a stretch that ended without an exception.
-    pub fn behind_calm(dice: &mut Dice, start: &Start) -> Turn {
+    /// A random one after steps that ended without an exception.
+    pub fn after_calm(dice: &mut Dice, start: &Start) -> Turn {
         match dice.below(8) {
             0 | 1 => Turn::moved(dice, start),
             2 => Turn::mapped(dice),
@@ -39,8 +39,8 @@ impl Turn {
         }
     }
 
-    /// A random one behind an exception, which goes back to `epc`.
-    pub fn behind_exception(dice: &mut Dice, start: &Start, code: ExceptionCode, epc: u32) -> Turn {
+    /// A random one after an exception, which goes back to `epc`.
+    pub fn after_exception(dice: &mut Dice, start: &Start, code: ExceptionCode, epc: u32) -> Turn {
         if dice.once_in(16) {
             Turn::GoOn
         } else if epc.wrapping_sub(FIRST_ADDRESS) < CODE_SIZE {
@@ -74,7 +74,7 @@ impl Turn {
 }
 
 impl<L: Lookaside> Machine<L> {
-    /// Does a turn, behind so many steps.
+    /// Does a turn, after so many steps.
     pub fn turn(&mut self, turn: Turn, steps: u32)
         requires slots { L.SLOTS ≡ 64 }
     {

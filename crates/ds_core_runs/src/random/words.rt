@@ -6,7 +6,7 @@ use ds_isa::instruction_table;
 /// The number of rows of the table that neither load, nor store, nor use the system coprocessor.
 const OTHER_ROWS: usize = 46;
 
-/// The number of rows behind them, which load and store.
+/// The number of rows after them, which load and store.
 const ACCESS_ROWS: usize = 12;
 
 /// The number of the last rows, which are those of the system coprocessor.

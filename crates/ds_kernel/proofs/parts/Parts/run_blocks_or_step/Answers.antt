@@ -3,7 +3,7 @@ use Rattle.ds_refinement.specs.Held.{Held}
 use Rattle.ds_kernel.specs.Parts.{held}
 use Rattle.ds_kernel.specs.Going.{GoesOn}
 use Rattle.ds_kernel.proofs.Running.{step_goes}
-use Rattle.ds_kernel.proofs.parts.Parts.advance.Goals as goal
+use Rattle.ds_kernel.proofs.parts.Parts.run_blocks_or_step.Goals as goal
 
 pub returns-in_ok-begin_block-in-Some-clause-goes : goal.returns-in_ok-begin_block-in-Some-clause-goes
 returns-in_ok-begin_block-in-Some-clause-goes g c =

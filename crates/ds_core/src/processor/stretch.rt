@@ -1,4 +1,4 @@
-//! Operations one behind the other, while nothing that seldom comes gets in their way.
+//! A stretch: operations one after the other, while nothing that seldom comes gets in their way.
 ghost use Rattle.std.specs.Prelude.{◌≡◌, ◌<◌, ◌≤◌, ◌-◌, ◌^◌, ℕ, true, false, None, IfSome};
 ghost use Rattle.ds_cp0.specs.System.{is_pending};
 ghost use Rattle.ds_dev.specs.Bus.{lines};
@@ -6,7 +6,7 @@ ghost use Rattle.ds_cp0.specs.declared.exception.ExceptionCode.TheVariants.{Syst
 ghost use Rattle.ds_core.specs.Core.{with_tick, trapped};
 ghost use Rattle.ds_core.specs.Code.{KnowsPage};
 ghost use Rattle.ds_core.specs.Placed.{placed};
-ghost use Rattle.ds_core.specs.Operations.{IsFetched, IsCalled, Proceeds, StaysCalm, LeadsOn};
+ghost use Rattle.ds_core.specs.Operations.{IsFetched, IsCalled, HasOutcome, StaysCalm, LeadsOn};
 ghost use Rattle.ds_core.specs.Effect.{step};
 ghost use Rattle.ds_core.specs.Ahead.{hardware_of, after_steps, Advances};
 
@@ -18,9 +18,9 @@ use ds_dev::Bus;
 use ds_operations::Operation;
 use ds_tlb::Lookaside;
 
-/// How far operations went.
+/// How far a stretch went.
 #[derive(Clone, Copy)]
-pub(super) struct Sprint {
+pub(super) struct Stretch {
     /// The number of steps that were done.
     pub steps: u32,
     /// A system call comes next.
@@ -45,11 +45,11 @@ impl<L: Lookaside> Core<L> {
     /// Does the step at a position where no load is late by its operation; or says why not, and
     /// changes nothing.
     #[inline(always)]
-    fn proceed(&mut self, at: &mut Position, bus: &mut Bus, code: &CodePage) -> Outcome
+    fn operate_at(&mut self, at: &mut Position, bus: &mut Bus, code: &CodePage) -> Outcome
         requires settled { at.old.late ≡ None }
         requires known { KnowsPage code.now.vpn code.now.base self.old }
         requires calm { is_pending self.old.system (lines bus.old).0 (lines bus.old).1 ≡ false }
-        ensures proceeds { Proceeds result self.old at.old bus.old self.new at.new bus.new }
+        ensures outcome { HasOutcome result self.old at.old bus.old self.new at.new bus.new }
         ensures calm { StaysCalm self.old bus.old self.new bus.new }
     {
         match self.operation_at(at, bus, code) {
@@ -60,10 +60,10 @@ impl<L: Lookaside> Core<L> {
 
     /// The same where a load may be late. An operation that reads its register is left.
     #[inline(always)]
-    fn proceed_behind_load(&mut self, at: &mut Position, bus: &mut Bus, code: &CodePage) -> Outcome
+    fn operate_after_load(&mut self, at: &mut Position, bus: &mut Bus, code: &CodePage) -> Outcome
         requires known { KnowsPage code.now.vpn code.now.base self.old }
         requires calm { is_pending self.old.system (lines bus.old).0 (lines bus.old).1 ≡ false }
-        ensures proceeds { Proceeds result self.old at.old bus.old self.new at.new bus.new }
+        ensures outcome { HasOutcome result self.old at.old bus.old self.new at.new bus.new }
         ensures calm { StaysCalm self.old bus.old self.new bus.new }
     {
         match self.operation_at(at, bus, code) {
@@ -78,10 +78,10 @@ impl<L: Lookaside> Core<L> {
         }
     }
 
-    /// Takes steps behind a load until no load is late, `left` at most and one less in it for each:
-    /// done where that came, called where a system call comes next, else left.
+    /// Does operations after a load until no load is late, `left` at most and one less in it for
+    /// each: done where that came, called where a system call comes next, else left.
     #[inline(always)]
-    fn go_behind_loads(
+    fn do_operations_after_load(
         &mut self,
         at: &mut Position,
         bus: &mut Bus,
@@ -99,7 +99,7 @@ impl<L: Lookaside> Core<L> {
         while *left > 0 {
             // The address is looked at, so that it is known to be a word.
             let _here = at.pc;
-            match self.proceed_behind_load(at, bus, code) {
+            match self.operate_after_load(at, bus, code) {
                 Outcome::Loaded => *left -= 1,
                 Outcome::Done => {
                     *left -= 1;
@@ -116,11 +116,10 @@ impl<L: Lookaside> Core<L> {
         Outcome::Left
     }
 
-    /// Takes steps by their operations, `left` at most and one less in it for each, from a position
-    /// where no load is late: until a system call comes next, which is answered, or what is left to
-    /// the plain step.
+    /// Does operations, `left` at most and one less in it for each, from a position where no load is
+    /// late: until a system call comes next, which is answered, or what is left to the plain step.
     #[inline(always)]
-    fn go_through(
+    fn do_operations(
         &mut self,
         at: &mut Position,
         bus: &mut Bus,
@@ -137,12 +136,12 @@ impl<L: Lookaside> Core<L> {
     {
         while *left > 0 {
             let _here = at.pc;
-            match self.proceed(at, bus, code) {
+            match self.operate_at(at, bus, code) {
                 Outcome::Done => *left -= 1,
                 Outcome::Branched => *left -= 1,
                 Outcome::Loaded => {
                     *left -= 1;
-                    match self.go_behind_loads(at, bus, code, left) {
+                    match self.do_operations_after_load(at, bus, code, left) {
                         Outcome::Done => {}
                         Outcome::Called => return true,
                         _ => return false,
@@ -165,10 +164,10 @@ impl<L: Lookaside> Core<L> {
         code.is_known() && !bus.asks()
     }
 
-    /// Takes steps by their operations, `limit` at most: until a system call, or what is left to the
-    /// plain step.
+    /// A stretch of `limit` operations at most: until a system call, or what is left to the plain
+    /// step.
     #[inline(always)]
-    pub(super) fn sprint(&mut self, bus: &mut Bus, limit: u32) -> Sprint
+    pub(super) fn stretch(&mut self, bus: &mut Bus, limit: u32) -> Stretch
         requires slots { L.SLOTS ≡ 64 }
         requires wired { L.WIRED ≡ 8 }
         ensures within { result.steps ≤ limit }
@@ -182,16 +181,16 @@ impl<L: Lookaside> Core<L> {
     {
         let code = self.code_page();
         if !self.is_calm(bus, &code) || self.late.is_some() {
-            return Sprint {
+            return Stretch {
                 steps: 0,
                 calls: false,
             };
         }
         let mut at = self.position();
         let mut left = limit;
-        let calls = self.go_through(&mut at, bus, &code, &mut left);
+        let calls = self.do_operations(&mut at, bus, &code, &mut left);
         let steps = limit - left;
         self.settle(&at, steps);
-        Sprint { steps, calls }
+        Stretch { steps, calls }
     }
 }
