@@ -32,7 +32,7 @@ is_step o c b calm fetched some =
     let whole : with_tick (instruction c b) ≡ step c b = rw calm refl in
     ap (λ (e : Effect). with_tick (effect c b fetched.instr e)) means ∙ (ap with_tick fetched.lies ∙ whole)
 
--- what an operation comes to is how the step goes
+-- the outcome of an operation is how the step goes
 pub has_outcome : (out : Outcome) (o : Operation) (c : CoreState) (at : Place) (b b1 : BusState) (c2 : CoreState) (at2 : Place) (b2 : BusState) → is_pending c.system (lines b).0 (lines b).1 ≡ false → ((n : ℕ) → IsFetched o (placed n c at) b) → (o.kind ≡ Other → out ≡ Left) → b1 ≡ b
     → ComesTo out (does o at.pc (registers_at c at)) c at b1 c2 at2 b2 → HasOutcome out c at b c2 at2 b2
 has_outcome Done o c at b b1 c2 at2 b2 calm fetched left same comes =

@@ -1,4 +1,4 @@
-//! What speaks against a call or a command, in the one order of the refusals.
+//! Argument checks of calls and commands, in the order of refusals.
 ghost use Rattle.std.specs.Prelude.{◌≡◌, ℕ, ◌<◌, ◌≤◌, Bool, true, false, not, if◌then◌else◌, ◌==◌, ◌&&◌, nat_le, List, length, Result, Some, None, Ok, Err, is_some, IfOk, IfErr, OnOk, IsNone};
 ghost use Rattle.ds_policy.specs.declared.grant.Right.{Right};
 ghost use Rattle.ds_policy.specs.Pages.{entries_of, entry_at, count_live};
