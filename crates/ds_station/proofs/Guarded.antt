@@ -1,7 +1,6 @@
 -- Along what is run pages change only as granted, and the log has a line for each denial.
-use Rattle.std.proofs.Common.{◌≡◌, ℕ, List, [], ◌++◌, Option, Result, Ok, Err, inl, inr, sym, ap, ◌∙◌, subst}
-use Rattle.std.specs.Prelude.{OnOk, OnErr, IfErr}
-use Rattle.std.specs.Io.KnownBytes.{Keeps}
+use Rattle.std.proofs.Common.{◌≡◌, ℕ, List, [], ◌++◌, Option, Result, Ok, Err, inl, inr, sym, ap, ◌∙◌}
+use Rattle.std.specs.Prelude.{OnOk, IfErr}
 use Rattle.ds_log.specs.declared.line.Line.{Line}
 use Rattle.ds_policy.specs.Value.{PolicyValue}
 use Rattle.ds_pagemap.specs.Machine.{State}
@@ -10,7 +9,6 @@ use Rattle.ds_pagemap.specs.Inputs.{Refusal, Sources, inputs, inputs_under}
 use Rattle.ds_pagemap.specs.Run.{Reaches}
 use Rattle.ds_pagemap_laws.proofs.FirstStates.{made}
 use Rattle.ds_refinement.specs.Held.{Held}
-use Rattle.ds_refinement.specs.Stands.{Stands}
 use Rattle.ds_refinement.specs.Runs.{RunsWithin}
 use Rattle.ds_kernel.specs.declared.halt.Halt.{Halt}
 use Rattle.ds_kernel.specs.Ran.{HasRun, WasCut}
