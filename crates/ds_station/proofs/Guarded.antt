@@ -60,7 +60,7 @@ module _ (old new : Option (List ℕ)) (n : ℕ) (read : Result State Refusal) (
   whole_guarded b = let w = b.2 in (b.0, b.1, record { last = w.last; way = from_first n b.0 w.last (none b.0 b.1) w.ends.reached; over = w.ends.over; written = w.written })
 
   prefix_guarded : Begins read (WritesPrefix old new n) → Begins read (WritesGuardedPrefix old new n)
-  prefix_guarded b = let w = b.2 in (b.0, b.1, record { last = w.last; way = from_first n b.0 w.last (none b.0 b.1) w.prefix.reached; whole = w.prefix.whole; written = w.written })
+  prefix_guarded b = let w = b.2 in (b.0, b.1, record { last = w.last; way = from_first n b.0 w.last (none b.0 b.1) w.prefix.reached; whole = w.prefix.whole; going = w.going; written = w.written })
 
   part_guarded : Begins read (WritesPart old new n) → Begins read (WritesGuardedPart old new n)
   part_guarded b = let w = b.2 in (b.0, b.1, record { last = w.last; way = from_first n b.0 w.last (none b.0 b.1) w.prefix.reached; whole = w.prefix.whole; written = w.written })

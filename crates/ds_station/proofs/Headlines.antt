@@ -1,5 +1,5 @@
 -- From a station's run to the text that is written.
-use Rattle.std.proofs.Common.{◌≡◌, ℕ, refl, sym, ◌∙◌, ap, subst, inl, inr, false, Bool, List, [], ◌∷◌, length, Option, Result, Ok, Err}
+use Rattle.std.proofs.Common.{◌≡◌, ℕ, refl, sym, ◌∙◌, ap, subst, inl, inr, true, false, Bool, List, [], ◌∷◌, length, Option, Result, Ok, Err}
 use Rattle.std.specs.Prelude.{Some, OnOk, OnErr, IfErr, None, is_some, ◌||◌, ◌&&◌, nat_lt, not, flat_map, slice_index_or}
 use Rattle.std.specs.Io.KnownBytes.{Appends, Keeps}
 use Rattle.ds_log.specs.Text.{line_text}
@@ -15,8 +15,10 @@ use Rattle.ds_refinement.specs.Stands.{Stands}
 use Rattle.ds_refinement.specs.Real.{RealPath}
 use Rattle.ds_refinement.specs.Runs.{RunsTo, RunsWithin, held_goes_on}
 use Rattle.ds_refinement.proofs.Boundaries.{beside}
-use Rattle.ds_station.specs.Headline.{held_text, Loaded, BeginsWith, Writes, WritesPrefix, WritesPart, WritesReally, Refuses, EndsBy, Begins, IsRefused}
+use Rattle.ds_refinement.proofs.RunSteps.{goes_alike}
+use Rattle.ds_station.specs.Headline.{held_text, Loaded, BeginsWith, Writes, WritesPrefix, WritesPart, WritesReally, WritesCut, WritesPartReally, Refuses, EndsBy, EndsReally, Begins, IsRefused}
 use Rattle.ds_station.specs.Faults.{IsNewFault, IsFaultAfter}
+use Rattle.ds_station.specs.Runs.{IsCut}
 use Rattle.ds_station.specs.declared.fault.Fault.{Fault}
 use Rattle.ds_station.specs.declared.fault.Fault.TheVariants as fault
 
@@ -59,8 +61,8 @@ module _ (old new : Option (List ℕ)) (n : ℕ) (first : State) (s t : Held) (b
   pub writes_whole : RunsTo n s t → Appends old new (held_text t) → Writes old new n first
   writes_whole r a = let u = r.runs first begins in record { last = u.0; ends = u.1; written = subst (Appends old new) (text_alike t u.0 u.2) a }
 
-  pub writes_prefix : RunsWithin n s t → t.kept.state.owed ≡ None → Appends old new (held_text t) → WritesPrefix old new n first
-  writes_prefix r o a = let u = r.runs first begins in record { last = u.0; prefix = record { reached = u.1; whole = owed_stands t u.0 u.2 ∙ o }; written = subst (Appends old new) (text_alike t u.0 u.2) a }
+  pub writes_prefix : RunsWithin n s t → t.kept.state.owed ≡ None → held_goes_on n t ≡ true → Appends old new (held_text t) → WritesPrefix old new n first
+  writes_prefix r o g a = let u = r.runs first begins in record { last = u.0; prefix = record { reached = u.1; whole = owed_stands t u.0 u.2 ∙ o }; going = goes_alike n t u.0 u.2 ∙ g; written = subst (Appends old new) (text_alike t u.0 u.2) a }
 
   pub part_whole : RunsTo n s t → AppendsPart old new (held_text t) → WritesPart old new n first
   part_whole r a = let u = r.runs first begins in record { last = u.0; prefix = ended_whole n first u.0 u.1; written = subst (AppendsPart old new) (text_alike t u.0 u.2) a }
@@ -93,10 +95,54 @@ refused_unwritten fault.Failed read old new n i k = absurd i
 refused_unwritten f read old new n i k = (i, k)
 
 -- how a run that fell short ends
-pub ran_short : {T : Type 0} (r : Result T Fault) (failed : Bool) (n : ℕ) (s t : Held) (read : Result State Refusal) (old new : Option (List ℕ)) → failed ≡ false → IfErr r (IsFaultAfter failed) → OnErr r (RunsWithin n s t) → OnErr r (t.kept.state.owed ≡ None) → Begins read (Stands s) → Appends old new (held_text t) → IfErr r (λ f. EndsBy f read old new n)
-ran_short (Ok x) failed n s t read old new working faults within whole b a = tt
-ran_short (Err f) failed n s t read old new working faults within whole b a =
-    fault_written f read old new n (subst (λ (x : Bool). IsFaultAfter x f) working faults) (b.0, b.1, writes_prefix old new n b.0 s t b.2 within whole a)
+pub ran_short : {T : Type 0} (r : Result T Fault) (failed : Bool) (n : ℕ) (s t : Held) (read : Result State Refusal) (old new : Option (List ℕ)) → failed ≡ false → IfErr r (IsFaultAfter failed) → OnErr r (RunsWithin n s t) → OnErr r (t.kept.state.owed ≡ None) → OnErr r (held_goes_on n t ≡ true) → Begins read (Stands s) → Appends old new (held_text t) → IfErr r (λ f. EndsBy f read old new n)
+ran_short (Ok x) failed n s t read old new working faults within whole going b a = tt
+ran_short (Err f) failed n s t read old new working faults within whole going b a =
+    fault_written f read old new n (subst (λ (x : Bool). IsFaultAfter x f) working faults) (b.0, b.1, writes_prefix old new n b.0 s t b.2 within whole going a)
+
+-- what the processor did in a run from a station that began with the inputs
+module _ (n start : ℕ) (read : Result Loaded Refusal) (s t : Held) (old new : Option (List ℕ)) (b : Begins read (BeginsWith start s)) where
+  cut_text : (f : Fault) → IsCut f s t → held_goes_on n t ≡ true → Appends old new (held_text t) → WritesCut f old new n start b.0
+  cut_text f cut going a = record {
+    first = s;
+    begins = b.2;
+    last = cut.last;
+    path = cut.path;
+    going = subst (λ (h : Held). held_goes_on n h ≡ true) cut.marked going;
+    refused = cut.refused;
+    written = subst (λ (h : Held). Appends old new (held_text h)) cut.marked a;
+  }
+
+  new_cut : (f : Fault) → IsNewFault f → IsCut f s t → held_goes_on n t ≡ true → Appends old new (held_text t) → EndsReally f read old new n start
+  new_cut fault.Stuck i cut going a = (b.0, b.1, cut_text fault.Stuck cut going a)
+  new_cut fault.Memory i cut going a = inr (b.0, b.1, cut_text fault.Memory cut going a)
+  new_cut f i cut going a = absurd i
+
+  -- where it was cut short
+  pub cut_really : (ran : Result (Unit {0}) Fault) → s.own.failed ≡ false → IfErr ran (IsFaultAfter s.own.failed) → IfErr ran (λ f. IsCut f s t) → OnErr ran (held_goes_on n t ≡ true)
+      → Appends old new (held_text t) → IfErr ran (λ f. EndsReally f read old new n start)
+  cut_really (Ok x) working faults cut going a = tt
+  cut_really (Err f) working faults cut going a = new_cut f (subst (λ (failed : Bool). IsFaultAfter failed f) working faults) cut going a
+
+  -- where a part of its text is written
+  pub part_really : (ran : Result (Unit {0}) Fault) → OnOk ran (RealPath s t) → OnOk ran (held_goes_on n t ≡ false) → IfErr ran (λ f. IsCut f s t) → OnErr ran (held_goes_on n t ≡ true)
+      → AppendsPart old new (held_text t) → WritesPartReally old new n start b.0
+  part_really (Ok x) path over cut going a = record { first = s; begins = b.2; last = t; path = path; stopped = inl over; written = a }
+  part_really (Err f) path over cut going a = record {
+    first = s;
+    begins = b.2;
+    last = cut.last;
+    path = cut.path;
+    stopped = inr (subst (λ (h : Held). held_goes_on n h ≡ true) cut.marked going, f, cut.refused);
+    written = subst (λ (h : Held). AppendsPart old new (held_text h)) cut.marked a;
+  }
+
+-- where the inputs are refused, it did nothing
+pub refused_really : {Y : Type 0} (f : Fault) (any : Result Y Refusal) (read : Result Loaded Refusal) (old new : Option (List ℕ)) (n start : ℕ) → Refuses f any → Keeps old new → EndsReally f read old new n start
+refused_really fault.Memory any read old new n start i k = inl k
+refused_really fault.Stuck any read old new n start i k = absurd i
+refused_really fault.WriteFault any read old new n start i k = absurd i
+refused_really f any read old new n start i k = tt
 
 -- what was begun was not refused
 begun_not : (read : Result State Refusal) (P : State → Type 0) (r : Refusal) → Begins read P → read ≡ Err r → ⊥

@@ -1,12 +1,12 @@
 -- What a run over files answers, and what it writes.
-use Rattle.std.specs.Prelude.{◌≡◌, ℕ, ◌⊎◌, false, List, map, Option, Result, Ok, Err, IsErrAnd}
+use Rattle.std.specs.Prelude.{◌≡◌, ℕ, ⊤, ◌⊎◌, true, false, List, map, Option, Result, Ok, Err, IsErrAnd}
 use Rattle.std.proofs.Common.{Bor}
 use Rattle.std.specs.Io.KnownBytes.{Appends, Keeps}
 use Rattle.ds_policy.specs.Value.{PolicyValue, InputValue}
 use Rattle.ds_log.specs.Report.{report_text}
 use Rattle.ds_log.specs.Sent.{AppendsPart}
 use Rattle.ds_pagemap.specs.Machine.{State}
-use Rattle.ds_pagemap.specs.Run.{Ends, IsPrefix}
+use Rattle.ds_pagemap.specs.Run.{Ends, IsPrefix, goes_on}
 use Rattle.ds_pagemap.specs.Text.{text_of}
 use Rattle.ds_pagemap.specs.Inputs.{Refusal, Sources}
 use Rattle.ds_pagemap.specs.Inputs as inputs
@@ -14,6 +14,7 @@ use Rattle.ds_refinement.specs.Held.{Held}
 use Rattle.ds_refinement.specs.First.{IsFirst}
 use Rattle.ds_refinement.specs.Real.{RealPath}
 use Rattle.ds_refinement.specs.Runs.{held_goes_on}
+use Rattle.ds_station.specs.Faults.{RefusesStep}
 use Rattle.ds_station.specs.declared.fault.Fault.{Fault}
 use Rattle.ds_station.specs.declared.fault.Fault.TheVariants as fault
 
@@ -31,10 +32,11 @@ pub record Writes (old new : Option (List ℕ)) (n : ℕ) (first : State) : Type
   pub ends : Ends n first last
   pub written : Appends old new (text_of last)
 
--- a run was cut short between two turns, and the text so far is written
+-- a run was cut short between two turns, where a turn was still to come, and the text so far is written
 pub record WritesPrefix (old new : Option (List ℕ)) (n : ℕ) (first : State) : Type 0 where
   pub last : State
   pub prefix : IsPrefix n first last
+  pub going : goes_on n last ≡ true
   pub written : Appends old new (text_of last)
 
 -- a prefix of the text is written, of a run that has ended or was cut short between two turns
@@ -102,3 +104,29 @@ pub record WritesReally (old new : Option (List ℕ)) (n start : ℕ) (l : Loade
   pub path : RealPath first last
   pub over : held_goes_on n last ≡ false
   pub written : Appends old new (held_text last)
+
+-- the same of a run that was cut short: it was not over, this fault refused the next step, and the text so far is written
+pub record WritesCut (f : Fault) (old new : Option (List ℕ)) (n start : ℕ) (l : Loaded) : Type 0 where
+  pub first : Held
+  pub begins : BeginsWith start first l
+  pub last : Held
+  pub path : RealPath first last
+  pub going : held_goes_on n last ≡ true
+  pub refused : RefusesStep f last
+  pub written : Appends old new (held_text last)
+
+-- the same of either run, and a prefix of the text is written
+pub record WritesPartReally (old new : Option (List ℕ)) (n start : ℕ) (l : Loaded) : Type 0 where
+  pub first : Held
+  pub begins : BeginsWith start first l
+  pub last : Held
+  pub path : RealPath first last
+  pub stopped : (held_goes_on n last ≡ false) ⊎ ((held_goes_on n last ≡ true) × (f : Fault) × RefusesStep f last)
+  pub written : AppendsPart old new (held_text last)
+
+-- what the processor did where each fault comes: nothing that is told where the inputs are refused
+abbrev pub EndsReally : Fault → Result Loaded Refusal → Option (List ℕ) → Option (List ℕ) → ℕ → ℕ → Type 0
+EndsReally fault.Memory read old new n start = Keeps old new ⊎ Begins read (WritesCut fault.Memory old new n start)
+EndsReally fault.Stuck read old new n start = Begins read (WritesCut fault.Stuck old new n start)
+EndsReally fault.WriteFault read old new n start = Begins read (WritesPartReally old new n start)
+EndsReally f read old new n start = ⊤

@@ -1,5 +1,5 @@
 -- What is written of a run, in the words of its user.
-use Rattle.std.specs.Prelude.{◌≡◌, ◌⊎◌, ◌++◌, ℕ, false, List, length, flat_map, replicate, Option, Result, None}
+use Rattle.std.specs.Prelude.{◌≡◌, ◌⊎◌, ◌++◌, ℕ, true, false, List, length, flat_map, replicate, Option, Result, None}
 use Rattle.std.specs.Io.KnownBytes.{Appends, Keeps}
 use Rattle.ds_log.specs.Sent.{AppendsPart}
 use Rattle.ds_log.specs.Text.{line_text}
@@ -40,11 +40,12 @@ pub record WritesGuarded (old new : Option (List ℕ)) (n : ℕ) (first : State)
 abbrev pub WritesWholeGuarded : Option (List ℕ) → Option (List ℕ) → ℕ → State → Type 0
 WritesWholeGuarded old new n first = HasWholePages first × WritesGuarded old new n first
 
--- a guarded run was cut short between two turns, and the text so far is written
+-- a guarded run was cut short between two turns, where a turn was still to come, and the text so far is written
 pub record WritesGuardedPrefix (old new : Option (List ℕ)) (n : ℕ) (first : State) : Type 0 where
   pub last : State
   pub way : IsGuardedFromFirst n first last
   pub whole : last.owed ≡ None
+  pub going : goes_on n last ≡ true
   pub written : Appends old new (text_of last)
 
 -- a guarded run has ended or was cut short between two turns, and a prefix of its text is written

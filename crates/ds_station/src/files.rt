@@ -38,6 +38,7 @@ ghost use Rattle.ds_station.specs.Headline.{
   Reads,
   Refuses,
   EndsBy,
+  EndsReally,
   IsRefused,
   held_text,
   loaded,
@@ -191,6 +192,9 @@ pub fn run_files<W: Write>(
     ensures err { IfErr result (λ f. EndsBy f
         (inputs policy.now (sources_seen sources.now) input.now n random)
         (W.contents out.old) (W.contents out.new) n) }
+    ensures cut { IfErr result (λ f. EndsReally f
+        (inputs_by loaded policy.now (sources_seen sources.now) input.now n random)
+        (W.contents out.old) (W.contents out.new) n random) }
     ensures refused { (refusal : Refusal)
         → inputs policy.now (sources_seen sources.now) input.now n random ≡ Err refusal
         → IsRefused result refusal (W.contents out.old) (W.contents out.new) }
@@ -231,6 +235,9 @@ pub fn run_policy<W: Write>(
     ensures err { IfErr result (λ f. EndsBy f
         (inputs_under policy.now (sources_seen sources.now) input.now n random)
         (W.contents out.old) (W.contents out.new) n) }
+    ensures cut { IfErr result (λ f. EndsReally f
+        (inputs_under_by loaded policy.now (sources_seen sources.now) input.now n random)
+        (W.contents out.old) (W.contents out.new) n random) }
     ensures refused { (refusal : Refusal)
         → inputs_under policy.now (sources_seen sources.now) input.now n random ≡ Err refusal
         → IsRefused result refusal (W.contents out.old) (W.contents out.new) }

@@ -26,6 +26,7 @@ ghost use Rattle.ds_refinement.specs.First.{IsFirst};
 ghost use Rattle.ds_refinement.specs.Stands.{Stands, IsSound};
 ghost use Rattle.ds_refinement.specs.Steps.{Follows, Stays, Moves};
 ghost use Rattle.ds_refinement.specs.Real.{IsReal, RealPath};
+ghost use Rattle.ds_refinement.specs.Services.{with_failure};
 ghost use Rattle.ds_refinement.specs.Runs.{RunsTo, RunsWithin, held_goes_on};
 ghost use Rattle.ds_station.specs.Faults.{IsFaultAfter, IsStartFault, RefusesStep};
 ghost use Rattle.ds_station.specs.Runs.{IsCut};
@@ -99,6 +100,7 @@ impl<L: Lookaside> Station<L> {
         ensures real { OnOk result (IsReal self.old self.new) }
         ensures sound { IsSound self.new }
         ensures err { OnErr result (Stays self.old self.new) }
+        ensures still { OnErr result (self.new ≡ with_failure self.old) }
         ensures refused { IfErr result (λ f. RefusesStep f self.old) }
         ensures faults { IfErr result (IsFaultAfter self.old.own.failed) }
         ensures whole { OnErr result (self.new.kept.state.owed ≡ None) }
@@ -163,6 +165,8 @@ impl<L: Lookaside> Station<L> {
             → self.new.own.spent ≡ 0) }
         ensures err { OnErr result (RunsWithin n self.old self.new) }
         ensures cut { IfErr result (λ f. IsCut f self.old self.new) }
+        ensures going { self.old.own.failed ≡ false
+            → OnErr result (held_goes_on n self.new ≡ true) }
         ensures sound { IsSound self.new }
         ensures faults { IfErr result (IsFaultAfter self.old.own.failed) }
         ensures whole { OnErr result (self.new.kept.state.owed ≡ None) }

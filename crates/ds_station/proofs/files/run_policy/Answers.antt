@@ -1,7 +1,7 @@
 use Rattle.std.proofs.Common.{◌≡◌, subst, sym, ◌∙◌, Ok, Err}
 use Rattle.std.proofs.lemmas.Result.{on_ok_weaker}
 use Rattle.ds_station.specs.Headline.{Refuses}
-use Rattle.ds_station.proofs.Headlines.{writes_whole, really_if, ran_short, part_written, refused_only, keeps_same}
+use Rattle.ds_station.proofs.Headlines.{writes_whole, really_if, ran_short, part_written, cut_really, part_really, refused_really, refused_only, keeps_same}
 use Rattle.ds_station.proofs.Guarded.{policy_guarded_if, policy_cut_if}
 use Rattle.ds_station.proofs.Quiet.{policy_quiet_if}
 use Rattle.ds_station.specs.declared.fault.Fault.TheVariants as fault
@@ -18,12 +18,25 @@ returns-in-Ok-deliver-clause-real g c =
 
 pub returns-in-Ok-deliver-clause-err : goal.returns-in-Ok-deliver-clause-err
 returns-in-Ok-deliver-clause-err g c =
-    ran_short c.run-ran.result c.in-Ok.station.own.failed c.args.n c.in-Ok.station c.run-ran.new.self _ _ _ c.in-Ok.ensures.working c.run-ran.ensures.faults c.run-ran.ensures.err c.run-ran.ensures.whole c.in-Ok.ensures.ok c.in-Ok-deliver.ensures.ok
+    ran_short c.run-ran.result c.in-Ok.station.own.failed c.args.n c.in-Ok.station c.run-ran.new.self _ _ _ c.in-Ok.ensures.working c.run-ran.ensures.faults c.run-ran.ensures.err c.run-ran.ensures.whole (c.run-ran.ensures.going c.in-Ok.ensures.working) c.in-Ok.ensures.ok c.in-Ok-deliver.ensures.ok
 
 pub returns-clause-err : goal.returns-clause-err
 returns-clause-err g c =
     let b = c.in-Ok.ensures.ok in
     (b.0, b.1, part_written _ _ c.args.n b.0 c.in-Ok.station c.run-ran.new.self b.2 c.run-ran.result c.run-ran.ensures.ok c.run-ran.ensures.err c.run-ran.ensures.whole c.in-Err-deliver.ensures.err)
+
+pub returns-in-Err-clause-cut : goal.returns-in-Err-clause-cut
+returns-in-Err-clause-cut g c =
+    refused_really c.in-Err.refused _ _ _ _ c.args.n c.args.random c.in-Err.ensures.err (keeps_same (g.W.Write.contents c.args.out.now))
+
+pub returns-in-Ok-deliver-clause-cut : goal.returns-in-Ok-deliver-clause-cut
+returns-in-Ok-deliver-clause-cut g c =
+    cut_really c.args.n c.args.random _ c.in-Ok.station c.run-ran.new.self _ _ c.in-Ok.ensures.real c.run-ran.result c.in-Ok.ensures.working c.run-ran.ensures.faults c.run-ran.ensures.cut (c.run-ran.ensures.going c.in-Ok.ensures.working) c.in-Ok-deliver.ensures.ok
+
+pub returns-clause-cut : goal.returns-clause-cut
+returns-clause-cut g c =
+    let b = c.in-Ok.ensures.real in
+    (b.0, b.1, part_really c.args.n c.args.random _ c.in-Ok.station c.run-ran.new.self _ _ b c.run-ran.result c.run-ran.ensures.real c.run-ran.ensures.over c.run-ran.ensures.cut (c.run-ran.ensures.going c.in-Ok.ensures.working) c.in-Err-deliver.ensures.err)
 
 pub returns-in-Err-clause-refused : goal.returns-in-Err-clause-refused
 returns-in-Err-clause-refused g c = λ r e. (subst (Refuses c.in-Err.refused) e c.in-Err.ensures.err, keeps_same (g.W.Write.contents c.args.out.now))
