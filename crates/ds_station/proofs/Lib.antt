@@ -2,3 +2,5 @@ pub mod Runs
 pub mod Headlines
 pub mod NamedTexts
 pub mod Preparing
+pub mod Quiet
+pub mod Guarded

@@ -2,3 +2,4 @@ pub mod Faults
 pub mod Station
 pub mod Runs
 pub mod Headline
+pub mod Written

@@ -14,6 +14,7 @@ ghost use Rattle.std.specs.Prelude.{
   option_map,
   [],
   false,
+  Ok,
 };
 ghost use Rattle.std.specs.Io.KnownBytes.{Appends};
 ghost use Rattle.ds_policy.specs.PolicyParts.{sources_of};
@@ -42,6 +43,14 @@ ghost use Rattle.ds_station.specs.Headline.{
   held_text,
   loaded,
   sources_seen,
+};
+ghost use Rattle.ds_pagemap.specs.Machine.{State};
+ghost use Rattle.ds_quiet.specs.Quiet.{IsQuiet};
+ghost use Rattle.ds_station.specs.Written.{
+  WritesUntouched,
+  WritesGuarded,
+  WritesWholeGuarded,
+  EndsGuarded,
 };
 
 use crate::fault::Fault;
@@ -189,6 +198,16 @@ pub fn run_files<W: Write>(
     ensures refused { (refusal : Refusal)
         → inputs policy.now (sources_seen sources.now) input.now n random ≡ Err refusal
         → IsRefused result refusal (W.contents out.old) (W.contents out.new) }
+    ensures guarded { OnOk result (Begins
+        (inputs policy.now (sources_seen sources.now) input.now n random)
+        (WritesWholeGuarded (W.contents out.old) (W.contents out.new) n)) }
+    ensures guarded_so_far { IfErr result (λ f. EndsGuarded f
+        (inputs policy.now (sources_seen sources.now) input.now n random)
+        (W.contents out.old) (W.contents out.new) n) }
+    ensures quiet { (start : ℕ) (first : State)
+        → inputs policy.now (sources_seen sources.now) input.now n start ≡ Ok first
+        → IsQuiet n first
+        → OnOk result (WritesUntouched (W.contents out.old) (W.contents out.new) n first) }
 {
     let policy = match Policy::read(alloc, policy) {
         Ok(policy) => policy,
@@ -222,6 +241,16 @@ pub fn run_policy<W: Write>(
     ensures refused { (refusal : Refusal)
         → inputs_under policy.now (sources_seen sources.now) input.now n random ≡ Err refusal
         → IsRefused result refusal (W.contents out.old) (W.contents out.new) }
+    ensures guarded { OnOk result (Begins
+        (inputs_under policy.now (sources_seen sources.now) input.now n random)
+        (WritesGuarded (W.contents out.old) (W.contents out.new) n)) }
+    ensures guarded_so_far { IfErr result (λ f. EndsGuarded f
+        (inputs_under policy.now (sources_seen sources.now) input.now n random)
+        (W.contents out.old) (W.contents out.new) n) }
+    ensures quiet { (start : ℕ) (first : State)
+        → inputs_under policy.now (sources_seen sources.now) input.now n start ≡ Ok first
+        → IsQuiet n first
+        → OnOk result (WritesUntouched (W.contents out.old) (W.contents out.new) n first) }
 {
     let mut station = match prepare(alloc, policy, sources, input, n, random) {
         Ok(station) => station,

@@ -30,6 +30,9 @@ ghost use Rattle.ds_refinement.specs.Services.{with_failure};
 ghost use Rattle.ds_refinement.specs.Runs.{RunsTo, RunsWithin, held_goes_on};
 ghost use Rattle.ds_station.specs.Faults.{IsFaultAfter, IsStartFault, RefusesStep};
 ghost use Rattle.ds_station.specs.Runs.{IsCut};
+ghost use Rattle.ds_quiet.specs.Quiet.{IsQuiet};
+ghost use Rattle.ds_quiet.specs.Twins.{HaveRegisters};
+ghost use Rattle.ds_station.specs.Written.{RunsGuarded, ShowsUntouched};
 
 use crate::fault::Fault;
 use ds_asm::Image;
@@ -151,7 +154,7 @@ impl<L: Lookaside> Station<L> {
 
     /// Does the boundary that is owed, if one is, and then runs until the time is n or all processes
     /// have ended. After a failure it answers `Failed`, and nothing changes.
-    #[tactic(auto, using(crate::proofs::Runs::ran_to, crate::proofs::Runs::cut_within, crate::proofs::Runs::cut_after))]
+    #[tactic(auto, using(crate::proofs::Runs::ran_to, crate::proofs::Runs::cut_within, crate::proofs::Runs::cut_after, crate::proofs::Guarded::run_guarded, crate::proofs::Guarded::cut_guarded))]
     pub fn run(&mut self, n: u64) -> Result<(), Fault>
         requires { n ≤ 1000000000 }
         ensures ok { OnOk result (RunsTo n self.old self.new) }
@@ -170,6 +173,9 @@ impl<L: Lookaside> Station<L> {
         ensures failed { OnErr result (self.new.own.failed ≡ true) }
         ensures again { self.old.own.failed ≡ true
             → IsErrOf result Fault.Failed × (self.new ≡ self.old) }
+        ensures guarded { RunsGuarded n self.old self.new }
+        ensures quiet { (m : State) → Stands self.old m → HaveRegisters m → IsQuiet n m
+            → OnOk result (ShowsUntouched n m self.new) }
     {
         Ok(self.parts.run(n)?)
     }

@@ -4,6 +4,8 @@ use Rattle.ds_station.specs.Faults.{of_policy}
 use Rattle.ds_station.specs.Headline.{loaded, sources_seen}
 use Rattle.ds_station.proofs.Headlines.{refused_unwritten, refused_really, refused_only, keeps_same}
 use Rattle.ds_station.proofs.Preparing.{refused_by_policy, under_policy, under_policy_by}
+use Rattle.ds_station.proofs.Guarded.{files_guarded_if, files_cut_if}
+use Rattle.ds_station.proofs.Quiet.{files_quiet_if}
 use Rattle.ds_station.proofs.files.run_files.Goals as goal
 
 pub returns-in-Err-clause-err : goal.returns-in-Err-clause-err
@@ -39,3 +41,12 @@ returns-clause-cut g c =
 
 pub returns-clause-refused : goal.returns-clause-refused
 returns-clause-refused g c = refused_only c.run_policy.result _ _ _ c.args.n (returns-clause-ok g c) (returns-clause-err g c)
+
+pub returns-clause-guarded : goal.returns-clause-guarded
+returns-clause-guarded g c = files_guarded_if c.run_policy.result _ _ _ c.args.n c.args.random _ _ (returns-clause-ok g c)
+
+pub returns-clause-guarded_so_far : goal.returns-clause-guarded_so_far
+returns-clause-guarded_so_far g c = files_cut_if c.run_policy.result _ _ _ c.args.n c.args.random _ _ (returns-clause-err g c)
+
+pub returns-clause-quiet : goal.returns-clause-quiet
+returns-clause-quiet g c = λ start first is q. files_quiet_if c.run_policy.result _ _ _ c.args.n c.args.random start _ _ first (returns-clause-ok g c) is q

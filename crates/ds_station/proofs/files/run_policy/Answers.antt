@@ -2,6 +2,9 @@ use Rattle.std.proofs.Common.{◌≡◌, subst, sym, ◌∙◌, Ok, Err}
 use Rattle.std.proofs.lemmas.Result.{on_ok_weaker}
 use Rattle.ds_station.specs.Headline.{Refuses}
 use Rattle.ds_station.proofs.Headlines.{writes_whole, really_if, ran_short, part_written, cut_really, part_really, refused_really, refused_only, keeps_same}
+use Rattle.ds_station.proofs.Guarded.{policy_guarded_if, policy_cut_if}
+use Rattle.ds_station.proofs.Quiet.{policy_quiet_if}
+use Rattle.ds_station.specs.declared.fault.Fault.TheVariants as fault
 use Rattle.ds_station.proofs.files.run_policy.Goals as goal
 
 pub returns-in-Ok-deliver-clause-ok : goal.returns-in-Ok-deliver-clause-ok
@@ -43,3 +46,15 @@ returns-in-Ok-deliver-clause-refused g c = refused_only c.run-ran.result _ _ _ c
 
 pub returns-clause-refused : goal.returns-clause-refused
 returns-clause-refused g c = λ r e. (let b = returns-clause-err g c in absurd (let no : Ok b.0 ≡ Err r = sym b.1 ∙ e in cc))
+
+pub returns-in-Ok-deliver-clause-guarded : goal.returns-in-Ok-deliver-clause-guarded
+returns-in-Ok-deliver-clause-guarded g c = policy_guarded_if c.run-ran.result _ _ _ c.args.n c.args.random _ _ (returns-in-Ok-deliver-clause-ok g c)
+
+pub returns-in-Ok-deliver-clause-guarded_so_far : goal.returns-in-Ok-deliver-clause-guarded_so_far
+returns-in-Ok-deliver-clause-guarded_so_far g c = policy_cut_if c.run-ran.result _ _ _ c.args.n c.args.random _ _ (returns-in-Ok-deliver-clause-err g c)
+
+pub returns-in-Ok-deliver-clause-quiet : goal.returns-in-Ok-deliver-clause-quiet
+returns-in-Ok-deliver-clause-quiet g c = λ start first is q. policy_quiet_if c.run-ran.result _ _ _ c.args.n c.args.random start _ _ first (returns-in-Ok-deliver-clause-ok g c) is q
+
+pub returns-clause-guarded_so_far : goal.returns-clause-guarded_so_far
+returns-clause-guarded_so_far g c = policy_cut_if {T = Unit {0}} (Err fault.WriteFault) _ _ _ c.args.n c.args.random _ _ (returns-clause-err g c)
