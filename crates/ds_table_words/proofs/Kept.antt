@@ -5,7 +5,8 @@ use Rattle.std.proofs.lemmas.Bool.{cases_Bool}
 use Rattle.std.proofs.lemmas.List.{length-map}
 use Rattle.ds_mem.specs.Memory.{frame_of, with_frame, zeros}
 use Rattle.ds_mem.proofs.Zeros.{length-zeros}
-use Rattle.ds_mem.proofs.Words.{length-with_frame}
+use Rattle.ds_mem.proofs.Words.{length-with_frame, word_at-same_frame, frame_of-with_word_apart}
+use Rattle.ds_word.specs.Bytes.{with_word}
 use Rattle.ds_word.proofs.Bytes.{length-with_word}
 use Rattle.ds_tlb.specs.declared.entry.Entry.{Entry}
 use Rattle.ds_policy.specs.declared.grant.Grant.{Grant}
@@ -16,13 +17,13 @@ use Rattle.ds_pagemap.proofs.Entries.{entry_at-with_entry, entry_at-without_entr
 use Rattle.ds_grants.specs.State.{GrantsState, with_grant, without_grant}
 use Rattle.ds_tables.specs.Places.{Places, ArePlaces, region_of, place_of, free_place, has_place, frame_of_place, page_of_table, table_frame, opened, closed, with_place, freed, places_of}
 use Rattle.ds_tables.specs.Tables as tables
-use Rattle.ds_tables.specs.Tables.{HasEmptyTable, with_table_by, with_table, with_entry_word, word_place}
+use Rattle.ds_tables.specs.Tables.{HasEmptyTable, with_table_by, with_table, with_entry_word, word_place, entry_word}
 use Rattle.ds_tables.proofs.PlaceLemmas.{is_place, is_free_place, placed, place_of-other, place_of-kept, row_placed, closed_row, four_places}
 use Rattle.ds_tables.proofs.Map.{frames_kept, opened_old, opened_not, opened_new}
 use Rattle.ds_table_words.specs.Words.{word_of_right, word_of_grant, granted_word, WordsHold}
 use Rattle.ds_table_words.specs.Buffer.{BufferHoldsWords, AreNumbersApart}
 use Rattle.ds_table_words.specs.Changes.{both_forgotten, is_used, memory_without, places_without, IsChangedAt, AreKnown}
-use Rattle.ds_table_words.specs.Represented.{IsRepresented, HasRegion, IsLow}
+use Rattle.ds_table_words.specs.Represented.{IsRepresented, HasRegion, IsLow, IsHigh}
 use Rattle.ds_table_words.proofs.Regions.{fifth_by_places}
 use Rattle.ds_table_words.proofs.Puts.{put_holds, removed_holds, same_word}
 use Rattle.ds_table_words.proofs.Forgets.{buffer_changed}
@@ -115,7 +116,7 @@ module _ (entries : List Entry) (memory : List ℕ) (t : Places) (numbers known 
       empty_by true = frames_kept memory t p a 0 1 k.places long (inl (omega arith)) ∙ k.empty
       empty_by false = k.empty
 
--- Memory stays as long as it was.
+-- Memory of which tables alone changed, and memory of which pages alone did.
 
 table_in_memory : (t : Places) (p r : ℕ) (o : Option ℕ) → ArePlaces t → place_of t p r ≡ o → frame_of_place p o < 402
 table_in_memory t p r None are at = omega arith
@@ -151,3 +152,26 @@ low_removed memory t g p a are long = by_used (is_used (without_grant g p a) p (
     by_used : (b : Bool) → IsLow memory (cond b (tables.with_entry memory t p a 0) memory)
     by_used true = low_put memory t p a 0 are long
     by_used false = (refl, λ f page. refl)
+
+pub word_kept : (old new : List ℕ) (t : Places) (p a : ℕ) → ArePlaces t → IsHigh old new → entry_word new t p a ≡ entry_word old t p a
+word_kept old new t p a are high =
+    word_at-same_frame old new (page_of_table t p (region_of a)) (a / 2 ^ 12 % 2 ^ 10 * 4) (omega arith)
+    (high.1 (page_of_table t p (region_of a)) (table_in_memory t p (region_of a) (place_of t p (region_of a)) are refl))
+
+pub high_kept : (entries : List Entry) (old new : List ℕ) (t : Places) (numbers : ℕ → ℕ) (g : GrantsState) → IsHigh old new → IsRepresented entries old t numbers g → IsRepresented entries new t numbers g
+high_kept entries old new t numbers g high k = record {
+  buffer = k.buffer;
+  words = record {
+    words = λ p vpn live user. word_kept old new t p (vpn * 2 ^ 12) k.places high ∙ k.words.words p vpn live user;
+    regions = k.words.regions;
+    distinct = k.words.distinct;
+    same = k.words.same;
+  };
+  places = k.places;
+  empty = high.1 1 (omega arith) ∙ k.empty;
+}
+
+pub high_stored : (memory : List ℕ) (place w : ℕ) → length memory ≡ 2 ^ 23 → 402 * 4096 ≤ place → place < 2 ^ 23 → IsHigh memory (with_word memory place w)
+high_stored memory place w size low high =
+    let inside : place - place % 4 + 4 ≤ length memory = omega (arith, size, high) in
+    (length-with_word memory place w inside, λ f table. frame_of-with_word_apart memory place w f inside (inl (omega (arith, table, low))))

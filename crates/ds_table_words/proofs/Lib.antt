@@ -4,3 +4,4 @@ pub mod Puts
 pub mod Forgets
 pub mod Buffers
 pub mod Kept
+pub mod WordRows

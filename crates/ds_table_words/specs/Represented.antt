@@ -1,5 +1,5 @@
 -- What page tables and the buffer have of what is granted.
-use Rattle.std.specs.Prelude.{◌≡◌, ℕ, ◌≤◌, false, nat_lt, List, ◌∷◌, length, map}
+use Rattle.std.specs.Prelude.{◌≡◌, ℕ, ◌<◌, ◌≤◌, false, nat_lt, List, ◌∷◌, length, map}
 use Rattle.ds_mem.specs.Memory.{frame_of}
 use Rattle.ds_tlb.specs.declared.entry.Entry.{Entry}
 use Rattle.ds_policy.specs.declared.grant.Entry as granted
@@ -33,6 +33,11 @@ Keeps known old_entries old_memory old_t old_g entries memory t g =
 abbrev pub IsLow : List ℕ → List ℕ → Type 0
 IsLow old new = (length new ≡ length old)
     × ((f : ℕ) → 402 ≤ f → frame_of new f ≡ frame_of old f)
+
+-- only frames of pages changed
+abbrev pub IsHigh : List ℕ → List ℕ → Type 0
+IsHigh old new = (length new ≡ length old)
+    × ((f : ℕ) → f < 402 → frame_of new f ≡ frame_of old f)
 
 -- an entry of a process at an address lies in no fifth region
 abbrev pub HasRegion : GrantsState → ℕ → ℕ → Type 0

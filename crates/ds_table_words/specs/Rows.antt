@@ -1,21 +1,20 @@
 -- Page-table words of a few entries, and what changes of them leave: each row is a theorem about the
 -- definitions alone.
-use Rattle.std.specs.Prelude.{◌≡◌, refl, ℕ, ◌<◌, ◌≤◌, Bool, true, false, List, [], ◌∷◌, map, Option, Some, None, inl, inr, replicate}
-use Rattle.ds_mem.specs.Memory.{frame_of}
+use Rattle.std.specs.Prelude.{◌≡◌, refl, ℕ, Bool, true, false, List, [], ◌∷◌, map, Option, Some, None}
 use Rattle.ds_tlb.specs.declared.entry.Entry.{Entry}
 use Rattle.ds_tlb.specs.Words.{entry_of}
 use Rattle.ds_policy.specs.declared.grant.Entry as granted
 use Rattle.ds_policy.specs.declared.grant.Grant.{Grant}
 use Rattle.ds_policy.specs.declared.grant.Right.{Right}
 use Rattle.ds_policy.specs.declared.grant.Right.TheVariants.{Nothing, Read, Write}
-use Rattle.ds_grants.specs.State.{GrantsState, with_grant, without_grant}
+use Rattle.ds_grants.specs.State.{GrantsState}
 use Rattle.ds_grants.specs.First.{no_grants}
 use Rattle.ds_tables.specs.Places.{Places}
 use Rattle.ds_tables.specs.Tables.{with_entry}
 use Rattle.ds_table_words.specs.Words.{word_of_right, granted_word, regions_taken}
 use Rattle.ds_table_words.specs.Buffer.{hi_of, lo_of}
-use Rattle.ds_table_words.specs.Changes.{is_used, memory_without, places_without, both_forgotten, AreKnown}
-use Rattle.ds_table_words.specs.Represented.{IsLow, HasRegion}
+use Rattle.ds_table_words.specs.Changes.{is_used, memory_without, places_without, both_forgotten}
+use Rattle.ds_table_words.specs.Represented.{HasRegion}
 
 -- a grant of a page by rule 1
 abbrev pub grant : Right → Option ℕ → Grant
@@ -25,18 +24,19 @@ abbrev pub entry : ℕ → Right → Option ℕ → granted.Entry
 entry address right page = record { address = address; grant = grant right page }
 
 -- process 1 may read page 0 and write page 3, and has had a right taken away; of its pages the
--- last lies in a region of its own. Process 2 may read page 1023.
+-- last lies in a region of its own. Process 2 may read page 1023, and has had two rights taken away
+-- in two more regions.
 abbrev pub grants : GrantsState
 grants = record (no_grants 2 1024 4) {
   table = (entry 0x00400000 Read (Some 0) ∷ entry 0x00410000 Write (Some 3) ∷ entry 0x00420000 Nothing None
           ∷ entry 0x00800000 Read (Some 1) ∷ [])
-      ∷ (entry 0x00400000 Read (Some 1023) ∷ [])
+      ∷ (entry 0x00400000 Read (Some 1023) ∷ entry 0x00800000 Nothing None ∷ entry 0x00C00000 Nothing None ∷ [])
       ∷ [];
 }
 
--- the tables of its regions 1 and 2 lie in frames 2 and 4, that of process 2 in frame 6
+-- the tables of its regions 1 and 2 lie in frames 2 and 4, those of process 2 in frames 6 to 8
 abbrev pub places : Places
-places = (Some 1 ∷ None ∷ Some 2 ∷ None ∷ []) ∷ (Some 1 ∷ None ∷ None ∷ None ∷ []) ∷ []
+places = (Some 1 ∷ None ∷ Some 2 ∷ None ∷ []) ∷ (Some 1 ∷ Some 2 ∷ Some 3 ∷ None ∷ []) ∷ []
 
 -- Words.
 
@@ -86,7 +86,7 @@ abbrev pub entries : List Entry
 entries = entry_of 0x00400040 0x00192200 ∷ entry_of 0x00410040 0x00195600 ∷ entry_of 0xC0001040 0x00002200
     ∷ entry_of 0x00410080 0x00192200 ∷ []
 
-pub the_page_and_that_of_its_table_are_forgotten : map (λ (e : Entry). (e.vpn, e.v)) (both_forgotten entries 0x00410000 1)
+pub the_page_and_that_of_its_table_are_forgotten : map {B = ℕ × Bool} (λ (e : Entry). (e.vpn, e.v)) (both_forgotten entries 0x00410000 1)
     ≡ (0x400, true) ∷ (0x80001, false) ∷ (0x80002, false) ∷ (0x410, true) ∷ []
 the_page_and_that_of_its_table_are_forgotten = refl
 
@@ -96,7 +96,7 @@ pub a_region_with_another_entry_stays_open : places_without places grants 1 0x00
 a_region_with_another_entry_stays_open = refl
 
 pub a_region_is_closed_with_its_last_entry : places_without places grants 1 0x00800000
-    ≡ (Some 1 ∷ None ∷ None ∷ None ∷ []) ∷ (Some 1 ∷ None ∷ None ∷ None ∷ []) ∷ []
+    ≡ (Some 1 ∷ None ∷ None ∷ None ∷ []) ∷ (Some 1 ∷ Some 2 ∷ Some 3 ∷ None ∷ []) ∷ []
 a_region_is_closed_with_its_last_entry = refl
 
 pub a_removed_entry_has_word_0 : (memory : List ℕ) → memory_without memory places grants 1 0x00410000 ≡ with_entry memory places 1 0x00410000 0
@@ -105,13 +105,8 @@ a_removed_entry_has_word_0 memory = refl
 pub a_closed_table_keeps_its_words : (memory : List ℕ) → memory_without memory places grants 1 0x00800000 ≡ memory
 a_closed_table_keeps_its_words memory = refl
 
-pub an_entry_in_a_third_region_may_be_put : HasRegion grants 1 0x00C00000
-an_entry_in_a_third_region_may_be_put = refl
+pub a_region_is_used_by_its_own_process : is_used grants 1 3 ≡ false
+a_region_is_used_by_its_own_process = refl
 
--- What is kept.
-
-pub process_2_may_have_lost_its_number : AreKnown (λ p. p) (λ p. 0)
-process_2_may_have_lost_its_number = λ p. inr refl
-
-pub the_first_page_is_as_it_was : (old new : List ℕ) → IsLow old new → frame_of new 402 ≡ frame_of old 402
-the_first_page_is_as_it_was old new low = low.1 402 (omega arith)
+pub a_fourth_region_may_be_used : HasRegion grants 2 0x01000000
+a_fourth_region_may_be_used = refl

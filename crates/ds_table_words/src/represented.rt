@@ -1,5 +1,6 @@
 //! Page tables and the buffer together.
-ghost use Rattle.std.specs.Prelude.{◌≡◌, ℕ, ◌<◌, ◌≤◌, ◌%◌, ◌^◌, List, length, Some, IfSome};
+ghost use Rattle.std.specs.Prelude.{◌≡◌, ℕ, ◌*◌, ◌<◌, ◌≤◌, ◌%◌, ◌^◌, List, length, Some, IfSome};
+ghost use Rattle.ds_word.specs.Bytes.{with_word};
 ghost use Rattle.ds_tlb.specs.declared.entry.Entry.{Entry};
 ghost use Rattle.ds_policy.specs.declared.grant.Grant.{Grant};
 ghost use Rattle.ds_grants.specs.State.{GrantsState, with_grant, without_grant};
@@ -7,7 +8,7 @@ ghost use Rattle.ds_tables.specs.Places.{Places, ArePlaces, region_of, opened};
 ghost use Rattle.ds_tables.specs.Tables.{with_entry};
 ghost use Rattle.ds_table_words.specs.Words.{word_of_grant};
 ghost use Rattle.ds_table_words.specs.Changes.{both_forgotten, memory_without, places_without};
-ghost use Rattle.ds_table_words.specs.Represented.{Keeps, IsLow, HasRegion};
+ghost use Rattle.ds_table_words.specs.Represented.{IsRepresented, Keeps, IsLow, IsHigh, HasRegion};
 
 /// What is granted stays represented when an entry of a process is put with its word, or removed, and
 /// the buffer forgets by the process's number.
@@ -35,4 +36,13 @@ pub fn tables_leave_pages_as_they_are()
         → 2 ^ 23 ≤ length memory → IsLow memory (with_entry memory t p a w) }
     ensures removed { (memory : List ℕ) (t : Places) (g : GrantsState) (p a : ℕ) → ArePlaces t
         → 2 ^ 23 ≤ length memory → IsLow memory (memory_without memory t g p a) }
+{}
+
+/// A word that is stored into a page changes no page table, and leaves what is represented.
+pub fn pages_leave_tables_as_they_are()
+    ensures stored { (memory : List ℕ) (place w : ℕ) → length memory ≡ 2 ^ 23
+        → 402 * 4096 ≤ place → place < 2 ^ 23 → IsHigh memory (with_word memory place w) }
+    ensures kept { (entries : List Entry) (old new : List ℕ) (t : Places) (numbers : ℕ → ℕ)
+        (g : GrantsState) → IsHigh old new → IsRepresented entries old t numbers g
+        → IsRepresented entries new t numbers g }
 {}
