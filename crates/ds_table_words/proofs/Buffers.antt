@@ -1,0 +1,102 @@
+-- A buffer holds after a write where nothing matched.
+use Rattle.std.proofs.Common.{◌≡◌, ℕ, zero, suc, ◌+◌, ◌^◌, ◌<◌, ◌≤◌, ◌==◌, Bool, true, false, cond, not, List, [], ◌∷◌, length, set, get_or, Option, Some, None, refl, sym, ap, ap₂, subst, ◌∙◌, arith, inl, inr, length-set}
+use Rattle.std.specs.List.{position_or_len}
+use Rattle.std.specs.Prelude.{slice_get, slice_set, nat_lt, ◌&&◌, ◌||◌}
+use Rattle.std.proofs.lemmas.Bool.{cases_Bool}
+use Rattle.std.proofs.lemmas.Bool.Decides.{nat_tests}
+use Rattle.std.proofs.lemmas.Option.{slice_get_within, get_or_from_slice_get}
+use Rattle.std.proofs.lemmas.List.Sums.{prefix_len-le-length}
+use Rattle.ds_tlb.specs.declared.entry.Entry.{Entry}
+use Rattle.ds_tlb.specs.Entries.{matches, find}
+use Rattle.ds_tlb.specs.Singles.{match_each_other}
+use Rattle.ds_tlb.specs.Words.{entry_of}
+use Rattle.ds_tlb.proofs.Matches.{missed_match}
+use Rattle.ds_grants.specs.State.{GrantsState}
+use Rattle.ds_grants.proofs.Translations.{at_set, set_single}
+use Rattle.ds_tables.specs.Places.{Places}
+use Rattle.ds_table_words.specs.Buffer.{hi_of, lo_of, IsMapped, IsBackedByWord, BufferHoldsWords, AreNumbersApart}
+use Rattle.ds_table_words.proofs.Fields.{has_page, has_space, mapped_small, lo_own}
+
+-- A search finds what was written where nothing matched.
+
+head_is_other : (b : Bool) (n m : ℕ) → cond (not b) (1 + n) 0 ≡ suc m → (b ≡ false) × (n ≡ m)
+head_is_other true n m e = absurd (omega arith)
+head_is_other false n m e = (refl, (omega arith))
+
+first_there : (p : Entry → Bool) (y : Entry) → p y ≡ true → (xs : List Entry) (k : ℕ) → position_or_len p xs ≡ length xs → k < length xs → position_or_len p (set xs k y) ≡ k
+first_there p y passes [] k none within = absurd (omega arith)
+first_there p y passes (x ∷ xs) zero none within = ap (λ (b : Bool). cond (not b) (1 + position_or_len p xs) 0) passes
+first_there p y passes (x ∷ xs) (suc k) none within =
+    let h = head_is_other (p x) (position_or_len p xs) (length xs) none in
+    let rest : position_or_len p (set xs k y) ≡ k = first_there p y passes xs k h.1 (omega arith) in
+    let next : 1 + position_or_len p (set xs k y) ≡ suc k = omega arith in
+    ap (λ (b : Bool). cond (not b) (1 + position_or_len p (set xs k y)) 0) h.0 ∙ next
+
+as_place : (n m : ℕ) → n < m → cond (nat_lt n m) (Some n) None ≡ Some n
+as_place n m below = let e : nat_lt n m ≡ true = grind (arith, nat_tests) in ap (λ (b : Bool). cond b (Some n) None) e
+
+no_place : (n m : ℕ) → cond (nat_lt n m) (Some n) None ≡ None → m ≤ n
+no_place n m e = elim (cases_Bool (nat_lt n m)) [
+  | inl below ↦ absurd (some_none n (sym (ap (λ (b : Bool). cond b (Some n) None) below) ∙ e))
+  | inr not_below ↦ grind (arith, nat_tests)
+]
+  where
+    some_none : (x : ℕ) → ◌≡◌ {A = Option ℕ} (Some x) None → ⊥
+    some_none x e = absurd cc
+
+pub find_written : (entries : List Entry) (vpn asid slot : ℕ) (e : Entry) → find entries vpn asid ≡ None → slot < length entries → matches vpn asid e ≡ true → find (slice_set entries slot e) vpn asid ≡ Some slot
+find_written entries vpn asid slot e none within passes =
+    let whole = no_place (position_or_len (matches vpn asid) entries) (length entries) none in
+    let most : position_or_len (matches vpn asid) entries ≤ length entries = prefix_len-le-length (λ (x : Entry). not (matches vpn asid x)) entries in
+    let at = first_there (matches vpn asid) e passes entries slot (omega arith) within in
+    let size = length-set entries slot e in
+    as_place (position_or_len (matches vpn asid) (set entries slot e)) (length (set entries slot e)) (omega arith) ∙ ap (λ (n : ℕ). Some n) at
+
+itself : (v n : ℕ) (g : Bool) → ((v == v) && (g || (n == n))) ≡ true
+itself v n g = grind (arith, nat_tests)
+
+pub same_keys : (vpn asid lo : ℕ) → vpn < 2 ^ 20 → asid < 64 → matches vpn asid (entry_of (hi_of vpn asid) lo) ≡ true
+same_keys vpn asid lo a b =
+    ap₂ (λ (v n : ℕ). (v == vpn) && ((entry_of (hi_of vpn asid) lo).g || (n == asid))) (has_page vpn asid lo a b) (has_space vpn asid lo a b) ∙ itself vpn asid ((entry_of (hi_of vpn asid) lo).g)
+
+-- Nothing that stands matches it.
+
+answers : (e f : Entry) → f.g ≡ false → e.g ≡ false → match_each_other e f ≡ true → matches e.vpn e.asid f ≡ true
+answers e f h g m = grind (arith, nat_tests)
+
+none_there : (entries : List Entry) (vpn asid j : ℕ) (f : Entry) → find entries vpn asid ≡ None → slice_get entries j ≡ Some f → matches vpn asid f ≡ true → ⊥
+none_there entries vpn asid j f none at m =
+    let all = (missed_match vpn asid entries None (sym none)).0 refl in
+    let within = slice_get_within entries j f at in
+    let no : not (matches vpn asid (get_or entries j f)) ≡ true = all j f within in
+    let here : get_or entries j f ≡ f = get_or_from_slice_get entries j f f at in
+    let wrong : not true ≡ true = subst (λ (b : Bool). not b ≡ true) m (subst (λ (x : Entry). not (matches vpn asid x) ≡ true) here no) in
+    absurd (cc)
+
+-- A process's entry goes into a slot where nothing matched.
+pub buffer_written : (entries : List Entry) (numbers : ℕ → ℕ) (g : GrantsState) (t : Places) (p vpn slot : ℕ) → AreNumbersApart numbers → BufferHoldsWords entries numbers g t → 0 < p → 0 < numbers p
+    → IsMapped vpn → find entries vpn (numbers p) ≡ None → BufferHoldsWords (slice_set entries slot (entry_of (hi_of vpn (numbers p)) (lo_of g t p vpn))) numbers g t
+buffer_written entries numbers g t p vpn slot apart k live some mapped none =
+    let asid : ℕ = numbers p in
+    let few : numbers p < 64 = apart.few p in
+    let e : Entry = entry_of (hi_of vpn asid) (lo_of g t p vpn) in
+    let page : e.vpn ≡ vpn = has_page vpn asid (lo_of g t p vpn) (mapped_small vpn mapped) few in
+    let space : e.asid ≡ asid = has_space vpn asid (lo_of g t p vpn) (mapped_small vpn mapped) few in
+    let own : e.g ≡ false = lo_own (hi_of vpn asid) g t p vpn in
+    let missed : find entries e.vpn e.asid ≡ None = ap₂ (λ (v a : ℕ). find entries v a) page space ∙ none in
+    record {
+      single = set_single entries slot e k.single (λ j f at m. absurd (none_there entries e.vpn e.asid j f missed at (answers e f (k.own j f at) own m)));
+      apart = λ i f at. elim (at_set entries slot i e f at) [ inl here ↦ inl (subst IsMapped (sym (ap (λ (x : Entry). x.vpn) here.1 ∙ page)) mapped) | inr there ↦ k.apart i f there.1 ];
+      own = λ i f at. elim (at_set entries slot i e f at) [ inl here ↦ ap (λ (x : Entry). x.g) here.1 ∙ own | inr there ↦ k.own i f there.1 ];
+      backed = λ i f q at running number holds. elim (at_set entries slot i e f at) [
+        | inl here ↦
+            let same : f.asid ≡ asid = ap (λ (x : Entry). x.asid) here.1 ∙ space in
+            let owner : p ≡ q = apart.apart p q live running some (sym same ∙ sym holds) in
+            subst (λ (x : Entry). IsBackedByWord g t q x) (sym here.1)
+            (subst (λ (r : ℕ). IsBackedByWord g t r e) owner (record {
+              mapped = subst IsMapped (sym page) mapped;
+              words = ap₂ (λ (v a : ℕ). entry_of (hi_of v a) (lo_of g t p v)) (sym page) (sym space);
+            }))
+        | inr there ↦ k.backed i f q there.1 running number holds
+      ];
+    }

@@ -1,0 +1,68 @@
+-- Fields of an entry that is made of a page, an address space and EntryLo.
+use Rattle.std.proofs.Common.{◌≡◌, ℕ, ◌+◌, ◌-◌, ◌*◌, ◌/◌, ◌%◌, ◌^◌, ◌<◌, ◌==◌, Bool, true, false, cond, Option, Some, None, refl, ap, ◌∙◌, arith, inl, inr}
+use Rattle.std.specs.Prelude.{nat_lt}
+use Rattle.std.proofs.lemmas.Bool.Decides.{nat_tests}
+use Rattle.ds_word.specs.Word.{bits, bit}
+use Rattle.ds_tlb.specs.Words.{entry_of}
+use Rattle.ds_policy.specs.declared.grant.Grant.{Grant}
+use Rattle.ds_policy.specs.declared.grant.Right.{Right}
+use Rattle.ds_policy.specs.declared.grant.Right.TheVariants.{Nothing, Read, Write}
+use Rattle.ds_policy.specs.Pages.{entry_at}
+use Rattle.ds_grants.specs.State.{GrantsState, frame_of_page}
+use Rattle.ds_tables.specs.Places.{Places, page_of_table}
+use Rattle.ds_table_words.specs.Words.{word_of_right, word_of_grant, granted_word}
+use Rattle.ds_table_words.specs.Buffer.{hi_of, read_only, lo_of, IsMapped}
+
+-- the keys that an entry of two words has
+pub has_page : (vpn asid lo : ℕ) → vpn < 2 ^ 20 → asid < 64 → (entry_of (hi_of vpn asid) lo).vpn ≡ vpn
+has_page vpn asid lo a b = omega arith
+
+pub has_space : (vpn asid lo : ℕ) → vpn < 2 ^ 20 → asid < 64 → (entry_of (hi_of vpn asid) lo).asid ≡ asid
+has_space vpn asid lo a b = omega arith
+
+pub mapped_small : (vpn : ℕ) → IsMapped vpn → vpn < 2 ^ 20
+mapped_small vpn (inl low) = omega arith
+mapped_small vpn (inr table) = let high = table.1 in omega arith
+
+-- It answers in no other address space.
+
+not_global : (w : ℕ) → w / 256 % 2 ≡ 0 → (bits w 8 1 == 1) ≡ false
+not_global w e = let z : bits w 8 1 ≡ 0 = e in ap (λ (n : ℕ). n == 1) z
+
+page_own : (frame : ℕ) (d : Bool) → (bits (frame * 2 ^ 12 + bit 10 d + bit 9 true) 8 1 == 1) ≡ false
+page_own frame true = not_global (frame * 2 ^ 12 + bit 10 true + bit 9 true) (omega arith)
+page_own frame false = not_global (frame * 2 ^ 12 + bit 10 false + bit 9 true) (omega arith)
+
+own_by_right : (g : GrantsState) (right : Right) (page : ℕ) → (bits (word_of_right g right (Some page)) 8 1 == 1) ≡ false
+own_by_right g Nothing page = refl
+own_by_right g Read page = page_own (frame_of_page g page) false
+own_by_right g Write page = page_own (frame_of_page g page) true
+
+own_by_page : (g : GrantsState) (right : Right) (page : Option ℕ) → (bits (word_of_right g right page) 8 1 == 1) ≡ false
+own_by_page g right None = refl
+own_by_page g right (Some q) = own_by_right g right q
+
+own_by_grant : (g : GrantsState) (o : Option Grant) → (bits (word_of_grant g o) 8 1 == 1) ≡ false
+own_by_grant g None = refl
+own_by_grant g (Some grant) = own_by_page g grant.right grant.page
+
+read_only_own : (frame : ℕ) → (bits (read_only frame) 8 1 == 1) ≡ false
+read_only_own frame = not_global (read_only frame) (omega arith)
+
+own_by_half : (b : Bool) (w v : ℕ) → (bits w 8 1 == 1) ≡ false → (bits v 8 1 == 1) ≡ false → (bits (cond b w v) 8 1 == 1) ≡ false
+own_by_half true w v e f = e
+own_by_half false w v e f = f
+
+pub lo_own : (hi : ℕ) (g : GrantsState) (t : Places) (p vpn : ℕ) → (entry_of hi (lo_of g t p vpn)).g ≡ false
+lo_own hi g t p vpn = own_by_half (nat_lt vpn (2 ^ 19)) (granted_word g p vpn) (read_only (page_of_table t p (vpn - 0xC0000))) (own_by_grant g (entry_at g.table p (vpn * 2 ^ 12))) (read_only_own (page_of_table t p (vpn - 0xC0000)))
+
+-- EntryLo by the half that a page lies in.
+
+pub user_lo : (g : GrantsState) (t : Places) (p vpn : ℕ) → vpn < 2 ^ 19 → lo_of g t p vpn ≡ granted_word g p vpn
+user_lo g t p vpn user = let low : nat_lt vpn (2 ^ 19) ≡ true = grind (arith, nat_tests) in ap (λ (b : Bool). cond b (granted_word g p vpn) (read_only (page_of_table t p (vpn - 0xC0000)))) low
+
+pub table_lo : (g : GrantsState) (t : Places) (p r : ℕ) → lo_of g t p (0xC0000 + r) ≡ read_only (page_of_table t p r)
+table_lo g t p r =
+    let high : nat_lt (0xC0000 + r) (2 ^ 19) ≡ false = grind (arith, nat_tests) in
+    let same : 0xC0000 + r - 0xC0000 ≡ r = omega arith in
+    ap (λ (b : Bool). cond b (granted_word g p (0xC0000 + r)) (read_only (page_of_table t p (0xC0000 + r - 0xC0000)))) high ∙ ap (λ (n : ℕ). read_only (page_of_table t p n)) same
