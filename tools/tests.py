@@ -20,7 +20,9 @@ COMMANDS = [  # those that take longest first
     ["tools/test_gate_times.py"],
     ["tools/test_refusals.py"],
     ["tools/test_tests.py"],
+    ["tools/test_documents.py"],
     ["tools/refusals.py", "--check"],
+    ["tools/documents.py", "--check"],
 ]
 
 
