@@ -39,7 +39,7 @@ def documents(top):
 
 
 def names(text):
-    """What stands in backticks, as paths: without the words of a command behind a path."""
+    """What stands in backticks, as paths: without the words of a command after a path."""
     return {it for it in CODE.findall(text) if PATH.match(it)}
 
 
