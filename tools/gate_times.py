@@ -4,6 +4,7 @@
     tools/gate_times.py --keep CI -- rt ci                                the proofs, the tests, and the edits of must-fail/
     tools/gate_times.py --keep WRONG -- tools/wrong_bodies.py --all       the edits of wrong/
     tools/gate_times.py CI WRONG                                          the table of both, from the files that --keep wrote
+    tools/figures.py --seconds CI WRONG                                   takes both over into docs/figures.md
 
 A process is counted for the crate that its words name (`--crate-name`), as a proof, as a proof with tests (`--test`), or as the try of an
 edit, by the folder that it runs in. It is read a few times a second, as long as it runs; so the last fraction of a second of each
@@ -139,10 +140,10 @@ def seconds_in(took):
     return f"{took:.0f}" if took >= 0.5 else ""
 
 
-def edits_by_crate():
+def edits_by_crate(top=TOP):
     """The crates in the order of crates.txt, and of each how many edits each folder of them has."""
-    lines = [it.partition("#")[0].partition(":")[0].split() for it in Path(TOP, "crates.txt").read_text("utf-8").split("\n")]
-    count = lambda crate, room: len(list(Path(TOP, "crates", crate, room).glob("*.edit")))
+    lines = [it.partition("#")[0].partition(":")[0].split() for it in Path(top, "crates.txt").read_text("utf-8").split("\n")]
+    count = lambda crate, room: len(list(Path(top, "crates", crate, room).glob("*.edit")))
     return {it[0]: {room: count(it[0], room) for room in ROOMS} for it in lines if it}
 
 

@@ -14,14 +14,17 @@ TOP = Path(__file__).resolve().parent.parent
 COMMANDS = [  # those that take longest first
     ["tools/refused_memory.py"],
     ["tools/test_wrong_bodies.py"],
+    ["tools/test_wrong_bodies_record.py"],
     ["tools/test_reading_cases.py"],
     ["tools/test_grants_cases.py"],
     ["tools/test_refused_memory.py"],
     ["tools/test_gate_times.py"],
+    ["tools/test_figures.py"],
     ["tools/test_refusals.py"],
     ["tools/test_tests.py"],
     ["tools/test_documents.py"],
     ["tools/refusals.py", "--check"],
+    ["tools/figures.py", "--check"],
     ["tools/documents.py", "--check"],
 ]
 

@@ -7,6 +7,8 @@
 - `kinds` says what refused an edit: a public clause, a private clause, a proof script, or a law or a worked row
 - `laws` says what a check refuses with a turned definition
 - `trying` puts edits into batches and gives each its verdict
-- `record` keeps what was found, by content
+- `record` keeps what was found of each edit, and over which texts
+- `order` says which edits come first
+- `clock` ends a run that has its minutes
 - `command` is the command
 """

@@ -1,33 +1,45 @@
 """The command."""
 import argparse
+import contextlib
 import os
 import sys
-import time
 from collections import Counter
 from concurrent.futures import ThreadPoolExecutor, as_completed
 from pathlib import Path
 
+from .clock import Clock, OutOfTime, minutes_of
 from .crates import Repository
 from .laws import KINDS, read_turned, try_turned
-from .record import Record, sum_of, toolchain
-from .trying import try_crate
+from .order import tasks_of
+from .prover import How
+from .record import Damaged, Record, Today
+from .trying import Tried, try_crate
 
 USES = """Tries the wrong bodies of the crates, crates/NAME/wrong/*.edit: the prover must refuse each of them.
 
---changed tries those of each crate that has no line in the record for its texts and this toolchain; --all tries all; names of crates, these.
-Each brings the lines of the crates that it tried up to date. A name CRATE/EDIT tries one edit, and no line is written then.
-docs/gate.md says more.
+--changed tries those that the record does not have as refused over the texts of today, with this toolchain; --all tries all; names of crates, these, and a
+name CRATE/EDIT one edit. What is found is noted in the record. With --minutes M a run ends after so many minutes, and what it did not
+reach stays stale: the record says of each edit over which texts it was refused. First come the edits that ask for it, then those whose own crate
+changed, then those that are stale only since something below is stated otherwise, the longest untried first. docs/gate.md says more.
 
-The last line is 'N passed, M failed': how many wrong bodies are refused, those that the record has among them, and how many are not, or
-could not be tried. The status is 0 where M is 0."""
+The last line is 'N refused, M stale, K not refused': those that the record has are counted among the N, and those that could not be tried
+among the K. The status is 0 where K is 0."""
+
+
+class Parser(argparse.ArgumentParser):
+    """Says what is wrong with the words in one line, with status 1."""
+
+    def error(self, message):
+        self.exit(1, f"{self.prog}: {message}\n")
 
 
 def arguments(words):
     top = Path(__file__).resolve().parents[2]
-    parser = argparse.ArgumentParser(prog="wrong_bodies.py", description=USES, formatter_class=argparse.RawDescriptionHelpFormatter)
+    parser = Parser(prog="wrong_bodies.py", description=USES, formatter_class=argparse.RawDescriptionHelpFormatter)
     parser.add_argument("names", metavar="CRATE", nargs="*", help="try the wrong bodies of this crate, or with CRATE/EDIT one of them")
     parser.add_argument("--all", action="store_true", help="try those of every crate")
-    parser.add_argument("--changed", action="store_true", help="try those of every crate that is not as the record has it")
+    parser.add_argument("--changed", action="store_true", help="try those that the record does not have over the texts of today")
+    parser.add_argument("--minutes", metavar="M", help="end after so many minutes of the clock")
     parser.add_argument("--proved", action="store_true", help="every crate was just proved, as by rt ci: do not check them without edits first")
     parser.add_argument("--lanes", metavar="N", type=int, default=len(os.sched_getaffinity(0)), help="use so many processors (all)")
     parser.add_argument("--edits", metavar="FOLDER", default="wrong", help="the folder of the edits; with another than 'wrong' no record is read or written")
@@ -37,6 +49,10 @@ def arguments(words):
     given = parser.parse_args(words)
     if not (given.all or given.changed or given.names):
         parser.error("say --changed, --all or names of crates")
+    try:
+        given.clock = Clock(minutes_of(given.minutes)) if given.minutes else Clock()
+    except ValueError:
+        parser.error(f"--minutes wants a number of minutes above 0, and not '{given.minutes}'")
     return given
 
 
@@ -44,82 +60,103 @@ def by_kinds(counts):
     return ", ".join(f"{counts[it.word]} by {it.words}" for it in KINDS)
 
 
-def edits_of(crate):
-    """Returns the edits of a crate, those of code and those of definitions."""
-    return [*crate.edits, *crate.turned]
-
-
-def pick(repository, names):
-    """Leaves the edits that are named, where some are, and returns the crates of the names. Raises `LookupError` at a name of nothing."""
-    for name in names:
+def chosen(repository, given, record, today):
+    """Returns the edits that are to be tried. Raises `LookupError` at a name of nothing."""
+    edits = [it for crate in repository.crates.values() for it in crate.all_edits()]
+    if given.all:
+        return edits
+    found = [it for it in edits if given.changed and not (record and record.refused(it, today))]
+    for name in given.names:
         crate, _, edit = name.partition("/")
-        if crate not in repository.crates or edit and not any(it.is_named(edit) for it in edits_of(repository.crates[crate])):
+        named = [it for it in edits if it.crate.name == crate and (not edit or it.is_named(edit))]
+        if crate not in repository.crates or edit and not named:
             raise LookupError(name)
-    for crate in repository.crates.values():
-        edits = [it.partition("/")[2] for it in names if it.startswith(f"{crate.name}/")]
-        is_left = lambda it: not edits or any(map(it.is_named, edits))
-        crate.edits, crate.turned = [*filter(is_left, crate.edits)], [*filter(is_left, crate.turned)]
-    return {it.partition("/")[0] for it in names}
+        found += [it for it in named if it not in found]
+    return found
 
 
-def main(words):
-    given, began = arguments(words), time.monotonic()
+def main(words, clock=None):
+    given = arguments(words)
+    clock = clock or given.clock
     repository = Repository(given.root, given.edits)
     read_turned(repository, given.edits)
+    today = Today(repository)
     try:
-        named = pick(repository, given.names)
+        record = Record(given.record or f"{repository.root}/tools/wrong_bodies.record") if given.edits == "wrong" else None
+        edits = chosen(repository, given, record, today)
     except LookupError as error:
-        print(f"there is no {error}\n0 passed, 1 failed")
+        print(f"there is no {error}\n0 refused, 0 stale, 1 not refused")
         return 2
-    is_kept = given.edits == "wrong" and not any("/" in it for it in given.names)
-    record = Record(given.record or f"{repository.root}/tools/wrong_bodies.record") if is_kept else None
-    version = toolchain()
-    crates = [it for it in repository.crates.values() if edits_of(it)]
-    sums = {it.name: sum_of(repository, it) for it in crates}
-    known = {it.name: record.counts(it.name, version, sums[it.name]) for it in crates} if record else {}
-    chosen = [it for it in crates if given.all or it.name in named or given.changed and known.get(it.name) is None]
+    except Damaged as error:
+        print(error)
+        return 1
+    unreadable = [it for it in edits if it.unreadable]
+    if unreadable:
+        print("\n".join([*map(str, unreadable), f"0 refused, 0 stale, {len(unreadable)} not refused"]))
+        return 1
     tried = []
-    for it in try_all(repository, chosen, given):
-        print("\n".join(map(str, it.edits)), flush=True)
+    for it in try_all(repository, tasks_of(edits, record, today), given, clock):
+        print("\n".join(str(edit) for edit in it.edits if edit.verdict != "STALE"), flush=True)
         tried.append(it)
         if record:
-            record.put(it, version, sums[it.crate.name], repository.crates)
-    recorded = [it for it in crates if it not in chosen and known.get(it.name) is not None]
-    return tell(tried, time.monotonic() - began, recorded, known)
+            record.put([edit for edit in it.edits if edit.verdict != "STALE"], today)
+    others = [it for crate in repository.crates.values() for it in crate.all_edits() if it not in edits and not given.names]
+    return tell(tried, clock, others, record, today)
 
 
-def try_all(repository, crates, given):
-    """Tries crates side by side, those with the most edits first, and gives each as it is done. Lanes that are left over are shared out among
-    the crates that are still tried."""
+def try_all(repository, tasks, given, clock):
+    """Tries the tasks in their order, so many side by side as there are lanes, and gives each as it is done. Lanes that are left over are shared out
+    among those that are still tried."""
     done = []
-    jobs = lambda: max(given.lanes // max(len(crates) - len(done), 1), 1)
+    jobs = lambda: max(given.lanes // max(len(tasks) - len(done), 1), 1)
+    how = How(given.proved, jobs, given.said, clock)
     with ThreadPoolExecutor(max(given.lanes, 1)) as lanes:
-        order = sorted(crates, key=lambda it: -len(edits_of(it)))
-        for it in as_completed([lanes.submit(try_edits, repository, crate, given.proved, jobs, given.said) for crate in order]):
+        for it in as_completed([lanes.submit(try_task, repository, task, how) for task in tasks]):
             done.append(it)
             yield it.result()
 
 
-def try_edits(repository, crate, *how):
-    """Tries all edits of a crate, those of code first."""
-    tried = try_crate(repository, crate, *how)
-    try_turned(repository, crate, tried, *how)
-    return tried
+def try_task(repository, task, how):
+    """Tries the edits of a task, unless the run's time is over."""
+    with contextlib.suppress(OutOfTime):
+        how.clock.left()
+        return (try_turned if task.is_turned else try_crate)(repository, task.crate, task.edits, how)
+    return Tried(task.crate, task.edits)
 
 
-def tell(tried, seconds, recorded, known):
+def tell(tried, clock, others, record, today):
     """Prints what was found, and returns the status."""
-    total, failed = Counter(), [it for crate in tried for it in crate.failed()]
-    for it in tried:
-        counts = {kind.word: it.refused(kind) for kind in KINDS}
-        total.update(counts)
-        print(f"{it.crate.name}: {len(it.edits)} wrong bodies: {by_kinds(counts)}; {it.checks} checks, {it.seconds:.0f} s of processor time")
-    for it in recorded:
-        total.update(known[it.name])
-    now = sum(len(it.edits) for it in tried)
-    print(f"{now} tried in {seconds:.0f} s, {sum(it.seconds for it in tried):.0f} s of processor time; {sum(map(len, map(edits_of, recorded)))} by the record")
+    total, failed, stale = Counter(), [it for task in tried for it in task.failed()], [it for task in tried for it in task.stale()]
+    for name in dict.fromkeys(it.crate.name for it in tried):
+        tasks = [it for it in tried if it.crate.name == name]
+        counts = Counter({kind.word: sum(it.refused(kind) for it in tasks) for kind in KINDS})
+        total += counts
+        print(
+            f"{name}: {sum(len(it.edits) - len(it.stale()) for it in tasks)} wrong bodies: {by_kinds(counts)}; "
+            f"{sum(it.checks for it in tasks)} checks, {sum(it.seconds for it in tasks):.0f} s of processor time"
+        )
+    known = [it for it in (record.refused(edit, today) for edit in others) if it] if record else []
+    stale += [it for it in others if record and not record.refused(it, today)]
+    total.update(it.kind for it in known)
+    now = sum(len(it.edits) - len(it.stale()) for it in tried)
+    print(f"{now} tried in {clock.took():.0f} s, {sum(it.seconds for it in tried):.0f} s of processor time; {len(known)} by the record")
     for it in failed:
         print(it)
+    for line in told_stale(stale, record):
+        print(line)
     print(f"refused: {by_kinds(total)}")
-    print(f"{sum(total.values())} passed, {len(failed)} failed")
+    print(f"{sum(total.values())} refused, {len(stale)} stale, {len(failed)} not refused")
     return 1 if failed else 0
+
+
+def told_stale(edits, record):
+    """Returns a line for each crate and commit with the names of the edits that are stale."""
+    found = {}
+    for it in edits:
+        last = record.last(it) if record else None
+        found.setdefault((it.crate.name, f"last tried at {last.commit}" if last else "never tried"), []).append(it.short)
+    return [f"stale: {name}: {len(its)} {when}: {' '.join(its)}" for (name, when), its in found.items()]
+
+
+if __name__ == "__main__":
+    sys.exit(main(sys.argv[1:]))

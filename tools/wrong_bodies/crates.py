@@ -21,7 +21,11 @@ class Crate:
         self.name, self.folder, self.uses = name, Path(folder), uses
         texts = {it.relative_to(self.folder).as_posix(): it.read_text("utf-8") for it in sorted(self.folder.glob("src/**/*.rt"))}
         self.sources = Sources(texts)
-        self.edits = [Edit(it, self) for it in sorted(Path(self.folder, edits).glob("*.edit"))]
+        # (edits of code; those of definitions become `turned`)
+        self.edits, self.turned = [Edit(it, self) for it in sorted(Path(self.folder, edits).glob("*.edit"))], []
+
+    def all_edits(self):
+        return [*self.edits, *self.turned]
 
     def logic(self, part):
         """Returns the definitions (specs) or proofs by their paths, with no line that is empty or a comment alone, and no proof of a test."""

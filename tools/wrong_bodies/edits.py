@@ -1,4 +1,5 @@
 """A wrong body: what it changes, and which function, or arms of one, it turns wrong."""
+import hashlib
 import os
 import re
 
@@ -9,19 +10,25 @@ class Edit:
     An edit outside every body, as of a macro or a constant, may name the functions that it turns wrong in lines 'function: module::name',
     each with the arms of it that the edit changes, as the names of goals have them: 'function: decoding::special in-33 in-43'. The first
     is the function that has to be refused. Where arms are named, all are that it changes.
+
+    A line 'tried: first' asks that it is tried before others, whenever it has to be tried.
     """
 
     def __init__(self, path, crate):
-        self.crate, self.name, self.verdict, self.kind, self.why = crate, path.name, "BAD EDIT", None, ""
+        self.crate, self.name, self.short = crate, path.name, path.stem
+        self.verdict, self.kind, self.why = "STALE", None, ""
         self.file, self.start, self.end, self.new = "", 0, 0, ""
         self.words = path.read_text("utf-8", "replace")
+        self.is_first = bool(re.search(r"(?m)^tried: first$", self.words))
         rows = [it.split() for it in re.findall(r"(?m)^function: (.+)", self.words)]
         # (by function the arms that it changes, or none where it may change all)
         self.functions = {name: frozenset(arms) for name, *arms in rows}
         self.names_arms = any(self.functions.values())
         lost = [it for it in self.functions if it not in crate.sources.by_name]
         self.unreadable = self.why = f"the crate has no function {lost[0]}" if lost else self.read()
-        if not self.unreadable and not self.functions:
+        if self.unreadable:
+            self.verdict = "BAD EDIT"
+        elif not self.functions:
             self.functions = self.found()
 
     def read(self):
@@ -60,7 +67,11 @@ class Edit:
         return next(iter(self.functions), "")
 
     def is_named(self, name):
-        return self.name in (name, f"{name}.edit")
+        return name in (self.short, self.name)
+
+    def sum(self):
+        """Returns a sum of its text."""
+        return hashlib.sha256(self.words.encode()).hexdigest()[:8]
 
     def shares(self, other):
         """Returns whether the two change one function."""

@@ -7,16 +7,20 @@ were not tried, since another failed on which they rest, are none of these, nor 
 
 Anything may rest on a definition, so such an edit is tried alone, over the whole crate. Several are tried side by side.
 """
+import contextlib
 import enum
 import re
 import tempfile
 from concurrent.futures import ThreadPoolExecutor
+from dataclasses import replace
 from pathlib import Path
 from queue import SimpleQueue
 
+from .clock import OutOfTime
 from .edits import Edit
 from .kinds import Kind
-from .prover import NOT_OWN, CannotTry, Prover, build_below, unquoted
+from .prover import NOT_OWN, CannotTry, How, Prover, build_below, unquoted
+from .trying import Tried
 
 REFUSED = re.compile(r"(?:\./)?(?P<part>specs|proofs)/(?P<file>\S+)\.antt:\d+:\d+: error: `(?P<name>[^`]*)`: (?P<why>.*)")
 # The modules of worked rows are named so.
@@ -81,34 +85,29 @@ class Lane(Prover):
         return edits[0].text
 
 
-def lanes_of(repository, crate, count, jobs, room, said):
-    """Returns so many lanes. What their checks said is kept in folders of their own in `said`, where one is given."""
-    told = [Path(said, f"{crate.name}-laws-{n + 1}") if said else None for n in range(count)]
+def lanes_of(repository, crate, count, how, room):
+    """Returns so many lanes. What their checks said is kept in folders of their own, where it is kept."""
+    told = [Path(how.said, f"{crate.name}-laws-{n + 1}") if how.said else None for n in range(count)]
     for it in filter(None, told):
         it.mkdir(exist_ok=True)
-    return [Lane(repository, crate, f"{room}/{n}", lambda: max(jobs() // count, 1), it) for n, it in enumerate(told)]
+    return [Lane(repository, crate, f"{room}/{n}", replace(how, jobs=lambda: max(how.jobs() // count, 1), said=it)) for n, it in enumerate(told)]
 
 
-def try_turned(repository, crate, tried, is_proved, jobs=lambda: 1, said=None):
-    """Tries the edits of definitions of a crate, and adds them to what was tried of it. Unless the caller has just proved it, the crate is
-    first checked as it stands."""
-    tried.edits = [*tried.edits, *crate.turned]
-    left = [it for it in crate.turned if not it.unreadable]
-    if not left:
-        return
+def try_turned(repository, crate, edits, how=How()):
+    """Tries edits of definitions of a crate. Unless the caller has just proved it, the crate is first checked as it stands."""
+    left, lanes = [it for it in edits if not it.unreadable], []
     Path(crate.folder, "out").mkdir(exist_ok=True)
-    with tempfile.TemporaryDirectory(prefix="turned-definitions-", dir=f"{crate.folder}/out") as room:
-        lanes = lanes_of(repository, crate, max(min(jobs(), len(left)), 1), jobs, room, said)
+    with tempfile.TemporaryDirectory(prefix="turned-definitions-", dir=f"{crate.folder}/out") as room, contextlib.suppress(OutOfTime):
         try:
             build_below(repository, crate)
-            if not is_proved and lanes[0].check([], []).status:
+            lanes = lanes_of(repository, crate, max(min(how.jobs(), len(left)), 1), how, room)
+            if not how.is_proved and lanes[0].check([], []).status:
                 raise CannotTry(f"{crate.name} is not proved without any edit")
             try_side_by_side(lanes, left)
         except CannotTry as error:
             for it in left:
                 it.fail("NOT TRIED", str(error))
-    tried.checks += sum(it.checks for it in lanes)
-    tried.seconds += sum(it.seconds for it in lanes)
+    return Tried(crate, edits, sum(it.checks for it in lanes), sum(it.seconds for it in lanes))
 
 
 def try_side_by_side(lanes, edits):

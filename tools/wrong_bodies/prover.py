@@ -2,12 +2,16 @@
 import os
 import re
 import shutil
+import signal
 import subprocess
 import sys
 import tempfile
+import threading
 import time
 from dataclasses import dataclass, field
 from pathlib import Path
+
+from .clock import Clock, OutOfTime
 
 # A function's line names the goals that no search proved and no answer is written for.
 NOT_SEARCHED = re.compile(r"`search` did not prove ([^;]*)")
@@ -69,11 +73,22 @@ def goals_in(lines, crate):
     return found
 
 
+@dataclass(frozen=True)
+class How:
+    """How edits are tried: whether their crate was just proved, so that it is not checked without edits first; how many processors a check
+    may use; the folder in which what each check said is kept, if any; and how long the run may take."""
+
+    is_proved: bool = False
+    jobs: object = lambda: 1
+    said: object = None
+    clock: Clock = field(default_factory=Clock)
+
+
 class Prover:
     """Checks one crate, over what its own checks kept in out/ and what those of this run keep."""
 
-    def __init__(self, repository, crate, room, jobs, said=None):
-        self.repository, self.crate, self.jobs, self.said = repository, crate, jobs, said
+    def __init__(self, repository, crate, room, how):
+        self.repository, self.crate, self.jobs, self.said, self.clock = repository, crate, how.jobs, how.said, how.clock
         self.checks, self.seconds = 0, 0.0
         self.kept = f"{room}/incremental"
         own = Path(crate.folder, "out/incremental")
@@ -92,7 +107,8 @@ class Prover:
         return [*words, "--antt-project", f"{kit()}/rattle/logic/antt-project.json", "--logic-built", f"{kit()}/logic_built"]
 
     def check(self, edits, functions):
-        """Checks a copy of the crate with these edits: the functions alone, or all where none is named."""
+        """Checks a copy of the crate with these edits: the functions alone, or all where none is named. Raises `OutOfTime` where the run's
+        time is over, or ends before the check does."""
         began, functions = time.monotonic(), sorted(set(functions))
         with tempfile.TemporaryDirectory(prefix="wrong-bodies-") as copy:
             for part in ("src", "specs", "proofs"):
@@ -121,12 +137,18 @@ class Prover:
         return text
 
     def run(self, words, folder):
-        """Runs a command, counts its processor time, and returns its status and lines."""
+        """Runs a command, counts its processor time, and returns its status and lines. It is cut off where the run's time ends."""
+        left, is_cut = self.clock.left(), threading.Event()
         with tempfile.TemporaryFile() as said:
             ran = subprocess.Popen(words, cwd=folder, stdin=subprocess.DEVNULL, stdout=said, stderr=subprocess.STDOUT)
+            end = threading.Timer(min(left, threading.TIMEOUT_MAX), lambda: (is_cut.set(), os.kill(ran.pid, signal.SIGKILL)))
+            end.start()
             _, status, used = os.wait4(ran.pid, 0)
+            end.cancel()
             ran.returncode = os.waitstatus_to_exitcode(status)
             self.seconds += used.ru_utime + used.ru_stime
+            if is_cut.is_set():
+                raise OutOfTime
             said.seek(0)
             return ran.returncode, said.read().decode("utf-8", "replace").rstrip("\n").split("\n")
 

@@ -1,25 +1,67 @@
-"""The record: what was found of each crate's wrong bodies, with which toolchain, and a sum of all else that this rests on.
+"""The record: of each wrong body by which kind of clause it was refused, over which texts, with which toolchain, and at which commit.
 
-A line is `CRATE SUM TOOLCHAIN public=N private=N script=N law=N`. It is written where every wrong body of the crate is refused. The sum is of the
-crate's code, definitions and proofs, without comments and tests; of its edits; of what the crates below it state, and not of their bodies;
-and of the modules of this script that judge them, among which the one for definitions counts only where there are edits of these. A crate has a line for each toolchain with which the same texts were tried.
+A line of a trial is `CRATE own=SUM rest=SUM kit=KIT commit=COMMIT at=TIME`, and each line below it is `KIND EDIT SUM`, an edit that was refused in it, with a
+sum of its text. `own` is a sum of the crate's code, definitions and proofs, without comments and tests; `rest` is one of all else that a
+verdict rests on: what the crates below state, and not their bodies, and the modules of this script that judge. So each edit stands or
+falls by itself: one that is new or has another text is not tried, whatever stands beside it.
 """
 import functools
 import hashlib
 import json
 import re
 import subprocess
+import time
+from collections import Counter, defaultdict
+from enum import Enum
 from pathlib import Path
+from typing import NamedTuple
 
 from .crates import NAMED_PROOF
-from .laws import KINDS
+from .laws import TurnedDefinition
 
 JUDGING = ("sources", "crates", "edits", "prover", "kinds", "trying")
 JUDGING_TURNED = "laws"
 HEAD = """\
-# What tools/wrong_bodies.py found: CRATE, a sum of the texts that it rests on, the toolchain, and how many wrong bodies are refused
-# by a public clause, by a private clause, by a proof script, and by a law or a worked row. Written by the script: docs/gate.md says how.
+# What tools/wrong_bodies.py found. A line of a trial: CRATE, sums of its own texts and of all else that verdicts rest on, the toolchain, the commit,
+# the time. Below it the edits that were refused in it: by a public or a private clause, a proof script, a law or a worked row ("refused": before
+# the record told which), with a sum of the edit's text. Written by the script; docs/gate.md says more.
 """
+TRIAL = re.compile(r"(?P<crate>\w+) own=(?P<own>\w+) rest=(?P<rest>\w+) kit=(?P<kit>\S+) commit=(?P<commit>\S+) at=(?P<at>\S+)")
+REFUSED = re.compile(r"  (?P<kind>public|private|script|law|refused) (?P<edit>\S+) (?P<words>[0-9a-f]{8})")
+
+
+class Damaged(Exception):
+    """A line of the record that is none."""
+
+
+class Trial(NamedTuple):
+    """A trial of edits of a crate: sums of its own texts and of all else, the toolchain, the commit, and when."""
+
+    own: str
+    rest: str
+    kit: str
+    commit: str
+    at: str
+
+
+class Found(NamedTuple):
+    """What the record has of an edit: the word of the kind that refused it, a sum of its text, and the trial."""
+
+    kind: str
+    words: str
+    trial: Trial
+
+
+class Standing(Enum):
+    """How an edit stands. The worst comes first."""
+
+    CHANGED = "its own text or its crate's is another"
+    STALE = "only what its crate rests on is stated otherwise"
+    TRIED = "it was refused over the texts of today"
+
+
+def sum_of(parts, length=16):
+    return hashlib.sha256(json.dumps(parts, sort_keys=True).encode()).hexdigest()[:length]
 
 
 def toolchain():
@@ -27,16 +69,22 @@ def toolchain():
     return "-".join(subprocess.run(["rt", "version"], stdout=subprocess.PIPE, check=True, text=True).stdout.split())
 
 
-def sum_of(repository, crate):
-    """Returns the sum of all texts on which the verdicts of a crate's wrong bodies rest."""
-    own = {path: crate.sources.words(path) for path in crate.sources.texts}
-    logic = {**crate.logic("specs"), **crate.logic("proofs")}
-    edits = [(it.name, it.words, it.unreadable) for it in crate.edits]
-    judges = [text_of_module(it) for it in JUDGING]
-    below = [stated_to(crate, it) for it in repository.below(crate)]
-    turned = [[text_of_module(JUDGING_TURNED), [(it.name, it.words, it.unreadable) for it in crate.turned]]] if crate.turned else []
-    parts = [judges, crate.name, crate.uses, own, logic, edits, below, *turned]
-    return hashlib.sha256(json.dumps(parts, sort_keys=True).encode()).hexdigest()
+def commit_of(root):
+    """Returns the commit of a repository, with a `+` where its crates are not as that has them, or `none` outside one."""
+    git = lambda *words: subprocess.run(["git", "-C", str(root), *words], stdout=subprocess.PIPE, stderr=subprocess.DEVNULL, text=True).stdout.strip()
+    commit = git("rev-parse", "--short", "HEAD") or "none"
+    return f"{commit}+" if git("status", "--porcelain", "crates", "crates.txt") else commit
+
+
+def own_texts(crate):
+    """Returns a sum of the texts of a crate that can change a verdict."""
+    return sum_of([crate.name, crate.uses, {it: crate.sources.words(it) for it in crate.sources.texts}, crate.logic("specs"), crate.logic("proofs")])
+
+
+def other_texts(repository, crate, is_turned):
+    """Returns a sum of all other texts that can."""
+    judges = [text_of_module(it) for it in (*JUDGING, JUDGING_TURNED)[: None if is_turned else -1]]
+    return sum_of([judges, [stated_to(crate, it) for it in repository.below(crate)]])
 
 
 def text_of_module(name):
@@ -63,36 +111,97 @@ def stated_by(lower):
     return {it: lower.sources.stated(it) for it in lower.sources.texts}, lower.logic("specs")
 
 
+class Today:
+    """The texts of today, the toolchain, the commit and the time, and so the trial in which an edit would be tried now."""
+
+    def __init__(self, repository):
+        self.repository, self.kit, self.commit = repository, toolchain(), commit_of(repository.root)
+        self.at = time.strftime("%Y-%m-%dT%H:%M", time.gmtime())
+        self.sums = {}
+
+    def trial(self, edit):
+        crate, is_turned = edit.crate, isinstance(edit, TurnedDefinition)
+        if (crate.name, is_turned) not in self.sums:
+            self.sums[crate.name, is_turned] = (own_texts(crate), other_texts(self.repository, crate, is_turned))
+        return Trial(*self.sums[crate.name, is_turned], self.kit, self.commit, self.at)
+
+
 class Record:
-    """The file, a line for each crate and toolchain."""
+    """The file, and what it has of each edit with each toolchain."""
 
     def __init__(self, path):
-        self.path, self.lines = Path(path), {}
+        self.path, self.found = Path(path), {}
         self.read()
 
     def read(self):
-        rows = self.path.read_text("utf-8").splitlines() if self.path.is_file() else []
-        rows = [it.split() for it in rows if it.strip() and not it.startswith("#")]
-        counted = lambda counts: {kind: int(n) for kind, _, n in (it.partition("=") for it in counts)}
-        self.lines = {(name, version): (found, counted(counts)) for name, found, version, *counts in rows}
+        """Reads the file. Raises `Damaged` at a line that is none of its own."""
+        found, crate, trial = defaultdict(dict), "", None
+        for number, line in enumerate(self.path.read_text("utf-8", "replace").split("\n") if self.path.is_file() else [], 1):
+            head, edit = TRIAL.fullmatch(line), REFUSED.fullmatch(line)
+            if head:
+                crate, *words = head.groups()
+                trial = Trial(*words)
+            elif edit and trial:
+                found[crate, edit["edit"]][trial.kit] = Found(edit["kind"], edit["words"], trial)
+            elif line.strip() and not line.startswith("#"):
+                raise Damaged(f"{self.path}, line {number}: this is no line of a record: {line[:80]}")
+        self.found = found
 
-    def counts(self, name, version, found):
-        """Returns how many are refused by each kind, by its word, where the line's sum is the given one, and otherwise nothing."""
-        kept, counts = self.lines.get((name, version), ("", {}))
-        return counts if kept == found else None
+    def of(self, edit):
+        """Returns what it has of an edit, by the toolchain."""
+        return self.found.get((edit.crate.name, edit.short), {})
 
-    def put(self, tried, version, found, order):
-        """Writes what a toolchain found of a crate, or that nothing is known of it, where one of its edits is not refused. Lines of other
-        toolchains go where they are of other texts. The lines of other crates stay as the file has them now."""
+    def refused(self, edit, today):
+        """Returns what refused an edit over the texts of today, or nothing where that was not tried."""
+        found = self.of(edit).get(today.kit)
+        return found if found and is_of(found, edit, today.trial(edit)) else None
+
+    def last(self, edit):
+        """Returns the last trial of an edit over whichever texts, or nothing."""
+        return max((it.trial for it in self.of(edit).values()), key=lambda it: it.at, default=None)
+
+    def standing(self, edit, today):
+        if self.refused(edit, today):
+            return Standing.TRIED
+        trial, words = today.trial(edit), edit.sum()
+        is_same = any(it.words == words and it.trial.own == trial.own for it in self.of(edit).values())
+        return Standing.STALE if is_same else Standing.CHANGED
+
+    def put(self, edits, today):
+        """Notes what a run found of edits over the texts of today: which are refused. Of the others nothing is known any more. What other
+        toolchains found stays where it is of the same texts, and what the file has now of other edits."""
         self.read()
-        name = tried.crate.name
-        self.lines = {at: line for at, line in self.lines.items() if at[0] != name or at[1] != version and line[0] == found}
-        if not tried.failed():
-            self.lines[name, version] = (found, {kind.word: tried.refused(kind) for kind in KINDS})
-        self.write(order)
+        for edit in edits:
+            trial, at = today.trial(edit), (edit.crate.name, edit.short)
+            self.found[at] = {kit: it for kit, it in self.of(edit).items() if kit != trial.kit and is_of(it, edit, trial)}
+            if edit.verdict == "refused":
+                self.found[at][trial.kit] = Found(edit.kind.word, edit.sum(), trial)
+        self.write(today)
 
-    def write(self, order):
-        """Writes the lines of the crates that are given, in their order."""
-        rows = [(at, *self.lines[at]) for name in order for at in sorted(self.lines) if at[0] == name]
-        lines = [f"{name} {found} {version} " + " ".join(f"{kind}={n}" for kind, n in counts.items()) for (name, version), found, counts in rows]
-        self.path.write_text(HEAD + "".join(f"{it}\n" for it in lines), "utf-8")
+    def write(self, today):
+        """Writes the file: the crates in their order, of each how its edits stand, then its trials."""
+        lines = [HEAD.rstrip("\n")]
+        for crate in today.repository.crates.values():
+            edits, trials = sorted(crate.all_edits(), key=lambda it: it.short), defaultdict(list)
+            for edit in edits:
+                for it in self.of(edit).values():
+                    trials[it.trial].append(f"  {it.kind} {edit.short} {it.words}")
+            if edits:
+                lines.append(f"# {crate.name}: {self.told(edits, today)}")
+            for trial in sorted(trials, key=lambda it: (it.at, it)):
+                words = " ".join(f"{name}={value}" for name, value in trial._asdict().items())
+                lines += [f"{crate.name} {words}", *trials[trial]]
+        kept = self.path.with_name(f"{self.path.name}.new")
+        kept.write_text("\n".join([*lines, ""]), "utf-8")
+        kept.replace(self.path)
+
+    def told(self, edits, today):
+        """Returns how many edits were tried over the texts of today, and when the others were tried last."""
+        left = [it for it in edits if not self.refused(it, today)]
+        when = Counter(f"last at {trial.commit}" if trial else "never" for trial in map(self.last, left))
+        return ", ".join([f"{len(edits) - len(left)} of {len(edits)} tried over the texts of today", *(f"{n} {it}" for it, n in sorted(when.items()))])
+
+
+def is_of(found, edit, trial):
+    """Returns whether something was found of this text of an edit, over the texts of a trial."""
+    return (found.words, found.trial.own, found.trial.rest) == (edit.sum(), trial.own, trial.rest)

@@ -5,17 +5,19 @@ functions together, each against the contracts of those that it calls: a caller 
 proved, and says that a goal is not proved only of a goal of its own. So an edit is refused in a batch only where a goal of its own
 function, or arm, is not proved, and no goal of a function that no edit of the batch names. All else is tried alone.
 """
+import contextlib
 import tempfile
 from dataclasses import dataclass
 from pathlib import Path
 
+from .clock import OutOfTime
 from .kinds import Kind, strongest
-from .prover import CannotTry, Prover, build_below
+from .prover import CannotTry, How, Prover, build_below
 
 
 @dataclass
 class Tried:
-    """A crate's edits with their verdicts, and what trying them took."""
+    """Edits of a crate with their verdicts, and what trying them took."""
 
     crate: object
     edits: list
@@ -25,31 +27,31 @@ class Tried:
     def refused(self, kind=None):
         return sum(it.verdict == "refused" and kind in (None, it.kind) for it in self.edits)
 
+    def stale(self):
+        """Returns the edits that the run's time did not reach."""
+        return [it for it in self.edits if it.verdict == "STALE"]
+
     def failed(self):
-        return [it for it in self.edits if it.verdict != "refused"]
+        return [it for it in self.edits if it.verdict not in ("refused", "STALE")]
 
 
-def try_crate(repository, crate, is_proved, jobs=lambda: 1, said=None):
-    """Tries all edits of a crate. Unless the caller has just proved it, the edited functions are first checked as they stand. `jobs` says how
-    many processors a check may use. What each check said is kept in the folder `said`, where one is given."""
-    left = [it for it in crate.edits if not it.unreadable]
-    tried = Tried(crate, crate.edits)
-    if not left:
-        return tried
+def try_crate(repository, crate, edits, how=How()):
+    """Tries edits of a crate's code. Unless the caller has just proved it, the edited functions are first checked as they stand. Those that the
+    run's time does not reach stay stale."""
+    left = [it for it in edits if not it.unreadable]
     Path(crate.folder, "out").mkdir(exist_ok=True)
-    with tempfile.TemporaryDirectory(prefix="wrong-bodies-", dir=f"{crate.folder}/out") as room:
-        prover = Prover(repository, crate, room, jobs, said)
+    with tempfile.TemporaryDirectory(prefix="wrong-bodies-", dir=f"{crate.folder}/out") as room, contextlib.suppress(OutOfTime):
+        prover = Prover(repository, crate, room, how)
         try:
             build_below(repository, crate)
-            if not is_proved:
+            if not how.is_proved:
                 check_unedited(prover, left)
             for it in [*try_in_batches(prover, [it for it in left if it.functions]), *(it for it in left if not it.functions)]:
                 try_alone(prover, it)
         except CannotTry as error:
             for it in left:
                 it.fail("NOT TRIED", str(error))
-    tried.checks, tried.seconds = prover.checks, prover.seconds
-    return tried
+    return Tried(crate, edits, prover.checks, prover.seconds)
 
 
 def check_unedited(prover, edits):

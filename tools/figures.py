@@ -1,0 +1,123 @@
+#!/usr/bin/env python3
+"""Writes docs/figures.md: what is counted in the repository, and what was measured.
+
+    tools/figures.py                 writes the page
+    tools/figures.py --check         says where the page differs from what is counted now; the status is 1 then
+    tools/figures.py --seconds FILE  takes the processor seconds of a file of `tools/gate_times.py --keep` over into tools/figures.json, then writes the page
+
+What is counted: wrong bodies by crate, rows, tables and their cases, and what the programs that run cases print. What is measured lies in
+tools/figures.json: `runs`, whole commands with their minutes, which are written there by hand; `seconds`, by crate and kind, with the day.
+"""
+import json
+import re
+import sys
+import time
+from pathlib import Path
+
+sys.dont_write_bytecode = True
+
+from gate_times import KINDS, ROOMS, TOP, edits_by_crate, seconds_in  # noqa: E402
+
+PAGE, MEASURED = "docs/figures.md", "tools/figures.json"
+HEAD = """\
+# Figures
+
+This page is written by `tools/figures.py`. The gate fails where something that can be counted differs from it.
+"""
+
+
+def table(head, rows):
+    return ["| " + " | ".join(head) + " |", "|" + "---|" * len(head), *("| " + " | ".join(map(str, it)) + " |" for it in rows)]
+
+
+def runs_of(measured):
+    """The part on whole commands."""
+    rows = [[it["what"], it["day"], it["processors"], it["minutes"], it["processor minutes"], f"`{it['last line']}`"] for it in measured["runs"]]
+    return ["## What whole commands took", "", *table(["Command", "Day", "Processors", "Minutes", "Processor minutes", "Last line"], rows)]
+
+
+def crates_of(edits, measured):
+    """The part on crates: the processor seconds of each kind, and how many wrong bodies each has."""
+    took = {(crate, kind): seconds for crate, kind, seconds in measured["seconds"]}
+    rows = []
+    for crate, its in edits.items():
+        cells = [seconds_in(took.get((crate, it), 0)) for it in KINDS[:2]]
+        for room in ROOMS:
+            cells += [its[room] or "", seconds_in(took.get((crate, room), 0))]
+        rows.append([f"`{crate}`", *cells])
+    sums = [f"{sum(took.get((crate, it), 0) for crate in edits):.0f}" for it in KINDS]
+    counts = [sum(it[room] for it in edits.values()) for room in ROOMS]
+    rows.append(["all", *sums[:2], counts[0], sums[2], counts[1], sums[3]])
+    return [
+        "## Crates",
+        "",
+        f"Processor seconds, as read on {measured['day']} while other work went on beside it: of the crate's proof (of a program, with both of its compilations); of its second",
+        "proof, with its tests; of the wrong bodies in `must-fail/` and in `wrong/`, each with their number. Where nothing stands, nothing was read. A sum",
+        "has what was read of the crates above it.",
+        "",
+        *table(["Crate", "Proof", "With tests", "`must-fail/`", "", "`wrong/`", ""], rows),
+    ]
+
+
+def words_of(top, path):
+    """The lines of an index, without comments."""
+    file = Path(top, path)
+    return [it for it in file.read_text("utf-8").splitlines() if it and not it.startswith("#")] if file.is_file() else []
+
+
+def rows_of(top):
+    """The part on rows, tables and cases."""
+    rows, tables = words_of(top, "crates/rows/data/rows"), words_of(top, "crates/rows/data/tables")
+    cases = sum(int(it[1]) for it in (re.search(r": (\d+) as expected\Z", line) for line in words_of(top, "crates/rows/stdout")) if it)
+    counted = [
+        ["rows", len(rows)],
+        ["of these, at a start of Random that they name", sum("--random" in it for it in rows)],
+        ["tables", len(tables)],
+        ["cases of the tables", cases],
+    ]
+    found = ["## Rows and cases", "", "The program `rows` runs these:", "", *table(["What", "How many"], counted)]
+    for program in sorted(Path(top, "crates").glob("*/stdout")):
+        lines = [it for it in program.read_text("utf-8").splitlines() if re.search(r"as wanted|differ", it)]
+        if lines:
+            found += ["", f"The program `{program.parent.name}` says:", "", *(f"    {it}" for it in lines)]
+    return found
+
+
+def page(top=TOP):
+    """The page, of what stands now."""
+    measured = json.loads(Path(top, MEASURED).read_text("utf-8"))
+    parts = [runs_of(measured), crates_of(edits_by_crate(top), measured), rows_of(top)]
+    return "\n\n".join([HEAD.rstrip("\n"), *("\n".join(it) for it in parts)]) + "\n"
+
+
+def take_seconds(files, top=TOP):
+    """Takes over what was read of crates and kinds; what was read of others before stays."""
+    measured = json.loads(Path(top, MEASURED).read_text("utf-8"))
+    took = {(crate, kind): seconds for crate, kind, seconds in measured["seconds"]}
+    names = edits_by_crate(top)
+    for it in files:
+        took.update({(crate, kind): seconds for crate, kind, seconds in json.loads(Path(it).read_text("utf-8")) if crate in names})
+    measured["seconds"] = [[*it, took[it]] for it in sorted(took) if it[0] in names]
+    measured["day"] = time.strftime("%Y-%m-%d", time.gmtime())
+    lines = ",\n".join(f"    {json.dumps(it)}" for it in measured["seconds"])
+    runs = ",\n".join(f"    {json.dumps(it)}" for it in measured["runs"])
+    Path(top, MEASURED).write_text(f'{{\n  "day": "{measured["day"]}",\n  "runs": [\n{runs}\n  ],\n  "seconds": [\n{lines}\n  ]\n}}\n', "utf-8")
+
+
+def main(words, top=TOP):
+    if words == ["--check"]:
+        was, now = [Path(top, PAGE).read_text("utf-8") if Path(top, PAGE).is_file() else "", page(top)]
+        other = [f"{PAGE}: {line}" for line in was.splitlines() if line not in now.splitlines()] or [f"{PAGE} lacks lines"]
+        print("\n".join([] if was == now else [*other, "run tools/figures.py"]) or f"{PAGE} has what is counted")
+        return 0 if was == now else 1
+    if words[:1] == ["--seconds"] and words[1:]:
+        take_seconds(words[1:], top)
+    elif words:
+        print(__doc__)
+        return 1
+    Path(top, PAGE).write_text(page(top), "utf-8")
+    return 0
+
+
+if __name__ == "__main__":
+    sys.exit(main(sys.argv[1:]))

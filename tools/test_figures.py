@@ -1,0 +1,90 @@
+#!/usr/bin/env python3
+"""Tests of tools/figures.py, over a small repository in a folder of its own."""
+import contextlib
+import io
+import json
+import sys
+import tempfile
+import unittest
+from pathlib import Path
+
+sys.dont_write_bytecode = True
+
+from figures import main, page  # noqa: E402
+
+RUN = {"what": "`rt ci`", "day": "2026-11-26", "processors": 2, "minutes": 47, "processor minutes": 90, "last line": "9 passed, 0 failed"}
+FILES = {
+    "crates.txt": "low:\nhigh: low\n",
+    "crates/low/wrong/one.edit": "",
+    "crates/low/wrong/two.edit": "",
+    "crates/high/must-fail/one.edit": "",
+    "crates/high/stdout": "bus: 4 cases as wanted\nsaid\n",
+    "crates/rows/data/rows": "# a comment\na 0 b run\na 0 b run --random 8\n",
+    "crates/rows/data/tables": "a b c run\n",
+    "crates/rows/stdout": "a 0 b run: as expected\na 0 b run --random 8: as expected\na b c run: 17 as expected\n",
+    "tools/figures.json": json.dumps({"day": "2026-11-25", "runs": [RUN], "seconds": [["low", "proof", 12.3], ["low", "wrong", 7.0]]}),
+    "docs/none": "",
+}
+
+
+class Figures(unittest.TestCase):
+    def setUp(self):
+        self.room = tempfile.TemporaryDirectory(prefix="figures-test-")
+        self.addCleanup(self.room.cleanup)
+        for path, text in FILES.items():
+            Path(self.room.name, path).parent.mkdir(parents=True, exist_ok=True)
+            Path(self.room.name, path).write_text(text, "utf-8")
+
+    def main(self, *words):
+        with contextlib.redirect_stdout(io.StringIO()) as said:
+            status = main(list(words), self.room.name)
+        return status, said.getvalue()
+
+    def test_the_page_has_what_is_counted_and_what_was_measured(self):
+        lines = page(self.room.name).splitlines()
+        for line in (
+            "| `low` | 12 |  |  |  | 2 | 7 |",
+            "| `high` |  |  | 1 |  |  |  |",
+            "| all | 12 | 0 | 1 | 0 | 2 | 7 |",
+            "| rows | 2 |",
+            "| of these, at a start of Random that they name | 1 |",
+            "| tables | 1 |",
+            "| cases of the tables | 17 |",
+            "    bus: 4 cases as wanted",
+            "| `rt ci` | 2026-11-26 | 2 | 47 | 90 | `9 passed, 0 failed` |",
+        ):
+            self.assertIn(line, lines)
+        self.assertNotIn("    said", lines)
+
+    def test_a_page_that_was_just_written_is_right(self):
+        self.assertEqual((0, ""), self.main())
+        self.assertEqual((0, "docs/figures.md has what is counted\n"), self.main("--check"))
+
+    def test_a_count_that_differs_is_told(self):
+        self.main()
+        Path(self.room.name, "crates/low/wrong/three.edit").write_text("", "utf-8")
+        status, said = self.main("--check")
+        self.assertEqual(1, status)
+        self.assertIn("docs/figures.md: | `low` | 12 |  |  |  | 2 | 7 |\n", said)
+        self.assertTrue(said.endswith("run tools/figures.py\n"))
+
+    def test_a_page_that_is_missing_is_told(self):
+        self.assertEqual((1, "docs/figures.md lacks lines\nrun tools/figures.py\n"), self.main("--check"))
+
+    def test_seconds_are_taken_over_and_others_stay(self):
+        kept = Path(self.room.name, "kept")
+        kept.write_text(json.dumps([["low", "proof", 20.0], ["high", "with tests", 5.0], ["", "other", 3.0]]), "utf-8")
+        self.assertEqual((0, ""), self.main("--seconds", str(kept)))
+        lines = page(self.room.name).splitlines()
+        self.assertIn("| `low` | 20 |  |  |  | 2 | 7 |", lines)
+        self.assertIn("| `high` |  | 5 | 1 |  |  |  |", lines)
+
+    def test_other_words_are_refused(self):
+        for words in (["--seconds"], ["--wrong"]):
+            status, said = self.main(*words)
+            self.assertEqual(1, status)
+            self.assertIn("tools/figures.py --check", said)
+
+
+if __name__ == "__main__":
+    unittest.main()
