@@ -1,5 +1,5 @@
 #!/usr/bin/env python3
-"""Writes the files of crates/grants_cases/data/, each line with the answer of tools/grants_model.py, and its stdout.
+"""Writes the files of crates/part_cases/data/grants/, each line with the answer of tools/grants_model.py, and its lines of the crate's stdout.
 
 tools/test_grants_cases.py tests the model, and that the files are as this script writes them. stories.txt is written
 by hand, with its answers, and only tested.
@@ -14,7 +14,9 @@ sys.dont_write_bytecode = True
 from grants_model import Model, answer, is_page  # noqa: E402
 
 CALLS = ["grant", "give", "take", "drop", "revoke", "narrow", "end"]
-DATA = Path(__file__).resolve().parent.parent / "crates" / "grants_cases" / "data"
+CRATE = Path(__file__).resolve().parent.parent / "crates" / "part_cases"
+DATA = CRATE / "data" / "grants"
+OUTPUT = CRATE / "stdout"
 
 
 class File:
@@ -214,14 +216,17 @@ WRITTEN = {"refusals.txt": refusals, "sequences.txt": sequences, "many.txt": man
 
 
 def wanted_output(texts):
-    """What the program prints where no line of the files differs."""
-    output = ""
+    """What the program prints where no line of the files differs, in place of the lines that stand there of them."""
+    standing = OUTPUT.read_text().splitlines(keepends=True)
+    first = next(i for i, line in enumerate(standing) if line.startswith("grants/"))
+    others = [line for line in standing if not line.startswith("grants/")]
+    output = "".join(others[:first])
     for name, text in texts:
         verbs = [line.split()[0] for line in text.splitlines() if line.split("#")[0].strip()]
         calls = sum(verb in CALLS for verb in verbs)
         for buffer in ("searched", "indexed"):
-            output += f"{name}, {buffer} buffer: {calls} calls, {len(verbs) - calls} other lines, 0 differ\n"
-    return output
+            output += f"grants/{name}, {buffer} buffer: {calls} calls, {len(verbs) - calls} other lines, 0 differ\n"
+    return output + "".join(others[first:])
 
 
 def files():
@@ -229,7 +234,7 @@ def files():
     texts = {name: make().text() for name, make in WRITTEN.items()}
     told = {**texts, "stories.txt": (DATA / "stories.txt").read_text()}
     output = wanted_output((name, told[name]) for name in ("refusals.txt", "stories.txt", "sequences.txt", "many.txt"))
-    return {**{DATA / name: text for name, text in texts.items()}, DATA.parent / "stdout": output}
+    return {**{DATA / name: text for name, text in texts.items()}, OUTPUT: output}
 
 
 def main():

@@ -86,7 +86,7 @@ pub no_fault : (faults : List SourceFault) → length faults ≡ 0 → faults �
 no_fault [] h = refl
 no_fault (x ∷ xs) h = absurd (omega arith)
 
--- a list is not empty behind one more
+-- a list is not empty after one more
 pub none_with : (xs : List SourceFault) (x : SourceFault) → xs ++ (x ∷ []) ≡ [] → ⊥
 none_with [] x h = cc
 none_with (y ∷ ys) x h = cc

@@ -23,7 +23,7 @@ first_named name fs = find (λ f. bytes_eq f.name.now name) fs
 place_is : (places name : List ℕ) (n : ℕ) (f : Form) → (place_of places f.name.now == n) ≡ true → bytes_eq f.name.now name ≡ true → place_of places name ≡ n
 place_is places name n f at named = ap (place_of places) (sym ((bytes_eq-Decides f.name.now name).0 named)) ∙ eqb-true (place_of places f.name.now) n at
 
--- none of the forms behind a place is found by a name of that place
+-- none of the forms after a place is found by a name of that place
 none_behind : (places name : List ℕ) (n : ℕ) (fs : List Form) → are_keyed places n fs ≡ true → place_of places name < n → first_named name fs ≡ None
 none_behind places name n [] keyed less = refl
 none_behind places name n (f ∷ fs) keyed less =

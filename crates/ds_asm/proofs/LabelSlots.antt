@@ -74,7 +74,7 @@ put_other f q r (Some l ∷ w) (suc j) y new old found = elim (cases_Bool (has_n
   | inr other ↦ rw other (put_other f q r w j y new old (rw other at found))
 ]
 
--- The slots of a name behind a write.
+-- The slots of a name after a write.
 abbrev pub begin : ℕ → List (Option Entry) → List ℕ → ℕ
 begin f slots name = start_of f (length slots) (key_of_name f name)
 

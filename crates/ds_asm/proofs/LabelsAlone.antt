@@ -20,7 +20,7 @@ other k c outside inside = elim (cases_Bool (c == k)) [
 visible : (c : ℕ) → stands_in c ≡ true → is_blank c ≡ false
 visible c inside = rw (other 32 c refl inside, other 9 c refl inside, other 13 c refl inside) refl
 
--- what stands in no name stands behind the name
+-- what stands in no name stands after the name
 through : (k : ℕ) (cs ds : List ℕ) → stands_in k ≡ false → list_all stands_in cs ≡ true → position_or_len (λ b. b == k) (cs ++ ds) ≡ length cs + position_or_len (λ b. b == k) ds
 through k [] ds outside all = omega arith
 through k (c ∷ cs) ds outside all =
@@ -48,7 +48,7 @@ kept c cs inside =
     let front : without_front_blanks (c ∷ cs ++ 58 ∷ []) ≡ c ∷ cs ++ 58 ∷ [] = rw (visible c inside) refl in
     ap without_back_blanks front ∙ rw (ends (c ∷ cs)) (take_all _ (c ∷ cs ++ 58 ∷ []) (omega arith))
 
--- the name stands before the colon, and nothing behind it
+-- the name stands before the colon, and nothing after it
 colon : (name : List ℕ) → list_all stands_in name ≡ true → position_or_len (λ b. b == 58) (name ++ 58 ∷ []) ≡ length name
 colon name all = omega (arith, through 58 name (58 ∷ []) refl all)
 

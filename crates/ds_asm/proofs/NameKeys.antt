@@ -58,7 +58,7 @@ numbers_apart (c ∷ cs) (d ∷ ds) fit fits same =
     let letters = numbers_apart cs ds rest others (omega (arith, low, lower, same)) in
     rw (letter, letters) refl
 
--- the letters behind the first left ones of a short name
+-- the letters after the first left ones of a short name
 pub digits_low : (name : List ℕ) (left : ℕ) → ((i : ℕ) → get_or name i 0 < 256) → IsTrue (is_short name) → 0 < left → number_of_letters (drop left name) < limit 6
 digits_low name left fits short some =
     let (few, fit) = and_both (nat_lt (length name) 8) (list_all (λ letter. nat_lt letter 256) name) short in

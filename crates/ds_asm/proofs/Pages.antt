@@ -12,7 +12,7 @@ drop-min a xs = elim (cases_Bool (nat_lt a (length xs))) [
   | inr high ↦ let l = ltb-false a (length xs) high in let e : min a (length xs) ≡ length xs = omega arith in rw (e, drop_all (length xs) xs (omega arith), drop_all a xs l) refl
 ]
 
--- a prefix of a list with zeros behind it
+-- a prefix of a list with zeros after it
 front_padded : (n : ℕ) (xs : List ℕ) → take (min (length xs) n) xs ++ drop (min (length xs) n) (replicate n 0) ≡ take n (xs ++ replicate n 0)
 front_padded n xs = elim (cases_Bool (nat_lt n (length xs))) [
   | inl long ↦

@@ -14,7 +14,7 @@ use Rattle.ds_asm.specs.Slots.{Entry, entry_of, has_name, is_open, name_with, wi
 use Rattle.ds_asm.proofs.NameKeys.{key_is_not_0}
 use Rattle.ds_asm.proofs.LabelSlots.{Stands, begin, slot_stands}
 
--- The long names with more of them behind.
+-- The long names with more of them added.
 name_kept : (names more : List (List ℕ)) (n : ℕ) → n ≤ length names → name_with (names ++ more) n ≡ name_with names n
 name_kept names more zero h = refl
 name_kept [] more (suc n) h = absurd (omega arith)
@@ -35,7 +35,7 @@ numbers_kept names more slots all = λ k d h.
     let len = length-append names more in
     omega (arith, low, len)
 
--- the long names behind one more label
+-- the long names after one more label
 abbrev pub names_with : List (List ℕ) → List ℕ → List (List ℕ)
 names_with names name = names ++ (if is_short name then [] else name ∷ [])
 
@@ -105,7 +105,7 @@ pub name_past : {X : Type 0} (now : X → List ℕ) (xs : List X) (n : ℕ) → 
 name_past now xs zero some past = absurd (some refl)
 name_past now xs (suc n) some past = slice_get_past (map now xs) n (let len = length-map xs now in omega (arith, len, past))
 
--- What labels stand in slots behind a write.
+-- What labels stand in slots after a write.
 pub slot_written : (f : ℕ) (names : List (List ℕ)) (slots : List Slot) (other : List ℕ → Option ℕ) (labels : Labels) (name : List ℕ) (slot : Slot) (start place : ℕ) → slot.key ≡ key_of_name f name
     → slot.number ≡ (if is_short name then 0 else length (names_with names name)) → All (λ s. s.number ≤ length names) slots → start ≡ begin f (map (entry_of names) slots) name
     → position (is_open f name) (window_of f (map (entry_of names) slots) name) ≡ Some place → ((n : List ℕ) → Stands f (map (entry_of names) slots) other labels n)

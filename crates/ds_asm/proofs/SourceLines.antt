@@ -20,7 +20,7 @@ one_part p (x ∷ xs) h = elim (cases_Bool (p x)) [
   | inr e ↦ let k = rw e at h in rw (e, one_part p xs (omega arith)) refl
 ]
 
--- a piece stays where another stands behind it
+-- a piece stays where another stands after it
 keep_piece : (piece next : List ℕ) (rest : List (List ℕ)) → without_empty_last (piece ∷ next ∷ rest) ≡ piece ∷ without_empty_last (next ∷ rest)
 keep_piece [] next rest = refl
 keep_piece (b ∷ bs) next rest = refl
@@ -45,17 +45,17 @@ first_of p x xs = elim (cases_Bool (nat_lt (position_or_len p (x ∷ xs)) (lengt
       rw (one_part p (x ∷ xs) far, take_all (position_or_len p (x ∷ xs)) (x ∷ xs) far, drop_all (position_or_len p (x ∷ xs) + 1) (x ∷ xs) (omega arith)) refl
 ]
 
--- a text that isn't empty has its first line, and those of the text behind it
+-- a text that isn't empty has its first line, and those of the text after it
 pub lines_of-first : (text line behind : List ℕ) → (length text == 0) ≡ false → line ≡ before_first (λ b. b == 10) text → behind ≡ after_first (λ b. b == 10) text → lines_of text ≡ line ∷ lines_of behind
 lines_of-first [] line behind h p q = cc
 lines_of-first (x ∷ xs) line behind h p q = rw (p, q) (first_of (λ b. b == 10) x xs)
 
--- what is behind the first line is shorter
+-- what follows the first line is shorter
 pub behind_within : (n m : ℕ) (text behind : List ℕ) → behind ≡ after_first (λ b. b == 10) text → (length text == 0) ≡ false → n + length text ≤ m → n + 1 + length behind ≤ m
 behind_within n m [] behind q some within = cc
 behind_within n m (x ∷ xs) behind q some within = rw q (omega (arith, length-drop (position_or_len (λ b. b == 10) (x ∷ xs) + 1) (x ∷ xs)))
 
--- a fault stays the fault, whatever would come behind
+-- a fault stays the fault, whatever would follow
 pub fails_bind : {A B : Type 0} (e : AsmFault) (r : Result A SourceFault) (f : A → Result B SourceFault) → Fails e r → Fails e (r >>= f)
 fails_bind (asm.Source fault) r f p = ap (λ x. x >>= f) p
 fails_bind asm.Memory r f p = tt

@@ -78,7 +78,7 @@ held_address m name = address_or (other_address m name) (find (is_open m.factor 
 abbrev pub kept_address : code.Labels → List ℕ → Option ℕ
 kept_address m name = address_or (other_address m name) (find (has_name m.factor name) (window_of m.factor (entries_in m) name))
 
--- the labels are held, each with its address, none stands behind a free slot, and each slot's name is there
+-- the labels are held, each with its address, none stands after a free slot, and each slot's name is there
 pub record Holds (m : code.Labels) (labels : Labels) : Type 0 where
   pub each : (name : List ℕ) → held_address m name ≡ address_of labels name
   pub found : (name : List ℕ) → kept_address m name ≡ held_address m name

@@ -20,7 +20,7 @@ without_empty_last ([] ∷ []) = []
 without_empty_last ((b ∷ bs) ∷ []) = (b ∷ bs) ∷ []
 without_empty_last (piece ∷ next ∷ rest) = piece ∷ without_empty_last (next ∷ rest)
 
--- the lines of a text, each ended by a line feed, which may be missing behind the last
+-- the lines of a text, each ended by a line feed, which may be missing after the last
 abbrev pub lines_of : List ℕ → List (List ℕ)
 lines_of text = without_empty_last (slice_split (λ b. b == 10) text)
 

@@ -35,6 +35,6 @@ trimmed text = without_back_blanks (without_front_blanks text)
 abbrev pub until : ℕ → List ℕ → List ℕ
 until c text = before_first (λ b. b == c) text
 
--- what stands behind the first of these characters, if there is one
+-- what stands after the first of these characters, if there is one
 abbrev pub behind : ℕ → List ℕ → Option (List ℕ)
 behind c text = if nat_lt (position_or_len (λ b. b == c) text) (length text) then Some (after_first (λ b. b == c) text) else None

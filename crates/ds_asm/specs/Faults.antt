@@ -32,12 +32,12 @@ abbrev pub or_kept : Result Labels SourceFault → Labels → Labels
 or_kept (Ok more) labels = more
 or_kept (Err fault) labels = labels
 
--- the labels behind line n, whatever else is wrong in it
+-- the labels after line n, whatever else is wrong in it
 abbrev pub labels_past : ℕ → Option Line → Layout → Labels
 labels_past n None l = l.labels
 labels_past n (Some line) l = or_kept (labelled n l.size line.label l.labels) l.labels
 
--- the layout behind a good line; behind one at fault the image begins anew, so that a wrong place and
+-- the layout after a good line; after one at fault the image begins anew, so that a wrong place and
 -- too many bytes are told once
 abbrev pub layout_past : Result Layout SourceFault → Labels → Layout
 layout_past (Ok more) labels = more

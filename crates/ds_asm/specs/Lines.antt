@@ -25,7 +25,7 @@ unless_empty (c ∷ cs) = Some (c ∷ cs)
 abbrev pub mnemonic_of : List ℕ → List ℕ
 mnemonic_of text = before_first is_blank text
 
--- what stands behind the mnemonic and its blanks, if anything does
+-- what stands after the mnemonic and its blanks, if anything does
 abbrev pub behind_mnemonic : List ℕ → Option (List ℕ)
 behind_mnemonic text = unless_empty (without_front_blanks (drop (position_or_len is_blank text) text))
 
@@ -42,7 +42,7 @@ number_word None text = label_word text
 abbrev pub instruction_named : List ℕ → Option (List ℕ) → Option Instruction
 instruction_named name left = form_named name >>= (λ f. with_operands f.operands left (bare f.word))
 
--- the statement of a mnemonic and of what stands behind it
+-- the statement of a mnemonic and of what stands after it
 unfoldable pub statement_named : List ℕ → Option (List ℕ) → Option Statement
 statement_named name left =
     if bytes_eq name (codes ".word") then left >>= (λ text. number_word (number_of text) text)

@@ -11,7 +11,7 @@ decimal_of text = if nat_le 1 (length text) && nat_le (length text) 10 then digi
 abbrev pub hexadecimal_of : List ℕ → Option ℕ
 hexadecimal_of text = if nat_le 1 (length text) && nat_le (length text) 8 then digits_from 16 4294967295 0 text else None
 
--- a number without a sign: hexadecimal digits behind 0x, or decimal digits
+-- a number without a sign: hexadecimal digits after 0x, or decimal digits
 abbrev pub unsigned_of : List ℕ → Option ℕ
 unsigned_of text = if bytes_eq (take 2 text) (codes "0x") then hexadecimal_of (drop 2 text) else decimal_of text
 

@@ -58,7 +58,7 @@ with_label make text i = if is_name text then Some (with_target (make text) i) e
 abbrev pub before_close : List ℕ → Option (List ℕ)
 before_close text = if slice_index text (length text - 1) == 41 then Some (take (length text - 1) text) else None
 
--- an offset, and in parentheses behind it the register of the base
+-- an offset, and in parentheses after it the register of the base
 unfoldable pub with_indexed : Field → Field → List ℕ → Instruction → Option Instruction
 with_indexed base offset text i = do
   rest ← behind 40 text
@@ -92,7 +92,7 @@ is_link _ = false
 abbrev pub has_comma : List ℕ → Bool
 has_comma text = nat_lt (position_or_len (λ b. b == 44) text) (length text)
 
--- with what stands before the first comma; what stands behind it is left
+-- with what stands before the first comma; what stands after it is left
 abbrev pub with_first : Operand → List ℕ → Instruction → Option (Option (List ℕ) × Instruction)
 with_first o text i = option_map (λ next. (behind 44 text, next)) (with_operand o (trimmed (until 44 text)) i)
 

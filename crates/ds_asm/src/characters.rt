@@ -91,7 +91,7 @@ pub(crate) fn until(c: u8, text: &[u8]) -> &[u8]
     &text[..place]
 }
 
-/// What stands before the first character `c`, and behind it if there is one.
+/// What stands before the first character `c`, and after it if there is one.
 pub(crate) fn split_at_first(c: u8, text: &[u8]) -> (&[u8], Option<&[u8]>)
     ensures front { result.0.now ≡ until c text.now }
     ensures back { option_map (λ t. t.now) result.1 ≡ behind c text.now }

@@ -65,7 +65,7 @@ pub fn assemble_or_faults(alloc: Global, text: &[u8]) -> Result<Assembled, Alloc
     }
 }
 
-/// The first pass, which goes on behind a fault.
+/// The first pass, which goes on after a fault.
 #[inline(never)]
 fn first_pass(alloc: Global, text: &[u8]) -> Result<FirstPass<'_>, AllocError>
     ensures faults { IfOk result (λ p.

@@ -36,7 +36,7 @@ pub(crate) enum Operand {
     Branch,
     /// A label in reach of a jump.
     Jump,
-    /// A signed number, and the register of the base in parentheses behind it.
+    /// A signed number, and the register of the base in parentheses after it.
     Indexed,
 }
 

@@ -10,7 +10,7 @@ use crate::name_key::{is_short, key_of_name, start_of};
 use std::alloc::{AllocError, Global};
 use std::collections::BTreeMap;
 
-/// In how many slots, one behind the other, a name is looked for.
+/// In how many slots, one after the other, a name is looked for.
 const WINDOW: usize = 16;
 
 /// An odd number whose bits are in no order.
@@ -46,7 +46,7 @@ const FREE: Slot = Slot {
 };
 
 impl<'a> Labels<'a> {
-    /// No labels, and half as many slots again as a source has colons, since one stands behind each
+    /// No labels, and half as many slots again as a source has colons, since one stands after each
     /// label; but no more than one for each four of its characters.
     pub(crate) fn new(alloc: Global, text: &[u8]) -> Result<Labels<'a>, AllocError>
         ensures { IfOk result (λ labels. Holds labels []) }

@@ -164,7 +164,7 @@ fn statement_of(text: &[u8]) -> Option<Statement<'_>>
     statement_named(name, left)
 }
 
-/// The mnemonic of a statement, and what stands behind it, if anything does.
+/// The mnemonic of a statement, and what stands after it, if anything does.
 fn split_mnemonic(text: &[u8]) -> (&[u8], Option<&[u8]>)
     ensures name { result.0.now ≡ mnemonic_of text.now }
     ensures left { option_map (λ t. t.now) result.1 ≡ behind_mnemonic text.now }
@@ -186,7 +186,7 @@ fn mnemonic_len(text: &[u8]) -> usize
     text.iter().take_while(|c| !is_blank(**c)).count()
 }
 
-/// The statement of a mnemonic and of what stands behind it.
+/// The statement of a mnemonic and of what stands after it.
 #[tactic(auto, unfolding(crate::specs::Lines::statement_named))]
 fn statement_named<'a>(name: &[u8], left: Option<&'a [u8]>) -> Option<Statement<'a>>
     ensures { option_map plain_statement result

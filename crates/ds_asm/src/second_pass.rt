@@ -16,7 +16,7 @@ use crate::source::first_line;
 use std::alloc::{AllocError, Global};
 
 /// The bytes of a source that the first pass has laid out, or its first fault of the second pass. It
-/// ends where the image is whole: the lines behind have no bytes.
+/// ends where the image is whole: later lines have no bytes.
 pub(crate) fn bytes_of<'a>(
     alloc: Global,
     text: &'a [u8],

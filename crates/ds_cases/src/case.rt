@@ -3,14 +3,14 @@
 use ds_word::digit_of;
 use std::alloc::{AllocError, Global};
 
-/// What a case is expected to come to.
+/// What a case is expected to write, or why it is refused.
 #[derive(Debug, Drop)]
 pub enum Expected {
     /// Status 0, whatever is written.
     Done,
     /// Status 0, and this text on standard output.
     Writes(Vec<u8>),
-    /// Status 2, and this line on standard error, behind `dsmon: `.
+    /// Status 2, and this line on standard error, after `dsmon: `.
     Refused(String),
 }
 
@@ -54,7 +54,7 @@ fn is_skipped(line: &str) -> bool {
 }
 
 impl Case {
-    /// Takes a line behind the one of its name, if it may stand there.
+    /// Takes a line after the one of its name, if it may stand there.
     fn take_line(&mut self, alloc: Global, line: &str) -> Result<bool, AllocError> {
         match &mut self.expected {
             Some(Expected::Writes(text)) => push_line(text, line),
@@ -83,11 +83,11 @@ impl Case {
 enum Escape {
     /// None has begun.
     No,
-    /// Behind the backslash.
+    /// After the backslash.
     Begun,
-    /// Behind `\x`.
+    /// After `\x`.
     Byte,
-    /// Behind the first digit of a byte, which is this.
+    /// After the first digit of a byte, which is this.
     Digit(u64),
 }
 

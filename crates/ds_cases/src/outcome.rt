@@ -7,7 +7,7 @@ use std::fmt;
 /// What came of a row or a case.
 #[derive(Clone, Copy, Debug, PartialEq, Eq)]
 pub enum Outcome {
-    /// It came to what is expected.
+    /// It is as expected.
     AsExpected,
     /// It wrote something else: so many bytes are as expected, and the next is not.
     Differs(usize),
@@ -15,7 +15,7 @@ pub enum Outcome {
     Ended(u8),
     /// It wrote what is expected, and something to the other stream too.
     Spills,
-    /// Stations that are made of its files come to another text, or can't be made.
+    /// Stations that are made of its files write another text, or can't be made.
     StepsDiffer,
     /// A file that its line names can't be read.
     NoFile,

@@ -32,7 +32,7 @@ pub fn first_three<'a, 'b>(
     Some((*first, *second, *third, words))
 }
 
-/// The words of a command, behind the program's name.
+/// The words of a command, after the program's name.
 pub fn command_of(alloc: Global, words: &[&str]) -> Result<Vec<String>, AllocError>
     ensures { IfOk result (λ command. map string_bytes command.items
         ≡ codes "dsmon" ∷ map (λ w. w.now) words.now) }

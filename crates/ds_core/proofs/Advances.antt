@@ -1,4 +1,4 @@
--- Steps that enter no exception, one behind the other: a step more, two stretches joined, and a stretch of one step.
+-- Steps that enter no exception, one after the other: a step more, so many more, and one step alone.
 use Rattle.std.proofs.Common.{◌≡◌, ℕ, zero, suc, ◌+◌, ◌-◌, ◌<◌, ◌^◌, Bool, false, cond, refl, sym, ap, subst, ◌∙◌, arith, inl, inr, add-one}
 use Rattle.std.specs.Prelude.{◌≢◌, Option, Some, None, IsNone, IfSome}
 use Rattle.std.proofs.lemmas.Bool.{cases_lt}
@@ -38,7 +38,7 @@ comes_on n old h before advances here = λ k within. elim (cases_lt k n) [
       subst (λ (t : Hardware). t.core.pc < 2 ^ 32) (advances.state ∙ ap (λ (j : ℕ). after_steps j old) last) here
 ]
 
--- so many steps, and so many more behind them
+-- so many steps, and so many more after them
 pub after_both : (a b : ℕ) (h : Hardware) → after_steps (a + b) h ≡ after_steps b (after_steps a h)
 after_both a zero h =
     let e : a + zero ≡ a = omega arith in
@@ -47,7 +47,7 @@ after_both a (suc b) h =
     let e : a + suc b ≡ suc (a + b) = omega arith in
     ap (λ (n : ℕ). after_steps n h) e ∙ ap (λ (k : Hardware). left_by (step_of k)) (after_both a b h)
 
--- two stretches are one
+-- so many calm steps, and so many more, are calm steps
 pub advances_join : (a b : ℕ) (x y z : Hardware) → Advances a x y → Advances b y z → Advances (a + b) x z
 advances_join a b x y z first second = record {
   state = second.state ∙ (ap (after_steps b) first.state ∙ sym (after_both a b x));
@@ -61,10 +61,10 @@ advances_join a b x y z first second = record {
 }
 
 -- the event of a calm step, by where it leaves the slot
-event_by_slot : (e : Event) (before behind : Bool) → is_raised e ≡ false → Slots e before behind → cond behind Branched Retired ≡ e
-event_by_slot Retired before behind calm left = rw left refl
-event_by_slot Branched before behind calm left = rw (left.1) refl
-event_by_slot (Raised code) before behind calm left = absurd cc
+event_by_slot : (e : Event) (before after : Bool) → is_raised e ≡ false → Slots e before after → cond after Branched Retired ≡ e
+event_by_slot Retired before after calm left = rw left refl
+event_by_slot Branched before after calm left = rw (left.1) refl
+event_by_slot (Raised code) before after calm left = absurd cc
 
 with_event : (s : Step) (e : Event) (t : Hardware) → t ≡ left_by s → e ≡ s.event → record { event = e; core = t.core; bus = t.bus } ≡ s
 with_event s e t left is = rw (left, is) refl
@@ -77,7 +77,7 @@ calm_step n old new one advances =
     with_event (step_of old) (cond new.core.slot Branched Retired) new left
     (ap (λ (b : Bool). cond b Branched Retired) slot ∙ event_by_slot (step_of old).event old.core.slot (step_of old).core.slot calm (step_slots old.core old.bus))
 
--- a stretch of one step that entered no exception is that step
+-- where one step was taken and entered no exception, what it left is what that step leaves
 pub one_calm_step : (n : ℕ) (raised : Option ExceptionCode) (old new : Hardware) → raised ≡ None → (IsNone raised → n ≡ 1) → AdvancesTo n raised old new
     → record { event = cond new.core.slot Branched Retired; core = new.core; bus = new.bus } ≡ step_of old
 one_calm_step n None old new is one leads = calm_step n old new (one refl) leads
@@ -89,7 +89,7 @@ raised_step n code old new few leads =
     let before : leads.0 ≡ old = leads.1.state ∙ ap (λ (k : ℕ). after_steps k old) none in
     leads.2 ∙ ap step_of before
 
--- and one that entered an exception is that step
+-- and where the first entered an exception, what it left is what that step leaves
 pub one_raised_step : (n : ℕ) (raised : Option ExceptionCode) (code : ExceptionCode) (old new : Hardware) → raised ≡ Some code → IfSome raised (λ _. n < 1) → AdvancesTo n raised old new
     → record { event = Raised code; core = new.core; bus = new.bus } ≡ step_of old
 one_raised_step n None code old new is few leads = absurd cc

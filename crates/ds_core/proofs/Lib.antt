@@ -4,4 +4,4 @@ pub mod Slots
 pub mod Users
 pub mod Codes
 pub mod Wholes
-pub mod Sprints
+pub mod Stretches

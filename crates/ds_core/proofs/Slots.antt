@@ -22,13 +22,13 @@ use Rattle.ds_core.specs.Core.{CoreState, Step, branched, with_tick, trapped}
 use Rattle.ds_core.specs.Access.{reached, aligned_load, aligned_store, kept, load_answered, loaded_from, store_answered, stored_to}
 use Rattle.ds_core.specs.Coprocessor.{is_usable, unusable, usable, unit_of}
 use Rattle.ds_core.specs.Effect.{effect, fetch_answered, fetched_from, instruction, step}
-use Rattle.ds_core.specs.Ahead.{Hardware, Advances, step_of, after_steps, is_raised, owed_tick, ticks_behind, ticks}
+use Rattle.ds_core.specs.Ahead.{Hardware, Advances, step_of, after_steps, is_raised, owed_tick, ticks_after, ticks}
 
 -- how a step leaves the slot, by its event and where it began
 abbrev pub Slots : Event → Bool → Bool → Type 0
-Slots Retired before behind = behind ≡ false
-Slots Branched before behind = (before ≡ false) × (behind ≡ true)
-Slots (Raised code) before behind = Unit {0}
+Slots Retired before after = after ≡ false
+Slots Branched before after = (before ≡ false) × (after ≡ true)
+Slots (Raised code) before after = Unit {0}
 
 abbrev Leaves : Bool → Step → Type 0
 Leaves slot s = Slots s.event slot s.core.slot
@@ -91,16 +91,16 @@ by_interrupt c b false = by_fetch c b (reached c Fetch Word c.pc)
 pub step_slots : (c : CoreState) (b : BusState) → Leaves c.slot (step c b)
 step_slots c b = by_interrupt c b (is_pending c.system (lines b).0 (lines b).1)
 
-by_event : (e : Event) (before behind : Bool) → is_raised e ≡ false → Slots e before behind → ticks_behind e before + owed_tick behind ≡ 1 + owed_tick before
-by_event Retired before behind calm left = rw left (omega arith)
-by_event Branched before behind calm left = rw (left.0, left.1) refl
-by_event (Raised code) before behind calm left = absurd cc
+by_event : (e : Event) (before after : Bool) → is_raised e ≡ false → Slots e before after → ticks_after e before + owed_tick after ≡ 1 + owed_tick before
+by_event Retired before after calm left = rw left (omega arith)
+by_event Branched before after calm left = rw (left.0, left.1) refl
+by_event (Raised code) before after calm left = absurd cc
 
 counted : (n : ℕ) (h : Hardware) → ((k : ℕ) → k < n → is_raised (step_of (after_steps k h)).event ≡ false) → ticks n h + owed_tick (after_steps n h).core.slot ≡ n + owed_tick h.core.slot
 counted zero h calm = refl
 counted (suc n) h calm =
     let before : ticks n h + owed_tick (after_steps n h).core.slot ≡ n + owed_tick h.core.slot = counted n h (λ k below. calm k (omega arith)) in
-    let last : ticks_behind (step_of (after_steps n h)).event (after_steps n h).core.slot + owed_tick (after_steps (suc n) h).core.slot ≡ 1 + owed_tick (after_steps n h).core.slot =
+    let last : ticks_after (step_of (after_steps n h)).event (after_steps n h).core.slot + owed_tick (after_steps (suc n) h).core.slot ≡ 1 + owed_tick (after_steps n h).core.slot =
     by_event (step_of (after_steps n h)).event (after_steps n h).core.slot (after_steps (suc n) h).core.slot (calm n (omega arith)) (step_slots (after_steps n h).core (after_steps n h).bus) in
     omega (arith, before, last)
 

@@ -91,20 +91,20 @@ keeps_system c b shut calm = (by_interrupt c b (is_pending c.system (lines b).0 
 pub keeps_entries : (c : CoreState) (b : BusState) → is_usable c 0 ≡ false → is_raised (step c b).event ≡ false → (step c b).core.entries ≡ c.entries
 keeps_entries c b shut calm = (by_interrupt c b (is_pending c.system (lines b).0 (lines b).1) shut calm).1
 
-only_behind : (usable pending : Bool) → (not usable && not pending) ≡ true → (usable ≡ false) × (pending ≡ false)
-only_behind false false only = (refl, refl)
-only_behind false true only = never (sym only)
-only_behind true pending only = never (sym only)
+only_means : (usable pending : Bool) → (not usable && not pending) ≡ true → (usable ≡ false) × (pending ≡ false)
+only_means false false only = (refl, refl)
+only_means false true only = never (sym only)
+only_means true pending only = never (sym only)
 
 -- where only a device can interrupt, coprocessor 0 may not be used
 pub shuts_coprocessor : (c : CoreState) → only_devices_interrupt c ≡ true → is_usable c 0 ≡ false
-shuts_coprocessor c only = (only_behind (is_usable c 0) (is_pending c.system false false) only).0
+shuts_coprocessor c only = (only_means (is_usable c 0) (is_pending c.system false false) only).0
 
 -- and the program asks for nothing
 pub nothing_pends : (c : CoreState) → only_devices_interrupt c ≡ true → is_pending c.system false false ≡ false
-nothing_pends c only = (only_behind (is_usable c 0) (is_pending c.system false false) only).1
+nothing_pends c only = (only_means (is_usable c 0) (is_pending c.system false false) only).1
 
--- where only a device can interrupt, that is so behind a calm step
+-- where only a device can interrupt, that is so after a calm step
 pub stays_undisturbed : (c : CoreState) (b : BusState) (s : Step) → s ≡ step c b → is_raised s.event ≡ false → only_devices_interrupt c ≡ true → only_devices_interrupt s.core ≡ true
 stays_undisturbed c b s is calm only =
     let shut : is_usable c 0 ≡ false = shuts_coprocessor c only in

@@ -1,4 +1,4 @@
--- Many steps, one behind the other.
+-- Many steps, one after the other.
 use Rattle.std.specs.Prelude.{◌≡◌, ℕ, zero, suc, ◌+◌, ◌<◌, ◌≤◌, ◌^◌, Bool, true, false, if◌then◌else◌, Option, Some, None}
 use Rattle.ds_cp0.specs.declared.exception.ExceptionCode.{ExceptionCode}
 use Rattle.ds_dev.specs.Bus.{BusState}
@@ -40,13 +40,13 @@ pub record Advances (n : ℕ) (old new : Hardware) : Type 0 where
   pub state : new ≡ after_steps n old
   pub calm : (k : ℕ) → k < n → is_raised (step_of (after_steps k old)).event ≡ false
 
--- so many such steps, and behind them the one that enters the exception, if there is one
+-- so many such steps, and after them the one that enters the exception, if there is one
 abbrev pub AdvancesTo : ℕ → Option ExceptionCode → Hardware → Hardware → Type 0
 AdvancesTo n None old new = Advances n old new
 AdvancesTo n (Some code) old new = (h : Hardware) × Advances n old h
     × ((record { event = Raised code; core = new.core; bus = new.bus }) ≡ step_of h)
 
--- at each of so many steps, and behind the last, the program stands at an address of 32 bits
+-- at each of so many steps, and after the last, the program stands at an address of 32 bits
 abbrev pub ComesByWords : ℕ → Hardware → Type 0
 ComesByWords n h = (k : ℕ) → k ≤ n → (after_steps k h).core.pc < 2 ^ 32
 
@@ -54,14 +54,14 @@ ComesByWords n h = (k : ℕ) → k ≤ n → (after_steps k h).core.pc < 2 ^ 32
 abbrev pub owed_tick : Bool → ℕ
 owed_tick slot = if slot then 1 else 0
 
--- the ticks behind a step: one for an instruction that is done, and one for the branch if that began in its slot
-abbrev pub ticks_behind : Event → Bool → ℕ
-ticks_behind Retired slot = 1 + owed_tick slot
-ticks_behind Branched slot = 0
-ticks_behind (Raised code) slot = 0
+-- the ticks after a step: one for an instruction that is done, and one for the branch if that began in its slot
+abbrev pub ticks_after : Event → Bool → ℕ
+ticks_after Retired slot = 1 + owed_tick slot
+ticks_after Branched slot = 0
+ticks_after (Raised code) slot = 0
 
 -- the ticks of so many steps
 abbrev pub ticks : ℕ → Hardware → ℕ
 ticks zero h = 0
 ticks (suc n) h =
-    ticks n h + ticks_behind (step_of (after_steps n h)).event (after_steps n h).core.slot
+    ticks n h + ticks_after (step_of (after_steps n h)).event (after_steps n h).core.slot

@@ -43,11 +43,11 @@ system_reads c b n =
 abbrev pub indexed : System → ℕ
 indexed s = bits s.index 8 6
 
--- on behind an instruction that leaves these registers of the coprocessor
+-- on after an instruction that leaves these registers of the coprocessor
 abbrev pub with_system : CoreState → BusState → System → Step
 with_system c b s = at_next (record c { system = s }) b (settled c.registers)
 
--- on behind an instruction that writes EntryHi and EntryLo into a slot
+-- on after an instruction that writes EntryHi and EntryLo into a slot
 abbrev pub with_entry : CoreState → BusState → ℕ → Step
 with_entry c b slot = at_next (record c { entries = slice_set c.entries slot (entry_of c.system.entry_hi c.system.entry_lo) }) b (settled c.registers)
 

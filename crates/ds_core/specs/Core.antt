@@ -1,4 +1,4 @@
--- The processor as a record, and how it goes on behind an instruction or an exception (Kane and Heinrich, chapter 5).
+-- The processor as a record, and how it goes on after an instruction or an exception (Kane and Heinrich, chapter 5).
 use Rattle.std.specs.Prelude.{ℕ, ◌+◌, Bool, true, false, List, Option, Some, None}
 use Rattle.ds_word.specs.Word.{word}
 use Rattle.ds_isa.specs.Registers.{Registers, settled, written}
@@ -17,9 +17,9 @@ use Rattle.ds_core.specs.declared.event.Event.TheVariants.{Retired, Branched, Ra
 pub record CoreState : Type 0 where
   pub registers : Registers
   pub pc : ℕ
-  -- the address of the instruction behind pc
+  -- the address of the instruction after pc
   pub next : ℕ
-  -- pc stands right behind a branch or jump
+  -- pc stands right after a branch or jump
   pub slot : Bool
   pub system : System
   pub entries : List Entry
@@ -51,16 +51,16 @@ trapped c b code = at_vector c b (exception c code)
 abbrev pub core_at_next : CoreState → Registers → CoreState
 core_at_next c r = record c { registers = r; pc = c.next; next = word (c.next + 4); slot = false }
 
--- on behind the instruction
+-- on after the instruction
 abbrev pub at_next : CoreState → BusState → Registers → Step
 at_next c b r = record { event = Retired; core = core_at_next c r; bus = b }
 
--- the registers behind a branch, with the address behind its slot in the one that links
+-- the registers after a branch, with the address after its slot in the one that links
 abbrev pub with_link : Option ℕ → ℕ → Registers → Registers
 with_link None pc r = settled r
 with_link (Some n) pc r = written r n (behind_slot pc)
 
--- on into the slot, and behind it at the target
+-- on into the slot, and after it at the target
 abbrev pub branched_core : CoreState → Registers → ℕ → CoreState
 branched_core c r target = record c { registers = r; pc = c.next; next = target; slot = true }
 

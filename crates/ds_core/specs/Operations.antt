@@ -44,12 +44,12 @@ abbrev pub IsCalled : CoreState → Place → BusState → Type 0
 IsCalled c at b = (n : ℕ) → with_tick (trapped (placed n c at) b SystemCall) ≡ step (placed n c at) b
 
 -- the step at a position was done by an operation; or it is a system call, or is left, and nothing has changed
-abbrev pub Proceeds : Outcome → CoreState → Place → BusState → CoreState → Place → BusState → Type 0
-Proceeds Done c at b c2 at2 b2 = (at2.late ≡ None) × Steps event.Retired c at b c2 at2 b2
-Proceeds Loaded c at b c2 at2 b2 = Steps event.Retired c at b c2 at2 b2
-Proceeds Branched c at b c2 at2 b2 = (at2.late ≡ None) × Steps event.Branched c at b c2 at2 b2
-Proceeds Called c at b c2 at2 b2 = (c2 ≡ c) × (at2 ≡ at) × (b2 ≡ b) × IsCalled c at b
-Proceeds Left c at b c2 at2 b2 = (c2 ≡ c) × (at2 ≡ at) × (b2 ≡ b)
+abbrev pub HasOutcome : Outcome → CoreState → Place → BusState → CoreState → Place → BusState → Type 0
+HasOutcome Done c at b c2 at2 b2 = (at2.late ≡ None) × Steps event.Retired c at b c2 at2 b2
+HasOutcome Loaded c at b c2 at2 b2 = Steps event.Retired c at b c2 at2 b2
+HasOutcome Branched c at b c2 at2 b2 = (at2.late ≡ None) × Steps event.Branched c at b c2 at2 b2
+HasOutcome Called c at b c2 at2 b2 = (c2 ≡ c) × (at2 ≡ at) × (b2 ≡ b) × IsCalled c at b
+HasOutcome Left c at b c2 at2 b2 = (c2 ≡ c) × (at2 ≡ at) × (b2 ≡ b)
 
 -- so many steps lead from one position to another, each from an address of 32 bits, and nothing has changed that could interrupt them
 pub record LeadsOn (k : ℕ) (c : CoreState) (at : Place) (b : BusState) (c2 : CoreState) (at2 : Place) (b2 : BusState) : Type 0 where

@@ -21,7 +21,7 @@ registers_at c at = record c.registers { late = at.late }
 abbrev pub placed : ℕ → CoreState → Place → CoreState
 placed n c at = record c { registers = registers_at c at; pc = at.pc; next = at.next; slot = at.slot; random = passed 64 8 n c.random }
 
--- the position behind an operation that is done
+-- the position after an operation that is done
 abbrev pub at_next : Place → Place
 at_next at = record { pc = at.next; next = word (at.next + 4); slot = false; late = None }
 

@@ -29,7 +29,7 @@ bus_at_miss = bus.at_start (handler ++ (replicate (4096 + 0x40 - 36) 0 ++ bytes_
 abbrev table_page : Entry
 table_page = record { vpn = 0xC0001; asid = 1; pfn = 1; n = false; d = false; v = true; g = false }
 
--- the processor at the handler's first word, behind a load that missed
+-- the processor at the handler's first word, after a load that missed
 abbrev core_at_miss : CoreState
 core_at_miss = record {
   registers = record { general = 0 ∷ replicate 31 7; hi = 0; lo = 0; late = None };

@@ -32,7 +32,7 @@ bus_with words = bus.at_start (bytes_of_words words)
 abbrev general : CoreState → ℕ → ℕ
 general c n = slice_index c.registers.general n
 
--- a load is late for the instruction behind it, whose own write wins
+-- a load is late for the instruction after it, whose own write wins
 pub late : general (steps 2 (kernel 0x80000008) (bus_with (0x8D090000 ∷ 0x01202021 ∷ 0x55 ∷ []))) 4 ∷ general (steps 2 (kernel 0x80000008) (bus_with (0x8D090000 ∷ 0x24090001 ∷ 0x55 ∷ []))) 9 ∷ [] ≡ 7 ∷ 1 ∷ []
 late = refl
 
@@ -42,7 +42,7 @@ number Retired = 200
 number Branched = 100
 number (Raised code) = number_of code
 
--- a step's event, EPC, BadVAddr, EntryHi, Cause, Random and the address behind it
+-- a step's event, EPC, BadVAddr, EntryHi, Cause, Random and the address after it
 abbrev row : Step → List ℕ
 row s = number s.event ∷ s.core.system.epc ∷ s.core.system.bad_vaddr ∷ s.core.system.entry_hi ∷ s.core.system.cause ∷ s.core.random ∷ s.core.pc ∷ []
 

@@ -22,8 +22,8 @@ pub fn register_0_reads_0<L: Lookaside>(core: &Core<L>)
     let _pc = core.pc;
 }
 
-/// Two stretches of calm steps are one.
-pub fn stretches_join()
+/// So many calm steps, and so many more, are calm steps.
+pub fn advances_join()
     ensures { (a b : ℕ) (x y z : Hardware)
         → Advances a x y → Advances b y z → Advances (a + b) x z }
 {}

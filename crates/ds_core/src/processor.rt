@@ -11,7 +11,7 @@ mod operate;
 mod operations;
 mod position;
 mod registers;
-mod sprint;
+mod stretch;
 mod transfer;
 
 pub use ahead::Ahead;
@@ -32,9 +32,9 @@ pub struct Core<L: Lookaside> {
     /// The register whose load is late, from 1 to 31.
     pub late: Option<Late>,
     pub pc: u32,
-    /// Where the program goes on behind the instruction at `pc`.
+    /// Where the program goes on after the instruction at `pc`.
     pub next: u32,
-    /// `pc` stands right behind a branch or jump.
+    /// `pc` stands right after a branch or jump.
     pub slot: bool,
     pub cp0: Cp0,
     pub tlb: L,

@@ -20,7 +20,7 @@ in_user_mode = after_write at_start 12 0x03
 pub modes : reads (entered in_user_mode call) 12 ∷ reads (entered (entered in_user_mode call) call) 12 ∷ reads (returned (entered (entered in_user_mode call) call)) 12 ∷ reads (returned (returned (entered (entered in_user_mode call) call))) 12 ∷ [] ≡ 0x0C ∷ 0x30 ∷ 0x3C ∷ 0x3F ∷ []
 modes = refl
 
--- the registers behind that miss
+-- the registers after that miss
 abbrev after_miss : System
 after_miss = entered (after_write at_start 4 0xC0000000) missed
 

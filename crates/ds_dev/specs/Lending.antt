@@ -9,6 +9,6 @@ use Rattle.ds_dev.specs.contracts.bus.Bus.{the_row}
 abbrev pub with_memory : BusState → List ℕ → BusState
 with_memory b memory = record b { memory = memory }
 
--- the bus ends with the last bytes behind the loan as its memory
+-- the bus ends with the last bytes after the loan as its memory
 abbrev pub LendsMemory : MutBor BusState → MutBor (List ℕ) → Fml
 LendsMemory bus loan = Lends the_row memory_row bus loan (with_memory bus.now)

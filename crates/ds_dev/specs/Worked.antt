@@ -17,7 +17,7 @@ stored b a v = (store b a Word v).1
 abbrev read : BusState → ℕ → Answer
 read b a = (load b a Word).0
 
--- the bus behind that load
+-- the bus after that load
 abbrev after_read : BusState → ℕ → BusState
 after_read b a = (load b a Word).1
 
@@ -41,7 +41,7 @@ one_character = refl
 pub last_taken : (received (filled 63).serial 1 0x42).0 ∷ (received (filled 64).serial 1 0x42).0 ∷ [] ≡ true ∷ false ∷ []
 last_taken = refl
 
--- the next that is read says so, and the one behind it doesn't
+-- the next that is read says so, and the one after it doesn't
 pub overrun : read (filled 65) 0x1FE00008 ∷ read (after_read (filled 65) 0x1FE00008) 0x1FE00008 ∷ [] ≡ Ok 0xC142 ∷ Ok 0x8142 ∷ []
 overrun = refl
 

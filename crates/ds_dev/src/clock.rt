@@ -17,7 +17,7 @@ use std::marker::Model;
 /// The address of the clock's first register.
 const FIRST: u32 = 0x1fe8_0000;
 
-/// The address behind its last register.
+/// The address after its last register.
 const END: u32 = 0x1fe8_0100;
 
 /// The rate's address.

@@ -39,7 +39,7 @@ pub lives_err : {T : Type 0} (r : Result T GrantFault) (lives : Bool) (rest : Li
 lives_err (Ok x) lives rest is h = tt
 lives_err (Err x) lives rest is h = λ memory next. passed 12 (not lives) (rest memory next) (Err (number_of x)) (denied lives is) (h memory next)
 
--- what a grant comes to is what the room comes to, where the other tests don't hold
+-- the outcome of a grant is that of the test of room, where the other tests don't hold
 module _ (g : GrantsState) (p a : ℕ) (lives : lives_in g p ≡ true) (page : is_no_page a ≡ false) (free : has_right (entry_at g.table p a) ≡ false) where
   granted_as : (memory : List ℕ) (q : ℕ) (right : Right) (may_give : Bool) (rule : ℕ) (result : Result PageState ℕ)
       → (table_full (page_state g memory) p a or_else fifth_region (page_state g memory) p a or_else Ok (granted (page_state g memory) p a (record { right = right; page = Some q; rule = rule; give = may_give; giver = 0 }))) ≡ result
@@ -65,7 +65,7 @@ module _ (g : GrantsState) (p a : ℕ) (lives : lives_in g p ≡ true) (page : i
 abbrev as_done : PageState → Result PageState ℕ
 as_done s = Ok s
 
--- what a gift comes to, where the receiver lives and both addresses are those of pages
+-- the outcome of a give, where the receiver lives and both addresses are those of pages
 module _ (g : GrantsState) (caller addr receiver to mode : ℕ) (lives : lives_in g receiver ≡ true) (from : is_no_page addr ≡ false) (there : is_no_page to ≡ false) (memory : List ℕ) where
   what : Grant
   what = unwrap_or (entry_at g.table caller addr) no_grant
@@ -79,7 +79,7 @@ module _ (g : GrantsState) (caller addr receiver to mode : ℕ) (lives : lives_i
   abbrev pub later : Result PageState ℕ
   later = refused 15 (may_not_give (unwrap_or (entry_at g.table caller addr) no_grant) mode) or_else refused 16 (is_some (entry_at g.table receiver to)) or_else room
 
-  -- as the tests of the caller's entry, and those behind them
+  -- as the tests of the caller's entry, and those after them
   pub given_as : (result : Result PageState ℕ) → (not_page addr or_else no_right (page_state g memory) caller addr or_else later) ≡ result → give (lives_in g) (page_state g memory) caller addr receiver to mode ≡ result
   given_as result is =
       passed 12 (not (lives_in g receiver)) (not_page addr or_else not_page to or_else no_right (page_state g memory) caller addr or_else later) result (denied (lives_in g receiver) lives)
@@ -93,7 +93,7 @@ module _ (g : GrantsState) (caller addr receiver to mode : ℕ) (lives : lives_i
       passed 15 (may_not_give (unwrap_or (entry_at g.table caller addr) no_grant) mode) (refused 16 (is_some (entry_at g.table receiver to)) or_else room) result allowed
       (passed 16 (is_some (entry_at g.table receiver to)) room result free is)
 
-  -- as the tests of the room, behind the caller's entry
+  -- as the tests of the room, after the caller's entry
   pub room_as : (result : Result PageState ℕ) → ((memory : List ℕ) (next : Result PageState ℕ) → (not_page addr or_else no_right (page_state g memory) caller addr or_else next) ≡ next)
       → (grant : Grant) → entry_at g.table caller addr ≡ Some grant → may_not_give grant mode ≡ false → is_some (entry_at g.table receiver to) ≡ false → room ≡ result
       → give (lives_in g) (page_state g memory) caller addr receiver to mode ≡ result

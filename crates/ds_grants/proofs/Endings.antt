@@ -15,7 +15,7 @@ use Rattle.ds_grants.proofs.HolderCounts.{holders_fewer}
 use Rattle.ds_grants.proofs.Living.{fewer_state}
 use Rattle.ds_grants.proofs.Translations.{remove_buffer}
 
--- the grants behind the end of a process
+-- the grants after the end of a process
 abbrev pub without_process : GrantsState → ℕ → GrantsState
 without_process g p = record g { table = slice_set g.table (p - 1) []; ended = slice_set g.ended (p - 1) true }
 
@@ -82,7 +82,7 @@ all_forgotten_holds (e ∷ rest) entries numbers g h p low high one none elsewhe
     (λ q a live apart. elsewhere q a live apart ∙ sym (entry_at-without_entry g.table p e.address q a low live (λ (same : q ≡ p). absurd (apart same))))
     (remove_buffer entries numbers g p e.address low one k)
 
--- what a buffer may hold behind the end of a process
+-- what a buffer may hold after the end of a process
 pub end_buffer : (entries : List Entry) (numbers : ℕ → ℕ) (g : GrantsState) (p : ℕ) → 0 < p → p ≤ length g.table → IsOneSpace numbers → BufferHolds entries numbers g
     → BufferHolds (all_forgotten entries (entries_of g.table p)) numbers (without_process g p)
 end_buffer entries numbers g p low high one k =

@@ -1,4 +1,4 @@
--- A buffer holds at its start, and behind a fill by what is granted.
+-- A buffer holds at its start, and after a fill by what is granted.
 use Rattle.std.proofs.Common.{◌≡◌, ◌∙◌, refl, sym, ap, subst, ℕ, ◌+◌, ◌*◌, ◌%◌, ◌^◌, ◌==◌, ◌<◌, Bool, true, false, List, Option, Some, None, inl, inr, arith}
 use Rattle.std.specs.Prelude.{slice_get, slice_set, unwrap_or}
 use Rattle.std.proofs.lemmas.Bool.Decides.{nat_tests}
@@ -114,7 +114,7 @@ pub filled_buffer : (entries : List Entry) (numbers : ℕ → ℕ) (g : GrantsSt
 filled_buffer entries numbers g process vpn page slot grant k maps =
     written_buffer entries numbers g process vpn page (unwrap_or (find entries vpn 1) slot) grant k maps (λ j is. where_found slot j (find entries vpn 1) is)
 
--- a fill behind a miss, in any slot
+-- a fill after a miss, in any slot
 pub missed_buffer : (entries : List Entry) (numbers : ℕ → ℕ) (g : GrantsState) (process vpn page slot : ℕ) (grant : Grant) → BufferHolds entries numbers g → IsMappable numbers g process vpn page grant → find entries vpn 1 ≡ None
     → BufferHolds (slice_set entries slot (translation g vpn page grant.right)) numbers g
 missed_buffer entries numbers g process vpn page slot grant k maps none =

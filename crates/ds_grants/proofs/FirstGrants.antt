@@ -81,7 +81,7 @@ first_good policy good few = λ k d h. record {
   whole = All-weaker (IsFirst (length policy.pages)) IsWhole (λ e first. first.whole) (get_or (table_of policy) k d) (first_rows policy good k d h);
 }
 
--- a page behind those that are named isn't
+-- a page above those that are named isn't
 unnamed : (named page : ℕ) (o : Option ℕ) → named ≤ page → IfSome o (λ n. n < named) → names page o ≡ false
 unnamed named page None past within = refl
 unnamed named page (Some q) past within = let q_within : q < named = within in grind (arith, nat_tests)
@@ -115,7 +115,7 @@ no_holders : (processes page : ℕ) → holders_of (replicate processes []) page
 no_holders zero page = refl
 no_holders (suc processes) page = let rest = no_holders processes page in omega (arith, rest)
 
--- each of so many zeros is zero, as is what is behind them
+-- each of so many zeros is zero, as is what lies beyond them
 zero_at : (n page : ℕ) → slice_index (replicate n 0) page ≡ 0
 zero_at zero page = refl
 zero_at (suc n) zero = refl

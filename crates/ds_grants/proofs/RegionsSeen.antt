@@ -17,7 +17,7 @@ has a xs = list_any (λ b. b == a) xs
 abbrev pub regions_of : List Entry → List ℕ
 regions_of entries = map (λ e. region e.address) entries
 
--- what is behind a list is in it
+-- what follows in a list is in it
 has_behind : (a : ℕ) (xs ys : List ℕ) → has a ys ≡ true → has a (xs ++ ys) ≡ true
 has_behind a [] ys there = there
 has_behind a (x ∷ xs) ys there = elim (cases_Bool (x == a)) [ inl is ↦ rw is | inr other ↦ rw other (has_behind a xs ys there) ]

@@ -15,7 +15,7 @@ use Rattle.ds_grants.proofs.HolderCounts.{put_counts, remove_counts, end_counts,
 use Rattle.ds_grants.proofs.Living.{one_named, found_lives}
 use Rattle.ds_grants.specs.Free.{HasPage}
 
--- an entry in the place of another leaves as many, and one behind the others has room
+-- an entry in the place of another leaves as many, and one at the end has room
 put_length : (es : List Entry) (a : ℕ) (g : Grant) (before : ℕ) → before + length es ≤ 256 → (IsNone (found es a) → before + length es < 256) → before + length (put es a g) ≤ 256
 put_length [] a g before few room = let more = room refl in omega arith
 put_length (e ∷ es) a g before few room = elim (cases_Bool (e.address == a)) [

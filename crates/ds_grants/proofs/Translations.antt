@@ -1,4 +1,4 @@
--- What a buffer may hold behind a change of the table, and behind a write of one of its slots.
+-- What a buffer may hold after a change of the table, and after a write of one of its slots.
 use Rattle.std.proofs.Common.{◌≡◌, ◌≢◌, ◌∙◌, refl, sym, ap, subst, ℕ, ◌+◌, ◌*◌, ◌/◌, ◌^◌, ◌<◌, Bool, true, not, List, length-set, Option, Some, None, get_or, set, inl, inr, ◌⊎◌, arith}
 use Rattle.std.specs.Prelude.{slice_get, slice_set}
 use Rattle.std.proofs.lemmas.Bool.{cases_eq}

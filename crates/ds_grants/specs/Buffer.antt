@@ -42,7 +42,7 @@ pub record BufferHolds (entries : List Entry) (numbers : ℕ → ℕ) (g : Grant
 abbrev pub IsOneSpace : (ℕ → ℕ) → Type 0
 IsOneSpace numbers = (process : ℕ) → numbers process ≤ 1
 
--- what the buffer may hold before it may hold behind a change, whoever has the address space
+-- what the buffer may hold before it may hold after a change, whoever has the address space
 abbrev pub KeepsBuffer : List Entry → List Entry → GrantsState → GrantsState → Type 0
 KeepsBuffer old new before behind = (numbers : ℕ → ℕ) → IsOneSpace numbers
     → BufferHolds old numbers before → BufferHolds new numbers behind

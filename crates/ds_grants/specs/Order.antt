@@ -5,7 +5,7 @@ use Rattle.ds_policy.specs.declared.grant.Right.TheVariants.{Read}
 use Rattle.ds_policy.specs.Pages.{entries_of, entry_at, count_live}
 use Rattle.ds_policy.specs.Grants.{PageState, ◌or_else◌, refused, has_right, no_grant, region, count_distinct, may_not_give, granted, given, removed, live_only, give, take, drop_own, grant, narrow, revoke, drop_by_command}
 
--- what speaks against a call or a command
+-- the argument checks of a call or a command, as refusals
 pub record Tests : Type 0 where
   pub no_process : Bool
   pub not_page : Bool
@@ -17,7 +17,7 @@ pub record Tests : Type 0 where
   pub no_frames : Bool
   pub not_given : Bool
 
--- nothing speaks against it
+-- no check refuses it
 abbrev pub none : Tests
 none = record {
   no_process = false;

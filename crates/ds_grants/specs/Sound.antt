@@ -8,7 +8,7 @@ use Rattle.ds_policy.specs.Grants.{is_some_right}
 use Rattle.ds_grants.specs.Counts.{holders_of}
 use Rattle.ds_grants.specs.State.{GrantsState}
 
--- the list has of each page how many entries name it, and no entry names a page behind it
+-- the list has of each page how many entries name it, and no entry names a page beyond it
 abbrev pub AreCounted : Table → List ℕ → Type 0
 AreCounted table holders = (page : ℕ) → slice_index holders page ≡ holders_of table page
 

@@ -69,7 +69,7 @@ number_of Regions = 11
 number_of NoFrames = 18
 number_of NotGiven = 19
 
--- it came to the page state that was meant, or it was refused by the number that was meant and left
+-- its outcome is the page state that is meant, or it was refused by the number meant and left
 -- the page state
 abbrev pub Does : {R : Type 0} → PageState → PageState → Result R GrantFault
     → Result PageState ℕ → Type 0

@@ -1,4 +1,4 @@
-//! That a translation lookaside buffer holds at its start, and behind a fill.
+//! That a translation lookaside buffer holds at its start, and after a fill.
 ghost use Rattle.std.specs.Prelude.{◌≡◌, ℕ, ◌^◌, ◌<◌, true, false, List, slice_set, None};
 ghost use Rattle.ds_tlb.specs.declared.entry.Entry.{Entry};
 ghost use Rattle.ds_tlb.specs.Entries.{find, empty_entries};
@@ -15,8 +15,8 @@ pub fn an_empty_buffer_holds()
         → BufferHolds (empty_entries slots) numbers g }
 {}
 
-/// A buffer holds behind a fill too: with the entry of a page that is granted to the process that
-/// has the one address space, in the place of what it has for that page, or in any slot behind a
+/// A buffer holds after a fill too: with the entry of a page that is granted to the process that
+/// has the one address space, in the place of what it has for that page, or in any slot after a
 /// miss.
 pub fn a_filled_buffer_holds()
     ensures filled { (entries : List Entry) (numbers : ℕ → ℕ) (g : GrantsState)

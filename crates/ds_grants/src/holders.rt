@@ -48,7 +48,7 @@ pub(crate) fn release(holders: &mut [u32], page: Option<u32>)
     }
 }
 
-/// Counts the entries of a process at an address no more.
+/// Subtracts the entries of a process at an address from the counts.
 pub(crate) fn release_at(holders: &mut [u32], entries: &[Entry], addr: u32)
     requires { (page : ℕ) → holders_in page entries.now ≤ slice_index holders.old page }
     ensures fewer { (page : ℕ) → slice_index holders.new page + holders_at page addr entries.now
@@ -60,7 +60,7 @@ pub(crate) fn release_at(holders: &mut [u32], entries: &[Entry], addr: u32)
     }
 }
 
-/// Counts the entries of a process no more.
+/// Subtracts the entries of a process from the counts.
 pub(crate) fn release_all(holders: &mut [u32], entries: &[Entry])
     requires { (page : ℕ) → holders_in page entries.now ≤ slice_index holders.old page }
     ensures fewer { (page : ℕ) → slice_index holders.new page + holders_in page entries.now

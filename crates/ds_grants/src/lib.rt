@@ -3,6 +3,7 @@
 //! leaves all as it was.
 #![tactic(auto)]
 
+mod argument_checks;
 mod buffer_laws;
 mod calls;
 mod commands;
@@ -13,7 +14,6 @@ mod holders;
 mod order;
 mod regions;
 mod tally;
-mod tests_of_calls;
 mod translation;
 
 pub use buffer_laws::{a_filled_buffer_holds, a_translation_has_fields, an_empty_buffer_holds};

@@ -3,7 +3,7 @@ ghost use Rattle.std.specs.Prelude.{ℕ, Bool};
 ghost use Rattle.ds_policy.specs.Grants.{PageState};
 ghost use Rattle.ds_grants.specs.Order.{HaveOneOrder};
 
-/// Each call and command is refused by the first of the tests that speak against it, in the one
+/// Each call and command is refused by the first of the checks that apply, in the one
 /// order: no process, no page, no entry, not allowed, taken, no room in the table, a fifth region,
 /// no frame, not given.
 pub fn refusals_have_one_order()

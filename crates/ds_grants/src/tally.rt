@@ -61,7 +61,7 @@ impl Tally {
         release(&mut self.counts, page);
     }
 
-    /// Counts the entries of a process at an address no more.
+    /// Subtracts the entries of a process at an address from the counts.
     pub(crate) fn release_at(&mut self, entries: &[Entry], addr: u32)
         requires { (page : ℕ) → holders_in page entries.now ≤ slice_index self.old page }
         ensures fewer { (page : ℕ) → slice_index self.new page + holders_at page addr entries.now
@@ -71,7 +71,7 @@ impl Tally {
         release_at(&mut self.counts, entries, addr);
     }
 
-    /// Counts the entries of a process no more.
+    /// Subtracts the entries of a process from the counts.
     pub(crate) fn release_all(&mut self, entries: &[Entry])
         requires { (page : ℕ) → holders_in page entries.now ≤ slice_index self.old page }
         ensures fewer { (page : ℕ) → slice_index self.new page + holders_in page entries.now

@@ -59,7 +59,7 @@ barred_all w r fr (s ∷ rs) h =
     let parts = and_parts (apart r s) (list_all (apart r) rs) h in
     rw (barred w r s parts.0 fr) (barred_all w r fr rs parts.1)
 
--- each row is apart from those behind it
+-- each row is apart from those after it
 abbrev all_apart : List Row → Bool
 all_apart [] = true
 all_apart (r ∷ rs) = list_all (apart r) rs && all_apart rs

@@ -146,7 +146,7 @@ abbrev pub immediate : List ℕ → ℕ → Operand → (ℕ → ℕ → ℕ →
 immediate name n operand make = row name (major n []) (Register rt ∷ Register rs ∷ operand ∷ [])
     (λ at. make (at rt) (at rs) (at imm)) (λ at. straight (Some (at rs)) None (Some (at rt)))
 
--- a load of rt from the place at the immediate behind rs
+-- a load of rt from the place at rs plus the immediate
 abbrev pub load : List ℕ → ℕ → Size → (ℕ → ℕ → ℕ → Instr) → Row
 load name n size make = row name (major n []) (Register rt ∷ Indexed rs imm ∷ [])
     (λ at. make (at rt) (at rs) (at imm)) (λ at. loading size (Some (at rs)) None (Some (at rt)))
@@ -156,7 +156,7 @@ abbrev pub load_part : List ℕ → ℕ → (ℕ → ℕ → ℕ → Instr) → 
 load_part name n make = row name (major n []) (Register rt ∷ Indexed rs imm ∷ [])
     (λ at. make (at rt) (at rs) (at imm)) (λ at. loading Part (Some (at rs)) (Some (at rt)) (Some (at rt)))
 
--- a store of rt to the place at the immediate behind rs
+-- a store of rt to the place at rs plus the immediate
 abbrev pub store : List ℕ → ℕ → Size → (ℕ → ℕ → ℕ → Instr) → Row
 store name n size make = row name (major n []) (Register rt ∷ Indexed rs imm ∷ [])
     (λ at. make (at rt) (at rs) (at imm)) (λ at. storing size (Some (at rs)) (Some (at rt)))

@@ -13,7 +13,7 @@ use Rattle.ds_isa.specs.Registers.{Registers, read, settled, written, loaded}
 -- what an instruction does, or asks for
 pub data Effect : Type 0 where
   Goes : (after : Registers) → Effect
-  -- a branch or jump, behind whose slot the machine goes on at the target
+  -- a branch or jump, after whose slot the machine goes on at the target
   Branches : (after : Registers) (target : ℕ) → Effect
   -- for each aligned word in memory the registers after it
   Loads : (size : Size) (address : ℕ) (after : ℕ → Registers) → Effect
@@ -37,11 +37,11 @@ written_or_trap r n (Some v) = Goes (written r n v)
 abbrev pub with_hi_lo : Registers → ℕ × ℕ → Effect
 with_hi_lo r v = Goes (record r { hi = v.0; lo = v.1; late = None })
 
--- the address behind a branch and its slot
+-- the address after a branch and its slot
 abbrev pub behind_slot : ℕ → ℕ
 behind_slot pc = word (pc + 8)
 
--- the target of a taken branch, else the place behind the slot
+-- the target of a taken branch, else the place after the slot
 abbrev pub branch_target : Bool → ℕ → ℕ → ℕ
 branch_target taken pc i = if taken then word (pc + 4 + 4 * sign_extended 16 i) else behind_slot pc
 
@@ -53,7 +53,7 @@ jump_target pc target = word (pc + 4) / 2 ^ 28 * 2 ^ 28 + 4 * (target % 2 ^ 26)
 abbrev pub branches : Registers → Bool → ℕ → ℕ → Effect
 branches r taken pc i = Branches (settled r) (branch_target taken pc i)
 
--- the same, with the place behind the slot in register 31
+-- the same, with the place after the slot in register 31
 abbrev pub links_and_branches : Registers → Bool → ℕ → ℕ → Effect
 links_and_branches r taken pc i = Branches (written r 31 (behind_slot pc)) (branch_target taken pc i)
 

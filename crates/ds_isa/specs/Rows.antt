@@ -127,7 +127,7 @@ load_asks = refl
 abbrev pub late : Registers
 late = loaded before 9 65
 
--- addu $4,$9,$0 behind it reads the old 66 of register 9
+-- addu $4,$9,$0 after it reads the old 66 of register 9
 pub next_reads_old : meaning (instruction_of 0x0120_2021) 0x0040_0004 late ≡ Goes (written late 4 66)
 next_reads_old = refl
 
@@ -135,7 +135,7 @@ next_reads_old = refl
 pub then_reads_new : read (written late 4 66) 9 ≡ 65
 then_reads_new = refl
 
--- addiu $9,$0,1 behind it wins: register 9 is 1
+-- addiu $9,$0,1 after it wins: register 9 is 1
 pub next_write_wins : meaning (instruction_of 0x2409_0001) 0x0040_0004 late ≡ Goes (record late { general = slice_set late.general 9 1; late = None })
 next_write_wins = refl
 
@@ -179,7 +179,7 @@ jump_off_four = refl
 pub branch_to_itself : meaning (instruction_of 0x1000_FFFF) 0x0040_0008 before ≡ Branches (settled before) 0x0040_0008
 branch_to_itself = refl
 
--- bne $0,$0,. goes on behind its slot
+-- bne $0,$0,. goes on after its slot
 pub branch_not_taken : meaning (instruction_of 0x1400_FFFF) 0x0040_0008 before ≡ Branches (settled before) 0x0040_0010
 branch_not_taken = refl
 
@@ -239,7 +239,7 @@ unsigned_order = refl
 pub shift_copies_the_sign : meaning (instruction_of 0x0004_1103) 0 (two 0x8000_0010 0) ≡ Goes (written (two 0x8000_0010 0) 2 0xF800_0001)
 shift_copies_the_sign = refl
 
--- the registers behind a load of a word, if an effect is one
+-- the registers after a load of a word, if an effect is one
 abbrev pub loaded_from : ℕ → Effect → Option Registers
 loaded_from w e = elim e [ Goes _ ↦ None | Branches _ _ ↦ None | Loads _ _ after ↦ Some (after w) | Stores _ _ _ ↦ None | Faults _ ↦ None | Calls ↦ None | Privileged ↦ None ]
 
@@ -267,7 +267,7 @@ stores_left = refl
 pub stores_right : stored_over 0x4433_2211 (meaning (instruction_of 0xB909_0001) 0 merging) ≡ Some 0xBBCC_DD11
 stores_right = refl
 
--- lwl behind a load of its register merges with what was loaded
+-- lwl after a load of its register merges with what was loaded
 pub merges_with_the_late : loaded_from 0x4433_2211 (meaning (instruction_of 0x8909_0001) 0 late) ≡ Some (loaded late 9 0x2211_0041)
 merges_with_the_late = refl
 

@@ -19,7 +19,7 @@ pub struct Sources {
 /// What the effect of an instruction is like, whatever the registers hold.
 #[derive(Clone, Copy)]
 pub(crate) enum Shape {
-    /// It goes on behind the instruction, or traps on an overflow.
+    /// It goes on after the instruction, or traps on an overflow.
     Straight,
     /// A branch or a jump.
     Branch,
@@ -139,7 +139,7 @@ pub fn links(instr: &Instr) -> Option<u8>
     used_by(instr).links
 }
 
-/// Whether an instruction is a branch or a jump, behind which stands a delay slot.
+/// Whether an instruction is a branch or a jump, which a delay slot follows.
 #[inline(always)]
 pub fn is_branch(instr: &Instr) -> bool
     ensures { result ≡ is_branch (uses instr.now).shape }

@@ -12,7 +12,7 @@ use Rattle.ds_pagemap.specs.declared.turn.Turn.{Turn}
 use Rattle.ds_pagemap.specs.Machine.{State, first}
 use Rattle.ds_refinement.specs.Held.{Kept}
 use Rattle.ds_refinement.specs.Stands.{RunningBy, OnProcessor}
-use Rattle.ds_refinement.specs.Blocks.{GoesAhead}
+use Rattle.ds_refinement.specs.Blocks.{MayRunAhead}
 use Rattle.ds_refinement.proofs.Quieter.{quiet_until, user_status_of}
 use Rattle.ds_monitor.specs.Coming.{first_time, first_event, period_end}
 use Rattle.ds_kernel.specs.declared.parts.Parts.{Parts}
@@ -33,9 +33,9 @@ user_of : (queue : List ℕ) (c : CoreState) (k : Kept) (m : State) (spent : ℕ
 user_of [] c k m spent some raised is running = absurd (some refl)
 user_of (p ∷ rest) c k m spent some raised is running = user_by (is_user c.system) c.slot c p m spent raised is running.on
 
-pub goes_ahead : {L : Type 0} (p : Parts L) (limit : ℕ) → IsGood p → IsNonDecreasingBy has_time p.monitor.due.commands → IsNonDecreasingBy comes_at p.monitor.due.characters → p.monitor.owed ≡ None → p.monitor.ready ≢ [] → p.spent ≡ owed_tick p.core.slot
-    → p.monitor.time + limit + 1 < p.monitor.quiet_until → GoesAhead limit (held p)
-goes_ahead p limit good commands order owed ready spent early =
+pub may_run_ahead : {L : Type 0} (p : Parts L) (limit : ℕ) → IsGood p → IsNonDecreasingBy has_time p.monitor.due.commands → IsNonDecreasingBy comes_at p.monitor.due.characters → p.monitor.owed ≡ None → p.monitor.ready ≢ [] → p.spent ≡ owed_tick p.core.slot
+    → p.monitor.time + limit + 1 < p.monitor.quiet_until → MayRunAhead limit (held p)
+may_run_ahead p limit good commands order owed ready spent early =
     let user : is_user p.core.system ≡ true = user_of p.monitor.ready p.core (held p).kept good.sound.state p.spent ready (λ e. good.orderly.raised (ap not e)) spent good.sound.stands.running in record {
       owed = owed;
       ready = ready;
@@ -50,8 +50,8 @@ below_both a b t x y = elim (nat_le a b) as (λ (r : Bool). nat_le a b ≡ r →
   | false ↦ λ e. (let l : b ≤ a = grind (arith, nat_tests) in subst (λ (n : ℕ). t < n) (sym (min-eq_right l)) y)
 ] refl
 
--- where two instructions may go ahead, nothing comes up to the boundary behind them
-pub goes_two : {L : Type 0} (p : Parts L) → IsGood p → GoesAhead 2 (held p) → p.monitor.time + 2 + 1 < p.monitor.quiet_until
+-- where two instructions may run ahead, nothing comes up to the boundary behind them
+pub goes_two : {L : Type 0} (p : Parts L) → IsGood p → MayRunAhead 2 (held p) → p.monitor.time + 2 + 1 < p.monitor.quiet_until
 goes_two p good goes =
     let early : p.monitor.time ≤ 1000000001 = good.orderly.early in
     let last = p.monitor.time + 2 + 1 in

@@ -14,7 +14,7 @@ use Rattle.ds_refinement.specs.Told.{is_delayed}
 use Rattle.ds_refinement.specs.Held.{Held}
 use Rattle.ds_refinement.specs.Stands.{IsSound, user_status}
 use Rattle.ds_refinement.specs.Steps.{is_in_kernel, steps_left}
-use Rattle.ds_refinement.specs.Blocks.{moved, time_behind, with_block, with_exception, GoesAhead}
+use Rattle.ds_refinement.specs.Blocks.{moved, time_behind, with_block, with_exception, MayRunAhead}
 use Rattle.ds_refinement.proofs.Meets.{barred}
 use Rattle.ds_refinement.proofs.Joined.{path_join, path_sound}
 use Rattle.ds_refinement.proofs.BlockPaths.{block_is_path, raised_is_path, block_runs, raised_runs}
@@ -127,7 +127,7 @@ moved_alike : (h : Held) (hw : Hardware) (t t' s s' : ℕ) (o : Option Turn) →
 moved_alike h hw t t' s s' o e f g = ap₂ (λ (x y : ℕ). moved h hw x o y) e g ∙ ap (λ (x : Option Turn). moved h hw t' x s') f
 
 -- A block of at most so many instructions from the old parts.
-module _ {L : Type 0} (limit n : ℕ) (old : Parts L) (c : CoreState) (b : BusState) (passed spent : ℕ) (good : IsGood old) (goes : GoesAhead limit (held old)) (room : HasRoom 1 old.monitor) (in_time : old.monitor.time + limit + 1 ≤ 1000000000) (soon : old.monitor.time + limit + 3 ≤ old.monitor.quiet_until)
+module _ {L : Type 0} (limit n : ℕ) (old : Parts L) (c : CoreState) (b : BusState) (passed spent : ℕ) (good : IsGood old) (goes : MayRunAhead limit (held old)) (room : HasRoom 1 old.monitor) (in_time : old.monitor.time + limit + 1 ≤ 1000000000) (soon : old.monitor.time + limit + 3 ≤ old.monitor.quiet_until)
     (words : ComesByWords n (hardware_of old.core old.bus)) where
   abbrev new : Parts L
   new = counted old c b passed spent

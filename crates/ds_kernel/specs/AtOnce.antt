@@ -3,7 +3,7 @@ use Rattle.std.specs.Prelude.{◌≡◌, ℕ, ◌+◌, ◌-◌, ◌<◌, false, 
 use Rattle.ds_cp0.specs.System.{is_user}
 use Rattle.ds_core.specs.Ahead.{owed_tick}
 use Rattle.ds_refinement.specs.Told.{code_in, is_delayed}
-use Rattle.ds_refinement.specs.Blocks.{GoesAhead}
+use Rattle.ds_refinement.specs.Blocks.{MayRunAhead}
 use Rattle.ds_monitor.specs.Room.{HasLogRoom, HasRoom}
 use Rattle.ds_kernel.specs.declared.parts.Parts.{Parts}
 use Rattle.ds_kernel.specs.Parts.{held}
@@ -31,5 +31,5 @@ pub record IsAnswered {L : Type 0} (old new : Parts L) : Type 0 where
 -- a block of some instructions may begin, behind which a unit still begins before a time
 pub record MayGoOn {L : Type 0} (end : ℕ) (p : Parts L) : Type 0 where
   pub early : p.monitor.time + 1 < end
-  pub ahead : GoesAhead (end - p.monitor.time - 1) (held p)
+  pub ahead : MayRunAhead (end - p.monitor.time - 1) (held p)
   pub room : HasRoom 1 p.monitor

@@ -1,7 +1,7 @@
 //! Many instructions of a process at once, with one bookkeeping for all their units.
 ghost use Rattle.std.specs.Prelude.{◌≡◌, ◌<◌, ◌≤◌, ◌+◌, ◌-◌, min, ℕ, None, false, IfSome, IfErr, OnOk, OnErr, IsNone, IsSome};
 ghost use Rattle.ds_core.specs.Ahead.{hardware_of, AdvancesTo, ComesByWords, ticks, owed_tick};
-ghost use Rattle.ds_refinement.specs.Blocks.{GoesAhead};
+ghost use Rattle.ds_refinement.specs.Blocks.{MayRunAhead};
 ghost use Rattle.ds_refinement.specs.Services.{with_failure};
 ghost use Rattle.ds_monitor.specs.Room.{HasRoom};
 ghost use Rattle.ds_kernel.specs.Parts.{held};
@@ -31,7 +31,7 @@ impl<L: Lookaside> Parts<L> {
         owed_tick(self.core.slot)
     }
 
-    /// The most instructions that may go ahead in a run for n, if any may: the process is at the
+    /// The most instructions that may run ahead in a run for n, if any may: the process is at the
     /// beginning of its unit or in the slot of its branch, and each unit begins before n, and so
     /// early that no command is due behind it. An exception that waits has been counted in its unit,
     /// so none waits there.
@@ -39,11 +39,11 @@ impl<L: Lookaside> Parts<L> {
     pub(crate) fn may_run_ahead(&self, n: u64) -> Option<u32>
         requires good { IsGood self.now }
         requires few { n ≤ 1000000000 }
-        ensures ahead { IfSome result (λ limit. GoesAhead limit (held self.now)) }
+        ensures ahead { IfSome result (λ limit. MayRunAhead limit (held self.now)) }
         ensures some { IfSome result (λ limit. 1 ≤ limit) }
         ensures end { IfSome result (λ limit. self.now.monitor.time + limit + 1
             ≡ min n (self.now.monitor.quiet_until - 2)) }
-        ensures any { self.now.monitor.time + 1 < n → GoesAhead 2 (held self.now)
+        ensures any { self.now.monitor.time + 1 < n → MayRunAhead 2 (held self.now)
             → IsSome result }
     {
         if self.monitor.time >= n || self.monitor.owed.is_some() {
@@ -97,7 +97,7 @@ impl<L: Lookaside> Parts<L> {
 
     /// Takes so many instructions, or fewer and behind them one that raises an exception.
     #[inline(always)]
-    fn go_ahead(&mut self, limit: u32) -> Ahead
+    fn run_ahead(&mut self, limit: u32) -> Ahead
         requires slots { L.SLOTS ≡ 64 }
         requires wired { L.WIRED ≡ 8 }
         ensures all { IsNone result.raised → result.steps ≡ limit }
@@ -121,7 +121,7 @@ impl<L: Lookaside> Parts<L> {
         requires slots { L.SLOTS ≡ 64 }
         requires wired { L.WIRED ≡ 8 }
         requires good { IsGood self.old }
-        requires ahead { GoesAhead limit (held self.old) }
+        requires ahead { MayRunAhead limit (held self.old) }
         requires some { 1 ≤ limit }
         requires early { self.old.monitor.time + limit + 1 ≤ 1000000000 }
         requires before { self.old.monitor.time + limit + 3 ≤ self.old.monitor.quiet_until }
@@ -138,7 +138,7 @@ impl<L: Lookaside> Parts<L> {
         } }
     {
         let before = self.slot_tick();
-        let ahead = self.go_ahead(limit);
+        let ahead = self.run_ahead(limit);
         match ahead.raised {
             None => {
                 let left = self.slot_tick();

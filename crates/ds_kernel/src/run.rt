@@ -10,7 +10,7 @@ ghost use Rattle.ds_kernel.specs.Going.{GoesOn};
 ghost use Rattle.ds_kernel.specs.Halts.{Halts};
 ghost use Rattle.ds_kernel.specs.AtOnce.{MayGoOn};
 ghost use Rattle.ds_monitor.specs.Room.{HasLogRoom, HasRoom};
-ghost use Rattle.ds_refinement.specs.Blocks.{GoesAhead};
+ghost use Rattle.ds_refinement.specs.Blocks.{MayRunAhead};
 ghost use Rattle.ds_kernel.specs.Ran.{HasRun, WasCut};
 
 use crate::halt::Halt;
@@ -100,7 +100,7 @@ impl<L: Lookaside> Parts<L> {
         requires good { IsGood self.old }
         requires working { self.old.failed ≡ false }
         requires few { n ≤ 1000000000 }
-        requires ahead { GoesAhead limit (held self.old) }
+        requires ahead { MayRunAhead limit (held self.old) }
         requires some { 1 ≤ limit }
         requires end { self.old.monitor.time + limit + 1 ≡ end }
         requires within { end ≤ n }
@@ -125,7 +125,7 @@ impl<L: Lookaside> Parts<L> {
         requires good { IsGood self.old }
         requires working { self.old.failed ≡ false }
         requires few { n ≤ 1000000000 }
-        requires ahead { GoesAhead limit (held self.old) }
+        requires ahead { MayRunAhead limit (held self.old) }
         requires some { 1 ≤ limit }
         requires end { self.old.monitor.time + limit + 1 ≤ n }
         requires before { self.old.monitor.time + limit + 3 ≤ self.old.monitor.quiet_until }
@@ -143,7 +143,7 @@ impl<L: Lookaside> Parts<L> {
     /// A block of instructions where one may begin, with the service of the exception that ends it,
     /// or else one step.
     #[inline(always)]
-    fn advance(&mut self, n: u64) -> Result<(), Halt>
+    fn run_blocks_or_step(&mut self, n: u64) -> Result<(), Halt>
         requires slots { L.SLOTS ≡ 64 }
         requires wired { L.WIRED ≡ 8 }
         requires good { IsGood self.old }
@@ -190,7 +190,7 @@ impl<L: Lookaside> Parts<L> {
             return Err(Halt::Failed);
         }
         while self.goes_on(n) {
-            self.advance(n)?;
+            self.run_blocks_or_step(n)?;
         }
         Ok(())
     }

@@ -55,7 +55,7 @@ reverse_value : (at : ℕ) (label : Option (List ℕ)) → reverse (value_at at 
 reverse_value at None = refl
 reverse_value at (Some name) = refl
 
--- the labels behind a line, the oldest first
+-- the labels after a line, the oldest first
 behind_line : (at : ℕ) (label : Option (List ℕ)) (labels more : Labels) → more ≡ value_at at label ++ labels → reverse more ≡ reverse labels ++ value_at at label
 behind_line at label labels more h = ap reverse h ∙ (reverse-append (value_at at label) labels ∙ ap (λ vs. reverse labels ++ vs) (reverse_value at label))
 

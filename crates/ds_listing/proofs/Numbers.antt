@@ -50,7 +50,7 @@ then_chosen : (o : Option ℕ) (t : ℕ → Bool) (f g h : ℕ → Option ℕ) �
 then_chosen None t f g h e = refl
 then_chosen (Some d) t f g h e = ap (λ (r : Option ℕ). if t d then r else None) (e d) ∙ then_either (t d) (g d) h
 
--- a digit behind others
+-- a digit after others
 digit_behind : (base limit n : ℕ) (xs : List ℕ) (c : ℕ) → digits_from base limit n (xs ++ c ∷ []) ≡ option_and_then (λ m. digits_from base limit m (c ∷ [])) (digits_from base limit n xs)
 unfolding digits_from
 digit_behind base limit n [] c = refl

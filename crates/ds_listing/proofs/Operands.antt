@@ -131,7 +131,7 @@ operand_taken (Indexed base offset) at w fit h =
     let (a, b) = and_parts (base.width == 5) (offset.width == 16) h in
     indexed_taken base offset at w fit (eqb-true _ _ a) (eqb-true _ _ b)
 
--- one list of fields behind another
+-- one list of fields after another
 added-append : (fs gs : List Field) (at : Field → ℕ) (w : ℕ) → added (fs ++ gs) at w ≡ added gs at (added fs at w)
 added-append [] gs at w = refl
 added-append (f ∷ fs) gs at w = added-append fs gs at (word (w + at f % 2 ^ f.width * 2 ^ f.lo))
@@ -178,7 +178,7 @@ operand_clear (Indexed base offset) at fit =
     all_both is_clear (signed_text (at offset)) (40 ∷ register_text (at base) ++ 41 ∷ []) (signed_all is_clear refl refl (at offset) (omega arith))
     (all_both is_clear (register_text (at base)) (41 ∷ []) (register_all is_clear refl refl (at base) (omega arith)) refl)
 
--- the first operand of a text, where a comma stands behind it and where none does
+-- the first operand of a text, where a comma stands after it and where none does
 first_taken : (o : Operand) (at : Field → ℕ) (w : ℕ) (text : List ℕ) (left : Option (List ℕ)) → Fit at → AreWords at → is_plain o ≡ true → until 44 text ≡ operand_text at o → behind 44 text ≡ left
     → with_first o text (bare w) ≡ Some (left, bare (added (places o) at w))
 first_taken o at w text left fit words h u b =

@@ -34,7 +34,7 @@ passes q xs h = ap (prefix_len q) (sym (append-nil xs)) ∙ (let r = through q x
 abbrev pub is_other : ℕ → ℕ → Bool
 is_other c b = not (b == c)
 
--- what stands before a character and behind it
+-- what stands before a character and after it
 pub until_seam : (c : ℕ) (xs ys : List ℕ) → list_all (is_other c) xs ≡ true → (c == c) ≡ true → until c (xs ++ c ∷ ys) ≡ xs
 until_seam c xs ys h itself = rw (stops (is_other c) xs ys c h (ap not itself)) (take-append_seam xs (c ∷ ys))
 
@@ -58,7 +58,7 @@ until_none c xs h = rw (passes (is_other c) xs h) (take_all (length xs) xs (omeg
 pub behind_none : (c : ℕ) (xs : List ℕ) → list_all (is_other c) xs ≡ true → behind c xs ≡ None
 behind_none c xs h = let short : nat_lt (length xs) (length xs) ≡ false = le-ltb _ _ (omega arith) in rw (passes (is_other c) xs h, short) refl
 
--- no blanks stand at the end behind a text without them
+-- no blanks stand at the end after a text without them
 pub no_back_blanks : (xs : List ℕ) (y : ℕ) (ys : List ℕ) → list_all (λ c. not (is_blank c)) (y ∷ ys) ≡ true → suffix_len is_blank (xs ++ y ∷ ys) ≡ 0
 no_back_blanks xs y [] h =
     let (a, b) = and_parts (not (is_blank y)) true h in
@@ -74,7 +74,7 @@ trimmed_itself c cs f e =
     let same : without_front_blanks (c ∷ cs) ≡ c ∷ cs = rw f refl in
     ap without_back_blanks same ∙ (rw e (take_all (length (c ∷ cs) - 0) (c ∷ cs) (omega arith)))
 
--- and so it is with a blank behind it
+-- and so it is with a blank after it
 pub trimmed_blank : (c : ℕ) (cs : List ℕ) → is_blank c ≡ false → suffix_len is_blank (c ∷ cs) ≡ 0 → trimmed (c ∷ cs ++ 32 ∷ []) ≡ c ∷ cs
 trimmed_blank c cs f e =
     let same : without_front_blanks (c ∷ cs ++ 32 ∷ []) ≡ c ∷ cs ++ 32 ∷ [] = rw f refl in
@@ -109,7 +109,7 @@ body_line text b =
     ap (λ t. line_parts (trimmed t)) (until_none 35 text b.no_comment ∙ b.whole)
     ∙ (ap line_parts body ∙ (parts_of b.first b.others (ap (list_all (is_other 58)) (sym b.whole) ∙ b.no_label) ∙ ap (λ t. alone (statement_of t)) (sym b.whole)))
 
--- also with a comment behind it
+-- also with a comment after it
 pub commented_line : (text comment : List ℕ) → IsBody text → line_of (text ++ 32 ∷ 35 ∷ comment) ≡ alone (statement_of text)
 unfolding line_of
 commented_line text comment b =

@@ -38,7 +38,7 @@ operand_some (Branch f) at fit h = cc
 operand_some (Jump f) at fit h = cc
 operand_some (Indexed base offset) at fit h = omega (arith, length-append (signed_text (at offset)) (40 ∷ register_text (at base) ++ 41 ∷ []), signed_some (at offset) (fit offset))
 
--- its characters, with those of others behind commas
+-- its characters, with those of others after commas
 operand_inside : (o : Operand) (at : Field → ℕ) → AreWords at → list_all is_inside (operand_text at o) ≡ true
 operand_inside o at fit = all_weaker is_clear is_inside clear_inside (operand_text at o) (operand_clear o at fit)
 
@@ -54,7 +54,7 @@ pub filled_none : (fs : List Field) → filled fs [] ≡ 0
 filled_none [] = refl
 filled_none (f ∷ fs) = refl
 
--- what an instruction of a name says, with its text behind the name
+-- what an instruction of a name says, with its text after the name
 module _ (c : ℕ) (cs : List ℕ) (base w : ℕ) (os : List Operand) (found : form_named (c ∷ cs) ≡ Some (record { name = c ∷ cs; word = base; operands = os })) (mnemonic : is_mnemonic (c ∷ cs) ≡ true) where
   name_inside : list_all is_inside (c ∷ cs) ≡ true
   name_inside = let (a, b) = and_parts (list_all is_clear (c ∷ cs)) _ mnemonic in all_weaker is_clear is_inside clear_inside (c ∷ cs) a

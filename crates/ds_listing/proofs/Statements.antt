@@ -54,7 +54,7 @@ inside_front c cs h =
     let (a, b) = and_parts (is_inside c) (list_all is_inside cs) h in
     not-true (is_blank c) (inside_dense c a)
 
--- a name and what stands behind it are a body
+-- a name and what stands after it are a body
 pub name_body : (c : ℕ) (cs : List ℕ) → list_all is_inside (c ∷ cs) ≡ true → IsBody (c ∷ cs)
 name_body c cs h =
     let dense = all_weaker is_inside (λ b. not (is_blank b)) inside_dense (c ∷ cs) h in
@@ -83,7 +83,7 @@ operands_body c cs y ys h k =
       no_label = all_both (is_other 58) (c ∷ cs) (32 ∷ y ∷ ys) name.no_label behind.no_label;
     }
 
--- the mnemonic of such bodies, and what stands behind it
+-- the mnemonic of such bodies, and what stands after it
 pub statement_alone : (name : List ℕ) → list_all is_inside name ≡ true → statement_of name ≡ statement_named name None
 statement_alone name h =
     let dense = all_weaker is_inside (λ b. not (is_blank b)) inside_dense name h in

@@ -53,7 +53,7 @@ number_minus n l =
     let few = length-decimal-le 10 n (omega arith) (omega arith) (omega arith) in
     rw (decimal_digits (decimal n) (omega arith) few, decimal_read 9999999999 n (omega arith) l) refl
 
--- hexadecimal digits behind 0x
+-- hexadecimal digits after 0x
 pub number_hexadecimal : (ds : List ℕ) (n : ℕ) → 1 ≤ length ds → length ds ≤ 8 → digits_from 16 4294967295 0 ds ≡ Some n
     → number_of (48 ∷ 120 ∷ ds) ≡ Some (record { negative = false; magnitude = n })
 number_hexadecimal ds n some few e = rw (le-leb 1 (length ds) some, le-leb (length ds) 8 few, e) refl

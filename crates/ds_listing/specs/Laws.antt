@@ -1,4 +1,4 @@
--- What it is that a line says a word.
+-- What it means that a line says a word.
 use Rattle.std.specs.Prelude.{◌≡◌, ℕ, ◌%◌, true, not, ◌==◌, List, [], ◌∷◌, Option, Some, None, option_map, Ok, ⊤}
 use Rattle.std.specs.List.{list_all}
 use Rattle.ds_word.specs.Bytes.{bytes_of_word}

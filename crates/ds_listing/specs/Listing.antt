@@ -43,7 +43,7 @@ bytes_text (a ∷ b ∷ c ∷ d ∷ []) = hex2 d ++ (hex2 c ++ (hex2 b ++ hex2 a
 bytes_text (b ∷ []) = hex2 b
 bytes_text zeros = codes "00 x " ++ decimal (length zeros)
 
--- blanks before a text, or behind it, up to a width
+-- blanks before a text, or after it, up to a width
 abbrev pub blanks_before : ℕ → List ℕ → List ℕ
 blanks_before width text = replicate (width - length text) 32 ++ text
 
@@ -59,7 +59,7 @@ abbrev pub shown_text : ℕ → List ℕ → List ℕ
 shown_text at [] = replicate 20 32
 shown_text at (b ∷ bs) = address_text at ++ (codes "  " ++ blanks_behind 10 (bytes_text (b ∷ bs)))
 
--- what stands behind a line's number: nothing, where the line is empty
+-- what stands after a line's number: nothing, where the line is empty
 abbrev pub behind_number : Row → List ℕ → List ℕ
 behind_number r [] = []
 behind_number r (c ∷ cs) = codes "  " ++ (shown_text r.place r.bytes ++ (codes "  " ++ c ∷ cs))
@@ -77,7 +77,7 @@ label_text at (Some name) = address_text at ++ (codes "  " ++ (name ++ 10 ∷ []
 abbrev pub labels_text : List Row → List ℕ
 labels_text rows = codes "labels\n" ++ flat_map (λ r. label_text r.place r.label) rows
 
--- the lines, and behind them the labels
+-- the lines, and after them the labels
 abbrev pub rows_text : List Row → List ℕ
 rows_text rows = flat_map row_text rows ++ labels_text rows
 
@@ -94,7 +94,7 @@ abbrev pub EachIsTold : List Row → Type 0
 EachIsTold [] = ⊤
 EachIsTold (r ∷ rows) = IsTold r.bytes × EachIsTold rows
 
--- the lines of a listing have the bytes of the image, one line's behind the other's, and their texts
+-- the lines of a listing have the bytes of the image, one line's after the other's, and their texts
 -- tell them
 pub record Shows (rows : List Row) (image : List ℕ) : Type 0 where
   pub bytes : flat_map (λ r. r.bytes) rows ≡ image

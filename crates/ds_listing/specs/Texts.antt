@@ -49,11 +49,11 @@ operand_text at (Branch f) = distance_text ((at f + 1) % 65536)
 operand_text at (Jump f) = codes "0x" ++ hex8 (4 * at f)
 operand_text at (Indexed base offset) = signed_text (at offset) ++ (40 ∷ register_text (at base) ++ 41 ∷ [])
 
--- operands, each behind a comma
+-- operands, each after a comma
 abbrev pub others_text : (Field → ℕ) → List Operand → List ℕ
 others_text at os = flat_map (λ o. 44 ∷ operand_text at o) os
 
--- operands behind a blank, with commas between them
+-- operands after a blank, with commas between them
 abbrev pub operands_text : (Field → ℕ) → List Operand → List ℕ
 operands_text at [] = []
 operands_text at (o ∷ os) = 32 ∷ operand_text at o ++ others_text at os

@@ -29,7 +29,7 @@ distances : source_of (0x04118000 ∷ 0x14007FFF ∷ 0x1820FFFE ∷ [])
 unfolding text_of form_of hex4 hex8 is_label digits
 distances = refl
 
--- bytes that are left behind the words
+-- bytes that are left after the words
 bytes_left : source_of_bytes (0x41 ∷ 0x00 ∷ 0x04 ∷ 0x24 ∷ 0x0C ∷ 0x00 ∷ 0x00 ∷ 0x00 ∷ 0xFF ∷ 0x0A ∷ [])
     ≡ codes "addiu $4,$0,65\nsyscall\n.byte 0xFF\n.byte 0x0A\n"
 unfolding text_of form_of hex4 hex8 is_label digits

@@ -17,7 +17,7 @@ use itoa::Buffer;
 use std::alloc::{AllocError, Global};
 
 /// The listing of a source, or its first fault: each line with its number, and, where it has bytes,
-/// their address and the bytes; behind the lines each label with the value that the assembler gives
+/// their address and the bytes; after the lines each label with the value that the assembler gives
 /// it, in the order of the source.
 pub fn listing(alloc: Global, text: &[u8]) -> Result<Vec<u8>, AsmFault>
     ensures text { Assembles (λ v. v.items) result (listing_of text.now) }
@@ -108,7 +108,7 @@ fn said_by(line: &[u8]) -> SourceLine<'_>
     source_line(line)
 }
 
-/// So many bytes, or all where they are fewer, and what stands behind them.
+/// So many bytes, or all where they are fewer, and what stands after them.
 fn cut(bytes: &[u8], size: u64) -> (&[u8], &[u8])
     ensures front { result.0.now ≡ take size bytes.now }
     ensures behind { result.1.now ≡ drop size bytes.now }

@@ -12,7 +12,7 @@ use crate::law::a_word_is_read_back;
 use crate::operand::{has_label, is_left_out, push_operands};
 use std::alloc::AllocError;
 
-/// Adds the text of a word: its instruction as the assembler reads it, or its number behind `.word`
+/// Adds the text of a word: its instruction as the assembler reads it, or its number after `.word`
 /// where it has none. A branch or a jump is its number too, with the instruction in a comment, since
 /// the word alone has no label.
 #[tactic(auto, unfolding(crate::specs::Texts::text_of))]

@@ -30,7 +30,7 @@ pub(crate) enum Operand {
     Branch,
     /// The target of a jump.
     Jump,
-    /// A signed number, and the register of the base in parentheses behind it.
+    /// A signed number, and the register of the base in parentheses after it.
     Indexed,
 }
 
@@ -98,7 +98,7 @@ pub(crate) fn is_left_out(operands: &[Operand], word: u32) -> bool
     }
 }
 
-/// Adds operands behind a blank, with commas between them.
+/// Adds operands after a blank, with commas between them.
 pub(crate) fn push_operands(
     text: &mut String,
     operands: &[Operand],

@@ -16,10 +16,10 @@ const NUMBER_WIDTH: usize = 5;
 /// How wide the bytes of a line are at least.
 const BYTES_WIDTH: usize = 10;
 
-/// As many blanks as stand together before a number or behind bytes at most.
+/// As many blanks as stand together before a number or after bytes at most.
 const BLANKS: &[u8] = b"          ";
 
-/// What stands behind the number of a line that has no bytes.
+/// What stands after the number of a line that has no bytes.
 const NO_BYTES: &[u8] = b"                        ";
 
 /// A line of a source, with what it has of the image.
@@ -89,7 +89,7 @@ fn push_number(sheet: &mut Vec<u8>, buffer: &mut Buffer, number: u64) -> Result<
     sheet.extend_from_slice(digits)
 }
 
-/// Adds where bytes stand, and the bytes, with two blanks before and behind; blanks as wide where
+/// Adds where bytes stand, and the bytes, with two blanks before and after; blanks as wide where
 /// there are no bytes.
 fn push_shown(sheet: &mut Vec<u8>, place: u32, bytes: &[u8]) -> Result<(), AllocError>
     requires { place ≤ 65536 }

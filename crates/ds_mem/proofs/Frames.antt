@@ -59,7 +59,7 @@ part_before xs rest s at n below within =
     ∙ ap (drop s) (take-append-le (s + n) (take at xs) rest far ∙ take-take (s + n) at xs below)
     ∙ drop-take s n xs
 
--- the parts of a list behind what was replaced
+-- the parts of a list after what was replaced
 pub part_behind : (xs front : List ℕ) (s end n : ℕ) → length front ≡ end → end ≤ s → take n (drop s (front ++ drop end xs)) ≡ take n (drop s xs)
 part_behind xs front s end n size above =
     let e : end + (s - end) ≡ s = omega arith in

@@ -4,6 +4,6 @@ use Rattle.std.specs.Borrow.{Lends, MutBor, Fml, Array, u8}
 use Rattle.ds_mem.specs.Memory.{with_frame}
 use Rattle.ds_mem.specs.contracts.memory.Memory.{the_row}
 
--- memory ends with the last bytes behind the loan in the frame's place
+-- memory ends with the last bytes after the loan in the frame's place
 abbrev pub LendsFrame : MutBor (List ℕ) → ℕ → MutBor (List ℕ) → Fml
 LendsFrame memory f loan = Lends the_row (Array u8 0) memory loan (with_frame memory.now f)

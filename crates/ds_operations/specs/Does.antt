@@ -12,7 +12,7 @@ use Rattle.ds_operations.specs.declared.operation.OperationKind.{OperationKind}
 use Rattle.ds_operations.specs.declared.operation.OperationKind.TheVariants as kind
 use Rattle.ds_operations.specs.declared.operation.Operation.{Operation}
 
--- the target of a taken branch at its distance, else the place behind its slot
+-- the target of a taken branch at its distance, else the place after its slot
 abbrev pub target_by : Bool → ℕ → ℕ → ℕ
 target_by taken pc distance = if taken then word (pc + distance) else behind_slot pc
 
@@ -20,7 +20,7 @@ target_by taken pc distance = if taken then word (pc + distance) else behind_slo
 abbrev pub branches_by : Registers → Bool → ℕ → ℕ → Effect
 branches_by r taken pc distance = Branches (settled r) (target_by taken pc distance)
 
--- the same, with the place behind the slot in a register
+-- the same, with the place after the slot in a register
 abbrev pub links_by : Registers → ℕ → Bool → ℕ → ℕ → Effect
 links_by r d taken pc distance = Branches (written r d (behind_slot pc)) (target_by taken pc distance)
 

@@ -1,4 +1,4 @@
-//! Instructions as flat operations of eight bytes, for a processor that does many one behind the
+//! Instructions as flat operations of eight bytes, for a processor that does many one after the
 //! other: register numbers are below 32 by their types, and immediates are extended already.
 #![tactic(auto)]
 

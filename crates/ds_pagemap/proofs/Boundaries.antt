@@ -204,7 +204,7 @@ pub boundary_log : (m : State) → Extends m.log (boundary m).log
 unfolding boundary
 boundary_log m = owed_boundary-log m.owed m
 
--- and none is owed behind it
+-- and none is owed after it
 pub boundary_owed : (m : State) → (boundary m).owed ≡ None
 unfolding boundary
 boundary_owed m = owed_boundary-owed m.owed m refl

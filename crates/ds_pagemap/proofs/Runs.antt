@@ -8,7 +8,7 @@ half_touched : (b : Bool) (m : State) → half_turn b (touched true m) ≡ half_
 unfolding half_turn
 half_touched b m = rw (touched_again b m, touch_first-owed m m.ready) refl
 
--- a touch counts as that of the half turn behind it
+-- a touch counts as that of the half turn after it
 pub half_after_touch : (b c : Bool) (m : State) → (d : Bool) × (half_turn b (touched c m) ≡ half_turn d m)
 half_after_touch b true m = (true, half_touched b m)
 half_after_touch b false m = (b, refl)

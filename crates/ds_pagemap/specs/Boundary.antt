@@ -40,7 +40,7 @@ abbrev pub is_first : Option ℕ → ℕ → Bool
 is_first None p = false
 is_first (Some q) p = q == p
 
--- the process that ran goes behind the others, if it is still first
+-- the process that ran goes to the end of the list, if it is first
 abbrev pub rotated : State → Option ℕ → State
 rotated m None = m
 rotated m (Some p) = if is_first (first m.ready) p then made_ready m p else m

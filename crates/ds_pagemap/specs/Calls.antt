@@ -84,7 +84,7 @@ abbrev pub after_wait : State → ℕ → List ℕ → State
 after_wait m p [] = made_unready m p Waiting
 after_wait m p (byte ∷ rest) = m
 
--- the call of a process that stands behind it; pc is the call's own address
+-- the call of a process that stands after it; pc is the call's own address
 abbrev pub served : State → ℕ → ℕ → Call → State
 served m p pc call.Exit = ended m p
 served m p pc (call.Put byte) = answered (after_put m p byte) p 0

@@ -12,7 +12,7 @@ use Rattle.ds_pagemap.specs.Machine.{State}
 abbrev pub GrowsByALineAtMost : List Line → List Line → Type 0
 GrowsByALineAtMost old new = (new ≡ old) ⊎ ((line : Line) × (new ≡ old ++ line ∷ []))
 
--- the list with more behind it
+-- the list with more after it
 pub record Extends (old new : List Line) : Type 0 where
   pub more : List Line
   pub is : new ≡ old ++ more

@@ -80,7 +80,7 @@ logged m line = record m { log = m.log ++ line ∷ [] }
 abbrev pub without : List ℕ → ℕ → List ℕ
 without ready p = filter (λ q. not (q == p)) ready
 
--- the process ready, behind all others
+-- the process ready, at the end of the list
 abbrev pub made_ready : State → ℕ → State
 made_ready m p = record (with_process m p (record (process_of m p) { standing = Ready })) { ready = without m.ready p ++ p ∷ [] }
 

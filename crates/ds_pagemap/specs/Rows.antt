@@ -236,7 +236,7 @@ two rate = record {
 abbrev waits_and_puts : ℕ → String → List String
 waits_and_puts n digit = replicate n "nop" ++ digit ∷ "addiu $2,$0,1" ∷ "syscall" ∷ "addiu $2,$0,0" ∷ "syscall" ∷ []
 
--- process 1 puts 1 behind 35 words of nop, process 2 puts 2 at once
+-- process 1 puts 1 after 35 words of nop, process 2 puts 2 at once
 abbrev one_and_two : ℕ → State
 one_and_two rate = first_state (two rate) (image_or_none (assembled (source (waits_and_puts 35 "addiu $4,$0,49"))) ∷ image_or_none (assembled (source (waits_and_puts 0 "addiu $4,$0,50"))) ∷ []) (record { commands = []; characters = [] })
 

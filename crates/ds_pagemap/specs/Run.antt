@@ -21,12 +21,12 @@ goes_on n m = is_some m.owed || (nat_lt m.time n && not (is_over m))
 abbrev pub go : ℕ → Bool → State → State
 go n touch m = if goes_on n m then half_turn touch m else m
 
--- what a run for n ticks has come to by these choices, the newest first
+-- the state of a run for n ticks after these choices, the newest first
 unfoldable pub after : ℕ → List Bool → State → State
 after n [] m = m
 after n (touch ∷ earlier) m = go n touch (after n earlier m)
 
--- A run for n ticks from m may come to t. The process that runs next may be touched already.
+-- A run for n ticks from m may reach t. The process that runs next may be touched already.
 pub record Reaches (n : ℕ) (m t : State) : Type 0 where
   pub choices : List Bool
   pub early : Bool

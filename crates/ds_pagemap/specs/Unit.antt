@@ -29,7 +29,7 @@ pub record Stop : Type 0 where
   pub rule : Rule
   pub code : ℕ
 
--- what one instruction came to
+-- the outcome of one instruction
 pub data Outcome : Type 0 where
   Went : (after : State) → Outcome
   Branched : (after : State) (target : ℕ) → Outcome
@@ -69,7 +69,7 @@ stored m page offset after =
 abbrev pub fault : ℕ → ℕ → Stop
 fault pc code = record { kind = denied.Exec; address = pc; rule = I; code = code }
 
--- what an instruction's effect comes to
+-- the outcome of an instruction's effect
 abbrev pub done : State → ℕ → ℕ → Effect → Outcome
 done m p pc (Goes after) = Went (with_registers m p after)
 done m p pc (Branches after target) = Branched (with_registers m p after) target
@@ -96,20 +96,20 @@ abbrev pub parked : State → ℕ → ℕ → ℕ → Stop → State
 parked m p unit pc stop =
     ticked 1 (logged (at_pc (settle (made_unready m p Parked) p) p unit) (Denial m.time p pc stop.kind stop.address stop.rule stop.code))
 
--- what came of the slot at pc behind the branch at unit; m is the state before the slot
+-- the outcome of the slot at pc after the branch at unit; m is the state before the slot
 abbrev pub after_slot : State → ℕ → ℕ → ℕ → ℕ → Outcome → State
 after_slot m p unit pc target (Went after) = ticked 2 (at_pc after p target)
 after_slot m p unit pc target (Branched after next) = parked m p unit pc (fault pc 10)
 after_slot m p unit pc target Called = parked m p unit pc (fault pc 8)
 after_slot m p unit pc target (Stopped stop) = parked m p unit pc stop
 
--- the state behind a call: the process stands behind it, and the call is served
+-- the state after a call: the process stands after it, and the call is served
 abbrev pub after_call : State → ℕ → ℕ → State
 after_call m p pc =
     let behind = at_pc (settle m p) p (word (pc + 4)) in
     ticked 1 (served behind p pc (call_of (process_of behind p).registers.general))
 
--- what came of the instruction at pc, in a state m
+-- the outcome of the instruction at pc, in a state m
 abbrev pub after_instruction : State → ℕ → ℕ → Outcome → State
 after_instruction m p pc (Went after) = ticked 1 (at_pc after p (word (pc + 4)))
 after_instruction m p pc (Branched after target) = let slot = word (pc + 4) in after_slot after p pc slot target (instruction after p slot)

@@ -1,4 +1,4 @@
--- A boundary, and late loads that are finished before or behind it.
+-- A boundary, and late loads that are finished before or after it.
 use Rattle.std.proofs.Common.{◌≡◌, ℕ, zero, suc, ◌+◌, Bool, true, false, cond, List, [], ◌∷◌, length, map, take, filter, not, nat_le, Option, Some, None, refl, sym, ap, ap₂, ◌∙◌}
 use Rattle.std.proofs.lemmas.List.{length-map}
 use Rattle.ds_policy.specs.declared.command.TimedCommand.{TimedCommand}
@@ -26,7 +26,7 @@ last_settles : (b : Bool) (m : State) (runner : Option ℕ) → all_settled (con
 last_settles true m runner = rotated_settles m runner
 last_settles false m runner = refl
 
--- what comes behind the commands
+-- what comes after the commands
 abbrev behind : Turn → ℕ → ℕ → List Character → State → State
 behind turn rate now characters m =
     let typed = record m { queues = all_queued m.queues (take 64 characters) } in

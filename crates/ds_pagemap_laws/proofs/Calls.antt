@@ -1,4 +1,4 @@
--- Calls, commands and stops, and late loads that are finished before or behind them.
+-- Calls, commands and stops, and late loads that are finished before or after them.
 use Rattle.std.proofs.Common.{◌≡◌, ℕ, ◌+◌, ◌-◌, ◌^◌, Bool, true, false, cond, List, [], ◌∷◌, not, nat_lt, ◌&&◌, Result, Ok, Err, refl, sym, ap, ap₂, ◌∙◌}
 use Rattle.std.specs.Prelude.{slice_set, slice_index_or, ◌++◌}
 use Rattle.std.proofs.lemmas.List.{length-map}

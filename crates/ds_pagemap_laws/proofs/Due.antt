@@ -6,7 +6,7 @@ use Rattle.std.proofs.lemmas.Bool.Decides.{nat_tests}
 use Rattle.std.proofs.lemmas.List.Elements.{All-head, All-tail}
 use Rattle.ds_pagemap_laws.specs.Due.{SplitsAt, due_count}
 
--- behind one that comes later all come later
+-- after one that comes later all come later
 rest_later : {X : Type 0} (time : X → ℕ) (x : X) (xs : List X) → IsNonDecreasingBy time (x ∷ xs) → All (λ y. time x ≤ time y) xs
 rest_later time x xs order k d within = order 0 (suc k) d (omega arith) (omega (arith, within))
 

@@ -113,7 +113,7 @@ bind_alike : {X A B : Type 0} (r : Result X Refusal) (g : X → Result A Refusal
 bind_alike (Ok x) g h f e = e x
 bind_alike (Err refusal) g h f e = refl
 
--- what is made further of it may be made at the end of the chain, or behind it
+-- what is made further of it may be made at the end of the chain, or after it
 pub made_alike : (A B : Type 0) (f : A → B) (make : PolicyValue → List (List ℕ) → InputValue → A) (text : List ℕ) (sources : Sources) (input : List ℕ) (n random : ℕ)
     → inputs_by (λ policy images events. f (make policy images events)) text sources input n random ≡ further f (inputs_by make text sources input n random)
 unfolding inputs_by inputs_under_by

@@ -1,4 +1,4 @@
--- A boundary keeps states lawful: its steps keep them well-formed, and behind it nobody wakes.
+-- A boundary keeps states lawful: its steps keep them well-formed, and after it nobody wakes.
 use Rattle.std.proofs.Common.{◌≡◌, ℕ, zero, suc, ◌+◌, ◌-◌, ◌<◌, ◌≤◌, Bool, true, false, cond, not, nat_le, List, [], ◌∷◌, length, length-set, take, filter, Option, Some, None, refl, sym, ap, ◌∙◌, subst, arith, inl, inr}
 use Rattle.std.specs.Prelude.{slice_index_or, slice_set, nat_lt, ◌++◌}
 use Rattle.std.specs.List.{All}
@@ -90,7 +90,7 @@ nobody_wakes m = by
     by zero = at 1 (omega arith)
     by (suc k) = at (suc k) (omega arith)
 
--- The one that ran goes behind the others.
+-- The one that ran goes to the end of the list.
 
 rotated_by : (b : Bool) (m : State) (p : ℕ) → (b ≡ true → (0 < p) × (p ≤ length m.processes)) → IsWellFormed m → IsWellFormed (cond b (made_ready m p) m)
 rotated_by true m p there w = ready_formed m p (there refl).0 (there refl).1 w

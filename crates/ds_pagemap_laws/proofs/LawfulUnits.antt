@@ -53,7 +53,7 @@ loaded_by false r i v e small k = record { size = length-set r.general i v ∙ k
 pub loaded_good : (r : Registers) (n v : ℕ) → AreRegisters r → AreRegisters (loaded r n v)
 loaded_good r n v k = loaded_by (n % 32 == 0) r (n % 32) v refl (omega arith) k
 
--- the registers behind an effect
+-- the registers after an effect
 abbrev Keeps : Effect → Type 0
 Keeps (Goes r) = AreRegisters r
 Keeps (Branches r to) = AreRegisters r

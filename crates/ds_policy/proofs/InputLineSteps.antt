@@ -12,7 +12,7 @@ use Rattle.ds_policy.specs.InputText.{Said, with_line, with_lines, or_fault, lin
 abbrev pub is_line_feed : ℕ → Bool
 is_line_feed b = b == 10
 
--- the first line of a text, and the lines behind it
+-- the first line of a text, and the lines after it
 lines_first : (pages : List PolicyPage) (s : Said) (n : ℕ) (text : List ℕ)
     → with_lines pages s n (lines_of text) ≡ or_fault (with_line pages s (before_first is_line_feed text)) n (λ next. with_lines pages next (n + 1) (lines_of (after_first is_line_feed text)))
 unfolding with_lines with_line
@@ -42,6 +42,6 @@ unfolding with_lines with_line
 lines_end pages s n [] none = refl
 lines_end pages s n (b ∷ text) none = absurd (omega arith)
 
--- what is behind the first line is shorter
+-- what follows the first line is shorter
 pub rest_within : (n m : ℕ) (text rest : List ℕ) → rest ≡ after_first is_line_feed text → 0 < length text → n + length text ≤ m → n + 1 + length rest ≤ m
 rest_within n m text rest behind some within = rw behind (omega (arith, length-drop (position_or_len is_line_feed text + 1) text))

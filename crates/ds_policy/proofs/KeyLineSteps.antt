@@ -10,7 +10,7 @@ use Rattle.ds_policy.specs.KeyLines.{characters_from, AreKeyLines}
 abbrev pub character : KeyLine → ℕ → Character
 character l b = record { time = l.time; line = l.line; byte = b }
 
--- the place is one of the bytes, or behind them
+-- the place is one of the bytes, or beyond them
 pub start_within : (start : ℕ) (ls : List KeyLine) (bs : List ℕ) → AreKeyLines start ls bs → start ≤ length bs
 unfolding AreKeyLines
 start_within start [] bs all = omega arith
@@ -41,7 +41,7 @@ pub character_first : (start : ℕ) (l : KeyLine) (ls : List KeyLine) (bs : List
 unfolding characters_from
 character_first start l ls bs d some within = rw (byte_first start l.end bs d some within)
 
--- behind its last byte a line has no character
+-- beyond its last byte a line has no character
 pub line_over : (start : ℕ) (l : KeyLine) (ls : List KeyLine) (bs : List ℕ) → start ≡ l.end → characters_from start (l ∷ ls) bs ≡ characters_from start ls bs
 unfolding characters_from
 line_over start l ls bs end =
@@ -91,7 +91,7 @@ pub none_left : (start over : ℕ) (ls : List KeyLine) (bs : List ℕ) → lengt
 unfolding characters_from
 none_left start over ls bs past = rw (drop_all over ls past)
 
--- the first character, and those behind it
+-- the first character, and those after it
 pub first_left : (start over : ℕ) (ls : List KeyLine) (bs : List ℕ) (l : KeyLine) (b : ℕ) → over < length ls → l ≡ get_or ls over l → b ≡ get_or bs start b → AreKeyLines start (drop over ls) bs
     → characters_from start (drop over ls) bs ≡ character l b ∷ characters_from (start + 1) (drop over ls) bs
 first_left start over ls bs l b within is byte all =
@@ -99,7 +99,7 @@ first_left start over ls bs l b within is byte all =
     let inside = byte_within start over ls bs l within is all in
     rw (line_at over ls l within is) (character_first start l (drop (over + 1) ls) bs b some inside ∙ ap (λ (x : ℕ). character l x ∷ characters_from (start + 1) (l ∷ drop (over + 1) ls) bs) (sym byte))
 
--- behind the last character of a line, the next line is first
+-- after the last character of a line, the next line is first
 pub next_line : (start over : ℕ) (ls : List KeyLine) (bs : List ℕ) (l : KeyLine) → over < length ls → l ≡ get_or ls over l → start ≡ l.end
     → characters_from start (drop over ls) bs ≡ characters_from start (drop (over + 1) ls) bs
 next_line start over ls bs l within is end = rw (line_at over ls l within is) (line_over start l (drop (over + 1) ls) bs end)

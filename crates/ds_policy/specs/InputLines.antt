@@ -51,7 +51,7 @@ of_entry verb p address =
     else if bytes_eq verb (codes "drop") then Some (Drop p address)
     else None
 
--- the command of a verb and the words behind it
+-- the command of a verb and the words after it
 unfoldable pub command_of : List PolicyPage → List ℕ → List (List ℕ) → Option Command
 command_of pages verb (p ∷ []) = process_of p >>= of_process verb
 command_of pages verb (p ∷ a ∷ []) = do
@@ -67,7 +67,7 @@ command_of pages verb (p ∷ a ∷ name ∷ r ∷ rest) = do
   if bytes_eq verb (codes "grant") then Some (Grant process address page right give) else None
 command_of pages verb _ = None
 
--- the characters of the words behind `key`
+-- the characters of the words after `key`
 unfoldable pub keys_of : List (List ℕ) → Option Event
 keys_of (l ∷ digits ∷ []) = do
   line ← line_of l
@@ -75,7 +75,7 @@ keys_of (l ∷ digits ∷ []) = do
   Some (Input line keys)
 keys_of _ = None
 
--- the event that a verb and the words behind it make
+-- the event that a verb and the words after it make
 abbrev pub event_of : List PolicyPage → List ℕ → List (List ℕ) → Option Event
 event_of pages verb words = if bytes_eq verb (codes "key") then keys_of words else option_map (λ c. Order c) (command_of pages verb words)
 

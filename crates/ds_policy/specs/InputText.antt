@@ -13,7 +13,7 @@ use Rattle.ds_policy.specs.declared.policy.PolicyPage.{PolicyPage}
 use Rattle.ds_policy.specs.Value.{InputValue}
 use Rattle.ds_policy.specs.InputLines.{words_of, timed_event_of}
 
--- what lines have said so far: the time of the last event, how many events there were, and what they come to
+-- what lines have said so far: the time of the last event, how many events there were, and what they are
 pub record Said : Type 0 where
   pub latest : ℕ
   pub events : ℕ
@@ -28,15 +28,15 @@ nothing_said = record { latest = 0; events = 0; commands = []; characters = [] }
 abbrev pub characters_of : ℕ → ℕ → List ℕ → List Character
 characters_of time line keys = map (λ (b : ℕ). record { time = time; line = line; byte = b }) keys
 
--- with a command behind the others, numbered from 1
+-- with a command at the end, numbered from 1
 abbrev pub with_command : Said → ℕ → Command → Said
 with_command s time c = record s { latest = time; events = s.events + 1; commands = s.commands ++ record { time = time; number = length s.commands + 1; command = c } ∷ [] }
 
--- with characters behind the others, which come in on a line together
+-- with characters at the end, which come in on a line together
 abbrev pub with_characters : Said → ℕ → ℕ → List ℕ → Said
 with_characters s time line keys = record s { latest = time; events = s.events + 1; characters = s.characters ++ characters_of time line keys }
 
--- with an event behind the others, a command or the characters of a line
+-- with an event at the end, a command or the characters of a line
 abbrev pub with_event : Said → ℕ → Event → Said
 with_event s time (Order c) = with_command s time c
 with_event s time (Input line keys) = with_characters s time line keys
@@ -65,7 +65,7 @@ unfoldable pub with_lines : List PolicyPage → Said → ℕ → List (List ℕ)
 with_lines pages s n [] = Ok s
 with_lines pages s n (line ∷ lines) = or_fault (with_line pages s line) n (λ next. with_lines pages next (n + 1) lines)
 
--- what stands between line feeds; behind the last one stands an empty line or one that isn't ended
+-- what stands between line feeds; after the last one stands an empty line or one that isn't ended
 abbrev pub lines_of : List ℕ → List (List ℕ)
 lines_of text = slice_split (λ b. b == 10) text
 

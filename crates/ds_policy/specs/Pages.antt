@@ -30,7 +30,7 @@ abbrev pub found : List Entry → ℕ → Option Grant
 found [] address = None
 found (e ∷ rest) address = if e.address == address then Some e.grant else found rest address
 
--- the entries with this grant at an address: in place of the one there, or behind them
+-- the entries with this grant at an address: in place of the one there, or at the end
 abbrev pub put : List Entry → ℕ → Grant → List Entry
 put [] address g = record { address = address; grant = g } ∷ []
 put (e ∷ rest) address g = if e.address == address then record { address = address; grant = g } ∷ rest else e ∷ put rest address g

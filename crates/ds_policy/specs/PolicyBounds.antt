@@ -95,7 +95,7 @@ rules_at (place ∷ places) = item (rule_at place) (rules_at places)
 abbrev rules : List (ℕ × ℕ) → Result ℕ PolicyRefusal
 rules places = count (rules_from 2 data_page (rules_at places))
 
--- one page behind the other, so many
+-- one page after the other, so many
 abbrev places_from : ℕ → ℕ → List (ℕ × ℕ)
 places_from first zero = []
 places_from first (suc n) = (1, first * 4096) ∷ places_from (first + 1) n

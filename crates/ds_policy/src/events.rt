@@ -113,7 +113,7 @@ fn events_of(alloc: Global, text: &[u8], pages: &[PolicyPage]) -> Result<Events,
     })
 }
 
-/// The first line of a text, and what is behind the line feed that ends it.
+/// The first line of a text, and what follows the line feed that ends it.
 fn first_line(text: &[u8]) -> (&[u8], &[u8])
     ensures line { result.0.now ≡ before_first (λ b. b == 10) text.now }
     ensures rest { result.1.now ≡ after_first (λ b. b == 10) text.now }

@@ -16,7 +16,7 @@ pub enum Call {
     },
     /// The oldest character of its line's queue.
     Get,
-    /// It goes behind the other ready processes.
+    /// It goes to the end of the ready list.
     Yield,
     /// The time in ticks.
     Time,
@@ -60,7 +60,7 @@ const THIRD: usize = 6;
 const FOURTH: usize = 7;
 
 impl Call {
-    /// The call that a process asks for by its registers, where it stands behind a SYSCALL.
+    /// The call that a process asks for by its registers, where it stands after a SYSCALL.
     pub fn of(process: &Process) -> Call
         ensures { result ≡ call_of process.now.registers }
     {

@@ -41,7 +41,7 @@ impl Queue {
         self.numbers.first().copied()
     }
 
-    /// Puts a process behind all others.
+    /// Puts a process at the end.
     pub fn push(&mut self, process: u32)
         requires number { (0 < process) × (process ≤ 100) }
         requires absent { ¬ Contains self.old process }
@@ -50,7 +50,7 @@ impl Queue {
         self.numbers.push(process);
     }
 
-    /// Puts a process behind all others, wherever it stood, or where it wasn't in.
+    /// Puts a process at the end, wherever it stood, or where it wasn't in.
     pub fn to_end(&mut self, process: u32)
         requires number { (0 < process) × (process ≤ 100) }
         ensures { self.new ≡ without self.old process ++ process ∷ [] }
@@ -59,7 +59,7 @@ impl Queue {
         self.push(process);
     }
 
-    /// Puts the first process behind all others.
+    /// Puts the first process at the end.
     pub fn rotate(&mut self)
         ensures { self.new ≡ drop 1 self.old ++ take 1 self.old }
     {

@@ -134,7 +134,7 @@ quiet_text n m t h q e =
     let twins : IsTwin u t = subst (IsTwin u) (sym e.reached.comes_to) (touched_alike u (after n choices m) e.reached.early (run_alike n m h q choices)) in
     (length choices, same_text u t twins, goes_on_alike n u t twins ∙ e.over)
 
--- behind its end a run stays where it is
+-- after its end a run stays where it is
 pub stays : (n : ℕ) (m : State) (k d : ℕ) → goes_on n (after n (replicate k false) m) ≡ false → (e : ℕ) → e ≡ d + k → after n (replicate e false) m ≡ after n (replicate k false) m
 unfolding after
 stays n m k zero h e is = ap (λ (i : ℕ). after n (replicate i false) m) (is ∙ nothing_more k)

@@ -28,7 +28,7 @@ use Rattle.ds_quiet.specs.Quiet.{quiet_where, quiet_at, quiet_behind, quiet_firs
 use Rattle.ds_quiet.proofs.Quietness.{quiet, settled_alike, sets_alike}
 use Rattle.ds_quiet.proofs.Twins.{twin, same, via, registers_alike, at_pc_alike, ticked_alike, logged_alike, settle_alike, ready_alike, unready_alike}
 
--- What an instruction comes to.
+-- The outcome of an instruction.
 
 loads_by : (m : State) (qs : List Process) (p address : ℕ) (f g : ℕ → Registers) (v : Verdict) → AreTwins m.processes qs → ((w : ℕ) → AreAlike (f w) (g w))
     → OutcomesAlike (where_allowed v Load address (λ page offset. Went (with_registers m p (f (word_at (bytes_of m.memory.pages page) offset)))))

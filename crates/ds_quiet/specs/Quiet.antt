@@ -22,7 +22,7 @@ quiet_where m p (Denied rule code) = true
 abbrev pub quiet_at : State → ℕ → ℕ → Bool
 quiet_at m p pc = quiet_where m p (decide m.memory.table p Fetch Word pc)
 
--- the instruction in the slot behind a branch is quiet; behind others there is no slot
+-- the instruction in the slot after a branch is quiet; after others there is no slot
 abbrev pub quiet_behind : ℕ → ℕ → Outcome → Bool
 quiet_behind p pc (Branched m target) = quiet_at m p (word (pc + 4))
 quiet_behind p pc (Went m) = true

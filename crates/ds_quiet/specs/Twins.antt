@@ -22,7 +22,7 @@ pub record IsTwin (m t : State) : Type 0 where
   pub is : t ≡ record m { processes = processes }
   pub twins : AreTwins m.processes processes
 
--- instructions that came to the same, in states that are twins
+-- instructions with the same outcome, in states that are twins
 abbrev pub OutcomesAlike : Outcome → Outcome → Type 0
 OutcomesAlike (Went m) (Went t) = IsTwin m t
 OutcomesAlike (Branched m to) (Branched t there) = IsTwin m t × (to ≡ there)

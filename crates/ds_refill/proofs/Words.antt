@@ -1,4 +1,4 @@
--- Words put one behind the other are read, and all else of memory stays.
+-- Words put one after the other are read, and all else of memory stays.
 use Rattle.std.proofs.Common.{◌≡◌, ℕ, zero, suc, ◌+◌, ◌*◌, ◌/◌, ◌%◌, ◌^◌, ◌<◌, ◌≤◌, Bool, true, List, [], ◌∷◌, ◌++◌, length, take, inr, refl, sym, ap, ap₂, subst, ◌∙◌, arith}
 use Rattle.std.proofs.Math.Seq.{take-suc}
 use Rattle.std.proofs.lemmas.List.{length-take-le}
@@ -15,7 +15,7 @@ abbrev are_words : List ℕ → Bool
 are_words [] = true
 are_words (w ∷ ws) = nat_lt w (2 ^ 32) && are_words ws
 
--- one more word behind the others
+-- one more word after the others
 pub with_words-push : (memory : List ℕ) (place w : ℕ) (ws : List ℕ) → with_words memory place (ws ++ w ∷ []) ≡ with_word (with_words memory place ws) (place + 4 * length ws) w
 with_words-push memory place w [] = let e : place ≡ place + 4 * 0 = omega arith in ap (λ p. with_word memory p w) e
 with_words-push memory place w (x ∷ xs) =
@@ -63,7 +63,7 @@ reads memory place (suc k) (w ∷ ws) whole few fit within =
 pub has_words : (memory : List ℕ) → 36 ≤ length memory → HasWords (with_words memory 0 words)
 has_words memory within = record { at = λ k few. let place : 4 * k ≡ 0 + 4 * k = omega arith in ap (word_at (with_words memory 0 words)) place ∙ reads memory 0 k words refl few refl within }
 
--- frames behind the words stay
+-- frames beyond the words stay
 pub frame_stays : (memory : List ℕ) (place f : ℕ) (ws : List ℕ) → place % 4 ≡ 0 → place + 4 * length ws ≤ f * 4096 → place + 4 * length ws ≤ length memory → frame_of (with_words memory place ws) f ≡ frame_of memory f
 frame_stays memory place f [] whole before within = refl
 frame_stays memory place f (w ∷ ws) whole before within =

@@ -6,7 +6,7 @@ use Rattle.ds_word.specs.Bytes.{word_at, with_word}
 abbrev pub words : List ℕ
 words = 0x401A2000 ∷ 0x401B7000 ∷ 0x8F5A0000 ∷ 0 ∷ 0x409A1000 ∷ 0x0000D021 ∷ 0x42000006 ∷ 0x03600008 ∷ 0x42000010 ∷ []
 
--- memory with words put one behind the other from a place on
+-- memory with words put one after the other from a place on
 abbrev pub with_words : List ℕ → ℕ → List ℕ → List ℕ
 with_words memory place [] = memory
 with_words memory place (w ∷ ws) = with_words (with_word memory place w) (place + 4) ws

@@ -54,7 +54,7 @@ cleared c b = with_tick (at_next c b (written c.registers 26 (word (read c.regis
 abbrev pub entry_written : CoreState → BusState → Step
 entry_written c b = with_tick (with_entry c b c.random)
 
--- the eighth: on to where register 27 says, behind a slot
+-- the eighth: on to where register 27 says, after a slot
 abbrev pub jumped : CoreState → BusState → Step
 jumped c b = with_tick (branched c.slot c b (settled c.registers) (read c.registers 27))
 

@@ -10,7 +10,7 @@ use Rattle.ds_core.specs.Core as core
 use Rattle.ds_core.specs.Core.{CoreState}
 use Rattle.ds_core.specs.Effect as whole
 use Rattle.ds_core.specs.Ahead as ahead
-use Rattle.ds_core.specs.Ahead.{Hardware, hardware_of, left_by, after_steps, is_raised, Advances, AdvancesTo, ComesByWords, owed_tick, ticks_behind, ticks}
+use Rattle.ds_core.specs.Ahead.{Hardware, hardware_of, left_by, after_steps, is_raised, Advances, AdvancesTo, ComesByWords, owed_tick, ticks_after, ticks}
 use Rattle.ds_core.proofs.Slots.{Slots, step_slots, ticks_of_advance}
 use Rattle.ds_core.proofs.Users.{keeps_system}
 use Rattle.ds_pagemap.specs.declared.turn.Turn.{Turn}
@@ -24,7 +24,7 @@ use Rattle.ds_refinement.specs.Steps.{Follows, Moves, ticks_of, is_in_kernel, st
 use Rattle.ds_refinement.specs.Services.{after_event, step_of, with_one_spent, with_boundary}
 use Rattle.ds_refinement.specs.Real.{IsReal, RealPath, is_served}
 use Rattle.ds_refinement.specs.Quiet.{IsQuiet}
-use Rattle.ds_refinement.specs.Blocks.{moved, time_behind, with_block, with_exception, at_time, IsQuietUntil, GoesAhead}
+use Rattle.ds_refinement.specs.Blocks.{moved, time_behind, with_block, with_exception, at_time, IsQuietUntil, MayRunAhead}
 use Rattle.ds_refinement.proofs.Boundaries.{quiet}
 use Rattle.ds_refinement.proofs.Meets.{barred}
 use Rattle.ds_refinement.proofs.Raising.{slot_of_raised}
@@ -194,8 +194,8 @@ module _ (h : Held) (owed : h.kept.state.owed ≡ None) (ready : h.kept.state.re
     all_ticks : ticks (suc n) start + owed_tick s.core.slot ≡ suc n + owed_tick h.core.slot
     all_ticks = ticks_of_advance (suc n) start (at (suc n)) (record { state = refl; calm = calm })
 
-    more_ticks : (e : Event) → s.event ≡ e → ticks (suc n) start ≡ ticks n start + ticks_behind e (at n).core.slot
-    more_ticks e is = ap (λ (x : Event). ticks n start + ticks_behind x (at n).core.slot) is
+    more_ticks : (e : Event) → s.event ≡ e → ticks (suc n) start ≡ ticks n start + ticks_after e (at n).core.slot
+    more_ticks e is = ap (λ (x : Event). ticks n start + ticks_after x (at n).core.slot) is
 
     by : (e : Event) → s.event ≡ e → is_raised e ≡ false → P (with_block (suc n) h (left_by s))
     by Retired is quiet_step =
@@ -249,7 +249,7 @@ module _ (h : Held) (owed : h.kept.state.owed ≡ None) (ready : h.kept.state.re
 
 -- The laws.
 
-module _ (n limit : ℕ) (h : Held) (hw : Hardware) (g : GoesAhead limit h) (words : ComesByWords n (hardware_of h.core h.bus)) (within : n ≤ limit) (end : ℕ) (P : Held → Type 0) (carries : Carries end P) (begun : P h) where
+module _ (n limit : ℕ) (h : Held) (hw : Hardware) (g : MayRunAhead limit h) (words : ComesByWords n (hardware_of h.core h.bus)) (within : n ≤ limit) (end : ℕ) (P : Held → Type 0) (carries : Carries end P) (begun : P h) where
   -- steps that enter no exception
   block_carries : Advances n (hardware_of h.core h.bus) hw → h.kept.state.time + n + owed_tick h.core.slot ≤ end → P (with_block n h hw)
   block_carries advances soon =
@@ -270,13 +270,13 @@ paths_carry end h = record { more = λ b c kind p begins f m r. path_join h b c 
 no_path : (h : Held) → RealPath h h
 no_path h = record { path = []; through = refl }
 
-pub block_is_path : (n limit : ℕ) (h : Held) (hw : Hardware) → n ≤ limit → GoesAhead limit h → Advances n (hardware_of h.core h.bus) hw → ComesByWords n (hardware_of h.core h.bus)
+pub block_is_path : (n limit : ℕ) (h : Held) (hw : Hardware) → n ≤ limit → MayRunAhead limit h → Advances n (hardware_of h.core h.bus) hw → ComesByWords n (hardware_of h.core h.bus)
     → RealPath h (with_block n h hw)
 block_is_path n limit h hw within g advances words =
     let end : ℕ = h.kept.state.time + n + owed_tick h.core.slot in
     block_carries n limit h hw g words within end (RealPath h) (paths_carry end h) (no_path h) advances (omega arith)
 
-pub raised_is_path : (n limit : ℕ) (h : Held) (hw : Hardware) (code : ExceptionCode) → n ≤ limit → GoesAhead limit h → AdvancesTo n (Some code) (hardware_of h.core h.bus) hw
+pub raised_is_path : (n limit : ℕ) (h : Held) (hw : Hardware) (code : ExceptionCode) → n ≤ limit → MayRunAhead limit h → AdvancesTo n (Some code) (hardware_of h.core h.bus) hw
     → ComesByWords n (hardware_of h.core h.bus) → RealPath h (with_exception n h hw)
 raised_is_path n limit h hw code within g leads words =
     let end : ℕ = h.kept.state.time + suc n + owed_tick h.core.slot in
@@ -287,12 +287,12 @@ raised_is_path n limit h hw code within g leads words =
 runs_carry : (end : ℕ) (old : Held) → Carries end (RunsWithin end old)
 runs_carry end old = record { more = λ b c kind w begins f m r. within_before kind end old b c w begins f }
 
-pub block_runs : (n limit end : ℕ) (old h : Held) (hw : Hardware) → n ≤ limit → GoesAhead limit h → h.kept.state.time + n + owed_tick h.core.slot ≤ end
+pub block_runs : (n limit end : ℕ) (old h : Held) (hw : Hardware) → n ≤ limit → MayRunAhead limit h → h.kept.state.time + n + owed_tick h.core.slot ≤ end
     → Advances n (hardware_of h.core h.bus) hw → ComesByWords n (hardware_of h.core h.bus) → RunsWithin end old h → RunsWithin end old (with_block n h hw)
 block_runs n limit end old h hw within g soon advances words begun =
     block_carries n limit h hw g words within end (RunsWithin end old) (runs_carry end old) begun advances soon
 
-pub raised_runs : (n limit end : ℕ) (old h : Held) (hw : Hardware) (code : ExceptionCode) → n ≤ limit → GoesAhead limit h → h.kept.state.time + n + owed_tick h.core.slot < end
+pub raised_runs : (n limit end : ℕ) (old h : Held) (hw : Hardware) (code : ExceptionCode) → n ≤ limit → MayRunAhead limit h → h.kept.state.time + n + owed_tick h.core.slot < end
     → AdvancesTo n (Some code) (hardware_of h.core h.bus) hw → ComesByWords n (hardware_of h.core h.bus) → RunsWithin end old h → RunsWithin end old (with_exception n h hw)
 raised_runs n limit end old h hw code within g soon leads words begun =
     raised_carries n limit h hw g words within end (RunsWithin end old) (runs_carry end old) begun code leads (omega (arith, soon))

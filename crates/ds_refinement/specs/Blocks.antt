@@ -38,7 +38,7 @@ pub record IsQuietUntil (last : ℕ) (k : Kept) : Type 0 where
   pub quiet : (time : ℕ) → k.state.time ≤ time → time ≤ last → IsQuiet (at_time time k)
 
 -- A process is in its unit, in user mode, and for so many steps every boundary has nothing to do.
-pub record GoesAhead (n : ℕ) (h : Held) : Type 0 where
+pub record MayRunAhead (n : ℕ) (h : Held) : Type 0 where
   pub owed : h.kept.state.owed ≡ None
   pub ready : h.kept.state.ready ≢ []
   pub mode : h.core.system.status ≡ user_status

@@ -19,7 +19,7 @@ ghost use Rattle.ds_refinement.specs.Real.{RealPath};
 ghost use Rattle.ds_refinement.specs.Quiet.{IsQuiet};
 ghost use Rattle.ds_refinement.specs.Blocks.{
   IsQuietUntil,
-  GoesAhead,
+  MayRunAhead,
   at_time,
   with_block,
   with_exception,
@@ -27,7 +27,7 @@ ghost use Rattle.ds_refinement.specs.Blocks.{
 
 /// Many instructions of a process, each unit with the boundary behind it, are a path of real steps.
 pub fn a_block_is_a_path()
-    ensures { (n limit : ℕ) (h : Held) (hw : Hardware) → n ≤ limit → GoesAhead limit h
+    ensures { (n limit : ℕ) (h : Held) (hw : Hardware) → n ≤ limit → MayRunAhead limit h
         → Advances n (hardware_of h.core h.bus) hw
         → ComesByWords n (hardware_of h.core h.bus) → RealPath h (with_block n h hw) }
 {}
@@ -35,7 +35,7 @@ pub fn a_block_is_a_path()
 /// So they are where one more enters an exception: its slot, and so the ticks, are told by Cause.
 pub fn an_exception_ends_a_block()
     ensures path { (n limit : ℕ) (h : Held) (hw : Hardware) (code : ExceptionCode)
-        → n ≤ limit → GoesAhead limit h
+        → n ≤ limit → MayRunAhead limit h
         → AdvancesTo n (Some code) (hardware_of h.core h.bus) hw
         → ComesByWords n (hardware_of h.core h.bus) → RealPath h (with_exception n h hw) }
     ensures ticks { (n : ℕ) (code : ExceptionCode) (old new : Hardware)

@@ -13,7 +13,7 @@ ghost use Rattle.ds_refinement.specs.declared.step.Step.{Step};
 ghost use Rattle.ds_refinement.specs.Held.{Held};
 ghost use Rattle.ds_refinement.specs.Stands.{IsSound};
 ghost use Rattle.ds_refinement.specs.Steps.{Follows, Stays};
-ghost use Rattle.ds_refinement.specs.Blocks.{GoesAhead, with_block, with_exception};
+ghost use Rattle.ds_refinement.specs.Blocks.{MayRunAhead, with_block, with_exception};
 ghost use Rattle.ds_refinement.specs.Runs.{RunsTo, RunsWithin, held_goes_on};
 
 /// A run of the station goes by steps that the machine follows, as long as it goes on, and by what
@@ -33,11 +33,11 @@ pub fn a_run_goes_on()
 /// where one more enters an exception.
 pub fn a_block_is_within_a_run()
     ensures calm { (n limit end : ℕ) (old h : Held) (hw : Hardware) → n ≤ limit
-        → GoesAhead limit h → h.kept.state.time + n + owed_tick h.core.slot ≤ end
+        → MayRunAhead limit h → h.kept.state.time + n + owed_tick h.core.slot ≤ end
         → Advances n (hardware_of h.core h.bus) hw → ComesByWords n (hardware_of h.core h.bus)
         → RunsWithin end old h → RunsWithin end old (with_block n h hw) }
     ensures raised { (n limit end : ℕ) (old h : Held) (hw : Hardware) (code : ExceptionCode)
-        → n ≤ limit → GoesAhead limit h → h.kept.state.time + n + owed_tick h.core.slot < end
+        → n ≤ limit → MayRunAhead limit h → h.kept.state.time + n + owed_tick h.core.slot < end
         → AdvancesTo n (Some code) (hardware_of h.core h.bus) hw
         → ComesByWords n (hardware_of h.core h.bus)
         → RunsWithin end old h → RunsWithin end old (with_exception n h hw) }

@@ -10,6 +10,3 @@ pub use ds_refinement::Step;
 pub use fault::Fault;
 pub use files::{run_files, run_policy};
 pub use station::Station;
-
-#[cfg(test)]
-mod tests;

@@ -13,7 +13,7 @@ use std::io::Write;
 /// The most steps that a station is stepped.
 const MOST_STEPS: u32 = 1_000_000;
 
-/// Whether stations that are made as the words ask for it come to this text: over either buffer, at
+/// Whether stations that are made as the words ask for it write this text: over either buffer, at
 /// once and by steps. Where the words ask for no run of files, there is none to compare.
 pub fn stations_write<F: Files + Drop>(
     alloc: Global,
@@ -84,7 +84,7 @@ impl Parts {
         .ok()
     }
 
-    /// Whether a station over this buffer comes to the text, at once and by steps.
+    /// Whether a station over this buffer writes the text, in one run and by steps.
     fn write_over<'a, L: Lookaside>(
         &self,
         alloc: Global,
@@ -173,7 +173,7 @@ fn push_console(text: &mut Vec<u8>, line: usize, put: &[u8]) -> io::Result<()> {
     text.write_all(b"\n")
 }
 
-/// Adds the log, behind the count of its lines.
+/// Adds the log, after the count of its lines.
 fn push_log(text: &mut Vec<u8>, log: &[u8]) -> io::Result<()> {
     let lines = log.iter().filter(|byte| **byte == b'\n').count();
     write!(text, "log {lines}\n")?;

@@ -213,6 +213,14 @@ refused_by memory p (Some i) f e = refl
 pub refused_table : (memory : List ℕ) (t : Places) (p r : ℕ) → has_place t p r ≡ false → with_table memory t p r ≡ memory
 refused_table memory t p r none = refused_by memory p (place_of t p r) (free_place t p) none
 
+opened_refused : (t : Places) (p r : ℕ) (o f : Option ℕ) → (is_some o || is_some f) ≡ false → opened_by t p r o f ≡ t
+opened_refused t p r None None e = refl
+opened_refused t p r None (Some k) e = absurd cc
+opened_refused t p r (Some i) f e = refl
+
+pub refused_places : (t : Places) (p r : ℕ) → has_place t p r ≡ false → opened t p r ≡ t
+refused_places t p r none = opened_refused t p r (place_of t p r) (free_place t p) none
+
 pub refused_entry : (memory : List ℕ) (t : Places) (p a w : ℕ) → has_place t p (region_of a) ≡ false → with_entry memory t p a w ≡ memory
 refused_entry memory t p a w none = ap (λ (u : Bool). cond u (with_entry_word (with_table memory t p (region_of a)) (opened t p (region_of a)) p a w) memory) none
 

@@ -1,5 +1,5 @@
 //! The page tables of all processes.
-ghost use Rattle.std.specs.Prelude.{◌≡◌, ◌↔◌, ℕ, ◌+◌, ◌*◌, ◌/◌, ◌%◌, ◌<◌, ◌≤◌, ◌⊎◌, ◌^◌, List, true, false, length, replicate, nat_lt, if◌then◌else◌, None, IsErr, OnOk, IfSome, ◌-◌, slice_set};
+ghost use Rattle.std.specs.Prelude.{◌≡◌, ◌↔◌, ℕ, ◌+◌, ◌*◌, ◌/◌, ◌%◌, ◌<◌, ◌≤◌, ◌⊎◌, ◌^◌, List, true, false, length, replicate, nat_lt, if◌then◌else◌, None, IsErr, OnErr, OnOk, IfSome, ◌-◌, slice_set};
 ghost use Rattle.ds_mem.specs.Memory.{frame_of, with_frame, zeros};
 ghost use Rattle.ds_tables.specs.Places.{ArePlaces, places_of, place_of, has_place, region_of, table_frame, page_of_table, with_place, opened, closed};
 ghost use Rattle.ds_tables.specs.Tables.{HasEmptyTable, word_place, entry_word, with_table, with_entry, word_once_put, word_once_closed};
@@ -60,7 +60,7 @@ impl Tables {
     /// Replaces a process's page-table word for the page of an address. The region gets a table,
     /// all zero, where it has none; refused, and nothing changed, where the process has no place
     /// for it.
-    #[tactic(auto, using(crate::proofs::Map::refused_entry, crate::proofs::Map::refused_table))]
+    #[tactic(auto, using(crate::proofs::Map::refused_entry, crate::proofs::Map::refused_table, crate::proofs::Map::refused_places))]
     pub fn put_entry(
         &mut self,
         memory: &mut Memory,
@@ -76,6 +76,7 @@ impl Tables {
             ≡ word_once_put memory.old self.old process addr word q other) }
         ensures frames { (f : ℕ) → (f < 2) ⊎ (402 ≤ f)
             → frame_of memory.new f ≡ frame_of memory.old f }
+        ensures unchanged { OnErr result ((self.new ≡ self.old) × (memory.new ≡ memory.old)) }
     {
         let region = region_of(addr);
         self.open(memory, process, region)?;

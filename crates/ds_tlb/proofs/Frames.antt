@@ -1,4 +1,4 @@
--- The frames of pages behind a write to a slot, and what windows remember of them.
+-- The frames of pages after a write to a slot, and what windows remember of them.
 use Rattle.std.proofs.Common.{◌≡◌, ◌≢◌, ℕ, ◌%◌, ◌^◌, ◌<◌, arith, inl, inr, false, true, Bool, List, length, set, Option, Some, None, get_or, refl, sym, ap, ◌∙◌, length-set}
 use Rattle.std.specs.List.{position_or_len}
 use Rattle.std.proofs.lemmas.Bool.{cases_eq, ne_eqb}
@@ -43,7 +43,7 @@ pub base_still : (entries : List Entry) (store : Bool) (slot vpn asid : ℕ) (en
 base_still entries store slot vpn asid entry old new =
     rw (found_still entries slot vpn asid entry old new) (ap (base_in store) (read_still entries slot vpn asid entry old (find entries vpn asid) refl))
 
--- windows that forgot both pages are right behind the write
+-- windows that forgot both pages are right after the write
 pub right_behind : (entries : List Entry) (store : Bool) (slot page other : ℕ) (entry : Entry) (old_tags old_bases tags bases : List ℕ) →
     page ≡ (get_or entries slot no_entry).vpn → other ≡ entry.vpn → Forgets page other old_tags old_bases tags bases →
     AreRight old_tags old_bases store entries → AreRight tags bases store (set entries slot entry)

@@ -153,7 +153,7 @@ impl<const N: usize, const WIRED: usize> Lookaside for Indexed<N, WIRED> {
 }
 
 impl<const N: usize, const WIRED: usize> Indexed<N, WIRED> {
-    /// Remembers a page that was written for what comes to it next: loads, and stores where it may be
+    /// After a refill fills its page's windows for the next access: loads, and stores where it may be
     /// stored to, else fetches.
     #[inline(always)]
     fn remember_for_all(&mut self, vpn: u32, asid: u8)

@@ -9,7 +9,7 @@ use ds_word::PAGE_SIZE;
 /// The number of windows.
 const PLACES: usize = 16;
 
-/// The first physical address behind memory. Devices lie behind it.
+/// The first physical address beyond memory. Devices lie from there on.
 const MEMORY_END: u32 = 0x80_0000;
 
 /// The first page of the upper half of the addresses, of which no page is remembered.

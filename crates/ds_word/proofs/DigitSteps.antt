@@ -9,7 +9,7 @@ pub digits_step : (base limit n : ℕ) (cs : List ℕ) (i : ℕ) → i < length 
 unfolding digits_from
 digits_step base limit n cs i h = rw (drop_more cs i 0 h)
 
--- behind the last digit
+-- after the last digit
 pub digits_end : (base limit n : ℕ) (cs : List ℕ) (i : ℕ) → length cs ≤ i → digits_from base limit n (drop i cs) ≡ Some n
 unfolding digits_from
 digits_end base limit n cs i h = rw (drop_all i cs h)

@@ -1,10 +1,14 @@
 -- What clap makes of the program's command line.
-use Rattle.std.proofs.Common.{◌≡◌, subst, inl, inr, refl, codes, List, [], ◌∷◌}
-use Rattle.clap.specs.Words.{HasKind, IsAmong, Text, fault_of, kind_of}
+use Rattle.std.proofs.Common.{◌≡◌, ◌∙◌, sym, ap, subst, inl, inr, refl, codes, ℕ, List, [], ◌∷◌, slice_index, arith}
+use Rattle.std.specs.Prelude.{Option, None, Some, option_map}
+use Rattle.clap.specs.Words.{HasKind, IsAmong, Row, Text, fault_of, kind_of, subcommand_of}
 use Rattle.clap.specs.declared.error.Error.{Error}
 use Rattle.clap.specs.declared.error.kind.ErrorKind.TheVariants.{OutOfMemory}
 use Rattle.clap.proofs.OnLiterals.{clap_on_literals}
-use Rattle.ds_words.specs.Words.{AsksForDemo, dsmon_app}
+use Rattle.ds_words.specs.declared.words.CheckRequest.{CheckRequest}
+use Rattle.ds_words.specs.declared.words.ListRequest.{ListRequest}
+use Rattle.ds_words.specs.declared.words.Request.{Request}
+use Rattle.ds_words.specs.Words.{AsksForDemo, AsksForSomething, NamesCheck, NamesList, NamesRun, command_named, dsmon_app}
 
 -- the one word `demo` asks for the demonstration, whatever the program's own name is
 pub alone : (program : Text) (words : List Text) → words ≡ program ∷ codes "demo" ∷ []
@@ -12,9 +16,62 @@ pub alone : (program : Text) (words : List Text) → words ≡ program ∷ codes
 unfolding clap_on_literals
 alone program words same = rw same (record { taken = refl; named = refl })
 
--- where the words ask for the demonstration, clap fails for memory alone
-pub fails_for_memory : (words : List Text) (e : Error) → AsksForDemo words
+-- clap takes words that ask for something
+pub taken : (words : List Text) → AsksForSomething words → fault_of dsmon_app words ≡ []
+taken words (inl demo) = demo.taken
+taken words (inr (inl run)) = run.1.taken
+taken words (inr (inr (inl list))) = list.1.taken
+taken words (inr (inr (inr check))) = check.1.taken
+
+-- where the words ask for something, clap fails for memory alone
+pub fails_for_memory : (words : List Text) (e : Error) → AsksForSomething words
     → HasKind (fault_of dsmon_app words) e → kind_of e ≡ OutOfMemory
 fails_for_memory words e asked (inl memory) = memory
 fails_for_memory words e asked (inr among) =
-    absurd (subst (IsAmong (kind_of e)) asked.taken among)
+    absurd (subst (IsAmong (kind_of e)) (taken words asked) among)
+
+abbrev first_letter : Option (Text × List Row) → ℕ
+first_letter None = 0
+first_letter (Some p) = slice_index p.0 0
+
+abbrev rows_in : Option (Text × List Row) → List Row
+rows_in None = []
+rows_in (Some p) = p.1
+
+abbrev first_letter_of : Option Text → ℕ
+first_letter_of None = 0
+first_letter_of (Some t) = slice_index t 0
+
+abbrev name_in : Option (Text × List Row) → Option Text
+name_in named = option_map (λ p. p.0) named
+
+-- words that name this command ask for what stands behind it, and for nothing else
+pub asks_run : (words : List Text) (rows : List Row) → subcommand_of dsmon_app words ≡ Some (codes "run", rows)
+    → ((request : Request) → NamesRun rows request → ⊥) → AsksForSomething words → ⊥
+asks_run words rows named none (inl demo) = let e : 114 ≡ 100 = ap first_letter_of (sym (ap name_in named) ∙ demo.named) in omega (arith, e)
+asks_run words rows named none (inr (inl run)) = none run.0 (subst (λ (x : List Row). NamesRun x run.0) (sym (ap rows_in (sym named ∙ run.1.named))) run.1.names)
+asks_run words rows named none (inr (inr (inl list))) = let e : 114 ≡ 108 = ap first_letter (sym named ∙ list.1.named) in omega (arith, e)
+asks_run words rows named none (inr (inr (inr check))) = let e : 114 ≡ 99 = ap first_letter (sym named ∙ check.1.named) in omega (arith, e)
+
+pub asks_list : (words : List Text) (rows : List Row) → subcommand_of dsmon_app words ≡ Some (codes "list", rows)
+    → ((request : ListRequest) → NamesList rows request → ⊥) → AsksForSomething words → ⊥
+asks_list words rows named none (inl demo) = let e : 108 ≡ 100 = ap first_letter_of (sym (ap name_in named) ∙ demo.named) in omega (arith, e)
+asks_list words rows named none (inr (inl run)) = let e : 108 ≡ 114 = ap first_letter (sym named ∙ run.1.named) in omega (arith, e)
+asks_list words rows named none (inr (inr (inl list))) = none list.0 (subst (λ (x : List Row). NamesList x list.0) (sym (ap rows_in (sym named ∙ list.1.named))) list.1.names)
+asks_list words rows named none (inr (inr (inr check))) = let e : 108 ≡ 99 = ap first_letter (sym named ∙ check.1.named) in omega (arith, e)
+
+pub asks_check : (words : List Text) (rows : List Row) → subcommand_of dsmon_app words ≡ Some (codes "check", rows)
+    → ((request : CheckRequest) → NamesCheck rows request → ⊥) → AsksForSomething words → ⊥
+asks_check words rows named none (inl demo) = let e : 99 ≡ 100 = ap first_letter_of (sym (ap name_in named) ∙ demo.named) in omega (arith, e)
+asks_check words rows named none (inr (inl run)) = let e : 99 ≡ 114 = ap first_letter (sym named ∙ run.1.named) in omega (arith, e)
+asks_check words rows named none (inr (inr (inl list))) = let e : 99 ≡ 108 = ap first_letter (sym named ∙ list.1.named) in omega (arith, e)
+asks_check words rows named none (inr (inr (inr check))) = none check.0 (subst (λ (x : List Row). NamesCheck x check.0) (sym (ap rows_in (sym named ∙ check.1.named))) check.1.names)
+
+-- words that name no command of the four ask for nothing
+pub asks_nothing : (words : List Text) (named : Option Text) → command_named words ≡ named
+    → (named ≡ Some (codes "demo") → ⊥) → (named ≡ Some (codes "run") → ⊥) → (named ≡ Some (codes "check") → ⊥) → (named ≡ Some (codes "list") → ⊥)
+    → AsksForSomething words → ⊥
+asks_nothing words named is demo run check list (inl asked) = demo (sym is ∙ asked.named)
+asks_nothing words named is demo run check list (inr (inl asked)) = run (sym is ∙ ap name_in asked.1.named)
+asks_nothing words named is demo run check list (inr (inr (inl asked))) = list (sym is ∙ ap name_in asked.1.named)
+asks_nothing words named is demo run check list (inr (inr (inr asked))) = check (sym is ∙ ap name_in asked.1.named)

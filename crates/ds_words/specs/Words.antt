@@ -1,6 +1,6 @@
 -- What the program's words ask for, over what clap reads of its command line.
-use Rattle.std.specs.Prelude.{◌≡◌, ℕ, List, [], ◌∷◌, Option, Some, None, true, false, codes, option_map}
-use Rattle.std.specs.Str.Parse.{digits_value, without_leading_plus}
+use Rattle.std.specs.Prelude.{◌≡◌, ◌⊎◌, ◌<◌, ◌^◌, ℕ, List, [], ◌∷◌, Option, Some, None, true, false, codes, option_map}
+use Rattle.std.specs.Str.Parse.{IsNumeral, digits_value, without_leading_plus}
 use Rattle.clap.specs.Words.{App, Row, Rule, Text, fault_of, first_of, one_of, new_app, new_rule, subcommand_of, with_rule, with_subcommand}
 use Rattle.ds_words.specs.declared.words.CheckRequest.{CheckRequest}
 use Rattle.ds_words.specs.declared.words.ListRequest.{ListRequest}
@@ -62,17 +62,17 @@ pub record AsksForDemo (words : List Text) : Type 0 where
   pub taken : fault_of dsmon_app words ≡ []
   pub named : command_named words ≡ Some (codes "demo")
 
--- a word, with a plus before it or without, writes the number in decimal digits
-abbrev pub IsNumber : Option Text → ℕ → Type 0
-IsNumber None n = ⊥
-IsNumber (Some text) n = digits_value 10 (without_leading_plus text) ≡ n
+-- a word, with a plus before it or without, writes in decimal digits the number, which has at most so many bits
+abbrev pub IsNumber : ℕ → Option Text → ℕ → Type 0
+IsNumber bits None n = ⊥
+IsNumber bits (Some text) n = IsNumeral 10 (without_leading_plus text) × (digits_value 10 (without_leading_plus text) ≡ n) × (n < 2 ^ bits)
 
 -- what stands behind `run` names the files and the numbers
 pub record NamesRun (rows : List Row) (request : Request) : Type 0 where
   pub policy : first_of (codes "POLICY") rows ≡ Some request.policy.now
   pub input : first_of (codes "INPUT") rows ≡ Some request.input.now
-  pub time : IsNumber (one_of (codes "N") rows) request.most_time
-  pub random : IsNumber (one_of (codes "R") rows) request.random
+  pub time : IsNumber 64 (one_of (codes "N") rows) request.most_time
+  pub random : IsNumber 8 (one_of (codes "R") rows) request.random
 
 -- clap takes the words, and they name a run of these files and numbers
 pub record AsksForRun (words : List Text) (request : Request) : Type 0 where
@@ -105,3 +105,10 @@ pub record AsksForCheck (words : List Text) (request : CheckRequest) : Type 0 wh
   pub rows : List Row
   pub named : subcommand_of dsmon_app words ≡ Some (codes "check", rows)
   pub names : NamesCheck rows request
+
+-- the words ask for the demonstration, for a run of files, for a listing or for a check
+abbrev pub AsksForSomething : List Text → Type 0
+AsksForSomething words =
+    AsksForDemo words ⊎ (((request : Request) × AsksForRun words request)
+    ⊎ (((request : ListRequest) × AsksForList words request)
+    ⊎ ((request : CheckRequest) × AsksForCheck words request)))

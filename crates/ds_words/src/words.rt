@@ -1,8 +1,8 @@
 //! What the program's words ask for.
-ghost use Rattle.std.specs.Prelude.{◌≡◌, ◌↔◌, IfOk, IfSome, Some, codes, false, map, string_bytes};
+ghost use Rattle.std.specs.Prelude.{◌≡◌, ◌↔◌, IfOk, IfSome, None, Some, codes, false, map, string_bytes};
 ghost use Rattle.clap.specs.Words.{FailsBy, app_of, fault_of, found_of, new_app, new_rule, rows_of, rule_of, subcommand_name_of, subcommand_of, subcommand_rows_of, with_rule, with_subcommand};
 ghost use Rattle.clap.specs.declared.builder.command.Command.TheViews.{out-Command as fields_of};
-ghost use Rattle.ds_words.specs.Words.{AsksForCheck, AsksForList, AsksForRun, NamesCheck, NamesList, NamesRun, bare_app, check_app, command_named, dsmon_app, files_app, list_app, random_rule, required_rule, run_app, time_rule, words_rule};
+ghost use Rattle.ds_words.specs.Words.{AsksForCheck, AsksForList, AsksForRun, AsksForSomething, NamesCheck, NamesList, NamesRun, bare_app, check_app, command_named, dsmon_app, files_app, list_app, random_rule, required_rule, run_app, time_rule, words_rule};
 
 use clap::builder::ValueParser;
 use clap::{Arg, ArgAction, ArgMatches, Command, Error};
@@ -283,7 +283,8 @@ fn read_words<'a>(alloc: Global, words: &'a [String]) -> Result<ArgMatches<'a>, 
 
 /// What the words behind `run` ask for.
 fn request_of<'a>(found: &ArgMatches<'a>) -> Option<Request<'a>>
-    ensures { IfSome result (λ request. NamesRun (rows_of (found_of found.now)) request) }
+    ensures some { IfSome result (λ request. NamesRun (rows_of (found_of found.now)) request) }
+    ensures none { result ≡ None → (request : Request) → ¬ NamesRun (rows_of (found_of found.now)) request }
 {
     Some(Request {
         policy: found.get_str("POLICY")?,
@@ -295,7 +296,8 @@ fn request_of<'a>(found: &ArgMatches<'a>) -> Option<Request<'a>>
 
 /// What the words behind `list` ask for.
 fn list_request_of<'a>(found: &ArgMatches<'a>) -> Option<ListRequest<'a>>
-    ensures { IfSome result (λ request. NamesList (rows_of (found_of found.now)) request) }
+    ensures some { IfSome result (λ request. NamesList (rows_of (found_of found.now)) request) }
+    ensures none { result ≡ None → (request : ListRequest) → ¬ NamesList (rows_of (found_of found.now)) request }
 {
     Some(ListRequest {
         file: found.get_str("FILE")?,
@@ -305,7 +307,8 @@ fn list_request_of<'a>(found: &ArgMatches<'a>) -> Option<ListRequest<'a>>
 
 /// What the words behind `check` ask for.
 fn check_request_of<'a>(found: &ArgMatches<'a>) -> Option<CheckRequest<'a>>
-    ensures { IfSome result (λ request. NamesCheck (rows_of (found_of found.now)) request) }
+    ensures some { IfSome result (λ request. NamesCheck (rows_of (found_of found.now)) request) }
+    ensures none { result ≡ None → (request : CheckRequest) → ¬ NamesCheck (rows_of (found_of found.now)) request }
 {
     Some(CheckRequest {
         policy: found.get_str("POLICY")?,
@@ -314,9 +317,9 @@ fn check_request_of<'a>(found: &ArgMatches<'a>) -> Option<CheckRequest<'a>>
 }
 
 /// What `words` ask for, the program's own name first. An error is clap's: a mistake in the words,
-/// a call for help or the version, or memory that ran out. `None` would stand for words that clap
-/// accepts although they name no command or leave an argument out. It is not reached, since clap
-/// rejects such words; that it does is not proved.
+/// a call for help or the version, or memory that ran out. `None` stands for words that clap accepts
+/// although they ask for nothing. It is not reached, since clap rejects such words; that it does is
+/// not proved.
 pub fn wish_of<'a>(alloc: Global, words: &'a [String]) -> Result<Option<Wish<'a>>, Error>
     ensures refused { FailsBy (fault_of dsmon_app (map string_bytes words.entry.now)) result }
     ensures named { IfOk result (λ wish. (wish ≡ Some Wish.Demo)
@@ -328,6 +331,8 @@ pub fn wish_of<'a>(alloc: Global, words: &'a [String]) -> Result<Option<Wish<'a>
     ensures check { IfOk result (λ wish. (request : CheckRequest)
         → wish ≡ Some (Wish.Check request)
         → AsksForCheck (map string_bytes words.entry.now) request) }
+    ensures none { IfOk result (λ wish. wish ≡ None
+        → ¬ AsksForSomething (map string_bytes words.entry.now)) }
 {
     let matches = read_words(alloc, words)?;
     match matches.subcommand() {

@@ -18,14 +18,14 @@ use ds_tlb::Lookaside;
 pub struct Ahead {
     /// The number of steps that entered no exception.
     pub steps: u32,
-    /// The exception that the step behind them entered, if it did.
+    /// The exception that the next step entered, if it did.
     pub raised: Option<ExceptionCode>,
 }
 
 impl Ahead {
     /// So many steps, and an exception in the next.
     #[inline(always)]
-    fn behind(steps: u32, code: ExceptionCode) -> Ahead
+    fn stopped(steps: u32, code: ExceptionCode) -> Ahead
         ensures { result ≡ record { steps = steps; raised = Some code } }
     {
         let raised = Some(code);
@@ -55,10 +55,11 @@ impl<L: Lookaside> Core<L> {
         self.step_anew(bus)
     }
 
-    /// Takes `limit` steps, or fewer and behind them one that enters an exception. So many steps
+    /// Takes `limit` steps, or fewer and after them one that enters an exception. So many steps
     /// take so many ticks, but for a slot at either end; each begins at an address of 32 bits.
     ///
-    /// It is compiled into its caller, so that a stretch, which may be short, begins without a call.
+    /// It is compiled into its caller, so that what runs ahead, which may be a few steps, begins
+    /// without a call.
     #[inline(always)]
     pub fn run_ahead(&mut self, bus: &mut Bus, limit: u32) -> Ahead
         requires slots { L.SLOTS ≡ 64 }
@@ -75,21 +76,21 @@ impl<L: Lookaside> Core<L> {
     {
         let mut steps = 0;
         while steps < limit {
-            let stride = self.stride(bus, limit - steps);
-            steps += stride.steps;
-            if let Some(code) = stride.raised {
-                return Ahead::behind(steps, code);
+            let went = self.stretch_and_step(bus, limit - steps);
+            steps += went.steps;
+            if let Some(code) = went.raised {
+                return Ahead::stopped(steps, code);
             }
         }
-        // The address is looked at, so that it is known to be a word behind the loop.
+        // The address is looked at, so that it is known to be a word after the loop.
         let _here = self.pc;
         Ahead::calm(steps)
     }
 
-    /// Takes steps by their operations, and behind them a plain step where there are fewer than
-    /// `left`, which is one at least.
+    /// A stretch, and after it a plain step where it has fewer steps than `left`, which is one at
+    /// least.
     #[inline(always)]
-    fn stride(&mut self, bus: &mut Bus, left: u32) -> Ahead
+    fn stretch_and_step(&mut self, bus: &mut Bus, left: u32) -> Ahead
         requires slots { L.SLOTS ≡ 64 }
         requires wired { L.WIRED ≡ 8 }
         requires some { 0 < left }
@@ -104,23 +105,23 @@ impl<L: Lookaside> Core<L> {
         ensures raised { IfSome result.raised (λ _.
             (after_steps result.steps (hardware_of self.old bus.old)).core.pc < 2 ^ 32) }
     {
-        let sprint = self.sprint(bus, left);
+        let stretch = self.stretch(bus, left);
         let _here = self.pc;
-        if sprint.calls {
-            return self.call_behind(sprint.steps);
+        if stretch.calls {
+            return self.call_after(stretch.steps);
         }
-        if sprint.steps == left {
+        if stretch.steps == left {
             return Ahead::calm(left);
         }
         if let Event::Raised(code) = self.step_anew(bus) {
-            return Ahead::behind(sprint.steps, code);
+            return Ahead::stopped(stretch.steps, code);
         }
-        Ahead::calm(sprint.steps + 1)
+        Ahead::calm(stretch.steps + 1)
     }
 
-    /// Enters the exception of a system call, behind so many steps.
+    /// Enters the exception of a system call, after so many steps.
     #[inline(always)]
-    fn call_behind(&mut self, steps: u32) -> Ahead
+    fn call_after(&mut self, steps: u32) -> Ahead
         requires slots { L.SLOTS ≡ 64 }
         requires wired { L.WIRED ≡ 8 }
         ensures value { result ≡ record { steps = steps; raised = Some SystemCall } }
@@ -140,7 +141,7 @@ impl<L: Lookaside> Core<L> {
             miss: false,
         });
         self.tlb.tick();
-        Ahead::behind(steps, ExceptionCode::SystemCall)
+        Ahead::stopped(steps, ExceptionCode::SystemCall)
     }
 
     /// Whether only a device can interrupt: coprocessor 0 may not be used, so that nothing is let

@@ -1,4 +1,4 @@
-//! Where the processor goes on: behind an instruction, in a delay slot, or out of the program.
+//! Where the processor goes on: after an instruction, in a delay slot, or out of the program.
 ghost use Rattle.std.specs.Prelude.{◌≡◌};
 ghost use Rattle.ds_isa.specs.Registers.{settled, written, loaded};
 ghost use Rattle.ds_isa.specs.Meaning.{behind_slot, branch_target, jump_target, written_or_trap};
@@ -13,15 +13,15 @@ use ds_isa::Instr;
 use ds_tlb::Lookaside;
 use ds_word::{sign16, wrapping_sum};
 
-/// The address behind a branch and its slot.
+/// The address after a branch and its slot.
 #[inline(always)]
-pub(super) fn behind_slot(pc: u32) -> u32
+pub(super) fn after_slot(pc: u32) -> u32
     ensures { result ≡ behind_slot pc }
 {
     wrapping_sum(pc, 8)
 }
 
-/// The target of a taken branch, else the place behind its slot.
+/// The target of a taken branch, else the place after its slot.
 #[inline(always)]
 pub(super) fn branch_target(taken: bool, pc: u32, immediate: u16) -> u32
     ensures { result ≡ branch_target taken pc immediate }
@@ -30,7 +30,7 @@ pub(super) fn branch_target(taken: bool, pc: u32, immediate: u16) -> u32
         let distance = sign16(immediate).wrapping_mul(4);
         wrapping_sum(wrapping_sum(pc, 4), distance)
     } else {
-        behind_slot(pc)
+        after_slot(pc)
     }
 }
 
@@ -74,7 +74,7 @@ impl<L: Lookaside> Core<L> {
         })
     }
 
-    /// Goes on behind the instruction, which is done.
+    /// Goes on after the instruction, which is done.
     #[inline(always)]
     fn go(&mut self) -> Event
         ensures event { result ≡ Event.Retired }
@@ -141,8 +141,8 @@ impl<L: Lookaside> Core<L> {
         }
     }
 
-    /// Goes on in the slot of a branch or jump, and behind that at the target; a register that
-    /// links gets the address behind the slot. In a slot it is reserved.
+    /// Goes on in the slot of a branch or jump, and after that at the target; a register that
+    /// links gets the address after the slot. In a slot it is reserved.
     #[inline(always)]
     pub(super) fn branch_to(&mut self, link: Option<u8>, target: u32) -> Event
         ensures { (bus : BusState) → (record { event = result; core = self.new; bus = bus })
@@ -153,7 +153,7 @@ impl<L: Lookaside> Core<L> {
             return self.trap(ExceptionCode::ReservedInstruction);
         }
         match link {
-            Some(register) => self.write(register, behind_slot(self.pc)),
+            Some(register) => self.write(register, after_slot(self.pc)),
             None => self.late = None,
         }
         self.pc = self.next;

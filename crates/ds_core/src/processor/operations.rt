@@ -12,7 +12,7 @@ ghost use Rattle.ds_core.specs.Placed.{registers_at, with_general, at_next};
 ghost use Rattle.ds_core.specs.Operations.{ComesTo};
 
 use super::Core;
-use super::flow::behind_slot;
+use super::flow::after_slot;
 use super::position::Position;
 use ds_amap::{Access, Physical, recalled};
 use ds_dev::Bus;
@@ -38,7 +38,7 @@ pub(super) enum Outcome {
     Left,
 }
 
-/// The target of a taken branch at its distance, else the place behind its slot.
+/// The target of a taken branch at its distance, else the place after its slot.
 #[inline(always)]
 pub(super) fn target_by(taken: bool, pc: u32, distance: u32) -> u32
     ensures { result ≡ target_by taken pc distance }
@@ -46,7 +46,7 @@ pub(super) fn target_by(taken: bool, pc: u32, distance: u32) -> u32
     if taken {
         wrapping_sum(pc, distance)
     } else {
-        behind_slot(pc)
+        after_slot(pc)
     }
 }
 
@@ -135,7 +135,7 @@ impl<L: Lookaside> Core<L> {
         }
     }
 
-    /// The same, with the address behind the slot in a register.
+    /// The same, with the address after the slot in a register.
     #[inline(always)]
     pub(super) fn jump_and_link(
         &mut self,
@@ -153,7 +153,7 @@ impl<L: Lookaside> Core<L> {
         if at.slot {
             return Outcome::Left;
         }
-        self.registers[to.number() as usize] = behind_slot(at.pc);
+        self.registers[to.number() as usize] = after_slot(at.pc);
         at.into_slot(target)
     }
 

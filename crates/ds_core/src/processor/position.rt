@@ -1,4 +1,4 @@
-//! Where a stretch stands: what each step changes is kept beside the processor, and put back behind the last.
+//! Where a stretch stands: what each step changes is kept beside the processor, and put back after the last.
 ghost use Rattle.std.specs.Prelude.{◌≡◌, false};
 ghost use Rattle.ds_core.specs.Placed.{placed, at_next, at_slot, IsFree};
 
@@ -34,7 +34,7 @@ impl Model for Position {
 }
 
 impl Position {
-    /// Goes on behind the operation, which is done.
+    /// Goes on after the operation, which is done.
     #[inline(always)]
     pub(super) fn go_on(&mut self) -> Outcome
         ensures done { result ≡ Outcome.Done }
@@ -47,7 +47,7 @@ impl Position {
         Outcome::Done
     }
 
-    /// On into the slot, and behind it at the target.
+    /// On into the slot, and after it at the target.
     #[inline(always)]
     pub(super) fn into_slot(&mut self, target: u32) -> Outcome
         ensures branched { result ≡ Outcome.Branched }
@@ -90,7 +90,7 @@ impl<L: Lookaside> Core<L> {
         }
     }
 
-    /// The processor stands where the stretch came to, so many steps behind its beginning.
+    /// The processor stands where the stretch came to, so many steps after its beginning.
     #[inline(always)]
     pub(super) fn settle(&mut self, at: &Position, steps: u32)
         requires slots { L.SLOTS ≡ 64 }

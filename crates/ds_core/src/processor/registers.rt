@@ -9,7 +9,7 @@ use ds_tlb::Lookaside;
 use ds_word::{sign16, wrapping_sum};
 
 impl<L: Lookaside> Core<L> {
-    /// A register, as an operand reads it: behind a load its old value.
+    /// A register, as an operand reads it: after a load its old value.
     #[inline(always)]
     pub(super) fn read(&self, register: u8) -> u32
         ensures { result ≡ read self.now.registers register }

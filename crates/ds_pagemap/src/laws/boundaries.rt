@@ -10,7 +10,7 @@ pub fn a_boundary_takes_no_time()
     ensures { (m : State) → (boundary m).time ≡ m.time }
 {}
 
-/// No boundary is owed behind a boundary.
+/// No boundary is owed after a boundary.
 #[tactic(auto, using(crate::proofs::Boundaries::boundary_owed))]
 pub fn a_boundary_is_done_once()
     ensures { (m : State) → (boundary m).owed ≡ None }

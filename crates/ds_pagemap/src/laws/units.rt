@@ -40,7 +40,7 @@ pub fn a_stopped_unit_leaves_the_pages()
         instruction m p (process_of m p).pc ≡ Stopped stop → (unit m).memory ≡ m.memory }
 {}
 
-/// Nor does one that is stopped behind its branch.
+/// Nor does one that is stopped after its branch.
 #[tactic(auto, using(crate::proofs::Units::unit_stopped_in_slot))]
 pub fn a_unit_stopped_in_its_slot_leaves_the_pages()
     ensures { (m t : State) (p target : ℕ) (rest : List ℕ) (stop : Stop) → m.ready ≡ p ∷ rest →

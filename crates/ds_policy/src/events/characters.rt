@@ -65,7 +65,7 @@ impl Characters {
         }
     }
 
-    /// Puts characters that come in on a line at a time, in ticks, behind the others; none of them
+    /// Puts characters that come in on a line at a time, in ticks, at the end; none of them
     /// where memory runs out.
     pub(crate) fn push(&mut self, time: u32, line: u8, bytes: &[u8]) -> Result<(), AllocError>
         ensures added { OnOk result (self.new ≡ self.old ++ characters_of time line bytes.now) }

@@ -1,4 +1,4 @@
-//! The events of an input, one behind the other.
+//! The events of an input, one after the other.
 ghost use Rattle.std.specs.Prelude.{◌≡◌, ◌≤◌, ◌<◌, ◌+◌, ◌++◌, length, OnOk, OnErr, true};
 ghost use Rattle.ds_policy.specs.InputText.{nothing_said, follows, with_command, with_characters};
 

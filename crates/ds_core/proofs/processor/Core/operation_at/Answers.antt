@@ -4,7 +4,7 @@ use Rattle.ds_isa.specs.Instruction.{instruction_of}
 use Rattle.ds_amap.specs.Map.{at_physical}
 use Rattle.ds_core.specs.Placed.{Place, placed}
 use Rattle.ds_core.proofs.Codes.{reaches_page}
-use Rattle.ds_core.proofs.Sprints.{knows_placed}
+use Rattle.ds_core.proofs.Stretches.{knows_placed}
 use Rattle.ds_core.proofs.Fetches.{instruction_at, in_memory, kept_in_memory}
 use Rattle.ds_core.proofs.processor.Core.operation_at.Goals as goal
 

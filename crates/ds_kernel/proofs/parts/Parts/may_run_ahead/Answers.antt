@@ -1,6 +1,6 @@
 use Rattle.std.proofs.Common.{◌-◌, ℕ, ap, sym, ◌∙◌, arith}
 use Rattle.std.specs.Prelude.{Option, is_some, min}
-use Rattle.ds_kernel.proofs.Ahead.{goes_ahead, goes_two, within_quiet, no_end, none_owed, some_ready}
+use Rattle.ds_kernel.proofs.Ahead.{may_run_ahead, goes_two, within_quiet, no_end, none_owed, some_ready}
 use Rattle.ds_kernel.proofs.parts.Parts.may_run_ahead.Goals as goal
 
 pub returns-then-end-self-clause-any : goal.returns-then-end-self-clause-any
@@ -12,7 +12,7 @@ pub returns-then-is_some-2-clause-ahead : goal.returns-then-is_some-2-clause-ahe
 returns-then-is_some-2-clause-ahead g c =
     let m = c.args.self.now.monitor in
     let later = c.if-end-self.false in
-    goes_ahead c.args.self.now (c.min-end.result - m.time - 1) c.requires.good c.look_at_order.ensures.commands c.look_at_order.ensures.order
+    may_run_ahead c.args.self.now (c.min-end.result - m.time - 1) c.requires.good c.look_at_order.ensures.commands c.look_at_order.ensures.order
     (none_owed m.owed (sym c.is_some.ensures ∙ c.if-is_some.false))
     (some_ready m.ready (sym (c.is_some-then-whole.ensures ∙ ap (λ (o : Option ℕ). is_some o) c.first_ready.ensures) ∙ c.if-is_some-2.true))
     (c.if-whole.true ∙ c.slot_tick.ensures)

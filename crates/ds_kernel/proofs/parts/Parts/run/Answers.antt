@@ -20,9 +20,9 @@ loop-self-init g c =
 
 pub loop-self-preserved : goal.loop-self-preserved
 loop-self-preserved g c =
-    let goes = c.in_ok-advance.ensures.goes in record {
+    let goes = c.in_ok-run_blocks_or_step.ensures.goes in record {
       ran = goes.runs (held c.args.self.now) c.loop-self.invariant.ran;
-      good = c.advance.ensures.good;
+      good = c.run_blocks_or_step.ensures.good;
       working = goes.working ∙ c.loop-self.invariant.working;
       begun = λ before some. goes.begun some;
     }

@@ -14,32 +14,32 @@ use Rattle.ds_kernel.proofs.parts.Parts.run_block.Goals as goal
 pub returns-in-None-clause-good : goal.returns-in-None-clause-good
 returns-in-None-clause-good g c =
     let old = c.args.self.now in
-    let mid = c.go_ahead-ahead.new.self in
-    let n = c.go_ahead-ahead.result.steps in
-    let advances = subst (λ (o : Option ExceptionCode). AdvancesTo n o (hardware_of old.core old.bus) (hardware_of mid.core mid.bus)) c.in-None.is c.go_ahead-ahead.ensures.steps in
-    let all : n ≡ c.args.limit = c.go_ahead-ahead.ensures.all (ap is_some c.in-None.is) in
-    subst IsGood (sym (counted_is old mid c.count.new.self _ _ c.go_ahead-ahead.ensures.rest c.count.ensures))
-    (calm_good c.args.limit n old mid.core mid.bus _ _ c.requires.good c.requires.ahead c.requires.room c.requires.early c.requires.before c.go_ahead-ahead.ensures.words (omega (arith, all)) advances
-    (c.go_ahead-ahead.ensures.ticks (ap is_some c.in-None.is)) (ap₂ (λ (x y : ℕ). n + x - y) c.slot_tick-before.ensures c.slot_tick-left.ensures) c.slot_tick-left.ensures)
+    let mid = c.run_ahead-ahead.new.self in
+    let n = c.run_ahead-ahead.result.steps in
+    let advances = subst (λ (o : Option ExceptionCode). AdvancesTo n o (hardware_of old.core old.bus) (hardware_of mid.core mid.bus)) c.in-None.is c.run_ahead-ahead.ensures.steps in
+    let all : n ≡ c.args.limit = c.run_ahead-ahead.ensures.all (ap is_some c.in-None.is) in
+    subst IsGood (sym (counted_is old mid c.count.new.self _ _ c.run_ahead-ahead.ensures.rest c.count.ensures))
+    (calm_good c.args.limit n old mid.core mid.bus _ _ c.requires.good c.requires.ahead c.requires.room c.requires.early c.requires.before c.run_ahead-ahead.ensures.words (omega (arith, all)) advances
+    (c.run_ahead-ahead.ensures.ticks (ap is_some c.in-None.is)) (ap₂ (λ (x y : ℕ). n + x - y) c.slot_tick-before.ensures c.slot_tick-left.ensures) c.slot_tick-left.ensures)
 
 pub returns-in-None-clause-goes : goal.returns-in-None-clause-goes
 returns-in-None-clause-goes g c = λ end soon.
     let old = c.args.self.now in
-    let mid = c.go_ahead-ahead.new.self in
-    let n = c.go_ahead-ahead.result.steps in
-    let advances = subst (λ (o : Option ExceptionCode). AdvancesTo n o (hardware_of old.core old.bus) (hardware_of mid.core mid.bus)) c.in-None.is c.go_ahead-ahead.ensures.steps in
-    let all : n ≡ c.args.limit = c.go_ahead-ahead.ensures.all (ap is_some c.in-None.is) in
+    let mid = c.run_ahead-ahead.new.self in
+    let n = c.run_ahead-ahead.result.steps in
+    let advances = subst (λ (o : Option ExceptionCode). AdvancesTo n o (hardware_of old.core old.bus) (hardware_of mid.core mid.bus)) c.in-None.is c.run_ahead-ahead.ensures.steps in
+    let all : n ≡ c.args.limit = c.run_ahead-ahead.ensures.all (ap is_some c.in-None.is) in
     let some : 1 ≤ c.args.limit = c.requires.some in
-    subst (λ (p : Parts g.row.L.Denot). GoesOn end (held old) (held p)) (sym (counted_is old mid c.count.new.self _ _ c.go_ahead-ahead.ensures.rest c.count.ensures))
-    (calm_goes c.args.limit n old mid.core mid.bus _ _ c.requires.good c.requires.ahead c.requires.room c.requires.early c.requires.before c.go_ahead-ahead.ensures.words (omega (arith, all)) advances
-    (c.go_ahead-ahead.ensures.ticks (ap is_some c.in-None.is)) (ap₂ (λ (x y : ℕ). n + x - y) c.slot_tick-before.ensures c.slot_tick-left.ensures) c.slot_tick-left.ensures end (omega (arith, all, some)) soon)
+    subst (λ (p : Parts g.row.L.Denot). GoesOn end (held old) (held p)) (sym (counted_is old mid c.count.new.self _ _ c.run_ahead-ahead.ensures.rest c.count.ensures))
+    (calm_goes c.args.limit n old mid.core mid.bus _ _ c.requires.good c.requires.ahead c.requires.room c.requires.early c.requires.before c.run_ahead-ahead.ensures.words (omega (arith, all)) advances
+    (c.run_ahead-ahead.ensures.ticks (ap is_some c.in-None.is)) (ap₂ (λ (x y : ℕ). n + x - y) c.slot_tick-before.ensures c.slot_tick-left.ensures) c.slot_tick-left.ensures end (omega (arith, all, some)) soon)
 
 pub overflow_sub-ahead-in-Some : goal.overflow_sub-ahead-in-Some
 overflow_sub-ahead-in-Some g c =
     let old = c.args.self.now in
-    let mid = c.go_ahead-ahead.new.self in
-    let n = c.go_ahead-ahead.result.steps in
-    let leads = subst (λ (o : Option ExceptionCode). AdvancesTo n o (hardware_of old.core old.bus) (hardware_of mid.core mid.bus)) c.in-Some.is c.go_ahead-ahead.ensures.steps in
+    let mid = c.run_ahead-ahead.new.self in
+    let n = c.run_ahead-ahead.result.steps in
+    let leads = subst (λ (o : Option ExceptionCode). AdvancesTo n o (hardware_of old.core old.bus) (hardware_of mid.core mid.bus)) c.in-Some.is c.run_ahead-ahead.ensures.steps in
     let all : ticks n (hardware_of old.core old.bus) + owed_tick (is_delayed mid.core.system) ≡ n + owed_tick old.core.slot = raised_ticks n c.in-Some.field-0 (hardware_of old.core old.bus) (hardware_of mid.core mid.bus) leads in
     let left : c.owed_tick-left.result ≡ owed_tick (is_delayed mid.core.system) = c.owed_tick-left.ensures ∙ ap owed_tick c.is_delayed.ensures in
     let before : c.slot_tick-before.result ≡ owed_tick old.core.slot = c.slot_tick-before.ensures in
@@ -48,23 +48,23 @@ overflow_sub-ahead-in-Some g c =
 pub returns-in-Some-clause-good : goal.returns-in-Some-clause-good
 returns-in-Some-clause-good g c =
     let old = c.args.self.now in
-    let mid = c.go_ahead-ahead.new.self in
-    let n = c.go_ahead-ahead.result.steps in
-    let leads = subst (λ (o : Option ExceptionCode). AdvancesTo n o (hardware_of old.core old.bus) (hardware_of mid.core mid.bus)) c.in-Some.is c.go_ahead-ahead.ensures.steps in
-    let fewer = subst (λ (o : Option ExceptionCode). IfSome o (λ (code : ExceptionCode). n < c.args.limit)) c.in-Some.is c.go_ahead-ahead.ensures.fewer in
+    let mid = c.run_ahead-ahead.new.self in
+    let n = c.run_ahead-ahead.result.steps in
+    let leads = subst (λ (o : Option ExceptionCode). AdvancesTo n o (hardware_of old.core old.bus) (hardware_of mid.core mid.bus)) c.in-Some.is c.run_ahead-ahead.ensures.steps in
+    let fewer = subst (λ (o : Option ExceptionCode). IfSome o (λ (code : ExceptionCode). n < c.args.limit)) c.in-Some.is c.run_ahead-ahead.ensures.fewer in
     let left : c.owed_tick-left.result ≡ owed_tick (is_delayed mid.core.system) = c.owed_tick-left.ensures ∙ ap owed_tick c.is_delayed.ensures in
-    subst IsGood (sym (counted_is old mid c.count-in-Some.new.self _ _ c.go_ahead-ahead.ensures.rest c.count-in-Some.ensures))
-    (raised_good c.args.limit n old mid.core mid.bus _ _ c.requires.good c.requires.ahead c.requires.room c.requires.early c.requires.before c.go_ahead-ahead.ensures.words c.in-Some.field-0 fewer leads
+    subst IsGood (sym (counted_is old mid c.count-in-Some.new.self _ _ c.run_ahead-ahead.ensures.rest c.count-in-Some.ensures))
+    (raised_good c.args.limit n old mid.core mid.bus _ _ c.requires.good c.requires.ahead c.requires.room c.requires.early c.requires.before c.run_ahead-ahead.ensures.words c.in-Some.field-0 fewer leads
     (raised_ticks n c.in-Some.field-0 (hardware_of old.core old.bus) (hardware_of mid.core mid.bus) leads) (ap₂ (λ (x y : ℕ). n + x - y) c.slot_tick-before.ensures left) (ap (λ (x : ℕ). x + 1) left))
 
 pub returns-in-Some-clause-goes : goal.returns-in-Some-clause-goes
 returns-in-Some-clause-goes g c = λ end soon.
     let old = c.args.self.now in
-    let mid = c.go_ahead-ahead.new.self in
-    let n = c.go_ahead-ahead.result.steps in
-    let leads = subst (λ (o : Option ExceptionCode). AdvancesTo n o (hardware_of old.core old.bus) (hardware_of mid.core mid.bus)) c.in-Some.is c.go_ahead-ahead.ensures.steps in
-    let fewer = subst (λ (o : Option ExceptionCode). IfSome o (λ (code : ExceptionCode). n < c.args.limit)) c.in-Some.is c.go_ahead-ahead.ensures.fewer in
+    let mid = c.run_ahead-ahead.new.self in
+    let n = c.run_ahead-ahead.result.steps in
+    let leads = subst (λ (o : Option ExceptionCode). AdvancesTo n o (hardware_of old.core old.bus) (hardware_of mid.core mid.bus)) c.in-Some.is c.run_ahead-ahead.ensures.steps in
+    let fewer = subst (λ (o : Option ExceptionCode). IfSome o (λ (code : ExceptionCode). n < c.args.limit)) c.in-Some.is c.run_ahead-ahead.ensures.fewer in
     let left : c.owed_tick-left.result ≡ owed_tick (is_delayed mid.core.system) = c.owed_tick-left.ensures ∙ ap owed_tick c.is_delayed.ensures in
-    subst (λ (p : Parts g.row.L.Denot). GoesOn end (held old) (held p)) (sym (counted_is old mid c.count-in-Some.new.self _ _ c.go_ahead-ahead.ensures.rest c.count-in-Some.ensures))
-    (raised_goes c.args.limit n old mid.core mid.bus _ _ c.requires.good c.requires.ahead c.requires.room c.requires.early c.requires.before c.go_ahead-ahead.ensures.words c.in-Some.field-0 fewer leads
+    subst (λ (p : Parts g.row.L.Denot). GoesOn end (held old) (held p)) (sym (counted_is old mid c.count-in-Some.new.self _ _ c.run_ahead-ahead.ensures.rest c.count-in-Some.ensures))
+    (raised_goes c.args.limit n old mid.core mid.bus _ _ c.requires.good c.requires.ahead c.requires.room c.requires.early c.requires.before c.run_ahead-ahead.ensures.words c.in-Some.field-0 fewer leads
     (raised_ticks n c.in-Some.field-0 (hardware_of old.core old.bus) (hardware_of mid.core mid.bus) leads) (ap₂ (λ (x y : ℕ). n + x - y) c.slot_tick-before.ensures left) (ap (λ (x : ℕ). x + 1) left) end soon)

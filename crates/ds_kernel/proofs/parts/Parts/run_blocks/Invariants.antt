@@ -1,5 +1,5 @@
 use Rattle.std.proofs.Common.{◌≡◌, false, ◌+◌, ◌≤◌}
-use Rattle.ds_refinement.specs.Blocks.{GoesAhead}
+use Rattle.ds_refinement.specs.Blocks.{MayRunAhead}
 use Rattle.ds_refinement.specs.Held.{Held}
 use Rattle.ds_monitor.specs.Room.{HasRoom}
 use Rattle.ds_kernel.specs.Parts.{held}
@@ -12,7 +12,7 @@ invariant-loop-ahead g l = record {
   good : IsGood l.self;
   working : l.self.failed ≡ false;
   goes : (h : Held) → GoesOn l.n (held l.self) h → GoesOn l.n (held l.fn.self) h;
-  ahead : GoesAhead l.ahead (held l.self);
+  ahead : MayRunAhead l.ahead (held l.self);
   some : 1 ≤ l.ahead;
   end : l.self.monitor.time + l.ahead + 1 ≡ l.end;
   quiet : l.end + 2 ≤ l.self.monitor.quiet_until;

@@ -1,6 +1,0 @@
-use Rattle.ds_core.proofs.Sprints.{proceeds}
-use Rattle.ds_core.proofs.processor.Core.proceed.Goals as goal
-
-pub returns-in-Some-clause-proceeds : goal.returns-in-Some-clause-proceeds
-returns-in-Some-clause-proceeds g c = proceeds c.operate.result c.in-Some.operation c.args.self.now c.args.at.now c.args.bus.now c.operation_at.new.bus c.operate.new.self c.operate.new.at c.operate.new.bus
-    c.requires.calm c.in-Some.ensures.fetched c.operate.ensures.known c.operation_at.ensures.same c.operate.ensures.comes

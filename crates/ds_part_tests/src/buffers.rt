@@ -1,0 +1,142 @@
+//! Both buffers at three sizes, through the trait.
+ghost use Rattle.std.specs.Prelude.{◌≡◌, ◌<◌, ◌≤◌};
+
+use ds_tlb::{BadRandom, Entry, Indexed, Lookaside, Tlb};
+use std::test::Fail;
+
+/// Pages that collide: the first two are in one bucket, as are the third and the page that slot 3
+/// holds at the start.
+const PAGES: [u32; 5] = [0x400, 0x440, 0x80003, 0x7ffff, 0];
+
+/// The entry that a script writes in its step.
+fn entry_of(step: usize) -> Entry {
+    Entry {
+        vpn: PAGES[step % 5],
+        asid: (step % 3) as u8,
+        pfn: (step % 0x100000) as u32,
+        n: step % 2 == 0,
+        d: step % 3 == 0,
+        v: step % 5 != 0,
+        g: step % 7 == 0,
+    }
+}
+
+/// A step of the script: a tick, a write by Random or a write by slot.
+fn do_step<L: Lookaside>(buffer: &mut L, step: usize)
+    requires { 1 ≤ L.SLOTS }
+{
+    match step % 4 {
+        0 => buffer.tick(),
+        1 => {
+            buffer.write_random(entry_of(step));
+        }
+        _ => buffer.write(step / 4 % L::SLOTS, entry_of(step)),
+    }
+}
+
+/// Whether two buffers hold the same and find the same.
+fn are_alike<A: Lookaside, B: Lookaside>(a: &A, b: &B) -> bool {
+    let mut held = A::SLOTS == B::SLOTS;
+    for slot in 0..A::SLOTS {
+        if slot < B::SLOTS {
+            held = held && a.read(slot) == b.read(slot);
+        }
+    }
+    let found = PAGES.iter().all(|vpn| {
+        (0..4u8).all(|asid| {
+            a.find(*vpn, asid) == b.find(*vpn, asid) && a.probe(*vpn, asid) == b.probe(*vpn, asid)
+        })
+    });
+    held && found && a.random() == b.random()
+}
+
+/// How many slots match the page in the address space.
+fn matches_of<L: Lookaside>(buffer: &L, vpn: u32, asid: u8) -> usize {
+    (0..L::SLOTS)
+        .filter(|slot| buffer.read(*slot).matches(vpn, asid))
+        .count()
+}
+
+/// Runs one script on both; whether they were alike throughout, with two slots that matched one
+/// page at some time.
+fn agree<A: Lookaside, B: Lookaside>(start: usize) -> bool
+    requires slots { A.SLOTS ≡ B.SLOTS }
+    requires wired { A.WIRED ≡ B.WIRED }
+    requires some_wired { 1 ≤ A.WIRED }
+    requires some_free { A.WIRED < A.SLOTS }
+    requires few { A.SLOTS ≤ 64 }
+{
+    let (Ok(mut a), Ok(mut b)) = (A::new(start), B::new(start)) else {
+        return false;
+    };
+    let mut alike = are_alike(&a, &b);
+    let mut doubled = false;
+    for step in 0..400 {
+        do_step(&mut a, step);
+        do_step(&mut b, step);
+        alike = alike && are_alike(&a, &b);
+        doubled = doubled || matches_of(&a, 0x400, 1) > 1;
+    }
+    alike && doubled
+}
+
+#[test]
+fn both_buffers_answer_alike(rt: HostRuntime) {
+    assert!(rt; agree::<Tlb<64, 8>, Indexed<64, 8>>(63));
+    assert!(rt; agree::<Tlb<10, 8>, Indexed<10, 8>>(9));
+    assert!(rt; agree::<Tlb<8, 1>, Indexed<8, 1>>(4));
+}
+
+/// Whether a buffer of this type starts with each of the two, and refuses the others.
+fn starts_from<L: Lookaside>(low: usize, high: usize) -> bool
+    requires some_wired { 1 ≤ L.WIRED }
+    requires some_free { L.WIRED < L.SLOTS }
+    requires few { L.SLOTS ≤ 64 }
+{
+    (0..256).all(|start| L::new(start).is_ok() == (low <= start && start <= high))
+}
+
+#[test]
+fn random_starts_from_the_wired_slots_to_the_last(rt: HostRuntime) {
+    assert!(rt; Tlb::<10, 8>::new(9).is_ok());
+    assert!(rt; matches!(Tlb::<10, 8>::new(10), Err(BadRandom)));
+    assert!(rt; starts_from::<Tlb<64, 8>>(8, 63));
+    assert!(rt; starts_from::<Tlb<10, 8>>(8, 9));
+    assert!(rt; starts_from::<Tlb<8, 1>>(1, 7));
+    assert!(rt; starts_from::<Indexed<64, 8>>(8, 63));
+    assert!(rt; starts_from::<Indexed<10, 8>>(8, 9));
+    assert!(rt; starts_from::<Indexed<8, 1>>(1, 7));
+}
+
+/// What a buffer of this type answers to the calls of a refill handler, each by its Index word.
+fn index_words<L: Lookaside>() -> Result<[u32; 6], BadRandom>
+    requires slots { L.SLOTS ≡ 64 }
+    requires wired { L.WIRED ≡ 8 }
+{
+    let mut buffer = L::new(9)?;
+    let user = Entry {
+        vpn: 0x400,
+        asid: 5,
+        ..Entry::empty(0)
+    };
+    let before = buffer.probe(0x400, 5);
+    let at_random = buffer.write_random(user) as u32;
+    buffer.tick();
+    buffer.tick();
+    let wrapped = buffer.write_random(Entry { g: true, ..user }) as u32;
+    let lowest = buffer.probe(0x400, 5);
+    let global = buffer.probe(0x400, 6);
+    buffer.write(9, Entry::empty(9));
+    let left = buffer.probe(0x400, 5);
+    Ok([before, at_random, wrapped, lowest, global, left])
+}
+
+#[test]
+fn the_lowest_match_is_probed_and_random_wraps_to_the_last_slot(
+    rt: HostRuntime,
+) -> Result<(), Fail> {
+    let words = [0x8000_0000, 9, 63, 0x900, 0x3f00, 0x3f00];
+    assert_eq!(rt; index_words::<Tlb<64, 8>>()?, words);
+    assert_eq!(rt; index_words::<Indexed<64, 8>>()?, words);
+    Ok(())
+}

@@ -1,0 +1,71 @@
+//! The numbers and texts of faults.
+use ds_asm::{AsmFault, SourceFault};
+use ds_cp0::ExceptionCode;
+use ds_dev::BusError;
+use ds_log::WriteFailed;
+use ds_policy::{EventsFault, PolicyFault};
+use ds_tables::Regions;
+use ds_tlb::BadRandom;
+use std::test::*;
+
+/// The faults of a source, each in a line: its number, and its text.
+const OF_A_SOURCE: &str = "3 3 Syntax 2
+4 4 UnknownLabel 1
+5 5 DoubleLabel 7
+6 6 Range 65
+7 7 TooLong 2
+25 25 Memory
+";
+
+#[test]
+fn faults_of_a_source_have_numbers_and_texts(rt: HostRuntime) -> Result<(), Fail> {
+    let mut told = String::new(rt.alloc());
+    for fault in [
+        AsmFault::Source(SourceFault::Syntax(2)),
+        AsmFault::Source(SourceFault::UnknownLabel(1)),
+        AsmFault::Source(SourceFault::DoubleLabel(7)),
+        AsmFault::Source(SourceFault::Range(65)),
+        AsmFault::Source(SourceFault::TooLong(2)),
+        AsmFault::Memory,
+    ] {
+        let number = fault.number();
+        write!(told, "{number} {fault}\n")?;
+    }
+    assert_eq!(rt; told.as_str(), OF_A_SOURCE);
+    Ok(())
+}
+
+#[test]
+fn faults_have_texts(rt: HostRuntime) -> Result<(), Fail> {
+    let (memory, log) = (ds_mem::OutOfMemory, ds_log::OutOfMemory);
+    let told = format!(in rt.alloc(); "{memory}, {log}, {BusError}, {WriteFailed}")?;
+    assert_eq!(rt;
+        told.as_str(),
+        "out of memory, out of memory, bus error, the text could not be written"
+    );
+    Ok(())
+}
+
+#[test]
+fn faults_have_numbers(rt: HostRuntime) {
+    let numbers = [
+        BadRandom.number(),
+        BusError.number(),
+        PolicyFault::BadToml.number(),
+        PolicyFault::BadRule(1).number(),
+        PolicyFault::Limit("key").number(),
+        Regions.number(),
+        EventsFault::InputFault(1).number(),
+        PolicyFault::Memory.number(),
+        EventsFault::Memory.number(),
+        ds_mem::OutOfMemory.number(),
+        ds_log::OutOfMemory.number(),
+    ];
+    assert_eq!(rt; numbers, [1, 2, 8, 9, 10, 11, 20, 25, 25, 25, 25]);
+    let codes = [
+        ExceptionCode::Interrupt.number(),
+        ExceptionCode::LoadAddress.number(),
+        ExceptionCode::Overflow.number(),
+    ];
+    assert_eq!(rt; codes, [0, 4, 12]);
+}

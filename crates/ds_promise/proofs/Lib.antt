@@ -1,0 +1,14 @@
+pub mod Granted
+pub mod Stores
+pub mod Histories
+pub mod Seen
+pub mod SeenUnits
+pub mod Answers
+pub mod Lines
+pub mod Denied
+pub mod RefusedRows
+pub mod WholePages
+pub mod WholeStates
+pub mod FirstPages
+pub mod Copies
+pub mod WholeRows

@@ -1,0 +1,7 @@
+pub mod Stores
+pub mod Whole
+pub mod Seen
+pub mod Lines
+pub mod Denied
+pub mod Answers
+pub mod Rows

@@ -1,0 +1,15 @@
+//! What the page-map machine promises its user: who can change a page, what a guest can see, what a
+//! call can tell, and what the log says.
+#![tactic(auto)]
+
+mod laws;
+mod pages;
+
+pub use laws::{
+    a_guest_sees_nothing_but_what_it_was_granted, an_instruction_stops_exactly_where_it_is_denied,
+    every_denial_is_logged_and_nothing_else, only_a_granted_store_changes_a_page,
+    what_a_call_can_tell, what_looks_alike,
+};
+pub use pages::{
+    a_copy_has_the_bytes_of_that_moment, pages_change_only_as_granted, pages_stay_whole,
+};

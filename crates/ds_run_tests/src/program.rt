@@ -1,0 +1,467 @@
+//! The program over files and streams in memory, where no row of a table can make them.
+use ds_drive::{Failure, FileFault, Files, MOST_BYTES, SystemFiles, drive, refuse_words, tell};
+use ds_policy::Text;
+use ds_station::Fault;
+use std::alloc::{AllocError, Global};
+use std::io::Write;
+use std::process::Abort;
+use std::test::Fail;
+use std::{fs, io};
+
+/// Files in memory: names with their bytes.
+#[derive(Drop)]
+struct Held<'a> {
+    files: &'a [(&'a str, &'a [u8])],
+    /// The names that were asked for, each followed by a line feed.
+    asked: String,
+}
+
+impl<'a> Files for Held<'a> {
+    fn read(&mut self, alloc: Global, name: &str) -> Result<Vec<u8>, FileFault> {
+        if self.asked.push_str(name).is_err() || self.asked.push('\n').is_err() {
+            return Err(FileFault::Memory);
+        }
+        for (held, bytes) in self.files {
+            if *held == name && bytes.len() as u64 <= MOST_BYTES {
+                return match bytes.to_vec(alloc) {
+                    Ok(bytes) => Ok(bytes),
+                    Err(_) => Err(FileFault::Memory),
+                };
+            }
+        }
+        Err(FileFault::Unreadable)
+    }
+}
+
+/// A place where memory runs out at the file that is asked for after so many others.
+#[derive(Drop)]
+struct Exhausted {
+    before: u32,
+}
+
+impl Files for Exhausted {
+    fn read(&mut self, alloc: Global, _name: &str) -> Result<Vec<u8>, FileFault> {
+        if self.before == 0 {
+            return Err(FileFault::Memory);
+        }
+        self.before -= 1;
+        match POLICY.as_bytes().to_vec(alloc) {
+            Ok(bytes) if bytes.len() as u64 <= MOST_BYTES => Ok(bytes),
+            _ => Err(FileFault::Memory),
+        }
+    }
+}
+
+/// A writer that takes nothing.
+#[derive(Drop)]
+struct Closed;
+
+impl Write for Closed {
+    fn write(&mut self, _bytes: &[u8]) -> io::Result<usize> {
+        Err(io::Error::from(io::ErrorKind::BrokenPipe))
+    }
+
+    fn flush(&mut self) -> io::Result<()> {
+        Ok(())
+    }
+}
+
+const POLICY: &str = "version = 1
+frames = 16
+[[process]]
+start = 0x00400000
+line = 0
+[[page]]
+name = \"code\"
+source = \"one.s\"
+part = 0
+[[rule]]
+process = 1
+address = 0x00400000
+right = \"read\"
+page = \"code\"
+";
+
+/// Puts `A` and exits.
+const SOURCE: &str = ".word 0x24040041
+.word 0x24020001
+.word 0x0000000C
+.word 0x24020000
+.word 0x0000000C
+";
+
+/// What a run of `SOURCE` writes.
+const WRITTEN: &str = "console 0 1
+A
+console 1 0
+
+console 2 0
+
+console 3 0
+
+log 0
+time 5
+";
+
+const RUN: &str = "dsmon run p.toml in.txt 100";
+
+const DEMO: &str = "dsmon demo";
+
+const LIST: &str = "dsmon list one.s";
+
+const LIST_WORDS: &str = "dsmon list --words one.bin";
+
+const CHECK: &str = "dsmon check p.toml in.txt";
+
+const CHECK_POLICY: &str = "dsmon check p.toml";
+
+/// One character, and one command.
+const INPUT: &str = "3 key 0 41\n5 stop 1\n";
+
+/// A source whose second line is no instruction.
+const BAD_SOURCE: &str = "nop\nwalk\n";
+
+/// The files that the commands name.
+fn files_with<'a>(input: &'a str, source: &'a str) -> [(&'a str, &'a [u8]); 4] {
+    [
+        ("p.toml", POLICY.as_bytes()),
+        ("in.txt", input.as_bytes()),
+        ("one.s", source.as_bytes()),
+        ("one.bin", SOURCE.as_bytes()),
+    ]
+}
+
+/// The words of a line, with one space between; an empty line has none.
+fn words_of(alloc: Global, line: &str) -> Result<Vec<String>, AllocError> {
+    let mut words = Vec::new(alloc);
+    if line.is_empty() {
+        return Ok(words);
+    }
+    for word in line.split(' ') {
+        words.push(String::from_str(alloc, word)?)?;
+    }
+    Ok(words)
+}
+
+/// What the program answers over files: the status, what it wrote, and the names of the files that
+/// it asked for.
+#[derive(Drop)]
+struct Answer {
+    status: u8,
+    out: Vec<u8>,
+    err: Vec<u8>,
+    asked: String,
+}
+
+fn answer_to(alloc: Global, line: &str, files: &[(&str, &[u8])]) -> Result<Answer, AllocError> {
+    let words = words_of(alloc, line)?;
+    let mut held = Held {
+        files,
+        asked: String::new(alloc),
+    };
+    let mut out = Vec::new(alloc);
+    let mut err = Vec::new(alloc);
+    let status = drive(alloc, words.as_slice(), &mut held, &mut out, &mut err);
+    Ok(Answer {
+        status,
+        out,
+        err,
+        asked: held.asked,
+    })
+}
+
+/// Words, and what stands in the text that answers them after a bar: their refusal, or help or the version.
+const TOLD_WORDS: &str = "|requires a subcommand
+dsmon|requires a subcommand
+dsmon walk|unrecognized subcommand 'walk'
+dsmon --fast|unexpected argument '--fast'
+dsmon demo now|unexpected argument 'now'
+dsmon demo --random 8|unexpected argument '--random'
+dsmon run|<POLICY>
+dsmon run p.toml|<INPUT>
+dsmon run p.toml in|<N>
+dsmon run p.toml in 10 63|unexpected argument '63'
+dsmon run p.toml in ten|'ten'
+dsmon run p.toml in 0x10|'0x10'
+dsmon run p.toml in |<N>
+dsmon run p.toml in 1000000000000000000000|<N>
+dsmon run p.toml in 1000000001|1000000001 is not in 0..=1000000000
+dsmon run p.toml in -1|unexpected argument '-1'
+dsmon run p.toml in 10 --random 256|256 is not in 0..=255
+dsmon run p.toml in 10 --random|--random
+dsmon run p.toml in 10 --random last|'last'
+dsmon run p.toml in 10 --random 8 --random 9|cannot be used multiple times
+dsmon --help|Usage: dsmon
+dsmon help|Usage: dsmon
+dsmon --version|dsmon 0.1.0
+dsmon run --help|[default: 63]
+dsmon run --help|from 0 to 1000000000
+dsmon demo -h|Usage: dsmon demo
+dsmon list --help|  1  00400000  24020000    end:  addiu $2,$0,0
+dsmon check --help|  00400000 read  code, part 0 of guest.s, rule 1
+";
+
+/// Each line has words that are answered with status 1 and without output, and are told what stands
+/// after the bar.
+#[test]
+fn words_that_run_nothing_are_told_why(rt: HostRuntime) -> Result<(), Fail> {
+    for line in TOLD_WORDS.lines() {
+        let (words, wanted) = line.split_once('|').ok_or("a bar")?;
+        let answer = answer_to(rt.alloc(), words, &[])?;
+        let text = String::from_utf8(answer.err).ok().ok_or("a text")?;
+        assert_eq!(rt; answer.status, 1, "{line}");
+        assert!(rt; text.as_str().contains(wanted), "{line}: {text}");
+        assert!(rt; answer.out.is_empty(), "{line}");
+    }
+    let answer = answer_to(rt.alloc(), "dsmon --version", &[])?;
+    assert!(rt; answer.err.ends_with(b"dsmon 0.1.0\n"));
+    Ok(())
+}
+
+/// The demonstration asks for no file; a run asks for the policy, the input and the sources in this order.
+#[test]
+fn a_run_asks_for_its_files_and_writes_its_text(rt: HostRuntime) -> Result<(), Fail> {
+    for (line, asked) in [("dsmon demo", ""), (RUN, "p.toml\nin.txt\none.s\n")] {
+        let answer = answer_to(rt.alloc(), line, &files_with("", SOURCE))?;
+        assert_eq!(rt; answer.status, 0, "{line}");
+        assert_eq!(rt; answer.out.as_slice(), WRITTEN.as_bytes(), "{line}");
+        assert!(rt; answer.err.is_empty(), "{line}");
+        assert_eq!(rt; answer.asked.as_str(), asked, "{line}");
+    }
+    Ok(())
+}
+
+#[test]
+fn a_file_that_can_not_be_read_is_told_by_its_name(rt: HostRuntime) -> Result<(), Fail> {
+    let mut words = words_of(rt.alloc(), "dsmon run")?;
+    for word in ["no such policy.toml", "in.txt", "9"] {
+        words.push(String::from_str(rt.alloc(), word)?)?;
+    }
+    let mut files = Held {
+        files: &[],
+        asked: String::new(rt.alloc()),
+    };
+    let mut out: Vec<u8> = Vec::new(rt.alloc());
+    let mut err: Vec<u8> = Vec::new(rt.alloc());
+    let status = drive(rt.alloc(), words.as_slice(), &mut files, &mut out, &mut err);
+    assert_eq!(rt; status, 2);
+    assert_eq!(rt;
+        err.as_slice(),
+        b"dsmon: 26 Unreadable no such policy.toml\n".as_slice()
+    );
+    Ok(())
+}
+
+#[test]
+fn words_that_could_not_be_had_are_told(rt: HostRuntime) {
+    let mut err: Vec<u8> = Vec::new(rt.alloc());
+    assert_eq!(rt; refuse_words(&mut err, io::ErrorKind::OutOfMemory), 3);
+    assert_eq!(rt; err.as_slice(), b"dsmon: 25 Memory\n".as_slice());
+    let mut err: Vec<u8> = Vec::new(rt.alloc());
+    assert_eq!(rt; refuse_words(&mut err, io::ErrorKind::InvalidData), 1);
+    assert_eq!(rt;
+        err.as_slice(),
+        b"dsmon: the words are no text\n".as_slice()
+    );
+}
+
+#[test]
+fn a_file_of_the_system_is_read_whole_and_one_that_is_not_there_is_not(
+    rt: HostRuntime,
+) -> Result<(), Fail> {
+    let name = format!(in rt.alloc(); "/tmp/dsmon-test-{}", std::process::id(rt.process()))?;
+    let mut files = SystemFiles::new(&rt);
+    assert!(rt; files.read(rt.alloc(), name.as_str()).is_err());
+    fs::write(&rt, name.as_str(), b"frames = 16\n")?;
+    let bytes = files.read(rt.alloc(), name.as_str());
+    fs::remove_file(&rt, name.as_str())?;
+    let Ok(bytes) = bytes else {
+        return Err(Fail::from("it was not read"));
+    };
+    assert_eq!(rt; bytes.as_slice(), b"frames = 16\n".as_slice());
+    Ok(())
+}
+
+/// What a run answers whose source has so many bytes that say nothing.
+fn answer_to_long_source(alloc: Global, count: usize) -> Result<Answer, AllocError> {
+    let mut text: Vec<u8> = Vec::new(alloc);
+    text.resize(count, b'x')?;
+    let files = [
+        ("in.txt", b"".as_slice()),
+        ("one.s", text.as_slice()),
+        ("p.toml", POLICY.as_bytes()),
+    ];
+    answer_to(alloc, RUN, &files)
+}
+
+#[test]
+fn a_source_has_at_most_16777216_bytes(rt: HostRuntime) -> Result<(), Fail> {
+    let answer = answer_to_long_source(rt.alloc(), 16_777_216)?;
+    assert_eq!(rt;
+        answer.err.as_slice(),
+        b"dsmon: 3 Syntax one.s 1\n".as_slice()
+    );
+    assert_eq!(rt; answer.status, 2);
+    let answer = answer_to_long_source(rt.alloc(), 16_777_217)?;
+    assert_eq!(rt;
+        answer.err.as_slice(),
+        b"dsmon: 26 Unreadable one.s\n".as_slice()
+    );
+    assert_eq!(rt; answer.status, 2);
+    Ok(())
+}
+
+/// The beginning of what is told of an output that is closed, and of want of memory.
+const WRITE_FAULT: &[u8] = b"dsmon: 23 WriteFault\n";
+
+const NO_MEMORY: &[u8] = b"dsmon: 25 Memory\n";
+
+/// A command, and whether the line of its fault is all that is told.
+#[test]
+fn an_output_that_is_closed_is_a_write_fault(rt: HostRuntime) -> Result<(), Fail> {
+    for (line, is_all) in [
+        (RUN, true),
+        (DEMO, true),
+        (LIST, false),
+        (LIST_WORDS, false),
+        (CHECK, false),
+        (CHECK_POLICY, false),
+    ] {
+        let words = words_of(rt.alloc(), line)?;
+        let files = files_with(INPUT, SOURCE);
+        let mut held = Held {
+            files: &files,
+            asked: String::new(rt.alloc()),
+        };
+        let mut err: Vec<u8> = Vec::new(rt.alloc());
+        let status = drive(
+            rt.alloc(),
+            words.as_slice(),
+            &mut held,
+            &mut Closed,
+            &mut err,
+        );
+        assert_eq!(rt; status, 3, "{line}");
+        assert!(rt; err.starts_with(WRITE_FAULT), "{line}");
+        assert!(rt; !is_all || err.len() == WRITE_FAULT.len(), "{line}");
+    }
+    Ok(())
+}
+
+#[test]
+fn a_closed_error_stream_changes_no_answer(rt: HostRuntime) -> Result<(), Fail> {
+    for (line, source, wanted) in [
+        (LIST, BAD_SOURCE, 2),
+        (CHECK, BAD_SOURCE, 2),
+        ("dsmon list none.s", SOURCE, 2),
+        ("dsmon check in.txt", SOURCE, 2),
+        ("dsmon run none.toml in.txt 100", SOURCE, 2),
+        ("dsmon demon", SOURCE, 1),
+        (LIST, SOURCE, 0),
+        (CHECK, SOURCE, 0),
+    ] {
+        let words = words_of(rt.alloc(), line)?;
+        let files = files_with(INPUT, source);
+        let mut held = Held {
+            files: &files,
+            asked: String::new(rt.alloc()),
+        };
+        let mut out: Vec<u8> = Vec::new(rt.alloc());
+        let status = drive(
+            rt.alloc(),
+            words.as_slice(),
+            &mut held,
+            &mut out,
+            &mut Closed,
+        );
+        assert_eq!(rt; status, wanted, "{line}");
+        assert_eq!(rt; out.is_empty(), wanted != 0, "{line}");
+    }
+    Ok(())
+}
+
+#[test]
+fn a_demonstration_whose_streams_are_closed_is_a_write_fault(rt: HostRuntime) -> Result<(), Fail> {
+    let words = words_of(rt.alloc(), DEMO)?;
+    let mut files = Exhausted { before: 0 };
+    let status = drive(
+        rt.alloc(),
+        words.as_slice(),
+        &mut files,
+        &mut Closed,
+        &mut Closed,
+    );
+    assert_eq!(rt; status, 3);
+    Ok(())
+}
+
+/// A command, after how many files there is no memory, and whether the line of its fault is all that is told.
+#[test]
+fn want_of_memory_for_a_file_is_status_3(rt: HostRuntime) -> Result<(), Fail> {
+    for (line, before, is_all) in [
+        (RUN, 0, true),
+        (RUN, 1, true),
+        (RUN, 2, true),
+        (LIST, 0, false),
+        (LIST_WORDS, 0, false),
+        (CHECK_POLICY, 0, false),
+        (CHECK, 1, false),
+        (CHECK, 2, false),
+    ] {
+        let words = words_of(rt.alloc(), line)?;
+        let mut files = Exhausted { before };
+        let mut out: Vec<u8> = Vec::new(rt.alloc());
+        let mut err: Vec<u8> = Vec::new(rt.alloc());
+        let status = drive(rt.alloc(), words.as_slice(), &mut files, &mut out, &mut err);
+        assert_eq!(rt; status, 3, "{line} {before}");
+        assert!(rt; out.is_empty(), "{line} {before}");
+        assert!(rt; err.starts_with(NO_MEMORY), "{line} {before}");
+        assert!(rt; !is_all || err.len() == NO_MEMORY.len(), "{line} {before}");
+    }
+    Ok(())
+}
+
+#[test]
+fn a_fault_that_no_run_of_files_reaches_is_told_in_its_line(rt: HostRuntime) -> Result<(), Fail> {
+    for (fault, status, line) in [
+        (Fault::Stuck, 3, "dsmon: 21 Stuck\n"),
+        (Fault::Failed, 3, "dsmon: 22 Failed\n"),
+        (
+            Fault::NoSource(Text::of("one.s")),
+            2,
+            "dsmon: 24 NoSource one.s\n",
+        ),
+    ] {
+        let mut err: Vec<u8> = Vec::new(rt.alloc());
+        assert_eq!(rt; tell(&mut err, &Failure::Fault(fault)), status, "{line}");
+        assert_eq!(rt; err.as_slice(), line.as_bytes(), "{line}");
+    }
+    Ok(())
+}
+
+/// Whether the command is answered twice by one text, or once by the text and once by want of
+/// memory with nothing written. The harness itself may be what lacks memory.
+fn is_whole_or_memory(rt: &impl Abort, alloc: Global, line: &str) -> Result<bool, AllocError> {
+    let files = files_with(INPUT, SOURCE);
+    let first = answer_to(alloc, line, &files)?;
+    let second = answer_to(alloc, line, &files)?;
+    for answer in [&first, &second] {
+        assert!(rt; answer.status == 0 || answer.status == 3, "{line}");
+        assert_eq!(rt; answer.out.is_empty(), answer.status == 3, "{line}");
+    }
+    Ok(
+        (first.status == 0 && second.status == 3)
+            || (first.status == 3 && second.status == 0)
+            || (first.status == 0 && second.status == 0 && first.out == second.out),
+    )
+}
+
+/// This passes whichever growth is refused: `rt try --test --fail-alloc N`.
+#[test]
+fn for_want_of_memory_nothing_is_listed_or_explained(rt: HostRuntime) {
+    for line in [LIST, LIST_WORDS, CHECK] {
+        if let Ok(is_so) = is_whole_or_memory(&rt, rt.alloc(), line) {
+            assert!(rt; is_so, "{line}");
+        }
+    }
+}

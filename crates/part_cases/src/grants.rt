@@ -1,0 +1,10 @@
+//! Calls on real grants, with a memory and a translation buffer. `tools/grants_cases.py` writes the files, from a model of its
+//! own.
+
+mod answers;
+mod replay;
+mod report;
+mod step;
+mod words;
+
+pub use report::replay_all;

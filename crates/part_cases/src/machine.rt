@@ -1,0 +1,13 @@
+//! Cases on the machine's parts. A case is a line of a file: what is given, a bar, and what has to come out.
+
+mod arithmetic;
+mod bus;
+mod case;
+mod processor;
+mod programs;
+mod report;
+mod subject;
+mod system;
+mod words;
+
+pub use report::run_cases;

@@ -1,0 +1,76 @@
+//! Runs the cases of a file, and tells what came of them.
+
+use crate::machine::case::{Case, Line};
+use crate::machine::subject::{Machine, SUBJECTS, Subject};
+use ds_cp0::Cp0;
+use ds_dev::Bus;
+use ds_mem::Memory;
+use std::alloc::{AllocError, Global};
+use std::io::{Print, Write};
+use std::rt::Files;
+use std::{fs, io};
+
+/// A machine with nothing in memory.
+fn new_machine(alloc: Global) -> io::Result<Machine> {
+    match Memory::new(alloc) {
+        Ok(memory) => Ok(Machine {
+            bus: Bus::new(memory),
+            cp0: Cp0::new(),
+        }),
+        Err(_) => Err(AllocError)?,
+    }
+}
+
+/// Runs a case, and writes a line where something else came out than it has to; whether it came out
+/// as it has to.
+fn is_as_wanted<W: Write>(
+    alloc: Global,
+    subject: Subject,
+    machine: &mut Machine,
+    case: &Case<'_>,
+    out: &mut W,
+) -> io::Result<bool> {
+    let (given, wanted) = (case.given, case.wanted);
+    match subject.outcome(alloc, machine, given)? {
+        Some(came) if came.as_str() == wanted => return Ok(true),
+        Some(came) => write!(out, "{subject}: {given}: wanted {wanted}, came {came}\n")?,
+        None => write!(out, "{subject}: {given}: no case that can be run\n")?,
+    }
+    Ok(false)
+}
+
+/// Writes a line for each case that did not come out as it has to, and one that tells how many did;
+/// whether all did.
+fn report<W: Write>(alloc: Global, subject: Subject, text: &str, out: &mut W) -> io::Result<bool> {
+    let mut machine = new_machine(alloc)?;
+    let mut as_wanted: u64 = 0;
+    let mut well = true;
+    for line in text.lines() {
+        match Line::read(line) {
+            Line::Blank => {}
+            Line::Title => machine = new_machine(alloc)?,
+            Line::Case(case) => {
+                if is_as_wanted(alloc, subject, &mut machine, &case, out)? {
+                    as_wanted = as_wanted.saturating_add(1);
+                } else {
+                    well = false;
+                }
+            }
+        }
+    }
+    write!(out, "{subject}: {as_wanted} cases as wanted\n")?;
+    Ok(well)
+}
+
+/// Runs the cases of each subject, from its file, and tells which do not come out as they have to; whether
+/// all do.
+pub fn run_cases<R: Files + Print + AllocGlobal>(rt: &R) -> io::Result<bool> {
+    let mut well = true;
+    for subject in SUBJECTS {
+        let text = fs::read_to_string(rt, subject.file())?;
+        if !report(rt.alloc(), subject, text.as_str(), &mut io::writer(rt))? {
+            well = false;
+        }
+    }
+    Ok(well)
+}

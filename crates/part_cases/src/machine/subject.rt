@@ -1,0 +1,163 @@
+//! What the cases are about.
+
+use crate::machine::case::{numbers, step_of};
+use crate::machine::programs::{entry_behind, fault_of, registers_behind};
+use crate::machine::words::{instruction_of, kind_of_all, operation_of, registers_of};
+use crate::machine::{arithmetic, bus, system};
+use ds_cp0::Cp0;
+use ds_dev::Bus;
+use ds_tlb::{Indexed, Tlb};
+use std::alloc::{AllocError, Global};
+use std::fmt;
+
+/// Which translation buffer the processor has.
+#[derive(Clone, Copy, Debug, PartialEq, Eq)]
+pub enum Buffer {
+    /// The one that is searched slot by slot.
+    Searched,
+    /// The one that has an index.
+    Indexed,
+}
+
+impl fmt::Display for Buffer {
+    fn fmt<W: fmt::Write>(&self, f: &mut fmt::Formatter<W>) -> fmt::Result {
+        match self {
+            Buffer::Searched => write!(f, "searched"),
+            Buffer::Indexed => write!(f, "indexed"),
+        }
+    }
+}
+
+/// What the cases of a file are about.
+#[derive(Clone, Copy, Debug, PartialEq, Eq)]
+pub enum Subject {
+    /// What arithmetic makes of words.
+    Arithmetic,
+    /// Words and their instructions.
+    Decoded,
+    /// Words and the registers that their instructions use.
+    Registers,
+    /// Words and the operations of their instructions.
+    Operations,
+    /// Words that fit no row.
+    Rowless,
+    /// Steps on the system coprocessor.
+    System,
+    /// Steps on the bus.
+    Bus,
+    /// Programs that end in a fault.
+    Faults(Buffer),
+    /// Loads, whose values come late.
+    Late(Buffer),
+    /// Instructions that read and write the translation buffer.
+    Entries(Buffer),
+}
+
+/// All of them, in the order in which they are told.
+pub const SUBJECTS: [Subject; 13] = [
+    Subject::Arithmetic,
+    Subject::Decoded,
+    Subject::Registers,
+    Subject::Operations,
+    Subject::Rowless,
+    Subject::System,
+    Subject::Bus,
+    Subject::Faults(Buffer::Searched),
+    Subject::Faults(Buffer::Indexed),
+    Subject::Late(Buffer::Searched),
+    Subject::Late(Buffer::Indexed),
+    Subject::Entries(Buffer::Searched),
+    Subject::Entries(Buffer::Indexed),
+];
+
+/// What the cases that are steps go on with.
+#[derive(Drop)]
+pub struct Machine {
+    pub bus: Bus,
+    pub cp0: Cp0,
+}
+
+impl Subject {
+    /// The file of its cases.
+    pub fn file(self) -> &'static str {
+        match self {
+            Subject::Arithmetic => "machine/arithmetic",
+            Subject::Decoded => "machine/decoded",
+            Subject::Registers => "machine/registers",
+            Subject::Operations => "machine/operations",
+            Subject::Rowless => "machine/rowless",
+            Subject::System => "machine/system",
+            Subject::Bus => "machine/bus",
+            Subject::Faults(_) => "machine/faults",
+            Subject::Late(_) => "machine/late",
+            Subject::Entries(_) => "machine/entries",
+        }
+    }
+
+    /// What comes of a case, from what is given; none where that is no case of the subject, or where
+    /// a program ends in no fault.
+    pub fn outcome(
+        self,
+        alloc: Global,
+        machine: &mut Machine,
+        given: &str,
+    ) -> Result<Option<String>, AllocError> {
+        let is_step = matches!(&self, Subject::Arithmetic | Subject::System | Subject::Bus);
+        let (step, operands) = if is_step { step_of(given) } else { ("", given) };
+        let Some(operands) = numbers(alloc, operands)? else {
+            return Ok(None);
+        };
+        let operands = operands.as_slice();
+        match self {
+            Subject::Arithmetic => arithmetic::answer(alloc, step, operands),
+            Subject::System => system::answer(alloc, &mut machine.cp0, step, operands),
+            Subject::Bus => bus::answer(alloc, &mut machine.bus, step, operands),
+            Subject::Decoded | Subject::Registers | Subject::Operations | Subject::Rowless =>
+                self.of_words(alloc, operands),
+            Subject::Faults(_) | Subject::Late(_) | Subject::Entries(_) => {
+                self.of_program(alloc, &mut machine.bus, operands)
+            }
+        }
+    }
+
+    /// What comes of a case of words.
+    fn of_words(self, alloc: Global, words: &[u32]) -> Result<Option<String>, AllocError> {
+        match (self, words) {
+            (Subject::Decoded, [word]) => instruction_of(alloc, *word).map(Some),
+            (Subject::Registers, [word]) => registers_of(alloc, *word).map(Some),
+            (Subject::Operations, [word]) => operation_of(alloc, *word).map(Some),
+            (Subject::Rowless, words) => kind_of_all(alloc, words).map(Some),
+            _ => Ok(None),
+        }
+    }
+
+    /// What comes of a case of a program.
+    fn of_program(
+        self,
+        alloc: Global,
+        bus: &mut Bus,
+        given: &[u32],
+    ) -> Result<Option<String>, AllocError> {
+        match self {
+            Subject::Faults(Buffer::Searched) => fault_of::<Tlb<64, 8>>(alloc, bus, given),
+            Subject::Faults(Buffer::Indexed) => fault_of::<Indexed<64, 8>>(alloc, bus, given),
+            Subject::Late(Buffer::Searched) => registers_behind::<Tlb<64, 8>>(alloc, bus, given),
+            Subject::Late(Buffer::Indexed) => registers_behind::<Indexed<64, 8>>(alloc, bus, given),
+            Subject::Entries(Buffer::Searched) => entry_behind::<Tlb<64, 8>>(alloc, bus, given),
+            Subject::Entries(Buffer::Indexed) => entry_behind::<Indexed<64, 8>>(alloc, bus, given),
+            _ => Ok(None),
+        }
+    }
+}
+
+impl fmt::Display for Subject {
+    fn fmt<W: fmt::Write>(&self, f: &mut fmt::Formatter<W>) -> fmt::Result {
+        let file = self.file();
+        match self {
+            Subject::Faults(buffer) | Subject::Late(buffer) | Subject::Entries(buffer) => {
+                write!(f, "{file}, {buffer} buffer")
+            }
+            _ => write!(f, "{file}"),
+        }
+    }
+}

@@ -1,0 +1,93 @@
+//! One machine by single steps, and one ahead.
+ghost use Rattle.std.specs.Prelude.{◌≡◌, ◌+◌, ◌≤◌};
+
+use crate::programs::machine::Machine;
+use crate::programs::random::Reached;
+use ds_core::Core;
+use ds_dev::Bus;
+use ds_tlb::Lookaside;
+
+/// The frames that the programs use, and frame 0.
+const FRAMES: u32 = 5;
+
+/// The most steps ahead.
+const LONGEST: u32 = 200;
+
+/// Runs ahead with each limit from 0 to 200 in turn, and as many single steps beside. Answers
+/// whether the two are in one state after each.
+pub fn go_alike<A: Lookaside, B: Lookaside>(plain: &mut Machine<A>, ahead: &mut Machine<B>) -> bool
+    requires slots { A.SLOTS ≡ 64 }
+    requires wired { A.WIRED ≡ 8 }
+    requires ahead_slots { B.SLOTS ≡ 64 }
+    requires ahead_wired { B.WIRED ≡ 8 }
+{
+    let mut reached = Reached::new();
+    let mut alike = true;
+    for limit in 0..LONGEST + 1 {
+        alike = alike && go_alike_for(plain, ahead, limit, &mut reached);
+    }
+    alike
+}
+
+/// Whether steps ahead do what single steps do, with this limit.
+fn go_alike_for<A: Lookaside, B: Lookaside>(
+    plain: &mut Machine<A>,
+    ahead: &mut Machine<B>,
+    limit: u32,
+    reached: &mut Reached,
+) -> bool
+    requires slots { A.SLOTS ≡ 64 }
+    requires wired { A.WIRED ≡ 8 }
+    requires ahead_slots { B.SLOTS ≡ 64 }
+    requires ahead_wired { B.WIRED ≡ 8 }
+{
+    let walked = plain.walk(limit, reached);
+    let went = ahead.core.run_ahead(&mut ahead.bus, limit);
+    let alike = went == walked && are_alike(plain, ahead);
+    if let Some(code) = went.raised {
+        plain.serve(code);
+        ahead.serve(code);
+    }
+    alike && are_frames_alike(&mut plain.bus, &mut ahead.bus, 0, FRAMES)
+}
+
+/// Whether two machines are in one state, but for their memories.
+pub fn are_alike<A: Lookaside, B: Lookaside>(a: &Machine<A>, b: &Machine<B>) -> bool
+    requires slots { A.SLOTS ≡ 64 }
+    requires ahead_slots { B.SLOTS ≡ 64 }
+{
+    a.bus.lines() == b.bus.lines()
+        && are_cores_alike(&a.core, &b.core)
+        && are_buffers_alike(&a.core.tlb, &b.core.tlb)
+}
+
+/// Whether so many frames of two memories, from the first on, are the same.
+pub fn are_frames_alike(a: &mut Bus, b: &mut Bus, first: u32, count: u32) -> bool
+    requires { first + count ≤ 2048 }
+{
+    let mut alike = true;
+    for f in first..first + count {
+        alike = alike && a.memory().frame(f) == b.memory().frame(f);
+    }
+    alike
+}
+
+/// Whether two processors have the same registers, and stand at the same place.
+fn are_cores_alike<A: Lookaside, B: Lookaside>(a: &Core<A>, b: &Core<B>) -> bool {
+    let registers = a.registers == b.registers && a.hi == b.hi && a.lo == b.lo && a.late == b.late;
+    let place = a.pc == b.pc && a.next == b.next && a.slot == b.slot;
+    let system = (0..16u8).all(|number| a.cp0.read(number) == b.cp0.read(number));
+    registers && place && system
+}
+
+/// Whether two buffers hold the same entries, and have the same Random.
+fn are_buffers_alike<A: Lookaside, B: Lookaside>(a: &A, b: &B) -> bool
+    requires slots { A.SLOTS ≡ 64 }
+    requires ahead_slots { B.SLOTS ≡ 64 }
+{
+    let mut alike = a.random() == b.random();
+    for slot in 0..64 {
+        alike = alike && a.read(slot) == b.read(slot);
+    }
+    alike
+}

@@ -1,0 +1,178 @@
+//! A processor and its bus, with a program.
+ghost use Rattle.std.specs.Prelude.{◌≡◌};
+
+use crate::programs::random::Reached;
+use ds_asm::Image;
+use ds_core::{Ahead, Core, Event};
+use ds_cp0::{Cp0, ExceptionCode, register};
+use ds_dev::Bus;
+use ds_isa::Size;
+use ds_mem::Memory;
+use ds_tlb::{Entry, Lookaside};
+use std::alloc::Global;
+use std::io::{self, ErrorKind};
+
+/// Where programs begin.
+const START: u32 = 0x40_0000;
+
+/// Status in user mode, with the devices' interrupts on.
+const USER_STATUS: u32 = 0xc03;
+
+/// The addresses of the clock's rate, its enable and its flags, which a load clears.
+const CLOCK_RATE: u32 = 0x1fe8_0028;
+
+const CLOCK_ENABLE: u32 = 0x1fe8_002c;
+
+const CLOCK_FLAGS: u32 = 0x1fe8_0030;
+
+/// A processor and its bus.
+#[derive(Drop)]
+pub struct Machine<L: Lookaside> {
+    pub core: Core<L>,
+    pub bus: Bus,
+}
+
+/// A valid page, and its frame.
+fn page(vpn: u32, asid: u8, pfn: u32, d: bool) -> Entry {
+    Entry {
+        vpn,
+        asid,
+        pfn,
+        n: false,
+        d,
+        v: true,
+        g: false,
+    }
+}
+
+/// A processor in kernel mode and address space 0, with zeros and an empty buffer.
+pub fn blank_core<L: Lookaside>() -> io::Result<Core<L>>
+    requires slots { L.SLOTS ≡ 64 }
+    requires wired { L.WIRED ≡ 8 }
+{
+    let Ok(tlb) = L::new(63) else {
+        return Err(io::Error::from(ErrorKind::InvalidInput));
+    };
+    Ok(Core {
+        registers: [0; 32],
+        hi: 0,
+        lo: 0,
+        late: None,
+        pc: 0,
+        next: 4,
+        slot: false,
+        cp0: Cp0::new(),
+        tlb,
+    })
+}
+
+impl<L: Lookaside> Machine<L> {
+    /// A machine with such a processor, and a memory of zeros.
+    pub fn blank(alloc: Global) -> io::Result<Machine<L>>
+        requires slots { L.SLOTS ≡ 64 }
+        requires wired { L.WIRED ≡ 8 }
+    {
+        let Ok(memory) = Memory::new(alloc) else {
+            return Err(io::Error::from(ErrorKind::OutOfMemory));
+        };
+        Ok(Machine {
+            core: blank_core()?,
+            bus: Bus::new(memory),
+        })
+    }
+
+    /// A machine in kernel mode and address space 1, at the start of a program. Its code is page
+    /// 00400 of spaces 1 and 2, and frame 1; page 00410 is frame 2 in space 1 and frame 4 in space
+    /// 2; page 00411 is frame 3, and clean.
+    pub fn new(alloc: Global, image: &Image) -> io::Result<Machine<L>>
+        requires slots { L.SLOTS ≡ 64 }
+        requires wired { L.WIRED ≡ 8 }
+    {
+        let mut machine = Machine::blank(alloc)?;
+        image.page(0, machine.bus.memory().frame_mut(1));
+        let tlb: &mut L = &mut machine.core.tlb;
+        tlb.write(8, page(0x400, 1, 1, true));
+        tlb.write(9, page(0x410, 1, 2, true));
+        tlb.write(10, page(0x411, 1, 3, false));
+        tlb.write(11, page(0x400, 2, 1, true));
+        tlb.write(12, page(0x410, 2, 4, true));
+        machine.core.cp0.write(register::ENTRY_HI, 0x40);
+        machine.go_on_at(START);
+        Ok(machine)
+    }
+
+    /// Goes on at an address.
+    pub fn go_on_at(&mut self, address: u32) {
+        self.core.pc = address;
+        self.core.next = address.wrapping_add(4);
+        self.core.slot = false;
+    }
+
+    /// Starts the clock at a rate, with nothing asked for.
+    pub fn start_clock(&mut self, rate: u32) {
+        let _ = self.bus.store(CLOCK_RATE, Size::Word, rate);
+        let _ = self.bus.store(CLOCK_ENABLE, Size::Word, 0x40);
+        let _ = self.bus.load(CLOCK_FLAGS, Size::Word);
+    }
+
+    /// Goes into user mode, with interrupts on, as under the monitor.
+    pub fn leave_kernel(&mut self) {
+        self.core.cp0.write(register::STATUS, USER_STATUS);
+    }
+
+    /// Serves an exception: after the instruction, or where an interrupt came, whose request it
+    /// takes away.
+    pub fn serve(&mut self, code: ExceptionCode) {
+        let epc = self.core.cp0.read(register::EPC);
+        let pc = if code == ExceptionCode::Interrupt {
+            self.core.cp0.write(register::CAUSE, 0);
+            let _ = self.bus.load(CLOCK_FLAGS, Size::Word);
+            epc
+        } else {
+            epc.wrapping_add(4)
+        };
+        self.core.cp0.rfe();
+        self.go_on_at(pc);
+    }
+
+    /// Goes so many single steps, or fewer and after them one that enters an exception.
+    #[inline(never)]
+    pub fn walk(&mut self, limit: u32, reached: &mut Reached) -> Ahead
+        requires slots { L.SLOTS ≡ 64 }
+        requires wired { L.WIRED ≡ 8 }
+    {
+        for steps in 0..limit {
+            let event = self.core.step(&mut self.bus);
+            reached.note(event, &self.core);
+            if let Event::Raised(code) = event {
+                let raised = Some(code);
+                return Ahead { steps, raised };
+            }
+        }
+        let raised = None;
+        Ahead {
+            steps: limit,
+            raised,
+        }
+    }
+
+    /// Takes so many steps, running ahead from exception to exception.
+    #[inline(never)]
+    pub fn run(&mut self, count: u32)
+        requires slots { L.SLOTS ≡ 64 }
+        requires wired { L.WIRED ≡ 8 }
+    {
+        let mut left = count;
+        for _ in 0..count {
+            if left == 0 {
+                break;
+            }
+            let ahead = self.core.run_ahead(&mut self.bus, left);
+            left -= ahead.steps;
+            if let Some(code) = ahead.raised {
+                left = left.saturating_sub(1);
+                self.serve(code);
+            }
+        }
+    }
+}

@@ -1,0 +1,141 @@
+//! Two machines with one random program, by single steps and ahead.
+ghost use Rattle.std.specs.Prelude.{◌≡◌, ◌+◌, ◌<◌, ◌≤◌};
+
+use super::STEPS;
+use super::dice::Dice;
+use super::reached::Reached;
+use super::start::{FIRST_PAGE, PAGES, Start};
+use super::turn::Turn;
+use super::words::random_word;
+use crate::programs::lockstep::{are_alike, are_frames_alike};
+use crate::programs::machine::Machine;
+use ds_cp0::register;
+use ds_mem::FRAMES;
+use ds_tlb::Lookaside;
+use std::alloc::Global;
+use std::io;
+
+/// The most steps ahead.
+const LONGEST: u32 = 200;
+
+/// The frame of the handlers of exceptions.
+const HANDLERS: u32 = 0;
+
+/// One machine that goes by single steps, and one that runs ahead.
+#[derive(Drop)]
+pub struct Pair<A: Lookaside, B: Lookaside> {
+    pub plain: Machine<A>,
+    pub ahead: Machine<B>,
+}
+
+impl<A: Lookaside, B: Lookaside> Pair<A, B> {
+    /// Two machines with memories of zeros.
+    pub fn new(alloc: Global) -> io::Result<Pair<A, B>>
+        requires slots { A.SLOTS ≡ 64 }
+        requires wired { A.WIRED ≡ 8 }
+        requires ahead_slots { B.SLOTS ≡ 64 }
+        requires ahead_wired { B.WIRED ≡ 8 }
+    {
+        Ok(Pair {
+            plain: Machine::blank(alloc)?,
+            ahead: Machine::blank(alloc)?,
+        })
+    }
+
+    /// Goes through the program of a number. Answers where the two were found to differ, if they
+    /// were: after so many steps.
+    pub fn differ(&mut self, number: u32, reached: &mut Reached) -> io::Result<Option<u32>>
+        requires slots { A.SLOTS ≡ 64 }
+        requires wired { A.WIRED ≡ 8 }
+        requires ahead_slots { B.SLOTS ≡ 64 }
+        requires ahead_wired { B.WIRED ≡ 8 }
+    {
+        let mut dice = Dice::new(number);
+        let start = Start::drawn(&mut dice);
+        self.begin(&mut dice, &start)?;
+        let mut done = 0;
+        for _ in 0..2 * STEPS {
+            if done >= STEPS {
+                break;
+            }
+            let limit = dice.below(LONGEST + 1).min(STEPS - done);
+            match self.run_both(&mut dice, &start, limit, reached) {
+                Some(steps) => done = steps.saturating_add(done),
+                None => return Ok(Some(done)),
+            }
+        }
+        let alike = self.have_like_frames(HANDLERS, 1) && self.have_like_frames(FIRST_PAGE, PAGES);
+        Ok(if alike { None } else { Some(done) })
+    }
+
+    /// Whether all of memory is the same.
+    pub fn have_like_memories(&mut self) -> bool {
+        self.have_like_frames(0, FRAMES as u32)
+    }
+
+    /// Whether so many frames, from the first on, are the same.
+    fn have_like_frames(&mut self, first: u32, count: u32) -> bool
+        requires { first + count ≤ FRAMES }
+    {
+        are_frames_alike(&mut self.plain.bus, &mut self.ahead.bus, first, count)
+    }
+
+    /// Puts a program into both machines.
+    fn begin(&mut self, dice: &mut Dice, start: &Start) -> io::Result<()>
+        requires slots { A.SLOTS ≡ 64 }
+        requires wired { A.WIRED ≡ 8 }
+        requires ahead_slots { B.SLOTS ≡ 64 }
+        requires ahead_wired { B.WIRED ≡ 8 }
+    {
+        self.plain.begin(start)?;
+        self.ahead.begin(start)?;
+        self.put_code(dice, HANDLERS, start.system);
+        self.put_code(dice, FIRST_PAGE, start.system);
+        self.put_code(dice, FIRST_PAGE + 1, start.system);
+        Ok(())
+    }
+
+    /// Fills a frame of both machines with the same random code.
+    fn put_code(&mut self, dice: &mut Dice, frame: u32, system: u32)
+        requires { frame < FRAMES }
+    {
+        for word in 0..1024 {
+            let word: u32 = word;
+            let place = frame * 4096 + word * 4;
+            let random = random_word(dice, system);
+            self.plain.bus.memory().put_word(place, random);
+            self.ahead.bus.memory().put_word(place, random);
+        }
+    }
+
+    /// Takes steps on both, and answers how many if the two are in one state after them.
+    fn run_both(
+        &mut self,
+        dice: &mut Dice,
+        start: &Start,
+        limit: u32,
+        reached: &mut Reached,
+    ) -> Option<u32>
+        requires slots { A.SLOTS ≡ 64 }
+        requires wired { A.WIRED ≡ 8 }
+        requires ahead_slots { B.SLOTS ≡ 64 }
+        requires ahead_wired { B.WIRED ≡ 8 }
+    {
+        let walked = self.plain.walk(limit, reached);
+        let went = self.ahead.core.run_ahead(&mut self.ahead.bus, limit);
+        if went != walked || !are_alike(&self.plain, &self.ahead) {
+            return None;
+        }
+        let (steps, turn) = match walked.raised {
+            Some(code) => {
+                let epc = self.plain.core.cp0.read(register::EPC);
+                let turn = Turn::after_exception(dice, start, code, epc);
+                (walked.steps.saturating_add(1), turn)
+            }
+            None => (walked.steps, Turn::after_calm(dice, start)),
+        };
+        self.plain.turn(turn, steps);
+        self.ahead.turn(turn, steps);
+        Some(steps)
+    }
+}

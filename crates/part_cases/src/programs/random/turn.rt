@@ -1,0 +1,99 @@
+//! What is done to both machines before they run on.
+ghost use Rattle.std.specs.Prelude.{◌≡◌};
+
+use super::dice::Dice;
+use super::start::{CODE_SIZE, FIRST_ADDRESS, FIRST_PAGE, PAGES, Start, entry, place};
+use crate::programs::machine::Machine;
+use ds_cp0::{ExceptionCode, register};
+use ds_tlb::{Entry, Lookaside};
+
+/// What is done to both machines before they run on.
+#[derive(Clone, Copy)]
+pub enum Turn {
+    /// Nothing: after an exception its handler goes on.
+    GoOn,
+    /// The exception is served.
+    Serve(ExceptionCode),
+    /// The program goes on at another place, with the address space of this EntryHi, and with this
+    /// Status and Cause.
+    Move {
+        place: u32,
+        entry_hi: u32,
+        status: u32,
+        cause: u32,
+    },
+    /// An entry is written.
+    Map {
+        slot: u32,
+        entry: Entry,
+    },
+}
+
+impl Turn {
+    /// A random one after steps that ended without an exception.
+    pub fn after_calm(dice: &mut Dice, start: &Start) -> Turn {
+        match dice.below(8) {
+            0 | 1 => Turn::moved(dice, start),
+            2 => Turn::mapped(dice),
+            _ => Turn::GoOn,
+        }
+    }
+
+    /// A random one after an exception, which goes back to `epc`.
+    pub fn after_exception(dice: &mut Dice, start: &Start, code: ExceptionCode, epc: u32) -> Turn {
+        if dice.once_in(16) {
+            Turn::GoOn
+        } else if epc.wrapping_sub(FIRST_ADDRESS) < CODE_SIZE {
+            Turn::Serve(code)
+        } else {
+            Turn::moved(dice, start)
+        }
+    }
+
+    /// To another place.
+    fn moved(dice: &mut Dice, start: &Start) -> Turn {
+        let cause = if dice.once_in(8) { dice.word() } else { 0 };
+        Turn::Move {
+            place: place(dice),
+            entry_hi: (dice.below(2) + 1) * 64,
+            status: start.status,
+            cause,
+        }
+    }
+
+    /// Another entry for one of the program's pages, in a slot that is searched before most of the
+    /// program's own, or in place of one.
+    fn mapped(dice: &mut Dice) -> Turn {
+        let vpn = FIRST_PAGE + dice.below(PAGES);
+        let asid = dice.below(2) as u8 + 1;
+        Turn::Map {
+            slot: dice.below(24),
+            entry: entry(dice, vpn, asid),
+        }
+    }
+}
+
+impl<L: Lookaside> Machine<L> {
+    /// Does a turn, after so many steps.
+    pub fn turn(&mut self, turn: Turn, steps: u32)
+        requires slots { L.SLOTS ≡ 64 }
+    {
+        self.bus.pass(u64::from(steps));
+        match turn {
+            Turn::GoOn => {}
+            Turn::Serve(code) => self.serve(code),
+            Turn::Move {
+                place,
+                entry_hi,
+                status,
+                cause,
+            } => {
+                self.core.cp0.write(register::ENTRY_HI, entry_hi);
+                self.core.cp0.write(register::STATUS, status);
+                self.core.cp0.write(register::CAUSE, cause);
+                self.go_on_at(place);
+            }
+            Turn::Map { slot, entry } => self.core.tlb.write(slot as usize % 64, entry),
+        }
+    }
+}
