@@ -34,7 +34,7 @@ def size_faults(text):
 
 def documents(top):
     """The documents of the repository by their paths, each with its text."""
-    places = [*top.glob("*.md"), *top.glob("docs/*.md"), *top.glob("crates/*/README.md"), *top.glob("crates/*/data/README.md")]
+    places = [*top.glob("*.md"), *top.glob("docs/*.md"), *top.glob("crates/*/README.md"), *top.glob("crates/*/data/README.md"), *top.glob("crates/*/data/*/README.md")]
     return {str(it.relative_to(top)): it.read_text("utf-8") for it in sorted(places)}
 
 
