@@ -32,7 +32,7 @@ use Rattle.ds_refinement.specs.Stands.{Stands, IsSound, AreResting, RunningIs, R
 use Rattle.ds_refinement.specs.Services.{IsBare, Serves, seated, with_first_seated, with_boundary, with_none_spent}
 use Rattle.ds_refinement.specs.Ends.{EndsInCall}
 use Rattle.ds_refinement.specs.Quiet.{IsQuiet}
-use Rattle.ds_refinement.specs.Real.{StopsBy, GoesBack}
+use Rattle.ds_refinement.specs.Real.{StopsBy, GoesBackBy, GoesBack}
 use Rattle.ds_refinement.specs.Runs.{held_goes_on}
 use Rattle.ds_refinement.proofs.RunSteps.{begins_goes}
 use Rattle.ds_refinement.proofs.Boundaries.{quiet}
@@ -222,9 +222,10 @@ module _ (h : Held) (p : ℕ) (rest : List ℕ) (asked : Call) (answer : ℕ) (q
   still_back : GoesBack h in_seat → GoesBack h owing
   still_back g = record { mode = g.mode; address = g.address; bus = g.bus; slot = g.slot; entry = g.entry; entries = g.entries; asked = g.asked }
 
-  still_served : (IsSome in_seat.kept.state.owed × StopsBy s.ready h) ⊎ GoesBack h in_seat → (IsSome owing.kept.state.owed × StopsBy s.ready h) ⊎ GoesBack h owing
+  still_served : (IsSome in_seat.kept.state.owed × StopsBy s.ready h) ⊎ (GoesBackBy s.ready h × GoesBack h in_seat)
+      → (IsSome owing.kept.state.owed × StopsBy s.ready h) ⊎ (GoesBackBy s.ready h × GoesBack h owing)
   still_served (inl ends) = inl ends
-  still_served (inr back) = inr (still_back back)
+  still_served (inr back) = inr (back.0, still_back back.1)
 
   unit_does : Does Unit h owing
   unit_does =

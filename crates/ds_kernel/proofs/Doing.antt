@@ -37,6 +37,7 @@ use Rattle.ds_refinement.specs.Real.{IsReal, EndsUnit, StopsBy, is_served}
 use Rattle.ds_refinement.proofs.Ending.{denied_ends, fault_ends, slot_ends, call_ends}
 use Rattle.ds_refinement.proofs.Counting.{stop_moves, call_moves}
 use Rattle.ds_refinement.proofs.Filling.{refill_comes, refill_goes_back}
+use Rattle.ds_refinement.proofs.Joined.{back_real}
 use Rattle.ds_policy.specs.Value.{InputValue}
 use Rattle.ds_monitor.specs.Room.{HasBoundaryRoom, HasTurnRoom}
 use Rattle.ds_kernel.proofs.Rooms.{boundary_room_behind}
@@ -105,18 +106,17 @@ module _ (h : Held) (p : ℕ) (rest : List ℕ) (sound : IsSound h) (ready : h.k
       → (m : State) → Stands h m → decide m.memory.table p access size h.core.system.bad_vaddr ≡ Allowed page offset
   in_machine access size page offset decides m k = ap (λ (s : PageState). decide s.table p access size h.core.system.bad_vaddr) k.kept.pages ∙ decides
 
-  pub refill_does : (access : Kind) (size : Size) (page offset : ℕ) (grant : Grant) → h.kept.state.owed ≡ None → h.own.spent ≤ 64 → h.core.random < length h.core.entries
-      → decide h.kept.grants.table p access size h.core.system.bad_vaddr ≡ Allowed page offset → entry_at h.kept.grants.table p (page_address h.core.system.bad_vaddr) ≡ Some grant
+  pub refill_does : (access : Access) (page offset : ℕ) (grant : Grant) → h.kept.state.owed ≡ None → h.own.spent ≤ 64 → h.core.random < length h.core.entries
+      → told h.core.system (page_state h.kept.grants h.bus.memory) p ≡ cause.Access access
+      → decide h.kept.grants.table p access.kind access.size h.core.system.bad_vaddr ≡ Allowed page offset → entry_at h.kept.grants.table p (page_address h.core.system.bad_vaddr) ≡ Some grant
       → Does Inside h (with_refill h (translation h.kept.grants (h.core.system.bad_vaddr / 2 ^ 12) page grant.right))
-  refill_does access size page offset grant owed few room decides granted =
-      let there = in_machine access size page offset decides in record {
-        follows = record { follows = λ m k. refill_comes h m p rest access size page offset grant k ready kernel (there m k) granted };
+  refill_does access page offset grant owed few room is decides granted =
+      let there = in_machine access.kind access.size page offset decides in
+      let new : Held = with_refill h (translation h.kept.grants (h.core.system.bad_vaddr / 2 ^ 12) page grant.right) in record {
+        follows = record { follows = λ m k. refill_comes h m p rest access.kind access.size page offset grant k ready kernel (there m k) granted };
         moves = refill_moves (translation h.kept.grants (h.core.system.bad_vaddr / 2 ^ 12) page grant.right) owed few;
-        real = record {
-          instruction = λ has user. (let no : true ≡ false = sym served_here ∙ user in absurd (cc));
-          service = λ has served. inr (refill_goes_back h sound.state p rest access size page offset grant sound.stands ready kernel (there sound.state sound.stands) granted room);
-          random = λ has. refl;
-        };
+        real = back_real h new p rest access page offset ready served_here is decides
+            (refill_goes_back h sound.state p rest access.kind access.size page offset grant sound.stands ready kernel (there sound.state sound.stands) granted room) refl;
       }
 
 -- The marks behind a service.
@@ -208,16 +208,16 @@ module _ {L : Type 0} (p : ℕ) (old new : Parts L) (busy : IsBusy p old) (kerne
       call_does (held old) p r.0 busy.good.sound r.1 kernel (held new) unowed is outside ended.own ended.random ended.ends
 
   -- a refill, by the right of the entry there
-  pub refill_step : (access : Access) (page offset : ℕ) (grant : Grant) → old.core.random < length old.core.entries
+  pub refill_step : (access : Access) (page offset : ℕ) (grant : Grant) → old.core.random < length old.core.entries → tells (cause.Access access)
       → decide old.monitor.grants.table p access.kind access.size old.core.system.bad_vaddr ≡ Allowed page offset → entry_at old.monitor.grants.table p (page_address old.core.system.bad_vaddr) ≡ Some grant
       → held new ≡ with_refill (held old) (entry_for old.monitor.grants p old.core.system.bad_vaddr page)
       → Does Inside (held old) (held new)
-  refill_step access page offset grant room decides granted is =
+  refill_step access page offset grant room asked decides granted is =
       let r = first_rest old.monitor.ready p busy.first in
       let same : entry_for old.monitor.grants p old.core.system.bad_vaddr page ≡ translation old.monitor.grants (old.core.system.bad_vaddr / 2 ^ 12) page grant.right =
       ap (λ (o : Option Grant). translation old.monitor.grants (old.core.system.bad_vaddr / 2 ^ 12) page (right_of o)) granted in
       subst (λ (x : Held). Does Inside (held old) x) (sym (is ∙ ap (λ (e : Entry). with_refill (held old) e) same))
-      (refill_does (held old) p r.0 busy.good.sound r.1 kernel access.kind access.size page offset grant unowed busy.good.orderly.spent room decides granted)
+      (refill_does (held old) p r.0 busy.good.sound r.1 kernel access page offset grant unowed busy.good.orderly.spent room asked decides granted)
 
   pub refill_good : (e : Entry) → held new ≡ with_refill (held old) e → new.monitor ≡ old.monitor → Does Inside (held old) (held new) → IsGood new
   refill_good e is monitor does =

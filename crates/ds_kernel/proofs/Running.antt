@@ -31,6 +31,18 @@ early n h going owed = by h.kept.state.time (not (is_over h.kept.state)) (sym (u
     by : (t : ℕ) (going : Bool) → (nat_lt t n && going) ≡ true → t < n
     by t going e = grind (arith, nat_tests)
 
+-- where somebody is ready, somebody has not ended
+pub ready_not_over : (h : Held) → IsSound h → h.kept.state.owed ≡ None → (h.kept.state.ready ≡ [] → ⊥) → is_over h.kept.state ≡ false
+ready_not_over h sound owed ready =
+    let on : held_goes_on (h.kept.state.time + 1) h ≡ true = begins_goes (h.kept.state.time + 1) h sound.state sound.stands (inr (ready, omega arith)) in
+    by (nat_lt h.kept.state.time (h.kept.state.time + 1)) (is_over h.kept.state) (sym (unowed_goes (h.kept.state.time + 1) h owed) ∙ on)
+  where
+    by : (early over : Bool) → (early && not over) ≡ true → over ≡ false
+    by true true e = absurd (cc)
+    by true false e = refl
+    by false true e = absurd (cc)
+    by false false e = absurd (cc)
+
 -- Steps.
 
 -- a run that goes on has a step to do

@@ -1,5 +1,5 @@
 //! Many instructions of a process at once, with one bookkeeping for all their units.
-ghost use Rattle.std.specs.Prelude.{◌≡◌, ◌<◌, ◌≤◌, ◌+◌, ◌-◌, min, ℕ, None, false, IfSome, IfErr, OnOk, OnErr, IsNone, IsSome};
+ghost use Rattle.std.specs.Prelude.{[], ◌≢◌, ◌≡◌, ◌<◌, ◌≤◌, ◌+◌, ◌-◌, min, ℕ, None, false, IfSome, IfErr, OnOk, OnErr, IsNone, IsSome};
 ghost use Rattle.ds_core.specs.Ahead.{hardware_of, AdvancesTo, ComesByWords, ticks, owed_tick};
 ghost use Rattle.ds_refinement.specs.Blocks.{MayRunAhead};
 ghost use Rattle.ds_refinement.specs.Services.{with_failure};
@@ -64,10 +64,12 @@ impl<L: Lookaside> Parts<L> {
 
     /// Where a unit begins there is room for it, or it is made.
     #[inline(always)]
+    #[tactic(auto, using(crate::proofs::Running::ready_not_over))]
     pub(crate) fn begin_block(&mut self) -> Result<(), Halt>
         requires good { IsGood self.old }
         requires working { self.old.failed ≡ false }
         requires unowed { self.old.monitor.owed ≡ None }
+        requires ready { self.old.monitor.ready ≢ [] }
         ensures good { IsGood self.new }
         ensures room { OnOk result (HasRoom 1 self.new.monitor) }
         ensures until { self.new.monitor.quiet_until ≡ self.old.monitor.quiet_until }

@@ -183,6 +183,8 @@ impl<L: Lookaside> Parts<L> {
         ensures unit { OnOk result (((self.old.spent ≡ 0) ⊎ (self.old.monitor.time < n))
             → self.new.spent ≡ 0) }
         ensures cut { IfErr result (λ halt. WasCut n halt (held self.old) (held self.new)) }
+        ensures going { self.old.failed ≡ false
+            → OnErr result (held_goes_on n (held self.new) ≡ true) }
         ensures again { self.old.failed ≡ true
             → IsErrOf result Halt.Failed × (self.new ≡ self.old) }
     {

@@ -68,9 +68,13 @@ impl<L: Lookaside> Parts<L> {
     /// Counts the instruction that comes next; where it begins a unit, there is room for the unit,
     /// or it is made.
     #[inline(always)]
+    #[tactic(auto, using(crate::proofs::Running::ready_not_over))]
     fn begin(&mut self) -> Result<(), Halt>
         requires good { IsGood self.old }
         requires working { self.old.failed ≡ false }
+        requires unowed { self.old.monitor.owed ≡ None }
+        requires ready { self.old.monitor.ready ≢ [] }
+        requires user { is_user self.old.core.system ≡ true }
         ensures ok { OnOk result (held self.new ≡ with_one_spent (held self.old)) }
         ensures few { OnOk result (self.old.spent < 64) }
         ensures room { OnOk result (HasTurnRoom self.new.monitor) }

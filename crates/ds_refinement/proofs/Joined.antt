@@ -1,15 +1,24 @@
 -- Paths of steps that are real.
-use Rattle.std.proofs.Common.{◌≡◌, ◌++◌, true, false, List, [], ◌∷◌, refl, sym, subst, ◌∙◌}
+use Rattle.std.proofs.Common.{◌≡◌, ◌⊎◌, ℕ, ◌++◌, true, false, List, [], ◌∷◌, inl, inr, refl, sym, subst, ◌∙◌}
 use Rattle.ds_core.specs.declared.event.Event.{Event}
 use Rattle.ds_core.specs.declared.event.Event.TheVariants.{Retired, Branched, Raised}
 use Rattle.ds_core.specs.Core as core
 use Rattle.ds_core.specs.Effect as effect
+use Rattle.ds_policy.specs.declared.access.Access.{Access}
+use Rattle.ds_policy.specs.declared.access.Verdict.{Verdict}
+use Rattle.ds_policy.specs.declared.access.Verdict.TheVariants.{Allowed, Denied}
+use Rattle.ds_policy.specs.Grants.{PageState}
+use Rattle.ds_policy.specs.Pages.{decide}
+use Rattle.ds_grants.specs.State.{page_state}
+use Rattle.ds_refinement.specs.declared.cause.Cause.{Cause}
+use Rattle.ds_refinement.specs.declared.cause.Cause.TheVariants as cause
 use Rattle.ds_refinement.specs.declared.step.Step.{Step}
 use Rattle.ds_refinement.specs.Held.{Held}
 use Rattle.ds_refinement.specs.Stands.{IsSound}
 use Rattle.ds_refinement.specs.Steps.{Follows, Moves}
 use Rattle.ds_refinement.specs.Services.{after_event, with_one_spent}
-use Rattle.ds_refinement.specs.Real.{HasUnit, IsReal, RealPath, Through, is_served}
+use Rattle.ds_refinement.specs.Told.{told}
+use Rattle.ds_refinement.specs.Real.{EndsUnit, GoesBack, GoesBackBy, HasUnit, IsReal, MayGoBack, RealPath, Through, is_served}
 
 pub one_step : (kind : Step) (old new : Held) → Follows kind old new → Moves kind old new → IsReal old new → RealPath old new
 one_step kind old new f m r = record { path = old ∷ []; through = ((kind, f, m, r), refl) }
@@ -49,3 +58,33 @@ instruction_real (Raised code) h s has user is = record {
   service = λ a b. (let no : false ≡ true = sym user ∙ b in absurd (cc));
   random = λ a. (let no : false ≡ true = sym user ∙ a has in absurd (cc));
 }
+
+-- a service that goes back, where the table allows what was told
+pub back_real : (h new : Held) (p : ℕ) (rest : List ℕ) (access : Access) (page offset : ℕ) → h.kept.state.ready ≡ p ∷ rest → is_served h.core ≡ true
+    → told h.core.system (page_state h.kept.grants h.bus.memory) p ≡ cause.Access access → decide h.kept.grants.table p access.kind access.size h.core.system.bad_vaddr ≡ Allowed page offset
+    → GoesBack h new → new.core.random ≡ h.core.random → IsReal h new
+back_real h new p rest access page offset ready served is allowed back random = record {
+  instruction = λ has user. (let no : true ≡ false = sym served ∙ user in absurd (cc));
+  service = λ has at. inr (
+    subst (λ (ps : List ℕ). GoesBackBy ps h) (sym ready)
+        (subst (λ (w : Cause). MayGoBack (page_state h.kept.grants h.bus.memory) p h.core.system.bad_vaddr w) (sym is) (page, offset, allowed)),
+    back,
+  );
+  random = λ has. random;
+}
+
+-- What was told ends a unit or lets it go on.
+
+by_verdict : (s : PageState) (p bad : ℕ) (access : Access) (v : Verdict) → decide s.table p access.kind access.size bad ≡ v → EndsUnit s p bad (cause.Access access) ⊎ MayGoBack s p bad (cause.Access access)
+by_verdict s p bad access (Allowed page offset) is = inr (page, offset, is)
+by_verdict s p bad access (Denied rule code) is = inl (rule, code, is)
+
+pub ends_or_goes_back : (s : PageState) (p bad : ℕ) (why : Cause) → EndsUnit s p bad why ⊎ MayGoBack s p bad why
+ends_or_goes_back s p bad (cause.Access access) = by_verdict s p bad access (decide s.table p access.kind access.size bad) refl
+ends_or_goes_back s p bad (cause.Fault code) = inl tt
+ends_or_goes_back s p bad cause.Call = inl tt
+
+pub never_both : (s : PageState) (p bad : ℕ) (why : Cause) → EndsUnit s p bad why → MayGoBack s p bad why → ⊥
+never_both s p bad (cause.Access access) ends back = let no : Denied ends.0 ends.1 ≡ Allowed back.0 back.1 = sym ends.2 ∙ back.2 in absurd (cc)
+never_both s p bad (cause.Fault code) ends back = back
+never_both s p bad cause.Call ends back = back

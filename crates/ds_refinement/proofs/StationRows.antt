@@ -7,6 +7,7 @@ use Rattle.ds_isa.specs.declared.instr.Kind.TheVariants.{Load, Store}
 use Rattle.ds_procs.specs.declared.process.Standing.TheVariants.{Ended}
 use Rattle.ds_policy.specs.declared.grant.Right.TheVariants.{Read}
 use Rattle.ds_policy.specs.declared.grant.Grant.{Grant}
+use Rattle.ds_policy.specs.declared.access.Rule.TheVariants.{Number}
 use Rattle.ds_policy.specs.declared.access.Verdict.TheVariants.{Allowed, Denied}
 use Rattle.ds_policy.specs.Grants.{PageState}
 use Rattle.ds_grants.specs.State.{GrantsState}
@@ -21,10 +22,10 @@ use Rattle.ds_refinement.specs.Held.{Held, Kept}
 use Rattle.ds_refinement.specs.Stands.{AreResting, Stands}
 use Rattle.ds_refinement.specs.Steps.{StepTo, Comes, Follows, Stays, Moves}
 use Rattle.ds_refinement.specs.Services.{EntersBy}
-use Rattle.ds_refinement.specs.Real.{HasUnit, EndsUnit, Through}
+use Rattle.ds_refinement.specs.Real.{HasUnit, EndsUnit, MayGoBack, GoesBack, IsReal, Through}
 use Rattle.ds_refinement.specs.Granted.{IsGranted}
 use Rattle.ds_refinement.specs.Quiet.{IsQuiet}
-use Rattle.ds_refinement.specs.StationRows.{two, kept, core_at, user, done}
+use Rattle.ds_refinement.specs.StationRows.{two, kept, core_at, user, served, done}
 
 -- a station that has begun so many instructions of a unit; it has no memory
 abbrev after : ℕ → Held
@@ -151,6 +152,36 @@ a_granted_load_goes_on ends = let denied : Allowed 0 4 ≡ Denied ends.0 ends.1 
 
 pub a_store_that_is_not_granted_ends_its_unit : EndsUnit pages 1 0x00400004 (cause.Access (record { kind = Store; size = Word }))
 a_store_that_is_not_granted_ends_its_unit = (_, _, refl)
+
+-- What goes back.
+
+pub a_granted_load_goes_back : MayGoBack pages 1 0x00400004 (cause.Access (record { kind = Load; size = Word }))
+a_granted_load_goes_back = (0, 4, refl)
+
+pub a_store_that_is_not_granted_does_not_go_back : MayGoBack pages 1 0x00400004 (cause.Access (record { kind = Store; size = Word })) → ⊥
+a_store_that_is_not_granted_does_not_go_back back = let allowed : Denied (Number 1) 1 ≡ Allowed back.0 back.1 = back.2 in absurd cc
+
+pub a_breakpoint_does_not_go_back : MayGoBack pages 1 0x00400004 (cause.Fault 9) → ⊥
+a_breakpoint_does_not_go_back back = back
+
+-- process 1 has called at 00400008, and the address that was refused last lies in page 00401000
+abbrev called : Held
+called = record (after 1) { core = record served { system = record served.system { cause = 0x20; bad_vaddr = 0x00401004 } } }
+
+-- it is back at its call; that page is in the buffer
+abbrev again : Held
+again = record called { core = record (core_at 0x00400008 0xC03) { system = record called.core.system { status = 0xC03 } } }
+
+pub all_but_the_cause_is_a_way_back : GoesBack called again
+all_but_the_cause_is_a_way_back = record { mode = refl; address = refl; bus = refl; slot = 1; entry = _; entries = refl; asked = refl }
+
+pub a_call_does_not_go_back : IsReal called again → ⊥
+a_call_does_not_go_back real = elim (real.service (refl, λ none. absurd cc) refl) [
+  | inl ends ↦ let owed : false ≡ true = ends.0 in absurd cc
+  | inr back ↦ back.0
+]
+
+-- Where a granted word lies.
 
 pub a_word_of_page_0_is_reached_in_frame_402 : IsGranted grants 1 Load Word 0x00400004 0x00192004
 a_word_of_page_0_is_reached_in_frame_402 =

@@ -35,7 +35,8 @@ pub use pages::{
     a_named_page_lives, a_word_of_a_page_lies_in_its_frame, what_a_user_reaches_is_granted,
 };
 pub use paths::{
-    a_boundary_is_real, an_end_is_real, an_instruction_is_real, paths_join, paths_stay_sound,
+    a_boundary_is_real, a_way_back_is_real, an_end_is_real, an_instruction_is_real, paths_join,
+    paths_stay_sound, what_was_told_decides,
 };
 pub use refills::{a_refill_begins_the_unit_again, a_refill_lets_the_unit_go_on};
 pub use runs::{a_block_is_within_a_run, a_run_goes_on};

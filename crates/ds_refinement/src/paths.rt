@@ -1,10 +1,15 @@
 //! Paths of steps that are real.
-ghost use Rattle.std.specs.Prelude.{◌≡◌, ℕ, ◌∷◌, ◌++◌, true, false, List, [], IsSome};
+ghost use Rattle.std.specs.Prelude.{◌≡◌, ◌⊎◌, ℕ, ◌∷◌, ◌++◌, true, false, List, [], IsSome};
 ghost use Rattle.ds_core.specs.declared.event.Event.{Event};
 ghost use Rattle.ds_core.specs.Core.{Step as CoreStep};
 ghost use Rattle.ds_core.specs.Effect.{step as core_step};
+ghost use Rattle.ds_policy.specs.declared.access.Access.{Access};
+ghost use Rattle.ds_policy.specs.declared.access.Verdict.TheVariants.{Allowed};
+ghost use Rattle.ds_policy.specs.Grants.{PageState};
+ghost use Rattle.ds_policy.specs.Pages.{decide};
 ghost use Rattle.ds_grants.specs.State.{page_state};
 ghost use Rattle.ds_refinement.specs.declared.cause.Cause.{Cause};
+ghost use Rattle.ds_refinement.specs.declared.cause.Cause.TheVariants as cause;
 ghost use Rattle.ds_refinement.specs.declared.step.Step.{Step};
 ghost use Rattle.ds_refinement.specs.Held.{Held};
 ghost use Rattle.ds_refinement.specs.Stands.{IsSound};
@@ -16,8 +21,10 @@ ghost use Rattle.ds_refinement.specs.Services.{
 ghost use Rattle.ds_refinement.specs.Told.{told};
 ghost use Rattle.ds_refinement.specs.Real.{
   EndsUnit,
+  GoesBack,
   HasUnit,
   IsReal,
+  MayGoBack,
   RealPath,
   Through,
   is_served,
@@ -55,6 +62,25 @@ pub fn an_end_is_real()
         → told h.core.system (page_state h.kept.grants h.bus.memory) p ≡ why
         → EndsUnit (page_state h.kept.grants h.bus.memory) p h.core.system.bad_vaddr why
         → IsSome new.kept.state.owed → new.core.random ≡ h.core.random → IsReal h new }
+{}
+
+/// A service that goes back to its unit is real where what was told is an access that the table
+/// allows.
+pub fn a_way_back_is_real()
+    ensures { (h new : Held) (p : ℕ) (rest : List ℕ) (access : Access) (page offset : ℕ)
+        → h.kept.state.ready ≡ p ∷ rest → is_served h.core ≡ true
+        → told h.core.system (page_state h.kept.grants h.bus.memory) p ≡ cause.Access access
+        → decide h.kept.grants.table p access.kind access.size h.core.system.bad_vaddr
+        ≡ Allowed page offset
+        → GoesBack h new → new.core.random ≡ h.core.random → IsReal h new }
+{}
+
+/// What was told ends a unit or lets it go on, and never both.
+pub fn what_was_told_decides()
+    ensures either { (s : PageState) (p bad : ℕ) (why : Cause)
+        → EndsUnit s p bad why ⊎ MayGoBack s p bad why }
+    ensures never_both { (s : PageState) (p bad : ℕ) (why : Cause) → EndsUnit s p bad why
+        → MayGoBack s p bad why → ⊥ }
 {}
 
 /// Where a boundary is owed, or nobody is ready, the processor takes no step.

@@ -34,7 +34,7 @@ returns-in-Allowed-clause-does g c =
     let decides : decide old.monitor.grants.table c.args.process c.args.access.kind c.args.access.size old.core.system.bad_vaddr ≡ Allowed c.in-Allowed.page c.in-Allowed.offset =
     verdict_is _ old.monitor.grants.table c.args.process c.args.access _ old.core.system.bad_vaddr _ (Allowed c.in-Allowed.page c.in-Allowed.offset) c.decide.ensures.exact c.table.ensures.value c.bad_address-address.ensures c.in-Allowed.is in
     let on = allowed_page old.monitor.grants c.args.process c.args.access.kind c.args.access.size old.core.system.bad_vaddr c.in-Allowed.page c.in-Allowed.offset c.table.ensures.pages decides in
-    refill_step c.args.process old new c.requires.busy c.requires.kernel c.args.access c.in-Allowed.page c.in-Allowed.offset on.grant c.look_at_random.ensures decides on.granted c.refill.ensures.held
+    refill_step c.args.process old new c.requires.busy c.requires.kernel c.args.access c.in-Allowed.page c.in-Allowed.offset on.grant c.look_at_random.ensures c.requires.told decides on.granted c.refill.ensures.held
 
 pub returns-in-Allowed-clause-good : goal.returns-in-Allowed-clause-good
 returns-in-Allowed-clause-good g c =
