@@ -50,7 +50,7 @@ below_both a b t x y = elim (nat_le a b) as (λ (r : Bool). nat_le a b ≡ r →
   | false ↦ λ e. (let l : b ≤ a = grind (arith, nat_tests) in subst (λ (n : ℕ). t < n) (sym (min-eq_right l)) y)
 ] refl
 
--- where two instructions may run ahead, nothing comes up to the boundary behind them
+-- where two instructions may run ahead, nothing comes up to the boundary after them
 pub goes_two : {L : Type 0} (p : Parts L) → IsGood p → MayRunAhead 2 (held p) → p.monitor.time + 2 + 1 < p.monitor.quiet_until
 goes_two p good goes =
     let early : p.monitor.time ≤ 1000000001 = good.orderly.early in
@@ -69,7 +69,7 @@ within_quiet time n q end is some =
     let most : min n (q - 2) ≤ q - 2 = min-le_right n (q - 2) in
     omega (arith, is, some, most)
 
--- behind a block of some instructions there is a unit's time before anything comes
+-- after a block of some instructions there is a unit's time before anything comes
 pub before_quiet : (time n q limit : ℕ) → time + limit + 1 ≡ min n (q - 2) → 1 ≤ limit → time + limit + 3 ≤ q
 before_quiet time n q limit is some =
     let most : min n (q - 2) ≤ q - 2 = min-le_right n (q - 2) in

@@ -1,4 +1,4 @@
--- A call that is answered at once: what is held behind it and its boundary, with the seat of the process as it was.
+-- A call that is answered at once: what is held after it and its boundary, with the seat of the process as it was.
 use Rattle.std.proofs.Common.{◌≡◌, ℕ, ◌+◌, ◌%◌, ◌<◌, ◌≤◌, ◌==◌, Bool, true, false, cond, List, [], ◌∷◌, ◌++◌, length, length-set, Option, Some, None, refl, sym, ap, ap₂, subst, ◌∙◌, arith, ◌⊎◌, inl, inr}
 use Rattle.std.specs.Prelude.{IsSome, slice_index, slice_set, slice_index_or, drop}
 use Rattle.ds_word.specs.Word.{word}
@@ -73,7 +73,7 @@ held_by c b k failed spent = record { core = c; bus = b; kept = k; own = record 
 abbrev pub with_texts : State → List (List ℕ) → List (List ℕ) → State
 with_texts m queues consoles = record m { queues = queues; consoles = consoles }
 
--- What is held behind a call of a process that stays on the processor: its boundary is owed, and its seat is as it was.
+-- What is held after a call of a process that stays on the processor: its boundary is owed, and its seat is as it was.
 abbrev owing_of : Held → ℕ → ℕ → List (List ℕ) → List (List ℕ) → BusState → Held
 owing_of h p answer queues consoles b = record {
   core = on_processor h.core (behind_call h.core answer (process_of h.kept.state p));
@@ -109,7 +109,7 @@ module _ (h : Held) (p : ℕ) (rest : List ℕ) (asked : Call) (answer : ℕ) (q
   abbrev pc : ℕ
   pc = h.core.system.epc
 
-  -- the process as it leaves for its call, where it stands behind that, and with the answer
+  -- the process as it leaves for its call, where it stands after that, and with the answer
   abbrev leaving : Process
   leaving = record q { registers = record h.core.registers { late = None }; pc = pc }
 
@@ -145,7 +145,7 @@ module _ (h : Held) (p : ℕ) (rest : List ℕ) (asked : Call) (answer : ℕ) (q
   abbrev calls : State → State
   calls = called p pc asked
 
-  -- an answer where a process stands behind its call
+  -- an answer where a process stands after its call
   abbrev answer_in : Process → State
   answer_in x = with_end p (with_process (with_texts (with_process s p past) queues consoles) p (record x { registers = record x.registers { general = slice_set x.registers.general 2 answer } }))
 
@@ -193,7 +193,7 @@ module _ (h : Held) (p : ℕ) (rest : List ℕ) (asked : Call) (answer : ℕ) (q
   seated_does : Does Unit h in_seat
   seated_does = call_does h p rest sound ready kernel in_seat unowed (told_call h.core.system (page_state h.kept.grants h.bus.memory) p code) outside refl refl ends
 
-  -- The seat of the process that runs says nothing.
+  -- The running process's saved registers are meaningless.
 
   vacant : vacated s.ready (with_process later p behind) ≡ vacated s.ready later
   vacant = subst (λ (ps : List ℕ). vacated ps (with_process later p behind) ≡ vacated ps later) (sym ready) (with_process_again later p behind no_process)
@@ -235,7 +235,7 @@ module _ (h : Held) (p : ℕ) (rest : List ℕ) (asked : Call) (answer : ℕ) (q
         real = record { instruction = d.real.instruction; service = λ unit served. still_served (d.real.service unit served); random = d.real.random };
       }
 
-  -- The boundary behind it.
+  -- The boundary after it.
 
   boundary_does : h.kept.ticked ≤ s.time → IsQuiet owing.kept → Does Boundary owing closed
   boundary_does ticked none =
@@ -283,7 +283,7 @@ module _ (h : Held) (p : ℕ) (rest : List ℕ) (asked : Call) (answer : ℕ) (q
         };
       }
 
--- The parts of a station behind it.
+-- The parts of a station after it.
 module _ {L : Type 0} (p answer : ℕ) (asked : Call) (queues consoles : List (List ℕ)) (old new : Parts L) (waits : IsQuietCall p old) (asks : call_of old.core.registers.general ≡ asked)
     (by : Answers (kept_of old.monitor).state p old.core.system.epc asked answer queues consoles old.bus new.bus)
     (commands : IsNonDecreasingBy has_time old.monitor.due.commands) (order : IsNonDecreasingBy comes_at old.monitor.due.characters)

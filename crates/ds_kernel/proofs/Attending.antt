@@ -1,4 +1,4 @@
--- A boundary is served: the devices and the processor before it, what is kept behind it.
+-- A boundary is served: the devices and the processor before it, what is kept after it.
 use Rattle.std.proofs.Common.{◌≡◌, ℕ, ◌+◌, ◌-◌, ◌%◌, ◌^◌, ◌<◌, ◌≤◌, Bool, true, false, cond, List, [], ◌∷◌, ◌++◌, length, take, map, Option, Some, None, refl, sym, ap, ap₂, subst, ◌∙◌, arith}
 use Rattle.std.specs.Prelude.{◌==◌, ◌||◌, nat_le}
 use Rattle.std.specs.List.{All}
@@ -46,7 +46,7 @@ rests_by (p ∷ rest) c k m turn o a = begins_by (is_user c.system) c.slot c p m
 pub at_boundary : (h : Held) (turn : Turn) → IsSound h → h.kept.state.owed ≡ Some turn → (h.core.system.status ≡ user_status) × FirstBy h.kept.state.ready h.core
 at_boundary h turn sound owed = rests_by h.kept.state.ready h.core h.kept sound.state turn (owed_is h sound.state sound.stands ∙ owed) sound.stands.running
 
--- The seat behind an interrupt.
+-- The seat after an interrupt.
 
 -- a process goes to its seat as it would have without the interrupt
 seat_alike : (asked : Bool) (c : CoreState) (q : Process) → c.system.status ≡ user_status → c.slot ≡ false → seated_process (interrupted asked c) q ≡ seated_process c q

@@ -115,7 +115,7 @@ pub owed_small : (slot : Bool) → owed_tick slot ≤ 1
 owed_small true = omega arith
 owed_small false = omega arith
 
--- the parts behind a block: another processor and bus, so many ticks later, with so many instructions of the unit taken
+-- the parts after a block: another processor and bus, so many ticks later, with so many instructions of the unit taken
 abbrev pub counted : {L : Type 0} → Parts L → CoreState → BusState → ℕ → ℕ → Parts L
 counted p c b ticks spent = record p { core = c; bus = b; monitor = record p.monitor { time = p.monitor.time + ticks }; spent = spent }
 
@@ -179,7 +179,7 @@ module _ {L : Type 0} (limit n : ℕ) (old : Parts L) (c : CoreState) (b : BusSt
           begun = before_end end n passed (held old) (held new) goes.owed goes.owed refl sum some few last;
         }
 
-  -- the one behind them did
+  -- the one after them did
   module _ (code : ExceptionCode) (fewer : n < limit) (leads : AdvancesTo n (Some code) start hw) (all : ticks n start + owed_tick (is_delayed c.system) ≡ n + owed_tick old.core.slot)
       (time : passed ≡ n + owed_tick old.core.slot - owed_tick (is_delayed c.system)) (left : spent ≡ owed_tick (is_delayed c.system) + 1) where
     raised_is : held new ≡ with_exception n (held old) hw

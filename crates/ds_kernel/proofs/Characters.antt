@@ -14,7 +14,7 @@ use Rattle.ds_kernel.specs.Devices.{all_received, typed, lost_behind, emptied}
 abbrev pub as_received : Character → Received
 as_received c = record { line = c.line % 4; byte = c.byte }
 
--- the lines behind a character, by whether the silo is full
+-- the lines after a character, by whether the silo is full
 abbrev pub by_room : Bool → SerialState → Character → SerialState
 by_room true d c = record d { overrun = true }
 by_room false d c = record d { silo = d.silo ++ as_received c ∷ [] }
@@ -42,7 +42,7 @@ full_take xs ys long =
 one_longer : (xs : List Received) (x : Received) → nat_le 64 (length xs) ≡ false → length (xs ++ x ∷ []) ≤ 64
 one_longer xs x e = (let room : length xs + 1 ≤ 64 = room_is (length xs) e in omega (arith, room, length-append xs (x ∷ [])))
 
--- the silo has the first 64, behind what it had
+-- the silo has the first 64, after what it had
 pub silo_of : (d : SerialState) (cs : List Character) → d.master_scan ≡ true → length d.silo ≤ 64 → (all_received d cs).silo ≡ take 64 (d.silo ++ map as_received cs)
 silo_of d [] on few = sym (ap (take 64) (append-nil d.silo) ∙ take_all 64 d.silo few)
 silo_of d (c ∷ rest) on few = ap (λ (x : SerialState). (all_received x rest).silo) (received_one d c on) ∙ by (nat_le 64 (length d.silo)) refl (λ x. silo_of x rest)

@@ -35,7 +35,7 @@ rings_alike (suc (suc (suc (suc (suc (suc (suc (suc (suc (suc (suc (suc (suc (su
 rings_alike (suc (suc (suc (suc (suc (suc (suc (suc (suc (suc (suc (suc (suc (suc (suc zero))))))))))))))) t k l h = by_period 131072 1 t k (omega arith) (omega arith)
 rings_alike (suc (suc (suc (suc (suc (suc (suc (suc (suc (suc (suc (suc (suc (suc (suc (suc n)))))))))))))))) t k l h = absurd (omega (arith, h))
 
--- the time behind the ticks that passed since it
+-- the time after the ticks that passed since it
 later_is : (t now : ℕ) → t ≤ now → t + (now - t) ≡ now
 later_is t now before = omega (arith, before)
 
@@ -79,6 +79,6 @@ none_since rate now = by (not (rate == 0)) (now / 2 ^ (rate + 2))
     by true n = never n
     by false n = refl
 
--- the clock's time behind the ticks
+-- the clock's time after the ticks
 pub time_is : (ticked now : ℕ) → ticked ≤ now → (ticked % 2 ^ 17 + (now - ticked)) % 2 ^ 17 ≡ now % 2 ^ 17
 time_is ticked now before = omega (arith, before)

@@ -119,7 +119,7 @@ module _ (h : Held) (p : ℕ) (rest : List ℕ) (sound : IsSound h) (ready : h.k
             (refill_goes_back h sound.state p rest access.kind access.size page offset grant sound.stands ready kernel (there sound.state sound.stands) granted room) refl;
       }
 
--- The marks behind a service.
+-- The marks after a service.
 
 pub enters_user : (queue : List ℕ) (c : CoreState) (k : Kept) → EntersBy queue c k → c.system.status ≡ user_status
 enters_user [] c k b = b
@@ -136,7 +136,7 @@ two_ticks false = omega arith
 sound_behind : (h new : Held) → IsSound h → Follows Unit h new → IsSound new
 sound_behind h new s f = let t = f.follows s.state s.stands in record { state = t.0; stands = t.2 }
 
--- the station is as it should be behind the end of a unit
+-- the station is as it should be after the end of a unit
 pub ended_good : {L : Type 0} (f : State → State) (p : ℕ) (old new : Parts L) → IsBusy p old → HasEnded f old new → Does Unit (held old) (held new) → IsGood new
 ended_good f p old new busy ended does =
     let none : new.spent ≡ 0 = does.moves.3 in

@@ -1,4 +1,4 @@
--- Who comes on the processor, and the buffer behind a flush.
+-- Who comes on the processor, and the buffer after a flush.
 use Rattle.std.proofs.Common.{◌≡◌, ℕ, ◌==◌, cond, List, [], ◌∷◌, Some, refl, sym, ap, subst}
 use Rattle.std.proofs.lemmas.Bool.{eq-eqb}
 use Rattle.ds_tlb.specs.declared.entry.Entry.{Entry}

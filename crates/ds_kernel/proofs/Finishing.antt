@@ -55,7 +55,7 @@ own_of_marks failed spent = record { failed = failed; spent = spent }
 abbrev resting_clock : ℕ → ℕ → ClockState
 resting_clock x y = record { rate = x; enabled = true; flagged = false; time = y % 2 ^ 17 }
 
--- the devices rest as before behind a unit, whose boundary is owed
+-- the devices rest as before after a unit, whose boundary is owed
 pub resting : (b : BusState) (k k' : Kept) (runner : Option ℕ) → k.state.owed ≡ None → k'.state.rate ≡ k.state.rate → k'.ticked ≡ k.ticked
     → k'.state.owed ≡ Some (record { began = k.state.time; runner = runner }) → AreResting b k → AreResting b k'
 resting b k k' runner none rate ticked owed r =
@@ -73,7 +73,7 @@ resting b k k' runner none rate ticked owed r =
 pub rest_alike : (a b : BusState) → b ≡ a → (k : Kept) → AreResting a k → AreResting b k
 rest_alike a b same k resting = subst (λ (x : BusState). AreResting x k) (sym same) resting
 
--- behind a character that was sent the devices rest as before
+-- after a character that was sent the devices rest as before
 pub sent_rests : (b : BusState) (line : ℕ) (k : Kept) → AreResting b k → AreResting (with_sent b line) k
 sent_rests b line k r = record {
   serial = ap (λ (d : SerialState). record d { waiting = None }) r.serial;
@@ -87,7 +87,7 @@ sent_rests b line k r = record {
 pub memory_rests : (b : BusState) (memory : List ℕ) (k : Kept) → AreResting b k → AreResting (record b { memory = memory }) k
 memory_rests b memory k r = record { serial = r.serial; clock = r.clock; system = r.system; ticked = r.ticked; period = r.period }
 
--- and so they do behind each call
+-- and so they do after each call
 pub call_rests : (c : Call) (b : BusState) (line : ℕ) (k : Kept) → AreResting b k → AreResting (bus_behind c line b) k
 call_rests call.Exit b line k r = r
 call_rests (call.Put byte) b line k r = sent_rests b line k r
@@ -167,7 +167,7 @@ module _ {L : Type 0} (f : State → State) (old new : Parts L) (between : Monit
     room = λ n h. subst (HasLogRoom n) (sym b.monitor) (a.room n h);
   }
 
--- Who is first comes in behind a service of the process that left.
+-- Who is first comes in after a service of the process that left.
 pub comes_in : {L : Type 0} (f : State → State) (old left new : Parts L) (between : Monitor) (entries : List Entry) (memory : List ℕ) (p : ℕ)
     → left ≡ record old { monitor = record old.monitor { seats = left.monitor.seats } }
     → EntersBy new.monitor.ready new.core (kept_of new.monitor)

@@ -1,4 +1,4 @@
--- Room for what a unit and the commands behind it may write.
+-- Room for what a unit and the commands after it may write.
 use Rattle.std.proofs.Common.{◌≡◌, ℕ, ◌+◌, ◌<◌, ◌≤◌, Option, sym, ap, subst, arith}
 use Rattle.std.proofs.Math.Nat.{min-le_left}
 use Rattle.ds_policy.specs.Value.{InputValue}
@@ -34,7 +34,7 @@ turn_room_still m time owed same r =
     subst (λ (t : ℕ). HasRoom (1 + commands_by (t + 2) m.due.commands) (record m { time = time; owed = owed })) (sym same)
     (room_later (1 + commands_by (m.time + 2) m.due.commands) m time owed r)
 
--- the boundary behind the unit has room for its commands
+-- the boundary after the unit has room for its commands
 pub boundary_room : (m : Monitor) (time : ℕ) (owed : Option Turn) → time ≤ m.time + 2 → HasTurnRoom m → HasBoundaryRoom (record m { time = time; owed = owed })
 boundary_room m time owed soon r =
     let few : commands_by time m.due.commands ≤ commands_by (m.time + 2) m.due.commands = by_more time (m.time + 2) m.due.commands soon in

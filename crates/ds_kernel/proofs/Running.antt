@@ -75,7 +75,7 @@ some_ticks : (slot : Bool) → 1 ≤ ticks_of slot
 some_ticks true = omega arith
 some_ticks false = omega arith
 
--- behind a unit the time has grown
+-- after a unit the time has grown
 unit_falls : (n t ticks old r s : ℕ) → t < n → 1 ≤ ticks → r ≤ 131 * (n - (t + ticks)) + 130 → s ≡ 131 * (n - t) + old → r < s
 unit_falls n t ticks old r s soon some most is = omega (arith, soon, some, most, is)
 
@@ -124,7 +124,7 @@ step_goes step n old new going sound does = record {
   begun = step_begun step n old new going sound does.follows does.moves;
 }
 
--- one behind the other
+-- one after the other
 pub goes_join : (n : ℕ) (a b c : Held) → GoesOn n a b → GoesOn n b c → GoesOn n a c
 goes_join n a b c first second =
     let near : rank n b < rank n a = first.nearer in

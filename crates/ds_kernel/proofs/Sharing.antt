@@ -103,7 +103,7 @@ lines_low m w = λ k d below.
     let low : (slice_index_or m.processes k no_process).line < 4 = subst (λ (i : ℕ). (slice_index_or m.processes i no_process).line < 4) (one_before k) (w.processes (k + 1)).line in
     subst (λ (n : ℕ). n < 4) (sym (get_or-map (λ (q : Process). q.line) m.processes k no_process d within)) low
 
--- What is kept behind each part of it.
+-- What is kept after each part of it.
 
 pub drained_formed : (k n : Kept) (cs : List Character) → n ≡ kept_after (λ (m : State). record m { queues = all_queued m.queues cs }) k → IsLawful (whole k [] []) → IsWellFormed (whole n [] [])
 drained_formed k n cs is w = subst (λ (x : Kept). IsWellFormed (whole x [] [])) (sym is) (typed_formed (whole k [] []) cs w.formed)
@@ -171,7 +171,7 @@ commands_rotated : (runner : Option ℕ) (m : State) → (rotated m runner).comm
 commands_rotated None m = refl
 commands_rotated (Some p) m = same_commands (is_first (first m.ready) p) m p
 
--- behind the waking
+-- after the waking
 pub woken_orderly : (k between n : Kept) (cs : List Character) → between ≡ kept_after (λ (m : State). record m { queues = all_queued m.queues cs }) k
     → n ≡ kept_after (λ (m : State). woken m 1 (length m.processes)) between → monitor.IsOrderly k → monitor.IsOrderly n
 woken_orderly k between n cs drained woke it = record {
@@ -184,7 +184,7 @@ woken_orderly k between n cs drained woke it = record {
       (ap (λ (x : Kept). x.state.commands) woke ∙ (commands_woken (length between.state.processes) 1 between.state ∙ ap (λ (x : Kept). x.state.commands) drained)) it.commands;
 }
 
--- and behind the rotation
+-- and after the rotation
 pub rotated_orderly : (runner : Option ℕ) (k n : Kept) → n ≡ kept_after (λ (m : State). rotated m runner) k → monitor.IsOrderly k → monitor.IsOrderly n
 rotated_orderly runner k n is it = record {
   lawful = rotated_kept runner k n is it.lawful;

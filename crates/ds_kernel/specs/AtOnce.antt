@@ -1,4 +1,4 @@
--- Calls that are answered at once, and the block of instructions behind one.
+-- Calls that are answered at once, and the block of instructions after one.
 use Rattle.std.specs.Prelude.{◌≡◌, ℕ, ◌+◌, ◌-◌, ◌<◌, false, None}
 use Rattle.ds_cp0.specs.System.{is_user}
 use Rattle.ds_core.specs.Ahead.{owed_tick}
@@ -10,7 +10,7 @@ use Rattle.ds_kernel.specs.Parts.{held}
 use Rattle.ds_kernel.specs.Good.{IsBusy, IsGood}
 use Rattle.ds_kernel.specs.Going.{GoesOn}
 
--- a call of a process outside the slot of a branch waits, and the boundary behind its turn has nothing to do
+-- a call of a process outside the slot of a branch waits, and the boundary after its turn has nothing to do
 pub record IsQuietCall {L : Type 0} (process : ℕ) (p : Parts L) : Type 0 where
   pub busy : IsBusy process p
   pub kernel : is_user p.core.system ≡ false
@@ -18,7 +18,7 @@ pub record IsQuietCall {L : Type 0} (process : ℕ) (p : Parts L) : Type 0 where
   pub outside : is_delayed p.core.system ≡ false
   pub early : p.monitor.time + 1 < p.monitor.quiet_until
 
--- it is answered, and its turn and the boundary behind that are over: the same process is at the beginning of its next unit
+-- it is answered, and its turn and the boundary after that are over: the same process is at the beginning of its next unit
 pub record IsAnswered {L : Type 0} (old new : Parts L) : Type 0 where
   pub good : IsGood new
   pub goes : (n : ℕ) → old.monitor.time < n → GoesOn n (held old) (held new)
@@ -28,7 +28,7 @@ pub record IsAnswered {L : Type 0} (old new : Parts L) : Type 0 where
   pub until : new.monitor.quiet_until ≡ old.monitor.quiet_until
   pub log : HasLogRoom 1 old.monitor → HasLogRoom 1 new.monitor
 
--- a block of some instructions may begin, behind which a unit still begins before a time
+-- a block of some instructions may begin, after which a unit still begins before a time
 pub record MayGoOn {L : Type 0} (end : ℕ) (p : Parts L) : Type 0 where
   pub early : p.monitor.time + 1 < end
   pub ahead : MayRunAhead (end - p.monitor.time - 1) (held p)

@@ -43,7 +43,7 @@ runner_of (Some turn) = turn.runner
 abbrev pub unowed : Kept → Kept
 unowed k = record k { state = record k.state { owed = None } }
 
--- These characters are queued, who waits for one that is there becomes ready, and where a period has ended the process that ran goes behind the others.
+-- These characters are queued, who waits for one that is there becomes ready, and where a period has ended the process that ran goes to the end.
 abbrev pub shared : List Character → Bool → Option ℕ → State → State
 shared cs passed runner m =
     let typed : State = record m { queues = all_queued m.queues cs } in

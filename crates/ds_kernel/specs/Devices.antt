@@ -7,7 +7,7 @@ use Rattle.ds_core.specs.Core.{CoreState, exception, core_at_vector}
 use Rattle.ds_policy.specs.declared.command.Character.{Character}
 use Rattle.ds_kernel.specs.declared.devices.Typed.{Typed}
 
--- the lines behind characters that came in, one after the other
+-- the lines after characters that came in, one after the other
 abbrev pub all_received : SerialState → List Character → SerialState
 all_received d [] = d
 all_received d (c ∷ rest) = all_received (received d c.line c.byte).1 rest

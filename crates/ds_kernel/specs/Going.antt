@@ -8,7 +8,7 @@ use Rattle.ds_kernel.specs.Ran.{HasRun}
 abbrev pub rank : ℕ → Held → ℕ
 rank n h = 131 * (n - h.kept.state.time) + (if is_some h.kept.state.owed then 130 else steps_left h)
 
--- What came to the one by a run for n comes to the other by it, which is nearer to its end, and a unit is begun there only before that.
+-- What followed the one by a run for n follows the other by it, which is nearer to its end, and a unit is begun there only before that.
 pub record GoesOn (n : ℕ) (old new : Held) : Type 0 where
   pub runs : (start : Held) → HasRun n start old → HasRun n start new
   pub nearer : rank n new < rank n old

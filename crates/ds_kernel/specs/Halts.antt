@@ -6,7 +6,7 @@ use Rattle.ds_refinement.specs.Steps.{is_in_kernel}
 use Rattle.ds_kernel.specs.declared.halt.Halt.{Halt}
 use Rattle.ds_kernel.specs.declared.halt.Halt.TheVariants.{Memory, Stuck, Failed}
 
--- What is held where the next step is not done: memory runs out only where no unit is begun, and a unit is stuck only behind 64 instructions.
+-- What is held where the next step is not done: memory runs out only where no unit is begun, and a unit is stuck only after 64 instructions.
 abbrev pub Halts : Halt → Held → Type 0
 Halts Memory h = (h.own.failed ≡ false) × (h.own.spent ≡ 0) × (is_over h.kept.state ≡ false)
 Halts Stuck h = (h.own.failed ≡ false) × (h.own.spent ≡ 64) × (is_in_kernel h ≡ false)

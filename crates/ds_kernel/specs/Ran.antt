@@ -1,4 +1,4 @@
--- What a run of a station comes to.
+-- The outcome of a run of a station.
 use Rattle.std.specs.Prelude.{◌≡◌, ℕ}
 use Rattle.ds_refinement.specs.Held.{Held}
 use Rattle.ds_refinement.specs.Services.{with_failure}

@@ -16,7 +16,7 @@ begun_at c pc = record c {
   system = record c.system { status = user_status; entry_hi = 2 ^ 6 };
 }
 
--- the process that runs behind its call, with an answer in register 2
+-- the process that runs after its call, with an answer in register 2
 abbrev pub behind_call : CoreState → ℕ → Process → Process
 behind_call c answer q = record q {
   registers = record (settled c.registers) { general = slice_set c.registers.general 2 answer };

@@ -1,4 +1,4 @@
-//! Calls that are answered at once: the process stays on the processor, and the boundary behind its
+//! Calls that are answered at once: the process stays on the processor, and the boundary after its
 //! turn, which has nothing to do, is over with it.
 ghost use Rattle.std.specs.Prelude.{◌≡◌, ◌+◌, ◌%◌, ◌<◌, ◌≤◌, ◌≢◌, None, [], true, false, slice_index};
 ghost use Rattle.ds_cp0.specs.System.{is_user};
@@ -76,7 +76,7 @@ impl<L: Lookaside> Parts<L> {
     }
 
     /// Whether another block may begin where a unit does, so that a unit still begins before a time
-    /// behind it.
+    /// after it.
     #[inline(always)]
     pub(crate) fn may_go_on(&self, end: u64) -> bool
         requires good { IsGood self.now }

@@ -33,7 +33,7 @@ impl<L: Lookaside> Parts<L> {
 
     /// The most instructions that may run ahead in a run for n, if any may: the process is at the
     /// beginning of its unit or in the slot of its branch, and each unit begins before n, and so
-    /// early that no command is due behind it. An exception that waits has been counted in its unit,
+    /// early that no command is due after it. An exception that waits has been counted in its unit,
     /// so none waits there.
     #[inline(always)]
     pub(crate) fn may_run_ahead(&self, n: u64) -> Option<u32>
@@ -97,7 +97,7 @@ impl<L: Lookaside> Parts<L> {
         self.spent = spent;
     }
 
-    /// Takes so many instructions, or fewer and behind them one that raises an exception.
+    /// Takes so many instructions, or fewer and then one that raises an exception.
     #[inline(always)]
     fn run_ahead(&mut self, limit: u32) -> Ahead
         requires slots { L.SLOTS ≡ 64 }
@@ -116,7 +116,7 @@ impl<L: Lookaside> Parts<L> {
         self.core.run_ahead(&mut self.bus, limit)
     }
 
-    /// Takes so many instructions, or fewer and behind them one that raises an exception. No
+    /// Takes so many instructions, or fewer and then one that raises an exception. No
     /// boundary between their units has anything to do.
     #[inline(always)]
     pub(crate) fn run_block(&mut self, limit: u32)

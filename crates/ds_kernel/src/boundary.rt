@@ -1,4 +1,4 @@
-//! The boundary behind a turn: it has nothing to do, or it is served.
+//! The boundary after a turn: it has nothing to do, or it is served.
 ghost use Rattle.std.specs.Prelude.{◌≡◌, ◌+◌, ◌<◌, ◌≤◌, ◌^◌, length, map, All, IsSome};
 ghost use Rattle.ds_grants.specs.Buffer.{KeepsBuffer};
 ghost use Rattle.ds_refinement.specs.Services.{Serves, seated};
@@ -44,7 +44,7 @@ impl<L: Lookaside> Parts<L> {
     }
 
     /// What was received goes to the queues, who waits for a character that is there becomes ready,
-    /// and where a period has ended the process that ran goes behind the others.
+    /// and where a period has ended the process that ran goes to the end.
     fn share(&mut self, passed: bool, runner: Option<u32>)
         requires lines { All IsOfLine self.old.bus.serial.silo }
         requires orderly { monitor.IsOrderly (kept_of self.old.monitor) }

@@ -56,8 +56,8 @@ impl<L: Lookaside> Parts<L> {
         !self.core.cp0.user()
     }
 
-    /// The service of the exception that waits, where one does, and the boundary behind it, where
-    /// that ended the unit. Whether another block may begin at once, as it may behind a call that was
+    /// The service of the exception that waits, where one does, and the boundary after it, where
+    /// that ended the unit. Whether another block may begin at once, as it may after a call that was
     /// answered at once; it is to leave time for a unit before the end.
     #[inline(always)]
     fn serve_raised(&mut self, n: u64, end: u64) -> bool
@@ -117,7 +117,7 @@ impl<L: Lookaside> Parts<L> {
     }
 
     /// Blocks of instructions, the first of so many, each with the service of the exception that ends
-    /// it: one behind the other as long as that is a call that is answered at once.
+    /// it: one after the other as long as that is a call that is answered at once.
     #[inline(always)]
     fn run_blocks(&mut self, n: u64, limit: u32)
         requires slots { L.SLOTS ≡ 64 }

@@ -149,7 +149,7 @@ impl<L: Lookaside> Parts<L> {
         self.core.cp0.write(register::ENTRY_HI, ONE_SPACE);
     }
 
-    /// The process that runs goes on behind its call, with an answer: it stays on the processor, and
+    /// The process that runs goes on after its call, with an answer: it stays on the processor, and
     /// its next unit begins a tick later.
     #[inline(always)]
     pub(crate) fn go_on_behind_call(&mut self, answer: u32)

@@ -20,7 +20,7 @@ use ds_tlb::Lookaside;
 const MOST_SPENT: u32 = 64;
 
 impl<L: Lookaside> Parts<L> {
-    /// Makes room for what one unit and the commands that are due behind it may write, if it can.
+    /// Makes room for what one unit and the commands that are due after it may write, if it can.
     #[inline(never)]
     pub(crate) fn reserve(&mut self) -> bool
         requires early { self.old.monitor.time < 2 ^ 62 }
@@ -49,7 +49,7 @@ impl<L: Lookaside> Parts<L> {
         self.monitor.has_room() || self.reserve()
     }
 
-    /// Whether there is room for what one unit and the commands that are due behind it may write;
+    /// Whether there is room for what one unit and the commands that are due after it may write;
     /// it is made where there is none, or where commands may be due.
     #[inline(always)]
     pub(crate) fn make_room(&mut self) -> bool

@@ -165,7 +165,7 @@ impl<L: Lookaside> Parts<L> {
             .call(process, unit, &mut self.bus, &mut self.core.tlb);
     }
 
-    /// The unit is a call, and is done: the process goes on behind it.
+    /// The unit is a call, and is done: the process goes on after it.
     #[inline(always)]
     pub fn call(&mut self, process: u32) -> Step
         requires busy { IsBusy process self.old }

@@ -28,7 +28,7 @@ wait_blind : (m : State) (p : ℕ) (bytes : List ℕ) (memory : PageState) (log 
 wait_blind m p [] memory log = refl
 wait_blind m p (b ∷ rest) memory log = refl
 
--- what is kept behind a blind call, as a service
+-- what is kept after a blind call, as a service
 pub by_kept : (f : State → State) (k n : Kept) (memory : List ℕ) → IsBlind f → IsBare k.state → n ≡ kept_after f k → Serves f k memory n memory
 by_kept f k n memory blind b same = subst (λ (x : Kept). Serves f k memory x memory) (sym same) (blind_serves f k memory blind b)
 
@@ -89,7 +89,7 @@ served_time m p pc call.Unknown = refl
 abbrev pub with_end : ℕ → State → State
 with_end p m = record m { time = m.time + 1; owed = Some (record { began = m.time; runner = Some p }) }
 
--- a process that stands behind its call is served, and its turn is done
+-- a process that stands after its call is served, and its turn is done
 abbrev pub called : ℕ → ℕ → Call → State → State
 called p pc c m = with_end p (served (at_pc m p (word (pc + 4))) p pc c)
 

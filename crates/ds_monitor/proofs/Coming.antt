@@ -22,7 +22,7 @@ module _ {X : Type 0} (time : X → ℕ) where
   pub first_from : (xs : List X) (i : ℕ) (x : X) → i < length xs → x ≡ slice_index_or xs i x → drop i xs ≡ x ∷ drop (i + 1) xs
   first_from xs i x within is = drop_more xs i x within ∙ ap (λ (y : X). y ∷ drop (i + 1) xs) (sym is)
 
-  -- the first comes later than a time, and all behind it
+  -- the first comes later than a time, and all after it
   pub later_from : (now : ℕ) (xs : List X) (i : ℕ) (x : X) → IsNonDecreasingBy time xs → i < length xs → x ≡ slice_index_or xs i x → now < time x → All (λ (y : X). now < time y) (drop i xs)
   later_from now xs i x order within is late = all_later now (drop i xs) (IsNonDecreasingBy-drop time i xs order) (subst (λ (ys : List X). now < first_time time ys) (sym (first_from xs i x within is)) late)
 

@@ -41,7 +41,7 @@ answered_serves f k x y g p value b does = record {
   count = omega arith;
 }
 
--- where pages and table come to the same, what serves them serves those before
+-- where pages and table become the same, what serves them serves those before
 pub serves_before : (f : State → State) (k n : Kept) (x y z : List ℕ) (g : GrantsState) → page_state g y ≡ page_state k.grants x
     → Serves f (record k { grants = g }) y n z → Serves f k x n z
 serves_before f k n x y z g same s = record {

@@ -129,7 +129,7 @@ marks_stopped p unit pc stop m above within alive =
     let out = made_unready m p Parked in
     marks_same (settle out p) p _ refl ∙ (marks_same out p _ refl ∙ marks_put m p (record (process_of m p) { standing = Parked }) alive refl)
 
--- What is kept behind the ends of units.
+-- What is kept after the ends of units.
 
 -- commands are good while as many pages are named
 pub good_as : (n k : ℕ) (cs ds : List TimedCommand) → n ≡ k → cs ≡ ds → AreGoodCommands k ds → AreGoodCommands n cs
@@ -177,7 +177,7 @@ taken_orderly k c rest is it = record {
   commands = All-tail (λ (x : TimedCommand). IsGoodCommand k.grants.named x.command) c rest (subst (λ (cs : List TimedCommand). AreGoodCommands k.grants.named cs) is it.commands);
 }
 
--- What is kept where the processor's registers come to a seat, or a turn ends.
+-- What is kept where the processor's registers go to a seat, or a turn ends.
 
 -- a process in its seat, with good registers
 pub seat_orderly : (k : Kept) (p pc : ℕ) (r : Registers) → AreRegisters r → IsOrderly k

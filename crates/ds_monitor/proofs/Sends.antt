@@ -31,7 +31,7 @@ line_bit (suc (suc zero)) low = refl
 line_bit (suc (suc (suc zero))) low = refl
 line_bit (suc (suc (suc (suc n)))) low = absurd (omega (arith, low))
 
--- what leaves, and the bus behind it
+-- what leaves, and the bus after it
 pub record Sends (b : BusState) (line byte : ℕ) : Type 0 where
   pub value : (sent (written b line byte).serial).0 ≡ Some (line, byte)
   pub state : with_serial (written b line byte) (sent (written b line byte).serial).1 ≡ with_sent b line

@@ -1,4 +1,4 @@
--- Services, and one behind the other.
+-- Services, and one after the other.
 use Rattle.std.proofs.Common.{◌≡◌, ◌∙◌, ℕ, List, [], ◌++◌, flat_map, sym, ap, ap₂, arith, length-append}
 use Rattle.std.proofs.lemmas.List.{append-nil, append_assoc}
 use Rattle.std.proofs.lemmas.Grind.{flat_map-append}
@@ -31,7 +31,7 @@ blind_serves f k memory blind b = record {
   count = omega arith;
 }
 
--- one service behind another
+-- one service after another
 pub serves_then : (f g : State → State) (a b c : Kept) (x y z : List ℕ) → Serves f a x b y → Serves g b y c z → Serves (λ (m : State). g (f m)) a x c z
 serves_then f g a b c x y z s t = record {
   lines = s.lines ++ t.lines;

@@ -20,7 +20,7 @@ settle_same m p none =
     ap (λ (late : Option Late). with_registers m p (record (process_of m p).registers { late = late })) (sym none)
     ∙ with_process-process_of m p
 
--- what is kept behind a stop
+-- what is kept after a stop
 abbrev pub stopped : ℕ → ℕ → ℕ → Stop → Kept → Kept
 stopped p unit pc stop k =
     let out = kept_after (λ (m : State). at_pc (made_unready m p Parked) p unit) k in

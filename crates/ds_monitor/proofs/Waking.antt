@@ -11,11 +11,11 @@ use Rattle.ds_monitor.specs.Kept.{kept_after}
 next_count : (count p : ℕ) → p < count + 1 → count + 1 - p ≡ suc (count + 1 - (p + 1))
 next_count count p l = omega (arith, l)
 
--- who wakes from p on are p, if it wakes, and those behind
+-- who wakes from p on are p, if it wakes, and those after it
 pub wakes_on : (m : State) (p count : ℕ) → p < count + 1 → woken m p (count + 1 - p) ≡ woken (woken m p 1) (p + 1) (count + 1 - (p + 1))
 wakes_on m p count l = ap (λ (n : ℕ). woken m p n) (next_count count p l)
 
--- behind the last nobody wakes
+-- after the last nobody wakes
 pub wakes_end : (m : State) (p count : ℕ) → count < p → woken m p (count + 1 - p) ≡ m
 wakes_end m p count l = let none : count + 1 - p ≡ 0 = omega (arith, l) in ap (λ (n : ℕ). woken m p n) none
 

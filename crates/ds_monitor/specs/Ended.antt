@@ -12,7 +12,7 @@ marks_of m = map (λ (q : Process). has_ended q.standing) m.processes
 abbrev pub IsAlive : State → ℕ → Type 0
 IsAlive m p = has_ended (process_of m p).standing ≡ false
 
--- who has ended behind a call of a process
+-- who has ended after a call of a process
 abbrev pub ended_behind : Call → ℕ → List Bool → List Bool
 ended_behind call.Exit p ended = slice_set ended (p - 1) true
 ended_behind other p ended = ended

@@ -1,4 +1,4 @@
--- How a character leaves by the serial lines, and what they are behind it.
+-- How a character leaves by the serial lines, and what they are after it.
 use Rattle.std.specs.Prelude.{ℕ, ◌^◌, ◌++◌, ◌∷◌, [], List, slice_set, slice_index_or, Option, Some, None}
 use Rattle.ds_isa.specs.declared.instr.Size.TheVariants.{Word}
 use Rattle.ds_dev.specs.Serial.{sent}
@@ -14,7 +14,7 @@ written b line byte = (store (store b 0x1FE00010 Word (2 ^ line)).1 0x1FE00018 W
 abbrev pub leaving : BusState → ℕ → ℕ → Option (ℕ × ℕ)
 leaving b line byte = (sent (written b line byte).serial).0
 
--- the consoles' texts behind what left: the text of its line ends in its byte
+-- the consoles' texts after what left: the text of its line ends in its byte
 abbrev pub shown : List (List ℕ) → Option (ℕ × ℕ) → List (List ℕ)
 shown texts None = texts
 shown texts (Some c) = slice_set texts c.0 (slice_index_or texts c.0 [] ++ c.1 ∷ [])
@@ -23,7 +23,7 @@ shown texts (Some c) = slice_set texts c.0 (slice_index_or texts c.0 [] ++ c.1 �
 abbrev pub with_sent : BusState → ℕ → BusState
 with_sent b line = with_serial b (record b.serial { enables = 2 ^ line; waiting = None })
 
--- the bus behind a call of a process on a line: a put sends, and no other call changes the bus
+-- the bus after a call of a process on a line: a put sends, and no other call changes the bus
 abbrev pub bus_behind : Call → ℕ → BusState → BusState
 bus_behind (call.Put byte) line b = with_sent b line
 bus_behind other line b = b

@@ -37,7 +37,7 @@ impl Monitor {
         self.owed.take()
     }
 
-    /// A character comes to the queue of its line. One that finds 256 is lost.
+    /// A character goes to the queue of its line. One that finds 256 is dropped.
     pub fn queue_character(&mut self, line: usize, byte: u8)
         requires line { line < length self.old.queues.items }
         ensures kept { (time : ℕ) → kept_of self.new ≡ kept_after (λ (m : State). record m {
@@ -105,7 +105,7 @@ impl Monitor {
         }
     }
 
-    /// The process that ran goes behind the others, if it is still first.
+    /// The process that ran goes to the end of the list, if it is first.
     pub fn rotate(&mut self, runner: Option<u32>)
         requires there { IfSome (first self.old.ready)
             (λ p. (0 < p) × (p ≤ length self.old.seats.items)) }

@@ -87,7 +87,7 @@ impl Monitor {
         self.answer(process, answer);
     }
 
-    /// The process goes behind the others that are ready.
+    /// The process goes to the end of the ready list.
     pub fn yield_turn(&mut self, process: u32)
         requires above { 0 < process }
         requires within { process ≤ length self.old.seats.items }

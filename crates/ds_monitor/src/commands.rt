@@ -21,7 +21,7 @@ use ds_policy::{Command, TimedCommand};
 use ds_procs::Standing;
 use ds_tlb::Lookaside;
 
-/// The rule of an operator's command is its number behind this one.
+/// The rule of an operator's command is its number plus this one.
 const COMMAND_RULES: u32 = 1000;
 
 impl Monitor {

@@ -87,7 +87,7 @@ impl Monitor {
     }
 
     /// The process gives what it has at an address to another: by mode 1 the page for reading, by 2
-    /// for writing, by 3 a copy. It stands behind its call, which is at `pc`. A refused give is
+    /// for writing, by 3 a copy. It stands after its call, which is at `pc`. A refused give is
     /// logged.
     pub fn give<L: Lookaside>(
         &mut self,

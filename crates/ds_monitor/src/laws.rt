@@ -17,14 +17,14 @@ pub fn a_blind_change_serves()
         → Serves f k memory (kept_after f k) memory }
 {}
 
-/// One service behind another serves as one.
+/// One service after another serves as one.
 #[tactic(auto, using(crate::proofs::Serving::serves_then))]
 pub fn a_service_follows_another()
     ensures { (f g : State → State) (a b c : Kept) (x y z : List ℕ) → Serves f a x b y
         → Serves g b y c z → Serves (λ (m : State). g (f m)) a x c z }
 {}
 
-/// A process that comes to its seat with good registers leaves what is kept orderly.
+/// A process that goes to its seat with good registers leaves what is kept orderly.
 pub fn a_process_in_its_seat_is_orderly()
     ensures { (k : Kept) (process pc : ℕ) (r : Registers) → AreRegisters r → IsOrderly k
         → IsOrderly (kept_after (λ (m : State). with_process m process

@@ -39,7 +39,7 @@ impl LineQueue {
         self.bytes.pop_at(0)
     }
 
-    /// Puts a character behind the others. One that finds 256 is lost.
+    /// Puts a character at the end. One that finds 256 is dropped.
     pub fn put(&mut self, byte: u8)
         ensures { self.new
             ≡ (if nat_lt (length self.old) 256 then self.old ++ byte ∷ [] else self.old) }

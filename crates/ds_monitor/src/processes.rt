@@ -51,7 +51,7 @@ impl Monitor {
         self.seats[process as usize - 1].answer(value);
     }
 
-    /// The process is ready, behind all others.
+    /// The process is ready, at the end of the list.
     pub fn make_ready(&mut self, process: u32)
         requires above { 0 < process }
         requires within { process ≤ length self.old.seats.items }

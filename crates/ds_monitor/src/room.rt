@@ -1,4 +1,4 @@
-//! Room for what a unit and the boundary behind it may write.
+//! Room for what a unit and the boundary after it may write.
 ghost use Rattle.std.specs.Prelude.{◌≡◌, ◌≤◌, true};
 ghost use Rattle.ds_monitor.specs.Kept.{kept_of};
 ghost use Rattle.ds_monitor.specs.Room.{HasRoom};

@@ -4,7 +4,6 @@ ghost use Rattle.ds_procs.specs.Calls.{call_of};
 ghost use Rattle.ds_log.specs.Length.{IsShortRule};
 ghost use Rattle.ds_grants.specs.State.{IsAsLarge};
 ghost use Rattle.ds_grants.specs.Buffer.{KeepsBuffer};
-ghost use Rattle.ds_grants.specs.State.{IsAsLarge};
 ghost use Rattle.ds_pagemap.specs.Machine.{State, process_of};
 ghost use Rattle.ds_pagemap.specs.Calls.{ended, served};
 ghost use Rattle.ds_refinement.specs.Stands.{ends_in_call, ends_in_stop};
@@ -109,7 +108,7 @@ impl Monitor {
         self.grants.end_process(process, memory, tlb);
     }
 
-    /// Serves a call of a process that stands behind it; it is at `pc`.
+    /// Serves a call of a process that stands after it; it is at `pc`.
     fn serve<L: Lookaside>(&mut self, process: u32, pc: u32, call: Call, bus: &mut Bus, tlb: &mut L)
         requires above { 0 < process }
         requires within { process ≤ length self.old.seats.items }
@@ -183,7 +182,7 @@ impl Monitor {
         self.seats[process as usize - 1].call()
     }
 
-    /// The call of a process at an address: the process goes on behind it and is served, and its
+    /// The call of a process at an address: the process goes on after it and is served, and its
     /// turn is done. A copy that it gives is written to memory, and a refused give to the log.
     pub fn call<L: Lookaside>(&mut self, process: u32, pc: u32, bus: &mut Bus, tlb: &mut L)
         requires above { 0 < process }

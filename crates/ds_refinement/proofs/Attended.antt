@@ -40,7 +40,7 @@ kept_by (p ∷ rest) h m turn ready k o =
     let same : off h.core (process_of m p) ≡ process_of m p = on_seat (is_user h.core.system) h.core.slot h.core p m turn refl o (running_of h m p rest k ready).on in
     subst (IsKept (seated h.core h.kept) h.bus.memory) (ap (with_process m p) same ∙ with_process-process_of m p) (leaves h m p rest k ready)
 
--- behind a boundary that was served
+-- after a boundary that was served
 served_behind : (h new : Held) (m : State) (turn : Turn) → Stands h m → m.owed ≡ Some turn → EndsBy boundary h new → Stands new (touched true (boundary m))
 served_behind h new m turn k o ends =
     enters new (boundary m) (serves_kept boundary (seated h.core h.kept) new.kept h.bus.memory new.bus.memory m boundary_settles ends.serves (kept_by h.kept.state.ready h m turn refl k o))

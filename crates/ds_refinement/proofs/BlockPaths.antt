@@ -79,7 +79,7 @@ module _ (b : Held) (s : core.Step) (is : s ≡ whole.step b.core b.bus) (owed :
   real : (e : Event) → s.event ≡ e → IsReal b (after_event e (with_one_spent b) s)
   real e at = instruction_real e b s (owed, ready) no_service (sym is ∙ ap (λ (x : Event). told_as x s) at)
 
-  -- behind the instruction that ends the unit
+  -- after the instruction that ends the unit
   abbrev behind : Held
   behind = after_event Retired (with_one_spent b) s
 
@@ -128,7 +128,7 @@ module _ (b : Held) (s : core.Step) (is : s ≡ whole.step b.core b.bus) (owed :
       by Branched at inside = carries.more b new Inside p (inr (ready, before)) (follows Branched at) moves (real Branched at)
       by (Raised code) at inside = carries.more b new Inside p (inr (ready, before)) (follows (Raised code) at) moves (real (Raised code) at)
 
--- the slot that Cause tells behind an exception
+-- the slot that Cause tells after an exception
 slot_told_by : (s : core.Step) (at : Hardware) (code : ExceptionCode) → s ≡ ahead.step_of at → s.event ≡ Raised code → is_delayed s.core.system ≡ at.core.slot
 slot_told_by s at code is event =
     ap (λ (x : core.Step). is_delayed x.core.system) is ∙ slot_of_raised at.core at.bus (ap (λ (x : core.Step). is_raised x.event) (sym is) ∙ ap is_raised event)
@@ -233,7 +233,7 @@ module _ (h : Held) (owed : h.kept.state.owed ≡ None) (ready : h.kept.state.re
       (block n (λ k below. calm k (omega (arith, below))) (λ k upto. words k (omega (arith, upto))) (omega (arith, early)) (omega (arith, soon)))
       (ahead.step_of (at n)).event refl (calm n (omega arith))
 
-  -- and behind them one that does
+  -- and after them one that does
   raised : (n : ℕ) (hw : Hardware) (code : ExceptionCode) → IsCalm n → ComesByWords n start → h.kept.state.time + n + 1 ≤ last → h.kept.state.time + suc n + owed_tick h.core.slot ≤ end
       → record { event = Raised code; core = hw.core; bus = hw.bus } ≡ ahead.step_of (at n) → P (with_exception n h hw)
   raised n hw code calm words early soon is =

@@ -178,7 +178,7 @@ pub over_too : (queue : List ℕ) (m k : State) → queue ≡ [] → bare (vacat
 over_too [] m k none e = sym (over_settles m.processes) ∙ ap is_over e
 over_too (p ∷ rest) m k none e = absurd (cc)
 
--- the state behind an idle turn
+-- the state after an idle turn
 abbrev pub waited : State → State
 waited m = record m { time = m.time + 1; owed = Some (record { began = m.time; runner = None }) }
 

@@ -12,7 +12,7 @@ use Rattle.ds_mem.proofs.Words.{word_at-frame_of, frame_of-with_word_apart}
 use Rattle.ds_policy.specs.Pages.{Pages, bytes_of}
 use Rattle.ds_grants.specs.State.{GrantsState, is_live, frame_of_page, page_in, pages_in, page_state}
 
--- a word put behind the first bytes is put into the rest
+-- a word put after the first bytes is put into the rest
 put_behind : (memory : List ℕ) (start at w : ℕ) → start % 4 ≡ 0 → start + at - at % 4 + 4 ≤ length memory → drop start (with_word memory (start + at) w) ≡ with_word (drop start memory) at w
 put_behind memory start at w whole within =
     let p : ℕ = at - at % 4 in

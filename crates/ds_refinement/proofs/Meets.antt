@@ -174,7 +174,7 @@ module _ (c : CoreState) (b : BusState) (k : Kept) (m : State) (p : ℕ)
       ap (λ (s : PageState). word_at (bytes_of s.pages a.page) (address % 4096)) pages
       ∙ (sym (word_of_page k.grants b.memory a.page (address % 4096) a.lives a.low names.frames large (small_offset address)) ∙ ap (word_at b.memory) (sym a.lies))
 
-  -- the memory behind a store is the pages'
+  -- the memory after a store is the pages'
   page_here : (access : Kind) (size : Size) (address place : ℕ) (after : ℕ → ℕ) (a : IsGranted k.grants p access size address place)
       → (let bytes = bytes_of m.memory.pages a.page in record m.memory { pages = slice_set m.memory.pages a.page (Some (with_word bytes (address % 4096) (after (word_at bytes (address % 4096))))) })
       ≡ page_state k.grants (with_word b.memory place (after (word_at b.memory place)))
@@ -225,7 +225,7 @@ module _ (c : CoreState) (b : BusState) (k : Kept) (m : State) (p : ℕ)
         ∙ ap₂ (λ (r : Registers) (s : PageState). Went (record (with_registers m p (settled r)) { memory = s })) (sym same) (page_here kind.Store size address place.0 after a) in
         rw (in_memory place.0 a.small) (puts _ (settled c.registers) memory went (size_here kind.Store size address place.0 (after (word_at b.memory place.0)) a ∙ large))
 
-    -- what the instruction's effect comes to
+    -- the outcome of the instruction's effect
     effect_meets : (i : Instr) (e : Effect) → size_asked e ≡ access_size i → KnownFault e → size_at m.memory p c.pc ≡ unwrap_or (access_size i) Word
         → Meets c b k.grants m p (done m p c.pc e) (with_tick (whole.effect c b i e))
     effect_meets i (Goes after) asks code_known sized = goes after

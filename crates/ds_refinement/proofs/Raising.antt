@@ -1,4 +1,4 @@
--- Behind an exception Cause tells whether the instruction stood in a slot.
+-- After an exception Cause tells whether the instruction stood in a slot.
 use Rattle.std.proofs.Common.{◌≡◌, ℕ, Bool, true, false, refl, ◌∙◌, cond}
 use Rattle.std.specs.Prelude.{Result, Ok, Err}
 use Rattle.ds_isa.specs.declared.instr.Instr.{Instr}

@@ -42,7 +42,7 @@ found_modified : (es : List Entry) (found : Option ℕ) (k : Kind) (a : ℕ) →
 found_modified es None k a is = cc
 found_modified es (Some i) k a is = slot_modified (slice_get es i) k a is
 
--- behind the tests of the address
+-- after the tests of the address
 tests_modified : (aligned usable direct : Bool) (es : List Entry) (found : Option ℕ) (k : Kind) (a : ℕ)
     → cond (not aligned) (Err Address) (cond (not usable) (Err Address) (cond direct (Ok (at_physical (a % 2 ^ 29))) (through_found es found k a))) ≡ Err Modified → is_store k ≡ true
 tests_modified false usable direct es found k a is = cc
@@ -56,7 +56,7 @@ modified_store c k size a is = tests_modified (is_aligned size a) (is_usable (mo
 
 -- The buffer refuses aligned addresses alone, and there the table answers for any size alike.
 
--- behind the test of alignment
+-- after the test of alignment
 tests_aligned : (aligned : Bool) (r : Result Physical Fault) (f : Fault) → (f ≡ Address → ⊥) → cond (not aligned) (Err Address) r ≡ Err f → aligned ≡ true
 tests_aligned true r f other is = refl
 tests_aligned false r f other is = absurd (other (cc))

@@ -112,7 +112,7 @@ within_before step n old between new w begins f = record {
 pub within_stays : (n : ℕ) (old between new : Held) → RunsWithin n old between → Stays between new → RunsWithin n old new
 within_stays n old between new w s = record { runs = λ m k. let u = w.runs m k in (u.0, u.1, s.stays u.0 u.2) }
 
--- where a run doesn't go on, it has come to its end
+-- where a run doesn't go on, it has ended
 pub to_end : (n : ℕ) (old new : Held) → RunsWithin n old new → held_goes_on n new ≡ false → RunsTo n old new
 to_end n old new w g = record { runs = λ m k. let u = w.runs m k in (u.0, record { reached = u.1; over = goes_alike n new u.0 u.2 ∙ g }, u.2) }
 

@@ -54,7 +54,7 @@ unit_by : (m : State) (p : ℕ) (rest : List ℕ) → m.ready ≡ p ∷ rest
 unfolding unit
 unit_by m p rest ready = ap (λ (rs : List ℕ). record (unit_of_first m rs) { owed = Some (record { began = m.time; runner = first rs }) }) ready
 
--- the state behind a unit, with the process in its new place
+-- the state after a unit, with the process in its new place
 abbrev behind : State → ℕ → Process → PageState → ℕ → State
 behind m p q pages ticks = record (with_process m p q) { memory = pages; time = m.time + ticks; owed = Some (record { began = m.time; runner = Some p }) }
 
@@ -123,7 +123,7 @@ first_promise cause.Call bad m p pc r o seat u (inl same) l =
     u ∙ (ap (λ (x : Outcome). owes_boundary m.time p (after_instruction m p pc x)) l ∙ called_alike m p r pc seat same)
 first_promise cause.Call bad m p pc r o seat u (inr again) l = absurd (calls_not o _ again.0 again.1 l)
 
--- by the slot, in the state behind its branch
+-- by the slot, in the state after its branch
 slot_promise : (why : Cause) (bad : ℕ) (m : State) (p pc : ℕ) (r : Registers) (target : ℕ) (o : Outcome)
     → unit m ≡ owes_boundary m.time p (after_slot (with_registers m p r) p pc (word (pc + 4)) target o) → Leaves why bad true (word (pc + 4)) p m.memory o
     → Promise why bad true pc p m (with_registers m p r)
@@ -183,7 +183,7 @@ module _ (h : Held) (m : State) (p : ℕ) (rest : List ℕ) (k : Stands h m) (re
 
   -- The instruction is done, and with it the unit.
 
-  -- what is kept behind the unit
+  -- what is kept after the unit
   kept_behind : (q : Process) (memory : List ℕ) (ticks : ℕ) → KeptIs (p ∷ rest) (record h.kept { state = with_turn ticks h.kept.state }) memory (behind m p q (page_state h.kept.grants memory) ticks)
   kept_behind q memory ticks = record {
     ready = kept.ready;
@@ -328,7 +328,7 @@ module _ (h : Held) (m : State) (p : ℕ) (rest : List ℕ) (k : Stands h m) (re
   put_here : (r : Registers) → with_registers here p r ≡ with_registers m p r
   put_here r = registers_again m p h.core.registers r running.seat
 
-  -- what the station comes to by a step
+  -- what a step makes of the station
   abbrev Goes : core.Step → Type 0
   Goes s = Comes (step_of s.event) (after_event s.event h s) m
 

@@ -118,7 +118,7 @@ a_boundary_at_the_end_of_a_period_is_not_quiet quiet = let ended : true ≡ fals
 
 -- Who has a unit.
 
--- a boundary is owed, behind a branch and its slot
+-- a boundary is owed, after a branch and its slot
 abbrev owes : Held
 owes = record (after 0) { kept = record kept { state = done } }
 

@@ -16,15 +16,15 @@ moved h hw time owed spent = record h {
   own = record h.own { spent = spent };
 }
 
--- the time behind so many steps
+-- the time after so many steps
 abbrev pub time_behind : ℕ → Held → ℕ
 time_behind n h = h.kept.state.time + ticks n (hardware_of h.core h.bus)
 
--- what is held behind so many steps that entered no exception: of each unit that ended the boundary is done
+-- what is held after so many steps that entered no exception: of each unit that ended the boundary is done
 abbrev pub with_block : ℕ → Held → Hardware → Held
 with_block n h hw = moved h hw (time_behind n h) None (owed_tick hw.core.slot)
 
--- and behind one step more, which entered an exception
+-- and after one step more, which entered an exception
 abbrev pub with_exception : ℕ → Held → Hardware → Held
 with_exception n h hw = moved h hw (time_behind n h) None (owed_tick (is_delayed hw.core.system) + 1)
 

@@ -47,7 +47,7 @@ bare m = record (all_settled m) { memory = no_memory; log = [] }
 abbrev pub whole : Kept → List ℕ → List Line → State
 whole k memory log = record k.state { memory = page_state k.grants memory; log = log }
 
--- the state without the process that runs: its seat says nothing while the processor has it
+-- the state without the process that runs: its saved registers are meaningless
 abbrev pub vacated : List ℕ → State → State
 vacated [] m = m
 vacated (p ∷ rest) m = with_process m p no_process

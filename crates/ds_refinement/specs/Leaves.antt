@@ -9,7 +9,7 @@ use Rattle.ds_pagemap.specs.Unit.{Outcome, Branched, Called, Stopped, denied_as,
 use Rattle.ds_refinement.specs.declared.cause.Cause.{Cause}
 use Rattle.ds_refinement.specs.declared.cause.Cause.TheVariants as cause
 
--- What the instruction of a process at pc came to, by what was told: a stop, if the table denies the access; a fault, or in a slot another branch, which is reserved; a call.
+-- The outcome of a process's instruction at pc, by what was told: a stop, if the table denies the access; a fault, or in a slot another branch, which is reserved; a call.
 abbrev pub Leaves : Cause → ℕ → Bool → ℕ → ℕ → PageState → Outcome → Type 0
 Leaves (cause.Access access) bad slot pc p s o =
     (rule : Rule) (code : ℕ) → decide s.table p access.kind access.size bad ≡ Denied rule code

@@ -54,7 +54,7 @@ the_slot_is_fetched = refl
 pub a_load_misses : reached outside Load Half 0x00401002 ≡ Err Refill
 a_load_misses = refl
 
--- behind it
+-- after it
 abbrev missed : System
 missed = system_behind outside Load 0x00401002 Refill
 
@@ -72,7 +72,7 @@ the_missed_load_is_asked_for_as_a_byte = refl
 pub a_load_is_not_aligned : reached in_slot Load Half 0x00401001 ≡ Err Address
 a_load_is_not_aligned = refl
 
--- behind it
+-- after it
 abbrev misaligned : System
 misaligned = system_behind in_slot Load 0x00401001 Address
 
@@ -102,7 +102,7 @@ a_load_is_invalid = refl
 pub a_load_is_of_the_kernel : reached outside Load Byte 0x80000001 ≡ Err Address
 a_load_is_of_the_kernel = refl
 
--- behind it
+-- after it
 abbrev beyond : System
 beyond = system_behind outside Load 0x80000001 Address
 
@@ -115,7 +115,7 @@ a_byte_of_the_kernel_breaks_rule_k = refl
 pub a_store_is_modified : reached outside Store Word outside.pc ≡ Err Modified
 a_store_is_modified = refl
 
--- behind it
+-- after it
 abbrev modified : System
 modified = system_behind outside Store outside.pc Modified
 
@@ -142,7 +142,7 @@ a_store_is_invalid = refl
 pub a_store_is_not_aligned : reached outside Store Word 0x00401002 ≡ Err Address
 a_store_is_not_aligned = refl
 
--- behind it
+-- after it
 abbrev misplaced : System
 misplaced = system_behind outside Store 0x00401002 Address
 
@@ -161,7 +161,7 @@ at_page_end = user_at 0x00401000 true
 pub a_slot_misses : reached at_page_end Fetch Word at_page_end.pc ≡ Err Refill
 a_slot_misses = refl
 
--- behind it
+-- after it
 abbrev missed_slot : System
 missed_slot = system_behind at_page_end Fetch at_page_end.pc Refill
 
@@ -177,7 +177,7 @@ astray = user_at 0x80000000 false
 pub the_kernel_is_not_fetched : reached astray Fetch Word astray.pc ≡ Err Address
 the_kernel_is_not_fetched = refl
 
--- behind it
+-- after it
 abbrev barred : System
 barred = system_behind astray Fetch astray.pc Address
 

@@ -33,13 +33,13 @@ with_none_spent own = record own { spent = 0 }
 abbrev pub with_one_spent : Held → Held
 with_one_spent h = record h { own = record h.own { spent = h.own.spent + 1 } }
 
--- what is held behind one step of the processor: where the instruction is done, so is its unit
+-- what is held after one step of the processor: where the instruction is done, so is its unit
 abbrev pub after_event : Event → Held → core.Step → Held
 after_event Retired h s = record h { core = s.core; bus = s.bus; kept = record h.kept { state = with_turn (ticks_of h.core.slot) h.kept.state }; own = with_none_spent h.own }
 after_event Branched h s = record h { core = s.core; bus = s.bus }
 after_event (Raised code) h s = record h { core = s.core; bus = s.bus }
 
--- what an instruction's step comes to: the end of its unit where it is done, else it stays inside
+-- the outcome of an instruction's step: the end of its unit where it is done, else it stays inside
 abbrev pub step_of : Event → Step
 step_of Retired = Unit
 step_of Branched = Inside

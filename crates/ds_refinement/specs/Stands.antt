@@ -26,7 +26,7 @@ use Rattle.ds_refinement.specs.Held.{Held, Kept, bare, vacated, space_of, last_b
 abbrev pub user_status : ℕ
 user_status = 0xC03
 
--- the state behind a unit of a process that began at a time, which owes its boundary
+-- the state after a unit of a process that began at a time, which owes its boundary
 abbrev pub owes_boundary : ℕ → ℕ → State → State
 owes_boundary began p m = record m { owed = Some (record { began = began; runner = Some p }) }
 
@@ -38,7 +38,7 @@ ends_in_stop p unit pc stop m = owes_boundary m.time p (parked m p unit pc stop)
 abbrev pub ends_in_call : ℕ → ℕ → State → State
 ends_in_call p pc m = owes_boundary m.time p (after_call m p pc)
 
--- the address of the instruction that left the program: the unit's, or behind a branch that of its slot
+-- the address of the instruction that left the program: the unit's, or after a branch that of its slot
 abbrev pub own_of : Bool → ℕ → ℕ
 own_of delayed unit = if delayed then word (unit + 4) else unit
 

@@ -158,7 +158,7 @@ what_was_loaded_is_in_the_seat = refl
 
 -- The buffer is refilled.
 
--- its registers behind that, where it goes on at 00400008
+-- its registers after that, where it goes on at 00400008
 abbrev pub lost : Registers
 lost = touched_registers loading.registers 0x00400008
 

@@ -9,7 +9,7 @@ use Rattle.ds_refinement.specs.declared.step.Step.TheVariants.{Inside, Unit, Bou
 use Rattle.ds_refinement.specs.Held.{Held}
 use Rattle.ds_refinement.specs.Stands.{Stands}
 
--- half a turn, with a touch before and behind or without
+-- half a turn, with a touch before and after or without
 abbrev pub HalfTo : State → State → Type 0
 HalfTo m t = (before : Bool) × (behind : Bool) × (t ≡ touched behind (half_turn before m))
 
@@ -21,7 +21,7 @@ StepTo Boundary m t = ((m.owed ≢ None) × HalfTo m t)
     ⊎ ((m.owed ≡ None) × (m.ready ≡ []) × (is_over m ≡ false) × HalfTo (half_turn false m) t)
 StepTo Over m t = (m.owed ≡ None) × (is_over m ≡ true) × (t ≡ m)
 
--- the state comes to one that follows by such a step, and the station stands for that
+-- there is a state that follows by such a step, and the station stands for that
 abbrev pub Comes : Step → Held → State → Type 0
 Comes step new m = (t : State) × StepTo step m t × Stands new t
 

@@ -19,7 +19,7 @@ use Rattle.ds_policy.specs.Grants.{PageState}
 use Rattle.ds_refinement.specs.declared.cause.Cause.{Cause}
 use Rattle.ds_refinement.specs.declared.cause.Cause.TheVariants as cause
 
--- the registers behind an access that the address map refused
+-- the registers after an access that the address map refused
 abbrev pub system_behind : CoreState → Kind → ℕ → Fault → System
 system_behind c access address fault = entered c.system (refusal c access address fault)
 
@@ -31,7 +31,7 @@ code_in s = bits s.cause 2 4
 abbrev pub is_delayed : System → Bool
 is_delayed s = bits s.cause 31 1 == 1
 
--- the address of the instruction itself, which in a slot stands behind EPC
+-- the address of the instruction itself, which in a slot stands after EPC
 abbrev pub own_in : System → ℕ
 own_in s = if is_delayed s then word (s.epc + 4) else s.epc
 

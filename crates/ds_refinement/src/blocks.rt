@@ -25,7 +25,7 @@ ghost use Rattle.ds_refinement.specs.Blocks.{
   with_exception,
 };
 
-/// Many instructions of a process, each unit with the boundary behind it, are a path of real steps.
+/// Many instructions of a process, each unit with the boundary after it, are a path of real steps.
 pub fn a_block_is_a_path()
     ensures { (n limit : ℕ) (h : Held) (hw : Hardware) → n ≤ limit → MayRunAhead limit h
         → Advances n (hardware_of h.core h.bus) hw

@@ -8,7 +8,7 @@ ghost use Rattle.ds_refinement.specs.Services.{touched_registers};
 ghost use Rattle.ds_refinement.specs.Stands.{IsLinked};
 
 /// A branch that has written its link does the same again, since its link is none of what it
-/// reads; and no load is late behind it.
+/// reads; and no load is late after it.
 pub fn a_branch_done_again_does_the_same()
     ensures again { (m : State) (p : ℕ) (r : Registers) (target : ℕ)
         → (0 < p) × (p ≤ length m.processes) → (process_of m p).registers.late ≡ None
@@ -21,7 +21,7 @@ pub fn a_branch_done_again_does_the_same()
         → settled r ≡ r }
 {}
 
-/// A touch behind a branch leaves its link in place, or takes it away.
+/// A touch after a branch leaves its link in place, or takes it away.
 pub fn a_touch_leaves_a_link_or_takes_it_away()
     ensures { (m : State) (p : ℕ) (r : Registers) (target : ℕ)
         → (0 < p) × (p ≤ length m.processes)

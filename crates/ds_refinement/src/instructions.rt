@@ -15,7 +15,7 @@ ghost use Rattle.ds_refinement.specs.Leaves.{Leaves};
 ghost use Rattle.ds_refinement.specs.Services.{after_event, step_of};
 ghost use Rattle.ds_refinement.specs.Steps.{Follows};
 
-/// What the coprocessor tells of an exception of a user is what the machine's instruction came to
+/// What the coprocessor tells of an exception of a user is the outcome of the machine's instruction
 /// in its place: the access that the table denies, the fault, or the call.
 pub fn an_exception_tells_what_was_refused()
     ensures { (h : Held) (m : State) (p : ℕ) (rest : List ℕ) (s : core.Step) (code : ExceptionCode)
@@ -27,7 +27,7 @@ pub fn an_exception_tells_what_was_refused()
 {}
 
 /// One step of the processor in user mode is one instruction of the machine: whatever state the
-/// station stood for, behind it it stands for a state that follows.
+/// station stood for, after it it stands for a state that follows.
 pub fn an_instruction_is_one_of_the_machine()
     ensures { (h : Held) (s : core.Step) → s ≡ step h.core h.bus → h.kept.state.owed ≡ None
         → h.kept.state.ready ≢ [] → is_user h.core.system ≡ true → h.core.pc < 2 ^ 32

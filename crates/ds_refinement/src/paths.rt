@@ -30,7 +30,7 @@ ghost use Rattle.ds_refinement.specs.Real.{
   is_served,
 };
 
-/// No step, one step, and one path behind another are paths; and the path behind comes first in
+/// No step, one step, and one path after another are paths; and the later path comes first in
 /// the list.
 pub fn paths_join()
     ensures none { (h : Held) → RealPath h h }

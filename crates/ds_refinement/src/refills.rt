@@ -36,7 +36,7 @@ pub fn a_refill_begins_the_unit_again()
         (translation h.kept.grants (h.core.system.bad_vaddr / 2 ^ 12) page grant.right)) m }
 {}
 
-/// Behind such a refill the buffer has the page that was asked for, where Random names a slot of
+/// After such a refill the buffer has the page that was asked for, where Random names a slot of
 /// it: the unit goes on.
 pub fn a_refill_lets_the_unit_go_on()
     ensures { (h : Held) (m : State) (p : ℕ) (rest : List ℕ) (access : Kind) (size : Size)

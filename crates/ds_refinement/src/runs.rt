@@ -17,7 +17,7 @@ ghost use Rattle.ds_refinement.specs.Blocks.{MayRunAhead, with_block, with_excep
 ghost use Rattle.ds_refinement.specs.Runs.{RunsTo, RunsWithin, held_goes_on};
 
 /// A run of the station goes by steps that the machine follows, as long as it goes on, and by what
-/// the machine doesn't see; where it doesn't go on, it has come to its end.
+/// the machine doesn't see; where it doesn't go on, it has ended.
 pub fn a_run_goes_on()
     ensures start { (n : ℕ) (h : Held) → RunsWithin n h h }
     ensures step { (step : Step) (n : ℕ) (old between new : Held) → RunsWithin n old between

@@ -19,7 +19,7 @@ ghost use Rattle.ds_refinement.specs.Services.{EndsBy, resume_address};
 ghost use Rattle.ds_refinement.specs.Ends.{EndsInStop, EndsInCall};
 
 /// Where the unit is what a service does to the state with its process in its seat, the service
-/// ends it. What it does may be anything before or behind which late loads may be finished.
+/// ends it. What it does may be anything before or after which late loads may be finished.
 pub fn a_service_ends_its_unit()
     ensures { (f : State → State) (h new : Held) (m : State) (p : ℕ) (rest : List ℕ)
         → ((s : State) → all_settled (f s) ≡ f (all_settled s))

@@ -15,7 +15,7 @@ ghost use Rattle.ds_core.specs.Core.{CoreState};
 ghost use Rattle.ds_core.specs.Access.{reached};
 ghost use Rattle.ds_refinement.specs.Told.{code_in, is_delayed, own_in, kind_told, size_told, system_behind};
 
-/// Behind any exception Cause tells its code and whether its instruction stood in a slot, EPC with
+/// After any exception Cause tells its code and whether its instruction stood in a slot, EPC with
 /// BD where that instruction stands, and BadVAddr the address, if there is one; the address space
 /// stays.
 pub fn an_exception_is_told()

@@ -37,7 +37,7 @@ pub fn an_idle_turn()
         → Follows Boundary h (with_boundary (with_idle_turn h)) }
 {}
 
-/// Any boundary behind an idle turn is served.
+/// Any boundary after an idle turn is served.
 pub fn an_idle_turn_is_served()
     ensures { (h new : Held) → h.kept.state.owed ≡ None → h.kept.state.ready ≡ []
         → is_over h.kept.state ≡ false → EndsBy boundary (with_idle_turn h) new
@@ -56,7 +56,7 @@ pub fn a_failure_is_not_seen()
     ensures count { (h : Held) → Stays h (with_one_spent h) }
 {}
 
-/// A station that stands for some state stands for some state behind each step; and before a step
+/// A station that stands for some state stands for some state after each step; and before a step
 /// may come what the machine doesn't see.
 pub fn steps_join()
     ensures sound { (step : Step) (old new : Held) → IsSound old → Follows step old new
