@@ -81,8 +81,8 @@ fn a_place_has_the_phase_of_its_word(rt: HostRuntime) {
     }
 }
 
-/// A bus whose memory has the handler, and in process 1's table the word of the page that missed; and the
-/// frame of that table.
+/// A bus whose memory has the handler, and in process 1's table the word of the page that missed;
+/// and the frame of that table.
 fn new_bus(alloc: Global) -> Result<(Bus, u32), OutOfMemory> {
     let mut memory = Memory::new(alloc)?;
     install(&mut memory);
@@ -207,8 +207,8 @@ fn new_core<L: Lookaside>(table: u32, place: usize) -> Result<Core<L>, BadRandom
     })
 }
 
-/// Runs the handler from a place to its end: whether it has gone back to the program in user mode, with
-/// register 26 cleared and the entry in the buffer once, and all other registers as they were.
+/// Runs the handler from a place to its end: whether it has gone back to the program in user mode,
+/// with register 26 cleared and the entry in the buffer once, and all other registers as they were.
 fn goes_back<L: Lookaside>(bus: &mut Bus, table: u32, place: usize) -> Result<bool, BadRandom>
     requires slots { L.SLOTS ≡ 64 }
     requires wired { L.WIRED ≡ 8 }
@@ -251,8 +251,8 @@ fn the_handler_refills_from_each_of_its_places(rt: HostRuntime) -> Result<(), Fa
     Ok(())
 }
 
-/// The handler where the buffer lacks the page of the table: what its third word does, where it goes on,
-/// BadVAddr, and register 27.
+/// The handler where the buffer lacks the page of the table: what its third word does, where it
+/// goes on, BadVAddr, and register 27.
 fn missed<L: Lookaside>(bus: &mut Bus) -> Result<(Event, u32, u32, u32), BadRandom>
     requires slots { L.SLOTS ≡ 64 }
     requires wired { L.WIRED ≡ 8 }

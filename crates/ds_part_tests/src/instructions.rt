@@ -1,5 +1,5 @@
-//! Words and their instructions, both ways: many words that look like chance, and operands too large
-//! for their fields.
+//! Words and their instructions, both ways: many words that look like chance, and operands too
+//! large for their fields.
 
 use ds_isa::{Instr, decode, encode, round_trip};
 

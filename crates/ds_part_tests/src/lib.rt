@@ -1,6 +1,7 @@
-//! Tests of the parts below the station, over their public calls, where a line of data is not enough: single calls whose answer
-//! nothing writes, refused memory, writers that fail. They stand apart from those crates, so that each of them is proved once.
-//! What is a table stands in `part_cases` and `rows`.
+//! Tests of the parts below the station, over their public calls, where a line of data is not
+//! enough: single calls whose answer nothing writes, refused memory, writers that fail. They stand
+//! apart from those crates, so that each of them is proved once. What is a table stands in
+//! `part_cases` and `rows`.
 #![tactic(auto)]
 
 #[cfg(test)]

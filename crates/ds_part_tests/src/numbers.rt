@@ -13,8 +13,9 @@ fn entry_of_one() -> Entry {
     }
 }
 
-/// Hands out numbers to processes 1 to 64: whether the first 63 get theirs in order and the buffer keeps
-/// its entry, and the last gets number 1 of a buffer as it is at the start, when nobody else has one.
+/// Hands out numbers to processes 1 to 64: whether the first 63 get theirs in order and the buffer
+/// keeps its entry, and the last gets number 1 of a buffer as it is at the start, when nobody else
+/// has one.
 fn hands_out<L: Lookaside>() -> Result<bool, BadRandom>
     requires slots { L.SLOTS ≡ 64 }
     requires wired { L.WIRED ≡ 8 }

@@ -6,7 +6,8 @@ use std::test::*;
 const POLICY: &str =
     "version = 1\nframes = 16\n[[process]]\nstart = 0x00400000\nline = 0\n[[page]]\nname = \"code\"\nsource = \"one.s\"\npart = 0\n[[page]]\nname = \"data\"\n[[rule]]\nprocess = 1\naddress = 0x00400000\nright = \"read\"\npage = \"code\"\n";
 
-/// Words, each with the address that it is, in decimal digits, or with nothing after the equals sign.
+/// Words, each with the address that it is, in decimal digits, or with nothing after the equals
+/// sign.
 const ADDRESSES: &str = "00000000=0
 0041000a=4259850
 89ABCDEF=2309737967

@@ -113,8 +113,8 @@ fn put_table<L: Lookaside>(core: &mut Core<L>)
     core.tlb.write(0, page(0xc0001, 3, false, true));
 }
 
-/// From a miss at 00410000, whose entry's word is 00002600 (frame 2, writable) in a table page in frame
-/// 3: the address behind the handler, register 26, what a probe leaves in Index, and Random.
+/// From a miss at 00410000, whose entry's word is 00002600 (frame 2, writable) in a table page in
+/// frame 3: the address behind the handler, register 26, what a probe leaves in Index, and Random.
 fn refilled<L: Lookaside>(bus: &mut Bus) -> Result<(u32, u32, u32, usize), BadRandom>
     requires slots { L.SLOTS ≡ 64 }
     requires wired { L.WIRED ≡ 8 }

@@ -170,7 +170,8 @@ fn answer_to(alloc: Global, line: &str, files: &[(&str, &[u8])]) -> Result<Answe
     })
 }
 
-/// Words, and what stands in the text that answers them after a bar: their refusal, or help or the version.
+/// Words, and what stands in the text that answers them after a bar: their refusal, or help or the
+/// version.
 const TOLD_WORDS: &str = "|requires a subcommand
 dsmon|requires a subcommand
 dsmon walk|unrecognized subcommand 'walk'
@@ -218,7 +219,8 @@ fn words_that_run_nothing_are_told_why(rt: HostRuntime) -> Result<(), Fail> {
     Ok(())
 }
 
-/// The demonstration asks for no file; a run asks for the policy, the input and the sources in this order.
+/// The demonstration asks for no file; a run asks for the policy, the input and the sources in this
+/// order.
 #[test]
 fn a_run_asks_for_its_files_and_writes_its_text(rt: HostRuntime) -> Result<(), Fail> {
     for (line, asked) in [("dsmon demo", ""), (RUN, "p.toml\nin.txt\none.s\n")] {
@@ -395,7 +397,8 @@ fn a_demonstration_whose_streams_are_closed_is_a_write_fault(rt: HostRuntime) ->
     Ok(())
 }
 
-/// A command, after how many files there is no memory, and whether the line of its fault is all that is told.
+/// A command, after how many files there is no memory, and whether the line of its fault is all
+/// that is told.
 #[test]
 fn want_of_memory_for_a_file_is_status_3(rt: HostRuntime) -> Result<(), Fail> {
     for (line, before, is_all) in [

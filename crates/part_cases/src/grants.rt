@@ -1,5 +1,5 @@
-//! Calls on real grants, with a memory and a translation buffer. `tools/grants_cases.py` writes the files, from a model of its
-//! own.
+//! Calls on real grants, with a memory and a translation buffer. `tools/grants_cases.py` writes the
+//! files, from a model of its own.
 
 mod answers;
 mod replay;

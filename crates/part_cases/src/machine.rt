@@ -1,4 +1,5 @@
-//! Cases on the machine's parts. A case is a line of a file: what is given, a bar, and what has to come out.
+//! Cases on the machine's parts. A case is a line of a file: what is given, a bar, and what has to
+//! come out.
 
 mod arithmetic;
 mod bus;

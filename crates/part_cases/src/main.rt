@@ -1,7 +1,8 @@
-//! Runs the cases of data/ on the parts of the workstation, from words to grants, and tells what does not come out as it has to.
+//! Runs the cases of data/ on the parts of the workstation, from words to grants, and tells what
+//! does not come out as it has to.
 //!
-//!     part_cases              all: the cases of the machine's parts, the calls on grants, each program, and ten thousand random
-//!                             programs
+//!     part_cases              all: the cases of the machine's parts, the calls on grants, each
+//!                             program, and ten thousand random programs
 //!     part_cases N            N random programs alone
 //!     part_cases SOURCE N     N instructions of one program ahead, for `bench/run --core`
 #![tactic(auto)]

@@ -1,5 +1,5 @@
-//! Inputs that are refused, and that no command can give: sources that are missing or have one name,
-//! and more ticks than are served.
+//! Inputs that are refused, and that no command can give: sources that are missing or have one
+//! name, and more ticks than are served.
 
 use super::*;
 

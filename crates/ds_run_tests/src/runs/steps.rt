@@ -124,8 +124,9 @@ right = \"read\"
 page = \"data\"
 ";
 
-/// A policy and a source with the counts of a station's steps: instructions count from where a unit begins, a slot is a step of
-/// its branch's unit, and a branch whose slot is not in the buffer runs again when it is.
+/// A policy and a source with the counts of a station's steps: instructions count from where a unit
+/// begins, a slot is a step of its branch's unit, and a branch whose slot is not in the buffer runs
+/// again when it is.
 const COUNTS: [(&str, &str, u32, &str); 3] = [
     (POLICY, PUT_A, 8, "0 1, 0 1, 1 0, 1 0, 2 0, 2 0, 2 1, 3 0, "),
     (

@@ -46,8 +46,8 @@ fn restarted<L: Lookaside>(
     }
 }
 
-/// A line without its comment, which begins with `#`: what is asked, and what has to be answered, which is
-/// `ok` where the line has no `=`.
+/// A line without its comment, which begins with `#`: what is asked, and what has to be answered,
+/// which is `ok` where the line has no `=`.
 fn parts_of(line: &str) -> (&str, &str) {
     let text = match line.split_once('#') {
         Some((before, _)) => before.trim(),
@@ -148,8 +148,8 @@ fn replay_line<L: Lookaside, W: Write>(
     Ok(())
 }
 
-/// Replays a file over a buffer, and writes how many lines differ, behind the first of these; whether
-/// none does.
+/// Replays a file over a buffer, and writes how many lines differ, behind the first of these;
+/// whether none does.
 fn report<L: Lookaside, R: Files + Print + AllocGlobal>(
     rt: &R,
     file: &str,
@@ -174,8 +174,8 @@ fn report<L: Lookaside, R: Files + Print + AllocGlobal>(
     Ok(differ == 0)
 }
 
-/// Replays each file over either buffer, and tells which lines do not come out as they have to; whether all
-/// do.
+/// Replays each file over either buffer, and tells which lines do not come out as they have to;
+/// whether all do.
 pub fn replay_all<R: Files + Print + AllocGlobal>(rt: &R) -> io::Result<bool> {
     let mut well = true;
     for file in FILES {

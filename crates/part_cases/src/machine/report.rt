@@ -62,8 +62,8 @@ fn report<W: Write>(alloc: Global, subject: Subject, text: &str, out: &mut W) ->
     Ok(well)
 }
 
-/// Runs the cases of each subject, from its file, and tells which do not come out as they have to; whether
-/// all do.
+/// Runs the cases of each subject, from its file, and tells which do not come out as they have to;
+/// whether all do.
 pub fn run_cases<R: Files + Print + AllocGlobal>(rt: &R) -> io::Result<bool> {
     let mut well = true;
     for subject in SUBJECTS {
