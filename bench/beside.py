@@ -2,8 +2,8 @@
 """Three guests by dsmon, by GXemul and by spim: million guest instructions a second of processor time, the best of three runs.
 
 `bench/run --beside` calls this; an emulator that is not installed is named, and left out. The guests are sums.s, pages.s and recursion.s, word
-for word the same for all three: before each stand the lines that set its counter and the address of its data, and behind it those by which a
-program of that emulator ends. dsmon runs them in user mode behind its TLB; GXemul runs them on its `testmips` with an R3000, in kernel mode
+for word the same for all three: before each stand the lines that set its counter and the address of its data, and after it those by which a
+program of that emulator ends. dsmon runs them in user mode with its TLB; GXemul runs them on its `testmips` with an R3000, in kernel mode
 and unmapped, which costs it less; spim has delayed branches and loads turned on. How many instructions a guest takes is what dsmon says.
 """
 import os

@@ -1,4 +1,4 @@
-# The fifteenth Fibonacci number by recursion, $s0 times. The stack ends 4,096 bytes behind $s1.
+# The fifteenth Fibonacci number by recursion, $s0 times. The stack ends 4,096 bytes above $s1.
         addiu $sp, $s1, 4096
 again:  jal   fibonacci
         addiu $a0, $zero, 15

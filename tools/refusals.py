@@ -2,7 +2,7 @@
 """Writes the words of crates/ds_check/src/refusals.rt into docs/refusals.md, or with --check tells where the two differ.
 
 The crate has a constant for each refusal that a reader of a policy, a source or an input can meet: what was found, and
-how it is mended. The document has the same words behind the refusal's number and name. Where lines end does not count.
+how it is mended. The document has the same words after the refusal's number and name. Where lines end does not count.
 """
 import argparse
 import re

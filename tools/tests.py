@@ -22,8 +22,10 @@ COMMANDS = [  # those that take longest first
     ["tools/test_figures.py"],
     ["tools/test_refusals.py"],
     ["tools/test_tests.py"],
+    ["tools/test_documents.py"],
     ["tools/refusals.py", "--check"],
     ["tools/figures.py", "--check"],
+    ["tools/documents.py", "--check"],
 ]
 
 

@@ -1,0 +1,96 @@
+#!/usr/bin/env python3
+"""Checks the documents: with --check it tells each fault, and ends with status 1 where there is one.
+
+README.md has at most 120 lines of at most 120 columns. Each document in docs/ is named in README.md, or in a document
+that README.md names. What a link leads to is there, and so is each file or folder of the repository that stands in
+backticks: one that begins at the top of the repository, or in a folder of a crate, such as `src/lib.rt`. Words in capitals
+stand for any name, as in `crates/NAME/wrong/`. What speaks of the past may name what is gone: CHANGELOG.md,
+docs/log.md, and a section "Names that changed".
+"""
+import argparse
+import re
+import sys
+from pathlib import Path
+
+sys.dont_write_bytecode = True
+
+TOP = Path(__file__).resolve().parent.parent
+LINES, COLUMNS = 120, 120
+PAST = {"CHANGELOG.md", "docs/log.md"}
+CODE = re.compile(r"`([^`\n]+)`")
+LINK = re.compile(r"\]\(([^)#\s]+)")
+PATH = re.compile(r"[\w.-]+(/[\w.-]+)*/?$")
+IN_A_CRATE = ("src", "specs", "proofs", "wrong", "must-fail")
+ANY_NAME = re.compile(r"(?<![A-Za-z])[A-Z]{2,}(?![A-Za-z])")
+CAPITALS = {"README.md", "CONTRIBUTING.md", "CHANGELOG.md", "HANDLES", "DECISIONS.md"}
+
+
+def size_faults(text):
+    """What is wrong with the size of README.md."""
+    lines = text.splitlines()
+    told = [f"README.md: {len(lines)} lines, at most {LINES}"] if len(lines) > LINES else []
+    return told + [f"README.md:{at}: {len(line)} columns, at most {COLUMNS}" for at, line in enumerate(lines, 1) if len(line) > COLUMNS]
+
+
+def documents(top):
+    """The documents of the repository by their paths, each with its text."""
+    places = [*top.glob("*.md"), *top.glob("docs/*.md"), *top.glob("crates/*/README.md"), *top.glob("crates/*/data/README.md"), *top.glob("crates/*/data/*/README.md")]
+    return {str(it.relative_to(top)): it.read_text("utf-8") for it in sorted(places)}
+
+
+def names(text):
+    """What stands in backticks, as paths: without the words of a command after a path."""
+    return {it for it in CODE.findall(text) if PATH.match(it)}
+
+
+def unnamed(texts):
+    """The documents in docs/ that neither README.md names, nor a document that it names."""
+    readme = texts.get("README.md", "")
+    near = names(readme)
+    far = set().union(near, *(names(texts[it]) for it in near if it in texts))
+    return [it for it in texts if it.startswith("docs/") and it not in far]
+
+
+def stands_for_any(path):
+    """Whether a path has a word in capitals, which stands for any name."""
+    return any(part not in CAPITALS and ANY_NAME.search(part) for part in path.split("/"))
+
+
+def is_there(top, path):
+    """Whether a path leads to a file or a folder, perhaps without the ending of its language; one in a crate's folder, in any crate."""
+    path = path.rstrip("/")
+    start = "crates/*/" if path.split("/")[0] in IN_A_CRATE else ""
+    return any(next(top.glob(f"{start}{path}{ending}"), None) for ending in ("", ".rt", ".antt"))
+
+
+def missing(top, path, text):
+    """The paths that a document names, and its links, that lead nowhere."""
+    text = re.split(r"^## Names that changed$", text, flags=re.MULTILINE)[0]
+    tops = {it.name for it in top.iterdir() if it.is_dir()} | set(IN_A_CRATE)
+    named = {it for it in names(text) if it.split("/")[0] in tops and "/" in it or it in CAPITALS}
+    told = [it for it in sorted(named) if not stands_for_any(it) and not is_there(top, it)]
+    links = [it for it in LINK.findall(text) if "://" not in it]
+    return told + [it for it in links if not ((top / path).parent / it).exists()]
+
+
+def faults(top):
+    """All that is wrong with the documents below a folder."""
+    texts = documents(top)
+    told = size_faults(texts["README.md"]) if "README.md" in texts else ["README.md: missing"]
+    told += [f"{it}: named neither by README.md nor by a document that it names" for it in unnamed(texts)]
+    return told + [f"{path}: `{it}` is not there" for path in texts if path not in PAST for it in missing(top, path, texts[path])]
+
+
+def main(words):
+    parser = argparse.ArgumentParser(description=__doc__, formatter_class=argparse.RawDescriptionHelpFormatter)
+    parser.add_argument("--check", action="store_true", required=True, help="tell each fault; end with status 1 where there is one")
+    parser.parse_args(words)
+    told = faults(TOP)
+    for it in told:
+        print(f"documents: {it}")
+    print(f"documents: {len(documents(TOP))} documents, {len(told)} faults")
+    return 1 if told else 0
+
+
+if __name__ == "__main__":
+    sys.exit(main(sys.argv[1:]))
