@@ -30,7 +30,7 @@ fn page(vpn: u32, pfn: u32, d: bool, v: bool) -> Entry {
     }
 }
 
-/// A buffer with the program's page, and behind it a page that is not valid, a clean one, one
+/// A buffer with the program's page, and after it a page that is not valid, a clean one, one
 /// where nothing is, and the serial lines; page 00406 in address space 2.
 fn new_tlb<L: Lookaside>() -> Result<L, BadRandom>
     requires slots { L.SLOTS ≡ 64 }
@@ -82,7 +82,7 @@ fn new_bus(alloc: Global) -> Result<Bus, OutOfMemory> {
     Ok(Bus::new(Memory::new(alloc)?))
 }
 
-/// Puts words one behind the other from an aligned place on.
+/// Puts words one after the other from an aligned place on.
 fn put_words(bus: &mut Bus, place: u32, words: &[u32]) {
     for (k, word) in words.iter().enumerate() {
         let to = place as usize / 4 + k;
@@ -114,7 +114,7 @@ fn put_table<L: Lookaside>(core: &mut Core<L>)
 }
 
 /// From a miss at 00410000, whose entry's word is 00002600 (frame 2, writable) in a table page in
-/// frame 3: the address behind the handler, register 26, what a probe leaves in Index, and Random.
+/// frame 3: the address after the handler, register 26, what a probe leaves in Index, and Random.
 fn refilled<L: Lookaside>(bus: &mut Bus) -> Result<(u32, u32, u32, usize), BadRandom>
     requires slots { L.SLOTS ≡ 64 }
     requires wired { L.WIRED ≡ 8 }

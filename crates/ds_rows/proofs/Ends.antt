@@ -1,4 +1,4 @@
--- What a row or a case has done where it came to what is expected.
+-- What a row or a case has done where it is as expected.
 use Rattle.std.proofs.Common.{◌≡◌, ◌<◌, ◌+◌, ◌^◌, ◌∙◌, ℕ, inl, inr, arith, slice_index_or, List, [], ◌∷◌, Option, Some, None, codes, decimal, refl, sym, subst, lit<}
 use Rattle.std.proofs.lemmas.Bool.{cases_lt}
 use Rattle.std.proofs.lemmas.Fmt.{decimal_injective, decimal_digit}
@@ -54,7 +54,7 @@ beside_done {X} holds files there folder place put file text words old new f p h
     let Folder : List ℕ → Type 0 = λ x. IsDone words (Beside (holds there) x file text) old new in
     subst Files f (subst Folder p (put_done (holds there) place put file text words old new h done))
 
--- a row that came to what is expected
+-- a row that is as expected
 pub row_well : (holds : List ℕ → List ℕ → Type 0) (words rest : List (List ℕ)) (folder status file text seen : List ℕ) (came : Came)
     → words ≡ folder ∷ status ∷ file ∷ rest → came.status < 2 ^ 64
     → Inside holds folder file text → seen ≡ text → IsExpected came status seen
@@ -69,7 +69,7 @@ row_well holds words rest folder status file text seen came e small held same as
       done = λ zero. subst Writes (as_expected.told ∙ same) (done (status_zero came.status status small as_expected.ended zero));
     })
 
--- a case that came to what is expected
+-- a case that is as expected
 pub case_well : (holds : List ℕ → List ℕ → Type 0) (words : List (List ℕ)) (wanted : Option Expected) (came : Came)
     → came.status < 2 ^ 64 → Meets wanted came
     → (came.status ≡ 0 → IsDone words holds (Some []) (Some came.told.items))

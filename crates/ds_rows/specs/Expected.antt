@@ -1,4 +1,4 @@
--- When a command came to what is expected.
+-- When a command is as expected.
 use Rattle.std.specs.Prelude.{◌≡◌, ℕ, List, [], decimal}
 use Rattle.ds_rows.specs.declared.came.Came.{Came}
 

@@ -1,4 +1,4 @@
--- When the cases of a table come to what is expected of them.
+-- When the cases of a table are as expected.
 use Rattle.std.specs.Prelude.{◌≡◌, ◌≢◌, ℕ, List, [], ◌∷◌, ◌++◌, All, Option, Some, None, codes, string_bytes}
 use Rattle.std.specs.Str.Lines.{lines}
 use Rattle.ds_cases.specs.Words.{words_of}
@@ -20,14 +20,14 @@ IsPut (Some put) file text = (put.name.now ≡ file) × (put.text.now ≡ text)
 abbrev pub refusal_line : List ℕ → List ℕ
 refusal_line refusal = codes "dsmon: " ++ (refusal ++ codes "\n")
 
--- a command came to what is expected
+-- a command is as expected
 abbrev pub Meets : Option Expected → Came → Type 0
 Meets None came = ⊥
 Meets (Some expected.Done) came = IsExpected came (codes "0") came.told.items
 Meets (Some (expected.Writes text)) came = IsExpected came (codes "0") text.items
 Meets (Some (expected.Refused refusal)) came = IsExpected came (codes "2") (refusal_line (string_bytes refusal))
 
--- a case came to what was expected of it
+-- a case is as expected
 abbrev pub CameAs : Case → Came → Type 0
 CameAs case came = Meets case.expected came
 

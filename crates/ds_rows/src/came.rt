@@ -1,4 +1,4 @@
-//! What a command comes to.
+//! The outcome of a command.
 ghost use Rattle.std.specs.Prelude.{◌≡◌, ◌≤◌, ◌↔◌, ℕ, [], Some, IfOk, map, string_bytes};
 ghost use Rattle.ds_drive.specs.Done.{IsDone};
 ghost use Rattle.ds_cases.specs.Outcomes.{DifferFrom};
@@ -8,7 +8,7 @@ use ds_cases::{Outcome, first_difference};
 use ds_drive::{Files, drive};
 use std::alloc::{AllocError, Global};
 
-/// What a command came to.
+/// The outcome of a command.
 #[derive(Drop)]
 pub struct Came {
     /// Its status.
@@ -20,7 +20,7 @@ pub struct Came {
 }
 
 impl Came {
-    /// What the words come to over these files.
+    /// The outcome of these words over these files.
     pub fn of<F: Files + Drop>(alloc: Global, words: &[String], files: F) -> Came
         ensures range { result.status ≤ 3 }
         ensures done { result.status ≡ 0

@@ -1,4 +1,4 @@
-//! Runs of `dsmon` as data: rows and tables of cases, each with what it is expected to come to.
+//! Runs of `dsmon` as data: rows and tables of cases, each with its expected outcome.
 #![tactic(auto)]
 
 mod came;

@@ -12,7 +12,7 @@ use std::io;
 use std::io::Write;
 
 /// Runs the rows that the index lists, one a line, and writes each line with its outcome. The
-/// status is 0 where the index lists a row and each row came to what is expected, else 1. What
+/// status is 0 where the index lists a row and each row is as expected, else 1. What
 /// came in place of it is told on `err`.
 pub fn run_rows<F: Files + Copy + Drop, W: Write, E: Write>(
     alloc: Global,
@@ -55,8 +55,8 @@ fn run_lines<F: Files + Copy + Drop, W: Write, E: Write>(
     Ok(status)
 }
 
-/// Runs the row of these words, and compares what it comes to with what is expected. At status 0
-/// stations that are stepped and run by hand have to come to its text too.
+/// Runs the row of these words, and compares its outcome with what is expected. At status 0
+/// stations that are stepped and run by hand have to write its text too.
 fn run_row<F: Files + Copy + Drop, E: Write>(
     alloc: Global,
     words: &[&str],

@@ -13,7 +13,7 @@ use std::io::Write;
 
 /// Runs the tables that the index lists, one a line, and writes each line with how many cases are
 /// as expected, and each other case with its outcome. The status is 0 where the index lists a
-/// table, each has a case, and each case came to what is expected, else 1. What came in place of
+/// table, each has a case, and each case is as expected, else 1. What came in place of
 /// it is told on `err`.
 pub fn run_tables<F: Files + Copy + Drop, W: Write, E: Write>(
     alloc: Global,
@@ -165,8 +165,8 @@ fn run_cases<'a, F: Files + Copy + Drop, W: Write, E: Write>(
     Ok(well)
 }
 
-/// Runs a case of a table, and compares what it comes to with what is expected. At status 0
-/// stations that are stepped and run by hand have to come to the text that is written.
+/// Runs a case of a table, and compares its outcome with what is expected. At status 0
+/// stations that are stepped and run by hand have to write the text that is written.
 fn run_case<'a, F: Files + Copy + Drop, E: Write>(
     alloc: Global,
     files: F,
@@ -193,7 +193,7 @@ fn run_case<'a, F: Files + Copy + Drop, E: Write>(
     Ok(Outcome::AsExpected)
 }
 
-/// What a case came to, compared with what is expected of it.
+/// The outcome of a case, compared with what is expected of it.
 fn case_outcome(alloc: Global, case: &Case, came: &Came) -> Result<Outcome, AllocError>
     ensures { IfOk result (λ outcome. outcome ≡ Outcome.AsExpected
         → CameAs case.now came.now) }

@@ -75,7 +75,7 @@ module _ (old new : Option (List ℕ)) (n : ℕ) (first : State) (s t : Held) (b
   part_written (Ok x) r w o a = part_whole r a
   part_written (Err f) r w o a = part_prefix w o a
 
--- what the processor did in a run that came to its end
+-- what the processor did in a run that ended
 pub really_if : (ran : Result (Unit {0}) Fault) (old new : Option (List ℕ)) (n start : ℕ) (read : Result Loaded Refusal) (s t : Held) → Begins read (BeginsWith start s) → OnOk ran (RealPath s t) → OnOk ran (held_goes_on n t ≡ false) → Appends old new (held_text t) → OnOk ran (Begins read (WritesReally old new n start))
 really_if (Ok x) old new n start read s t b path over a = (b.0, b.1, record { first = s; begins = b.2; last = t; path = path; over = over; written = a })
 really_if (Err f) old new n start read s t b path over a = tt

@@ -56,15 +56,15 @@ ok_is_no_err x e is = cc
 
 -- What is made of the inputs once they are read.
 module _ {A : Type 0} (make : PolicyValue → List (List ℕ) → InputValue → A) where
-  -- what is left behind the count of ticks
+  -- what is left after the count of ticks
   abbrev pub with_ticks : PolicyValue → List (List ℕ) → InputValue → ℕ → Result A Refusal
   with_ticks policy images e random = check (nat_le 8 random && nat_lt random 64) refusal.BadRandom >>= (λ good. Ok (make policy images e))
 
-  -- what is left behind the input
+  -- what is left after the input
   abbrev pub with_input : PolicyValue → List (List ℕ) → InputValue → ℕ → ℕ → Result A Refusal
   with_input policy images e n random = check (nat_le n 1000000000) (refusal.Limit (codes "n")) >>= (λ few. with_ticks policy images e random)
 
-  -- what is left behind the images
+  -- what is left after the images
   abbrev pub with_images : PolicyValue → List (List ℕ) → List ℕ → ℕ → ℕ → Result A Refusal
   with_images policy images input n random = input_read (input_of policy.pages input) >>= (λ e. with_input policy images e n random)
 

@@ -32,7 +32,7 @@ path_keeps : (old new : Held) (path : List Held) → Through old path new → ne
 path_keeps old new [] t = ap (λ (h : Held). h.own.failed) t
 path_keeps old new (last ∷ before) t = step_keeps t.0.0 last new t.0.2 ∙ path_keeps old last before t.1
 
--- a run that doesn't go on has come to its end
+-- a run that doesn't go on has ended
 pub ran_to : (n : ℕ) (old new : Held) → HasRun n old new → held_goes_on n new ≡ false → RunsTo n old new
 ran_to n old new r over = to_end n old new r.within over
 

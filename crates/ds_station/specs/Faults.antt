@@ -52,7 +52,7 @@ of_halt halt.Memory = Memory
 of_halt halt.Stuck = Stuck
 of_halt halt.Failed = Failed
 
--- What is held where the next step is refused by a fault: memory runs out only where no unit is begun, and a unit is stuck only behind 64 instructions.
+-- What is held where the next step is refused by a fault: memory runs out only where no unit is begun, and a unit is stuck only after 64 instructions.
 abbrev pub RefusesStep : Fault → Held → Type 0
 RefusesStep Memory h = (h.own.failed ≡ false) × (h.own.spent ≡ 0) × (is_over h.kept.state ≡ false)
 RefusesStep Stuck h = (h.own.failed ≡ false) × (h.own.spent ≡ 64) × (is_in_kernel h ≡ false)

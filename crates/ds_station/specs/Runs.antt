@@ -1,4 +1,4 @@
--- What a run of a station comes to where it is cut short.
+-- The outcome of a run of a station where it is cut short.
 use Rattle.std.specs.Prelude.{◌≡◌}
 use Rattle.ds_refinement.specs.Held.{Held}
 use Rattle.ds_refinement.specs.Services.{with_failure}

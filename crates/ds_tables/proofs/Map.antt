@@ -227,7 +227,7 @@ refused_entry memory t p a w none = ap (λ (u : Bool). cond u (with_entry_word (
 pub put_entry_there : (memory : List ℕ) (t : Places) (p a w : ℕ) → has_place t p (region_of a) ≡ true → with_entry memory t p a w ≡ with_entry_word (with_table memory t p (region_of a)) (opened t p (region_of a)) p a w
 put_entry_there memory t p a w some = ap (λ (u : Bool). cond u (with_entry_word (with_table memory t p (region_of a)) (opened t p (region_of a)) p a w) memory) some
 
--- no table lies behind frame 401
+-- no table lies beyond frame 401
 table_below : (t : Places) (p r : ℕ) (o : Option ℕ) → ArePlaces t → place_of t p r ≡ o → frame_of_place p o < 402
 table_below t p r None are at = omega arith
 table_below t p r (Some i) are at = table_small t p r i (is_place t p r i are at)

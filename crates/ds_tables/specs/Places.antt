@@ -44,7 +44,7 @@ free_place t p = position is_free (places_of t p)
 abbrev pub has_place : Places → ℕ → ℕ → Bool
 has_place t p region = is_some (place_of t p region) || is_some (free_place t p)
 
--- the frame of a process's place; those of the processes lie one behind the other from frame 2 on
+-- the frame of a process's place; those of the processes lie one after the other from frame 2 on
 abbrev pub table_frame : ℕ → ℕ → ℕ
 table_frame p place = 2 + 4 * (p - 1) + place
 

@@ -1,4 +1,4 @@
-//! Runs the rows and the tables of data/, and tells of each whether it came to what is expected.
+//! Runs the rows and the tables of data/, and tells of each whether it is as expected.
 #![tactic(auto)]
 
 use ds_drive::SystemFiles;

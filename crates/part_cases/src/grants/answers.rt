@@ -113,7 +113,7 @@ fn told_entry(alloc: Global, grant: Option<Grant>) -> Result<String, AllocError>
     }
 }
 
-/// The addresses of a process's entries, one behind the other.
+/// The addresses of a process's entries, one after the other.
 fn addresses<L: Lookaside>(
     alloc: Global,
     replay: &Replay<L>,

@@ -64,7 +64,7 @@ impl<L: Lookaside> Replay<L> {
         process > 0 && process as usize <= self.grants.table().processes()
     }
 
-    /// What a call comes to; none where nobody can call so.
+    /// The outcome of a call; none where nobody can call so.
     pub fn call(&mut self, call: Call) -> Option<Result<(), GrantFault>> {
         let (memory, buffer) = (&mut self.memory, &mut self.buffer);
         match call {

@@ -148,7 +148,7 @@ fn replay_line<L: Lookaside, W: Write>(
     Ok(())
 }
 
-/// Replays a file over a buffer, and writes how many lines differ, behind the first of these;
+/// Replays a file over a buffer, and writes how many lines differ, after the first of these;
 /// whether none does.
 fn report<L: Lookaside, R: Files + Print + AllocGlobal>(
     rt: &R,

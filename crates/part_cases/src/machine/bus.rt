@@ -46,7 +46,7 @@ fn size_of(step: &str) -> Option<Size> {
     }
 }
 
-/// Loads from an address, or stores the value behind it there.
+/// Loads from an address, or stores the value after it there.
 fn access(
     alloc: Global,
     bus: &mut Bus,

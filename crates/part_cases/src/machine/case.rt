@@ -16,7 +16,7 @@ pub struct Case<'a> {
 pub enum Line<'a> {
     /// Nothing.
     Blank,
-    /// A title, behind which the cases begin anew.
+    /// A title, after which the cases are counted from 1.
     Title,
     /// What is given, a bar, and what is wanted.
     Case(Case<'a>),

@@ -25,7 +25,7 @@ fn page(vpn: u32, pfn: u32, d: bool, v: bool) -> Entry {
     }
 }
 
-/// A buffer with the program's page, and behind it a page that is not valid, a clean one, one
+/// A buffer with the program's page, and after it a page that is not valid, a clean one, one
 /// where nothing is, and the serial lines; page 00406 in address space 2.
 fn new_tlb<L: Lookaside>() -> Result<L, BadRandom>
     requires slots { L.SLOTS ≡ 64 }
@@ -72,7 +72,7 @@ pub fn new_core<L: Lookaside>(status: u32, pc: u32, eighth: u32) -> Result<Core<
     })
 }
 
-/// Puts a program's words one behind the other at the programs' place.
+/// Puts a program's words one after the other at the programs' place.
 pub fn put_program(bus: &mut Bus, words: &[u32]) {
     for (k, word) in words.iter().enumerate() {
         let to = PLACE as usize / 4 + k;

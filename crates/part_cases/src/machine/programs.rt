@@ -34,7 +34,7 @@ pub fn fault_of<L: Lookaside>(
     Ok(None)
 }
 
-/// A fault in words, from the system coprocessor and the address behind it.
+/// A fault in words, from the system coprocessor and the address after it.
 fn told_fault(
     alloc: Global,
     code: ExceptionCode,
@@ -48,7 +48,7 @@ fn told_fault(
     format!(in alloc; "{code:?} {epc:08x} {address:08x} {slot} {pc:08x}")
 }
 
-/// What registers 4 and 9 hold behind the words that are given, run by the kernel with register 8
+/// What registers 4 and 9 hold after the words that are given, run by the kernel with register 8
 /// at their first.
 pub fn registers_behind<L: Lookaside>(
     alloc: Global,
@@ -69,7 +69,7 @@ pub fn registers_behind<L: Lookaside>(
     Ok(Some(format!(in alloc; "{fourth:08x} {ninth:08x}")?))
 }
 
-/// What Index, EntryHi, EntryLo and register 9 hold behind the kernel's words. Given are Index,
+/// What Index, EntryHi, EntryLo and register 9 hold after the kernel's words. Given are Index,
 /// EntryHi and EntryLo before them, and the words.
 pub fn entry_behind<L: Lookaside>(
     alloc: Global,
