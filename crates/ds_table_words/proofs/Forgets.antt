@@ -1,7 +1,6 @@
 -- A buffer that has key_forgotten what was changed.
-use Rattle.std.proofs.Common.{◌≡◌, ◌≢◌, ◌⊎◌, ℕ, ◌+◌, ◌-◌, ◌*◌, ◌/◌, ◌^◌, ◌<◌, ◌≤◌, ◌==◌, Bool, true, false, cond, List, length, Option, Some, None, refl, sym, ap, ap₂, subst, ◌∙◌, arith, inl, inr, length-set}
-use Rattle.std.specs.Prelude.{slice_get, slice_set, nat_lt}
-use Rattle.std.proofs.lemmas.Bool.{cases_Bool, cases_eq}
+use Rattle.std.proofs.Common.{◌≡◌, ◌⊎◌, ℕ, ◌+◌, ◌-◌, ◌/◌, ◌^◌, ◌<◌, ◌≤◌, true, false, List, length, Option, Some, None, refl, sym, ap, subst, ◌∙◌, arith, inl, inr, length-set}
+use Rattle.std.specs.Prelude.{slice_get}
 use Rattle.std.proofs.lemmas.Bool.Decides.{nat_tests}
 use Rattle.std.proofs.lemmas.List.Quantifiers.{position-Some}
 use Rattle.ds_tlb.specs.declared.entry.Entry.{Entry}
@@ -11,9 +10,8 @@ use Rattle.ds_tlb.specs.Words.{entry_of}
 use Rattle.ds_grants.specs.State.{GrantsState}
 use Rattle.ds_grants.specs.Buffer.{cleared}
 use Rattle.ds_grants.proofs.Translations.{at_set, set_single, found_there}
-use Rattle.ds_tables.specs.Places.{Places, region_of, page_of_table}
-use Rattle.ds_table_words.specs.Words.{granted_word}
-use Rattle.ds_table_words.specs.Buffer.{hi_of, lo_of, read_only, IsMapped, IsBackedByWord, BufferHoldsWords}
+use Rattle.ds_tables.specs.Places.{Places, region_of}
+use Rattle.ds_table_words.specs.Buffer.{hi_of, lo_of, read_only, IsMapped, BufferHoldsWords}
 use Rattle.ds_table_words.specs.Changes.{key_forgotten, both_forgotten, IsChangedAt}
 use Rattle.ds_table_words.proofs.Fields.{user_lo, table_lo}
 

@@ -1,9 +1,8 @@
 -- What is represented after an entry is put, and after one is removed.
-use Rattle.std.proofs.Common.{◌≡◌, ◌≢◌, ◌⊎◌, ℕ, ◌+◌, ◌-◌, ◌*◌, ◌/◌, ◌%◌, ◌^◌, ◌<◌, ◌≤◌, ◌==◌, Bool, true, false, cond, not, List, ◌∷◌, length, Option, Some, None, refl, sym, ap, ap₂, subst, ◌∙◌, arith, inl, inr}
-use Rattle.std.specs.Prelude.{is_some, nat_lt, ◌||◌, IfSome}
-use Rattle.std.proofs.lemmas.Bool.{cases_Bool}
+use Rattle.std.proofs.Common.{◌≡◌, ◌≢◌, ◌⊎◌, ℕ, ◌+◌, ◌-◌, ◌*◌, ◌/◌, ◌%◌, ◌^◌, ◌<◌, ◌≤◌, Bool, true, false, cond, not, List, length, Option, Some, None, refl, sym, ap, subst, ◌∙◌, arith, inl, inr}
+use Rattle.std.specs.Prelude.{IfSome}
 use Rattle.std.proofs.lemmas.List.{length-map}
-use Rattle.ds_mem.specs.Memory.{frame_of, with_frame, zeros}
+use Rattle.ds_mem.specs.Memory.{zeros}
 use Rattle.ds_mem.proofs.Zeros.{length-zeros}
 use Rattle.ds_mem.proofs.Words.{length-with_frame, word_at-same_frame, frame_of-with_word_apart}
 use Rattle.ds_word.specs.Bytes.{with_word}
@@ -20,8 +19,7 @@ use Rattle.ds_tables.specs.Tables as tables
 use Rattle.ds_tables.specs.Tables.{HasEmptyTable, with_table_by, with_table, with_entry_word, word_place, entry_word}
 use Rattle.ds_tables.proofs.PlaceLemmas.{is_place, is_free_place, placed, place_of-other, place_of-kept, row_placed, closed_row, four_places}
 use Rattle.ds_tables.proofs.Map.{frames_kept, opened_old, opened_not, opened_new}
-use Rattle.ds_table_words.specs.Words.{word_of_right, word_of_grant, granted_word, WordsHold}
-use Rattle.ds_table_words.specs.Buffer.{BufferHoldsWords, AreNumbersApart}
+use Rattle.ds_table_words.specs.Words.{word_of_right, word_of_grant}
 use Rattle.ds_table_words.specs.Changes.{both_forgotten, is_used, memory_without, places_without, IsChangedAt, AreKnown}
 use Rattle.ds_table_words.specs.Represented.{IsRepresented, HasRegion, IsLow, IsHigh}
 use Rattle.ds_table_words.proofs.Regions.{fifth_by_places}

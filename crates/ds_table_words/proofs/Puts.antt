@@ -1,7 +1,7 @@
 -- Page-table words after a change of one entry.
 use Rattle.std.proofs.Common.{◌≡◌, ◌≢◌, ◌⊎◌, ℕ, zero, suc, ◌+◌, ◌-◌, ◌*◌, ◌/◌, ◌%◌, ◌^◌, ◌<◌, ◌≤◌, ◌==◌, Bool, true, false, cond, not, List, [], ◌∷◌, ◌++◌, length, filter, map, set, Option, Some, None, refl, sym, ap, ap₂, subst, ◌∙◌, arith, inl, inr, length-set}
 use Rattle.std.specs.List.{list_any}
-use Rattle.std.specs.Prelude.{◌&&◌, ◌||◌, nat_lt, is_some, get_or, slice_set}
+use Rattle.std.specs.Prelude.{◌&&◌, ◌||◌, is_some, get_or, slice_set}
 use Rattle.std.proofs.lemmas.Bool.{cases_Bool, cases_eq}
 use Rattle.std.proofs.lemmas.Bool.Decides.{nat_tests}
 use Rattle.std.proofs.lemmas.List.{get_or-set_same, get_or-set_other}
@@ -13,29 +13,23 @@ use Rattle.ds_policy.specs.Grants.{count_distinct}
 use Rattle.ds_policy.proofs.DistinctCounts.{count_insert}
 use Rattle.ds_pagemap.proofs.Entries.{entry_at-with_entry, entry_at-without_entry}
 use Rattle.ds_grants.specs.State.{GrantsState, with_grant, without_grant}
-use Rattle.ds_tables.specs.Places.{Places, ArePlaces, holds, freed, region_of, places_of, place_of, free_place, has_place, opened, closed, with_place}
+use Rattle.ds_tables.specs.Places.{Places, ArePlaces, freed, region_of, places_of, place_of, free_place, has_place, opened, closed, with_place}
 use Rattle.ds_tables.specs.Tables as tables
 use Rattle.ds_tables.specs.Tables.{HasEmptyTable, entry_word}
-use Rattle.ds_tables.proofs.PlaceLemmas.{places_at, no_places, IsFree, is_free_place, four_places, place_of-new, place_of-other, place_of-closed, place_of-kept}
+use Rattle.ds_tables.proofs.PlaceLemmas.{places_at, no_places, is_free_place, four_places, place_of-new, place_of-other, place_of-closed, place_of-kept}
 use Rattle.ds_tables.proofs.Map.{put_words, closed_words, opened_old, opened_new}
 use Rattle.ds_table_words.specs.Words.{word_of_right, word_of_grant, granted_word, regions_taken, WordsHold}
 use Rattle.ds_table_words.specs.Changes.{is_used, memory_without, places_without}
-use Rattle.ds_table_words.proofs.Regions.{has, placed_by_taken}
+use Rattle.ds_table_words.proofs.Regions.{same_number, itself, either, has, placed_by_taken}
 
 -- Entries of a row, put and removed.
 
-same_number : (a b : ℕ) → (a == b) ≡ true → a ≡ b
-same_number a b e = grind (arith, nat_tests)
+both_true : (x y : Bool) → (x && y) ≡ true → (x ≡ true) × (y ≡ true)
+both_true true y e = (refl, e)
+both_true false y e = absurd cc
 
-itself : (a : ℕ) → (a == a) ≡ true
-itself a = grind (arith, nat_tests)
-
-turned : (a b : ℕ) → (a == b) ≡ (b == a)
-turned a b = grind (arith, nat_tests)
-
-or_false : (b : Bool) → (b || false) ≡ b
-or_false true = refl
-or_false false = refl
+missed : (p q r s : ℕ) → q ≡ p → s ≡ r → ((q == p) && (r == s)) ≡ false → ⊥
+missed p q r s own region e = let no : true ≡ false = sym (ap₂ (λ (a b : Bool). a && b) (ap (λ (n : ℕ). n == p) own ∙ itself p) (ap (λ (n : ℕ). r == n) region ∙ itself r)) ∙ e in absurd cc
 
 abbrev used : ℕ → List Entry → Bool
 used s es = list_any (λ (e : Entry). region_of e.address == s) es
@@ -81,10 +75,6 @@ used_gone s (e ∷ es) a apart = elim (cases_Bool (e.address == a)) [
       rw (here, out) (used_gone s es a apart)
   | inr other ↦ rw other (ap (λ (b : Bool). (region_of e.address == s) || b) (used_gone s es a apart))
 ]
-
-either : (a b : Bool) → (a || b) ≡ false → (a ≡ false) × (b ≡ false)
-either true b e = absurd cc
-either false b e = (refl, e)
 
 none_found : (es : List Entry) (b r : ℕ) → used r es ≡ false → region_of b ≡ r → found es b ≡ None
 none_found [] b r none at = refl
@@ -182,7 +172,7 @@ opened_some t p r q s are room = elim (opens t p r room) [
       ap (λ (u : Places). is_some (place_of u q s)) (opened_old t p r old.0 old.1)
       ∙ elim (cases_Bool ((q == p) && (r == s))) [
         | inl hit ↦
-            let both = both_of (q == p) (r == s) hit in
+            let both = both_true (q == p) (r == s) hit in
             let here : place_of t q s ≡ Some old.0 = ap₂ place_of_t (same_number q p both.0) (sym (same_number r s both.1)) ∙ old.1 in
             rw hit (ap is_some here)
         | inr miss ↦ rw miss refl
@@ -193,22 +183,15 @@ opened_some t p r q s are room = elim (opens t p r room) [
       ap (λ (u : Places). is_some (place_of u q s)) (opened_new t p r k new.0 new.1.1)
       ∙ elim (cases_Bool ((q == p) && (r == s))) [
         | inl hit ↦
-            let both = both_of (q == p) (r == s) hit in
+            let both = both_true (q == p) (r == s) hit in
             let here : place_of (with_place t p k r) q s ≡ Some k = ap₂ (λ (x y : ℕ). place_of (with_place t p k r) x y) (same_number q p both.0) (sym (same_number r s both.1)) ∙ place_of-new t p k r are spot new.0 in
             rw hit (ap is_some here)
-        | inr miss ↦ rw miss (ap is_some (place_of-other t p q k r s spot (λ own region. missed own region miss)))
+        | inr miss ↦ rw miss (ap is_some (place_of-other t p q k r s spot (λ own region. missed p q r s own region miss)))
       ]
 ]
   where
     place_of_t : ℕ → ℕ → Option ℕ
     place_of_t x y = place_of t x y
-
-    both_of : (a b : Bool) → (a && b) ≡ true → (a ≡ true) × (b ≡ true)
-    both_of true b e = (refl, e)
-    both_of false b e = absurd cc
-
-    missed : q ≡ p → s ≡ r → ((q == p) && (r == s)) ≡ false → ⊥
-    missed own region e = let no : true ≡ false = sym (ap₂ (λ (a b : Bool). a && b) (ap (λ (n : ℕ). n == p) own ∙ itself p) (ap (λ (n : ℕ). r == n) region ∙ itself r)) ∙ e in absurd cc
 
 opened_distinct : (t : Places) (p r : ℕ) → ArePlaces t → has_place t p r ≡ true → ((q : ℕ) → count_distinct (regions_taken (places_of t q)) ≡ length (regions_taken (places_of t q)))
     → (q : ℕ) → count_distinct (regions_taken (places_of (opened t p r) q)) ≡ length (regions_taken (places_of (opened t p r) q))
@@ -272,17 +255,10 @@ closed_distinct t p r low high distinct q =
 closed_some : (t : Places) (p r q s : ℕ) → is_some (place_of (closed t p r) q s) ≡ (not ((q == p) && (r == s)) && is_some (place_of t q s))
 closed_some t p r q s = elim (cases_Bool ((q == p) && (r == s))) [
   | inl hit ↦
-      let both = both_of (q == p) (r == s) hit in
+      let both = both_true (q == p) (r == s) hit in
       rw hit (ap is_some (ap₂ (λ (x y : ℕ). place_of (closed t p r) x y) (same_number q p both.0) (sym (same_number r s both.1)) ∙ place_of-closed t p r))
-  | inr miss ↦ rw miss (ap is_some (place_of-kept t p q r s (λ own region. missed own region miss)))
+  | inr miss ↦ rw miss (ap is_some (place_of-kept t p q r s (λ own region. missed p q r s own region miss)))
 ]
-  where
-    both_of : (a b : Bool) → (a && b) ≡ true → (a ≡ true) × (b ≡ true)
-    both_of true b e = (refl, e)
-    both_of false b e = absurd cc
-
-    missed : q ≡ p → s ≡ r → ((q == p) && (r == s)) ≡ false → ⊥
-    missed own region e = let no : true ≡ false = sym (ap₂ (λ (a b : Bool). a && b) (ap (λ (n : ℕ). n == p) own ∙ itself p) (ap (λ (n : ℕ). r == n) region ∙ itself r)) ∙ e in absurd cc
 
 -- a region that is used once an entry is gone was used before
 used_by_rest : (a : ℕ) (es : List Entry) → used (region_of a) (filter (λ (e : Entry). not (e.address == a)) es) ≡ true → used (region_of a) es ≡ true
@@ -304,10 +280,6 @@ module _ (memory : List ℕ) (t : Places) (g : GrantsState) (p a : ℕ) (k : Wor
     (low : 0 < p) (high : p ≤ length g.table) (page : a % 2 ^ 12 ≡ 0) where
   abbrev r : ℕ
   r = region_of a
-
-  both_true : (x y : Bool) → (x && y) ≡ true → (x ≡ true) × (y ≡ true)
-  both_true true y e = (refl, e)
-  both_true false y e = absurd cc
 
   at_address : (q vpn : ℕ) → ((q == p) && (vpn * 2 ^ 12 / 2 ^ 12 == a / 2 ^ 12)) ≡ true → (q ≡ p) × (vpn * 2 ^ 12 ≡ a)
   at_address q vpn hit =

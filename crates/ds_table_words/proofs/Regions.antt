@@ -1,12 +1,11 @@
 -- A fifth region is one for which there is no place.
-use Rattle.std.proofs.Common.{◌≡◌, ◌≢◌, ℕ, suc, ◌+◌, ◌<◌, ◌≤◌, ◌==◌, Bool, true, false, cond, not, List, [], ◌∷◌, ◌++◌, length, filter, map, set, Option, Some, None, refl, sym, ap, ap₂, subst, ◌∙◌, arith, inl, inr}
+use Rattle.std.proofs.Common.{◌≡◌, ℕ, suc, ◌+◌, ◌≤◌, ◌==◌, Bool, true, false, cond, not, List, [], ◌∷◌, length, filter, map, Option, Some, None, refl, sym, ap, ap₂, subst, ◌∙◌, arith, inl, inr}
 use Rattle.std.specs.List.{list_any, position, position_or_len}
-use Rattle.std.specs.Prelude.{◌||◌, nat_lt, is_some, get_or}
+use Rattle.std.specs.Prelude.{◌||◌, nat_lt, is_some}
 use Rattle.std.proofs.lemmas.Bool.{cases_Bool}
 use Rattle.std.proofs.lemmas.Bool.Decides.{nat_tests}
 use Rattle.ds_policy.specs.declared.grant.Entry.{Entry}
 use Rattle.ds_policy.specs.Grants.{region, count_distinct}
-use Rattle.ds_policy.proofs.DistinctCounts.{count_insert}
 use Rattle.ds_tables.specs.Places.{Places, holds, is_free, places_of, place_of, free_place, has_place, region_of}
 use Rattle.ds_table_words.specs.Words.{regions_taken}
 
@@ -16,16 +15,16 @@ has a xs = list_any (λ (b : ℕ). b == a) xs
 abbrev without : ℕ → List ℕ → List ℕ
 without a xs = filter (λ (b : ℕ). not (b == a)) xs
 
-same_number : (a b : ℕ) → (a == b) ≡ true → a ≡ b
+pub same_number : (a b : ℕ) → (a == b) ≡ true → a ≡ b
 same_number a b e = grind (arith, nat_tests)
 
 turned : (a b : ℕ) → (a == b) ≡ false → (b == a) ≡ false
 turned a b e = grind (arith, nat_tests)
 
-itself : (a : ℕ) → (a == a) ≡ true
+pub itself : (a : ℕ) → (a == a) ≡ true
 itself a = grind (arith, nat_tests)
 
-either : (a b : Bool) → (a || b) ≡ false → (a ≡ false) × (b ≡ false)
+pub either : (a b : Bool) → (a || b) ≡ false → (a ≡ false) × (b ≡ false)
 either true b e = absurd cc
 either false b e = (refl, e)
 

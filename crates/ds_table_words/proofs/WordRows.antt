@@ -1,6 +1,6 @@
 -- What holds of pages and frames at the ends of their ranges: each row is a theorem about the
 -- definitions alone.
-use Rattle.std.proofs.Common.{◌≡◌, ℕ, ◌*◌, ◌^◌, ◌<◌, ◌≤◌, List, None, refl, arith, inl, inr}
+use Rattle.std.proofs.Common.{◌≡◌, ℕ, ◌*◌, ◌^◌, List, None, refl, arith, inl, inr}
 use Rattle.ds_mem.specs.Memory.{frame_of}
 use Rattle.ds_policy.specs.declared.grant.Right.TheVariants.{Nothing}
 use Rattle.ds_grants.specs.State.{GrantsState, with_grant}

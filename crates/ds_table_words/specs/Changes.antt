@@ -34,7 +34,7 @@ key_forgotten entries vpn asid = cleared entries (find entries vpn asid)
 abbrev pub both_forgotten : List Entry → ℕ → ℕ → List Entry
 both_forgotten entries address asid =
     key_forgotten (key_forgotten entries (address / 2 ^ 12) asid)
-        (0xC0000 + region_of address) asid
+    (0xC0000 + region_of address) asid
 
 -- an entry of a process changed at an address, and the region's table may be new or gone: no other
 -- word is another, and no other table lies elsewhere

@@ -29,7 +29,7 @@ entry address right page = record { address = address; grant = grant right page 
 abbrev pub grants : GrantsState
 grants = record (no_grants 2 1024 4) {
   table = (entry 0x00400000 Read (Some 0) ∷ entry 0x00410000 Write (Some 3) ∷ entry 0x00420000 Nothing None
-          ∷ entry 0x00800000 Read (Some 1) ∷ [])
+      ∷ entry 0x00800000 Read (Some 1) ∷ [])
       ∷ (entry 0x00400000 Read (Some 1023) ∷ entry 0x00800000 Nothing None ∷ entry 0x00C00000 Nothing None ∷ [])
       ∷ [];
 }

@@ -1,5 +1,5 @@
 //! The buffer.
-ghost use Rattle.std.specs.Prelude.{◌≡◌, ◌⊎◌, ℕ, ◌<◌, ◌≤◌, List, length, slice_set, None};
+ghost use Rattle.std.specs.Prelude.{◌≡◌, ◌⊎◌, ℕ, ◌<◌, ◌≤◌, ◌^◌, List, length, slice_set, Some, None};
 ghost use Rattle.ds_tlb.specs.declared.entry.Entry.{Entry};
 ghost use Rattle.ds_tlb.specs.Entries.{find};
 ghost use Rattle.ds_tlb.specs.Words.{entry_of};
@@ -17,12 +17,16 @@ pub fn a_buffer_forgets_what_changed()
         → BufferHoldsWords (both_forgotten entries address asid) numbers h u }
 {}
 
-/// A buffer holds once an entry of a process is written into a slot, where nothing answered.
+/// A buffer holds once an entry of a process is written into a slot, where nothing answered; and the
+/// entry answers then.
 pub fn an_entry_goes_where_nothing_answers()
-    ensures { (entries : List Entry) (numbers : ℕ → ℕ) (g : GrantsState) (t : Places)
+    ensures holds { (entries : List Entry) (numbers : ℕ → ℕ) (g : GrantsState) (t : Places)
         (p vpn slot : ℕ) → AreNumbersApart numbers → BufferHoldsWords entries numbers g t
         → 0 < p → 0 < numbers p → IsMapped vpn → find entries vpn (numbers p) ≡ None
         → BufferHoldsWords
-            (slice_set entries slot (entry_of (hi_of vpn (numbers p)) (lo_of g t p vpn)))
-            numbers g t }
+        (slice_set entries slot (entry_of (hi_of vpn (numbers p)) (lo_of g t p vpn)))
+        numbers g t }
+    ensures found { (entries : List Entry) (vpn asid slot lo : ℕ) → vpn < 2 ^ 20 → asid < 64
+        → slot < length entries → find entries vpn asid ≡ None
+        → find (slice_set entries slot (entry_of (hi_of vpn asid) lo)) vpn asid ≡ Some slot }
 {}

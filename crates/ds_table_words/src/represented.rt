@@ -18,16 +18,16 @@ pub fn a_change_keeps_what_is_represented()
         → length entries ≤ 64 → 2 ^ 23 ≤ length memory → 0 < p → p ≤ length g.table
         → a % 2 ^ 12 ≡ 0 → IfSome grant.page (λ page. page < 1024) → HasRegion g p a
         → Keeps known entries memory t g
-            (both_forgotten entries a (known p))
-            (with_entry memory t p a (word_of_grant g (Some grant)))
-            (opened t p (region_of a)) (with_grant g p a grant) }
+        (both_forgotten entries a (known p))
+        (with_entry memory t p a (word_of_grant g (Some grant)))
+        (opened t p (region_of a)) (with_grant g p a grant) }
     ensures removed { (known : ℕ → ℕ) (entries : List Entry) (memory : List ℕ) (t : Places)
         (g : GrantsState) (p a : ℕ)
         → length entries ≤ 64 → 2 ^ 23 ≤ length memory → 0 < p → p ≤ length g.table
         → a % 2 ^ 12 ≡ 0
         → Keeps known entries memory t g
-            (both_forgotten entries a (known p))
-            (memory_without memory t g p a) (places_without t g p a) (without_grant g p a) }
+        (both_forgotten entries a (known p))
+        (memory_without memory t g p a) (places_without t g p a) (without_grant g p a) }
 {}
 
 /// A word that is put into a page table, and one that is taken out, change no page.

@@ -26,7 +26,7 @@ pub fn words_hold_after_a_change()
         → 0 < p → p ≤ length g.table → a % 2 ^ 12 ≡ 0 → word_of_grant g (Some grant) < 2 ^ 32
         → has_place t p (region_of a) ≡ true
         → WordsHold (with_entry memory t p a (word_of_grant g (Some grant)))
-            (opened t p (region_of a)) (with_grant g p a grant) }
+        (opened t p (region_of a)) (with_grant g p a grant) }
     ensures removed { (memory : List ℕ) (t : Places) (g : GrantsState) (p a : ℕ)
         → WordsHold memory t g → ArePlaces t → 2 ^ 23 ≤ length memory → HasEmptyTable memory
         → 0 < p → p ≤ length g.table → a % 2 ^ 12 ≡ 0
