@@ -24,11 +24,16 @@ taken words (inr (inr (inl list))) = list.1.taken
 taken words (inr (inr (inr check))) = check.1.taken
 
 -- where the words ask for something, clap fails for memory alone
-pub fails_for_memory : (words : List Text) (e : Error) → AsksForSomething words
+pub only_memory_fails : (words : List Text) (e : Error) → AsksForSomething words
     → HasKind (fault_of dsmon_app words) e → kind_of e ≡ OutOfMemory
-fails_for_memory words e asked (inl memory) = memory
-fails_for_memory words e asked (inr among) =
+only_memory_fails words e asked (inl memory) = memory
+only_memory_fails words e asked (inr among) =
     absurd (subst (IsAmong (kind_of e)) (taken words asked) among)
+
+-- so where they ask for the demonstration
+pub fails_for_memory : (words : List Text) (e : Error) → AsksForDemo words
+    → HasKind (fault_of dsmon_app words) e → kind_of e ≡ OutOfMemory
+fails_for_memory words e asked has = only_memory_fails words e (inl asked) has
 
 abbrev first_letter : Option (Text × List Row) → ℕ
 first_letter None = 0
