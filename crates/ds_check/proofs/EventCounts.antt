@@ -12,7 +12,7 @@ use Rattle.ds_check.proofs.FirstLines.{is_line_feed, lines_first}
 abbrev events_among : List (List ℕ) → ℕ
 events_among lines = count_by (λ line. not (is_skipped line)) lines
 
--- the first line of a text, and the lines behind it
+-- the first line of a text, and the lines after it
 events_first : (text : List ℕ) → events_in text ≡ events_among (before_first is_line_feed text ∷ lines_of (after_first is_line_feed text))
 events_first text = lines_first events_among (λ line. omega arith) text
 

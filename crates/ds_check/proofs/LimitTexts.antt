@@ -1,4 +1,4 @@
--- Processes one behind the other.
+-- Processes one after the other.
 use Rattle.std.proofs.Common.{◌≡◌, ◌∙◌, refl, sym, ap, ℕ, ◌+◌, List, ◌++◌, append_assoc, add-one}
 use Rattle.ds_policy.specs.declared.policy.PolicyRule.{PolicyRule}
 use Rattle.ds_check.specs.Limits.{of_process, of_processes}

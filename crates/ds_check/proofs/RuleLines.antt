@@ -26,7 +26,7 @@ none_among k = elim (cases_Bool (nat_le 1 k)) [
 pub rule_nowhere : (n k : ℕ) (in_array : Bool) → rule_from n k in_array ([] ∷ []) ≡ None
 rule_nowhere n k in_array = rw (rules_in_none (in_array || begins_array []), none_among k) refl
 
--- the first line of a text, and the lines behind it
+-- the first line of a text, and the lines after it
 pub rule_first : (n k : ℕ) (in_array inside : Bool) (text line rest : List ℕ) → line ≡ before_first is_line_feed text → rest ≡ after_first is_line_feed text
     → inside ≡ (in_array || begins_array line)
     → rule_from n k in_array (lines_of text) ≡ (if nat_le 1 k && nat_le k (rules_in inside line) then Some n else rule_from (n + 1) (k - rules_in inside line) inside (lines_of rest))

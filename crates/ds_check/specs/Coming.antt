@@ -66,17 +66,17 @@ abbrev pub end_text : Option Character → List ℕ
 end_text None = []
 end_text (Some c) = codes "\n"
 
--- a character: behind those that it comes with, or behind the commands that come no later
+-- a character: after those that it comes with, or after the commands that come no later
 abbrev pub step_text : List PolicyPage → Option Character → List TimedCommand → Character → List ℕ
 step_text pages last ks c =
     if comes_with last c then hex2 c.byte
     else end_text last ++ flat_map (command_text pages) (take (count_due c.time ks) ks) ++ key_text c
 
--- how many commands come before a character, and behind the one before it
+-- how many commands come before a character, and after the one before it
 abbrev pub step_count : Option Character → List TimedCommand → Character → ℕ
 step_count last ks c = if comes_with last c then 0 else count_due c.time ks
 
--- characters behind one, and commands between them
+-- characters after one, and commands between them
 abbrev pub events_from : List PolicyPage → Option Character → List TimedCommand → List Character → List ℕ
 events_from pages last ks [] = end_text last ++ flat_map (command_text pages) ks
 events_from pages last ks (c ∷ cs) = step_text pages last ks c ++ events_from pages (Some c) (drop (step_count last ks c) ks) cs

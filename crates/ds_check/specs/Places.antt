@@ -8,7 +8,7 @@ use Rattle.ds_check.specs.declared.places.Place.{Place}
 abbrev pub is_blank : ℕ → Bool
 is_blank b = b == 32 || b == 9
 
--- a line that begins, behind blanks, with this word
+-- a line that begins, after blanks, with this word
 abbrev pub begins_with : List ℕ → List ℕ → Bool
 begins_with word line = starts_with (λ a b. a == b) (drop (prefix_len is_blank line) line) word
 
@@ -37,13 +37,13 @@ rule_line text k = rule_from 1 k false (lines_of text)
 abbrev pub goes_on : ℕ → Bool
 goes_on b = nat_le 128 b && nat_le b 191
 
--- the place behind a byte: a line feed ends a line, and each other character is a column
+-- the place after a byte: a line feed ends a line, and each other character is a column
 abbrev pub behind : Place → ℕ → Place
 behind p b =
     if b == 10 then record { line = p.line + 1; column = 1 }
     else if goes_on b then p
     else record { line = p.line; column = p.column + 1 }
 
--- the line and the column, from 1, that stand behind so many bytes of a text
+-- the line and the column, from 1, that stand after so many bytes of a text
 abbrev pub place_at : List ℕ → ℕ → Place
 place_at text n = fold behind (record { line = 1; column = 1 }) (take n text)

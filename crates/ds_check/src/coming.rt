@@ -38,7 +38,7 @@ pub(crate) fn push_events(
     push_commands(sheet, pages, &events.commands()[done..])
 }
 
-/// Adds a character behind the last one, or behind the commands that come no later; and answers how
+/// Adds a character after the last one, or after the commands that come no later; and answers how
 /// many these are.
 fn push_character(
     sheet: &mut Vec<u8>,

@@ -54,7 +54,7 @@ impl<'a> Lines<'a> {
         first_line(self.rest).0
     }
 
-    /// Adds the line of this number, behind four blanks.
+    /// Adds the line of this number, after four blanks.
     pub fn push(&mut self, sheet: &mut Vec<u8>, number: u64) -> Result<(), AllocError>
         ensures text { OnOk result (sheet.new.items ≡ sheet.old.items ++ shown_line self.old number) }
         ensures same { self.new ≡ self.old }
@@ -79,7 +79,7 @@ fn found<'a>(text: &'a [u8], number: u64, rest: &'a [u8], wanted: u64) -> &'a [u
     }
 }
 
-/// What stands behind so many lines of a text.
+/// What stands after so many lines of a text.
 fn behind_lines(text: &[u8], count: u64) -> &[u8]
     ensures { lines_of result.now ≡ drop count (lines_of text.now) }
 {

@@ -123,7 +123,7 @@ fn push_source(sheet: &mut Vec<u8>, source: &Source) -> Result<(), AllocError>
     sheet.extend_from_slice(b", ")
 }
 
-/// The right, with a blank before it and blanks behind.
+/// The right, with a blank before it and blanks after it.
 fn right_word(right: Right) -> &'static [u8]
     ensures { result.now ≡ right_text right }
 {

@@ -16,7 +16,7 @@ pub struct Place {
 }
 
 /// The line, from 1, in which the rule of this number begins: a line that begins with `[[rule]]`
-/// behind blanks, or one with the brace of a table of `rule = [..]`. A policy that writes the key
+/// after blanks, or one with the brace of a table of `rule = [..]`. A policy that writes the key
 /// in another way has none.
 pub fn rule_line(text: &[u8], number: u32) -> Option<u64>
     ensures { result ≡ rule_line text.now number }
@@ -73,7 +73,7 @@ fn begins_array(line: &[u8]) -> bool
     begins_with(b"rule ", line) || begins_with(b"rule=", line) || begins_with(b"rule\t", line)
 }
 
-/// Whether a line begins with a word, behind blanks.
+/// Whether a line begins with a word, after blanks.
 fn begins_with(word: &[u8], line: &[u8]) -> bool
     ensures { result ≡ begins_with word.now line.now }
 {
@@ -107,7 +107,7 @@ pub fn toml_place(alloc: Global, text: &[u8]) -> Result<Option<Place>, OutOfMemo
     }
 }
 
-/// The place behind a text.
+/// The place after a text.
 fn place_behind(before: &[u8]) -> Place
     requires { length before.now ≤ 16777216 }
     ensures { result ≡ fold behind (record { line = 1; column = 1 }) before.now }

@@ -10,7 +10,7 @@ use Rattle.ds_log.specs.Sent.{AppendsPart}
 use Rattle.ds_log.proofs.Sends.{appends_both, part_behind, part_before}
 use Rattle.ds_drive.specs.Told.{told_line}
 
--- a text that stands behind nothing
+-- a text that stands after nothing
 pub behind_nothing : (text held before piece : List ℕ) → text ≡ held → held ≡ before ++ piece → before ≡ [] → text ≡ piece
 behind_nothing text held before piece same is none = same ∙ (is ∙ ap (λ (xs : List ℕ). xs ++ piece) none)
 
@@ -26,11 +26,11 @@ module _ {X : Type 0} (f : X → List ℕ) (xs : List X) where
       sym (flat_map-append f (take a xs) (take (b - a) (drop a xs)))
       ∙ ap (flat_map f) (sym (take-add a (b - a) xs) ∙ ap (λ (n : ℕ). take n xs) e)
 
-  -- those up to a place, and all behind it
+  -- those up to a place, and all after it
   lines_split : (n : ℕ) → flat_map f (take n xs) ++ flat_map f (drop n xs) ≡ flat_map f xs
   lines_split n = sym (flat_map-append f (take n xs) (drop n xs)) ∙ ap (flat_map f) (take-append-drop n xs)
 
-  -- of what stands behind a place, those up to another and the rest
+  -- of what stands after a place, those up to another and the rest
   lines_split_behind : (a m : ℕ) → flat_map f (take m (drop a xs)) ++ flat_map f (drop m (drop a xs)) ≡ flat_map f (drop a xs)
   lines_split_behind a m = sym (flat_map-append f (take m (drop a xs)) (drop m (drop a xs))) ∙ ap (flat_map f) (take-append-drop m (drop a xs))
 

@@ -12,7 +12,7 @@ fault_name fault = decimal (source_fault_number fault) ++ (codes " " ++ (source_
 abbrev pub fault_head : List ℕ → List ℕ → SourceFault → List ℕ
 fault_head front place fault = front ++ (fault_name fault ++ (place ++ codes " "))
 
--- behind that the number of the source's line
+-- after that the number of the source's line
 abbrev pub fault_line : List ℕ → List ℕ → SourceFault → List ℕ
 fault_line front place fault = fault_head front place fault ++ (decimal (source_fault_line fault) ++ codes "\n")
 

@@ -96,7 +96,7 @@ impl<'a> Refused<'a> {
         }
     }
 
-    /// A refusal of what is read behind the policy: of one of these sources, or of the input.
+    /// A refusal of what is read after the policy: of one of these sources, or of the input.
     pub(crate) fn of_texts(
         alloc: Global,
         fault: Fault,

@@ -11,7 +11,7 @@ pub appends_none : (a : Option (List ℕ)) → Appends a a []
 appends_none None = tt
 appends_none (Some xs) = sym (append-nil xs)
 
--- one text behind another
+-- one text after another
 pub appends_both : (a b d : Option (List ℕ)) (xs ys : List ℕ) → Appends a b xs → Appends b d ys → Appends a d (xs ++ ys)
 appends_both None b d xs ys p q = tt
 appends_both (Some xs0) None d xs ys p q = absurd p
@@ -29,7 +29,7 @@ appends_kept (Some xs0) (Some bs) (Some ds) xs p q = q ∙ p
 pub part_of_text : (old new : Option (List ℕ)) (text : List ℕ) (n : ℕ) → Appends old new (take n text) → AppendsPart old new text
 part_of_text old new text n a = record { part = take n text; rest = drop n text; whole = take-append-drop n text; appends = a }
 
--- what was sent, and a part of what is behind it
+-- what was sent, and a part of what is after it
 pub part_behind : (a b d : Option (List ℕ)) (before rest : List ℕ) → Appends a b before → AppendsPart b d rest → AppendsPart a d (before ++ rest)
 part_behind a b d before rest p q = record {
   part = before ++ q.part;
@@ -47,7 +47,7 @@ part_before a d piece behind q = record {
   appends = q.appends;
 }
 
--- the pieces before one, that piece, and those behind it
+-- the pieces before one, that piece, and those after it
 pub flat_map_at : {X : Type 0} (f : X → List ℕ) (xs : List X) (i : ℕ) (d : X) → i < length xs → flat_map f (take i xs) ++ (f (get_or xs i d) ++ flat_map f (drop (suc i) xs)) ≡ flat_map f xs
 flat_map_at f [] i d h = absurd (omega arith)
 flat_map_at f (x ∷ xs) zero d h = refl

@@ -1,4 +1,4 @@
--- What the words behind `run` name.
+-- What the words after `run` name.
 use Rattle.std.proofs.Common.{◌≡◌, ◌∙◌, ◌<◌, ◌^◌, ℕ, List, sym, ap, refl, subst, Bor}
 use Rattle.std.specs.Prelude.{Option, Some, None, Result, Ok, Err, option_map, is_some}
 use Rattle.std.specs.Str.Parse.{ParsesUnsigned}

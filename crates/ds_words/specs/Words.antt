@@ -67,7 +67,7 @@ abbrev pub IsNumber : ℕ → Option Text → ℕ → Type 0
 IsNumber bits None n = ⊥
 IsNumber bits (Some text) n = IsNumeral 10 (without_leading_plus text) × (digits_value 10 (without_leading_plus text) ≡ n) × (n < 2 ^ bits)
 
--- what stands behind `run` names the files and the numbers
+-- what stands after `run` names the files and the numbers
 pub record NamesRun (rows : List Row) (request : Request) : Type 0 where
   pub policy : first_of (codes "POLICY") rows ≡ Some request.policy.now
   pub input : first_of (codes "INPUT") rows ≡ Some request.input.now
@@ -81,7 +81,7 @@ pub record AsksForRun (words : List Text) (request : Request) : Type 0 where
   pub named : subcommand_of dsmon_app words ≡ Some (codes "run", rows)
   pub names : NamesRun rows request
 
--- what stands behind `list` names the file, and says whether it holds words
+-- what stands after `list` names the file, and says whether it holds words
 pub record NamesList (rows : List Row) (request : ListRequest) : Type 0 where
   pub file : first_of (codes "FILE") rows ≡ Some request.file.now
   pub words : one_of (codes "words") rows ≡ Some (codes "true") → request.words ≡ true
@@ -94,7 +94,7 @@ pub record AsksForList (words : List Text) (request : ListRequest) : Type 0 wher
   pub named : subcommand_of dsmon_app words ≡ Some (codes "list", rows)
   pub names : NamesList rows request
 
--- what stands behind `check` names the policy, and the input where one is wanted
+-- what stands after `check` names the policy, and the input where one is wanted
 pub record NamesCheck (rows : List Row) (request : CheckRequest) : Type 0 where
   pub policy : first_of (codes "POLICY") rows ≡ Some request.policy.now
   pub input : first_of (codes "INPUT") rows ≡ option_map (λ s. s.now) request.input

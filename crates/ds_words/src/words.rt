@@ -281,7 +281,7 @@ fn read_words<'a>(alloc: Global, words: &'a [String]) -> Result<ArgMatches<'a>, 
     command(alloc)?.try_get_matches_from(words)
 }
 
-/// What the words behind `run` ask for.
+/// What the words after `run` ask for.
 fn request_of<'a>(found: &ArgMatches<'a>) -> Option<Request<'a>>
     ensures some { IfSome result (λ request. NamesRun (rows_of (found_of found.now)) request) }
     ensures none { result ≡ None → (request : Request) → ¬ NamesRun (rows_of (found_of found.now)) request }
@@ -294,7 +294,7 @@ fn request_of<'a>(found: &ArgMatches<'a>) -> Option<Request<'a>>
     })
 }
 
-/// What the words behind `list` ask for.
+/// What the words after `list` ask for.
 fn list_request_of<'a>(found: &ArgMatches<'a>) -> Option<ListRequest<'a>>
     ensures some { IfSome result (λ request. NamesList (rows_of (found_of found.now)) request) }
     ensures none { result ≡ None → (request : ListRequest) → ¬ NamesList (rows_of (found_of found.now)) request }
@@ -305,7 +305,7 @@ fn list_request_of<'a>(found: &ArgMatches<'a>) -> Option<ListRequest<'a>>
     })
 }
 
-/// What the words behind `check` ask for.
+/// What the words after `check` ask for.
 fn check_request_of<'a>(found: &ArgMatches<'a>) -> Option<CheckRequest<'a>>
     ensures some { IfSome result (λ request. NamesCheck (rows_of (found_of found.now)) request) }
     ensures none { result ≡ None → (request : CheckRequest) → ¬ NamesCheck (rows_of (found_of found.now)) request }
