@@ -50,7 +50,7 @@ first_letter_of (Some t) = slice_index t 0
 abbrev name_in : Option (Text × List Row) → Option Text
 name_in named = option_map (λ p. p.0) named
 
--- words that name this command ask for what stands behind it, and for nothing else
+-- words that name this command ask for what stands after it, and for nothing else
 pub asks_run : (words : List Text) (rows : List Row) → subcommand_of dsmon_app words ≡ Some (codes "run", rows)
     → ((request : Request) → NamesRun rows request → ⊥) → AsksForSomething words → ⊥
 asks_run words rows named none (inl demo) = let e : 114 ≡ 100 = ap first_letter_of (sym (ap name_in named) ∙ demo.named) in omega (arith, e)
