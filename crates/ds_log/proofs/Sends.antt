@@ -1,10 +1,10 @@
 -- Writes one after another: what goes out is the text, or a prefix of it.
-use Rattle.std.proofs.Common.{◌≡◌, ℕ, ◌+◌, ◌<◌, List, [], ◌∷◌, ◌++◌, take, drop, length, refl, sym, ◌∙◌, ap, subst, arith, append_assoc, append-nil, get_or, suc, zero}
+use Rattle.std.proofs.Common.{◌≡◌, ℕ, ◌+◌, ◌<◌, List, [], ◌∷◌, ◌++◌, take, drop, length, refl, sym, ◌∙◌, ap, subst, arith, append_assoc, append-nil, get_or, suc, zero, Bool, true, false, ◌||◌}
 use Rattle.std.proofs.lemmas.List.{take-append-drop}
 use Rattle.std.specs.Prelude.{Option, Some, None, flat_map, Result, Ok, Err, OnOk, OnErr}
 use Rattle.std.specs.Io.KnownBytes.{Appends, Keeps}
 use Rattle.std.proofs.Math.Seq.{take-add}
-use Rattle.ds_log.specs.Sent.{AppendsPart}
+use Rattle.ds_log.specs.Sent.{Answers, AppendsPart, HasAnswered, IsAskedOnce}
 
 -- nothing was written
 pub appends_none : (a : Option (List ℕ)) → Appends a a []
@@ -81,3 +81,23 @@ ok_gives (Err e) f p = tt
 pub err_gives : {T E P Q : Type 0} (r : Result T E) → (P → Q) → OnErr r P → OnErr r Q
 err_gives (Ok x) f p = tt
 err_gives (Err e) f p = f p
+
+or_false : (b : Bool) → (b || false) ≡ b
+or_false true = refl
+or_false false = refl
+
+-- a place that had not ended took something
+pub asked_more : (a b d : Option Answers) (nothing : Bool) → IsAskedOnce a b false → nothing ≡ false → HasAnswered b d nothing → IsAskedOnce a d false
+asked_more None b d nothing p e q = tt
+asked_more (Some x) None d nothing p e q = absurd p
+asked_more (Some x) (Some y) None nothing p e q = q
+asked_more (Some x) (Some y) (Some z) nothing p e q =
+    λ going. (q.0 ∙ rw ((p going).0, e) refl, q.1 ∙ rw ((p going).0) (ap (λ (l : Bool). l || false) (p going).1 ∙ or_false x.asked_later))
+
+-- and at last it took nothing
+pub asked_last : (a b d : Option Answers) (nothing : Bool) → IsAskedOnce a b false → nothing ≡ true → HasAnswered b d nothing → IsAskedOnce a d true
+asked_last None b d nothing p e q = tt
+asked_last (Some x) None d nothing p e q = absurd p
+asked_last (Some x) (Some y) None nothing p e q = q
+asked_last (Some x) (Some y) (Some z) nothing p e q =
+    λ going. (q.0 ∙ rw ((p going).0, e) refl, q.1 ∙ rw ((p going).0) (ap (λ (l : Bool). l || false) (p going).1 ∙ or_false x.asked_later))

@@ -1,8 +1,10 @@
 //! Bytes on their way to a writer: all of them, or a prefix of them and a failure.
-ghost use Rattle.std.specs.Prelude.{OnOk, OnErr, flat_map};
-ghost use Rattle.std.specs.Io.KnownBytes.{Appends};
-ghost use Rattle.ds_log.specs.Sent.{AppendsPart};
+ghost use Rattle.std.specs.Prelude.{ℕ, List, Option, None, OnOk, OnErr, flat_map, is_err};
+ghost use Rattle.std.specs.Io.{WritesAtMost};
+ghost use Rattle.std.specs.Io.KnownBytes.{Appends, WriteAppends};
+ghost use Rattle.ds_log.specs.Sent.{Answers, AppendsPart, HasAnswered, IsAskedOnce, takes_nothing};
 
+use std::io;
 use std::io::Write;
 use thiserror::Error;
 
@@ -11,21 +13,55 @@ use thiserror::Error;
 #[error("the text could not be written")]
 pub struct WriteFailed;
 
-/// Hands bytes to the writer, in as many writes as it takes. Where a write fails, or takes nothing, it
-/// is `WriteFailed`, and the writer has taken a prefix of them.
-pub fn send<W: Write>(out: &mut W, text: &[u8]) -> Result<(), WriteFailed>
-    ensures ok { OnOk result (Appends (W.contents out.old) (W.contents out.new) text.now) }
-    ensures err { OnErr result (AppendsPart (W.contents out.old) (W.contents out.new) text.now) }
+/// A place that bytes go to. Each writer is one. A type of another kind may count its answers too, and
+/// of it a contract says that it is not asked again once it took nothing.
+pub trait Output {
+    /// The bytes that it holds, where they are known.
+    ghost contents: { Self → Option (List ℕ) } = { λ _. None };
+
+    /// What it has answered so far, where its answers are counted.
+    ghost answers: { Self → Option Answers } = { λ _. None };
+
+    /// Takes some of these bytes, from the first on, and answers how many.
+    fn take(&mut self, bytes: &[u8]) -> io::Result<usize>
+        ensures bound { WritesAtMost result bytes.now }
+        ensures bytes { WriteAppends (contents self.old) (contents self.new) result bytes.now }
+        ensures counted { HasAnswered (answers self.old) (answers self.new) (takes_nothing result) };
+}
+
+impl<W: Write> Output for W {
+    ghost contents = { λ w. W.contents w };
+
+    fn take(&mut self, bytes: &[u8]) -> io::Result<usize> {
+        Write::write(self, bytes)
+    }
+}
+
+/// Hands bytes to a place, in as many turns as it takes. Where it answers by an error, or takes nothing,
+/// it is `WriteFailed`: the place has taken a prefix of them, and was not asked again.
+pub fn hand<O: Output>(out: &mut O, text: &[u8]) -> Result<(), WriteFailed>
+    ensures ok { OnOk result (Appends (O.contents out.old) (O.contents out.new) text.now) }
+    ensures err { OnErr result (AppendsPart (O.contents out.old) (O.contents out.new) text.now) }
+    ensures once { IsAskedOnce (O.answers out.old) (O.answers out.new) (is_err result) }
 {
     let mut sent = 0;
     while sent < text.len() {
-        match out.write(&text[sent..]) {
+        match out.take(&text[sent..]) {
             Ok(0) => return Err(WriteFailed),
             Ok(n) => sent += n,
             Err(_) => return Err(WriteFailed),
         }
     }
     Ok(())
+}
+
+/// Hands bytes to the writer, in as many writes as it takes. Where a write fails, or takes nothing, it
+/// is `WriteFailed`, and the writer has taken a prefix of them.
+pub fn send<W: Write>(out: &mut W, text: &[u8]) -> Result<(), WriteFailed>
+    ensures ok { OnOk result (Appends (W.contents out.old) (W.contents out.new) text.now) }
+    ensures err { OnErr result (AppendsPart (W.contents out.old) (W.contents out.new) text.now) }
+{
+    hand(out, text)
 }
 
 /// Hands the pieces of a text to the writer, one after another.
