@@ -12,13 +12,6 @@ use Rattle.ds_drive.specs.Checked.{Explains, CutsExplanation}
 use Rattle.ds_drive.specs.Listed.{ListsFile, CutsListing}
 use Rattle.ds_words.specs.Words.{AsksForDemo, AsksForRun, AsksForList, AsksForCheck}
 
--- the words ask for the demonstration, for a run of files, for a listing or for a check
-abbrev pub AsksForSomething : List Text → Type 0
-AsksForSomething words =
-    AsksForDemo words ⊎ (((request : Request) × AsksForRun words request)
-    ⊎ (((request : ListRequest) × AsksForList words request)
-    ⊎ ((request : CheckRequest) × AsksForCheck words request)))
-
 -- what the words ask for was run, listed or explained, and its text is written
 abbrev pub IsDone : List Text → (List ℕ → List ℕ → Type 0) → Option (List ℕ) → Option (List ℕ) → Type 0
 IsDone words holds old new =

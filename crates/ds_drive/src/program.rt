@@ -1,10 +1,10 @@
 //! The whole program, which takes its words, files and streams from its caller.
 ghost use Rattle.std.specs.Prelude.{◌≡◌, ◌≢◌, ◌≤◌, ◌⊎◌, ◌∷◌, List, [], ℕ, codes, map, string_bytes};
 ghost use Rattle.std.specs.Io.KnownBytes.{Keeps};
-ghost use Rattle.ds_drive.specs.Done.{AsksForSomething, IsCutShort, IsDone};
+ghost use Rattle.ds_drive.specs.Done.{IsCutShort, IsDone};
 ghost use Rattle.ds_drive.specs.Failures.{failure_number};
 ghost use Rattle.ds_drive.specs.Statuses.{fault_status};
-ghost use Rattle.ds_words.specs.Words.{AsksForDemo};
+ghost use Rattle.ds_words.specs.Words.{AsksForSomething};
 
 use crate::check::check_files;
 use crate::demo::run_demo;
@@ -32,7 +32,7 @@ pub fn drive<F: Files, W: Write, E: Write>(
 ) -> u8
     ensures range { result ≤ 3 }
     ensures asked { (result ≡ 0) ⊎ (result ≡ 2) → AsksForSomething (map string_bytes words.now) }
-    ensures taken { AsksForDemo (map string_bytes words.now) → result ≢ 1 }
+    ensures taken { AsksForSomething (map string_bytes words.now) → result ≢ 1 }
     ensures alone { (program : List ℕ) → map string_bytes words.now ≡ program ∷ codes "demo" ∷ []
         → result ≢ 1 }
     ensures refused { result ≡ 1 → W.contents out.new ≡ W.contents out.old }

@@ -1,4 +1,4 @@
-use Rattle.std.proofs.Common.{◌≡◌, ◌∙◌, List, ℕ, map, ap, rules}
+use Rattle.std.proofs.Common.{◌∙◌, map, ap, rules}
 use Rattle.ds_station.specs.Headline.{sources_seen}
 use Rattle.ds_drive.specs.declared.run.SourceText.{SourceText}
 use Rattle.ds_drive.proofs.HeldFiles.{all_held, names_held, input_kept, begins_over}
