@@ -1,5 +1,5 @@
 -- What is left on the writer where a run is refused or cut short.
-use Rattle.std.proofs.Common.{◌≡◌, ◌⊎◌, inl, inr, ℕ, List, [], append-nil}
+use Rattle.std.proofs.Common.{◌⊎◌, inl, inr, ℕ, List, [], append-nil}
 use Rattle.std.specs.Prelude.{Option, Result}
 use Rattle.std.specs.Io.KnownBytes.{Keeps}
 use Rattle.clap.specs.Words.{Text}
@@ -18,7 +18,7 @@ use Rattle.ds_words.specs.declared.words.Request.{Request}
 use Rattle.ds_drive.specs.Demo.{demo_inputs}
 use Rattle.ds_drive.specs.Done.{IsCutShort}
 use Rattle.ds_drive.specs.Failures.{CutsFiles, IsUnread, StopsBy}
-use Rattle.ds_drive.specs.Checked.{CutsExplanation}
+use Rattle.ds_drive.specs.Checked.{ChecksBy}
 use Rattle.ds_drive.specs.Listed.{FailsBy}
 use Rattle.ds_words.specs.Words.{AsksForDemo, AsksForRun, AsksForList, AsksForCheck}
 
@@ -41,12 +41,12 @@ cut_by fault.Failed read old new n w = absurd w
 cut_by f read old new n w = inl w.1
 
 -- of a run of files
-files_cut_by : (f : Failure) (holds : List ℕ → List ℕ → Type 0) (request : Request) (old new : Option (List ℕ)) → StopsBy f holds request old new
+files_cut_by : (f : Failure) (holds : List ℕ → List ℕ → Type 0) (lacks : List ℕ → Type 0) (request : Request) (old new : Option (List ℕ)) → StopsBy f holds lacks request old new
     → Keeps old new ⊎ CutsFiles holds request old new
-files_cut_by (failure.UnreadableFile name) holds request old new kept = inl kept
-files_cut_by (failure.UnreadableSource name) holds request old new kept = inl kept
-files_cut_by (failure.Fault f) holds request old new (inl kept) = inl kept
-files_cut_by (failure.Fault f) holds request old new (inr stops) =
+files_cut_by (failure.UnreadableFile name) holds lacks request old new stops = inl stops.2
+files_cut_by (failure.UnreadableSource name) holds lacks request old new stops = inl stops.2
+files_cut_by (failure.Fault f) holds lacks request old new (inl memory) = inl memory.1
+files_cut_by (failure.Fault f) holds lacks request old new (inr stops) =
     elim (cut_by f (inputs stops.policy stops.sources stops.input request.most_time request.random) old new request.most_time stops.so) [
       | inl kept ↦ inl kept
       | inr cut ↦ inr (record { policy = stops.policy; sources = stops.sources; input = stops.input; held = stops.held; so = cut })
@@ -64,27 +64,27 @@ demo_cut words holds f old new asks ends = elim (cut_by f demo_inputs old new 10
 ]
 
 -- a failure of a run of files
-pub run_cut : (words : List Text) (holds : List ℕ → List ℕ → Type 0) (request : Request) (f : Failure) (old new : Option (List ℕ)) → AsksForRun words request → StopsBy f holds request old new → IsCutShort words holds old new
-run_cut words holds request f old new asks stops = elim (files_cut_by f holds request old new stops) [
+pub run_cut : (words : List Text) (holds : List ℕ → List ℕ → Type 0) (lacks : List ℕ → Type 0) (request : Request) (f : Failure) (old new : Option (List ℕ)) → AsksForRun words request → StopsBy f holds lacks request old new → IsCutShort words holds old new
+run_cut words holds lacks request f old new asks stops = elim (files_cut_by f holds lacks request old new stops) [
   | inl kept ↦ inl kept
   | inr cut ↦ inr (inr (inl (request, asks, cut)))
 ]
 
 -- a failure of a listing
-pub list_cut : (words : List Text) (holds : List ℕ → List ℕ → Type 0) (request : ListRequest) (f : Failure) (old new : Option (List ℕ)) → AsksForList words request → FailsBy f holds request old new → IsCutShort words holds old new
-list_cut words holds request (failure.Fault fault.WriteFault) old new asks cut = inr (inr (inr (inl (request, asks, cut))))
-list_cut words holds request (failure.Fault fault.Memory) old new asks kept = inl kept
-list_cut words holds request (failure.UnreadableFile name) old new asks kept = inl kept
-list_cut words holds request f old new asks none = absurd none
+pub list_cut : (words : List Text) (holds : List ℕ → List ℕ → Type 0) (lacks : List ℕ → Type 0) (request : ListRequest) (f : Failure) (old new : Option (List ℕ)) → AsksForList words request → FailsBy f holds lacks request old new → IsCutShort words holds old new
+list_cut words holds lacks request (failure.Fault fault.WriteFault) old new asks cut = inr (inr (inr (inl (request, asks, cut))))
+list_cut words holds lacks request (failure.Fault fault.Memory) old new asks kept = inl kept
+list_cut words holds lacks request (failure.UnreadableFile name) old new asks unread = inl unread.2
+list_cut words holds lacks request f old new asks none = absurd none
 
 -- where the file was not read, nothing is written
-pub unread_keeps : (holds : List ℕ → List ℕ → Type 0) (request : ListRequest) (f : Failure) (known : Option (List ℕ)) → IsUnread f → FailsBy f holds request known known
-unread_keeps holds request (failure.UnreadableFile name) known unread = keeps_same known
-unread_keeps holds request (failure.Fault fault.Memory) known unread = keeps_same known
-unread_keeps holds request f known none = absurd none
+pub unread_keeps : (holds : List ℕ → List ℕ → Type 0) (lacks : List ℕ → Type 0) (request : ListRequest) (f : Failure) (known : Option (List ℕ)) → IsUnread lacks request.file.now f → FailsBy f holds lacks request known known
+unread_keeps holds lacks request (failure.UnreadableFile name) known unread = (unread.0, unread.1, keeps_same known)
+unread_keeps holds lacks request (failure.Fault fault.Memory) known unread = keeps_same known
+unread_keeps holds lacks request f known none = absurd none
 
 -- a check that was refused, or whose text did not go out whole
-pub check_cut : (words : List Text) (holds : List ℕ → List ℕ → Type 0) (request : CheckRequest) (n : ℕ) (old new : Option (List ℕ)) → AsksForCheck words request
-    → Keeps old new ⊎ ((n ≡ 23) × CutsExplanation holds request old new) → IsCutShort words holds old new
-check_cut words holds request n old new asks (inl kept) = inl kept
-check_cut words holds request n old new asks (inr cut) = inr (inr (inr (inr (request, asks, cut.1))))
+pub check_cut : (words : List Text) (holds : List ℕ → List ℕ → Type 0) (lacks : List ℕ → Type 0) (request : CheckRequest) (f : Failure) (old new : Option (List ℕ)) → AsksForCheck words request
+    → ChecksBy f holds lacks request old new → IsCutShort words holds old new
+check_cut words holds lacks request f old new asks (inl refused) = inl refused.1
+check_cut words holds lacks request f old new asks (inr cut) = inr (inr (inr (inr (request, asks, cut.1))))

@@ -25,7 +25,8 @@ abbrev value_or : PolicyValue → Result PolicyValue PolicyRefusal → PolicyVal
 value_or other (Ok value) = value
 value_or other (Err e) = other
 
-same_value : (read : Result PolicyValue PolicyRefusal) (a b : PolicyValue) → read ≡ Ok a → read ≡ Ok b → a ≡ b
+-- a text has one value
+pub same_value : (read : Result PolicyValue PolicyRefusal) (a b : PolicyValue) → read ≡ Ok a → read ≡ Ok b → a ≡ b
 same_value read a b x y = ap (value_or a) (sym x ∙ y)
 
 -- the sources as they were read

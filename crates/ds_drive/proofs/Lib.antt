@@ -1,3 +1,4 @@
 pub mod Cuts
 pub mod HeldFiles
+pub mod Stops
 pub mod Tellings

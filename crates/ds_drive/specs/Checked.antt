@@ -1,14 +1,19 @@
 -- What a check of a policy explains, and what is left where it refuses.
-use Rattle.std.specs.Prelude.{◌≡◌, ℕ, List, [], Option, None, Some, Ok, All, map}
+use Rattle.std.specs.Prelude.{◌≡◌, ◌⊎◌, ℕ, List, [], Option, None, Some, Result, Ok, All, map}
 use Rattle.std.specs.Borrow.{Bor}
-use Rattle.std.specs.Io.KnownBytes.{Appends}
+use Rattle.std.specs.Io.KnownBytes.{Appends, Keeps}
 use Rattle.ds_policy.specs.PolicyText.{policy_of}
 use Rattle.ds_policy.specs.PolicyParts.{sources_of}
 use Rattle.ds_policy.specs.InputText.{input_of}
 use Rattle.ds_policy.specs.Value.{PolicyValue, InputValue}
 use Rattle.ds_log.specs.Sent.{AppendsPart}
 use Rattle.ds_pagemap.specs.Machine.{State}
-use Rattle.ds_pagemap.specs.Inputs.{Sources, inputs}
+use Rattle.ds_pagemap.specs.Inputs.{Refusal, Sources, inputs}
+use Rattle.ds_station.specs.Headline.{EndsBy}
+use Rattle.ds_station.specs.declared.fault.Fault.TheVariants as fault
+use Rattle.ds_drive.specs.declared.failure.Failure.{Failure}
+use Rattle.ds_drive.specs.declared.failure.Failure.TheVariants as failure
+use Rattle.ds_drive.specs.Failures.{IsUnread, NamesSource}
 use Rattle.ds_check.specs.Explained.{explained}
 use Rattle.ds_words.specs.declared.words.CheckRequest.{CheckRequest}
 
@@ -46,3 +51,35 @@ Explains holds request old new = OfGood holds request (λ text. Appends old new 
 -- a front of it is written
 abbrev pub CutsExplanation : (List ℕ → List ℕ → Type 0) → CheckRequest → Option (List ℕ) → Option (List ℕ) → Type 0
 CutsExplanation holds request old new = OfGood holds request (λ text. AppendsPart old new text)
+
+-- the file of the input was not read
+abbrev pub IsUnreadInput : (List ℕ → Type 0) → Option (Bor (List ℕ)) → Failure → Type 0
+IsUnreadInput lacks None f = ⊥
+IsUnreadInput lacks (Some name) f = IsUnread lacks name.now f
+
+-- of a policy, its sources and an input, each as its file holds it, read as a run for no ticks reads them, this holds
+pub record OfChecked (holds : List ℕ → List ℕ → Type 0) (request : CheckRequest) (P : Result State Refusal → Type 0) : Type 0 where
+  pub policy : List ℕ
+  pub sources : Sources
+  pub input : List ℕ
+  pub policy_held : holds request.policy.now policy
+  pub input_held : IsInput holds request.input input
+  pub sources_held : All (λ s. holds s.0 s.1) sources
+  pub sources_named : (value : PolicyValue) → policy_of policy ≡ Ok value → map (λ s. s.0) sources ≡ sources_of value.pages
+  pub so : P (inputs policy sources input 0 63)
+
+-- this name is that of the policy, or of the input where one is named
+abbrev pub IsNamed : CheckRequest → List ℕ → Type 0
+IsNamed request name = (name ≡ request.policy.now) ⊎ ((input : Bor (List ℕ)) × (request.input ≡ Some input) × (name ≡ input.now))
+
+-- why each failure comes before anything is explained: want of memory, a file that is not read, or the fault by which a run for no ticks ends
+abbrev pub RefusesCheck : Failure → (List ℕ → List ℕ → Type 0) → (List ℕ → Type 0) → CheckRequest → Type 0
+RefusesCheck (failure.UnreadableFile name) holds lacks request = IsNamed request name.now × lacks name.now
+RefusesCheck (failure.UnreadableSource name) holds lacks request = NamesSource holds request.policy.now name × lacks name
+RefusesCheck (failure.Fault f) holds lacks request = (f ≡ fault.Memory) ⊎ OfChecked holds request (λ read. EndsBy f read None None 0)
+
+-- and what it leaves: nothing, or a front of what is explained where the writer failed
+abbrev pub ChecksBy : Failure → (List ℕ → List ℕ → Type 0) → (List ℕ → Type 0) → CheckRequest → Option (List ℕ) → Option (List ℕ) → Type 0
+ChecksBy f holds lacks request old new =
+    (RefusesCheck f holds lacks request × Keeps old new)
+    ⊎ ((f ≡ failure.Fault fault.WriteFault) × CutsExplanation holds request old new)

@@ -1,5 +1,5 @@
 -- Why the program could not do what its words ask for, and what was written then.
-use Rattle.std.specs.Prelude.{◌≡◌, ◌⊎◌, ℕ, List, map, Option, Result, Ok, All, ⊤}
+use Rattle.std.specs.Prelude.{◌≡◌, ◌⊎◌, ℕ, List, map, Option, Result, Ok, All, Contains, ⊤}
 use Rattle.std.specs.Io.KnownBytes.{Keeps}
 use Rattle.ds_policy.specs.PolicyText.{policy_of}
 use Rattle.ds_policy.specs.PolicyParts.{sources_of}
@@ -24,11 +24,25 @@ failure_number (failure.Fault fault) = number_of fault
 abbrev pub memory_failure : Failure
 memory_failure = failure.Fault Memory
 
--- a file that the words name was not read
-abbrev pub IsUnread : Failure → Type 0
-IsUnread (failure.UnreadableFile name) = ⊤
-IsUnread (failure.Fault Memory) = ⊤
-IsUnread f = ⊥
+-- the file of this name, which the words name, was not read: it is lacking, or memory ran out
+abbrev pub IsUnread : (List ℕ → Type 0) → List ℕ → Failure → Type 0
+IsUnread lacks name (failure.UnreadableFile told) = (told.now ≡ name) × lacks name
+IsUnread lacks name (failure.Fault Memory) = ⊤
+IsUnread lacks name f = ⊥
+
+-- the file of one of these sources was not read
+abbrev pub AreUnread : (List ℕ → Type 0) → List (List ℕ) → Failure → Type 0
+AreUnread lacks names (failure.UnreadableSource told) = Contains names told × lacks told
+AreUnread lacks names (failure.Fault Memory) = ⊤
+AreUnread lacks names f = ⊥
+
+-- the policy that this file holds names this source
+pub record NamesSource (holds : List ℕ → List ℕ → Type 0) (file name : List ℕ) : Type 0 where
+  pub policy : List ℕ
+  pub value : PolicyValue
+  pub held : holds file policy
+  pub read : policy_of policy ≡ Ok value
+  pub among : Contains (sources_of value.pages) name
 
 -- a policy, the sources that it names and an input, each as its file holds it
 pub record AreHeld (holds : List ℕ → List ℕ → Type 0) (request : Request) (policy : List ℕ) (sources : Sources) (input : List ℕ) : Type 0 where
@@ -57,8 +71,8 @@ StopsFiles fault holds request old new = OfHeld holds request (λ read. EndsBy f
 abbrev pub CutsFiles : (List ℕ → List ℕ → Type 0) → Request → Option (List ℕ) → Option (List ℕ) → Type 0
 CutsFiles holds request old new = OfHeld holds request (λ read. Begins read (WritesPart old new request.most_time))
 
--- what each failure leaves: nothing is written before all files are read
-abbrev pub StopsBy : Failure → (List ℕ → List ℕ → Type 0) → Request → Option (List ℕ) → Option (List ℕ) → Type 0
-StopsBy (failure.UnreadableFile name) holds request old new = Keeps old new
-StopsBy (failure.UnreadableSource name) holds request old new = Keeps old new
-StopsBy (failure.Fault fault) holds request old new = Keeps old new ⊎ StopsFiles fault holds request old new
+-- why each failure comes, and what it leaves: nothing is written before all files are read, and without a run want of memory alone is told of as a fault
+abbrev pub StopsBy : Failure → (List ℕ → List ℕ → Type 0) → (List ℕ → Type 0) → Request → Option (List ℕ) → Option (List ℕ) → Type 0
+StopsBy (failure.UnreadableFile name) holds lacks request old new = ((name.now ≡ request.policy.now) ⊎ (name.now ≡ request.input.now)) × lacks name.now × Keeps old new
+StopsBy (failure.UnreadableSource name) holds lacks request old new = NamesSource holds request.policy.now name × lacks name × Keeps old new
+StopsBy (failure.Fault fault) holds lacks request old new = ((fault ≡ Memory) × Keeps old new) ⊎ StopsFiles fault holds request old new

@@ -55,9 +55,9 @@ abbrev pub Lists : Listing → (List ℕ → List ℕ → Type 0) → ListReques
 Lists listing.Written holds request old new = ListsFile holds request old new
 Lists (listing.Faults faults) holds request old new = HasFaults holds request faults.items × Keeps old new
 
--- what each failure leaves
-abbrev pub FailsBy : Failure → (List ℕ → List ℕ → Type 0) → ListRequest → Option (List ℕ) → Option (List ℕ) → Type 0
-FailsBy (failure.Fault fault.WriteFault) holds request old new = CutsListing holds request old new
-FailsBy (failure.Fault fault.Memory) holds request old new = Keeps old new
-FailsBy (failure.UnreadableFile name) holds request old new = Keeps old new
-FailsBy f holds request old new = ⊥
+-- why each failure comes, and what it leaves
+abbrev pub FailsBy : Failure → (List ℕ → List ℕ → Type 0) → (List ℕ → Type 0) → ListRequest → Option (List ℕ) → Option (List ℕ) → Type 0
+FailsBy (failure.Fault fault.WriteFault) holds lacks request old new = CutsListing holds request old new
+FailsBy (failure.Fault fault.Memory) holds lacks request old new = Keeps old new
+FailsBy (failure.UnreadableFile name) holds lacks request old new = (name.now ≡ request.file.now) × lacks request.file.now × Keeps old new
+FailsBy f holds lacks request old new = ⊥

@@ -1,9 +1,7 @@
 //! A policy, its sources and an input checked and explained.
 ghost use Rattle.std.specs.Prelude.{◌≡◌, ◌⊎◌, ◌<◌, ℕ, List, IfErr, IfOk, OnOk, OnErr};
 ghost use Rattle.std.specs.Io.KnownBytes.{Keeps};
-ghost use Rattle.ds_drive.specs.Checked.{AreGood, CutsExplanation, Explains, IsInput};
-ghost use Rattle.ds_drive.specs.Failures.{failure_number};
-ghost use Rattle.ds_drive.specs.Statuses.{fault_status};
+ghost use Rattle.ds_drive.specs.Checked.{AreGood, ChecksBy, Explains, IsInput, RefusesCheck, IsUnreadInput};
 
 use crate::failure::Failure;
 use crate::files::Files;
@@ -32,8 +30,10 @@ fn input_of<'a, F: Files>(
     name: Option<&'a str>,
 ) -> Result<Vec<u8>, Failure<'a>>
     ensures found { IfOk result (λ bytes. IsInput (F.holds files.old) name.entry bytes.items) }
+    ensures unread { IfErr result (IsUnreadInput (F.lacks files.old) name.entry) }
     ensures kept { (file bytes : List ℕ) → F.holds files.new file bytes
         → F.holds files.old file bytes }
+    ensures lacked { (file : List ℕ) → F.lacks files.new file → F.lacks files.old file }
 {
     match name {
         Some(name) => named_file(alloc, files, name),
@@ -42,6 +42,8 @@ fn input_of<'a, F: Files>(
 }
 
 /// Reads the policy, the input and each source, as a run would, and answers what a run would refuse.
+/// Once a run of no ticks has taken the input, only want of memory refuses it.
+#[tactic(auto, using(crate::proofs::Stops::check_unread, crate::proofs::Stops::check_input_unread, crate::proofs::Stops::check_source_unread, crate::proofs::Stops::refuses_policy, crate::proofs::Stops::ends_anyhow))]
 fn read_good<'a, F: Files>(
     alloc: Global,
     request: &CheckRequest<'a>,
@@ -49,8 +51,11 @@ fn read_good<'a, F: Files>(
 ) -> Result<Good, Refused<'a>>
     ensures good { IfOk result (λ good. AreGood (F.holds files.old) request.now
         good.policy good.input.items good.events) }
+    ensures refused { IfErr result (λ r. RefusesCheck r.failure (F.holds files.old)
+        (F.lacks files.old) request.now) }
     ensures kept { (file bytes : List ℕ) → F.holds files.new file bytes
         → F.holds files.old file bytes }
+    ensures lacked { (file : List ℕ) → F.lacks files.new file → F.lacks files.old file }
 {
     let text = named_file(alloc, files, request.policy)?;
     let input = input_of(alloc, files, request.input)?;
@@ -81,7 +86,7 @@ fn read_good<'a, F: Files>(
             input,
             events,
         }),
-        Err(fault) => Err(Refused::from(Failure::Fault(Fault::from(fault)))),
+        Err(_) => Err(Refused::from(Failure::Fault(Fault::Memory))),
     }
 }
 
@@ -95,11 +100,11 @@ pub fn check_files<'a, F: Files, W: Write>(
 ) -> Result<(), Refused<'a>>
     ensures ok { OnOk result (Explains (F.holds files.old) request.now
         (W.contents out.old) (W.contents out.new)) }
-    ensures err { IfErr result (λ f. Keeps (W.contents out.old) (W.contents out.new)
-        ⊎ ((failure_number f.failure ≡ 23) × CutsExplanation (F.holds files.old) request.now
-        (W.contents out.old) (W.contents out.new))) }
+    ensures err { IfErr result (λ r. ChecksBy r.failure (F.holds files.old) (F.lacks files.old)
+        request.now (W.contents out.old) (W.contents out.new)) }
     ensures kept { (file bytes : List ℕ) → F.holds files.new file bytes
         → F.holds files.old file bytes }
+    ensures lacked { (file : List ℕ) → F.lacks files.new file → F.lacks files.old file }
 {
     let Good {
         policy,

@@ -24,12 +24,17 @@ pub trait Files {
     /// The file of this name may be read as these bytes, now or later.
     ghost holds: { Self → List ℕ → List ℕ → Type 0 } = { λ _ _ _. ⊤ };
 
+    /// The file of this name may be found unreadable, now or later.
+    ghost lacks: { Self → List ℕ → Type 0 } = { λ _ _. ⊤ };
+
     /// The bytes of the file of this name.
     fn read(&mut self, alloc: Global, name: &str) -> Result<Vec<u8>, FileFault>
         ensures limit { IfOk result (λ bytes. vec_len bytes ≤ 16777216) }
         ensures found { IfOk result (λ bytes. holds self.old name.now bytes.items) }
+        ensures unread { result ≡ Err FileFault.Unreadable → lacks self.old name.now }
         ensures kept { (file bytes : List ℕ) → holds self.new file bytes
-            → holds self.old file bytes };
+            → holds self.old file bytes }
+        ensures lacked { (file : List ℕ) → lacks self.new file → lacks self.old file };
 }
 
 /// The files of the system.

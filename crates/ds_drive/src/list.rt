@@ -48,10 +48,11 @@ pub fn list_file<'a, F: Files, W: Write>(
 ) -> Result<Listing, Failure<'a>>
     ensures ok { IfOk result (λ came. Lists came (F.holds files.old) request.now
         (W.contents out.old) (W.contents out.new)) }
-    ensures err { IfErr result (λ f. FailsBy f (F.holds files.old) request.now
+    ensures err { IfErr result (λ f. FailsBy f (F.holds files.old) (F.lacks files.old) request.now
         (W.contents out.old) (W.contents out.new)) }
     ensures kept { (file bytes : List ℕ) → F.holds files.new file bytes
         → F.holds files.old file bytes }
+    ensures lacked { (file : List ℕ) → F.lacks files.new file → F.lacks files.old file }
 {
     let bytes = named_file(alloc, files, request.file)?;
     match listed(alloc, request.words, &bytes)? {

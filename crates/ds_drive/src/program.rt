@@ -1,7 +1,7 @@
 //! The whole program, which takes its words, files and streams from its caller.
 ghost use Rattle.std.specs.Prelude.{◌≡◌, ◌≢◌, ◌≤◌, ◌⊎◌, ◌∷◌, List, [], ℕ, codes, map, string_bytes};
 ghost use Rattle.std.specs.Io.KnownBytes.{Keeps};
-ghost use Rattle.ds_drive.specs.Done.{IsCutShort, IsDone};
+ghost use Rattle.ds_drive.specs.Done.{IsCutShort, IsDone, IsStopped};
 ghost use Rattle.ds_drive.specs.Failures.{failure_number};
 ghost use Rattle.ds_drive.specs.Statuses.{fault_status};
 ghost use Rattle.ds_words.specs.Words.{AsksForSomething};
@@ -22,7 +22,7 @@ use std::io::{ErrorKind, Write};
 /// Does what the words ask for, the program's own name first, and answers the status: 0 done; 1 the
 /// words were refused for another cause than memory, or ask for help; 2 refused input; 3 a fault of
 /// the run. What was refused is told on `err`; that a write there fails changes no status.
-#[tactic(auto, using(ds_words::proofs::WordLemmas::alone, crate::proofs::Cuts::nothing_written, crate::proofs::Cuts::demo_cut, crate::proofs::Cuts::run_cut, crate::proofs::Cuts::list_cut, crate::proofs::Cuts::check_cut))]
+#[tactic(auto, using(ds_words::proofs::WordLemmas::alone, crate::proofs::Cuts::nothing_written, crate::proofs::Cuts::demo_cut, crate::proofs::Cuts::run_cut, crate::proofs::Cuts::list_cut, crate::proofs::Cuts::check_cut, crate::proofs::Stops::demo_stopped, crate::proofs::Stops::run_stopped, crate::proofs::Stops::list_stopped, crate::proofs::Stops::list_faulty, crate::proofs::Stops::check_stopped))]
 pub fn drive<F: Files, W: Write, E: Write>(
     alloc: Global,
     words: &[String],
@@ -42,9 +42,15 @@ pub fn drive<F: Files, W: Write, E: Write>(
     ensures cut { result ≡ 3 → IsCutShort (map string_bytes words.now) (F.holds files.old)
         (W.contents out.old) (W.contents out.new) }
     ensures unread { result ≡ 2 → Keeps (W.contents out.old) (W.contents out.new) }
+    ensures stopped { result ≡ 2 → IsStopped 2 (map string_bytes words.now) (F.holds files.old)
+        (F.lacks files.old) (W.contents out.old) (W.contents out.new) }
+    ensures failed { result ≡ 3 → Keeps (W.contents out.old) (W.contents out.new)
+        ⊎ IsStopped 3 (map string_bytes words.now) (F.holds files.old) (F.lacks files.old)
+        (W.contents out.old) (W.contents out.new) }
     ensures silent { result ≡ 0 → E.contents err.new ≡ E.contents err.old }
     ensures kept { (file bytes : List ℕ) → F.holds files.new file bytes
         → F.holds files.old file bytes }
+    ensures lacked { (file : List ℕ) → F.lacks files.new file → F.lacks files.old file }
 {
     match wish_of(alloc, words) {
         Ok(Some(Wish::Demo)) => match run_demo(alloc, out) {

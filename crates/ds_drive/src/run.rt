@@ -1,7 +1,7 @@
 //! A run of files: the policy, the input, and the sources that the policy names.
 ghost use Rattle.std.specs.Prelude.{◌≡◌, ◌≤◌, ℕ, List, IfErr, IfOk, OnOk, All, length, map};
 ghost use Rattle.ds_station.specs.Headline.{sources_seen};
-ghost use Rattle.ds_drive.specs.Failures.{IsUnread, RunsFiles, StopsBy};
+ghost use Rattle.ds_drive.specs.Failures.{AreUnread, IsUnread, RunsFiles, StopsBy};
 
 use crate::failure::Failure;
 use crate::files::{FileFault, Files};
@@ -20,6 +20,7 @@ pub(crate) struct SourceText {
 
 /// Reads the policy, then the input, then, where the policy is good, each source by its name, and
 /// runs them. Nothing is written before all of them are read.
+#[tactic(auto, using(crate::proofs::Stops::policy_unread, crate::proofs::Stops::input_unread, crate::proofs::Stops::source_unread, crate::proofs::Stops::memory_stops, crate::proofs::Stops::policy_stops))]
 pub fn run_request<'a, F: Files, W: Write>(
     alloc: Global,
     request: &Request<'a>,
@@ -29,9 +30,11 @@ pub fn run_request<'a, F: Files, W: Write>(
     ensures ok { OnOk result
         (RunsFiles (F.holds files.old) request.now (W.contents out.old) (W.contents out.new)) }
     ensures err { IfErr result
-        (λ f. StopsBy f (F.holds files.old) request.now (W.contents out.old) (W.contents out.new)) }
+        (λ f. StopsBy f (F.holds files.old) (F.lacks files.old) request.now
+        (W.contents out.old) (W.contents out.new)) }
     ensures kept { (file bytes : List ℕ) → F.holds files.new file bytes
         → F.holds files.old file bytes }
+    ensures lacked { (file : List ℕ) → F.lacks files.new file → F.lacks files.old file }
 {
     let policy_text = named_file(alloc, files, request.policy)?;
     let input = named_file(alloc, files, request.input)?;
@@ -63,9 +66,10 @@ pub(crate) fn named_file<'a, F: Files>(
 ) -> Result<Vec<u8>, Failure<'a>>
     ensures found { IfOk result (λ bytes. F.holds files.old name.entry.now bytes.items) }
     ensures limit { IfOk result (λ bytes. length bytes.items ≤ 16777216) }
-    ensures unread { IfErr result IsUnread }
+    ensures unread { IfErr result (IsUnread (F.lacks files.old) name.entry.now) }
     ensures kept { (file bytes : List ℕ) → F.holds files.new file bytes
         → F.holds files.old file bytes }
+    ensures lacked { (file : List ℕ) → F.lacks files.new file → F.lacks files.old file }
 {
     match files.read(alloc, name) {
         Ok(bytes) => Ok(bytes),
@@ -75,6 +79,7 @@ pub(crate) fn named_file<'a, F: Files>(
 }
 
 /// The texts of the files of these sources, in order.
+#[tactic(auto, using(crate::proofs::Stops::named))]
 pub(crate) fn source_texts<'a, F: Files>(
     alloc: Global,
     files: &mut F,
@@ -83,8 +88,10 @@ pub(crate) fn source_texts<'a, F: Files>(
     ensures names { IfOk result (λ texts. map (λ s. s.name) texts.items ≡ names.now) }
     ensures found { IfOk result
         (λ texts. All (λ s. F.holds files.old s.name s.text.items) texts.items) }
+    ensures unread { IfErr result (AreUnread (F.lacks files.old) names.now) }
     ensures kept { (file bytes : List ℕ) → F.holds files.new file bytes
         → F.holds files.old file bytes }
+    ensures lacked { (file : List ℕ) → F.lacks files.new file → F.lacks files.old file }
 {
     let mut texts = Vec::new(alloc);
     for name in names {

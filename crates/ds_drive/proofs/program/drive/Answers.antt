@@ -1,5 +1,8 @@
-use Rattle.std.proofs.Common.{rules, inl}
+use Rattle.std.proofs.Common.{refl, subst, rules, inl, map, string_bytes}
+use Rattle.ds_drive.specs.declared.list.Listing.{Listing}
+use Rattle.ds_drive.specs.Listed.{Lists}
 use Rattle.ds_drive.proofs.Cuts.{demo_cut, run_cut}
+use Rattle.ds_drive.proofs.Stops.{list_faulty}
 use Rattle.ds_words.proofs.WordLemmas.{alone, fails_for_memory, only_memory_fails}
 use Rattle.ds_drive.proofs.program.drive.Goals as goal
 
@@ -9,7 +12,7 @@ returns-in-Err-run_demo-clause-cut g c three =
 
 pub returns-in-Err-run_request-clause-cut : goal.returns-in-Err-run_request-clause-cut
 returns-in-Err-run_request-clause-cut g c three =
-    run_cut _ (g.F.Files.holds c.args.files.now) _ c.in-Err-run_request.failure (g.W.Write.contents c.args.out.now) (g.W.Write.contents c.run_request.new.out) (search rules) c.in-Err-run_request.ensures.err
+    run_cut _ (g.F.Files.holds c.args.files.now) (g.F.Files.lacks c.args.files.now) _ c.in-Err-run_request.failure (g.W.Write.contents c.args.out.now) (g.W.Write.contents c.run_request.new.out) (search rules) c.in-Err-run_request.ensures.err
 
 pub returns-in-Err-2-clause-alone : goal.returns-in-Err-2-clause-alone
 returns-in-Err-2-clause-alone g c program same =
@@ -24,3 +27,11 @@ returns-in-Err-2-clause-taken g c asked =
 pub returns-in-Ok-None-clause-alone : goal.returns-in-Ok-None-clause-alone
 returns-in-Ok-None-clause-alone g c program same =
     absurd (c.in-Ok-None.ensures-1.none c.in-Ok-None.field-0-is (inl (alone program _ same)))
+
+pub returns-in-Ok-Faults-clause-stopped : goal.returns-in-Ok-Faults-clause-stopped
+returns-in-Ok-Faults-clause-stopped g c two =
+    let holds = g.F.Files.holds c.args.files.now in
+    let old = g.W.Write.contents c.args.out.now in
+    let new = g.W.Write.contents c.list_file.new.out in
+    let lists = subst (λ (came : Listing). Lists came holds c.in-Ok-Some-List.request old new) c.in-Ok-Faults.field-0-is c.in-Ok-Faults.ensures.ok in
+    list_faulty (map string_bytes c.args.words.now) holds (g.F.Files.lacks c.args.files.now) 2 old new c.in-Ok-Some-List.request c.in-Ok-Faults.faults.items refl (search rules) lists.0 lists.1

@@ -6,4 +6,5 @@ invariant-loop-name g l = record {
   names : map (λ s. s.name) l.texts.items ≡ take l.name-index l.names;
   found : All (λ s. g.F.Files.holds l.initial.files s.name s.text.items) l.texts.items;
   kept : (file bytes : List ℕ) → g.F.Files.holds l.files file bytes → g.F.Files.holds l.initial.files file bytes;
+  lacked : (file : List ℕ) → g.F.Files.lacks l.files file → g.F.Files.lacks l.initial.files file;
 }

@@ -1,0 +1,214 @@
+-- Why a run or a check is stopped, and what the program says of it.
+use Rattle.std.proofs.Common.{◌≡◌, ◌∙◌, ◌⊎◌, inl, inr, ℕ, ◌<◌, List, [], refl, sym, ap, map, subst, Bor, length, get_or}
+use Rattle.std.specs.Prelude.{Option, Some, None, Result, Ok, Err, All, Contains, is_ok}
+use Rattle.std.specs.Io.KnownBytes.{Keeps}
+use Rattle.std.proofs.lemmas.Bool.{true≢false}
+use Rattle.std.proofs.lemmas.List.{get_or_default}
+use Rattle.std.proofs.lemmas.List.Elements.{All-nil}
+use Rattle.clap.specs.Words.{Text}
+use Rattle.ds_asm.specs.declared.fault.SourceFault.{SourceFault}
+use Rattle.ds_policy.specs.PolicyText.{policy_of}
+use Rattle.ds_policy.specs.PolicyParts.{sources_of}
+use Rattle.ds_policy.specs.Value.{PolicyValue}
+use Rattle.ds_policy.specs.Refusal.{PolicyRefusal, Fails}
+use Rattle.ds_policy.specs.declared.fault.PolicyFault.{PolicyFault}
+use Rattle.ds_policy.specs.declared.fault.PolicyFault.TheVariants as policy_fault
+use Rattle.ds_pagemap.specs.Machine.{State}
+use Rattle.ds_pagemap.specs.Inputs.{Refusal, Sources, inputs, inputs_under}
+use Rattle.ds_station.specs.Faults.{number_of, of_policy}
+use Rattle.ds_station.specs.Headline.{EndsBy}
+use Rattle.ds_station.specs.declared.fault.Fault.{Fault}
+use Rattle.ds_station.specs.declared.fault.Fault.TheVariants as fault
+use Rattle.ds_station.proofs.Headlines.{keeps_same}
+use Rattle.ds_station.proofs.Preparing.{refused_by_policy}
+use Rattle.ds_drive.specs.declared.failure.Failure.{Failure}
+use Rattle.ds_drive.specs.declared.failure.Failure.TheVariants as failure
+use Rattle.ds_words.specs.declared.words.CheckRequest.{CheckRequest}
+use Rattle.ds_words.specs.declared.words.ListRequest.{ListRequest}
+use Rattle.ds_words.specs.declared.words.Request.{Request}
+use Rattle.ds_words.specs.Words.{AsksForDemo, AsksForRun, AsksForList, AsksForCheck}
+use Rattle.ds_drive.specs.declared.run.SourceText.{SourceText}
+use Rattle.ds_drive.proofs.HeldFiles.{all_held, names_held, of_texts, same_value}
+use Rattle.ds_drive.specs.Checked.{ChecksBy, IsInput, IsUnreadInput, RefusesCheck}
+use Rattle.ds_drive.specs.Demo.{demo_inputs}
+use Rattle.ds_drive.specs.Done.{IsStopped}
+use Rattle.ds_drive.specs.Failures.{AreUnread, IsUnread, StopsBy, failure_number}
+use Rattle.ds_drive.specs.Listed.{FailsBy, HasFaults}
+use Rattle.ds_drive.specs.Statuses.{fault_status}
+
+-- the name at a place is one of them
+pub named : (names : List (List ℕ)) (k : ℕ) (d told : List ℕ) → k < length names → told ≡ get_or names k d → Contains names told
+named names k d told within is = (k, within, get_or_default names k told d within ∙ sym is)
+
+-- the policy's file was not read
+pub policy_unread : (holds : List ℕ → List ℕ → Type 0) (lacks : List ℕ → Type 0) (request : Request) (f : Failure) (known : Option (List ℕ))
+    → IsUnread lacks request.policy.now f → StopsBy f holds lacks request known known
+policy_unread holds lacks request (failure.UnreadableFile told) known unread = (inl unread.0, subst lacks (sym unread.0) unread.1, keeps_same known)
+policy_unread holds lacks request (failure.Fault fault.Memory) known unread = inl (refl, keeps_same known)
+policy_unread holds lacks request f known none = absurd none
+
+-- the input's file was not read
+pub input_unread : (holds : List ℕ → List ℕ → Type 0) (lacks later : List ℕ → Type 0) (request : Request) (f : Failure) (known : Option (List ℕ))
+    → ((file : List ℕ) → later file → lacks file) → IsUnread later request.input.now f → StopsBy f holds lacks request known known
+input_unread holds lacks later request (failure.UnreadableFile told) known lacked unread = (inr unread.0, lacked told.now (subst later (sym unread.0) unread.1), keeps_same known)
+input_unread holds lacks later request (failure.Fault fault.Memory) known lacked unread = inl (refl, keeps_same known)
+input_unread holds lacks later request f known lacked none = absurd none
+
+-- the file of a source was not read
+pub source_unread : (holds : List ℕ → List ℕ → Type 0) (lacks later : List ℕ → Type 0) (request : Request) (policy : List ℕ) (value : PolicyValue) (names : List (List ℕ)) (f : Failure) (known : Option (List ℕ))
+    → ((file : List ℕ) → later file → lacks file) → holds request.policy.now policy → policy_of policy ≡ Ok value → names ≡ sources_of value.pages
+    → AreUnread later names f → StopsBy f holds lacks request known known
+source_unread holds lacks later request policy value names (failure.UnreadableSource told) known lacked held read are unread = (
+  record { policy = policy; value = value; held = held; read = read; among = subst (λ (l : List (List ℕ)). Contains l told) are unread.0 },
+  lacked told unread.1,
+  keeps_same known,
+)
+source_unread holds lacks later request policy value names (failure.Fault fault.Memory) known lacked held read are unread = inl (refl, keeps_same known)
+source_unread holds lacks later request policy value names f known lacked held read are none = absurd none
+
+-- want of memory
+pub memory_stops : (holds : List ℕ → List ℕ → Type 0) (lacks : List ℕ → Type 0) (request : Request) (known : Option (List ℕ)) → StopsBy (failure.Fault fault.Memory) holds lacks request known known
+memory_stops holds lacks request known = inl (refl, keeps_same known)
+
+-- a policy is not both good and refused
+not_both : (read : Result PolicyValue PolicyRefusal) (value : PolicyValue) (e : PolicyRefusal) → read ≡ Err e → read ≡ Ok value → ⊥
+not_both read value e bad good = true≢false (ap is_ok (sym good ∙ bad))
+
+-- the policy is refused: then a run over it, without any source, is refused so
+pub policy_ends : (e : PolicyFault) (text input : List ℕ) (known : Option (List ℕ)) (n random : ℕ) → Fails e (policy_of text) → EndsBy (of_policy e) (inputs text [] input n random) known known n
+policy_ends policy_fault.Memory text input known n random r = inl (keeps_same known)
+policy_ends policy_fault.BadToml text input known n random r = (refused_by_policy policy_fault.BadToml text [] input n random r, keeps_same known)
+policy_ends (policy_fault.Limit key) text input known n random r = (refused_by_policy (policy_fault.Limit key) text [] input n random r, keeps_same known)
+policy_ends (policy_fault.BadRule number) text input known n random r = (refused_by_policy (policy_fault.BadRule number) text [] input n random r, keeps_same known)
+
+-- whatever the writer, the run ended by that fault
+pub ends_anyhow : (f : Fault) (read : Result State Refusal) (old new : Option (List ℕ)) (n : ℕ) → EndsBy f read old new n → EndsBy f read None None n
+ends_anyhow fault.Memory read old new n ends = inl tt
+ends_anyhow fault.Stuck read old new n ends = (ends.0, ends.1, record { last = ends.2.last; prefix = ends.2.prefix; going = ends.2.going; written = tt })
+ends_anyhow fault.WriteFault read old new n ends = (ends.0, ends.1, record { last = ends.2.last; prefix = ends.2.prefix; written = record { part = ends.2.written.part; rest = ends.2.written.rest; whole = ends.2.written.whole; appends = tt } })
+ends_anyhow fault.Failed read old new n none = absurd none
+ends_anyhow fault.BadRandom read old new n ends = (ends.0, tt)
+ends_anyhow (fault.InSource name f) read old new n ends = (ends.0, tt)
+ends_anyhow fault.BadToml read old new n ends = (ends.0, tt)
+ends_anyhow (fault.BadRule number) read old new n ends = (ends.0, tt)
+ends_anyhow (fault.Limit key) read old new n ends = (ends.0, tt)
+ends_anyhow (fault.InputFault line) read old new n ends = (ends.0, tt)
+ends_anyhow (fault.NoSource name) read old new n ends = (ends.0, tt)
+
+module _ (holds : List ℕ → List ℕ → Type 0) (lacks : List ℕ → Type 0) where
+  policy_stops_by : (e : PolicyFault) (request : Request) (policy input : List ℕ) (known : Option (List ℕ)) → ((e ≡ policy_fault.Memory) ⊎ ((value : PolicyValue) → policy_of policy ≡ Ok value → ⊥))
+      → holds request.policy.now policy → holds request.input.now input → Fails e (policy_of policy)
+      → StopsBy (failure.Fault (of_policy e)) holds lacks request known known
+  policy_stops_by e request policy input known (inl memory) first second r = inl (ap of_policy memory, keeps_same known)
+  policy_stops_by e request policy input known (inr none) first second r = inr (record {
+    policy = policy;
+    sources = [];
+    input = input;
+    held = record { policy_held = first; input_held = second; sources_held = All-nil _; sources_named = λ value is. absurd (none value is) };
+    so = policy_ends e policy input known request.most_time request.random r;
+  })
+
+  bad_or_memory : (e : PolicyFault) (policy : List ℕ) → Fails e (policy_of policy) → (e ≡ policy_fault.Memory) ⊎ ((value : PolicyValue) → policy_of policy ≡ Ok value → ⊥)
+  bad_or_memory policy_fault.Memory policy r = inl refl
+  bad_or_memory policy_fault.BadToml policy r = inr (λ value is. not_both (policy_of policy) value _ r is)
+  bad_or_memory (policy_fault.Limit key) policy r = inr (λ value is. not_both (policy_of policy) value _ r is)
+  bad_or_memory (policy_fault.BadRule number) policy r = inr (λ value is. not_both (policy_of policy) value _ r is)
+
+  -- the policy is refused
+  pub policy_stops : (e : PolicyFault) (request : Request) (policy input : List ℕ) (known : Option (List ℕ))
+      → holds request.policy.now policy → holds request.input.now input → Fails e (policy_of policy)
+      → StopsBy (failure.Fault (of_policy e)) holds lacks request known known
+  policy_stops e request policy input known first second r = policy_stops_by e request policy input known (bad_or_memory e policy r) first second r
+
+  refuses_policy_by : (e : PolicyFault) (request : CheckRequest) (policy input : List ℕ) → ((e ≡ policy_fault.Memory) ⊎ ((value : PolicyValue) → policy_of policy ≡ Ok value → ⊥))
+      → holds request.policy.now policy → IsInput holds request.input input → Fails e (policy_of policy)
+      → RefusesCheck (failure.Fault (of_policy e)) holds lacks request
+  refuses_policy_by e request policy input (inl memory) first second r = inl (ap of_policy memory)
+  refuses_policy_by e request policy input (inr none) first second r = inr (record {
+    policy = policy;
+    sources = [];
+    input = input;
+    policy_held = first;
+    input_held = second;
+    sources_held = All-nil _;
+    sources_named = λ value is. absurd (none value is);
+    so = policy_ends e policy input None 0 63 r;
+  })
+
+  -- the policy is refused by a check
+  pub refuses_policy : (e : PolicyFault) (request : CheckRequest) (policy input : List ℕ)
+      → holds request.policy.now policy → IsInput holds request.input input → Fails e (policy_of policy)
+      → RefusesCheck (failure.Fault (of_policy e)) holds lacks request
+  refuses_policy e request policy input first second r = refuses_policy_by e request policy input (bad_or_memory e policy r) first second r
+
+  -- the policy's file was not read for a check
+  pub check_unread : (request : CheckRequest) (f : Failure) → IsUnread lacks request.policy.now f → RefusesCheck f holds lacks request
+  check_unread request (failure.UnreadableFile told) unread = (inl unread.0, subst lacks (sym unread.0) unread.1)
+  check_unread request (failure.Fault fault.Memory) unread = inl refl
+  check_unread request f none = absurd none
+
+  input_named_unread : (later : List ℕ → Type 0) (request : CheckRequest) (name : Bor (List ℕ)) (f : Failure) → ((file : List ℕ) → later file → lacks file)
+      → request.input ≡ Some name → IsUnread later name.now f → RefusesCheck f holds lacks request
+  input_named_unread later request name (failure.UnreadableFile told) lacked is unread = (inr (name, is, unread.0), lacked told.now (subst later (sym unread.0) unread.1))
+  input_named_unread later request name (failure.Fault fault.Memory) lacked is unread = inl refl
+  input_named_unread later request name f lacked is none = absurd none
+
+  check_input_by : (later : List ℕ → Type 0) (request : CheckRequest) (input : Option (Bor (List ℕ))) (f : Failure) → ((file : List ℕ) → later file → lacks file)
+      → request.input ≡ input → IsUnreadInput later input f → RefusesCheck f holds lacks request
+  check_input_by later request None f lacked is none = absurd none
+  check_input_by later request (Some name) f lacked is unread = input_named_unread later request name f lacked is unread
+
+  -- nor the input's
+  pub check_input_unread : (later : List ℕ → Type 0) (request : CheckRequest) (f : Failure) → ((file : List ℕ) → later file → lacks file)
+      → IsUnreadInput later request.input f → RefusesCheck f holds lacks request
+  check_input_unread later request f lacked unread = check_input_by later request request.input f lacked refl unread
+
+  -- nor a source's
+  pub check_source_unread : (later : List ℕ → Type 0) (request : CheckRequest) (policy : List ℕ) (value : PolicyValue) (names : List (List ℕ)) (f : Failure)
+      → ((file : List ℕ) → later file → lacks file) → holds request.policy.now policy → policy_of policy ≡ Ok value → names ≡ sources_of value.pages
+      → AreUnread later names f → RefusesCheck f holds lacks request
+  check_source_unread later request policy value names (failure.UnreadableSource told) lacked held read are unread = (
+    record { policy = policy; value = value; held = held; read = read; among = subst (λ (l : List (List ℕ)). Contains l told) are unread.0 },
+    lacked told unread.1,
+  )
+  check_source_unread later request policy value names (failure.Fault fault.Memory) lacked held read are unread = inl refl
+  check_source_unread later request policy value names f lacked held read are none = absurd none
+
+  -- the run of what the files hold ended by that fault
+  pub run_refuses : (later : List ℕ → List ℕ → Type 0) (request : CheckRequest) (policy input : List ℕ) (texts : List SourceText) (s t : Sources) (i : List ℕ) (value : PolicyValue) (f : Fault) (old new : Option (List ℕ))
+      → holds request.policy.now policy → IsInput holds request.input input
+      → ((file bytes : List ℕ) → later file bytes → holds file bytes)
+      → All (λ s. later s.name s.text.items) texts
+      → map (λ s. s.name) texts ≡ sources_of value.pages
+      → policy_of policy ≡ Ok value
+      → t ≡ map (λ s. (s.name, s.text.items)) texts
+      → s ≡ t → i ≡ input
+      → EndsBy f (inputs_under value s i 0 63) old new 0
+      → RefusesCheck (failure.Fault f) holds lacks request
+  run_refuses later request policy input texts s t i value f old new first second kept found names read lent e e2 ends = inr (record {
+    policy = policy;
+    sources = t;
+    input = input;
+    policy_held = first;
+    input_held = second;
+    sources_held = all_held holds later texts t kept found lent;
+    sources_named = λ v is. names_held texts t (sources_of v.pages) lent (names ∙ ap (λ (x : PolicyValue). sources_of x.pages) (same_value (policy_of policy) value v read is));
+    so = ends_anyhow f (inputs policy t input 0 63) old new 0 (of_texts (λ made. EndsBy f made old new 0) value policy s t i input 0 63 read e e2 ends);
+  })
+
+-- What the program says of it.
+module _ (words : List Text) (holds : List ℕ → List ℕ → Type 0) (lacks : List ℕ → Type 0) (status : ℕ) (old new : Option (List ℕ)) where
+  pub demo_stopped : (f : Fault) → fault_status (number_of f) ≡ status → AsksForDemo words → EndsBy f demo_inputs old new 100 → IsStopped status words holds lacks old new
+  demo_stopped f has asks ends = inl (asks, record { fault = f; has = has; stops = ends })
+
+  pub run_stopped : (request : Request) (f : Failure) → fault_status (failure_number f) ≡ status → AsksForRun words request → StopsBy f holds lacks request old new → IsStopped status words holds lacks old new
+  run_stopped request f has asks stops = inr (inl (request, asks, record { failure = f; has = has; so = stops }))
+
+  pub list_stopped : (request : ListRequest) (f : Failure) → fault_status (failure_number f) ≡ status → AsksForList words request → FailsBy f holds lacks request old new → IsStopped status words holds lacks old new
+  list_stopped request f has asks fails = inr (inr (inl (request, asks, inl (record { failure = f; has = has; so = fails }))))
+
+  pub list_faulty : (request : ListRequest) (faults : List SourceFault) → status ≡ 2 → AsksForList words request → HasFaults holds request faults → Keeps old new → IsStopped status words holds lacks old new
+  list_faulty request faults has asks are kept = inr (inr (inl (request, asks, inr (record { has = has; faults = faults; are = are; kept = kept }))))
+
+  pub check_stopped : (request : CheckRequest) (f : Failure) → fault_status (failure_number f) ≡ status → AsksForCheck words request → ChecksBy f holds lacks request old new → IsStopped status words holds lacks old new
+  check_stopped request f has asks refused = inr (inr (inr (request, asks, record { failure = f; has = has; so = refused })))
