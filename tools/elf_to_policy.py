@@ -175,13 +175,13 @@ def check_code(code, flags):
     for address, word in words_of(code):
         if found := later(word):
             name, architecture = found
-            raise Refused(f"`{name}` at {address:08X} is an instruction of {architecture}: compile with -march=r3000, and link no library of another")
+            raise Refused(f"`{name}` at {address:08X} is an instruction of {architecture}: compile with -march=r3000, and link no library that is made for it")
     if flags & 0x0600_0000:
         raise Refused("code of microMIPS or MIPS16")
     architecture = flags >> 28
     if architecture:
         name = ARCHITECTURES[architecture] if architecture < len(ARCHITECTURES) else f"architecture {architecture}"
-        raise Refused(f"made for {name}, where no instruction waits for a load: compile with -march=r3000")
+        raise Refused(f"made for {name}, whose processors wait for a load by themselves: compile with -march=r3000")
 
 
 # Pages and sources
@@ -312,7 +312,7 @@ def programs_of(paths, stack):
             if places.setdefault(name, path.resolve()) != path.resolve():
                 raise Refused(f"another file is called {name} too, and their sources would have one name")
             if not path.is_file():
-                raise Refused("no such file")
+                raise Refused("no file of this name")
             found.append(program_of(name, path.read_bytes(), stack))
         except Refused as why:
             raise Refused(f"{path}: {why}") from None
@@ -353,7 +353,7 @@ def options(words):
     parser.add_argument("--stack", type=number_between(0, MOST_ENTRIES), default=4, metavar="N", help="pages of each stack (4)")
     parser.add_argument("--line", type=lines_of, default=[0], metavar="L[,L..]", help="the console line of each process; the last one is that of the rest (0)")
     parser.add_argument("--give", action="store_true", help="each process may give away the pages that it may write")
-    parser.add_argument("--into", type=Path, default=Path("."), metavar="FOLDER", help="where the files go (here)")
+    parser.add_argument("--into", type=Path, default=Path("."), metavar="FOLDER", help="where the files go, made where it is not there (here)")
     return parser.parse_args(words)
 
 
@@ -365,6 +365,7 @@ def main(words):
         programs = programs_of(wanted.files, wanted.stack)
         bundle = bundle_of(programs, wanted.line, wanted.give)
         name = programs[0].name
+        wanted.into.mkdir(exist_ok=True)
         write_all(wanted.into, {f"{name}.toml": policy_text(bundle), **bundle.sources})
         keys = wanted.into / f"{name}.input"
         if not keys.exists():

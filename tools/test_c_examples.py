@@ -1,0 +1,49 @@
+#!/usr/bin/env python3
+"""Tests of tools/c_examples.py, with compilers that are none."""
+import contextlib
+import io
+import sys
+import unittest
+from unittest import mock
+
+sys.dont_write_bytecode = True
+
+import c_examples  # noqa: E402
+from c_examples import EXAMPLES, check, different  # noqa: E402
+
+NOTED = (EXAMPLES / "compiler").read_text("ascii")
+THERE = {it.name: it.read_text("ascii") for it in EXAMPLES.iterdir() if it.suffix in (".toml", ".s")}
+OTHER = {**THERE, "sieve-1.s": THERE["sieve-1.s"] + ".word 0x00000000\n"}
+
+
+def checked(compiler, texts):
+    """The status and the lines of a check where this compiler makes these texts."""
+    with mock.patch.object(c_examples, "made", lambda: texts), contextlib.redirect_stdout(io.StringIO()) as said:
+        status = check(compiler)
+    return status, said.getvalue().splitlines()
+
+
+class Tests(unittest.TestCase):
+    def test_the_same_words_are_told_of_any_compiler(self):
+        for compiler in (NOTED, "another\n"):
+            self.assertEqual((0, ["c_examples: the same words"]), checked(compiler, THERE))
+
+    def test_other_words_of_the_noted_compiler_are_wrong(self):
+        status, said = checked(NOTED, OTHER)
+        self.assertEqual((1, "c_examples: sieve-1.s: other words"), (status, said[0]))
+
+    def test_other_words_of_another_compiler_are_told_with_both_names(self):
+        status, said = checked("another\n", OTHER)
+        self.assertEqual((0, "c_examples: sieve-1.s: other words"), (status, said[0]))
+        self.assertEqual([*NOTED.splitlines(), "and compiled by", "another"], said[2:])
+
+    def test_no_compiler_is_told(self):
+        self.assertEqual(0, checked(None, OTHER)[0])
+
+    def test_a_file_too_many_or_too_few_is_different(self):
+        self.assertEqual(["sieve.toml"], different({name: text for name, text in THERE.items() if name != "sieve.toml"}))
+        self.assertEqual(["more-1.s"], different({**THERE, "more-1.s": ""}))
+
+
+if __name__ == "__main__":
+    unittest.main()
