@@ -40,7 +40,7 @@ EXECUTABLE, MIPS = 2, 8
 KINDS = {1: "an object file: link it first", 3: "dynamic: link it with -static -fno-pic", 4: "a core file"}
 LOAD, DYNAMIC, INTERPRETER = 1, 2, 3
 MAY_RUN, MAY_WRITE, MAY_READ = 1, 2, 4
-HAS_CODE, NO_BYTES = 4, 8  # of a section: its flag, and its type
+IN_MEMORY, HAS_CODE, OF_THREAD = 2, 4, 0x400  # flags of a section
 
 
 class Refused(Exception):
@@ -129,7 +129,7 @@ def program_of(name, data, stack):
         raise Refused("dynamic: link it with -static -fno-pic")
     segments = [segment_of(data, row) for row in rows if row[0] == LOAD and row[4:6] != (0, 0)]
     check_places(segments)
-    code = code_of(data, segments, [unpacked("10I", data, sections + 40 * k, "section headers") for k in range(section_count)])
+    code = code_of(segments, [unpacked("10I", data, sections + 40 * k, "section headers") for k in range(section_count)])
     check_code(code, flags)
     if start % 4 or not any(it.flags & MAY_RUN and it.address <= start < it.end for it in segments):
         raise Refused(f"it starts at {start:08X}, which is no word of a segment that may be executed")
@@ -155,12 +155,20 @@ def check_places(segments):
             raise Refused(f"its segments at {first.address:08X} and {second.address:08X} overlap")
 
 
-def code_of(data, segments, sections):
+def code_of(segments, sections):
     """The code as addresses with bytes: the sections that have code, or, where there are no sections, the segments."""
     if not sections:
         return [(it.address, it.data) for it in segments if it.flags & MAY_RUN]
-    rows = [row for row in sections if row[2] & HAS_CODE and row[1] != NO_BYTES]
-    return [(address, cut(data, place, size, f"section at {address:08X}")) for _, _, _, address, place, size, *_ in rows]
+    found = []
+    for _, _, flags, address, _, size, *_ in sections:
+        if not flags & IN_MEMORY or flags & OF_THREAD or size == 0:
+            continue
+        place = next((it for it in segments if it.address <= address and address + size <= it.end), None)
+        if place is None:
+            raise Refused(f"its section at {address:08X} lies in no segment")
+        if flags & HAS_CODE:
+            found.append((address, place.data[address - place.address:address - place.address + size]))
+    return found
 
 
 def words_of(code):

@@ -30,15 +30,15 @@ def words(*numbers):
 
 
 def elf(segments, sections=(), kinds=(), **changed):
-    """An ELF file of segments, each an address, its bytes, its size in memory and its flags; and of sections with code, each an address and
-    the segment that it is in, whole. Program headers of other kinds may stand before those of the segments."""
+    """An ELF file of segments, each an address, its bytes, its size in memory and its flags; and of sections, each an address, its size and its
+    flags. Program headers of other kinds may stand before those of the segments."""
     it = {**HEADER, **changed}
     rows, data = [(kind, 0, 0, 0, 0, 0, 4, 4) for kind in kinds], b""
     begin = 52 + 32 * (len(rows) + len(segments))
     for address, held, size, flags in segments:
         rows.append((1, begin + len(data), address, address, len(held), size, flags, PAGE))
         data += held
-    parts = [(0,) * 10, *((0, 1, 6, address, rows[len(kinds) + k][1], len(segments[k][1]), 0, 0, 4, 0) for address, k in sections)] if sections else []
+    parts = [(0,) * 10, *((0, 1, flags, address, 0, size, 0, 0, 4, 0) for address, size, flags in sections)] if sections else []
     ident = b"\x7fELF" + bytes([it["size"], it["order"], it["version"]]) + bytes(9)
     head = struct.pack("<HHIIIIIHHHHHH", it["kind"], it["machine"], it["later_version"], it["start"], 52, begin + len(data) if parts else 0, it["flags"],
                        it["header_size"], it["row_size"], len(rows), 40 if parts else 0, len(parts), 0)
@@ -104,6 +104,8 @@ class Folder:
 
 
 SMALL = [(0x00400000, words(0x24020000, CALL), 8, CODE), (0x00401000, b"data", 0x1010, DATA)]
+IN_MEMORY, HAS_CODE = 2, 6  # flags of sections
+SECTIONS = [(0x00400000, 8, HAS_CODE), (0x00401000, 0x1010, IN_MEMORY)]
 STACK = {0x80000000 - PAGE * k: "write" for k in range(1, 5)}
 
 
@@ -159,7 +161,7 @@ class Tests(unittest.TestCase):
 
     def test_rights_follow_the_flags(self):
         segments = [(0x00400000 + 0x1000 * flags, words(1 + flags), 4, flags) for flags in range(1, 8)]
-        with self.folder(one=elf([*segments, (0x00400000, b"none", 4, 0)], start=0x00401000, sections=[(0x00401000, 0)])) as folder:
+        with self.folder(one=elf([*segments, (0x00400000, b"none", 4, 0)], start=0x00401000)) as folder:
             status, _, err = folder.run("--stack", "0")
             rights = {0x00400000 + 0x1000 * flags: "write" if flags & 2 else "read" for flags in range(1, 8)}
             self.assertEqual((0, rights), (status, folder.memory("one", 1)[1]))
@@ -271,8 +273,14 @@ class Tests(unittest.TestCase):
         text = [(0x00400000, words(CALL), 4, CODE), (0x00400004, b"spot", 4, CODE)]
         self.assertIsNotNone(later(int.from_bytes(b"spot", "little")))
         self.assert_refused("at 00400004", elf(text))
-        with self.folder(one=elf(text, sections=[(0x00400000, 0)])) as folder:
+        with self.folder(one=elf(text, sections=[(0x00400000, 4, HAS_CODE), (0x00400004, 4, IN_MEMORY)])) as folder:
             self.assertEqual((0, []), folder.run()[::2])
+
+    def test_a_section_that_is_in_no_segment_is_refused(self):
+        for section in [(0x003FFFFC, 8, IN_MEMORY), (0x00402008, 9, IN_MEMORY), (0xFFFFFFFC, 8, HAS_CODE)]:
+            self.assert_refused(f"its section at {section[0]:08X} lies in no segment", elf(SMALL, sections=[*SECTIONS, section]))
+        with self.folder(one=elf(SMALL, sections=[*SECTIONS, (0x00300000, 4, 0), (0x00300000, 4, 0x402), (0x00300000, 0, IN_MEMORY)])) as folder:
+            self.assertEqual(0, folder.run()[0])
 
     def test_code_of_a_later_architecture_is_refused_without_such_an_instruction(self):
         for flags, name in [(0x10000000, "MIPS II"), (0x70001000, "MIPS32 release 2"), (0xF0000000, "architecture 15")]:
@@ -287,14 +295,14 @@ class Tests(unittest.TestCase):
             self.assertIn("instructions of a coprocessor: 1, from 0040000C", err[1])
 
     def test_a_file_that_is_cut_off_is_refused(self):
-        whole = elf(SMALL, sections=[(0x00400000, 0)])
+        whole = elf(SMALL, sections=SECTIONS)
         for size in range(len(whole)):
             with self.subTest(size):
                 self.assert_refused("no ELF file" if size < 4 else "ends within its", whole[:size])
 
     def test_each_altered_byte_of_the_headers_is_refused_or_makes_a_good_policy(self):
-        whole = elf(SMALL, sections=[(0x00400000, 0)])
-        refused, places = 0, [*range(52 + 64), *range(len(whole) - 80, len(whole))]
+        whole = elf(SMALL, sections=SECTIONS)
+        refused, places = 0, [*range(52 + 64), *range(len(whole) - 120, len(whole))]
         for at in places:
             for byte in {0, 0xFF, *(whole[at] ^ 1 << bit for bit in range(8))} - {whole[at]}:
                 with self.folder(one=whole[:at] + bytes([byte]) + whole[at + 1:]) as folder:
