@@ -374,6 +374,12 @@ class Tests(unittest.TestCase):
         self.assertGreater(len(said), 2)
         self.assertLessEqual(set(said), mine)
 
+    def test_the_document_shows_what_the_sieve_writes(self):
+        lines = (EXAMPLES / "sieve.expected").read_text().splitlines()
+        document = (TOP / "docs/c.md").read_text()
+        self.assertIn("".join(f"    {it}".rstrip() + "\n" for it in lines[:3]), document)
+        self.assertIn(f"an empty log and the {lines[-1]}.", document)
+
 
 if __name__ == "__main__":
     unittest.main()

@@ -39,7 +39,7 @@ _Noreturn static inline void ds_exit(void) {
 
 // A character goes to the console line of the process.
 static inline void ds_put(char it) {
-    ds_call_1(1, (unsigned char)it);
+    ds_call_1(1, it);
 }
 
 // The oldest character that waits on the line, or DS_NONE.
