@@ -9,6 +9,7 @@ What cannot run is refused in one line on standard error, with status 2, and not
 refusal, and how C is compiled for dsmon.
 """
 import argparse
+import os
 import re
 import shlex
 import struct
@@ -317,7 +318,7 @@ def programs_of(paths, stack):
     for path in map(Path, paths):
         name = re.sub(r"[^A-Za-z0-9._-]", "_", path.stem)[:40]
         try:
-            if places.setdefault(name, path.resolve()) != path.resolve():
+            if places.setdefault(name, os.path.realpath(path)) != os.path.realpath(path):
                 raise Refused(f"another file is called {name} too, and their sources would have one name")
             if not path.is_file():
                 raise Refused("no file of this name")
