@@ -7,7 +7,7 @@ use Rattle.std.proofs.lemmas.Bool.Decides.{nat_tests}
 use Rattle.ds_policy.specs.declared.grant.Entry.{Entry}
 use Rattle.ds_policy.specs.Grants.{region, count_distinct}
 use Rattle.ds_tables.specs.Places.{Places, holds, is_free, places_of, place_of, free_place, has_place, region_of}
-use Rattle.ds_table_words.specs.Words.{regions_taken}
+use Rattle.ds_grants.specs.Words.{regions_taken}
 
 abbrev pub has : ℕ → List ℕ → Bool
 has a xs = list_any (λ (b : ℕ). b == a) xs

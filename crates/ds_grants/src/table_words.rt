@@ -7,8 +7,8 @@ ghost use Rattle.ds_policy.specs.Grants.{region, count_distinct};
 ghost use Rattle.ds_grants.specs.State.{GrantsState, with_grant, without_grant};
 ghost use Rattle.ds_tables.specs.Places.{Places, ArePlaces, region_of, places_of, place_of, has_place, opened};
 ghost use Rattle.ds_tables.specs.Tables.{HasEmptyTable, with_entry};
-ghost use Rattle.ds_table_words.specs.Words.{regions_taken, word_of_grant, WordsHold};
-ghost use Rattle.ds_table_words.specs.Changes.{memory_without, places_without};
+ghost use Rattle.ds_grants.specs.Words.{regions_taken, word_of_grant, WordsHold};
+ghost use Rattle.ds_grants.specs.Changes.{memory_without, places_without};
 
 /// An entry would lie in a fifth region exactly where there is no place for the region's table.
 pub fn a_fifth_region_has_no_place()

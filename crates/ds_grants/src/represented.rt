@@ -6,24 +6,24 @@ ghost use Rattle.ds_policy.specs.declared.grant.Grant.{Grant};
 ghost use Rattle.ds_grants.specs.State.{GrantsState, with_grant, without_grant};
 ghost use Rattle.ds_tables.specs.Places.{Places, ArePlaces, region_of, opened};
 ghost use Rattle.ds_tables.specs.Tables.{with_entry};
-ghost use Rattle.ds_table_words.specs.Words.{word_of_grant};
-ghost use Rattle.ds_table_words.specs.Changes.{both_forgotten, memory_without, places_without};
-ghost use Rattle.ds_table_words.specs.Represented.{IsRepresented, Keeps, IsLow, IsHigh, HasRegion};
+ghost use Rattle.ds_grants.specs.Words.{word_of_grant};
+ghost use Rattle.ds_grants.specs.Changes.{both_forgotten, memory_without, places_without};
+ghost use Rattle.ds_grants.specs.Represented.{IsRepresented, Keeps, IsLow, IsHigh, HasPlace};
 
 /// What is granted stays represented when an entry of a process is put with its word, or removed, and
 /// the buffer forgets by the process's number.
 pub fn a_change_keeps_what_is_represented()
     ensures put { (known : ℕ → ℕ) (entries : List Entry) (memory : List ℕ) (t : Places)
         (g : GrantsState) (p a : ℕ) (grant : Grant)
-        → length entries ≤ 64 → 2 ^ 23 ≤ length memory → 0 < p → p ≤ length g.table
-        → a % 2 ^ 12 ≡ 0 → IfSome grant.page (λ page. page < 1024) → HasRegion g p a
+        → 2 ^ 23 ≤ length memory → 0 < p → p ≤ length g.table
+        → a % 2 ^ 12 ≡ 0 → IfSome grant.page (λ page. page < 1024) → HasPlace g p a
         → Keeps known entries memory t g
         (both_forgotten entries a (known p))
         (with_entry memory t p a (word_of_grant g (Some grant)))
         (opened t p (region_of a)) (with_grant g p a grant) }
     ensures removed { (known : ℕ → ℕ) (entries : List Entry) (memory : List ℕ) (t : Places)
         (g : GrantsState) (p a : ℕ)
-        → length entries ≤ 64 → 2 ^ 23 ≤ length memory → 0 < p → p ≤ length g.table
+        → 2 ^ 23 ≤ length memory → 0 < p → p ≤ length g.table
         → a % 2 ^ 12 ≡ 0
         → Keeps known entries memory t g
         (both_forgotten entries a (known p))

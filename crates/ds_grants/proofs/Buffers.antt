@@ -14,8 +14,8 @@ use Rattle.ds_tlb.proofs.Matches.{missed_match}
 use Rattle.ds_grants.specs.State.{GrantsState}
 use Rattle.ds_grants.proofs.Translations.{at_set, set_single}
 use Rattle.ds_tables.specs.Places.{Places}
-use Rattle.ds_table_words.specs.Buffer.{hi_of, lo_of, IsMapped, IsBackedByWord, BufferHoldsWords, AreNumbersApart}
-use Rattle.ds_table_words.proofs.Fields.{has_page, has_space, mapped_small, lo_own}
+use Rattle.ds_grants.specs.Buffer.{hi_of, lo_of, IsMapped, IsBacked, BufferHolds, AreNumbersApart}
+use Rattle.ds_grants.proofs.Fields.{has_page, has_space, mapped_small, lo_own}
 
 -- A search finds what was written where nothing matched.
 
@@ -74,8 +74,8 @@ none_there entries vpn asid j f none at m =
     absurd (cc)
 
 -- A process's entry goes into a slot where nothing matched.
-pub buffer_written : (entries : List Entry) (numbers : ℕ → ℕ) (g : GrantsState) (t : Places) (p vpn slot : ℕ) → AreNumbersApart numbers → BufferHoldsWords entries numbers g t → 0 < p → 0 < numbers p
-    → IsMapped vpn → find entries vpn (numbers p) ≡ None → BufferHoldsWords (slice_set entries slot (entry_of (hi_of vpn (numbers p)) (lo_of g t p vpn))) numbers g t
+pub buffer_written : (entries : List Entry) (numbers : ℕ → ℕ) (g : GrantsState) (t : Places) (p vpn slot : ℕ) → AreNumbersApart numbers → BufferHolds entries numbers g t → 0 < p → 0 < numbers p
+    → IsMapped vpn → find entries vpn (numbers p) ≡ None → BufferHolds (slice_set entries slot (entry_of (hi_of vpn (numbers p)) (lo_of g t p vpn))) numbers g t
 buffer_written entries numbers g t p vpn slot apart k live some mapped none =
     let asid : ℕ = numbers p in
     let few : numbers p < 64 = apart.few p in
@@ -92,8 +92,8 @@ buffer_written entries numbers g t p vpn slot apart k live some mapped none =
         | inl here ↦
             let same : f.asid ≡ asid = ap (λ (x : Entry). x.asid) here.1 ∙ space in
             let owner : p ≡ q = apart.apart p q live running some (sym same ∙ sym holds) in
-            subst (λ (x : Entry). IsBackedByWord g t q x) (sym here.1)
-            (subst (λ (r : ℕ). IsBackedByWord g t r e) owner (record {
+            subst (λ (x : Entry). IsBacked g t q x) (sym here.1)
+            (subst (λ (r : ℕ). IsBacked g t r e) owner (record {
               mapped = subst IsMapped (sym page) mapped;
               words = ap₂ (λ (v a : ℕ). entry_of (hi_of v a) (lo_of g t p v)) (sym page) (sym space);
             }))

@@ -19,12 +19,12 @@ use Rattle.ds_tables.specs.Tables as tables
 use Rattle.ds_tables.specs.Tables.{HasEmptyTable, with_table_by, with_table, with_entry_word, word_place, entry_word}
 use Rattle.ds_tables.proofs.PlaceLemmas.{is_place, is_free_place, placed, place_of-other, place_of-kept, row_placed, closed_row, four_places}
 use Rattle.ds_tables.proofs.Map.{frames_kept, opened_old, opened_not, opened_new}
-use Rattle.ds_table_words.specs.Words.{word_of_right, word_of_grant}
-use Rattle.ds_table_words.specs.Changes.{both_forgotten, is_used, memory_without, places_without, IsChangedAt, AreKnown}
-use Rattle.ds_table_words.specs.Represented.{IsRepresented, HasRegion, IsLow, IsHigh}
-use Rattle.ds_table_words.proofs.Regions.{fifth_by_places}
-use Rattle.ds_table_words.proofs.Puts.{put_holds, removed_holds, same_word}
-use Rattle.ds_table_words.proofs.Forgets.{buffer_changed}
+use Rattle.ds_grants.specs.Words.{word_of_right, word_of_grant}
+use Rattle.ds_grants.specs.Changes.{both_forgotten, is_used, memory_without, places_without, IsChangedAt, AreKnown}
+use Rattle.ds_grants.specs.Represented.{IsRepresented, HasRegion, IsLow, IsHigh}
+use Rattle.ds_grants.proofs.Regions.{fifth_by_places}
+use Rattle.ds_grants.proofs.Puts.{put_holds, removed_holds, same_word}
+use Rattle.ds_grants.proofs.Forgets.{buffer_changed}
 
 -- Places after a region is opened, and after one is closed.
 

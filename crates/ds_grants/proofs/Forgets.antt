@@ -1,4 +1,4 @@
--- A buffer that has key_forgotten what was changed.
+-- A buffer that has forgotten what was changed.
 use Rattle.std.proofs.Common.{◌≡◌, ◌⊎◌, ℕ, ◌+◌, ◌-◌, ◌/◌, ◌^◌, ◌<◌, ◌≤◌, true, false, List, length, Option, Some, None, refl, sym, ap, subst, ◌∙◌, arith, inl, inr, length-set}
 use Rattle.std.specs.Prelude.{slice_get}
 use Rattle.std.proofs.lemmas.Bool.Decides.{nat_tests}
@@ -11,9 +11,9 @@ use Rattle.ds_grants.specs.State.{GrantsState}
 use Rattle.ds_grants.specs.Buffer.{cleared}
 use Rattle.ds_grants.proofs.Translations.{at_set, set_single, found_there}
 use Rattle.ds_tables.specs.Places.{Places, region_of}
-use Rattle.ds_table_words.specs.Buffer.{hi_of, lo_of, read_only, IsMapped, BufferHoldsWords}
-use Rattle.ds_table_words.specs.Changes.{key_forgotten, both_forgotten, IsChangedAt}
-use Rattle.ds_table_words.proofs.Fields.{user_lo, table_lo}
+use Rattle.ds_grants.specs.Buffer.{hi_of, lo_of, read_only, IsMapped, BufferHolds}
+use Rattle.ds_grants.specs.Changes.{forgotten, both_forgotten, IsChangedAt}
+use Rattle.ds_grants.proofs.Fields.{user_lo, table_lo}
 
 -- What is true of a buffer whatever is granted.
 pub record IsPlain (entries : List Entry) : Type 0 where
@@ -64,10 +64,10 @@ forgets_by entries vpn asid (Some here) is k =
       },
     )
 
-pub forgets : (entries : List Entry) (vpn asid : ℕ) → IsPlain entries → IsPlain (key_forgotten entries vpn asid) × IsLess entries (key_forgotten entries vpn asid) vpn asid
+pub forgets : (entries : List Entry) (vpn asid : ℕ) → IsPlain entries → IsPlain (forgotten entries vpn asid) × IsLess entries (forgotten entries vpn asid) vpn asid
 forgets entries vpn asid k = forgets_by entries vpn asid (find entries vpn asid) refl k
 
-plain_of : (entries : List Entry) (numbers : ℕ → ℕ) (g : GrantsState) (t : Places) → length entries ≤ 64 → BufferHoldsWords entries numbers g t → IsPlain entries
+plain_of : (entries : List Entry) (numbers : ℕ → ℕ) (g : GrantsState) (t : Places) → length entries ≤ 64 → BufferHolds entries numbers g t → IsPlain entries
 plain_of entries numbers g t few k = record { single = k.single; apart = k.apart; own = k.own; few = few }
 
 -- an entry of who has no number answers to nobody
@@ -76,10 +76,10 @@ numbered n asid e (inl is) some same = sym same ∙ is
 numbered n asid e (inr none) some same = absurd (omega (arith, none, some, same))
 
 pub buffer_changed : (entries : List Entry) (numbers : ℕ → ℕ) (g h : GrantsState) (t u : Places) (p address asid : ℕ) → length entries ≤ 64 → (numbers p ≡ asid) ⊎ (numbers p ≡ 0) → IsChangedAt g h t u p address
-    → BufferHoldsWords entries numbers g t → BufferHoldsWords (both_forgotten entries address asid) numbers h u
+    → BufferHolds entries numbers g t → BufferHolds (both_forgotten entries address asid) numbers h u
 buffer_changed entries numbers g h t u p address asid few known changed k =
     let first = forgets entries (address / 2 ^ 12) asid (plain_of entries numbers g t few k) in
-    let second = forgets (key_forgotten entries (address / 2 ^ 12) asid) (0xC0000 + region_of address) asid first.0 in
+    let second = forgets (forgotten entries (address / 2 ^ 12) asid) (0xC0000 + region_of address) asid first.0 in
     record {
       single = second.0.single;
       apart = second.0.apart;

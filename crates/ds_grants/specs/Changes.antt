@@ -1,15 +1,14 @@
 -- What a change of one entry makes of memory, places and the buffer.
-use Rattle.std.specs.Prelude.{◌≡◌, ◌≢◌, ◌⊎◌, ◌<◌, ℕ, ◌+◌, ◌/◌, ◌^◌, ◌==◌, Bool, if◌then◌else◌, List}
+use Rattle.std.specs.Prelude.{◌≡◌, ◌≢◌, ◌⊎◌, ◌<◌, ℕ, ◌+◌, ◌/◌, ◌^◌, ◌==◌, Bool, if◌then◌else◌, List, [], ◌∷◌, slice_set, Option, Some, None}
 use Rattle.std.specs.List.{list_any}
 use Rattle.ds_tlb.specs.declared.entry.Entry.{Entry}
-use Rattle.ds_tlb.specs.Entries.{find}
+use Rattle.ds_tlb.specs.Entries.{find, empty_entry}
 use Rattle.ds_policy.specs.declared.grant.Entry as granted
 use Rattle.ds_policy.specs.Pages.{entries_of}
 use Rattle.ds_grants.specs.State.{GrantsState, without_grant}
-use Rattle.ds_grants.specs.Buffer.{cleared}
 use Rattle.ds_tables.specs.Places.{Places, region_of, page_of_table, closed}
 use Rattle.ds_tables.specs.Tables.{with_entry}
-use Rattle.ds_table_words.specs.Words.{granted_word}
+use Rattle.ds_grants.specs.Words.{granted_word}
 
 -- an entry of a process lies in the region
 abbrev pub is_used : GrantsState → ℕ → ℕ → Bool
@@ -25,16 +24,32 @@ abbrev pub places_without : Places → GrantsState → ℕ → ℕ → Places
 places_without t g p a =
     if is_used (without_grant g p a) p (region_of a) then t else closed t p (region_of a)
 
+-- the slot holds what it held at the start, if there is one
+abbrev pub cleared : List Entry → Option ℕ → List Entry
+cleared entries None = entries
+cleared entries (Some slot) = slice_set entries slot (empty_entry slot)
+
 -- without what an address space has for a page
-abbrev pub key_forgotten : List Entry → ℕ → ℕ → List Entry
-key_forgotten entries vpn asid = cleared entries (find entries vpn asid)
+abbrev pub forgotten : List Entry → ℕ → ℕ → List Entry
+forgotten entries vpn asid = cleared entries (find entries vpn asid)
 
 -- without what an address space has for the page of an address, and for the page of its region's
 -- table
 abbrev pub both_forgotten : List Entry → ℕ → ℕ → List Entry
 both_forgotten entries address asid =
-    key_forgotten (key_forgotten entries (address / 2 ^ 12) asid)
+    forgotten (forgotten entries (address / 2 ^ 12) asid)
     (0xC0000 + region_of address) asid
+
+-- without what an address space has for the pages of these entries, and for those of their regions'
+-- tables
+abbrev pub all_forgotten : List Entry → List granted.Entry → ℕ → List Entry
+all_forgotten entries [] asid = entries
+all_forgotten entries (e ∷ rest) asid = all_forgotten (both_forgotten entries e.address asid) rest asid
+
+-- the places once the regions of these entries of a process have no tables
+abbrev pub all_closed : Places → ℕ → List granted.Entry → Places
+all_closed t p [] = t
+all_closed t p (e ∷ rest) = all_closed (closed t p (region_of e.address)) p rest
 
 -- an entry of a process changed at an address, and the region's table may be new or gone: no other
 -- word is another, and no other table lies elsewhere

@@ -18,9 +18,9 @@ use Rattle.ds_tables.specs.Tables as tables
 use Rattle.ds_tables.specs.Tables.{HasEmptyTable, entry_word}
 use Rattle.ds_tables.proofs.PlaceLemmas.{places_at, no_places, is_free_place, four_places, place_of-new, place_of-other, place_of-closed, place_of-kept}
 use Rattle.ds_tables.proofs.Map.{put_words, closed_words, opened_old, opened_new}
-use Rattle.ds_table_words.specs.Words.{word_of_right, word_of_grant, granted_word, regions_taken, WordsHold}
-use Rattle.ds_table_words.specs.Changes.{is_used, memory_without, places_without}
-use Rattle.ds_table_words.proofs.Regions.{same_number, itself, either, has, placed_by_taken}
+use Rattle.ds_grants.specs.Words.{word_of_right, word_of_grant, granted_word, regions_taken, WordsHold}
+use Rattle.ds_grants.specs.Changes.{is_used, memory_without, places_without}
+use Rattle.ds_grants.proofs.Regions.{same_number, itself, either, has, placed_by_taken}
 
 -- Entries of a row, put and removed.
 

@@ -10,8 +10,8 @@ use Rattle.ds_policy.specs.declared.grant.Right.TheVariants.{Nothing, Read, Writ
 use Rattle.ds_policy.specs.Pages.{entry_at}
 use Rattle.ds_grants.specs.State.{GrantsState, frame_of_page}
 use Rattle.ds_tables.specs.Places.{Places, page_of_table}
-use Rattle.ds_table_words.specs.Words.{word_of_right, word_of_grant, granted_word}
-use Rattle.ds_table_words.specs.Buffer.{hi_of, read_only, lo_of, IsMapped}
+use Rattle.ds_grants.specs.Words.{word_of_right, word_of_grant, granted_word}
+use Rattle.ds_grants.specs.Buffer.{hi_of, read_only, lo_of, IsMapped}
 
 -- the keys that an entry of two words has
 pub has_page : (vpn asid lo : ℕ) → vpn < 2 ^ 20 → asid < 64 → (entry_of (hi_of vpn asid) lo).vpn ≡ vpn

@@ -6,11 +6,11 @@ use Rattle.ds_policy.specs.declared.grant.Right.TheVariants.{Nothing}
 use Rattle.ds_grants.specs.State.{GrantsState, with_grant}
 use Rattle.ds_tables.specs.Places.{Places}
 use Rattle.ds_tables.specs.Tables.{entry_word}
-use Rattle.ds_table_words.specs.Words.{granted_word, WordsHold}
-use Rattle.ds_table_words.specs.Buffer.{IsMapped}
-use Rattle.ds_table_words.specs.Changes.{AreKnown}
-use Rattle.ds_table_words.specs.Represented.{IsLow, IsHigh, HasRegion}
-use Rattle.ds_table_words.specs.Rows.{grant, grants}
+use Rattle.ds_grants.specs.Words.{granted_word, WordsHold}
+use Rattle.ds_grants.specs.Buffer.{IsMapped}
+use Rattle.ds_grants.specs.Changes.{AreKnown}
+use Rattle.ds_grants.specs.Represented.{IsLow, IsHigh, HasRegion}
+use Rattle.ds_grants.specs.Rows.{grant, grants}
 
 pub the_last_users_page_has_its_word : (memory : List ℕ) (t : Places) (g : GrantsState) → WordsHold memory t g → entry_word memory t 1 (0x7FFFF * 2 ^ 12) ≡ granted_word g 1 0x7FFFF
 the_last_users_page_has_its_word memory t g k = k.words 1 0x7FFFF (omega arith) (omega arith)

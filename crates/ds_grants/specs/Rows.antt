@@ -11,10 +11,10 @@ use Rattle.ds_grants.specs.State.{GrantsState}
 use Rattle.ds_grants.specs.First.{no_grants}
 use Rattle.ds_tables.specs.Places.{Places}
 use Rattle.ds_tables.specs.Tables.{with_entry}
-use Rattle.ds_table_words.specs.Words.{word_of_right, granted_word, regions_taken}
-use Rattle.ds_table_words.specs.Buffer.{hi_of, lo_of}
-use Rattle.ds_table_words.specs.Changes.{is_used, memory_without, places_without, both_forgotten}
-use Rattle.ds_table_words.specs.Represented.{HasRegion}
+use Rattle.ds_grants.specs.Words.{word_of_right, granted_word, regions_taken}
+use Rattle.ds_grants.specs.Buffer.{hi_of, lo_of}
+use Rattle.ds_grants.specs.Changes.{is_used, memory_without, places_without, both_forgotten}
+use Rattle.ds_grants.specs.Represented.{HasRegion}
 
 -- a grant of a page by rule 1
 abbrev pub grant : Right → Option ℕ → Grant
