@@ -1,5 +1,5 @@
 //! What is granted at the beginning of a run.
-ghost use Rattle.std.specs.Prelude.{◌≡◌, ℕ, ◌+◌, ◌<◌, ◌≤◌, ◌⊎◌, false, length, replicate, position, bytes_eq, slice_index_or, map, [], IfSome, IfOk, OnErr};
+ghost use Rattle.std.specs.Prelude.{◌≡◌, ℕ, ◌+◌, ◌<◌, ◌≤◌, ◌⊎◌, false, length, replicate, position, bytes_eq, slice_index_or, map, [], IfSome, IfOk, OnErr, OnOk};
 ghost use Rattle.ds_mem.specs.Memory.{frame_of};
 ghost use Rattle.ds_asm.specs.Images.{part_of};
 ghost use Rattle.ds_policy.specs.PolicyParts.{sources_of};
