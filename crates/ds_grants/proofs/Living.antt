@@ -31,13 +31,15 @@ pages_same g g' memory size same = ap (λ n. map (page_in g' memory) (range_with
 
 -- what changed below the pages leaves the page state
 pub low_pages : (g : GrantsState) (old new : List ℕ) → IsLow old new → page_state g new ≡ page_state g old
-low_pages g old new low = ap (λ (pages : Pages). record { pages = pages; table = g.table; named = g.named }) (same_lists (pages_in g new) (pages_in g old)
-(length-map-range_with_len (page_in g new) 0 g.frames ∙ sym (length-map-range_with_len (page_in g old) 0 g.frames))
-(λ k d h.
-let within : k < g.frames = let size = length-map-range_with_len (page_in g new) 0 g.frames in omega arith in
-get_or-map-range_with_len (page_in g new) 0 g.frames k k d within (omega arith)
-∙ ap (λ (bytes : List ℕ). cond (is_live g k) (Some bytes) None) (low.1 (k + 402) (omega arith))
-∙ sym (get_or-map-range_with_len (page_in g old) 0 g.frames k k d within (omega arith))))
+low_pages g old new low =
+    let size = length-map-range_with_len (page_in g new) 0 g.frames in
+    let pages : pages_in g new ≡ pages_in g old = same_lists (pages_in g new) (pages_in g old) (size ∙ sym (length-map-range_with_len (page_in g old) 0 g.frames))
+    (λ k d h.
+    let within : k < g.frames = omega arith in
+    get_or-map-range_with_len (page_in g new) 0 g.frames k k d within (omega arith)
+    ∙ ap (λ (bytes : List ℕ). cond (is_live g k) (Some bytes) None) (low.1 (k + 402) (omega arith))
+    ∙ sym (get_or-map-range_with_len (page_in g old) 0 g.frames k k d within (omega arith))) in
+    ap (λ (pages : Pages). record { pages = pages; table = g.table; named = g.named }) pages
 
 -- a page lives where the policy names it or it has holders
 pub live_by_holders : (g : GrantsState) (q : ℕ) → is_live g q ≡ (nat_lt q g.named || nat_lt 0 (holders_of g.table q))
