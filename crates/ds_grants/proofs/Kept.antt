@@ -1,6 +1,7 @@
 -- What is represented after an entry is put, and after one is removed.
 use Rattle.std.proofs.Common.{◌≡◌, ◌≢◌, ◌⊎◌, ℕ, ◌+◌, ◌-◌, ◌*◌, ◌/◌, ◌%◌, ◌^◌, ◌<◌, ◌≤◌, Bool, true, false, cond, not, List, length, Option, Some, None, refl, sym, ap, subst, ◌∙◌, arith, inl, inr}
-use Rattle.std.specs.Prelude.{IfSome, ◌||◌, is_some}
+use Rattle.std.specs.Prelude.{IfSome, ◌||◌, ◌==◌, nat_le, is_some}
+use Rattle.std.proofs.lemmas.Bool.Decides.{nat_tests}
 use Rattle.std.proofs.lemmas.List.{length-map}
 use Rattle.ds_mem.specs.Memory.{zeros}
 use Rattle.ds_mem.proofs.Zeros.{length-zeros}
@@ -19,11 +20,12 @@ use Rattle.ds_tables.specs.Tables as tables
 use Rattle.ds_tables.specs.Tables.{HasEmptyTable, with_table_by, with_table, with_entry_word, word_place, entry_word}
 use Rattle.ds_tables.proofs.PlaceLemmas.{is_place, is_free_place, placed, place_of-other, place_of-kept, row_placed, closed_row, four_places}
 use Rattle.ds_tables.proofs.Map.{frames_kept, opened_old, opened_not, opened_new}
-use Rattle.ds_grants.specs.Words.{word_of_right, word_of_grant}
+use Rattle.ds_grants.specs.Words.{word_of_right, word_of_grant, WordsHold}
 use Rattle.ds_grants.specs.Changes.{both_forgotten, is_used, memory_without, places_without, IsChangedAt, AreKnown}
 use Rattle.ds_grants.specs.Represented.{IsRepresented, Keeps, HasPlace, IsLow, IsHigh}
-use Rattle.ds_grants.proofs.FifthRegion.{fifth_by_places}
-use Rattle.ds_grants.proofs.Puts.{put_holds, removed_holds, same_word, found_used}
+use Rattle.ds_grants.specs.Order.{is_no_page}
+use Rattle.ds_grants.proofs.FifthRegion.{either, fifth_by_places}
+use Rattle.ds_grants.proofs.Puts.{put_holds, removed_holds, same_word, found_used, some_is, used_before}
 use Rattle.ds_grants.proofs.Forgets.{buffer_changed}
 
 -- Places after a region is opened, and after one is closed.
@@ -47,6 +49,20 @@ opened_tables t p r q s are other = elim (opened_by t p r (place_of t p r) (free
 
 pub closed_places : (t : Places) (p r : ℕ) → ArePlaces t → 0 < p → p ≤ length t → ArePlaces (closed t p r)
 closed_places t p r are low high = subst ArePlaces (sym (closed_row t p r low)) (row_placed t (p - 1) _ are (length-map (places_of t p) (freed r) ∙ four_places t p are low high))
+
+-- A page's address.
+
+pub aligned : (a : ℕ) → is_no_page a ≡ false → a % 2 ^ 12 ≡ 0
+aligned a page = by_test (either (not (a % 4096 == 0)) (nat_le (2 ^ 31) a) page).0
+  where
+    by_test : not (a % 4096 == 0) ≡ false → a % 2 ^ 12 ≡ 0
+    by_test e = grind (arith, nat_tests)
+
+-- A page that is granted lies in memory.
+
+pub few_pages : (page : Option ℕ) (frames : ℕ) → frames ≤ 1024 → IfSome page (λ q. q < frames) → IfSome page (λ q. q < 1024)
+few_pages None frames few within = tt
+few_pages (Some q) frames few within = omega (arith, few, within)
 
 -- A page-table word has 32 bits.
 
@@ -118,6 +134,12 @@ module _ (entries : List Entry) (memory : List ℕ) (t : Places) (numbers known 
       empty_by true = frames_kept memory t p a 0 1 k.places long (inl (omega arith)) ∙ k.empty
       empty_by false = k.empty
 
+-- a region that stays open had a table
+pub still_open : (memory : List ℕ) (t : Places) (g : GrantsState) (p a : ℕ) → WordsHold memory t g → 0 < p → p ≤ length g.table → is_used (without_grant g p a) p (region_of a) ≡ true → opened t p (region_of a) ≡ t
+still_open memory t g p a k low high stays =
+    let there = some_is (place_of t p (region_of a)) (k.regions p (region_of a) low ∙ used_before g.table p a low high stays) in
+    opened_old t p (region_of a) there.0 there.1
+
 -- Memory of which tables alone changed, and memory of which pages alone did.
 
 table_in_memory : (t : Places) (p r : ℕ) (o : Option ℕ) → ArePlaces t → place_of t p r ≡ o → frame_of_place p o < 402
@@ -177,6 +199,10 @@ pub high_stored : (memory : List ℕ) (place w : ℕ) → length memory ≡ 2 ^ 
 high_stored memory place w size low high =
     let inside : place - place % 4 + 4 ≤ length memory = omega (arith, size, high) in
     (length-with_word memory place w inside, λ f table. frame_of-with_word_apart memory place w f inside (inl (omega (arith, table, low))))
+
+-- memory and places as others are
+pub represented_as : {entries : List Entry} {memory n : List ℕ} {t u : Places} {numbers : ℕ → ℕ} {g : GrantsState} → n ≡ memory → u ≡ t → IsRepresented entries memory t numbers g → IsRepresented entries n u numbers g
+represented_as {entries} {memory} {n} {t} {u} {numbers} {g} e f k = subst (λ (m : List ℕ). IsRepresented entries m u numbers g) (sym e) (subst (λ (v : Places). IsRepresented entries memory v numbers g) (sym f) k)
 
 -- Changes one after the other, and none.
 

@@ -14,6 +14,7 @@ pub mod Kept
 pub mod Living
 pub mod Puts
 pub mod RegionsSeen
+pub mod RuleWords
 pub mod Sizes
 pub mod Translations
 pub mod WordRows

@@ -158,7 +158,7 @@ distinct_inserted r ps qs i new distinct =
 
 -- An opened region.
 
-some_is : (o : Option ℕ) → is_some o ≡ true → (k : ℕ) × (o ≡ Some k)
+pub some_is : (o : Option ℕ) → is_some o ≡ true → (k : ℕ) × (o ≡ Some k)
 some_is None e = absurd cc
 some_is (Some k) e = (k, refl)
 
