@@ -12,4 +12,4 @@ pub returns-clause-does : goal.returns-clause-does
 returns-clause-does g c =
     let within = c.in_ok-may_drop.ensures.within in
     c.in_ok-may_drop.ensures.ok c.args.memory.now
-    ∙ ap (λ (s : PageState). Ok s) (sym (ap (λ (s : GrantsState). page_state s c.remove.new.memory) c.remove.ensures.value ∙ low_pages _ c.args.memory.now c.remove.new.memory c.remove.ensures.low ∙ removed_state c.args.self.now c.args.process c.args.addr c.args.memory.now within.0 within.1))
+    ∙ ap (λ (s : PageState). Ok s) (sym (low_pages c.remove.new.self c.args.memory.now c.remove.new.memory c.remove.ensures.low ∙ ap (λ (s : GrantsState). page_state s c.args.memory.now) c.remove.ensures.value ∙ removed_state c.args.self.now c.args.process c.args.addr c.args.memory.now within.0 within.1))

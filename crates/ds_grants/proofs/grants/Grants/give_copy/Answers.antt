@@ -17,8 +17,8 @@ returns-in-Some-Some-clause-state g c =
     let copied : c.copy_frame.new.self ≡ with_frame c.args.memory.now (c.in-Some-Some.free + 402) (frame_of c.args.memory.now (c.in-Some-Some.page + 402)) =
     c.copy_frame.ensures.value ∙ rw (c.frame_of_page-in-Some-Some.ensures, c.frame_of_page.ensures) refl in
     let large : 8388608 ≤ length c.args.memory.now = large_before c.args.memory.now (frame_of c.args.memory.now (c.in-Some-Some.page + 402)) (c.in-Some-Some.free + 402) 8388608 (ap length (sym copied) ∙ c.copy_frame.ensures.size) in
-    ap (λ (s : GrantsState). page_state s c.put.new.memory) c.put.ensures.value
-    ∙ low_pages _ c.copy_frame.new.self c.put.new.memory c.put.ensures.low
+    low_pages c.put.new.self c.copy_frame.new.self c.put.new.memory c.put.ensures.low
+    ∙ ap (λ (s : GrantsState). page_state s c.copy_frame.new.self) c.put.ensures.value
     ∙ ap (page_state (with_grant c.args.self.now c.args.receiver c.args.to (record c.args.grant { right = Write; page = Some c.in-Some-Some.free; giver = c.args.caller }))) copied
     ∙ copied_state c.args.self.now c.args.receiver c.args.to c.args.grant c.in-Some-Some.page c.in-Some-Some.free c.args.caller c.args.memory.now c.requires.low c.requires.high
     (none_there _ c.requires.free) c.in-Some-Some.is-0

@@ -19,4 +19,4 @@ returns-clause-does g c =
     let within = c.in_ok-grant.ensures.within in
     c.in_ok-grant.ensures.ok c.args.memory.now _
     ∙ ap (λ (s : PageState). Ok s) (narrowed_as (page_state c.args.self.now c.args.memory.now) c.args.process c.args.addr c.in_ok-grant.grant c.in_ok-grant.ensures.there
-    ∙ sym (ap (λ (s : GrantsState). page_state s c.put.new.memory) c.put.ensures.value ∙ low_pages _ c.args.memory.now c.put.new.memory c.put.ensures.low ∙ narrowed_state c.args.self.now c.args.process c.args.addr c.in_ok-grant.grant c.args.memory.now within.0 within.1 c.in_ok-grant.ensures.there))
+    ∙ sym (low_pages c.put.new.self c.args.memory.now c.put.new.memory c.put.ensures.low ∙ ap (λ (s : GrantsState). page_state s c.args.memory.now) c.put.ensures.value ∙ narrowed_state c.args.self.now c.args.process c.args.addr c.in_ok-grant.grant c.args.memory.now within.0 within.1 c.in_ok-grant.ensures.there))

@@ -12,4 +12,4 @@ pub returns-clause-does : goal.returns-clause-does
 returns-clause-does g c =
     let within = c.in_ok-granted_to.ensures.within in
     c.in_ok-granted_to.ensures.ok c.args.memory.now _
-    ∙ ap (λ (s : PageState). Ok s) (sym (ap (λ (s : GrantsState). page_state s c.put.new.memory) c.put.ensures.value ∙ low_pages _ c.args.memory.now c.put.new.memory c.put.ensures.low ∙ revoked_state c.args.self.now c.args.process c.args.addr _ c.args.memory.now within.0 within.1 refl))
+    ∙ ap (λ (s : PageState). Ok s) (sym (low_pages c.put.new.self c.args.memory.now c.put.new.memory c.put.ensures.low ∙ ap (λ (s : GrantsState). page_state s c.args.memory.now) c.put.ensures.value ∙ revoked_state c.args.self.now c.args.process c.args.addr _ c.args.memory.now within.0 within.1 refl))

@@ -14,7 +14,7 @@ put-requires-clause-page g c = subst (λ (o : Option ℕ). IfSome o (λ q. q < c
 
 pub returns-clause-state : goal.returns-clause-state
 returns-clause-state g c =
-    ap (λ (s : GrantsState). page_state s c.put.new.memory) c.put.ensures.value
-    ∙ low_pages _ c.args.memory.now c.put.new.memory c.put.ensures.low
+    low_pages c.put.new.self c.args.memory.now c.put.new.memory c.put.ensures.low
+    ∙ ap (λ (s : GrantsState). page_state s c.args.memory.now) c.put.ensures.value
     ∙ shared_state c.args.self.now c.args.receiver c.args.to _ c.args.memory.now c.requires.low c.requires.high (ap page_of (none_there (entry_at c.args.self.now.table c.args.receiver c.args.to) c.requires.free))
     (one_lives c.args.self.now c.args.grant.page c.requires.names.page c.requires.names.named c.requires.names.lives)
