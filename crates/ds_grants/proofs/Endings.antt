@@ -1,9 +1,9 @@
 -- All entries of a process go: their regions have no tables, and the buffer forgets their pages.
-use Rattle.std.proofs.Common.{◌≡◌, ◌≢◌, ◌⊎◌, ◌∙◌, refl, sym, ap, ap₂, subst, ℕ, ◌+◌, ◌-◌, ◌*◌, ◌/◌, ◌^◌, ◌<◌, ◌≤◌, ◌==◌, Bool, true, false, cond, List, [], ◌∷◌, length, length-set, get_or, drop, map, replicate, Option, Some, None, inl, inr, arith}
+use Rattle.std.proofs.Common.{◌≡◌, ◌≢◌, ◌⊎◌, ◌∙◌, refl, sym, ap, subst, ℕ, ◌+◌, ◌-◌, ◌*◌, ◌/◌, ◌^◌, ◌<◌, ◌≤◌, ◌==◌, Bool, true, false, cond, List, [], ◌∷◌, length, length-set, get_or, drop, map, replicate, Option, Some, None, inl, inr, arith}
 use Rattle.std.specs.List.{list_any}
 use Rattle.std.specs.Prelude.{slice_get, slice_set, ◌||◌, is_some}
 use Rattle.std.proofs.lemmas.Bool.{cases_Bool, cases_eq}
-use Rattle.std.proofs.lemmas.List.{at_drop_more, drop_all, get_or-set_same, length-map}
+use Rattle.std.proofs.lemmas.List.{at_drop_more, drop_all, get_or-set_same}
 use Rattle.ds_word.specs.Bytes.{word_at}
 use Rattle.ds_tlb.specs.declared.entry.Entry.{Entry}
 use Rattle.ds_tlb.specs.Entries.{empty_entry}
@@ -24,7 +24,7 @@ use Rattle.ds_grants.specs.Represented.{IsRepresented}
 use Rattle.ds_grants.proofs.HolderCounts.{holders_fewer}
 use Rattle.ds_grants.proofs.Living.{fewer_state}
 use Rattle.ds_grants.proofs.FifthRegion.{same_number, itself, either}
-use Rattle.ds_grants.proofs.Puts.{used, none_is, none_found, foreign_row, closed_distinct, same_word}
+use Rattle.ds_grants.proofs.Puts.{used, none_is, foreign_row, closed_distinct, same_word}
 use Rattle.ds_grants.proofs.Fields.{user_lo, table_lo}
 use Rattle.ds_grants.proofs.Forgets.{IsPlain, plain_of, forgets, none_of_start, numbered}
 use Rattle.ds_grants.proofs.Kept.{closed_places}
@@ -80,9 +80,9 @@ place_kept [] t p q r other = refl
 place_kept (x ∷ es) t p q r other =
     place_kept es (closed t p (region_of x.address)) p q r (λ own. (either (region_of x.address == r) (used r es) (other own)).1)
     ∙ place_of-kept t p q (region_of x.address) r (λ own same. (
-        let miss = either (region_of x.address == r) (used r es) (other own) in
-        let no : true ≡ false = sym (ap (λ (n : ℕ). region_of x.address == n) same ∙ itself (region_of x.address)) ∙ miss.0 in
-        absurd cc))
+    let miss = either (region_of x.address == r) (used r es) (other own) in
+    let no : true ≡ false = sym (ap (λ (n : ℕ). region_of x.address == n) same ∙ itself (region_of x.address)) ∙ miss.0 in
+    absurd cc))
 
 closed_long : (t : Places) (p r : ℕ) → 0 < p → length (closed t p r) ≡ length t
 closed_long t p r low = ap (λ (u : Places). length u) (closed_row t p r low) ∙ length-set t (p - 1) (map (freed r) (places_of t p))
@@ -114,31 +114,36 @@ all_forgets [] entries asid k = (k, record { each = λ slot e at. inr (at, λ ow
 all_forgets (x ∷ es) entries asid k =
     let first = forgets entries (x.address / 2 ^ 12) asid k in
     let second = forgets (forgotten entries (x.address / 2 ^ 12) asid) (0xC0000 + region_of x.address) asid first.0 in
-    let rest = all_forgets es (both_forgotten entries x.address asid) asid second.0 in
-    (rest.0, record {
-      each = λ slot e at. elim (rest.1.each slot e at) [
-        | inl start ↦ inl start
-        | inr stays ↦ elim (second.1.each slot e stays.0) [
+    let rest = all_forgets es (both_forgotten entries x.address asid) asid second.0 in (
+      rest.0,
+      record {
+        each = λ slot e at. elim (rest.1.each slot e at) [
           | inl start ↦ inl start
-          | inr was ↦ elim (first.1.each slot e was.0) [
+          | inr stays ↦ elim (second.1.each slot e stays.0) [
             | inl start ↦ inl start
-            | inr there ↦ inr (there.0, λ own. (
-              neither (x.address / 2 ^ 12 == e.vpn) (list_any (λ (y : granted.Entry). y.address / 2 ^ 12 == e.vpn) es) (differs (x.address / 2 ^ 12) e.vpn (λ page. there.1 page own)) (stays.1 own).0,
-              λ r is. neither (region_of x.address == r) (used r es) (differs (region_of x.address) r (λ region. was.1 (is ∙ ap (λ (n : ℕ). 0xC0000 + n) region) own)) ((stays.1 own).1 r is),
-            ))
+            | inr was ↦ elim (first.1.each slot e was.0) [
+              | inl start ↦ inl start
+              | inr there ↦ inr (
+                there.0,
+                λ own. (
+                  neither (x.address / 2 ^ 12 == e.vpn) (list_any (λ (y : granted.Entry). y.address / 2 ^ 12 == e.vpn) es) (differs (x.address / 2 ^ 12) e.vpn (λ page. there.1 page own)) (stays.1 own).0,
+                  λ r is. neither (region_of x.address == r) (used r es) (differs (region_of x.address) r (λ region. was.1 (is ∙ ap (λ (n : ℕ). 0xC0000 + n) region) own)) ((stays.1 own).1 r is),
+                ),
+              )
+            ]
           ]
-        ]
-      ];
-    })
+        ];
+      },
+    )
 
 no_such_page : (es : List granted.Entry) (vpn : ℕ) → list_any (λ (x : granted.Entry). x.address / 2 ^ 12 == vpn) es ≡ false → found es (vpn * 2 ^ 12) ≡ None
 no_such_page [] vpn none = refl
 no_such_page (x ∷ es) vpn none =
     let both = either (x.address / 2 ^ 12 == vpn) (list_any (λ (y : granted.Entry). y.address / 2 ^ 12 == vpn) es) none in
     let other : (x.address == vpn * 2 ^ 12) ≡ false = differs x.address (vpn * 2 ^ 12) (λ (is : vpn * 2 ^ 12 ≡ x.address). (
-      let page : x.address / 2 ^ 12 ≡ vpn = omega (arith, is) in
-      let no : true ≡ false = sym (ap (λ (n : ℕ). n == vpn) page ∙ itself vpn) ∙ both.0 in
-      absurd cc)) in
+    let page : x.address / 2 ^ 12 ≡ vpn = omega (arith, is) in
+    let no : true ≡ false = sym (ap (λ (n : ℕ). n == vpn) page ∙ itself vpn) ∙ both.0 in
+    absurd cc)) in
     ap (λ (b : Bool). cond b (Some x.grant) (found es (vpn * 2 ^ 12))) other ∙ no_such_page es vpn both.1
 
 -- What is represented once a process has ended.

@@ -1,30 +1,26 @@
 -- The words of rules, one after the other.
-use Rattle.std.proofs.Common.{◌≡◌, ◌≢◌, ◌⊎◌, ℕ, zero, suc, ◌+◌, ◌-◌, ◌*◌, ◌/◌, ◌%◌, ◌^◌, ◌<◌, ◌≤◌, ◌==◌, Bool, true, false, cond, not, List, [], ◌∷◌, ◌++◌, length, replicate, take, Option, Some, None, get_or, refl, sym, ap, ap₂, subst, ◌∙◌, arith, inl, inr, length-set, get_or-set_same, get_or-set_other}
+use Rattle.std.proofs.Common.{◌≡◌, ◌≢◌, ◌⊎◌, ℕ, zero, suc, ◌+◌, ◌-◌, ◌*◌, ◌%◌, ◌^◌, ◌<◌, ◌≤◌, ◌==◌, Bool, true, false, cond, not, List, [], ◌∷◌, ◌++◌, length, replicate, take, Option, Some, None, get_or, refl, sym, ap, subst, ◌∙◌, arith, inl, inr, length-set, get_or-set_same, get_or-set_other}
 use Rattle.std.specs.Prelude.{◌||◌, nat_lt, map, filter, is_some, IfSome, position}
 use Rattle.std.specs.List.{All, list_any}
-use Rattle.std.proofs.lemmas.Bool.{cases_Bool, cases_eq}
+use Rattle.std.proofs.lemmas.Bool.{cases_Bool}
 use Rattle.std.proofs.lemmas.Bool.Decides.{nat_tests}
 use Rattle.std.proofs.lemmas.List.{take_more, length-replicate, length-take, get_or-take}
-use Rattle.ds_word.specs.Word.{bit}
-use Rattle.ds_word.specs.Bytes.{word_at}
 use Rattle.ds_policy.specs.declared.grant.Entry.{Entry}
 use Rattle.ds_policy.specs.declared.grant.Grant.{Grant}
-use Rattle.ds_policy.specs.declared.grant.Right.{Right}
-use Rattle.ds_policy.specs.declared.grant.Right.TheVariants.{Nothing, Read, Write}
 use Rattle.ds_policy.specs.declared.policy.PolicyRule.{PolicyRule}
 use Rattle.ds_policy.specs.Pages.{Table, entries_of, entry_at, found, put, with_entry}
 use Rattle.ds_policy.specs.Grants.{region, count_distinct}
 use Rattle.ds_policy.specs.PolicyParts as rules
 use Rattle.ds_policy.specs.PolicyFacts.{IsGoodRule, HasFewRegions}
 use Rattle.ds_policy.specs.FirstTable.{granted_by, with_rule, with_rules}
-use Rattle.ds_tables.specs.Places.{Places, ArePlaces, region_of, holds, places_of, place_of, page_of_table, has_place, opened}
+use Rattle.ds_tables.specs.Places.{Places, region_of, holds, places_of, place_of, has_place, opened}
 use Rattle.ds_tables.specs.Tables as tables
 use Rattle.ds_tables.specs.Tables.{HasEmptyTable, entry_word, word_place}
 use Rattle.ds_tables.proofs.PlaceLemmas.{places_at, four_places, none_placed}
 use Rattle.ds_tables.proofs.Map.{frames_kept, none_words}
 use Rattle.ds_grants.specs.State.{GrantsState}
 use Rattle.ds_grants.specs.First.{no_grants}
-use Rattle.ds_grants.specs.Words.{word_of_grant, granted_word, regions_taken, WordsHold}
+use Rattle.ds_grants.specs.Words.{word_of_grant, regions_taken, WordsHold}
 use Rattle.ds_grants.specs.Represented.{HasWords, HasRegion}
 use Rattle.ds_grants.proofs.FifthRegion.{has, subset, regions_of, fifth_by_places}
 use Rattle.ds_grants.proofs.Puts.{put_holds, same_word}
@@ -206,8 +202,8 @@ rule_written processes i rs d memory t within good few long k =
     let before : Table = with_rules (replicate processes []) 1 (take i rs) in
     let rows : length (with_rules (replicate processes []) 1 (take i rs)) ≡ processes = as_long (replicate processes []) 1 (take i rs) ∙ length-replicate processes [] in
     subst (λ (table : Table). HasWords (tables.with_entry memory t r.process r.address (word_of_grant (over []) (Some (granted_by 0 r)))) (opened t r.process (region_of r.address)) (over table))
-      (sym (ap (with_rules (replicate processes []) 1) (take_more rs i d within) ∙ one_more (replicate processes []) 1 (take i rs) r 0))
-      (written memory t before r.process r.address (granted_by (1 + length (take i rs)) r) k long (omega (arith, p)) (omega (arith, p, rows)) it.aligned it.page (region_for processes i rs d within good few))
+    (sym (ap (with_rules (replicate processes []) 1) (take_more rs i d within) ∙ one_more (replicate processes []) 1 (take i rs) r 0))
+    (written memory t before r.process r.address (granted_by (1 + length (take i rs)) r) k long (omega (arith, p)) (omega (arith, p, rows)) it.aligned it.page (region_for processes i rs d within good few))
 
 -- Before any rule.
 pub nothing_written : (processes places : ℕ) (memory : List ℕ) → places ≡ processes → processes ≤ 100 → HasEmptyTable memory → HasWords memory (replicate places (replicate 4 None)) (over (replicate processes []))

@@ -10,9 +10,9 @@ ghost use Rattle.ds_grants.specs.State.{pages_in};
 ghost use Rattle.ds_grants.specs.Represented.{IsRepresented};
 ghost use Rattle.ds_grants.specs.First.{no_grants, first_grants};
 
+use crate::first_tables::first_tables;
 use crate::grants::{Grants, PROCESSES, frame_of_page};
 use crate::holders::hold_table;
-use crate::first_tables::first_tables;
 use crate::tally::Tally;
 use crate::translation::flush;
 use arrayvec::ArrayVec;
