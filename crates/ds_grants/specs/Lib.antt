@@ -2,6 +2,10 @@ pub mod State
 pub mod Free
 pub mod Sound
 pub mod Counts
+pub mod Words
 pub mod Buffer
+pub mod Changes
+pub mod Represented
 pub mod Order
 pub mod First
+pub mod Rows

@@ -7,6 +7,7 @@ ghost use Rattle.ds_grants.specs.State.{number_of, lives_in, pages_in, page_stat
 ghost use Rattle.ds_grants.specs.Counts.{page_of};
 ghost use Rattle.ds_grants.specs.Free.{HasPage, IsFirstFree};
 ghost use Rattle.ds_grants.specs.Order.{is_no_page};
+ghost use Rattle.ds_grants.specs.Represented.{HasRegion};
 
 use crate::fault::GrantFault;
 use crate::grants::Grants;
@@ -157,6 +158,7 @@ impl Grants {
             or_else fifth_region (page_state self.now memory) process addr or_else next) ≡ next) }
         ensures room { OnOk result (IsNone (entry_at self.now.table process addr)
             → length (entries_of self.now.table process) < 256) }
+        ensures region { OnOk result (HasRegion self.now process addr) }
     {
         let entries = self.table.entries(process);
         if entries.len() >= MOST && self.table.entry(process, addr).is_none() {
@@ -193,6 +195,7 @@ impl Grants {
         ensures within { OnOk result ((0 < process) × (process ≤ length self.now.table)) }
         ensures room { OnOk result (IsNone (entry_at self.now.table process addr)
             → length (entries_of self.now.table process) < 256) }
+        ensures region { OnOk result (HasRegion self.now process addr) }
     {
         if !self.lives(process) {
             return Err(GrantFault::NoProcess);
@@ -240,6 +243,7 @@ impl Grants {
         ensures page { OnOk result (is_no_page to ≡ false) }
         ensures within { OnOk result ((0 < receiver) × (receiver ≤ length self.now.table)) }
         ensures room { OnOk result (length (entries_of self.now.table receiver) < 256) }
+        ensures region { OnOk result (HasRegion self.now receiver to) }
         ensures mode { OnOk result ((1 ≤ mode) × (mode ≤ 3)) }
         ensures frame { OnOk result (mode ≡ 3 → (page : ℕ) × IsFirstFree self.now page) }
     {

@@ -1,17 +1,21 @@
 //! What a process may do with what it was granted: give it, take back what it gave, and drop it.
-ghost use Rattle.std.specs.Prelude.{◌≡◌, ◌≢◌, ℕ, ◌<◌, ◌≤◌, ◌^◌, List, true, false, length, if◌then◌else◌, Some, IsNone, OnErr, OnOk, ◌/◌};
+ghost use Rattle.std.specs.Prelude.{◌≡◌, ◌≢◌, ℕ, ◌<◌, ◌≤◌, ◌^◌, List, true, false, length, if◌then◌else◌, Some, IsNone, OnErr, OnOk};
 ghost use Rattle.ds_mem.specs.Memory.{frame_of};
 ghost use Rattle.ds_policy.specs.declared.grant.Right.TheVariants.{Write};
 ghost use Rattle.ds_policy.specs.Pages.{entries_of, entry_at, fresh};
 ghost use Rattle.ds_policy.specs.Grants.{is_some_right, granted, copied, give, take, drop_own, drop_by_command};
 ghost use Rattle.ds_grants.specs.State.{Does, IsAsLarge, lives_in, frame_of_page, page_state, pages_in};
 ghost use Rattle.ds_grants.specs.Free.{HasPage, IsFirstFree};
-ghost use Rattle.ds_grants.specs.Buffer.{KeepsBuffer, forgotten};
+ghost use Rattle.ds_grants.specs.Order.{is_no_page};
+ghost use Rattle.ds_grants.specs.Buffer.{one_space};
+ghost use Rattle.ds_grants.specs.Changes.{both_forgotten};
+ghost use Rattle.ds_grants.specs.Represented.{IsLow, HasRegion, Keeps};
 
 use crate::fault::GrantFault;
 use crate::grants::{Grants, frame_of_page};
 use ds_mem::Memory;
 use ds_policy::{Grant, Right};
+use ds_tables::Tables;
 use ds_tlb::Lookaside;
 
 impl Grants {
@@ -26,6 +30,7 @@ impl Grants {
         to: u32,
         mode: u32,
         memory: &mut Memory,
+        tables: &mut Tables,
         tlb: &mut L,
     ) -> Result<(), GrantFault>
         requires low { 0 < caller }
@@ -36,21 +41,41 @@ impl Grants {
         ensures same { IsAsLarge self.old self.new }
         ensures ended { self.new.ended ≡ self.old.ended }
         ensures refused { OnErr result ((self.new ≡ self.old) × (memory.new ≡ memory.old)
-            × (L.entries tlb.new ≡ L.entries tlb.old)) }
-        ensures shared { mode ≢ 3 → memory.new ≡ memory.old }
+            × (tables.new ≡ tables.old) × (L.entries tlb.new ≡ L.entries tlb.old)) }
+        ensures shared { mode ≢ 3 → IsLow memory.old memory.new }
         ensures entries { OnOk result
-            (L.entries tlb.new ≡ forgotten (L.entries tlb.old) (to / 2 ^ 12)) }
-        ensures elsewhere { (f : ℕ)
+            (L.entries tlb.new ≡ both_forgotten (L.entries tlb.old) to 1) }
+        ensures elsewhere { (f : ℕ) → 402 ≤ f
             → f ≢ frame_of_page self.old (fresh (pages_in self.old memory.old))
             → frame_of memory.new f ≡ frame_of memory.old f }
-        ensures buffer { KeepsBuffer (L.entries tlb.old) (L.entries tlb.new) self.old self.new }
+        ensures keeps { Keeps one_space
+            (L.entries tlb.old) memory.old tables.old self.old
+            (L.entries tlb.new) memory.new tables.new self.new }
         ensures random { L.random_place tlb.new ≡ L.random_place tlb.old }
     {
         let grant = self.may_give(caller, addr, receiver, to, mode)?;
         match mode {
-            1 => self.share(grant, Right::Read, caller, receiver, to, tlb),
-            2 => self.share(grant, Right::Write, caller, receiver, to, tlb),
-            _ => self.give_copy(grant, caller, receiver, to, memory, tlb),
+            1 => self.share(
+                grant,
+                Right::Read,
+                caller,
+                receiver,
+                to,
+                memory,
+                tables,
+                tlb,
+            ),
+            2 => self.share(
+                grant,
+                Right::Write,
+                caller,
+                receiver,
+                to,
+                memory,
+                tables,
+                tlb,
+            ),
+            _ => self.give_copy(grant, caller, receiver, to, memory, tables, tlb),
         }
         Ok(())
     }
@@ -63,21 +88,28 @@ impl Grants {
         caller: u32,
         receiver: u32,
         to: u32,
+        memory: &mut Memory,
+        tables: &mut Tables,
         tlb: &mut L,
     )
         requires low { 0 < receiver }
         requires high { receiver ≤ length self.old.table }
         requires room { length (entries_of self.old.table receiver) < 256 }
         requires free { IsNone (entry_at self.old.table receiver to) }
+        requires page { is_no_page to ≡ false }
+        requires region { HasRegion self.old receiver to }
         requires right { is_some_right right ≡ true }
         requires names { HasPage self.old grant }
-        ensures state { (memory : List ℕ) → page_state self.new memory
-            ≡ granted (page_state self.old memory) receiver to
+        ensures state { page_state self.new memory.new
+            ≡ granted (page_state self.old memory.old) receiver to
             (record grant { right = right; giver = caller }) }
+        ensures low { IsLow memory.old memory.new }
         ensures same { IsAsLarge self.old self.new }
         ensures ended { self.new.ended ≡ self.old.ended }
-        ensures entries { L.entries tlb.new ≡ forgotten (L.entries tlb.old) (to / 2 ^ 12) }
-        ensures buffer { KeepsBuffer (L.entries tlb.old) (L.entries tlb.new) self.old self.new }
+        ensures entries { L.entries tlb.new ≡ both_forgotten (L.entries tlb.old) to 1 }
+        ensures keeps { Keeps one_space
+            (L.entries tlb.old) memory.old tables.old self.old
+            (L.entries tlb.new) memory.new tables.new self.new }
         ensures random { L.random_place tlb.new ≡ L.random_place tlb.old }
     {
         let shared = Grant {
@@ -85,7 +117,7 @@ impl Grants {
             giver: caller,
             ..grant
         };
-        self.put(receiver, to, shared, tlb);
+        self.put(receiver, to, shared, memory, tables, tlb);
     }
 
     /// Gives a copy of a page that a process has.
@@ -96,12 +128,15 @@ impl Grants {
         receiver: u32,
         to: u32,
         memory: &mut Memory,
+        tables: &mut Tables,
         tlb: &mut L,
     )
         requires low { 0 < receiver }
         requires high { receiver ≤ length self.old.table }
         requires room { length (entries_of self.old.table receiver) < 256 }
         requires free { IsNone (entry_at self.old.table receiver to) }
+        requires page { is_no_page to ≡ false }
+        requires region { HasRegion self.old receiver to }
         requires names { HasPage self.old grant }
         requires frame { (page : ℕ) × IsFirstFree self.old page }
         ensures state { page_state self.new memory.new
@@ -114,11 +149,13 @@ impl Grants {
             }) }
         ensures same { IsAsLarge self.old self.new }
         ensures ended { self.new.ended ≡ self.old.ended }
-        ensures entries { L.entries tlb.new ≡ forgotten (L.entries tlb.old) (to / 2 ^ 12) }
-        ensures elsewhere { (f : ℕ)
+        ensures entries { L.entries tlb.new ≡ both_forgotten (L.entries tlb.old) to 1 }
+        ensures elsewhere { (f : ℕ) → 402 ≤ f
             → f ≢ frame_of_page self.old (fresh (pages_in self.old memory.old))
             → frame_of memory.new f ≡ frame_of memory.old f }
-        ensures buffer { KeepsBuffer (L.entries tlb.old) (L.entries tlb.new) self.old self.new }
+        ensures keeps { Keeps one_space
+            (L.entries tlb.old) memory.old tables.old self.old
+            (L.entries tlb.new) memory.new tables.new self.new }
         ensures random { L.random_place tlb.new ≡ L.random_place tlb.old }
     {
         if let (Some(page), Some(free)) = (grant.page, self.free_page()) {
@@ -129,7 +166,7 @@ impl Grants {
                 giver: caller,
                 ..grant
             };
-            self.put(receiver, to, copy, tlb);
+            self.put(receiver, to, copy, memory, tables, tlb);
         }
     }
 
@@ -140,25 +177,28 @@ impl Grants {
         process: u32,
         addr: u32,
         memory: &mut Memory,
+        tables: &mut Tables,
         tlb: &mut L,
     ) -> Result<(), GrantFault>
         ensures does { Does (page_state self.old memory.old) (page_state self.new memory.new) result
             (take (lives_in self.old) (page_state self.old memory.old) caller process addr) }
-        ensures memory { memory.new ≡ memory.old }
+        ensures low { IsLow memory.old memory.new }
         ensures same { IsAsLarge self.old self.new }
         ensures ended { self.new.ended ≡ self.old.ended }
-        ensures refused { OnErr result ((self.new ≡ self.old)
-            × (L.entries tlb.new ≡ L.entries tlb.old)) }
+        ensures refused { OnErr result ((self.new ≡ self.old) × (memory.new ≡ memory.old)
+            × (tables.new ≡ tables.old) × (L.entries tlb.new ≡ L.entries tlb.old)) }
         ensures entries { OnOk result
-            (L.entries tlb.new ≡ forgotten (L.entries tlb.old) (addr / 2 ^ 12)) }
-        ensures buffer { KeepsBuffer (L.entries tlb.old) (L.entries tlb.new) self.old self.new }
+            (L.entries tlb.new ≡ both_forgotten (L.entries tlb.old) addr 1) }
+        ensures keeps { Keeps one_space
+            (L.entries tlb.old) memory.old tables.old self.old
+            (L.entries tlb.new) memory.new tables.new self.new }
         ensures random { L.random_place tlb.new ≡ L.random_place tlb.old }
     {
         let grant = self.granted_to(process, addr)?;
         if grant.giver != caller {
             return Err(GrantFault::NotGiven);
         }
-        self.remove(process, addr, tlb);
+        self.remove(process, addr, memory, tables, tlb);
         Ok(())
     }
 
@@ -170,6 +210,7 @@ impl Grants {
         addr: u32,
         by_command: bool,
         memory: &mut Memory,
+        tables: &mut Tables,
         tlb: &mut L,
     ) -> Result<(), GrantFault>
         requires process { by_command ≡ false → (0 < process) × (process ≤ length self.old.table) }
@@ -177,18 +218,20 @@ impl Grants {
             (if by_command
             then drop_by_command (lives_in self.old) (page_state self.old memory.old) process addr
             else drop_own (page_state self.old memory.old) process addr) }
-        ensures memory { memory.new ≡ memory.old }
+        ensures low { IsLow memory.old memory.new }
         ensures same { IsAsLarge self.old self.new }
         ensures ended { self.new.ended ≡ self.old.ended }
-        ensures refused { OnErr result ((self.new ≡ self.old)
-            × (L.entries tlb.new ≡ L.entries tlb.old)) }
+        ensures refused { OnErr result ((self.new ≡ self.old) × (memory.new ≡ memory.old)
+            × (tables.new ≡ tables.old) × (L.entries tlb.new ≡ L.entries tlb.old)) }
         ensures entries { OnOk result
-            (L.entries tlb.new ≡ forgotten (L.entries tlb.old) (addr / 2 ^ 12)) }
-        ensures buffer { KeepsBuffer (L.entries tlb.old) (L.entries tlb.new) self.old self.new }
+            (L.entries tlb.new ≡ both_forgotten (L.entries tlb.old) addr 1) }
+        ensures keeps { Keeps one_space
+            (L.entries tlb.old) memory.old tables.old self.old
+            (L.entries tlb.new) memory.new tables.new self.new }
         ensures random { L.random_place tlb.new ≡ L.random_place tlb.old }
     {
         self.may_drop(process, addr, by_command)?;
-        self.remove(process, addr, tlb);
+        self.remove(process, addr, memory, tables, tlb);
         Ok(())
     }
 }

@@ -1,15 +1,19 @@
 //! What an operator may do with what is granted, and what an end of a process leaves of it.
-ghost use Rattle.std.specs.Prelude.{◌≡◌, ◌<◌, ◌≤◌, ◌-◌, true, length, slice_set, OnErr, OnOk, ◌/◌, ◌^◌};
+ghost use Rattle.std.specs.Prelude.{◌≡◌, ◌<◌, ◌≤◌, ◌-◌, true, length, slice_set, OnErr, OnOk};
 ghost use Rattle.ds_policy.specs.Pages.{entries_of};
 ghost use Rattle.ds_policy.specs.Grants.{is_some_right, grant, narrow, revoke, end_process};
 ghost use Rattle.ds_grants.specs.State.{Does, IsAsLarge, lives_in, page_state};
-ghost use Rattle.ds_grants.specs.Buffer.{KeepsBuffer, forgotten, all_forgotten};
+ghost use Rattle.ds_grants.specs.Buffer.{one_space};
+ghost use Rattle.ds_grants.specs.Changes.{both_forgotten, all_forgotten, all_closed};
+ghost use Rattle.ds_grants.specs.Represented.{IsLow, Keeps};
 
 use crate::fault::GrantFault;
 use crate::grants::Grants;
+use crate::page_tables::close_all;
 use crate::translation::forget_all;
 use ds_mem::Memory;
 use ds_policy::{Grant, Right};
+use ds_tables::Tables;
 use ds_tlb::Lookaside;
 
 impl Grants {
@@ -24,6 +28,7 @@ impl Grants {
         give: bool,
         rule: u32,
         memory: &mut Memory,
+        tables: &mut Tables,
         tlb: &mut L,
     ) -> Result<(), GrantFault>
         requires named { page < self.old.named }
@@ -31,14 +36,16 @@ impl Grants {
         ensures does { Does (page_state self.old memory.old) (page_state self.new memory.new) result
             (grant (lives_in self.old)
             (page_state self.old memory.old) process addr page right give rule) }
-        ensures memory { memory.new ≡ memory.old }
+        ensures low { IsLow memory.old memory.new }
         ensures same { IsAsLarge self.old self.new }
         ensures ended { self.new.ended ≡ self.old.ended }
-        ensures refused { OnErr result ((self.new ≡ self.old)
-            × (L.entries tlb.new ≡ L.entries tlb.old)) }
+        ensures refused { OnErr result ((self.new ≡ self.old) × (memory.new ≡ memory.old)
+            × (tables.new ≡ tables.old) × (L.entries tlb.new ≡ L.entries tlb.old)) }
         ensures entries { OnOk result
-            (L.entries tlb.new ≡ forgotten (L.entries tlb.old) (addr / 2 ^ 12)) }
-        ensures buffer { KeepsBuffer (L.entries tlb.old) (L.entries tlb.new) self.old self.new }
+            (L.entries tlb.new ≡ both_forgotten (L.entries tlb.old) addr 1) }
+        ensures keeps { Keeps one_space
+            (L.entries tlb.old) memory.old tables.old self.old
+            (L.entries tlb.new) memory.new tables.new self.new }
         ensures random { L.random_place tlb.new ≡ L.random_place tlb.old }
     {
         self.may_be_granted(process, addr)?;
@@ -49,7 +56,7 @@ impl Grants {
             give,
             giver: 0,
         };
-        self.put(process, addr, grant, tlb);
+        self.put(process, addr, grant, memory, tables, tlb);
         Ok(())
     }
 
@@ -59,18 +66,21 @@ impl Grants {
         process: u32,
         addr: u32,
         memory: &mut Memory,
+        tables: &mut Tables,
         tlb: &mut L,
     ) -> Result<(), GrantFault>
         ensures does { Does (page_state self.old memory.old) (page_state self.new memory.new) result
             (narrow (lives_in self.old) (page_state self.old memory.old) process addr) }
-        ensures memory { memory.new ≡ memory.old }
+        ensures low { IsLow memory.old memory.new }
         ensures same { IsAsLarge self.old self.new }
         ensures ended { self.new.ended ≡ self.old.ended }
-        ensures refused { OnErr result ((self.new ≡ self.old)
-            × (L.entries tlb.new ≡ L.entries tlb.old)) }
+        ensures refused { OnErr result ((self.new ≡ self.old) × (memory.new ≡ memory.old)
+            × (tables.new ≡ tables.old) × (L.entries tlb.new ≡ L.entries tlb.old)) }
         ensures entries { OnOk result
-            (L.entries tlb.new ≡ forgotten (L.entries tlb.old) (addr / 2 ^ 12)) }
-        ensures buffer { KeepsBuffer (L.entries tlb.old) (L.entries tlb.new) self.old self.new }
+            (L.entries tlb.new ≡ both_forgotten (L.entries tlb.old) addr 1) }
+        ensures keeps { Keeps one_space
+            (L.entries tlb.old) memory.old tables.old self.old
+            (L.entries tlb.new) memory.new tables.new self.new }
         ensures random { L.random_place tlb.new ≡ L.random_place tlb.old }
     {
         let grant = self.granted_to(process, addr)?;
@@ -78,7 +88,7 @@ impl Grants {
             right: Right::Read,
             ..grant
         };
-        self.put(process, addr, narrowed, tlb);
+        self.put(process, addr, narrowed, memory, tables, tlb);
         Ok(())
     }
 
@@ -90,18 +100,21 @@ impl Grants {
         addr: u32,
         rule: u32,
         memory: &mut Memory,
+        tables: &mut Tables,
         tlb: &mut L,
     ) -> Result<(), GrantFault>
         ensures does { Does (page_state self.old memory.old) (page_state self.new memory.new) result
             (revoke (lives_in self.old) (page_state self.old memory.old) process addr rule) }
-        ensures memory { memory.new ≡ memory.old }
+        ensures low { IsLow memory.old memory.new }
         ensures same { IsAsLarge self.old self.new }
         ensures ended { self.new.ended ≡ self.old.ended }
-        ensures refused { OnErr result ((self.new ≡ self.old)
-            × (L.entries tlb.new ≡ L.entries tlb.old)) }
+        ensures refused { OnErr result ((self.new ≡ self.old) × (memory.new ≡ memory.old)
+            × (tables.new ≡ tables.old) × (L.entries tlb.new ≡ L.entries tlb.old)) }
         ensures entries { OnOk result
-            (L.entries tlb.new ≡ forgotten (L.entries tlb.old) (addr / 2 ^ 12)) }
-        ensures buffer { KeepsBuffer (L.entries tlb.old) (L.entries tlb.new) self.old self.new }
+            (L.entries tlb.new ≡ both_forgotten (L.entries tlb.old) addr 1) }
+        ensures keeps { Keeps one_space
+            (L.entries tlb.old) memory.old tables.old self.old
+            (L.entries tlb.new) memory.new tables.new self.new }
         ensures random { L.random_place tlb.new ≡ L.random_place tlb.old }
     {
         self.granted_to(process, addr)?;
@@ -112,26 +125,37 @@ impl Grants {
             give: false,
             giver: 0,
         };
-        self.put(process, addr, revoked, tlb);
+        self.put(process, addr, revoked, memory, tables, tlb);
         Ok(())
     }
 
     /// Removes all entries of a process, which has ended from now on. What it gave stays.
-    pub fn end_process<L: Lookaside>(&mut self, process: u32, memory: &mut Memory, tlb: &mut L)
+    pub fn end_process<L: Lookaside>(
+        &mut self,
+        process: u32,
+        memory: &mut Memory,
+        tables: &mut Tables,
+        tlb: &mut L,
+    )
         requires low { 0 < process }
         requires high { process ≤ length self.old.table }
         ensures does { page_state self.new memory.new
             ≡ end_process (page_state self.old memory.old) process }
         ensures memory { memory.new ≡ memory.old }
+        ensures tables { tables.new
+            ≡ all_closed tables.old process (entries_of self.old.table process) }
         ensures same { IsAsLarge self.old self.new }
         ensures ended { self.new.ended ≡ slice_set self.old.ended (process - 1) true }
         ensures entries { L.entries tlb.new
-            ≡ all_forgotten (L.entries tlb.old) (entries_of self.old.table process) }
-        ensures buffer { KeepsBuffer (L.entries tlb.old) (L.entries tlb.new) self.old self.new }
+            ≡ all_forgotten (L.entries tlb.old) (entries_of self.old.table process) 1 }
+        ensures keeps { Keeps one_space
+            (L.entries tlb.old) memory.old tables.old self.old
+            (L.entries tlb.new) memory.new tables.new self.new }
         ensures random { L.random_place tlb.new ≡ L.random_place tlb.old }
     {
         let entries = self.table.entries(process);
         self.holders.release_all(entries);
+        close_all(tables, process, entries);
         forget_all(tlb, entries);
         self.table.clear(process);
         self.ended[process as usize - 1] = true;

@@ -9,15 +9,27 @@ mod calls;
 mod commands;
 mod fault;
 mod first;
+mod first_tables;
 mod grants;
 mod holders;
 mod order;
+mod page_tables;
 mod regions;
+mod represented;
+mod table_words;
 mod tally;
 mod translation;
 
-pub use buffer_laws::{a_filled_buffer_holds, a_translation_has_fields, an_empty_buffer_holds};
+pub use buffer_laws::{
+    a_buffer_forgets_what_changed, a_filled_buffer_holds, an_empty_buffer_holds,
+};
 pub use fault::GrantFault;
 pub use first::fill_page;
 pub use grants::{Grants, frame_of_page};
 pub use order::refusals_have_one_order;
+pub use represented::{
+    a_change_keeps_what_is_represented, pages_leave_tables_as_they_are,
+    tables_leave_pages_as_they_are,
+};
+pub use table_words::{a_fifth_region_has_no_place, words_hold_after_a_change};
+pub use translation::flush;

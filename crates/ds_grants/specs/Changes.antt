@@ -1,0 +1,64 @@
+-- What a change of one entry makes of memory, places and the buffer.
+use Rattle.std.specs.Prelude.{◌≡◌, ◌≢◌, ◌⊎◌, ◌<◌, ℕ, ◌+◌, ◌/◌, ◌^◌, ◌==◌, Bool, if◌then◌else◌, List, [], ◌∷◌, slice_set, Option, Some, None}
+use Rattle.std.specs.List.{list_any}
+use Rattle.ds_tlb.specs.declared.entry.Entry.{Entry}
+use Rattle.ds_tlb.specs.Entries.{find, empty_entry}
+use Rattle.ds_policy.specs.declared.grant.Entry as granted
+use Rattle.ds_policy.specs.Pages.{entries_of}
+use Rattle.ds_grants.specs.State.{GrantsState, without_grant}
+use Rattle.ds_tables.specs.Places.{Places, region_of, page_of_table, closed}
+use Rattle.ds_tables.specs.Tables.{with_entry}
+use Rattle.ds_grants.specs.Words.{granted_word}
+
+-- an entry of a process lies in the region
+abbrev pub is_used : GrantsState → ℕ → ℕ → Bool
+is_used g p r = list_any (λ (e : granted.Entry). region_of e.address == r) (entries_of g.table p)
+
+-- memory once an entry is removed: its word is 0, or else its region has no table any more
+abbrev pub memory_without : List ℕ → Places → GrantsState → ℕ → ℕ → List ℕ
+memory_without memory t g p a =
+    if is_used (without_grant g p a) p (region_of a) then with_entry memory t p a 0 else memory
+
+-- the places once an entry is removed: its region is closed where it was the last one there
+abbrev pub places_without : Places → GrantsState → ℕ → ℕ → Places
+places_without t g p a =
+    if is_used (without_grant g p a) p (region_of a) then t else closed t p (region_of a)
+
+-- the slot holds what it held at the start, if there is one
+abbrev pub cleared : List Entry → Option ℕ → List Entry
+cleared entries None = entries
+cleared entries (Some slot) = slice_set entries slot (empty_entry slot)
+
+-- without what an address space has for a page
+abbrev pub forgotten : List Entry → ℕ → ℕ → List Entry
+forgotten entries vpn asid = cleared entries (find entries vpn asid)
+
+-- without what an address space has for the page of an address, and for the page of its region's
+-- table
+abbrev pub both_forgotten : List Entry → ℕ → ℕ → List Entry
+both_forgotten entries address asid =
+    forgotten (forgotten entries (address / 2 ^ 12) asid)
+    (0xC0000 + region_of address) asid
+
+-- without what an address space has for the pages of these entries, and for those of their regions'
+-- tables
+abbrev pub all_forgotten : List Entry → List granted.Entry → ℕ → List Entry
+all_forgotten entries [] asid = entries
+all_forgotten entries (e ∷ rest) asid = all_forgotten (both_forgotten entries e.address asid) rest asid
+
+-- the places once the regions of these entries of a process have no tables
+abbrev pub all_closed : Places → ℕ → List granted.Entry → Places
+all_closed t p [] = t
+all_closed t p (e ∷ rest) = all_closed (closed t p (region_of e.address)) p rest
+
+-- an entry of a process changed at an address, and the region's table may be new or gone: no other
+-- word is another, and no other table lies elsewhere
+pub record IsChangedAt (g h : GrantsState) (t u : Places) (p address : ℕ) : Type 0 where
+  pub words : (q vpn : ℕ) → 0 < q → (q ≡ p → vpn ≢ address / 2 ^ 12)
+      → granted_word h q vpn ≡ granted_word g q vpn
+  pub tables : (q r : ℕ) → 0 < q → (q ≡ p → r ≢ region_of address)
+      → page_of_table u q r ≡ page_of_table t q r
+
+-- each process has the number by which it is known, or none
+abbrev pub AreKnown : (ℕ → ℕ) → (ℕ → ℕ) → Type 0
+AreKnown known numbers = (p : ℕ) → (numbers p ≡ known p) ⊎ (numbers p ≡ 0)

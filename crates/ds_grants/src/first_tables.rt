@@ -1,0 +1,51 @@
+//! The page tables that a policy begins with.
+ghost use Rattle.std.specs.Prelude.{◌≡◌, ◌⊎◌, ℕ, ◌<◌, ◌≤◌, ◌^◌, length, replicate, [], Some, IfSome};
+ghost use Rattle.std.specs.List.{All};
+ghost use Rattle.ds_mem.specs.Memory.{frame_of};
+ghost use Rattle.ds_policy.specs.PolicyFacts.{IsGoodRule, HasFewRegions};
+ghost use Rattle.ds_policy.specs.FirstTable.{granted_by, with_rules};
+ghost use Rattle.ds_tables.specs.Places.{region_of, opened};
+ghost use Rattle.ds_tables.specs.Tables.{HasEmptyTable, with_entry};
+ghost use Rattle.ds_grants.specs.State.{GrantsState};
+ghost use Rattle.ds_grants.specs.Words.{word_of_grant};
+ghost use Rattle.ds_grants.specs.Represented.{HasWords};
+
+use crate::page_tables::word_of_right;
+use ds_mem::Memory;
+use ds_policy::PolicyRule;
+use ds_tables::Tables;
+
+/// The page tables of so many processes, with the words of the rules.
+pub(crate) fn first_tables(rules: &[PolicyRule], processes: usize, memory: &mut Memory) -> Tables
+    requires processes { processes ≤ 100 }
+    requires good { All (IsGoodRule processes 1024) rules.now }
+    requires regions { HasFewRegions rules.now }
+    ensures words { HasEmptyTable memory.old → (g : GrantsState)
+        → g.table ≡ with_rules (replicate processes []) 1 rules.now
+        → HasWords memory.new result g }
+    ensures elsewhere { (f : ℕ) → (f < 2) ⊎ (402 ≤ f)
+        → frame_of memory.new f ≡ frame_of memory.old f }
+{
+    let mut tables = Tables::new(processes);
+    for rule in rules {
+        write_rule(rule, memory, &mut tables);
+    }
+    tables
+}
+
+/// Writes the word of a rule.
+fn write_rule(rule: &PolicyRule, memory: &mut Memory, tables: &mut Tables)
+    requires { IfSome rule.now.page (λ q. q < 1024) }
+    ensures tables { tables.new
+        ≡ opened tables.old rule.now.process (region_of rule.now.address) }
+    ensures memory { (g : GrantsState) → memory.new
+        ≡ with_entry memory.old tables.old rule.now.process rule.now.address
+        (word_of_grant g (Some (granted_by 0 rule.now))) }
+    ensures elsewhere { (f : ℕ) → (f < 2) ⊎ (402 ≤ f)
+        → frame_of memory.new f ≡ frame_of memory.old f }
+    ensures size { length memory.old ≡ 2 ^ 23 }
+{
+    let _first = memory.word(0);
+    let word = word_of_right(rule.right, rule.page);
+    let _ = tables.put_entry(memory, rule.process, rule.address, word);
+}

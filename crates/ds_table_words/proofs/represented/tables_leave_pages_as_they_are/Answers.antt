@@ -1,8 +1,0 @@
-use Rattle.ds_table_words.proofs.Kept.{low_put, low_removed}
-use Rattle.ds_table_words.proofs.represented.tables_leave_pages_as_they_are.Goals as goal
-
-pub returns-clause-put : goal.returns-clause-put
-returns-clause-put c = low_put
-
-pub returns-clause-removed : goal.returns-clause-removed
-returns-clause-removed c = low_removed

@@ -1,5 +1,0 @@
-pub mod Words
-pub mod Buffer
-pub mod Changes
-pub mod Represented
-pub mod Rows
