@@ -8,7 +8,7 @@ use Rattle.ds_log.specs.Text.{line_text}
 use Rattle.ds_tlb.specs.declared.entry.Entry.{Entry}
 use Rattle.ds_tlb.specs.Entries.{find}
 use Rattle.ds_cp0.specs.System.{is_user, asid_of}
-use Rattle.ds_grants.specs.Buffer.{BufferHolds}
+use Rattle.ds_grants.specs.Represented.{IsRepresented}
 use Rattle.ds_grants.specs.Sound.{NamesPages}
 use Rattle.ds_core.specs.declared.event.Event.{Event}
 use Rattle.ds_core.specs.declared.event.Event.TheVariants.{Retired, Branched, Raised}
@@ -102,7 +102,7 @@ pub record Serves (f : State → State) (old : Kept) (before : List ℕ) (new : 
 pub record EndsBy (f : State → State) (old new : Held) : Type 0 where
   pub serves : Serves f (seated old.core old.kept) old.bus.memory new.kept new.bus.memory
   pub enters : EntersBy new.kept.state.ready new.core new.kept
-  pub buffer : BufferHolds new.core.entries (space_of new.kept) new.kept.grants
+  pub represented : IsRepresented new.core.entries new.bus.memory new.kept.tables (space_of new.kept) new.kept.grants
   pub grants : NamesPages new.kept.grants
   pub size : length new.bus.memory ≡ length old.bus.memory
   pub devices : AreResting new.bus new.kept
