@@ -26,8 +26,7 @@ use Rattle.ds_grants.specs.Words.{granted_word}
 use Rattle.ds_grants.specs.Buffer.{BufferHolds, hi_of, entry_for, filled}
 use Rattle.ds_grants.specs.Represented.{IsRepresented}
 use Rattle.ds_grants.proofs.Fields.{user_lo, has_page, has_space}
-use Rattle.ds_grants.proofs.Fills.{filled_buffer}
-use Rattle.ds_grants.proofs.Buffers.{same_keys}
+use Rattle.ds_grants.proofs.Fills.{same_keys, filled_buffer}
 use Rattle.ds_grants.proofs.Translations.{found_there}
 use Rattle.ds_pagemap.specs.Machine.{State, Process, no_process, process_of, with_process, touched_process, touched, touch_first}
 use Rattle.ds_pagemap.proofs.Processes.{with_process_again}
@@ -36,7 +35,7 @@ use Rattle.ds_core.specs.Core.{CoreState}
 use Rattle.ds_refinement.specs.Held.{Held, Kept, bare, space_of}
 use Rattle.ds_refinement.specs.Stands.{IsLinked, AtStart, InService, OnProcessor, RunningIs, RunningBy, KeptIs, Stands}
 use Rattle.ds_refinement.specs.Steps.{Comes}
-use Rattle.ds_refinement.specs.Services.{touched_registers, refilled, with_refill}
+use Rattle.ds_refinement.specs.Services.{touched_registers, refilled, asked_entry, with_refill}
 use Rattle.ds_refinement.specs.Real.{GoesBack}
 use Rattle.ds_refinement.proofs.Registers.{seat_kept, process_put}
 use Rattle.ds_refinement.proofs.Links.{touched_link}
@@ -78,7 +77,7 @@ module _ (h : Held) (p : ℕ) (seat : 0 < p) (k : IsRepresented h.core.entries h
   lo = entry_word h.bus.memory h.kept.tables p h.core.system.bad_vaddr
 
   abbrev entry : Entry
-  entry = entry_of (hi_of vpn 1) lo
+  entry = asked_entry h p
 
   user : vpn < 2 ^ 19
   user = omega (arith, low)
@@ -193,7 +192,7 @@ kept_behind p rest k memory m q a = record {
 module _ (h : Held) (m : State) (p : ℕ) (rest : List ℕ) (access : Kind) (size : Size) (page offset : ℕ) (stands : Stands h m) (ready : h.kept.state.ready ≡ p ∷ rest) (kernel : is_user h.core.system ≡ false)
     (decides : decide m.memory.table p access size h.core.system.bad_vaddr ≡ Allowed page offset) where
   abbrev new : Held
-  new = with_refill h (entry_of (hi_of (h.core.system.bad_vaddr / 2 ^ 12) 1) (entry_word h.bus.memory h.kept.tables p h.core.system.bad_vaddr))
+  new = with_refill h (asked_entry h p)
 
   runs : RunningIs p h.core h.kept m
   runs = subst (λ (ps : List ℕ). RunningBy ps h.core h.kept m) ready stands.running
@@ -230,7 +229,7 @@ module _ (h : Held) (m : State) (p : ℕ) (rest : List ℕ) (access : Kind) (siz
     address = refl;
     bus = refl;
     slot = slot h p runs.seat.0 stands.represented runs.owner low;
-    entry = entry h p runs.seat.0 stands.represented runs.owner low;
+    entry = asked_entry h p;
     entries = refl;
     asked = ap (find new.core.entries (h.core.system.bad_vaddr / 2 ^ 12)) (runs.space ∙ owner_space h.kept p runs.owner)
         ∙ found_in_slot h p runs.seat.0 stands.represented runs.owner low room;

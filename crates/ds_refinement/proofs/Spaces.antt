@@ -21,7 +21,7 @@ space_small : (own : Bool) → cond own 1 0 < 64
 space_small true = omega arith
 space_small false = omega arith
 
-known_by : (own : Bool) → (cond own 1 0 ≡ 1) ⊎ (cond own 1 0 ≡ 0)
+known_by : (own : Bool) → (◌≡◌ {A = ℕ} (cond own 1 0) 1) ⊎ (◌≡◌ {A = ℕ} (cond own 1 0) 0)
 known_by true = inl refl
 known_by false = inr refl
 
