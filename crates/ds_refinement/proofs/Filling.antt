@@ -19,7 +19,6 @@ use Rattle.ds_policy.specs.declared.access.Verdict.{Verdict}
 use Rattle.ds_policy.specs.declared.access.Verdict.TheVariants.{Allowed, Denied}
 use Rattle.ds_policy.specs.declared.access.Rule.TheVariants.{K, A}
 use Rattle.ds_policy.specs.Pages.{Table, decide, address_code, by_entry, entry_at, page_address}
-use Rattle.ds_policy.specs.Grants.{PageState}
 use Rattle.ds_tables.specs.Places.{Places, region_of, page_of_table}
 use Rattle.ds_tables.specs.Tables.{entry_word}
 use Rattle.ds_grants.specs.Words.{granted_word}
