@@ -174,11 +174,15 @@ large_before memory bytes f n size =
     let most = length-take (length memory) (take (f * 4096) memory ++ (bytes ++ drop (f * 4096 + length bytes) memory)) in
     omega arith
 
+-- a frame within memory has 4,096 bytes
+pub frame_long : (memory : List ℕ) (f : ℕ) → f * 4096 + 4096 ≤ length memory → length (frame_of memory f) ≡ 4096
+frame_long memory f large = length-take-le 4096 (drop (f * 4096) memory) (let rest = length-drop (f * 4096) memory in omega (arith, rest, large))
+
 -- a copy leaves the other frames alone
 pub frames_apart : (memory new : List ℕ) (k n f : ℕ) → 8388608 ≤ length memory → k < 1024 → n < 1024 → f ≢ n + 402
     → new ≡ with_frame memory (n + 402) (frame_of memory (k + 402)) → frame_of new f ≡ frame_of memory f
 frames_apart memory new k n f large source target apart is =
-    let frame : length (frame_of memory (k + 402)) ≡ 4096 = length-take-le 4096 (drop ((k + 402) * 4096) memory) (let rest = length-drop ((k + 402) * 4096) memory in omega arith) in
+    let frame = frame_long memory (k + 402) (omega (arith, large, source)) in
     ap (λ (m : List ℕ). frame_of m f) is ∙ frame_of-with_frame_apart memory (frame_of memory (k + 402)) (n + 402) f frame (omega arith) (elim (cases_lt f (n + 402)) [
       | inl below ↦ inl (omega arith)
       | inr above ↦ inr (omega arith)

@@ -1,19 +1,33 @@
--- All entries of a process go, and the buffer forgets their pages.
-use Rattle.std.proofs.Common.{◌≡◌, ◌≢◌, ◌∙◌, refl, sym, ap, ℕ, ◌+◌, ◌-◌, ◌*◌, ◌/◌, ◌^◌, ◌<◌, ◌≤◌, ◌==◌, not, true, false, List, [], ◌∷◌, length, length-set, get_or, drop, filter, None, inl, inr, arith}
-use Rattle.std.specs.Prelude.{slice_set}
+-- All entries of a process go: their regions have no tables, and the buffer forgets their pages.
+use Rattle.std.proofs.Common.{◌≡◌, ◌≢◌, ◌⊎◌, ◌∙◌, refl, sym, ap, subst, ℕ, ◌+◌, ◌-◌, ◌*◌, ◌/◌, ◌^◌, ◌<◌, ◌≤◌, ◌==◌, Bool, true, false, cond, List, [], ◌∷◌, length, length-set, get_or, drop, map, replicate, Option, Some, None, inl, inr, arith}
+use Rattle.std.specs.List.{list_any}
+use Rattle.std.specs.Prelude.{slice_get, slice_set, ◌||◌, is_some}
 use Rattle.std.proofs.lemmas.Bool.{cases_Bool, cases_eq}
-use Rattle.std.proofs.lemmas.Bool.Decides.{nat_tests}
 use Rattle.std.proofs.lemmas.List.{at_drop_more, drop_all, get_or-set_same}
+use Rattle.ds_word.specs.Bytes.{word_at}
 use Rattle.ds_tlb.specs.declared.entry.Entry.{Entry}
+use Rattle.ds_tlb.specs.Entries.{empty_entry}
+use Rattle.ds_tlb.specs.Words.{entry_of}
 use Rattle.ds_policy.specs.declared.grant.Entry as granted
 use Rattle.ds_policy.specs.Pages.{found, entries_of, entry_at}
-use Rattle.ds_policy.specs.Grants.{end_process}
-use Rattle.ds_pagemap.proofs.Entries.{entry_at-set_other, entry_at-without_entry}
-use Rattle.ds_grants.specs.State.{GrantsState, page_state, without_grant}
-use Rattle.ds_grants.specs.Buffer.{BufferHolds, IsOneSpace, forgotten, all_forgotten}
+use Rattle.ds_policy.specs.Grants.{end_process, count_distinct}
+use Rattle.ds_pagemap.proofs.Entries.{entry_at-set_other}
+use Rattle.ds_tables.specs.Places.{Places, ArePlaces, freed, region_of, places_of, place_of, frame_of_place, page_of_table, closed}
+use Rattle.ds_tables.specs.Tables.{HasEmptyTable, entry_word, word_place}
+use Rattle.ds_tables.proofs.PlaceLemmas.{closed_row, place_of-closed, place_of-kept}
+use Rattle.ds_tables.proofs.Map.{none_words}
+use Rattle.ds_grants.specs.State.{GrantsState, page_state}
+use Rattle.ds_grants.specs.Words.{word_of_grant, granted_word, regions_taken, WordsHold}
+use Rattle.ds_grants.specs.Buffer.{hi_of, lo_of, read_only, IsMapped, BufferHolds, one_space}
+use Rattle.ds_grants.specs.Changes.{forgotten, both_forgotten, all_forgotten, all_closed, AreKnown}
+use Rattle.ds_grants.specs.Represented.{IsRepresented}
 use Rattle.ds_grants.proofs.HolderCounts.{holders_fewer}
 use Rattle.ds_grants.proofs.Living.{fewer_state}
-use Rattle.ds_grants.proofs.Translations.{remove_buffer}
+use Rattle.ds_grants.proofs.FifthRegion.{same_number, itself, either}
+use Rattle.ds_grants.proofs.Puts.{used, none_is, foreign_row, closed_distinct, same_word}
+use Rattle.ds_grants.proofs.Fields.{user_lo, table_lo}
+use Rattle.ds_grants.proofs.Forgets.{IsPlain, plain_of, forgets, none_of_start, numbered}
+use Rattle.ds_grants.proofs.Kept.{closed_places}
 
 -- the grants after the end of a process
 abbrev pub without_process : GrantsState → ℕ → GrantsState
@@ -24,67 +38,207 @@ ended_state g p memory low high = fewer_state g (slice_set g.table (p - 1) []) m
 
 -- the pages from a place on are forgotten one after another
 pub forget_step : (entries : List Entry) (es : List granted.Entry) (i : ℕ) (d : granted.Entry) → i < length es
-    → all_forgotten entries (drop i es) ≡ all_forgotten (forgotten entries ((get_or es i d).address / 2 ^ 12)) (drop (i + 1) es)
-forget_step entries es i d within = at_drop_more (all_forgotten entries) es i d within
+    → all_forgotten entries (drop i es) 1 ≡ all_forgotten (both_forgotten entries (get_or es i d).address 1) (drop (i + 1) es) 1
+forget_step entries es i d within = at_drop_more (λ (xs : List granted.Entry). all_forgotten entries xs 1) es i d within
 
-pub forget_end : (entries : List Entry) (es : List granted.Entry) (i : ℕ) → length es ≤ i → all_forgotten entries (drop i es) ≡ entries
-forget_end entries es i past = ap (all_forgotten entries) (drop_all i es past)
+pub forget_end : (entries : List Entry) (es : List granted.Entry) (i : ℕ) → length es ≤ i → all_forgotten entries (drop i es) 1 ≡ entries
+forget_end entries es i past = ap (λ (xs : List granted.Entry). all_forgotten entries xs 1) (drop_all i es past)
 
--- no entry is found at an address whose entries went
-found-filter_same : (es : List granted.Entry) (a : ℕ) → found (filter (λ e. not (e.address == a)) es) a ≡ None
-found-filter_same [] a = refl
-found-filter_same (e ∷ rest) a = elim (cases_Bool (e.address == a)) [
-  | inl here ↦ rw here (found-filter_same rest a)
-  | inr there ↦ rw (there, there) (found-filter_same rest a)
+-- and their regions are closed
+pub close_step : (t : Places) (p : ℕ) (es : List granted.Entry) (i : ℕ) (d : granted.Entry) → i < length es
+    → all_closed t p (drop i es) ≡ all_closed (closed t p (region_of (get_or es i d).address)) p (drop (i + 1) es)
+close_step t p es i d within = at_drop_more (all_closed t p) es i d within
+
+pub close_end : (t : Places) (p : ℕ) (es : List granted.Entry) (i : ℕ) → length es ≤ i → all_closed t p (drop i es) ≡ t
+close_end t p es i past = ap (all_closed t p) (drop_all i es past)
+
+-- Places once the regions of entries are closed.
+
+-- a number that is not another
+differs : (a b : ℕ) → (b ≡ a → ⊥) → (a == b) ≡ false
+differs a b other = elim (cases_Bool (a == b)) [ inl is ↦ absurd (other (sym (same_number a b is))) | inr apart ↦ apart ]
+
+neither : (a b : Bool) → a ≡ false → b ≡ false → (a || b) ≡ false
+neither a b e f = ap (λ (x : Bool). x || b) e ∙ f
+
+place_gone : (es : List granted.Entry) (t : Places) (p r : ℕ) → place_of t p r ≡ None → place_of (all_closed t p es) p r ≡ None
+place_gone [] t p r none = none
+place_gone (x ∷ es) t p r none = place_gone es (closed t p (region_of x.address)) p r (elim (cases_eq r (region_of x.address)) [
+  | inl here ↦ ap (place_of (closed t p (region_of x.address)) p) here ∙ place_of-closed t p (region_of x.address)
+  | inr other ↦ place_of-kept t p p (region_of x.address) r (λ own same. other same) ∙ none
+])
+
+place_closed : (es : List granted.Entry) (t : Places) (p r : ℕ) → used r es ≡ true → place_of (all_closed t p es) p r ≡ None
+place_closed [] t p r e = absurd cc
+place_closed (x ∷ es) t p r e = elim (cases_Bool (region_of x.address == r)) [
+  | inl here ↦ place_gone es (closed t p (region_of x.address)) p r (ap (place_of (closed t p (region_of x.address)) p) (sym (same_number (region_of x.address) r here)) ∙ place_of-closed t p (region_of x.address))
+  | inr other ↦ place_closed es (closed t p (region_of x.address)) p r (sym (ap (λ (b : Bool). b || used r es) other) ∙ e)
 ]
 
-none_there : (g : GrantsState) (p a : ℕ) → 0 < p → p ≤ length g.table → entry_at (without_grant g p a).table p a ≡ None
-none_there g p a low high =
-    ap (λ (es : List granted.Entry). found es a) (get_or-set_same g.table (p - 1) (filter (λ (e : granted.Entry). not (e.address == a)) (entries_of g.table p)) [] (omega (arith, low, high)))
-    ∙ found-filter_same (entries_of g.table p) a
+place_kept : (es : List granted.Entry) (t : Places) (p q r : ℕ) → (q ≡ p → used r es ≡ false) → place_of (all_closed t p es) q r ≡ place_of t q r
+place_kept [] t p q r other = refl
+place_kept (x ∷ es) t p q r other =
+    place_kept es (closed t p (region_of x.address)) p q r (λ own. (either (region_of x.address == r) (used r es) (other own)).1)
+    ∙ place_of-kept t p q (region_of x.address) r (λ own same. (
+    let miss = either (region_of x.address == r) (used r es) (other own) in
+    let no : true ≡ false = sym (ap (λ (n : ℕ). region_of x.address == n) same ∙ itself (region_of x.address)) ∙ miss.0 in
+    absurd cc))
 
--- where the process has nothing, the others' entries are backed as before
-others_backed : (entries : List Entry) (numbers : ℕ → ℕ) (g h : GrantsState) (p : ℕ) → ((a : ℕ) → entry_at g.table p a ≡ None)
-    → ((q a : ℕ) → 0 < q → q ≢ p → entry_at h.table q a ≡ entry_at g.table q a) → BufferHolds entries numbers g → BufferHolds entries numbers h
-others_backed entries numbers g h p none elsewhere k = record {
-  single = k.single;
-  apart = k.apart;
-  own = k.own;
-  backed = λ slot e q at live some is.
-      let b = k.backed slot e q at live some is in
-      elim (cases_eq q p) [
-        | inl same ↦ let gone : entry_at g.table q (e.vpn * 2 ^ 12) ≡ None = rw same (none (e.vpn * 2 ^ 12)) in let granted = b.granted in absurd (cc)
-        | inr apart ↦ record {
-          grant = b.grant;
-          page = b.page;
-          granted = elsewhere q (e.vpn * 2 ^ 12) live apart ∙ b.granted;
-          right = b.right;
-          named = b.named;
-          words = b.words;
-        }
+closed_long : (t : Places) (p r : ℕ) → 0 < p → length (closed t p r) ≡ length t
+closed_long t p r low = ap (λ (u : Places). length u) (closed_row t p r low) ∙ length-set t (p - 1) (map (freed r) (places_of t p))
+
+all_closed_long : (es : List granted.Entry) (t : Places) (p : ℕ) → 0 < p → length (all_closed t p es) ≡ length t
+all_closed_long [] t p low = refl
+all_closed_long (x ∷ es) t p low = all_closed_long es (closed t p (region_of x.address)) p low ∙ closed_long t p (region_of x.address) low
+
+all_closed_places : (es : List granted.Entry) (t : Places) (p : ℕ) → 0 < p → p ≤ length t → ArePlaces t → ArePlaces (all_closed t p es)
+all_closed_places [] t p low high are = are
+all_closed_places (x ∷ es) t p low high are =
+    all_closed_places es (closed t p (region_of x.address)) p low (subst (λ (n : ℕ). p ≤ n) (sym (closed_long t p (region_of x.address) low)) high) (closed_places t p (region_of x.address) are low high)
+
+all_closed_distinct : (es : List granted.Entry) (t : Places) (p : ℕ) → 0 < p → p ≤ length t → ((q : ℕ) → count_distinct (regions_taken (places_of t q)) ≡ length (regions_taken (places_of t q)))
+    → (q : ℕ) → count_distinct (regions_taken (places_of (all_closed t p es) q)) ≡ length (regions_taken (places_of (all_closed t p es) q))
+all_closed_distinct [] t p low high distinct = distinct
+all_closed_distinct (x ∷ es) t p low high distinct =
+    all_closed_distinct es (closed t p (region_of x.address)) p low (subst (λ (n : ℕ). p ≤ n) (sym (closed_long t p (region_of x.address) low)) high) (closed_distinct t p (region_of x.address) low high distinct)
+
+-- Entries of the buffer once it forgot.
+
+-- each entry is that of its slot at the start, or stood there before, and is of none of the keys
+record IsOut (old new : List Entry) (es : List granted.Entry) (asid : ℕ) : Type 0 where
+  pub each : (slot : ℕ) (e : Entry) → slice_get new slot ≡ Some e → (e ≡ empty_entry slot) ⊎ ((slice_get old slot ≡ Some e)
+      × (e.asid ≡ asid → (list_any (λ (x : granted.Entry). x.address / 2 ^ 12 == e.vpn) es ≡ false) × ((r : ℕ) → e.vpn ≡ 0xC0000 + r → used r es ≡ false)))
+
+all_forgets : (es : List granted.Entry) (entries : List Entry) (asid : ℕ) → IsPlain entries → IsPlain (all_forgotten entries es asid) × IsOut entries (all_forgotten entries es asid) es asid
+all_forgets [] entries asid k = (k, record { each = λ slot e at. inr (at, λ own. (refl, λ r is. refl)) })
+all_forgets (x ∷ es) entries asid k =
+    let first = forgets entries (x.address / 2 ^ 12) asid k in
+    let second = forgets (forgotten entries (x.address / 2 ^ 12) asid) (0xC0000 + region_of x.address) asid first.0 in
+    let rest = all_forgets es (both_forgotten entries x.address asid) asid second.0 in (
+      rest.0,
+      record {
+        each = λ slot e at. elim (rest.1.each slot e at) [
+          | inl start ↦ inl start
+          | inr stays ↦ elim (second.1.each slot e stays.0) [
+            | inl start ↦ inl start
+            | inr was ↦ elim (first.1.each slot e was.0) [
+              | inl start ↦ inl start
+              | inr there ↦ inr (
+                there.0,
+                λ own. (
+                  neither (x.address / 2 ^ 12 == e.vpn) (list_any (λ (y : granted.Entry). y.address / 2 ^ 12 == e.vpn) es) (differs (x.address / 2 ^ 12) e.vpn (λ page. there.1 page own)) (stays.1 own).0,
+                  λ r is. neither (region_of x.address == r) (used r es) (differs (region_of x.address) r (λ region. was.1 (is ∙ ap (λ (n : ℕ). 0xC0000 + n) region) own)) ((stays.1 own).1 r is),
+                ),
+              )
+            ]
+          ]
+        ];
+      },
+    )
+
+no_such_page : (es : List granted.Entry) (vpn : ℕ) → list_any (λ (x : granted.Entry). x.address / 2 ^ 12 == vpn) es ≡ false → found es (vpn * 2 ^ 12) ≡ None
+no_such_page [] vpn none = refl
+no_such_page (x ∷ es) vpn none =
+    let both = either (x.address / 2 ^ 12 == vpn) (list_any (λ (y : granted.Entry). y.address / 2 ^ 12 == vpn) es) none in
+    let other : (x.address == vpn * 2 ^ 12) ≡ false = differs x.address (vpn * 2 ^ 12) (λ (is : vpn * 2 ^ 12 ≡ x.address). (
+    let page : x.address / 2 ^ 12 ≡ vpn = omega (arith, is) in
+    let no : true ≡ false = sym (ap (λ (n : ℕ). n == vpn) page ∙ itself vpn) ∙ both.0 in
+    absurd cc)) in
+    ap (λ (b : Bool). cond b (Some x.grant) (found es (vpn * 2 ^ 12))) other ∙ no_such_page es vpn both.1
+
+-- What is represented once a process has ended.
+module _ (g : GrantsState) (t : Places) (p : ℕ) (low : 0 < p) (high : p ≤ length g.table) where
+  abbrev es : List granted.Entry
+  es = entries_of g.table p
+
+  abbrev u : Places
+  u = all_closed t p (entries_of g.table p)
+
+  abbrev h : GrantsState
+  h = without_process g p
+
+  own_entries : entries_of h.table p ≡ []
+  own_entries = get_or-set_same g.table (p - 1) [] [] (omega (arith, low, high))
+
+  other_word : (q vpn : ℕ) → 0 < q → q ≢ p → granted_word h q vpn ≡ granted_word g q vpn
+  other_word q vpn live other = same_word g h (entry_at h.table q (vpn * 2 ^ 12)) ∙ ap (word_of_grant g) (entry_at-set_other g.table p q (vpn * 2 ^ 12) [] low live other)
+
+  other_table : (q r : ℕ) → q ≢ p → page_of_table u q r ≡ page_of_table t q r
+  other_table q r other = ap (frame_of_place q) (place_kept es t p q r (λ own. absurd (other own)))
+
+  pub buffer_ended : (entries : List Entry) (numbers : ℕ → ℕ) → AreKnown one_space numbers → BufferHolds entries numbers g t → BufferHolds (all_forgotten entries es 1) numbers h u
+  buffer_ended entries numbers are k =
+      let left = all_forgets es entries 1 (plain_of entries numbers g t k) in
+      record {
+        few = left.0.few;
+        single = left.0.single;
+        apart = left.0.apart;
+        own = left.0.own;
+        backed = λ slot e q at live some number. elim (left.1.each slot e at) [
+          | inl start ↦ absurd (none_of_start slot e start some)
+          | inr was ↦
+              let b = k.backed slot e q was.0 live some number in
+              let out = was.1 (numbered (numbers q) 1 e.asid (are q) some number) in
+              record { mapped = b.mapped; words = b.words ∙ ap (entry_of (hi_of e.vpn e.asid)) (same e.vpn q live b.mapped out.0 out.1) }
+        ];
+      }
+    where
+      by_table : (vpn q : ℕ) → 0xC0000 ≤ vpn → ((r : ℕ) → vpn ≡ 0xC0000 + r → used r es ≡ false) → lo_of g t q vpn ≡ lo_of h u q vpn
+      by_table vpn q table none =
+          let is : vpn ≡ 0xC0000 + (vpn - 0xC0000) = omega (arith, table) in
+          subst (λ (n : ℕ). lo_of g t q n ≡ lo_of h u q n) (sym is)
+          (table_lo g t q (vpn - 0xC0000) ∙ (ap (λ (o : Option ℕ). read_only (frame_of_place q o)) (sym (place_kept es t p q (vpn - 0xC0000) (λ own. none (vpn - 0xC0000) is))) ∙ sym (table_lo h u q (vpn - 0xC0000))))
+
+      by_page : (vpn q : ℕ) → 0 < q → list_any (λ (x : granted.Entry). x.address / 2 ^ 12 == vpn) es ≡ false → granted_word g q vpn ≡ granted_word h q vpn
+      by_page vpn q live none = elim (cases_eq q p) [
+        | inl own ↦ subst (λ (n : ℕ). granted_word g n vpn ≡ granted_word h n vpn) (sym own)
+            (ap (word_of_grant g) (no_such_page es vpn none) ∙ sym (ap (λ (xs : List granted.Entry). word_of_grant h (found xs (vpn * 2 ^ 12))) own_entries))
+        | inr other ↦ sym (other_word q vpn live other)
+      ]
+
+      same : (vpn q : ℕ) → 0 < q → IsMapped vpn → list_any (λ (x : granted.Entry). x.address / 2 ^ 12 == vpn) es ≡ false → ((r : ℕ) → vpn ≡ 0xC0000 + r → used r es ≡ false) → lo_of g t q vpn ≡ lo_of h u q vpn
+      same vpn q live (inl user) page table = user_lo g t q vpn user ∙ (by_page vpn q live page ∙ sym (user_lo h u q vpn user))
+      same vpn q live (inr high_page) page table = by_table vpn q high_page.0 table
+
+  module _ (memory : List ℕ) (empty : HasEmptyTable memory) (k : WordsHold memory t g) where
+    own_place : (r : ℕ) → place_of u p r ≡ None
+    own_place r = elim (cases_Bool (used r es)) [
+      | inl there ↦ place_closed es t p r there
+      | inr none ↦ place_kept es t p p r (λ own. none) ∙ none_is (place_of t p r) (k.regions p r low ∙ none)
+    ]
+
+    -- a process without tables reads as one of whom nothing is placed
+    one_row : (r : ℕ) → page_of_table (replicate 1 (replicate 4 None)) 1 r ≡ 1
+    one_row r = refl
+
+    own_word : (vpn : ℕ) → entry_word memory u p (vpn * 2 ^ 12) ≡ granted_word h p vpn
+    own_word vpn =
+        ap (λ (f : ℕ). word_at memory (word_place f (vpn * 2 ^ 12))) (ap (frame_of_place p) (own_place (region_of (vpn * 2 ^ 12))) ∙ sym (one_row (region_of (vpn * 2 ^ 12))))
+        ∙ (none_words memory 1 1 (vpn * 2 ^ 12) empty
+        ∙ sym (ap (λ (xs : List granted.Entry). word_of_grant h (found xs (vpn * 2 ^ 12))) own_entries))
+
+    pub words_ended : WordsHold memory u h
+    words_ended = record {
+      words = λ q vpn live user. elim (cases_eq q p) [
+        | inl own ↦ subst (λ (n : ℕ). entry_word memory u n (vpn * 2 ^ 12) ≡ granted_word h n vpn) (sym own) (own_word vpn)
+        | inr other ↦
+            ap (λ (f : ℕ). word_at memory (word_place f (vpn * 2 ^ 12))) (other_table q (region_of (vpn * 2 ^ 12)) other)
+            ∙ (k.words q vpn live user ∙ sym (other_word q vpn live other))
       ];
-}
+      regions = λ q r live. elim (cases_eq q p) [
+        | inl own ↦ subst (λ (n : ℕ). is_some (place_of u n r) ≡ used r (entries_of h.table n)) (sym own) (ap is_some (own_place r) ∙ sym (ap (used r) own_entries))
+        | inr other ↦
+            ap is_some (place_kept es t p q r (λ own. absurd (other own)))
+            ∙ (k.regions q r live ∙ sym (ap (used r) (foreign_row g.table p q [] low live other)))
+      ];
+      distinct = all_closed_distinct es t p low (subst (λ (n : ℕ). p ≤ n) (sym k.same) high) k.distinct;
+      same = all_closed_long es t p low ∙ (k.same ∙ sym (length-set g.table (p - 1) []));
+    }
 
--- the pages of these entries are forgotten, and the process has entries at no other address
-all_forgotten_holds : (es : List granted.Entry) (entries : List Entry) (numbers : ℕ → ℕ) (g h : GrantsState) (p : ℕ) → 0 < p → p ≤ length g.table → IsOneSpace numbers
-    → ((a : ℕ) → found es a ≡ None → entry_at g.table p a ≡ None) → ((q a : ℕ) → 0 < q → q ≢ p → entry_at h.table q a ≡ entry_at g.table q a)
-    → BufferHolds entries numbers g → BufferHolds (all_forgotten entries es) numbers h
-all_forgotten_holds [] entries numbers g h p low high one none elsewhere k = others_backed entries numbers g h p (λ a. none a refl) elsewhere k
-all_forgotten_holds (e ∷ rest) entries numbers g h p low high one none elsewhere k =
-    let size : length (without_grant g p e.address).table ≡ length g.table = length-set g.table (p - 1) (filter (λ (x : granted.Entry). not (x.address == e.address)) (entries_of g.table p)) in
-    all_forgotten_holds rest (forgotten entries (e.address / 2 ^ 12)) numbers (without_grant g p e.address) h p low (omega (arith, size, high)) one
-    (λ a missing. elim (cases_eq a e.address) [
-      | inl same ↦ rw same (none_there g p e.address low high)
-      | inr apart ↦
-          let other : (e.address == a) ≡ false = grind (arith, nat_tests) in
-          entry_at-without_entry g.table p e.address p a low low (λ _. apart) ∙ none a (rw other missing)
-    ])
-    (λ q a live apart. elsewhere q a live apart ∙ sym (entry_at-without_entry g.table p e.address q a low live (λ (same : q ≡ p). absurd (apart same))))
-    (remove_buffer entries numbers g p e.address low one k)
-
--- what a buffer may hold after the end of a process
-pub end_buffer : (entries : List Entry) (numbers : ℕ → ℕ) (g : GrantsState) (p : ℕ) → 0 < p → p ≤ length g.table → IsOneSpace numbers → BufferHolds entries numbers g
-    → BufferHolds (all_forgotten entries (entries_of g.table p)) numbers (without_process g p)
-end_buffer entries numbers g p low high one k =
-    all_forgotten_holds (entries_of g.table p) entries numbers g (without_process g p) p low high one (λ a missing. missing)
-    (λ q a live apart. entry_at-set_other g.table p q a [] low live apart) k
+  pub end_represented : (entries : List Entry) (memory : List ℕ) (numbers : ℕ → ℕ) → AreKnown one_space numbers → IsRepresented entries memory t numbers g → IsRepresented (all_forgotten entries es 1) memory u numbers h
+  end_represented entries memory numbers are k = record {
+    buffer = buffer_ended entries numbers are k.buffer;
+    words = words_ended memory k.empty k.words;
+    places = all_closed_places es t p low (subst (λ (n : ℕ). p ≤ n) (sym k.words.same) high) k.places;
+    empty = k.empty;
+  }

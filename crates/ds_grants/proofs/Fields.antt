@@ -8,10 +8,11 @@ use Rattle.ds_policy.specs.declared.grant.Grant.{Grant}
 use Rattle.ds_policy.specs.declared.grant.Right.{Right}
 use Rattle.ds_policy.specs.declared.grant.Right.TheVariants.{Nothing, Read, Write}
 use Rattle.ds_policy.specs.Pages.{entry_at}
+use Rattle.ds_policy.specs.Grants.{is_some_right, is_write}
 use Rattle.ds_grants.specs.State.{GrantsState, frame_of_page}
 use Rattle.ds_tables.specs.Places.{Places, page_of_table}
-use Rattle.ds_grants.specs.Words.{word_of_right, word_of_grant, granted_word}
-use Rattle.ds_grants.specs.Buffer.{hi_of, read_only, lo_of, IsMapped}
+use Rattle.ds_grants.specs.Words.{page_word, word_of_right, word_of_grant, granted_word}
+use Rattle.ds_grants.specs.Buffer.{hi_of, read_only, lo_of, IsMapped, entry_for}
 
 -- the keys that an entry of two words has
 pub has_page : (vpn asid lo : ℕ) → vpn < 2 ^ 20 → asid < 64 → (entry_of (hi_of vpn asid) lo).vpn ≡ vpn
@@ -66,3 +67,31 @@ table_lo g t p r =
     let high : nat_lt (0xC0000 + r) (2 ^ 19) ≡ false = grind (arith, nat_tests) in
     let same : 0xC0000 + r - 0xC0000 ≡ r = omega arith in
     ap (λ (b : Bool). cond b (granted_word g p (0xC0000 + r)) (read_only (page_of_table t p (0xC0000 + r - 0xC0000)))) high ∙ ap (λ (n : ℕ). read_only (page_of_table t p n)) same
+
+-- The entry of a page that is granted.
+
+-- EntryLo of a frame with the flags that a page has
+flags_of_word : (frame : ℕ) (writes : Bool) → let w = frame * 2 ^ 12 + bit 10 writes + bit 9 true in
+    (bits w 12 20 ≡ frame % 2 ^ 20) × ((bits w 11 1 == 1) ≡ false) × ((bits w 10 1 == 1) ≡ writes) × ((bits w 9 1 == 1) ≡ true) × ((bits w 8 1 == 1) ≡ false)
+flags_of_word frame true = (omega arith, grind (arith, nat_tests), grind (arith, nat_tests), grind (arith, nat_tests), grind (arith, nat_tests))
+flags_of_word frame false = (omega arith, grind (arith, nat_tests), grind (arith, nat_tests), grind (arith, nat_tests), grind (arith, nat_tests))
+
+-- the page-table word of a page with a right
+pub granted_lo : (g : GrantsState) (p vpn page : ℕ) (grant : Grant) → entry_at g.table p (vpn * 2 ^ 12) ≡ Some grant → grant.page ≡ Some page → is_some_right grant.right ≡ true → granted_word g p vpn ≡ page_word g page grant.right
+granted_lo g p vpn page grant at named right =
+    ap (word_of_grant g) at ∙ (ap (word_of_right g grant.right) named ∙ ap (λ (b : Bool). cond b (page_word g page grant.right) 0) right)
+
+page_fields : (g : GrantsState) (vpn asid page : ℕ) (right : Right) → vpn < 2 ^ 20 → asid < 64 → page < 1024
+    → entry_of (hi_of vpn asid) (page_word g page right) ≡ record { vpn = vpn; asid = asid; pfn = frame_of_page g page; n = false; d = is_write right; v = true; g = false }
+page_fields g vpn asid page right low few small =
+    let w = page_word g page right in
+    let flags = flags_of_word (frame_of_page g page) (is_write right) in
+    let frame : bits w 12 20 ≡ page + 402 = flags.0 ∙ omega arith in
+    rw (has_page vpn asid (page_word g page right) low few, has_space vpn asid (page_word g page right) low few, frame, flags.1, flags.2, flags.3, flags.4) refl
+
+-- the entry that maps a page with a right, by its fields
+pub granted_fields : (g : GrantsState) (t : Places) (p asid vpn page : ℕ) (grant : Grant) → vpn < 2 ^ 19 → asid < 64 → page < 1024
+    → entry_at g.table p (vpn * 2 ^ 12) ≡ Some grant → grant.page ≡ Some page → is_some_right grant.right ≡ true
+    → entry_for g t p asid vpn ≡ record { vpn = vpn; asid = asid; pfn = frame_of_page g page; n = false; d = is_write grant.right; v = true; g = false }
+granted_fields g t p asid vpn page grant user few small at named right =
+    ap (entry_of (hi_of vpn asid)) (user_lo g t p vpn user ∙ granted_lo g p vpn page grant at named right) ∙ page_fields g vpn asid page grant.right (omega (arith, user)) few small

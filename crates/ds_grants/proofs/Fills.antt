@@ -1,22 +1,22 @@
--- A buffer holds at its start, and after a fill by what is granted.
-use Rattle.std.proofs.Common.{◌≡◌, ◌∙◌, refl, sym, ap, subst, ℕ, ◌+◌, ◌*◌, ◌%◌, ◌^◌, ◌==◌, ◌<◌, Bool, true, false, List, Option, Some, None, inl, inr, arith}
-use Rattle.std.specs.Prelude.{slice_get, slice_set, unwrap_or}
+-- A buffer holds at its start, and after a fill with an entry of a process.
+use Rattle.std.proofs.Common.{◌≡◌, ℕ, zero, suc, ◌+◌, ◌^◌, ◌<◌, ◌≤◌, ◌==◌, Bool, true, false, cond, not, List, [], ◌∷◌, length, set, Option, Some, None, refl, sym, ap, ap₂, subst, ◌∙◌, arith, inl, inr, length-set}
+use Rattle.std.specs.List.{position_or_len}
+use Rattle.std.specs.Prelude.{slice_get, slice_set, unwrap_or, nat_lt, ◌&&◌, ◌||◌}
+use Rattle.std.proofs.lemmas.Bool.{cases_Bool}
 use Rattle.std.proofs.lemmas.Bool.Decides.{nat_tests}
 use Rattle.std.proofs.lemmas.Option.{slice_get_within, get_or_from_slice_get}
 use Rattle.std.proofs.lemmas.List.FromFn.{length-map-range_with_len, get_or-map-range_with_len}
-use Rattle.ds_word.specs.Word.{bits, bit}
+use Rattle.std.proofs.lemmas.List.Sums.{prefix_len-le-length}
 use Rattle.ds_tlb.specs.declared.entry.Entry.{Entry}
 use Rattle.ds_tlb.specs.Entries.{matches, find, empty_entry, empty_entries}
 use Rattle.ds_tlb.specs.Singles.{match_each_other}
-use Rattle.ds_tlb.specs.Words.{hi_word, entry_of}
+use Rattle.ds_tlb.specs.Words.{entry_of}
 use Rattle.ds_tlb.proofs.Matches.{empty_entries_are_single}
-use Rattle.ds_policy.specs.declared.grant.Grant.{Grant}
-use Rattle.ds_policy.specs.declared.grant.Right.{Right}
-use Rattle.ds_policy.specs.Pages.{entry_at}
-use Rattle.ds_policy.specs.Grants.{is_write}
-use Rattle.ds_grants.specs.State.{GrantsState, frame_of_page}
-use Rattle.ds_grants.specs.Buffer.{page_word, IsBacked, BufferHolds, IsMappable, space_word, translation, filled}
+use Rattle.ds_tables.specs.Places.{Places}
+use Rattle.ds_grants.specs.State.{GrantsState}
+use Rattle.ds_grants.specs.Buffer.{hi_of, lo_of, IsMapped, IsBacked, BufferHolds, AreNumbersApart, entry_for, filled}
 use Rattle.ds_grants.proofs.Translations.{at_set, set_single, found_there}
+use Rattle.ds_grants.proofs.Fields.{has_page, has_space, mapped_small, lo_own}
 
 -- a slot of an empty buffer has what it has at the start
 is_start : (n slot : ℕ) (e : Entry) → slice_get (empty_entries n) slot ≡ Some e → e ≡ empty_entry slot
@@ -26,81 +26,92 @@ is_start n slot e at =
     sym (get_or_from_slice_get (empty_entries n) slot e e at) ∙ get_or-map-range_with_len empty_entry 0 n slot slot e (omega arith) (omega arith)
 
 -- an empty buffer holds, whatever is granted
-pub empty_buffer : (n : ℕ) (numbers : ℕ → ℕ) (g : GrantsState) → BufferHolds (empty_entries n) numbers g
-empty_buffer n numbers g = record {
+pub empty_buffer : (n : ℕ) (numbers : ℕ → ℕ) (g : GrantsState) (t : Places) → n ≤ 64 → BufferHolds (empty_entries n) numbers g t
+empty_buffer n numbers g t few = record {
+  few = (let long = length-map-range_with_len empty_entry 0 n in omega (arith, long, few));
   single = empty_entries_are_single n;
   apart = λ slot e at. inr (is_start n slot e at);
   own = λ slot e at. ap (λ (x : Entry). x.g) (is_start n slot e at);
   backed = λ slot e process at live some is. (let none : e.asid ≡ 0 = ap (λ (x : Entry). x.asid) (is_start n slot e at) in absurd (omega arith));
 }
 
--- the entry that maps a page has the page's number
-vpn_of_translation : (g : GrantsState) (vpn page : ℕ) (right : Right) → vpn < 2 ^ 20 → (translation g vpn page right).vpn ≡ vpn
-vpn_of_translation g vpn page right low = omega arith
+-- A search finds what was written where nothing matched.
 
--- the entry that maps a page is of the one address space
-asid_of_translation : (g : GrantsState) (vpn page : ℕ) (right : Right) → (translation g vpn page right).asid ≡ 1
-asid_of_translation g vpn page right = omega arith
+head_is_other : (b : Bool) (n m : ℕ) → cond (not b) (1 + n) 0 ≡ suc m → (b ≡ false) × (n ≡ m)
+head_is_other true n m e = absurd (omega arith)
+head_is_other false n m e = (refl, (omega arith))
 
--- EntryLo of a frame with the flags that a page has
-flags_of_word : (frame : ℕ) (writes : Bool) → let w = frame * 2 ^ 12 + bit 10 writes + bit 9 true in
-    (bits w 12 20 ≡ frame % 2 ^ 20) × ((bits w 11 1 == 1) ≡ false) × ((bits w 10 1 == 1) ≡ writes) × ((bits w 9 1 == 1) ≡ true) × ((bits w 8 1 == 1) ≡ false)
-flags_of_word frame true = (omega arith, grind (arith, nat_tests), grind (arith, nat_tests), grind (arith, nat_tests), grind (arith, nat_tests))
-flags_of_word frame false = (omega arith, grind (arith, nat_tests), grind (arith, nat_tests), grind (arith, nat_tests), grind (arith, nat_tests))
+first_there : (p : Entry → Bool) (y : Entry) → p y ≡ true → (xs : List Entry) (k : ℕ) → position_or_len p xs ≡ length xs → k < length xs → position_or_len p (set xs k y) ≡ k
+first_there p y passes [] k none within = absurd (omega arith)
+first_there p y passes (x ∷ xs) zero none within = ap (λ (b : Bool). cond (not b) (1 + position_or_len p xs) 0) passes
+first_there p y passes (x ∷ xs) (suc k) none within =
+    let h = head_is_other (p x) (position_or_len p xs) (length xs) none in
+    let rest : position_or_len p (set xs k y) ≡ k = first_there p y passes xs k h.1 (omega arith) in
+    let next : 1 + position_or_len p (set xs k y) ≡ suc k = omega arith in
+    ap (λ (b : Bool). cond (not b) (1 + position_or_len p (set xs k y)) 0) h.0 ∙ next
 
--- the entry by its fields
-pub translation_fields : (g : GrantsState) (vpn page : ℕ) (right : Right) → vpn < 2 ^ 20 → page < 1024
-    → translation g vpn page right ≡ record { vpn = vpn; asid = 1; pfn = frame_of_page g page; n = false; d = is_write right; v = true; g = false }
-translation_fields g vpn page right low few =
-    let w = page_word g page right in
-    let flags = flags_of_word (frame_of_page g page) (is_write right) in
-    let frame : bits w 12 20 ≡ page + 402 = flags.0 ∙ omega arith in
-    rw (vpn_of_translation g vpn page right low, asid_of_translation g vpn page right, frame, flags.1, flags.2, flags.3, flags.4) refl
+as_place : (n m : ℕ) → n < m → cond (nat_lt n m) (Some n) None ≡ Some n
+as_place n m below = let e : nat_lt n m ≡ true = grind (arith, nat_tests) in ap (λ (b : Bool). cond b (Some n) None) e
 
--- the entry has the words of which it is made
-words_of_translation : (g : GrantsState) (vpn page : ℕ) (right : Right) → vpn < 2 ^ 20 → let e = translation g vpn page right in e ≡ entry_of (hi_word e) (page_word g page right)
-words_of_translation g vpn page right low =
-    let e = translation g vpn page right in
-    let own : hi_word e ≡ space_word vpn = omega (arith, vpn_of_translation g vpn page right low, asid_of_translation g vpn page right) in
-    ap (λ (w : ℕ). entry_of w (page_word g page right)) (sym own)
+no_place : (n m : ℕ) → cond (nat_lt n m) (Some n) None ≡ None → m ≤ n
+no_place n m e = elim (cases_Bool (nat_lt n m)) [
+  | inl below ↦ absurd (some_none n (sym (ap (λ (b : Bool). cond b (Some n) None) below) ∙ e))
+  | inr not_below ↦ grind (arith, nat_tests)
+]
+  where
+    some_none : (x : ℕ) → ◌≡◌ {A = Option ℕ} (Some x) None → ⊥
+    some_none x e = absurd cc
 
--- an entry of the one address space answers for what matches it
-answers : (e f : Entry) → e.asid ≡ 1 → e.g ≡ false → f.g ≡ false → match_each_other e f ≡ true → matches e.vpn 1 f ≡ true
-answers e f space own other m = grind (arith, nat_tests)
+pub find_written : (entries : List Entry) (vpn asid slot : ℕ) (e : Entry) → find entries vpn asid ≡ None → slot < length entries → matches vpn asid e ≡ true → find (slice_set entries slot e) vpn asid ≡ Some slot
+find_written entries vpn asid slot e none within passes =
+    let whole = no_place (position_or_len (matches vpn asid) entries) (length entries) none in
+    let most : position_or_len (matches vpn asid) entries ≤ length entries = prefix_len-le-length (λ (x : Entry). not (matches vpn asid x)) entries in
+    let at = first_there (matches vpn asid) e passes entries slot (omega arith) within in
+    let size = length-set entries slot e in
+    as_place (position_or_len (matches vpn asid) (set entries slot e)) (length (set entries slot e)) (omega arith) ∙ ap (λ (n : ℕ). Some n) at
 
--- Where each entry of the one address space for a page stands in a slot, the slot may have what is granted there.
-written_buffer : (entries : List Entry) (numbers : ℕ → ℕ) (g : GrantsState) (process vpn page slot : ℕ) (grant : Grant) → BufferHolds entries numbers g → IsMappable numbers g process vpn page grant
-    → ((j : ℕ) → find entries vpn 1 ≡ Some j → j ≡ slot) → BufferHolds (slice_set entries slot (translation g vpn page grant.right)) numbers g
-written_buffer entries numbers g process vpn page slot grant k maps there =
-    let user : vpn < 2 ^ 19 = maps.user in
-    let e : Entry = translation g vpn page grant.right in
-    let here : e.vpn ≡ vpn = vpn_of_translation g vpn page grant.right (omega arith) in
-    let space : e.asid ≡ 1 = asid_of_translation g vpn page grant.right in
-    let own : e.g ≡ false = (flags_of_word (frame_of_page g page) (is_write grant.right)).4 in
-    let backed : IsBacked g process e = record {
-      grant = grant;
-      page = page;
-      granted = ap (λ (v : ℕ). entry_at g.table process (v * 2 ^ 12)) here ∙ maps.granted;
-      right = maps.right;
-      named = maps.named;
-      words = words_of_translation g vpn page grant.right (omega arith);
-    } in record {
+itself : (v n : ℕ) (g : Bool) → ((v == v) && (g || (n == n))) ≡ true
+itself v n g = grind (arith, nat_tests)
+
+pub same_keys : (vpn asid lo : ℕ) → vpn < 2 ^ 20 → asid < 64 → matches vpn asid (entry_of (hi_of vpn asid) lo) ≡ true
+same_keys vpn asid lo a b =
+    ap₂ (λ (v n : ℕ). (v == vpn) && ((entry_of (hi_of vpn asid) lo).g || (n == asid))) (has_page vpn asid lo a b) (has_space vpn asid lo a b) ∙ itself vpn asid ((entry_of (hi_of vpn asid) lo).g)
+
+pub find_filled : (entries : List Entry) (g : GrantsState) (t : Places) (p vpn asid slot : ℕ) → vpn < 2 ^ 20 → asid < 64 → slot < length entries → find entries vpn asid ≡ None → find (slice_set entries slot (entry_for g t p asid vpn)) vpn asid ≡ Some slot
+find_filled entries g t p vpn asid slot page space within none = find_written entries vpn asid slot (entry_for g t p asid vpn) none within (same_keys vpn asid (lo_of g t p vpn) page space)
+
+-- An entry goes where what matches it stands, or in any slot where nothing does.
+
+answers : (e f : Entry) → f.g ≡ false → e.g ≡ false → match_each_other e f ≡ true → matches e.vpn e.asid f ≡ true
+answers e f h g m = grind (arith, nat_tests)
+
+written_buffer : (entries : List Entry) (numbers : ℕ → ℕ) (g : GrantsState) (t : Places) (p vpn slot : ℕ) → AreNumbersApart numbers → BufferHolds entries numbers g t → 0 < p → 0 < numbers p
+    → IsMapped vpn → ((j : ℕ) → find entries vpn (numbers p) ≡ Some j → j ≡ slot) → BufferHolds (slice_set entries slot (entry_for g t p (numbers p) vpn)) numbers g t
+written_buffer entries numbers g t p vpn slot apart k live some mapped there =
+    let asid : ℕ = numbers p in
+    let few : numbers p < 64 = apart.few p in
+    let e : Entry = entry_of (hi_of vpn asid) (lo_of g t p vpn) in
+    let page : e.vpn ≡ vpn = has_page vpn asid (lo_of g t p vpn) (mapped_small vpn mapped) few in
+    let space : e.asid ≡ asid = has_space vpn asid (lo_of g t p vpn) (mapped_small vpn mapped) few in
+    let own : e.g ≡ false = lo_own (hi_of vpn asid) g t p vpn in
+    record {
+      few = (let size = length-set entries slot e in let most = k.few in omega (arith, size, most));
       single = set_single entries slot e k.single (λ j f at m.
-          let answered : matches e.vpn 1 f ≡ true = answers e f space own (k.own j f at) m in
-          there j (found_there entries vpn 1 j f (find entries vpn 1) k.single refl at (subst (λ (v : ℕ). matches v 1 f ≡ true) here answered)));
-      apart = λ i f at. elim (at_set entries slot i e f at) [
-        | inl new ↦ inl (let page_of : f.vpn ≡ vpn = ap (λ (x : Entry). x.vpn) new.1 ∙ here in omega arith)
-        | inr old ↦ k.apart i f old.1
-      ];
-      own = λ i f at. elim (at_set entries slot i e f at) [
-        | inl new ↦ ap (λ (x : Entry). x.g) new.1 ∙ own
-        | inr old ↦ k.own i f old.1
-      ];
-      backed = λ i f q at live some number. elim (at_set entries slot i e f at) [
-        | inl new ↦
-            let is : q ≡ process = maps.owner q live (number ∙ ap (λ (x : Entry). x.asid) new.1 ∙ space) in
-            subst (λ (p : ℕ). IsBacked g p f) (sym is) (subst (λ (x : Entry). IsBacked g process x) (sym new.1) backed)
-        | inr old ↦ k.backed i f q old.1 live some number
+          let answered : matches e.vpn e.asid f ≡ true = answers e f (k.own j f at) own m in
+          let here : matches vpn asid f ≡ true = sym (ap₂ (λ (v a : ℕ). matches v a f) page space) ∙ answered in
+          there j (found_there entries vpn asid j f (find entries vpn asid) k.single refl at here));
+      apart = λ i f at. elim (at_set entries slot i e f at) [ inl here ↦ inl (subst IsMapped (sym (ap (λ (x : Entry). x.vpn) here.1 ∙ page)) mapped) | inr other ↦ k.apart i f other.1 ];
+      own = λ i f at. elim (at_set entries slot i e f at) [ inl here ↦ ap (λ (x : Entry). x.g) here.1 ∙ own | inr other ↦ k.own i f other.1 ];
+      backed = λ i f q at running number holds. elim (at_set entries slot i e f at) [
+        | inl here ↦
+            let same : f.asid ≡ asid = ap (λ (x : Entry). x.asid) here.1 ∙ space in
+            let owner : p ≡ q = apart.apart p q live running some (sym same ∙ sym holds) in
+            subst (λ (x : Entry). IsBacked g t q x) (sym here.1)
+            (subst (λ (r : ℕ). IsBacked g t r e) owner (record {
+              mapped = subst IsMapped (sym page) mapped;
+              words = ap₂ (λ (v a : ℕ). entry_of (hi_of v a) (lo_of g t p v)) (sym page) (sym space);
+            }))
+        | inr other ↦ k.backed i f q other.1 running number holds
       ];
     }
 
@@ -108,14 +119,14 @@ written_buffer entries numbers g process vpn page slot grant k maps there =
 where_found : (slot j : ℕ) (found : Option ℕ) → found ≡ Some j → j ≡ unwrap_or found slot
 where_found slot j found is = rw is refl
 
--- a fill by what is granted, in the place of what is there for the page
-pub filled_buffer : (entries : List Entry) (numbers : ℕ → ℕ) (g : GrantsState) (process vpn page slot : ℕ) (grant : Grant) → BufferHolds entries numbers g → IsMappable numbers g process vpn page grant
-    → BufferHolds (filled entries vpn slot (translation g vpn page grant.right)) numbers g
-filled_buffer entries numbers g process vpn page slot grant k maps =
-    written_buffer entries numbers g process vpn page (unwrap_or (find entries vpn 1) slot) grant k maps (λ j is. where_found slot j (find entries vpn 1) is)
+-- a fill in the place of what is there for the page
+pub filled_buffer : (entries : List Entry) (numbers : ℕ → ℕ) (g : GrantsState) (t : Places) (p vpn slot : ℕ) → AreNumbersApart numbers → BufferHolds entries numbers g t → 0 < p → 0 < numbers p
+    → IsMapped vpn → BufferHolds (filled entries vpn (numbers p) slot (entry_for g t p (numbers p) vpn)) numbers g t
+filled_buffer entries numbers g t p vpn slot apart k live some mapped =
+    written_buffer entries numbers g t p vpn (unwrap_or (find entries vpn (numbers p)) slot) apart k live some mapped (λ j is. where_found slot j (find entries vpn (numbers p)) is)
 
 -- a fill after a miss, in any slot
-pub missed_buffer : (entries : List Entry) (numbers : ℕ → ℕ) (g : GrantsState) (process vpn page slot : ℕ) (grant : Grant) → BufferHolds entries numbers g → IsMappable numbers g process vpn page grant → find entries vpn 1 ≡ None
-    → BufferHolds (slice_set entries slot (translation g vpn page grant.right)) numbers g
-missed_buffer entries numbers g process vpn page slot grant k maps none =
-    written_buffer entries numbers g process vpn page slot grant k maps (λ j is. (let no : None ≡ Some j = sym none ∙ is in absurd cc))
+pub missed_buffer : (entries : List Entry) (numbers : ℕ → ℕ) (g : GrantsState) (t : Places) (p vpn slot : ℕ) → AreNumbersApart numbers → BufferHolds entries numbers g t → 0 < p → 0 < numbers p
+    → IsMapped vpn → find entries vpn (numbers p) ≡ None → BufferHolds (slice_set entries slot (entry_for g t p (numbers p) vpn)) numbers g t
+missed_buffer entries numbers g t p vpn slot apart k live some mapped none =
+    written_buffer entries numbers g t p vpn slot apart k live some mapped (λ j is. (let no : None ≡ Some j = sym none ∙ is in absurd cc))

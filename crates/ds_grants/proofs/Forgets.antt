@@ -8,11 +8,10 @@ use Rattle.ds_tlb.specs.Entries.{matches, find, empty_entry}
 use Rattle.ds_tlb.specs.Singles.{match_each_other, IsSingle}
 use Rattle.ds_tlb.specs.Words.{entry_of}
 use Rattle.ds_grants.specs.State.{GrantsState}
-use Rattle.ds_grants.specs.Buffer.{cleared}
 use Rattle.ds_grants.proofs.Translations.{at_set, set_single, found_there}
 use Rattle.ds_tables.specs.Places.{Places, region_of}
 use Rattle.ds_grants.specs.Buffer.{hi_of, lo_of, read_only, IsMapped, BufferHolds}
-use Rattle.ds_grants.specs.Changes.{forgotten, both_forgotten, IsChangedAt}
+use Rattle.ds_grants.specs.Changes.{cleared, forgotten, both_forgotten, IsChangedAt}
 use Rattle.ds_grants.proofs.Fields.{user_lo, table_lo}
 
 -- What is true of a buffer whatever is granted.
@@ -67,20 +66,24 @@ forgets_by entries vpn asid (Some here) is k =
 pub forgets : (entries : List Entry) (vpn asid : ℕ) → IsPlain entries → IsPlain (forgotten entries vpn asid) × IsLess entries (forgotten entries vpn asid) vpn asid
 forgets entries vpn asid k = forgets_by entries vpn asid (find entries vpn asid) refl k
 
-plain_of : (entries : List Entry) (numbers : ℕ → ℕ) (g : GrantsState) (t : Places) → length entries ≤ 64 → BufferHolds entries numbers g t → IsPlain entries
-plain_of entries numbers g t few k = record { single = k.single; apart = k.apart; own = k.own; few = few }
+pub plain_of : (entries : List Entry) (numbers : ℕ → ℕ) (g : GrantsState) (t : Places) → BufferHolds entries numbers g t → IsPlain entries
+plain_of entries numbers g t k = record { single = k.single; apart = k.apart; own = k.own; few = k.few }
+
+pub none_of_start : (slot : ℕ) (e : Entry) → e ≡ empty_entry slot → 0 < e.asid → ⊥
+none_of_start slot e start some = let none : e.asid ≡ 0 = ap (λ (x : Entry). x.asid) start in omega arith
 
 -- an entry of who has no number answers to nobody
-numbered : (n asid e : ℕ) → (n ≡ asid) ⊎ (n ≡ 0) → 0 < e → n ≡ e → e ≡ asid
+pub numbered : (n asid e : ℕ) → (n ≡ asid) ⊎ (n ≡ 0) → 0 < e → n ≡ e → e ≡ asid
 numbered n asid e (inl is) some same = sym same ∙ is
 numbered n asid e (inr none) some same = absurd (omega (arith, none, some, same))
 
-pub buffer_changed : (entries : List Entry) (numbers : ℕ → ℕ) (g h : GrantsState) (t u : Places) (p address asid : ℕ) → length entries ≤ 64 → (numbers p ≡ asid) ⊎ (numbers p ≡ 0) → IsChangedAt g h t u p address
+pub buffer_changed : (entries : List Entry) (numbers : ℕ → ℕ) (g h : GrantsState) (t u : Places) (p address asid : ℕ) → (numbers p ≡ asid) ⊎ (numbers p ≡ 0) → IsChangedAt g h t u p address
     → BufferHolds entries numbers g t → BufferHolds (both_forgotten entries address asid) numbers h u
-buffer_changed entries numbers g h t u p address asid few known changed k =
-    let first = forgets entries (address / 2 ^ 12) asid (plain_of entries numbers g t few k) in
+buffer_changed entries numbers g h t u p address asid known changed k =
+    let first = forgets entries (address / 2 ^ 12) asid (plain_of entries numbers g t k) in
     let second = forgets (forgotten entries (address / 2 ^ 12) asid) (0xC0000 + region_of address) asid first.0 in
     record {
+      few = second.0.few;
       single = second.0.single;
       apart = second.0.apart;
       own = second.0.own;
@@ -96,9 +99,6 @@ buffer_changed entries numbers g h t u p address asid few known changed k =
       ];
     }
   where
-    none_of_start : (slot : ℕ) (e : Entry) → e ≡ empty_entry slot → 0 < e.asid → ⊥
-    none_of_start slot e start some = let none : e.asid ≡ 0 = ap (λ (x : Entry). x.asid) start in omega arith
-
     by_table : (vpn q : ℕ) → 0 < q → 0xC0000 ≤ vpn → (q ≡ p → vpn ≡ 0xC0000 + region_of address → ⊥) → lo_of g t q vpn ≡ lo_of h u q vpn
     by_table vpn q running high other =
         let is : vpn ≡ 0xC0000 + (vpn - 0xC0000) = omega (arith, high) in

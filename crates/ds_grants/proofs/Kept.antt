@@ -1,6 +1,7 @@
 -- What is represented after an entry is put, and after one is removed.
 use Rattle.std.proofs.Common.{◌≡◌, ◌≢◌, ◌⊎◌, ℕ, ◌+◌, ◌-◌, ◌*◌, ◌/◌, ◌%◌, ◌^◌, ◌<◌, ◌≤◌, Bool, true, false, cond, not, List, length, Option, Some, None, refl, sym, ap, subst, ◌∙◌, arith, inl, inr}
-use Rattle.std.specs.Prelude.{IfSome}
+use Rattle.std.specs.Prelude.{IfSome, ◌||◌, ◌==◌, nat_le, is_some}
+use Rattle.std.proofs.lemmas.Bool.Decides.{nat_tests}
 use Rattle.std.proofs.lemmas.List.{length-map}
 use Rattle.ds_mem.specs.Memory.{zeros}
 use Rattle.ds_mem.proofs.Zeros.{length-zeros}
@@ -19,11 +20,12 @@ use Rattle.ds_tables.specs.Tables as tables
 use Rattle.ds_tables.specs.Tables.{HasEmptyTable, with_table_by, with_table, with_entry_word, word_place, entry_word}
 use Rattle.ds_tables.proofs.PlaceLemmas.{is_place, is_free_place, placed, place_of-other, place_of-kept, row_placed, closed_row, four_places}
 use Rattle.ds_tables.proofs.Map.{frames_kept, opened_old, opened_not, opened_new}
-use Rattle.ds_grants.specs.Words.{word_of_right, word_of_grant}
+use Rattle.ds_grants.specs.Words.{word_of_right, word_of_grant, WordsHold}
 use Rattle.ds_grants.specs.Changes.{both_forgotten, is_used, memory_without, places_without, IsChangedAt, AreKnown}
-use Rattle.ds_grants.specs.Represented.{IsRepresented, HasRegion, IsLow, IsHigh}
-use Rattle.ds_grants.proofs.Regions.{fifth_by_places}
-use Rattle.ds_grants.proofs.Puts.{put_holds, removed_holds, same_word}
+use Rattle.ds_grants.specs.Represented.{IsRepresented, Keeps, HasPlace, IsLow, IsHigh}
+use Rattle.ds_grants.specs.Order.{is_no_page}
+use Rattle.ds_grants.proofs.FifthRegion.{either, fifth_by_places}
+use Rattle.ds_grants.proofs.Puts.{put_holds, removed_holds, same_word, found_used, some_is, used_before}
 use Rattle.ds_grants.proofs.Forgets.{buffer_changed}
 
 -- Places after a region is opened, and after one is closed.
@@ -48,6 +50,20 @@ opened_tables t p r q s are other = elim (opened_by t p r (place_of t p r) (free
 pub closed_places : (t : Places) (p r : ℕ) → ArePlaces t → 0 < p → p ≤ length t → ArePlaces (closed t p r)
 closed_places t p r are low high = subst ArePlaces (sym (closed_row t p r low)) (row_placed t (p - 1) _ are (length-map (places_of t p) (freed r) ∙ four_places t p are low high))
 
+-- A page's address.
+
+pub aligned : (a : ℕ) → is_no_page a ≡ false → a % 2 ^ 12 ≡ 0
+aligned a page = by_test (either (not (a % 4096 == 0)) (nat_le (2 ^ 31) a) page).0
+  where
+    by_test : not (a % 4096 == 0) ≡ false → a % 2 ^ 12 ≡ 0
+    by_test e = grind (arith, nat_tests)
+
+-- A page that is granted lies in memory.
+
+pub few_pages : (page : Option ℕ) (frames : ℕ) → frames ≤ 1024 → IfSome page (λ q. q < frames) → IfSome page (λ q. q < 1024)
+few_pages None frames few within = tt
+few_pages (Some q) frames few within = omega (arith, few, within)
+
 -- A page-table word has 32 bits.
 
 pub word_small : (g : GrantsState) (grant : Grant) → IfSome grant.page (λ page. page < 1024) → word_of_grant g (Some grant) < 2 ^ 32
@@ -63,23 +79,23 @@ word_small g grant few = by_page grant.page few
     by_page (Some q) low = flagged grant.right q low
 
 module _ (entries : List Entry) (memory : List ℕ) (t : Places) (numbers known : ℕ → ℕ) (g : GrantsState) (p a : ℕ) (k : IsRepresented entries memory t numbers g) (are : AreKnown known numbers)
-    (few : length entries ≤ 64) (long : 2 ^ 23 ≤ length memory) (low : 0 < p) (high : p ≤ length g.table) (page : a % 2 ^ 12 ≡ 0) where
+    (long : 2 ^ 23 ≤ length memory) (low : 0 < p) (high : p ≤ length g.table) (page : a % 2 ^ 12 ≡ 0) where
   high_places : p ≤ length t
   high_places = subst (λ (n : ℕ). p ≤ n) (sym k.words.same) high
 
   elsewhere : (vpn : ℕ) → vpn ≢ a / 2 ^ 12 → vpn * 2 ^ 12 ≢ a
   elsewhere vpn other = λ (e : ◌≡◌ {A = ℕ} (vpn * 2 ^ 12) a). other (omega (arith, e))
 
-  pub put_represented : (grant : Grant) → IfSome grant.page (λ page. page < 1024) → HasRegion g p a
+  pub put_represented : (grant : Grant) → IfSome grant.page (λ page. page < 1024) → HasPlace g p a
       → IsRepresented (both_forgotten entries a (known p)) (tables.with_entry memory t p a (word_of_grant g (Some grant))) (opened t p (region_of a)) numbers (with_grant g p a grant)
   put_represented grant small region =
-      let room : has_place t p (region_of a) ≡ true = turned (has_place t p (region_of a)) (sym (fifth_by_places t p (region_of a) (entries_of g.table p) (four_places t p k.places low high_places) (k.words.distinct p) (λ s. k.words.regions p s low)) ∙ region) in
+      let room : has_place t p (region_of a) ≡ true = room_for region in
       let changed : IsChangedAt g (with_grant g p a grant) t (opened t p (region_of a)) p a = record {
         words = λ q vpn live other. same_word g (with_grant g p a grant) (entry_at (with_entry g.table p a grant) q (vpn * 2 ^ 12)) ∙ ap (word_of_grant g) (entry_at-with_entry g.table p a grant q (vpn * 2 ^ 12) low live (λ own. elsewhere vpn (other own)));
         tables = λ q r live other. opened_tables t p (region_of a) q r k.places (λ own same. other own same);
       } in
       record {
-        buffer = buffer_changed entries numbers g (with_grant g p a grant) t (opened t p (region_of a)) p a (known p) few (are p) changed k.buffer;
+        buffer = buffer_changed entries numbers g (with_grant g p a grant) t (opened t p (region_of a)) p a (known p) (are p) changed k.buffer;
         words = put_holds memory t g p a k.words k.places long k.empty low high page grant (word_small g grant small) room;
         places = opened_places t p (region_of a) k.places;
         empty = frames_kept memory t p a (word_of_grant g (Some grant)) 1 k.places long (inl (omega arith)) ∙ k.empty;
@@ -89,6 +105,10 @@ module _ (entries : List Entry) (memory : List ℕ) (t : Places) (numbers known 
       turned true e = refl
       turned false e = absurd cc
 
+      room_for : HasPlace g p a → has_place t p (region_of a) ≡ true
+      room_for (inl region) = turned (has_place t p (region_of a)) (sym (fifth_by_places t p (region_of a) (entries_of g.table p) (four_places t p k.places low high_places) (k.words.distinct p) (λ s. k.words.regions p s low)) ∙ region)
+      room_for (inr there) = ap (λ (b : Bool). b || is_some (free_place t p)) (k.words.regions p (region_of a) low ∙ found_used (entries_of g.table p) a there)
+
   pub remove_represented : IsRepresented (both_forgotten entries a (known p)) (memory_without memory t g p a) (places_without t g p a) numbers (without_grant g p a)
   remove_represented =
       let changed : IsChangedAt g (without_grant g p a) t (places_without t g p a) p a = record {
@@ -96,7 +116,7 @@ module _ (entries : List Entry) (memory : List ℕ) (t : Places) (numbers known 
         tables = λ q r live other. by_used (is_used (without_grant g p a) p (region_of a)) q r (λ own same. other own same);
       } in
       record {
-        buffer = buffer_changed entries numbers g (without_grant g p a) t (places_without t g p a) p a (known p) few (are p) changed k.buffer;
+        buffer = buffer_changed entries numbers g (without_grant g p a) t (places_without t g p a) p a (known p) (are p) changed k.buffer;
         words = removed_holds memory t g p a k.words k.places long k.empty low high page;
         places = places_by (is_used (without_grant g p a) p (region_of a));
         empty = empty_by (is_used (without_grant g p a) p (region_of a));
@@ -113,6 +133,12 @@ module _ (entries : List Entry) (memory : List ℕ) (t : Places) (numbers known 
       empty_by : (b : Bool) → HasEmptyTable (cond b (tables.with_entry memory t p a 0) memory)
       empty_by true = frames_kept memory t p a 0 1 k.places long (inl (omega arith)) ∙ k.empty
       empty_by false = k.empty
+
+-- a region that stays open had a table
+pub still_open : (memory : List ℕ) (t : Places) (g : GrantsState) (p a : ℕ) → WordsHold memory t g → 0 < p → p ≤ length g.table → is_used (without_grant g p a) p (region_of a) ≡ true → opened t p (region_of a) ≡ t
+still_open memory t g p a k low high stays =
+    let there = some_is (place_of t p (region_of a)) (k.regions p (region_of a) low ∙ used_before g.table p a low high stays) in
+    opened_old t p (region_of a) there.0 there.1
 
 -- Memory of which tables alone changed, and memory of which pages alone did.
 
@@ -173,3 +199,15 @@ pub high_stored : (memory : List ℕ) (place w : ℕ) → length memory ≡ 2 ^ 
 high_stored memory place w size low high =
     let inside : place - place % 4 + 4 ≤ length memory = omega (arith, size, high) in
     (length-with_word memory place w inside, λ f table. frame_of-with_word_apart memory place w f inside (inl (omega (arith, table, low))))
+
+-- memory and places as others are
+pub represented_as : {entries : List Entry} {memory n : List ℕ} {t u : Places} {numbers : ℕ → ℕ} {g : GrantsState} → n ≡ memory → u ≡ t → IsRepresented entries memory t numbers g → IsRepresented entries n u numbers g
+represented_as {entries} {memory} {n} {t} {u} {numbers} {g} e f k = subst (λ (m : List ℕ). IsRepresented entries m u numbers g) (sym e) (subst (λ (v : Places). IsRepresented entries memory v numbers g) (sym f) k)
+
+-- Changes one after the other, and none.
+
+pub keeps_then : {known : ℕ → ℕ} {es fs gs : List Entry} {m n o : List ℕ} {t u v : Places} {g h i : GrantsState} → Keeps known es m t g fs n u h → Keeps known fs n u h gs o v i → Keeps known es m t g gs o v i
+keeps_then first second = λ numbers apart are k. second numbers apart are (first numbers apart are k)
+
+pub keeps_same : (known : ℕ → ℕ) (es fs : List Entry) (m n : List ℕ) (t u : Places) (g h : GrantsState) → fs ≡ es → n ≡ m → u ≡ t → h ≡ g → Keeps known es m t g fs n u h
+keeps_same known es fs m n t u g h entries memory places grants = λ numbers apart are k. rw (entries, memory, places, grants) k

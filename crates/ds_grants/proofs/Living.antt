@@ -11,6 +11,7 @@ use Rattle.ds_policy.specs.declared.grant.Right.TheVariants.{Read}
 use Rattle.ds_policy.specs.Pages.{Table, Pages, names, entry_at, entries_of, with_entry, without_entry, is_named_by, kept}
 use Rattle.ds_policy.specs.Grants.{granted, removed, live_only}
 use Rattle.ds_grants.specs.State.{GrantsState, is_live, page_in, pages_in, page_state, with_grant, without_grant}
+use Rattle.ds_grants.specs.Represented.{IsLow}
 use Rattle.ds_grants.specs.Counts.{one_if_named, page_of, holders_of}
 use Rattle.ds_grants.proofs.HolderCounts.{holders_with, holders_without, named_by_holders, found_holds, row_holders}
 
@@ -27,6 +28,18 @@ pages_from_same g g' memory at n same =
 
 pub pages_same : (g g' : GrantsState) (memory : List ℕ) → g'.frames ≡ g.frames → ((q : ℕ) → is_live g' q ≡ is_live g q) → pages_in g' memory ≡ pages_in g memory
 pages_same g g' memory size same = ap (λ n. map (page_in g' memory) (range_with_len 0 n)) size ∙ pages_from_same g g' memory 0 g.frames same
+
+-- what changed below the pages leaves the page state
+pub low_pages : (g : GrantsState) (old new : List ℕ) → IsLow old new → page_state g new ≡ page_state g old
+low_pages g old new low =
+    let size = length-map-range_with_len (page_in g new) 0 g.frames in
+    let pages : pages_in g new ≡ pages_in g old = same_lists (pages_in g new) (pages_in g old) (size ∙ sym (length-map-range_with_len (page_in g old) 0 g.frames))
+    (λ k d h.
+    let within : k < g.frames = omega arith in
+    get_or-map-range_with_len (page_in g new) 0 g.frames k k d within (omega arith)
+    ∙ ap (λ (bytes : List ℕ). cond (is_live g k) (Some bytes) None) (low.1 (k + 402) (omega arith))
+    ∙ sym (get_or-map-range_with_len (page_in g old) 0 g.frames k k d within (omega arith))) in
+    ap (λ (pages : Pages). record { pages = pages; table = g.table; named = g.named }) pages
 
 -- a page lives where the policy names it or it has holders
 pub live_by_holders : (g : GrantsState) (q : ℕ) → is_live g q ≡ (nat_lt q g.named || nat_lt 0 (holders_of g.table q))

@@ -20,7 +20,7 @@ use Rattle.ds_tables.proofs.PlaceLemmas.{places_at, no_places, is_free_place, fo
 use Rattle.ds_tables.proofs.Map.{put_words, closed_words, opened_old, opened_new}
 use Rattle.ds_grants.specs.Words.{word_of_right, word_of_grant, granted_word, regions_taken, WordsHold}
 use Rattle.ds_grants.specs.Changes.{is_used, memory_without, places_without}
-use Rattle.ds_grants.proofs.Regions.{same_number, itself, either, has, placed_by_taken}
+use Rattle.ds_grants.proofs.FifthRegion.{same_number, itself, either, has, placed_by_taken}
 
 -- Entries of a row, put and removed.
 
@@ -31,7 +31,7 @@ both_true false y e = absurd cc
 missed : (p q r s : ℕ) → q ≡ p → s ≡ r → ((q == p) && (r == s)) ≡ false → ⊥
 missed p q r s own region e = let no : true ≡ false = sym (ap₂ (λ (a b : Bool). a && b) (ap (λ (n : ℕ). n == p) own ∙ itself p) (ap (λ (n : ℕ). r == n) region ∙ itself r)) ∙ e in absurd cc
 
-abbrev used : ℕ → List Entry → Bool
+abbrev pub used : ℕ → List Entry → Bool
 used s es = list_any (λ (e : Entry). region_of e.address == s) es
 
 found_put : (es : List Entry) (a : ℕ) (g : Grant) → found (put es a g) a ≡ Some g
@@ -76,7 +76,7 @@ used_gone s (e ∷ es) a apart = elim (cases_Bool (e.address == a)) [
   | inr other ↦ rw other (ap (λ (b : Bool). (region_of e.address == s) || b) (used_gone s es a apart))
 ]
 
-none_found : (es : List Entry) (b r : ℕ) → used r es ≡ false → region_of b ≡ r → found es b ≡ None
+pub none_found : (es : List Entry) (b r : ℕ) → used r es ≡ false → region_of b ≡ r → found es b ≡ None
 none_found [] b r none at = refl
 none_found (e ∷ es) b r none at =
     let both = either (region_of e.address == r) (used r es) none in
@@ -86,6 +86,13 @@ none_found (e ∷ es) b r none at =
     ] in
     ap (λ (x : Bool). cond x (Some e.grant) (found es b)) other ∙ none_found es b r both.1 at
 
+-- who has an entry at an address has one in its region
+pub found_used : (es : List Entry) (a : ℕ) → is_some (found es a) ≡ true → used (region_of a) es ≡ true
+found_used es a there = elim (cases_Bool (used (region_of a) es)) [
+  | inl is ↦ is
+  | inr none ↦ (let no : false ≡ true = sym (ap is_some (none_found es a (region_of a) none refl)) ∙ there in absurd cc)
+]
+
 -- The rows of a table.
 
 entries_put : (t : Table) (p a : ℕ) (g : Grant) → 0 < p → p ≤ length t → entries_of (with_entry t p a g) p ≡ put (entries_of t p) a g
@@ -94,7 +101,7 @@ entries_put t p a g low high = get_or-set_same t (p - 1) (put (entries_of t p) a
 entries_gone : (t : Table) (p a : ℕ) → 0 < p → p ≤ length t → entries_of (without_entry t p a) p ≡ filter (λ (e : Entry). not (e.address == a)) (entries_of t p)
 entries_gone t p a low high = get_or-set_same t (p - 1) (filter (λ (e : Entry). not (e.address == a)) (entries_of t p)) [] (omega arith)
 
-foreign_row : (t : Table) (p q : ℕ) (row : List Entry) → 0 < p → 0 < q → q ≢ p → entries_of (slice_set t (p - 1) row) q ≡ entries_of t q
+pub foreign_row : (t : Table) (p q : ℕ) (row : List Entry) → 0 < p → 0 < q → q ≢ p → entries_of (slice_set t (p - 1) row) q ≡ entries_of t q
 foreign_row t p q row low live apart = get_or-set_other t (p - 1) (q - 1) row [] (λ (e : ◌≡◌ {A = ℕ} (q - 1) (p - 1)). apart (omega arith))
 
 -- a word doesn't depend on the table
@@ -151,11 +158,11 @@ distinct_inserted r ps qs i new distinct =
 
 -- An opened region.
 
-some_is : (o : Option ℕ) → is_some o ≡ true → (k : ℕ) × (o ≡ Some k)
+pub some_is : (o : Option ℕ) → is_some o ≡ true → (k : ℕ) × (o ≡ Some k)
 some_is None e = absurd cc
 some_is (Some k) e = (k, refl)
 
-none_is : (o : Option ℕ) → is_some o ≡ false → o ≡ None
+pub none_is : (o : Option ℕ) → is_some o ≡ false → o ≡ None
 none_is None e = refl
 none_is (Some k) e = absurd cc
 
@@ -242,7 +249,7 @@ freed_distinct r (Some q ∷ ps) e =
           ]
     ]
 
-closed_distinct : (t : Places) (p r : ℕ) → 0 < p → p ≤ length t → ((q : ℕ) → count_distinct (regions_taken (places_of t q)) ≡ length (regions_taken (places_of t q)))
+pub closed_distinct : (t : Places) (p r : ℕ) → 0 < p → p ≤ length t → ((q : ℕ) → count_distinct (regions_taken (places_of t q)) ≡ length (regions_taken (places_of t q)))
     → (q : ℕ) → count_distinct (regions_taken (places_of (closed t p r) q)) ≡ length (regions_taken (places_of (closed t p r) q))
 closed_distinct t p r low high distinct q =
     let row : closed t p r ≡ slice_set t (p - 1) (map (freed r) (places_of t p)) = (let e : (p == 0) ≡ false = grind (arith, nat_tests) in ap (λ (b : Bool). cond b t (slice_set t (p - 1) (map (freed r) (places_of t p)))) e) in

@@ -55,8 +55,26 @@ impl Grants {
     {
         let grant = self.may_give(caller, addr, receiver, to, mode)?;
         match mode {
-            1 => self.share(grant, Right::Read, caller, receiver, to, memory, tables, tlb),
-            2 => self.share(grant, Right::Write, caller, receiver, to, memory, tables, tlb),
+            1 => self.share(
+                grant,
+                Right::Read,
+                caller,
+                receiver,
+                to,
+                memory,
+                tables,
+                tlb,
+            ),
+            2 => self.share(
+                grant,
+                Right::Write,
+                caller,
+                receiver,
+                to,
+                memory,
+                tables,
+                tlb,
+            ),
             _ => self.give_copy(grant, caller, receiver, to, memory, tables, tlb),
         }
         Ok(())

@@ -1,5 +1,5 @@
 //! What is granted at the beginning of a run.
-ghost use Rattle.std.specs.Prelude.{◌≡◌, ℕ, ◌+◌, ◌<◌, ◌≤◌, ◌⊎◌, false, length, replicate, position, bytes_eq, slice_index_or, map, [], IfSome, IfOk, OnErr};
+ghost use Rattle.std.specs.Prelude.{◌≡◌, ℕ, ◌+◌, ◌<◌, ◌≤◌, ◌⊎◌, false, length, replicate, position, bytes_eq, slice_index_or, map, [], IfSome, IfOk, OnErr, OnOk};
 ghost use Rattle.ds_mem.specs.Memory.{frame_of};
 ghost use Rattle.ds_asm.specs.Images.{part_of};
 ghost use Rattle.ds_policy.specs.PolicyParts.{sources_of};
@@ -10,9 +10,9 @@ ghost use Rattle.ds_grants.specs.State.{pages_in};
 ghost use Rattle.ds_grants.specs.Represented.{IsRepresented};
 ghost use Rattle.ds_grants.specs.First.{no_grants, first_grants};
 
+use crate::first_tables::first_tables;
 use crate::grants::{Grants, PROCESSES, frame_of_page};
 use crate::holders::hold_table;
-use crate::first_tables::first_tables;
 use crate::tally::Tally;
 use crate::translation::flush;
 use arrayvec::ArrayVec;

@@ -1,11 +1,13 @@
 //! The page tables that a policy begins with.
-ghost use Rattle.std.specs.Prelude.{◌≡◌, ◌⊎◌, ℕ, ◌+◌, ◌<◌, ◌≤◌, length, replicate, [], Some, IfSome};
+ghost use Rattle.std.specs.Prelude.{◌≡◌, ◌⊎◌, ℕ, ◌<◌, ◌≤◌, ◌^◌, length, replicate, [], Some, IfSome};
 ghost use Rattle.std.specs.List.{All};
 ghost use Rattle.ds_mem.specs.Memory.{frame_of};
 ghost use Rattle.ds_policy.specs.PolicyFacts.{IsGoodRule, HasFewRegions};
 ghost use Rattle.ds_policy.specs.FirstTable.{granted_by, with_rules};
-ghost use Rattle.ds_tables.specs.Tables.{HasEmptyTable};
+ghost use Rattle.ds_tables.specs.Places.{region_of, opened};
+ghost use Rattle.ds_tables.specs.Tables.{HasEmptyTable, with_entry};
 ghost use Rattle.ds_grants.specs.State.{GrantsState};
+ghost use Rattle.ds_grants.specs.Words.{word_of_grant};
 ghost use Rattle.ds_grants.specs.Represented.{HasWords};
 
 use crate::page_tables::word_of_right;

@@ -1,7 +1,8 @@
 //! The regions of 4 MiB in which a process's entries lie.
-ghost use Rattle.std.specs.Prelude.{◌≡◌, ◌/◌, ◌^◌, ◌∷◌, map, nat_lt};
+ghost use Rattle.std.specs.Prelude.{◌≡◌, ◌∷◌, map, nat_lt};
 ghost use Rattle.ds_policy.specs.Grants.{region, count_distinct};
 
+use crate::page_tables::region_of;
 use arrayvec::ArrayVec;
 use ds_policy::Entry;
 
@@ -25,11 +26,4 @@ pub(crate) fn is_in_fifth_region(entries: &[Entry], addr: u32) -> bool
         }
     }
     false
-}
-
-/// The region in which an address lies.
-fn region_of(addr: u32) -> u32
-    ensures { result ≡ region addr }
-{
-    addr >> 22
 }

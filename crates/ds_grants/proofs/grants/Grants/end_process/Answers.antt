@@ -2,11 +2,11 @@ use Rattle.std.proofs.Common.{◌≤◌, ◌∙◌, ◌+◌, ◌-◌, true, leng
 use Rattle.ds_policy.proofs.Entries.{refill_set}
 use Rattle.ds_grants.specs.State.{GrantsState}
 use Rattle.ds_grants.specs.Counts.{holders_in}
-use Rattle.ds_grants.specs.Buffer.{BufferHolds}
+use Rattle.ds_grants.specs.Represented.{IsRepresented}
 use Rattle.ds_grants.specs.contracts.grants.Grants.{the_view}
 use Rattle.ds_grants.proofs.HolderCounts.{row_counted}
 use Rattle.ds_grants.proofs.Sizes.{ended_sound}
-use Rattle.ds_grants.proofs.Endings.{ended_state, end_buffer}
+use Rattle.ds_grants.proofs.Endings.{ended_state, end_represented}
 use Rattle.ds_grants.proofs.grants.Grants.end_process.Goals as goal
 
 pub release_all-requires : goal.release_all-requires
@@ -27,9 +27,9 @@ returns-clause-does g c =
     rw (c.clear.ensures, c.deref_mut.ensures.value, refill_set c.self.inside.ended.items (c.args.process - 1) true, c.release_all.ensures.size, ← c.self.view_is)
     (ended_state (the_view c.self.inside) c.args.process c.args.memory.now c.requires.low high)
 
-pub returns-clause-buffer : goal.returns-clause-buffer
-returns-clause-buffer g c = λ numbers one holds.
+pub returns-clause-keeps : goal.returns-clause-keeps
+returns-clause-keeps g c = λ numbers apart are k.
     let high : c.args.process ≤ length c.self.inside.table = subst (λ (s : GrantsState). c.args.process ≤ length s.table) (sym c.self.view_is) c.requires.high in
-    let before = subst (λ (s : GrantsState). BufferHolds (g.L.Lookaside.entries c.args.tlb.now) numbers s) (sym c.self.view_is) holds in
-    rw (c.forget_all.ensures.entries, c.entries-entries.ensures.all, c.clear.ensures, c.deref_mut.ensures.value, refill_set c.self.inside.ended.items (c.args.process - 1) true, c.release_all.ensures.size)
-    (end_buffer (g.L.Lookaside.entries c.args.tlb.now) numbers (the_view c.self.inside) c.args.process c.requires.low high one before)
+    let before = subst (λ (s : GrantsState). IsRepresented (g.L.Lookaside.entries c.args.tlb.now) c.args.memory.now c.args.tables.now numbers s) (sym c.self.view_is) k in
+    rw (c.forget_all.ensures.entries, c.close_all.ensures, c.entries-entries.ensures.all, c.clear.ensures, c.deref_mut.ensures.value, refill_set c.self.inside.ended.items (c.args.process - 1) true, c.release_all.ensures.size)
+    (end_represented (the_view c.self.inside) c.args.tables.now c.args.process c.requires.low high (g.L.Lookaside.entries c.args.tlb.now) c.args.memory.now numbers are before)

@@ -2,7 +2,7 @@ use Rattle.std.proofs.Common.{rules, ◌∙◌, ◌<◌, Ok, ℕ, Option, IfSome
 use Rattle.ds_policy.specs.Grants.{PageState}
 use Rattle.ds_grants.specs.State.{GrantsState, page_state}
 use Rattle.ds_grants.proofs.Chains.{refused_by, narrowed_as}
-use Rattle.ds_grants.proofs.Living.{narrowed_state}
+use Rattle.ds_grants.proofs.Living.{low_pages, narrowed_state}
 use Rattle.ds_grants.proofs.grants.Grants.narrow.Goals as goal
 
 pub returns-in_err-grant-clause-does : goal.returns-in_err-grant-clause-does
@@ -19,4 +19,4 @@ returns-clause-does g c =
     let within = c.in_ok-grant.ensures.within in
     c.in_ok-grant.ensures.ok c.args.memory.now _
     ∙ ap (λ (s : PageState). Ok s) (narrowed_as (page_state c.args.self.now c.args.memory.now) c.args.process c.args.addr c.in_ok-grant.grant c.in_ok-grant.ensures.there
-    ∙ sym (ap (λ (s : GrantsState). page_state s c.args.memory.now) c.put.ensures.value ∙ narrowed_state c.args.self.now c.args.process c.args.addr c.in_ok-grant.grant c.args.memory.now within.0 within.1 c.in_ok-grant.ensures.there))
+    ∙ sym (low_pages c.put.new.self c.args.memory.now c.put.new.memory c.put.ensures.low ∙ ap (λ (s : GrantsState). page_state s c.args.memory.now) c.put.ensures.value ∙ narrowed_state c.args.self.now c.args.process c.args.addr c.in_ok-grant.grant c.args.memory.now within.0 within.1 c.in_ok-grant.ensures.there))

@@ -3,7 +3,7 @@ use Rattle.ds_policy.specs.Pages.{entry_at}
 use Rattle.ds_grants.specs.State.{GrantsState, page_state}
 use Rattle.ds_grants.specs.Counts.{page_of}
 use Rattle.ds_grants.proofs.Copies.{none_there}
-use Rattle.ds_grants.proofs.Living.{shared_state, one_lives}
+use Rattle.ds_grants.proofs.Living.{low_pages, shared_state, one_lives}
 use Rattle.ds_grants.proofs.grants.Grants.share.Goals as goal
 
 pub put-requires-clause-whole : goal.put-requires-clause-whole
@@ -13,7 +13,8 @@ pub put-requires-clause-page : goal.put-requires-clause-page
 put-requires-clause-page g c = subst (λ (o : Option ℕ). IfSome o (λ q. q < c.args.self.now.frames)) (sym c.requires.names.named) c.requires.names.within
 
 pub returns-clause-state : goal.returns-clause-state
-returns-clause-state g c = λ memory.
-    ap (λ (s : GrantsState). page_state s memory) c.put.ensures.value
-    ∙ shared_state c.args.self.now c.args.receiver c.args.to _ memory c.requires.low c.requires.high (ap page_of (none_there (entry_at c.args.self.now.table c.args.receiver c.args.to) c.requires.free))
+returns-clause-state g c =
+    low_pages c.put.new.self c.args.memory.now c.put.new.memory c.put.ensures.low
+    ∙ ap (λ (s : GrantsState). page_state s c.args.memory.now) c.put.ensures.value
+    ∙ shared_state c.args.self.now c.args.receiver c.args.to _ c.args.memory.now c.requires.low c.requires.high (ap page_of (none_there (entry_at c.args.self.now.table c.args.receiver c.args.to) c.requires.free))
     (one_lives c.args.self.now c.args.grant.page c.requires.names.page c.requires.names.named c.requires.names.lives)

@@ -1,0 +1,5 @@
+use Rattle.ds_grants.proofs.Forgets.{buffer_changed}
+use Rattle.ds_grants.proofs.buffer_laws.a_buffer_forgets_what_changed.Goals as goal
+
+pub returns : goal.returns
+returns c = buffer_changed
