@@ -1,7 +1,6 @@
 pub mod Parts
 pub mod Seats
 pub mod Places
-pub mod Refill
 pub mod Good
 pub mod Ended
 pub mod Devices

@@ -1,6 +1,7 @@
 //! The boundary after a turn: it has nothing to do, or it is served.
 ghost use Rattle.std.specs.Prelude.{◌≡◌, ◌+◌, ◌<◌, ◌≤◌, ◌^◌, length, map, All, IsSome};
-ghost use Rattle.ds_grants.specs.Buffer.{KeepsBuffer};
+ghost use Rattle.ds_grants.specs.Buffer.{one_space};
+ghost use Rattle.ds_grants.specs.Represented.{IsLow, Keeps};
 ghost use Rattle.ds_refinement.specs.Services.{Serves, seated};
 ghost use Rattle.ds_monitor.specs.Kept.{kept_of, kept_after};
 ghost use Rattle.ds_monitor.specs.Commands.{commanded};
@@ -77,17 +78,23 @@ impl<L: Lookaside> Parts<L> {
         requires room { HasBoundaryRoom self.old.monitor }
         ensures serves { Serves (commanded self.old.monitor.time)
             (kept_of self.old.monitor) self.old.bus.memory
-            (kept_of self.new.monitor) self.old.bus.memory }
+            (kept_of self.new.monitor) self.new.bus.memory }
+        ensures low { IsLow self.old.bus.memory self.new.bus.memory }
         ensures orderly { monitor.IsOrderly (kept_of self.new.monitor) }
         ensures count { self.new.monitor.lines + length self.new.monitor.due.commands
             ≤ self.old.monitor.lines + length self.old.monitor.due.commands }
-        ensures buffer { KeepsBuffer self.old.core.entries self.new.core.entries
-            self.old.monitor.grants self.new.monitor.grants }
+        ensures keeps { Keeps one_space
+            self.old.core.entries self.old.bus.memory self.old.monitor.tables
+            self.old.monitor.grants
+            self.new.core.entries self.new.bus.memory self.new.monitor.tables
+            self.new.monitor.grants }
         ensures random { self.new.core.random ≡ self.old.core.random }
         ensures rest { self.new ≡ record self.old {
           core = record self.old.core { entries = self.new.core.entries };
+          bus = record self.old.bus { memory = self.new.bus.memory };
           monitor = record self.old.monitor {
             grants = self.new.monitor.grants;
+            tables = self.new.monitor.tables;
             seats = self.new.monitor.seats;
             ready = self.new.monitor.ready;
             log = self.new.monitor.log;
@@ -117,15 +124,21 @@ impl<L: Lookaside> Parts<L> {
         ensures orderly { monitor.IsOrderly (kept_of self.new.monitor) }
         ensures count { self.new.monitor.lines + length self.new.monitor.due.commands
             ≤ self.old.monitor.lines + length self.old.monitor.due.commands }
-        ensures bus { self.new.bus ≡ read_out self.old.bus }
-        ensures buffer { KeepsBuffer self.old.core.entries self.new.core.entries
-            self.old.monitor.grants self.new.monitor.grants }
+        ensures bus { self.new.bus
+            ≡ record (read_out self.old.bus) { memory = self.new.bus.memory } }
+        ensures low { IsLow self.old.bus.memory self.new.bus.memory }
+        ensures keeps { Keeps one_space
+            self.old.core.entries self.old.bus.memory self.old.monitor.tables
+            self.old.monitor.grants
+            self.new.core.entries self.new.bus.memory self.new.monitor.tables
+            self.new.monitor.grants }
         ensures random { self.new.core.random ≡ self.old.core.random }
         ensures rest { self.new ≡ record self.old {
           core = record self.old.core { entries = self.new.core.entries };
           bus = self.new.bus;
           monitor = record self.old.monitor {
             grants = self.new.monitor.grants;
+            tables = self.new.monitor.tables;
             seats = self.new.monitor.seats;
             ready = self.new.monitor.ready;
             queues = self.new.monitor.queues;

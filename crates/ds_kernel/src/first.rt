@@ -99,7 +99,7 @@ impl<L: Lookaside> Parts<L> {
         policy: &Policy,
         images: &[Image],
         events: Events,
-        tlb: L,
+        mut tlb: L,
     ) -> Result<Parts<L>, OutOfMemory>
         requires slots { L.SLOTS ≡ 64 }
         requires commands { AreGoodCommands (length policy.now.pages) events.commands }
@@ -112,7 +112,7 @@ impl<L: Lookaside> Parts<L> {
         ensures good { IfOk result (λ p. IsGood p) }
     {
         let mut memory = Memory::new(alloc)?;
-        let monitor = Monitor::new(alloc, policy, images, events, &mut memory)?;
+        let monitor = Monitor::new(alloc, policy, images, events, &mut memory, &mut tlb)?;
         // All of memory is there, and each page that the table names lies in it.
         let _ = memory.word(0);
         let _ = monitor.grants.table();

@@ -1,55 +1,27 @@
-//! The buffer is refilled, and the unit goes on.
-ghost use Rattle.std.specs.Prelude.{◌≡◌, ◌<◌, ◌≤◌, length};
-ghost use Rattle.ds_policy.specs.Pages.{entry_at, page_address};
+//! The buffer is refilled from the page tables, and the unit goes on.
+ghost use Rattle.std.specs.Prelude.{◌≡◌, ◌/◌, ◌^◌};
+ghost use Rattle.ds_tlb.specs.Words.{entry_of};
+ghost use Rattle.ds_tables.specs.Tables.{entry_word};
+ghost use Rattle.ds_grants.specs.Buffer.{hi_of};
 ghost use Rattle.ds_refinement.specs.Services.{at_unit, refilled, touched_registers, with_refill};
 ghost use Rattle.ds_kernel.specs.Parts.{held};
-ghost use Rattle.ds_kernel.specs.Refill.{right_of, entry_for};
 
 use crate::parts::Parts;
 use crate::seats::{ONE_SPACE, USER_STATUS};
 use ds_cp0::register;
-use ds_grants::frame_of_page;
-use ds_policy::Right;
 use ds_tlb::{Entry, Lookaside};
-use ds_word::{bit, wrapping_sum};
+use ds_word::wrapping_sum;
 
 impl<L: Lookaside> Parts<L> {
-    /// The right of a process at the page of an address.
-    fn right_at(&self, process: u32, address: u32) -> Right
-        requires above { 0 < process }
-        requires within { process ≤ length self.now.monitor.grants.table }
-        ensures { result
-            ≡ right_of (entry_at self.now.monitor.grants.table process (page_address address)) }
+    /// The page-table word of a process for the page of an address.
+    fn page_table_word(&mut self, process: u32, address: u32) -> u32
+        ensures value { result
+            ≡ entry_word self.old.bus.memory self.old.monitor.tables process address }
+        ensures same { self.new ≡ self.old }
     {
-        match self
-            .monitor
-            .grants
-            .table()
-            .entry(process, address - address % 4096)
-        {
-            Some(grant) => grant.right,
-            None => Right::Nothing,
-        }
-    }
-
-    /// The entry that maps the page of the address that was refused to a page, as far as the right
-    /// of the process there goes.
-    fn entry_for(&self, process: u32, page: u32) -> Entry
-        requires above { 0 < process }
-        requires within { process ≤ length self.now.monitor.grants.table }
-        requires page { page < 1024 }
-        ensures { result
-            ≡ entry_for self.now.monitor.grants process self.now.core.system.bad_vaddr page }
-    {
-        let address = self.bad_address();
-        let writes = match self.right_at(process, address) {
-            Right::Write => true,
-            Right::Read | Right::Nothing => false,
-        };
-        Entry::of_words(
-            address / 4096 * 4096 + ONE_SPACE,
-            frame_of_page(page) * 4096 + bit(10, writes) + bit(9, true),
-        )
+        self.monitor
+            .tables
+            .entry(self.bus.memory(), process, address)
     }
 
     /// Puts an entry into the buffer: over the one that matches, or else where Random tells.
@@ -84,17 +56,18 @@ impl<L: Lookaside> Parts<L> {
         self.core.cp0.write(register::STATUS, USER_STATUS);
     }
 
-    /// The page of the address that was refused is put into the buffer, and the unit begins again.
-    pub fn refill(&mut self, process: u32, page: u32)
-        requires above { 0 < process }
-        requires within { process ≤ length self.old.monitor.grants.table }
-        requires page { page < 1024 }
+    /// The page-table word of the address that was refused is put into the buffer, and the unit
+    /// begins again.
+    pub fn refill(&mut self, process: u32)
         ensures held { held self.new ≡ with_refill (held self.old)
-            (entry_for self.old.monitor.grants process self.old.core.system.bad_vaddr page) }
+            (entry_of (hi_of (self.old.core.system.bad_vaddr / 2 ^ 12) 1)
+            (entry_word self.old.bus.memory self.old.monitor.tables process
+            self.old.core.system.bad_vaddr)) }
         ensures rest { self.new ≡ record self.old { core = self.new.core } }
     {
-        let entry = self.entry_for(process, page);
-        self.put_entry(entry);
+        let address = self.bad_address();
+        let word = self.page_table_word(process, address);
+        self.put_entry(Entry::of_words(address / 4096 * 4096 + ONE_SPACE, word));
         self.go_back();
     }
 }

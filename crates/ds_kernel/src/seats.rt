@@ -1,9 +1,8 @@
 //! How a process leaves the processor for its seat, and how the next one comes on the processor.
 ghost use Rattle.std.specs.Prelude.{◌≡◌, ℕ, ◌+◌, ◌<◌, ◌≤◌, length, slice_index, Some, All};
-ghost use Rattle.ds_tlb.specs.Entries.{empty_entries};
 ghost use Rattle.ds_pagemap.specs.Machine.{State, Process, process_of, first};
 ghost use Rattle.ds_pagemap_laws.specs.Lawful.{AreRegisters, IsReady};
-ghost use Rattle.ds_grants.specs.Buffer.{BufferHolds};
+ghost use Rattle.ds_grants.specs.Represented.{IsRepresented};
 ghost use Rattle.ds_refinement.specs.Held.{space_of};
 ghost use Rattle.ds_refinement.specs.Services.{resume_address, seated, EntersBy};
 ghost use Rattle.ds_monitor.specs.Kept.{kept_of};
@@ -12,7 +11,8 @@ ghost use Rattle.ds_kernel.specs.Seats.{begun_at, behind_call, on_processor, Are
 
 use crate::parts::Parts;
 use ds_cp0::register;
-use ds_tlb::{Entry, Lookaside};
+use ds_grants::flush;
+use ds_tlb::Lookaside;
 use ds_word::wrapping_sum;
 
 /// Status while a user runs: user mode and interrupts on, and of these the clock's and the lines'.
@@ -20,17 +20,6 @@ pub(crate) const USER_STATUS: u32 = 0xc03;
 
 /// EntryHi of page 0 in the one address space.
 pub(crate) const ONE_SPACE: u32 = 0x40;
-
-/// Empties the buffer: slot i holds page 80000 + i (hexadecimal), which needs no translation.
-#[inline(never)]
-fn flush<L: Lookaside>(tlb: &mut L)
-    ensures entries { L.entries tlb.new ≡ empty_entries L.SLOTS }
-    ensures random { L.random_place tlb.new ≡ L.random_place tlb.old }
-{
-    for slot in 0..L::SLOTS {
-        tlb.write(slot, Entry::empty(slot));
-    }
-}
 
 /// There are 32 registers.
 fn look_at_size(registers: &[u32; 32])
@@ -90,9 +79,10 @@ impl<L: Lookaside> Parts<L> {
     #[inline(always)]
     fn claim_space(&mut self, process: u32)
         ensures owner { self.new.monitor ≡ record self.old.monitor { owner = process } }
-        ensures buffer { BufferHolds self.old.core.entries (space_of (kept_of self.old.monitor))
-            self.old.monitor.grants
-            → BufferHolds self.new.core.entries (space_of (kept_of self.new.monitor))
+        ensures represented { IsRepresented self.old.core.entries self.old.bus.memory
+            self.old.monitor.tables (space_of (kept_of self.old.monitor)) self.old.monitor.grants
+            → IsRepresented self.new.core.entries self.new.bus.memory
+            self.new.monitor.tables (space_of (kept_of self.new.monitor))
             self.new.monitor.grants }
         ensures rest { self.new ≡ record self.old {
           core = record self.old.core { entries = self.new.core.entries };
@@ -195,9 +185,10 @@ impl<L: Lookaside> Parts<L> {
         requires answered { (p : ℕ) → caller ≡ Some p → AreAnswered self.old.core.registers
             (process_of (kept_of self.old.monitor).state p).registers }
         ensures enters { EntersBy self.new.monitor.ready self.new.core (kept_of self.new.monitor) }
-        ensures buffer { BufferHolds self.old.core.entries (space_of (kept_of self.old.monitor))
-            self.old.monitor.grants
-            → BufferHolds self.new.core.entries (space_of (kept_of self.new.monitor))
+        ensures represented { IsRepresented self.old.core.entries self.old.bus.memory
+            self.old.monitor.tables (space_of (kept_of self.old.monitor)) self.old.monitor.grants
+            → IsRepresented self.new.core.entries self.new.bus.memory
+            self.new.monitor.tables (space_of (kept_of self.new.monitor))
             self.new.monitor.grants }
         ensures random { self.new.core.random ≡ self.old.core.random }
         ensures rest { self.new ≡ record self.old {

@@ -53,8 +53,8 @@ impl<L: Lookaside> Parts<L> {
         self.look_at_random();
         let address = self.bad_address();
         match self.monitor.grants.table().decide(process, access, address) {
-            Verdict::Allowed { page, .. } => {
-                self.refill(process, page);
+            Verdict::Allowed { .. } => {
+                self.refill(process);
                 Step::Inside
             }
             Verdict::Denied { rule, code } => {

@@ -4,7 +4,8 @@ ghost use Rattle.std.specs.Prelude.{◌≡◌, ℕ, ◌+◌, ◌<◌, ◌≤◌,
 ghost use Rattle.ds_log.specs.Length.{IsShortRule};
 ghost use Rattle.ds_cp0.specs.System.{is_user};
 ghost use Rattle.ds_procs.specs.Calls.{call_of};
-ghost use Rattle.ds_grants.specs.Buffer.{BufferHolds, KeepsBuffer};
+ghost use Rattle.ds_grants.specs.Buffer.{one_space};
+ghost use Rattle.ds_grants.specs.Represented.{IsRepresented, Keeps};
 ghost use Rattle.ds_grants.specs.Sound.{NamesPages};
 ghost use Rattle.ds_pagemap.specs.Machine.{State, process_of, first};
 ghost use Rattle.ds_pagemap_laws.specs.Lawful.{IsLawful};
@@ -76,9 +77,10 @@ impl<L: Lookaside> Parts<L> {
         requires answered { (p : ℕ) → caller ≡ Some p → AreAnswered self.old.core.registers
             (process_of (kept_of self.old.monitor).state p).registers }
         ensures enters { EntersBy self.new.monitor.ready self.new.core (kept_of self.new.monitor) }
-        ensures buffer { BufferHolds self.old.core.entries (space_of (kept_of self.old.monitor))
-            self.old.monitor.grants
-            → BufferHolds self.new.core.entries (space_of (kept_of self.new.monitor))
+        ensures represented { IsRepresented self.old.core.entries self.old.bus.memory
+            self.old.monitor.tables (space_of (kept_of self.old.monitor)) self.old.monitor.grants
+            → IsRepresented self.new.core.entries self.new.bus.memory
+            self.new.monitor.tables (space_of (kept_of self.new.monitor))
             self.new.monitor.grants }
         ensures pages { NamesPages self.old.monitor.grants }
         ensures random { self.new.core.random ≡ self.old.core.random }
@@ -141,14 +143,18 @@ impl<L: Lookaside> Parts<L> {
         ensures lines { self.new.monitor.lines ≤ self.old.monitor.lines + 1 }
         ensures log { (n : ℕ) → HasLogRoom (n + 1) self.old.monitor
             → HasLogRoom n self.new.monitor }
-        ensures buffer { KeepsBuffer self.old.core.entries self.new.core.entries
-            self.old.monitor.grants self.new.monitor.grants }
+        ensures keeps { Keeps one_space
+            self.old.core.entries self.old.bus.memory self.old.monitor.tables
+            self.old.monitor.grants
+            self.new.core.entries self.new.bus.memory self.new.monitor.tables
+            self.new.monitor.grants }
         ensures random { self.new.core.random ≡ self.old.core.random }
         ensures rest { self.new ≡ record self.old {
           core = record self.old.core { entries = self.new.core.entries };
           bus = self.new.bus;
           monitor = record self.old.monitor {
             grants = self.new.monitor.grants;
+            tables = self.new.monitor.tables;
             seats = self.new.monitor.seats;
             ready = self.new.monitor.ready;
             queues = self.new.monitor.queues;

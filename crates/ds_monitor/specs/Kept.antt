@@ -22,6 +22,7 @@ kept_of m = record {
     owed = m.owed;
   };
   grants = m.grants;
+  tables = m.tables;
   log = m.log.items;
   lines = m.lines;
   owner = m.owner;

@@ -1,7 +1,8 @@
 //! What an operator's commands do, at a boundary.
 ghost use Rattle.std.specs.Prelude.{◌≡◌, ℕ, ◌+◌, ◌<◌, ◌≤◌, ◌^◌, List, length};
 ghost use Rattle.ds_policy.specs.declared.command.Command.{Command};
-ghost use Rattle.ds_grants.specs.Buffer.{KeepsBuffer};
+ghost use Rattle.ds_grants.specs.Buffer.{one_space};
+ghost use Rattle.ds_grants.specs.Represented.{IsLow, Keeps};
 ghost use Rattle.ds_grants.specs.State.{IsAsLarge};
 ghost use Rattle.ds_pagemap.specs.Machine.{State, lives};
 ghost use Rattle.ds_pagemap.specs.Calls.{after_command};
@@ -72,11 +73,13 @@ impl Monitor {
         ensures marks { marks_of (kept_of self.new).state ≡ self.new.grants.ended }
         ensures same { IsAsLarge self.old.grants self.new.grants }
         ensures memory { memory.new ≡ memory.old }
-        ensures buffer { KeepsBuffer (L.entries tlb.old) (L.entries tlb.new)
-            self.old.grants self.new.grants }
+        ensures keeps { Keeps one_space
+            (L.entries tlb.old) memory.old self.old.tables self.old.grants
+            (L.entries tlb.new) memory.new self.new.tables self.new.grants }
         ensures random { L.random_place tlb.new ≡ L.random_place tlb.old }
         ensures rest { self.new ≡ record self.old {
           grants = self.new.grants;
+          tables = self.new.tables;
           seats = self.new.seats;
           ready = self.new.ready;
         } }
@@ -105,18 +108,21 @@ impl Monitor {
             (kept_of self.old) memory.old (kept_of self.new) memory.new result }
         ensures marks { marks_of (kept_of self.new).state ≡ self.new.grants.ended }
         ensures same { IsAsLarge self.old.grants self.new.grants }
-        ensures memory { memory.new ≡ memory.old }
-        ensures buffer { KeepsBuffer (L.entries tlb.old) (L.entries tlb.new)
-            self.old.grants self.new.grants }
+        ensures low { IsLow memory.old memory.new }
+        ensures keeps { Keeps one_space
+            (L.entries tlb.old) memory.old self.old.tables self.old.grants
+            (L.entries tlb.new) memory.new self.new.tables self.new.grants }
         ensures random { L.random_place tlb.new ≡ L.random_place tlb.old }
         ensures rest { self.new ≡ record self.old {
           grants = self.new.grants;
+          tables = self.new.tables;
           seats = self.new.seats;
           ready = self.new.ready;
         } }
     {
         let rule = COMMAND_RULES + number;
         let grants = &mut self.grants;
+        let tables = &mut self.tables;
         match command {
             Command::Grant {
                 process,
@@ -124,13 +130,13 @@ impl Monitor {
                 page,
                 right,
                 give,
-            } => { grants.grant(process, address, page, right, give, rule, memory, tlb) }
-            Command::Narrow { process, address } => grants.narrow(process, address, memory, tlb),
+            } => { grants.grant(process, address, page, right, give, rule, memory, tables, tlb) }
+            Command::Narrow { process, address } => grants.narrow(process, address, memory, tables, tlb),
             Command::Revoke { process, address } => {
-                grants.revoke(process, address, rule, memory, tlb)
+                grants.revoke(process, address, rule, memory, tables, tlb)
             }
             Command::Drop { process, address } => {
-                grants.drop_page(process, address, true, memory, tlb)
+                grants.drop_page(process, address, true, memory, tables, tlb)
             }
             Command::Resume { process } => self.resume(process),
             Command::Stop { process } => self.stop(process, memory, tlb),
@@ -168,12 +174,14 @@ impl Monitor {
         ensures named { self.new.grants.named ≡ self.old.grants.named }
         ensures lines { self.new.lines ≤ self.old.lines + 1 }
         ensures room { (n : ℕ) → HasLogRoom (n + 1) self.old → HasLogRoom n self.new }
-        ensures memory { memory.new ≡ memory.old }
-        ensures buffer { KeepsBuffer (L.entries tlb.old) (L.entries tlb.new)
-            self.old.grants self.new.grants }
+        ensures low { IsLow memory.old memory.new }
+        ensures keeps { Keeps one_space
+            (L.entries tlb.old) memory.old self.old.tables self.old.grants
+            (L.entries tlb.new) memory.new self.new.tables self.new.grants }
         ensures random { L.random_place tlb.new ≡ L.random_place tlb.old }
         ensures rest { self.new ≡ record self.old {
           grants = self.new.grants;
+          tables = self.new.tables;
           seats = self.new.seats;
           ready = self.new.ready;
           log = self.new.log;
@@ -197,12 +205,14 @@ impl Monitor {
         ensures named { self.new.grants.named ≡ self.old.grants.named }
         ensures count { self.new.lines + length self.new.due.commands
             ≤ self.old.lines + length self.old.due.commands }
-        ensures memory { memory.new ≡ memory.old }
-        ensures buffer { KeepsBuffer (L.entries tlb.old) (L.entries tlb.new)
-            self.old.grants self.new.grants }
+        ensures low { IsLow memory.old memory.new }
+        ensures keeps { Keeps one_space
+            (L.entries tlb.old) memory.old self.old.tables self.old.grants
+            (L.entries tlb.new) memory.new self.new.tables self.new.grants }
         ensures random { L.random_place tlb.new ≡ L.random_place tlb.old }
         ensures rest { self.new ≡ record self.old {
           grants = self.new.grants;
+          tables = self.new.tables;
           seats = self.new.seats;
           ready = self.new.ready;
           log = self.new.log;

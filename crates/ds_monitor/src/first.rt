@@ -1,11 +1,14 @@
 //! What is kept at the beginning of a run.
-ghost use Rattle.std.specs.Prelude.{◌≡◌, ◌≤◌, length, map, replicate, [], IfOk, OnErr, ℕ, ◌<◌};
+ghost use Rattle.std.specs.Prelude.{◌≡◌, ◌≤◌, length, map, replicate, [], IfOk, OnErr, OnOk, ℕ, ◌<◌};
 ghost use Rattle.ds_policy.specs.PolicyParts.{sources_of};
 ghost use Rattle.ds_policy.specs.InputFacts.{AreGoodCommands};
 ghost use Rattle.ds_pagemap.specs.First.{first_process, first_state, numbers};
 ghost use Rattle.ds_refinement.specs.First.{first_kept};
 ghost use Rattle.ds_refinement.specs.Stands.{IsKept};
 ghost use Rattle.ds_mem.specs.Memory.{frame_of};
+ghost use Rattle.ds_tlb.specs.Entries.{empty_entries};
+ghost use Rattle.ds_tables.specs.Tables.{HasEmptyTable};
+ghost use Rattle.ds_grants.specs.Represented.{IsRepresented};
 ghost use Rattle.ds_monitor.specs.Kept.{kept_of};
 ghost use Rattle.ds_monitor.specs.Coming.{next_due};
 ghost use Rattle.ds_monitor.specs.Orderly.{IsOrderly};
@@ -20,6 +23,8 @@ use ds_grants::Grants;
 use ds_mem::{Memory, OutOfMemory};
 use ds_policy::{Events, Policy, PolicyProcess};
 use ds_procs::Queue;
+use ds_tables::Tables;
+use ds_tlb::Lookaside;
 use std::alloc::Global;
 
 /// The number of lines.
@@ -65,33 +70,43 @@ fn all_ready(processes: usize) -> Queue
 
 impl Monitor {
     /// What is kept at the beginning of a run of a policy, whose pages go to their frames of
-    /// memory. There is one image for each source name of the policy, in their order. Refused,
-    /// memory is as it was.
-    pub fn new(
+    /// memory and whose rules to the page tables. There is one image for each source name of the
+    /// policy, in their order. The buffer is emptied. Refused, nothing changes.
+    pub fn new<L: Lookaside>(
         alloc: Global,
         policy: &Policy,
         images: &[Image],
         events: Events,
         memory: &mut Memory,
+        tlb: &mut L,
     ) -> Result<Monitor, OutOfMemory>
         requires commands { AreGoodCommands (length policy.now.pages) events.commands }
         requires images { length images.now ≡ length (sources_of policy.now.pages) }
-        ensures first { IfOk result (λ m. kept_of m ≡ first_kept policy.now images.now events) }
+        ensures first { IfOk result (λ m. kept_of m
+            ≡ first_kept policy.now images.now events m.tables) }
         ensures kept { IfOk result (λ m. IsKept (kept_of m) memory.new
             (first_state policy.now images.now events)) }
         ensures orderly { IfOk result (λ m. IsOrderly (kept_of m)) }
         ensures next { IfOk result (λ m. m.quiet_until ≡ next_due (kept_of m)) }
         ensures few { IfOk result (λ m. length m.due.commands ≤ 4096) }
-        ensures elsewhere { (f : ℕ) → f < 402 → frame_of memory.new f ≡ frame_of memory.old f }
-        ensures refused { OnErr result (memory.new ≡ memory.old) }
+        ensures represented { IfOk result (λ m. L.SLOTS ≤ 64 → HasEmptyTable memory.old
+            → (numbers : ℕ → ℕ)
+            → IsRepresented (L.entries tlb.new) memory.new m.tables numbers m.grants) }
+        ensures entries { OnOk result (L.entries tlb.new ≡ empty_entries L.SLOTS) }
+        ensures random { L.random_place tlb.new ≡ L.random_place tlb.old }
+        ensures elsewhere { (f : ℕ) → f < 2 → frame_of memory.new f ≡ frame_of memory.old f }
+        ensures refused { OnErr result ((memory.new ≡ memory.old)
+            × (L.entries tlb.new ≡ L.entries tlb.old)) }
     {
         let seats = seats_of(alloc, policy.processes())?;
         let queues = empty_queues(alloc)?;
-        let grants = Grants::new(alloc, policy, images, memory)?;
+        let mut tables = Tables::new(policy.processes().len());
+        let grants = Grants::new(alloc, policy, images, memory, &mut tables, tlb)?;
         // The commands are of this policy.
         let _orders = events.commands();
         let mut monitor = Monitor {
             grants,
+            tables,
             seats,
             ready: all_ready(policy.processes().len()),
             queues,

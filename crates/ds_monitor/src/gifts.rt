@@ -3,7 +3,8 @@ ghost use Rattle.std.specs.Prelude.{◌≡◌, ℕ, ◌+◌, ◌<◌, ◌≤◌,
 ghost use Rattle.ds_policy.specs.Pages.{entry_at, page_address};
 ghost use Rattle.ds_procs.specs.declared.call.Call.TheVariants as call;
 ghost use Rattle.ds_grants.specs.State.{IsAsLarge, number_of};
-ghost use Rattle.ds_grants.specs.Buffer.{KeepsBuffer};
+ghost use Rattle.ds_grants.specs.Buffer.{one_space};
+ghost use Rattle.ds_grants.specs.Represented.{IsLow, Keeps};
 ghost use Rattle.ds_pagemap.specs.Machine.{State};
 ghost use Rattle.ds_pagemap.specs.Calls.{rule_of, or_denied, served};
 ghost use Rattle.ds_refinement.specs.Services.{Serves};
@@ -112,14 +113,16 @@ impl Monitor {
             (kept_of self.old) memory.old (kept_of self.new) memory.new }
         ensures size { length memory.new ≡ length memory.old }
         ensures same { IsAsLarge self.old.grants self.new.grants }
-        ensures buffer { KeepsBuffer (L.entries tlb.old) (L.entries tlb.new)
-            self.old.grants self.new.grants }
+        ensures keeps { Keeps one_space
+            (L.entries tlb.old) memory.old self.old.tables self.old.grants
+            (L.entries tlb.new) memory.new self.new.tables self.new.grants }
         ensures random { L.random_place tlb.new ≡ L.random_place tlb.old }
         ensures ended { self.new.grants.ended ≡ self.old.grants.ended }
         ensures lines { self.new.lines ≤ self.old.lines + 1 }
         ensures room { (n : ℕ) → HasLogRoom (n + 1) self.old → HasLogRoom n self.new }
         ensures rest { self.new ≡ record self.old {
           grants = self.new.grants;
+          tables = self.new.tables;
           seats = self.new.seats;
           log = self.new.log;
           lines = self.new.lines;
@@ -128,7 +131,7 @@ impl Monitor {
         look_at_size(memory);
         let done = self
             .grants
-            .give(process, address, receiver, to, mode, memory, tlb);
+            .give(process, address, receiver, to, mode, memory, &mut self.tables, tlb);
         look_at_size(memory);
         match done {
             Ok(()) => self.answer(process, 0),
@@ -151,18 +154,22 @@ impl Monitor {
         ensures serves { (pc : ℕ) → Serves
             (λ (m : State). served m process pc (call.Take holder address))
             (kept_of self.old) memory.old (kept_of self.new) memory.new }
-        ensures memory { memory.new ≡ memory.old }
+        ensures low { IsLow memory.old memory.new }
         ensures same { IsAsLarge self.old.grants self.new.grants }
-        ensures buffer { KeepsBuffer (L.entries tlb.old) (L.entries tlb.new)
-            self.old.grants self.new.grants }
+        ensures keeps { Keeps one_space
+            (L.entries tlb.old) memory.old self.old.tables self.old.grants
+            (L.entries tlb.new) memory.new self.new.tables self.new.grants }
         ensures random { L.random_place tlb.new ≡ L.random_place tlb.old }
         ensures ended { self.new.grants.ended ≡ self.old.grants.ended }
         ensures rest { self.new ≡ record self.old {
           grants = self.new.grants;
+          tables = self.new.tables;
           seats = self.new.seats;
         } }
     {
-        let done = self.grants.take(process, holder, address, memory, tlb);
+        let done = self
+            .grants
+            .take(process, holder, address, memory, &mut self.tables, tlb);
         self.answer(process, answer_of(done));
     }
 
@@ -180,18 +187,22 @@ impl Monitor {
         ensures serves { (pc : ℕ) → Serves
             (λ (m : State). served m process pc (call.Drop address))
             (kept_of self.old) memory.old (kept_of self.new) memory.new }
-        ensures memory { memory.new ≡ memory.old }
+        ensures low { IsLow memory.old memory.new }
         ensures same { IsAsLarge self.old.grants self.new.grants }
-        ensures buffer { KeepsBuffer (L.entries tlb.old) (L.entries tlb.new)
-            self.old.grants self.new.grants }
+        ensures keeps { Keeps one_space
+            (L.entries tlb.old) memory.old self.old.tables self.old.grants
+            (L.entries tlb.new) memory.new self.new.tables self.new.grants }
         ensures random { L.random_place tlb.new ≡ L.random_place tlb.old }
         ensures ended { self.new.grants.ended ≡ self.old.grants.ended }
         ensures rest { self.new ≡ record self.old {
           grants = self.new.grants;
+          tables = self.new.tables;
           seats = self.new.seats;
         } }
     {
-        let dropped = self.grants.drop_page(process, address, false, memory, tlb);
+        let dropped = self
+            .grants
+            .drop_page(process, address, false, memory, &mut self.tables, tlb);
         self.answer(process, answer_of(dropped));
     }
 }

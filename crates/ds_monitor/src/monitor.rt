@@ -7,6 +7,7 @@ use crate::seat::Seat;
 use ds_grants::Grants;
 use ds_pagemap::Turn;
 use ds_procs::Queue;
+use ds_tables::Tables;
 
 /// What the monitor keeps beside the processor and its bus. A contract sees it as a `Kept`, which
 /// `kept_of` makes of it.
@@ -14,6 +15,8 @@ use ds_procs::Queue;
 pub struct Monitor {
     /// The permission table, which pages live, and which processes have ended.
     pub grants: Grants,
+    /// Where the page tables stand in memory, which have the words of what is granted.
+    pub tables: Tables,
     /// The processes, by their numbers from 1. Of the one that runs only its standing and its line
     /// mean something.
     pub seats: Vec<Seat>,

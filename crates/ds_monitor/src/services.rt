@@ -3,7 +3,8 @@ ghost use Rattle.std.specs.Prelude.{◌≡◌, ℕ, ◌+◌, ◌-◌, ◌<◌, �
 ghost use Rattle.ds_procs.specs.Calls.{call_of};
 ghost use Rattle.ds_log.specs.Length.{IsShortRule};
 ghost use Rattle.ds_grants.specs.State.{IsAsLarge};
-ghost use Rattle.ds_grants.specs.Buffer.{KeepsBuffer};
+ghost use Rattle.ds_grants.specs.Buffer.{one_space};
+ghost use Rattle.ds_grants.specs.Represented.{IsLow, Keeps};
 ghost use Rattle.ds_pagemap.specs.Machine.{State, process_of};
 ghost use Rattle.ds_pagemap.specs.Calls.{ended, served};
 ghost use Rattle.ds_refinement.specs.Stands.{ends_in_call, ends_in_stop};
@@ -92,20 +93,23 @@ impl Monitor {
         ensures serves { Serves (λ (m : State). ended m process)
             (kept_of self.old) memory.old (kept_of self.new) memory.new }
         ensures memory { memory.new ≡ memory.old }
-        ensures buffer { KeepsBuffer (L.entries tlb.old) (L.entries tlb.new)
-            self.old.grants self.new.grants }
+        ensures keeps { Keeps one_space
+            (L.entries tlb.old) memory.old self.old.tables self.old.grants
+            (L.entries tlb.new) memory.new self.new.tables self.new.grants }
         ensures random { L.random_place tlb.new ≡ L.random_place tlb.old }
         ensures ended { self.new.grants.ended
             ≡ slice_set self.old.grants.ended (process - 1) true }
         ensures same { IsAsLarge self.old.grants self.new.grants }
         ensures rest { self.new ≡ record self.old {
           grants = self.new.grants;
+          tables = self.new.tables;
           seats = self.new.seats;
           ready = self.new.ready;
         } }
     {
         self.make_unready(process, Standing::Ended);
-        self.grants.end_process(process, memory, tlb);
+        self.grants
+            .end_process(process, memory, &mut self.tables, tlb);
     }
 
     /// Serves a call of a process that stands after it; it is at `pc`.
@@ -128,8 +132,9 @@ impl Monitor {
               memory = bus.new.memory;
             } }
         ensures size { length bus.new.memory ≡ length bus.old.memory }
-        ensures buffer { KeepsBuffer (L.entries tlb.old) (L.entries tlb.new)
-            self.old.grants self.new.grants }
+        ensures keeps { Keeps one_space
+            (L.entries tlb.old) bus.old.memory self.old.tables self.old.grants
+            (L.entries tlb.new) bus.new.memory self.new.tables self.new.grants }
         ensures random { L.random_place tlb.new ≡ L.random_place tlb.old }
         ensures ended { self.new.grants.ended
             ≡ ended_behind call process self.old.grants.ended }
@@ -138,6 +143,7 @@ impl Monitor {
         ensures room { (n : ℕ) → HasLogRoom (n + 1) self.old → HasLogRoom n self.new }
         ensures rest { self.new ≡ record self.old {
           grants = self.new.grants;
+          tables = self.new.tables;
           seats = self.new.seats;
           ready = self.new.ready;
           queues = self.new.queues;
@@ -206,14 +212,16 @@ impl Monitor {
               memory = bus.new.memory;
             } }
         ensures size { length bus.new.memory ≡ length bus.old.memory }
-        ensures buffer { KeepsBuffer (L.entries tlb.old) (L.entries tlb.new)
-            self.old.grants self.new.grants }
+        ensures keeps { Keeps one_space
+            (L.entries tlb.old) bus.old.memory self.old.tables self.old.grants
+            (L.entries tlb.new) bus.new.memory self.new.tables self.new.grants }
         ensures same { IsAsLarge self.old.grants self.new.grants }
         ensures random { L.random_place tlb.new ≡ L.random_place tlb.old }
         ensures lines { self.new.lines ≤ self.old.lines + 1 }
         ensures room { (n : ℕ) → HasLogRoom (n + 1) self.old → HasLogRoom n self.new }
         ensures rest { self.new ≡ record self.old {
           grants = self.new.grants;
+          tables = self.new.tables;
           seats = self.new.seats;
           ready = self.new.ready;
           queues = self.new.queues;

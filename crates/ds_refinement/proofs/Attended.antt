@@ -44,7 +44,7 @@ kept_by (p ∷ rest) h m turn ready k o =
 served_behind : (h new : Held) (m : State) (turn : Turn) → Stands h m → m.owed ≡ Some turn → EndsBy boundary h new → Stands new (touched true (boundary m))
 served_behind h new m turn k o ends =
     enters new (boundary m) (serves_kept boundary (seated h.core h.kept) new.kept h.bus.memory new.bus.memory m boundary_settles ends.serves (kept_by h.kept.state.ready h m turn refl k o))
-    ends.buffer ends.grants (ends.size ∙ k.size) ends.devices ends.enters
+    ends.represented ends.grants (ends.size ∙ k.size) ends.devices ends.enters
 
 pub boundary_served : (h new : Held) → IsSome h.kept.state.owed → EndsBy boundary h new → Follows Boundary h new
 boundary_served h new some ends = let turn = (some_turn h.kept.state.owed some).0 in let owed = (some_turn h.kept.state.owed some).1 in record {

@@ -56,7 +56,7 @@ told_as e s = record { event = e; core = s.core; bus = s.bus }
 
 -- the machine doesn't see that an instruction counts
 counts : (b : Held) (m : State) → Stands b m → Stands (with_one_spent b) m
-counts b m k = record { buffer = k.buffer; grants = k.grants; size = k.size; kept = k.kept; running = k.running; devices = k.devices }
+counts b m k = record { represented = k.represented; grants = k.grants; size = k.size; kept = k.kept; running = k.running; devices = k.devices }
 
 -- What is kept by each real step of a run, if it begins before the run's end.
 record Carries (end : ℕ) (P : Held → Type 0) : Type 0 where

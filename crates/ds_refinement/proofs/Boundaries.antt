@@ -137,7 +137,7 @@ still_running (p ∷ rest) c k m turn o a = record {
 
 stands_behind : (h : Held) (m : State) (turn : Turn) → Stands h m → h.kept.state.owed ≡ Some turn → h.kept.ticked ≤ h.kept.state.time → IsQuiet h.kept → Stands (with_boundary h) (record m { owed = None })
 stands_behind h m turn k owed ticked quiet = record {
-  buffer = k.buffer;
+  represented = k.represented;
   grants = k.grants;
   size = k.size;
   kept = record {
@@ -190,7 +190,7 @@ pub stands_waited : (h : Held) (m : State) → Stands h m → h.kept.state.owed 
 stands_waited h m k owed none =
     let last : last_boundary h.kept.state ≡ h.kept.state.time = ap (λ (o : Option Turn). began_or o h.kept.state.time) owed in
     record {
-      buffer = k.buffer;
+      represented = k.represented;
       grants = k.grants;
       size = k.size;
       kept = record {

@@ -69,7 +69,7 @@ service f h new m p rest settles k ready owed is ends =
     let some : m.ready ≡ [] → ⊥ = λ (e : m.ready ≡ []). (let no : p ∷ rest ≡ [] = sym (k.kept.ready ∙ ready) ∙ e in cc) in (
       touched true (unit m),
       (owed, some, (false, true, ap (touched true) (sym (half_unit m owed)))),
-      enters new (unit m) here ends.buffer ends.grants (ends.size ∙ k.size) ends.devices ends.enters,
+      enters new (unit m) here ends.represented ends.grants (ends.size ∙ k.size) ends.devices ends.enters,
     )
 
 -- The service of what was told.

@@ -1,31 +1,31 @@
 -- A refill begins the unit again: the buffer holds the entry that was asked for, and the process is touched.
-use Rattle.std.proofs.Common.{◌≡◌, ◌⊎◌, inl, inr, ℕ, ◌+◌, ◌-◌, ◌*◌, ◌/◌, ◌%◌, ◌^◌, ◌<◌, ◌==◌, Bool, true, false, cond, List, [], ◌∷◌, length, length-set, nat_le, not, Option, Some, None, refl, sym, ap, ap₂, subst, ◌∙◌, arith}
+use Rattle.std.proofs.Common.{◌≡◌, ◌⊎◌, inl, inr, ℕ, ◌+◌, ◌*◌, ◌/◌, ◌%◌, ◌^◌, ◌<◌, Bool, true, false, cond, List, [], ◌∷◌, length, length-set, nat_le, not, Option, Some, None, refl, sym, ap, ap₂, subst, ◌∙◌, arith}
 use Rattle.std.specs.Prelude.{slice_get, slice_set, unwrap_or}
-use Rattle.std.proofs.lemmas.Bool.{cases_Bool}
 use Rattle.std.proofs.lemmas.Bool.Decides.{nat_tests}
 use Rattle.std.proofs.lemmas.Option.{slice_get-get_or}
 use Rattle.std.proofs.lemmas.List.{get_or-set_same}
 use Rattle.std.proofs.lemmas.List.Quantifiers.{position-Some}
 use Rattle.ds_word.specs.Word.{word}
+use Rattle.ds_word.specs.Bytes.{word_at}
 use Rattle.ds_isa.specs.declared.instr.Kind.{Kind}
-use Rattle.ds_isa.specs.declared.instr.Kind.TheVariants.{Fetch, Load, Store}
 use Rattle.ds_isa.specs.declared.instr.Size.{Size}
 use Rattle.ds_isa.specs.Access.{is_aligned}
 use Rattle.ds_isa.specs.Registers.{Registers}
 use Rattle.ds_tlb.specs.declared.entry.Entry.{Entry}
 use Rattle.ds_tlb.specs.Entries.{matches, find, empty_entry}
+use Rattle.ds_tlb.specs.Words.{entry_of}
 use Rattle.ds_cp0.specs.System.{is_user}
+use Rattle.ds_policy.specs.declared.access.Verdict.{Verdict}
 use Rattle.ds_policy.specs.declared.access.Verdict.TheVariants.{Allowed, Denied}
 use Rattle.ds_policy.specs.declared.access.Rule.TheVariants.{K, A}
-use Rattle.ds_policy.specs.declared.grant.Grant.{Grant}
-use Rattle.ds_policy.specs.declared.grant.Right.{Right}
-use Rattle.ds_policy.specs.declared.grant.Right.TheVariants.{Nothing, Read, Write}
-use Rattle.ds_policy.specs.Pages.{Table, decide, address_code, allowed_on, by_right, by_entry, entry_at, page_address}
-use Rattle.ds_policy.specs.Grants.{PageState, is_some_right, is_write}
-use Rattle.ds_grants.specs.State.{frame_of_page}
-use Rattle.ds_grants.specs.Buffer.{BufferHolds, IsMappable, translation, filled}
-use Rattle.ds_grants.specs.Sound.{NamesPages}
-use Rattle.ds_grants.proofs.Fills.{translation_fields, filled_buffer}
+use Rattle.ds_policy.specs.Pages.{Table, decide, address_code, by_entry, entry_at, page_address}
+use Rattle.ds_tables.specs.Places.{Places, region_of, page_of_table}
+use Rattle.ds_tables.specs.Tables.{entry_word}
+use Rattle.ds_grants.specs.Words.{granted_word}
+use Rattle.ds_grants.specs.Buffer.{BufferHolds, hi_of, entry_for, filled}
+use Rattle.ds_grants.specs.Represented.{IsRepresented}
+use Rattle.ds_grants.proofs.Fields.{user_lo, has_page, has_space}
+use Rattle.ds_grants.proofs.Fills.{same_keys, filled_buffer}
 use Rattle.ds_grants.proofs.Translations.{found_there}
 use Rattle.ds_pagemap.specs.Machine.{State, Process, no_process, process_of, with_process, touched_process, touched, touch_first}
 use Rattle.ds_pagemap.proofs.Processes.{with_process_again}
@@ -34,47 +34,30 @@ use Rattle.ds_core.specs.Core.{CoreState}
 use Rattle.ds_refinement.specs.Held.{Held, Kept, bare, space_of}
 use Rattle.ds_refinement.specs.Stands.{IsLinked, AtStart, InService, OnProcessor, RunningIs, RunningBy, KeptIs, Stands}
 use Rattle.ds_refinement.specs.Steps.{Comes}
-use Rattle.ds_refinement.specs.Services.{touched_registers, refilled, with_refill}
+use Rattle.ds_refinement.specs.Services.{touched_registers, refilled, asked_entry, with_refill}
 use Rattle.ds_refinement.specs.Real.{GoesBack}
 use Rattle.ds_refinement.proofs.Registers.{seat_kept, process_put}
 use Rattle.ds_refinement.proofs.Links.{touched_link}
-use Rattle.ds_refinement.proofs.Lookups.{owner_space}
+use Rattle.ds_refinement.proofs.Spaces.{owner_space, space_apart}
 
--- What an access that is allowed tells of the entry of its page.
+-- Where an access is allowed, its address is a user's.
 
-allowed_option : (named : Option ℕ) (o page offset : ℕ) → allowed_on named o ≡ Allowed page offset → named ≡ Some page
-allowed_option None o page offset is = absurd cc
-allowed_option (Some q) o page offset is = cc
+low_tests : (aligned high : Bool) (access : Kind) (verdict : Verdict) (page offset : ℕ) → cond (not aligned) (Denied A (address_code access)) (cond high (Denied K (address_code access)) verdict) ≡ Allowed page offset → high ≡ false
+low_tests false high access verdict page offset is = absurd cc
+low_tests true true access verdict page offset is = absurd cc
+low_tests true false access verdict page offset is = refl
 
-allowed_right : (right : Right) (access : Kind) (g : Grant) (o page offset : ℕ) → by_right right access g o ≡ Allowed page offset → (g.page ≡ Some page) × (is_some_right right ≡ true)
-allowed_right Nothing access g o page offset is = absurd cc
-allowed_right Read Fetch g o page offset is = (allowed_option g.page o page offset is, refl)
-allowed_right Read Load g o page offset is = (allowed_option g.page o page offset is, refl)
-allowed_right Read Store g o page offset is = absurd cc
-allowed_right Write access g o page offset is = (allowed_option g.page o page offset is, refl)
+allowed_low : (t : Table) (p : ℕ) (access : Kind) (size : Size) (address page offset : ℕ) → decide t p access size address ≡ Allowed page offset → address < 2 ^ 31
+allowed_low t p access size address page offset decides =
+    let low : nat_le (2 ^ 31) address ≡ false = low_tests (is_aligned size address) (nat_le (2 ^ 31) address) access (by_entry (entry_at t p (page_address address)) access (address % 4096)) page offset decides in
+    grind (arith, nat_tests)
 
-allowed_tests : (aligned high : Bool) (g : Grant) (access : Kind) (o page offset : ℕ) → cond (not aligned) (Denied A (address_code access)) (cond high (Denied K (address_code access)) (by_right g.right access g o)) ≡ Allowed page offset
-    → (high ≡ false) × (g.page ≡ Some page) × (is_some_right g.right ≡ true)
-allowed_tests false high g access o page offset is = absurd cc
-allowed_tests true true g access o page offset is = absurd cc
-allowed_tests true false g access o page offset is = let r = allowed_right g.right access g o page offset is in (refl, r.0, r.1)
-
--- the address is a user's, and the entry has the page and a right
-allowed_entry : (t : Table) (p : ℕ) (access : Kind) (size : Size) (address page offset : ℕ) (g : Grant) → decide t p access size address ≡ Allowed page offset → entry_at t p (page_address address) ≡ Some g
-    → (nat_le (2 ^ 31) address ≡ false) × (g.page ≡ Some page) × (is_some_right g.right ≡ true)
-allowed_entry t p access size address page offset g decides granted =
-    allowed_tests (is_aligned size address) (nat_le (2 ^ 31) address) g access (address % 4096) page offset
-    (subst (λ (o : Option Grant). cond (not (is_aligned size address)) (Denied A (address_code access)) (cond (nat_le (2 ^ 31) address) (Denied K (address_code access)) (by_entry o access (address % 4096))) ≡ Allowed page offset) granted decides)
-
-page_start : (a : ℕ) → a / 2 ^ 12 * 2 ^ 12 ≡ a - a % 4096
-page_start a = omega arith
-
--- no other process has the one address space
-space_of_owner : (k : Kept) (p q : ℕ) → k.owner ≡ p → space_of k q ≡ 1 → q ≡ p
-space_of_owner k p q owner is = elim (cases_Bool (q == k.owner)) [
-  | inl same ↦ (let e : q ≡ k.owner = grind (arith, nat_tests) in e ∙ owner)
-  | inr other ↦ (let none : ◌≡◌ {A = ℕ} 0 1 = rw other at is in absurd cc)
-]
+-- an address has the page-table word of its page
+word_of_page : (memory : List ℕ) (t : Places) (p a : ℕ) → entry_word memory t p a ≡ entry_word memory t p (a / 2 ^ 12 * 2 ^ 12)
+word_of_page memory t p a =
+    let region : region_of a ≡ region_of (a / 2 ^ 12 * 2 ^ 12) = omega arith in
+    let place : a / 2 ^ 12 % 2 ^ 10 * 4 ≡ a / 2 ^ 12 * 2 ^ 12 / 2 ^ 12 % 2 ^ 10 * 4 = omega arith in
+    ap₂ (λ (r n : ℕ). word_at memory (page_of_table t p r * 2 ^ 12 + n)) region place
 
 -- what is found, or else this slot, is one of the buffer's
 slot_within : (entries : List Entry) (vpn asid random : ℕ) → random < length entries → unwrap_or (find entries vpn asid) random < length entries
@@ -84,50 +67,57 @@ slot_within entries vpn asid random room = by (find entries vpn asid) refl
     by None is = room
     by (Some i) is = (position-Some (matches vpn asid) entries i (empty_entry 0) is).0
 
--- A refill with what is granted at the address.
-module _ (h : Held) (p : ℕ) (access : Kind) (size : Size) (page offset : ℕ) (grant : Grant)
-    (holds : BufferHolds h.core.entries (space_of h.kept) h.kept.grants) (names : NamesPages h.kept.grants) (owner : h.kept.owner ≡ p)
-    (decides : decide h.kept.grants.table p access size h.core.system.bad_vaddr ≡ Allowed page offset) (granted : entry_at h.kept.grants.table p (page_address h.core.system.bad_vaddr) ≡ Some grant) where
+-- A refill with the page-table word of an address of a user.
+module _ (h : Held) (p : ℕ) (seat : 0 < p) (k : IsRepresented h.core.entries h.bus.memory h.kept.tables (space_of h.kept) h.kept.grants) (owner : h.kept.owner ≡ p) (low : h.core.system.bad_vaddr < 2 ^ 31) where
   abbrev vpn : ℕ
   vpn = h.core.system.bad_vaddr / 2 ^ 12
 
+  abbrev lo : ℕ
+  lo = entry_word h.bus.memory h.kept.tables p h.core.system.bad_vaddr
+
   abbrev entry : Entry
-  entry = translation h.kept.grants vpn page grant.right
+  entry = asked_entry h p
 
-  mappable : IsMappable (space_of h.kept) h.kept.grants p vpn page grant
-  mappable =
-      let tells = allowed_entry h.kept.grants.table p access size h.core.system.bad_vaddr page offset grant decides granted in
-      let low : h.core.system.bad_vaddr < 2 ^ 31 = (let not_high : nat_le (2 ^ 31) h.core.system.bad_vaddr ≡ false = tells.0 in grind (arith, nat_tests)) in record {
-        owner = λ q some is. space_of_owner h.kept p q owner is;
-        user = omega arith;
-        granted = ap (entry_at h.kept.grants.table p) (page_start h.core.system.bad_vaddr) ∙ granted;
-        right = tells.2;
-        named = tells.1;
-      }
+  user : vpn < 2 ^ 19
+  user = omega (arith, low)
 
-  fields : entry ≡ record { vpn = vpn; asid = 1; pfn = frame_of_page h.kept.grants page; n = false; d = is_write grant.right; v = true; g = false }
-  fields =
-      let user = mappable.user in
-      let below = names.named p (vpn * 2 ^ 12) page grant mappable.granted mappable.named in
-      let few = names.frames in
-      translation_fields h.kept.grants vpn page grant.right (omega arith) (omega arith)
+  number : space_of h.kept p ≡ 1
+  number = owner_space h.kept p owner
 
-  as_filled : refilled h.core entry ≡ filled h.core.entries vpn h.core.random entry
-  as_filled = ap₂ (λ (v a : ℕ). slice_set h.core.entries (unwrap_or (find h.core.entries v a) h.core.random) entry) (ap (λ (e : Entry). e.vpn) fields) (ap (λ (e : Entry). e.asid) fields)
+  -- the word in memory is that of what is granted
+  word_is : lo ≡ granted_word h.kept.grants p vpn
+  word_is = word_of_page h.bus.memory h.kept.tables p h.core.system.bad_vaddr ∙ k.words.words p vpn seat user
+
+  entry_is : entry ≡ entry_for h.kept.grants h.kept.tables p 1 vpn
+  entry_is = ap (entry_of (hi_of vpn 1)) (word_is ∙ sym (user_lo h.kept.grants h.kept.tables p vpn user))
+
+  page_is : entry.vpn ≡ vpn
+  page_is = has_page vpn 1 lo (omega (arith, user)) (omega arith)
+
+  space_is : entry.asid ≡ 1
+  space_is = has_space vpn 1 lo (omega (arith, user)) (omega arith)
+
+  as_filled : refilled h.core entry ≡ filled h.core.entries vpn 1 h.core.random entry
+  as_filled = ap₂ (λ (v a : ℕ). slice_set h.core.entries (unwrap_or (find h.core.entries v a) h.core.random) entry) page_is space_is
 
   -- the buffer holds as before
-  refill_holds : BufferHolds (refilled h.core entry) (space_of h.kept) h.kept.grants
-  refill_holds = subst (λ (es : List Entry). BufferHolds es (space_of h.kept) h.kept.grants) (sym as_filled) (filled_buffer h.core.entries (space_of h.kept) h.kept.grants p vpn page h.core.random grant holds mappable)
+  refill_holds : BufferHolds (refilled h.core entry) (space_of h.kept) h.kept.grants h.kept.tables
+  refill_holds =
+      let some : 0 < space_of h.kept p = omega (arith, number) in
+      let holds : BufferHolds (filled h.core.entries vpn (space_of h.kept p) h.core.random (entry_for h.kept.grants h.kept.tables p (space_of h.kept p) vpn)) (space_of h.kept) h.kept.grants h.kept.tables =
+      filled_buffer h.core.entries (space_of h.kept) h.kept.grants h.kept.tables p vpn h.core.random (space_apart h.kept) k.buffer seat some (inl user) in
+      let one : BufferHolds (filled h.core.entries vpn 1 h.core.random (entry_for h.kept.grants h.kept.tables p 1 vpn)) (space_of h.kept) h.kept.grants h.kept.tables =
+      subst (λ (n : ℕ). BufferHolds (filled h.core.entries vpn n h.core.random (entry_for h.kept.grants h.kept.tables p n vpn)) (space_of h.kept) h.kept.grants h.kept.tables) number holds in
+      let read : BufferHolds (filled h.core.entries vpn 1 h.core.random entry) (space_of h.kept) h.kept.grants h.kept.tables =
+      subst (λ (e : Entry). BufferHolds (filled h.core.entries vpn 1 h.core.random e) (space_of h.kept) h.kept.grants h.kept.tables) (sym entry_is) one in
+      subst (λ (es : List Entry). BufferHolds es (space_of h.kept) h.kept.grants h.kept.tables) (sym as_filled) read
+
+  refill_represented : IsRepresented (refilled h.core entry) h.bus.memory h.kept.tables (space_of h.kept) h.kept.grants
+  refill_represented = record { buffer = refill_holds; words = k.words; places = k.places; empty = k.empty }
 
   -- where the entry goes
   abbrev slot : ℕ
   slot = unwrap_or (find h.core.entries entry.vpn entry.asid) h.core.random
-
-  entry_matches : matches vpn 1 entry ≡ true
-  entry_matches =
-      let page_is : entry.vpn ≡ vpn = ap (λ (e : Entry). e.vpn) fields in
-      let space : entry.asid ≡ 1 = ap (λ (e : Entry). e.asid) fields in
-      grind (arith, nat_tests)
 
   -- the page that was asked for is found there
   found_in_slot : h.core.random < length h.core.entries → find (refilled h.core entry) vpn 1 ≡ Some slot
@@ -137,7 +127,7 @@ module _ (h : Held) (p : ℕ) (access : Kind) (size : Size) (page offset : ℕ) 
       let there : slice_get (slice_set h.core.entries slot entry) slot ≡ Some entry =
       slice_get-get_or (slice_set h.core.entries slot entry) slot entry (omega arith)
       ∙ ap (λ (e : Entry). Some e) (get_or-set_same h.core.entries slot entry entry within) in
-      found_there (refilled h.core entry) vpn 1 slot entry (find (refilled h.core entry) vpn 1) refill_holds.single refl there entry_matches
+      found_there (refilled h.core entry) vpn 1 slot entry (find (refilled h.core entry) vpn 1) refill_holds.single refl there (same_keys vpn 1 lo (omega (arith, user)) (omega arith))
 
 -- The processor goes back to the unit's first instruction, and the process is touched.
 module _ (h : Held) (m : State) (p : ℕ) (e : Entry) (runs : RunningIs p h.core h.kept m) (a : InService h.core p m) where
@@ -198,10 +188,10 @@ kept_behind p rest k memory m q a = record {
 }
 
 -- A refill of a station that stands for m, for its first ready process.
-module _ (h : Held) (m : State) (p : ℕ) (rest : List ℕ) (access : Kind) (size : Size) (page offset : ℕ) (grant : Grant) (stands : Stands h m) (ready : h.kept.state.ready ≡ p ∷ rest) (kernel : is_user h.core.system ≡ false)
-    (decides : decide m.memory.table p access size h.core.system.bad_vaddr ≡ Allowed page offset) (granted : entry_at h.kept.grants.table p (page_address h.core.system.bad_vaddr) ≡ Some grant) where
+module _ (h : Held) (m : State) (p : ℕ) (rest : List ℕ) (access : Kind) (size : Size) (page offset : ℕ) (stands : Stands h m) (ready : h.kept.state.ready ≡ p ∷ rest) (kernel : is_user h.core.system ≡ false)
+    (decides : decide m.memory.table p access size h.core.system.bad_vaddr ≡ Allowed page offset) where
   abbrev new : Held
-  new = with_refill h (translation h.kept.grants (h.core.system.bad_vaddr / 2 ^ 12) page grant.right)
+  new = with_refill h (asked_entry h p)
 
   runs : RunningIs p h.core h.kept m
   runs = subst (λ (ps : List ℕ). RunningBy ps h.core h.kept m) ready stands.running
@@ -209,12 +199,12 @@ module _ (h : Held) (m : State) (p : ℕ) (rest : List ℕ) (access : Kind) (siz
   in_service : InService h.core p m
   in_service = subst (λ (b : Bool). OnProcessor b h.core.slot h.core p m) kernel runs.on
 
-  by_table : decide h.kept.grants.table p access size h.core.system.bad_vaddr ≡ Allowed page offset
-  by_table = subst (λ (s : PageState). decide s.table p access size h.core.system.bad_vaddr ≡ Allowed page offset) stands.kept.pages decides
+  low : h.core.system.bad_vaddr < 2 ^ 31
+  low = allowed_low m.memory.table p access size h.core.system.bad_vaddr page offset decides
 
   put_behind : Stands new (with_process m p (touched_process (process_of m p)))
   put_behind = record {
-    buffer = refill_holds h p access size page offset grant stands.buffer stands.grants runs.owner by_table granted;
+    represented = refill_represented h p runs.seat.0 stands.represented runs.owner low;
     grants = stands.grants;
     size = stands.size;
     kept = subst (λ (ps : List ℕ). KeptIs ps h.kept h.bus.memory (with_process m p (touched_process (process_of m p)))) (sym ready)
@@ -237,9 +227,9 @@ module _ (h : Held) (m : State) (p : ℕ) (rest : List ℕ) (access : Kind) (siz
     mode = refl;
     address = refl;
     bus = refl;
-    slot = slot h p access size page offset grant stands.buffer stands.grants runs.owner by_table granted;
-    entry = translation h.kept.grants (h.core.system.bad_vaddr / 2 ^ 12) page grant.right;
+    slot = slot h p runs.seat.0 stands.represented runs.owner low;
+    entry = asked_entry h p;
     entries = refl;
     asked = ap (find new.core.entries (h.core.system.bad_vaddr / 2 ^ 12)) (runs.space ∙ owner_space h.kept p runs.owner)
-        ∙ found_in_slot h p access size page offset grant stands.buffer stands.grants runs.owner by_table granted room;
+        ∙ found_in_slot h p runs.seat.0 stands.represented runs.owner low room;
   }

@@ -1,13 +1,17 @@
 -- At the beginning of a run the station stands for the first state.
-use Rattle.std.proofs.Common.{◌≡◌, ℕ, ◌+◌, ◌-◌, ◌/◌, ◌<◌, ◌^◌, Bool, true, false, List, [], ◌∷◌, length, refl, ap, arith, inl}
+use Rattle.std.proofs.Common.{◌≡◌, ℕ, ◌+◌, ◌-◌, ◌/◌, ◌<◌, ◌^◌, Bool, true, false, List, [], ◌∷◌, length, refl, sym, ap, subst, arith, inl}
 use Rattle.std.specs.Prelude.{nat_lt, ◌==◌, ◌&&◌, not}
 use Rattle.std.proofs.lemmas.Bool.Decides.{nat_tests}
 use Rattle.std.proofs.lemmas.List.{map-set}
 use Rattle.ds_tlb.specs.Entries.{empty_entries}
+use Rattle.ds_dev.specs.Bus.{BusState}
 use Rattle.ds_core.specs.Core.{CoreState}
 use Rattle.ds_policy.specs.declared.policy.PolicyProcess.{PolicyProcess}
 use Rattle.ds_policy.specs.Value.{PolicyValue, InputValue}
 use Rattle.ds_grants.specs.State.{page_state}
+use Rattle.ds_tables.specs.Places.{Places}
+use Rattle.ds_grants.specs.Words.{WordsHold}
+use Rattle.ds_grants.specs.Buffer.{BufferHolds}
 use Rattle.ds_grants.specs.Sound.{NamesPages}
 use Rattle.ds_grants.specs.First.{first_grants}
 use Rattle.ds_grants.proofs.Fills.{empty_buffer}
@@ -35,12 +39,12 @@ none_passed rate now = by (not (rate == 0))
     by true = same (now / 2 ^ (rate + 2))
     by false = refl
 
-module _ (policy : PolicyValue) (images : List (List ℕ)) (input : InputValue) (start : ℕ) (memory : List ℕ) where
+module _ (policy : PolicyValue) (images : List (List ℕ)) (input : InputValue) (start : ℕ) (memory : List ℕ) (tables : Places) where
   abbrev m : State
   m = first_state policy images input
 
   abbrev k : Kept
-  k = first_kept policy images input
+  k = first_kept policy images input tables
 
   kept : m.memory ≡ page_state (first_grants policy) memory → KeptIs k.state.ready k memory m
   kept pages = record { ready = refl; state = vacated_bare m.ready m; pages = pages; log = refl; lines = refl }
@@ -63,14 +67,21 @@ module _ (policy : PolicyValue) (images : List (List ℕ)) (input : InputValue) 
 
 pub first_stands : (policy : PolicyValue) (images : List (List ℕ)) (input : InputValue) (start : ℕ) (h : Held) → 0 < length policy.processes → NamesPages (first_grants policy) → IsFirst policy images input start h → Stands h (first_state policy images input)
 first_stands policy images input start h some named f =
-    let memory = h.bus.memory in
+    let memory : List ℕ = h.bus.memory in
+    let t : Places = h.kept.tables in
     let core : CoreState = first_core (empty_entries 64) start (process_of (first_state policy images input) 1).pc in
-    let k : Kept = first_kept policy images input in
+    let k : Kept = first_kept policy images input t in
     record {
-      buffer = rw (f.core, f.kept) (empty_buffer 64 (space_of k) (first_grants policy));
-      grants = rw f.kept named;
+      represented = record {
+        buffer = subst (λ (c : CoreState). BufferHolds c.entries (space_of h.kept) h.kept.grants t) (sym f.core) (empty_buffer 64 (space_of h.kept) h.kept.grants t (omega arith));
+        words = subst (λ (x : Kept). WordsHold memory t x.grants) (sym f.kept) f.tables.words;
+        places = f.tables.places;
+        empty = f.tables.empty;
+      };
+      grants = subst (λ (x : Kept). NamesPages x.grants) (sym f.kept) named;
       size = f.size;
-      kept = rw f.kept (kept policy images input start memory f.pages);
-      running = rw (f.core, f.kept) (running policy images input start memory policy.processes some refl);
-      devices = rw (f.bus, f.kept) (resting policy images input start memory);
+      kept = subst (λ (x : Kept). KeptIs x.state.ready x memory (first_state policy images input)) (sym f.kept) (kept policy images input start memory t f.pages);
+      running = subst (λ (x : Kept). RunningBy x.state.ready h.core x (first_state policy images input)) (sym f.kept)
+          (subst (λ (c : CoreState). RunningBy k.state.ready c k (first_state policy images input)) (sym f.core) (running policy images input start memory t policy.processes some refl));
+      devices = subst (λ (x : Kept). AreResting h.bus x) (sym f.kept) (subst (λ (b : BusState). AreResting b k) (sym f.bus) (resting policy images input start memory t));
     }

@@ -2,6 +2,7 @@ pub mod Exceptions
 pub mod Refusals
 pub mod FirstStands
 pub mod Frames
+pub mod Spaces
 pub mod Lookups
 pub mod Registers
 pub mod Links

@@ -22,6 +22,8 @@ use Rattle.ds_policy.specs.Pages.{decide, bytes_of}
 use Rattle.ds_policy.specs.Grants.{PageState}
 use Rattle.ds_grants.specs.State.{GrantsState, page_state}
 use Rattle.ds_grants.specs.Buffer.{BufferHolds}
+use Rattle.ds_grants.specs.Represented.{IsHigh}
+use Rattle.ds_grants.proofs.Kept.{high_stored}
 use Rattle.ds_grants.specs.Sound.{NamesPages}
 use Rattle.ds_amap.specs.declared.map.Physical.{Physical}
 use Rattle.ds_amap.specs.declared.map.Fault.{Fault}
@@ -60,6 +62,7 @@ pub record Retires (c : CoreState) (b : BusState) (g : GrantsState) (m : State) 
   pub memory : List ℕ
   pub went : o ≡ Went (record (with_registers m p after) { memory = page_state g memory })
   pub size : length memory ≡ 2 ^ 23
+  pub high : IsHigh b.memory memory
   pub step : s ≡ record { event = event.Retired; core = core_at_next (counted c) after; bus = record b { memory = memory } }
 
 -- a branch outside a slot is done by both
@@ -137,7 +140,7 @@ small_offset address = omega arith
 module _ (c : CoreState) (b : BusState) (k : Kept) (m : State) (p : ℕ)
     (same : c.registers ≡ (process_of m p).registers) (pages : m.memory ≡ page_state k.grants b.memory) (large : length b.memory ≡ 2 ^ 23)
     (mode : c.system.status ≡ user_status) (small : c.pc < 2 ^ 32)
-    (holds : BufferHolds c.entries (space_of k) k.grants) (names : NamesPages k.grants) (some : 0 < p) (owner : k.owner ≡ p) (space : asid_of c.system ≡ space_of k p) where
+    (holds : BufferHolds c.entries (space_of k) k.grants k.tables) (names : NamesPages k.grants) (some : 0 < p) (owner : k.owner ≡ p) (space : asid_of c.system ≡ space_of k p) where
   -- what is reached is granted
   granted : (access : Kind) (size : Size) (address : ℕ) (place : Physical) → reached c access size address ≡ Ok place → IsGranted k.grants p access size address place.0
   granted = user_reaches c k p (ap (λ (w : ℕ). bits w 1 1 == 1) mode) holds names some owner space
@@ -148,13 +151,13 @@ module _ (c : CoreState) (b : BusState) (k : Kept) (m : State) (p : ℕ)
   left e o pc slot leaves = inr (inr (record { what = e; leaves = leaves; pc = pc; slot = slot; step = refl }))
 
   -- an instruction that leaves these registers and this memory
-  puts : (o : Outcome) (after : Registers) (memory : List ℕ) → o ≡ Went (record (with_registers m p after) { memory = page_state k.grants memory }) → length memory ≡ 2 ^ 23
+  puts : (o : Outcome) (after : Registers) (memory : List ℕ) → o ≡ Went (record (with_registers m p after) { memory = page_state k.grants memory }) → length memory ≡ 2 ^ 23 → IsHigh b.memory memory
       → Meets c b k.grants m p o (with_tick (core.at_next c (record b { memory = memory }) after))
-  puts o after memory went size = inl (record { after = after; memory = memory; went = went; size = size; step = refl })
+  puts o after memory went size high = inl (record { after = after; memory = memory; went = went; size = size; high = high; step = refl })
 
   -- one that leaves memory
   goes : (after : Registers) → Meets c b k.grants m p (Went (with_registers m p after)) (with_tick (core.at_next c b after))
-  goes after = puts (Went (with_registers m p after)) after b.memory (ap (λ (s : PageState). Went (record (with_registers m p after) { memory = s })) pages) large
+  goes after = puts (Went (with_registers m p after)) after b.memory (ap (λ (s : PageState). Went (record (with_registers m p after) { memory = s })) pages) large (refl, λ f table. refl)
 
   branch_meets : (slot : Bool) (after : Registers) (target : ℕ) → c.slot ≡ slot → Meets c b k.grants m p (Branched (with_registers m p after) target) (with_tick (core.branched slot c b after target))
   branch_meets false after target outside = inr (inl (record { after = after; target = target; went = refl; outside = outside; step = refl }))
@@ -187,6 +190,10 @@ module _ (c : CoreState) (b : BusState) (k : Kept) (m : State) (p : ℕ)
 
   size_here : (access : Kind) (size : Size) (address place w : ℕ) (a : IsGranted k.grants p access size address place) → length (with_word b.memory place w) ≡ length b.memory
   size_here access size address place w a = ap (λ (x : ℕ). length (with_word b.memory x w)) a.lies ∙ size_stored k.grants b.memory a.page (address % 4096) a.lives a.low names.frames large (small_offset address) w
+
+  -- a store changes no page table
+  high_here : (access : Kind) (size : Size) (address place w : ℕ) (a : IsGranted k.grants p access size address place) → IsHigh b.memory (with_word b.memory place w)
+  high_here access size address place w a = let lies = a.lies in high_stored b.memory place w large (omega (arith, lies)) a.small
 
   -- Loads and stores of an instruction that was fetched, and asks for this size.
   module _ (fetched : Physical) (fetches : reached c kind.Fetch Word c.pc ≡ Ok fetched) where
@@ -223,7 +230,7 @@ module _ (c : CoreState) (b : BusState) (k : Kept) (m : State) (p : ℕ)
         ≡ Went (record (with_registers m p (settled c.registers)) { memory = page_state k.grants memory }) =
         ap (λ (v : Verdict). where_allowed v kind.Store address (λ page offset. Went (stored (with_registers m p (settled (process_of m p).registers)) page offset after))) (allowed_here kind.Store size address place.0 a)
         ∙ ap₂ (λ (r : Registers) (s : PageState). Went (record (with_registers m p (settled r)) { memory = s })) (sym same) (page_here kind.Store size address place.0 after a) in
-        rw (in_memory place.0 a.small) (puts _ (settled c.registers) memory went (size_here kind.Store size address place.0 (after (word_at b.memory place.0)) a ∙ large))
+        rw (in_memory place.0 a.small) (puts _ (settled c.registers) memory went (size_here kind.Store size address place.0 (after (word_at b.memory place.0)) a ∙ large) (high_here kind.Store size address place.0 (after (word_at b.memory place.0)) a))
 
     -- the outcome of the instruction's effect
     effect_meets : (i : Instr) (e : Effect) → size_asked e ≡ access_size i → KnownFault e → size_at m.memory p c.pc ≡ unwrap_or (access_size i) Word

@@ -9,7 +9,7 @@ use Rattle.ds_cp0.specs.System.{is_user}
 use Rattle.ds_policy.specs.Grants.{PageState}
 use Rattle.ds_grants.specs.State.{page_state}
 use Rattle.ds_grants.specs.Sound.{NamesPages}
-use Rattle.ds_grants.specs.Buffer.{BufferHolds}
+use Rattle.ds_grants.specs.Represented.{IsRepresented}
 use Rattle.ds_core.specs.Core.{CoreState}
 use Rattle.ds_pagemap.specs.Machine.{State, Process, no_process, process_of, with_process, touched, touch_first, touched_process}
 use Rattle.ds_pagemap.proofs.Processes.{process_of-with_process}
@@ -117,11 +117,11 @@ by_ready (p ∷ rest) c k memory m ready a b =
     subst (λ (s : State). StandsBy (p ∷ rest) c k memory s) (sym (ap (touch_first m) first)) (comes p rest c k memory m ready a b)
 
 -- all is kept, and who is first comes on the processor touched
-pub enters : (h : Held) (m : State) → IsKept h.kept h.bus.memory m → BufferHolds h.core.entries (space_of h.kept) h.kept.grants → NamesPages h.kept.grants
+pub enters : (h : Held) (m : State) → IsKept h.kept h.bus.memory m → IsRepresented h.core.entries h.bus.memory h.kept.tables (space_of h.kept) h.kept.grants → NamesPages h.kept.grants
     → length h.bus.memory ≡ 2 ^ 23 → AreResting h.bus h.kept → EntersBy h.kept.state.ready h.core h.kept → Stands h (touched true m)
-enters h m a buffer grants size devices b =
+enters h m a represented grants size devices b =
     let s = by_ready h.kept.state.ready h.core h.kept h.bus.memory m refl a b in
-    record { buffer = buffer; grants = grants; size = size; kept = s.0; running = s.1; devices = devices }
+    record { represented = represented; grants = grants; size = size; kept = s.0; running = s.1; devices = devices }
 
 -- All is kept.
 

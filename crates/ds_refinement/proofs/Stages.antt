@@ -8,7 +8,10 @@ use Rattle.ds_procs.specs.declared.process.Standing.TheVariants.{Parked}
 use Rattle.ds_policy.specs.Grants.{PageState}
 use Rattle.ds_log.specs.declared.line.Line.TheVariants.{Denial}
 use Rattle.ds_procs.specs.Calls.{call_of}
+use Rattle.ds_tlb.specs.declared.entry.Entry.{Entry}
 use Rattle.ds_grants.specs.State.{page_state}
+use Rattle.ds_grants.specs.Represented.{IsRepresented, IsHigh}
+use Rattle.ds_grants.proofs.Kept.{high_kept}
 use Rattle.ds_cp0.specs.declared.exception.Exception.{Exception}
 use Rattle.ds_cp0.specs.System.{System, entered, asid_of, is_user, is_kuseg, pushed, vector, epc_of}
 use Rattle.ds_dev.specs.Bus.{BusState}
@@ -30,7 +33,7 @@ use Rattle.ds_refinement.specs.declared.cause.Cause.{Cause}
 use Rattle.ds_refinement.specs.declared.cause.Cause.TheVariants as cause
 use Rattle.ds_refinement.specs.declared.step.Step.TheVariants.{Inside, Unit}
 use Rattle.ds_refinement.specs.Told.{told}
-use Rattle.ds_refinement.specs.Held.{Held, Kept, bare, began_or, last_boundary}
+use Rattle.ds_refinement.specs.Held.{Held, Kept, space_of, bare, began_or, last_boundary}
 use Rattle.ds_refinement.specs.Stands.{user_status, owes_boundary, Promise, IsLinked, AtStart, InSlot, InService, IsVector, OnProcessor, RunningIs, RunningBy, KeptIs, AreResting, Stands}
 use Rattle.ds_refinement.specs.Leaves.{Leaves}
 use Rattle.ds_refinement.specs.Services.{after_event, step_of, with_turn}
@@ -234,17 +237,17 @@ module _ (h : Held) (m : State) (p : ℕ) (rest : List ℕ) (k : Stands h m) (re
       }
 
   -- a unit of so many ticks ends, and the program goes on at pc
-  retires : (r : Registers) (memory : List ℕ) (ticks pc : ℕ) → length memory ≡ 2 ^ 23
+  retires : (r : Registers) (memory : List ℕ) (ticks pc : ℕ) → length memory ≡ 2 ^ 23 → IsHigh h.bus.memory memory
       → unit m ≡ owes_boundary m.time p (ticked ticks (at_pc (record (with_registers m p r) { memory = page_state h.kept.grants memory }) p pc))
       → h.core.next ≡ pc → ticks_of h.core.slot ≡ ticks
       → Comes Unit (after_event event.Retired h (record { event = event.Retired; core = core_at_next (counted h.core) r; bus = record h.bus { memory = memory } })) m
-  retires r memory ticks pc size is next long =
+  retires r memory ticks pc size high is next long =
       let new = after_event event.Retired h (record { event = event.Retired; core = core_at_next (counted h.core) r; bus = record h.bus { memory = memory } }) in
       let q : Process = record (process_of m p) { registers = r; pc = pc } in
       let s = behind m p q (page_state h.kept.grants memory) ticks in
       let there : unit m ≡ s = is ∙ twice m p r (page_state h.kept.grants memory) ticks pc running.seat in
       let stands : Stands new s = record {
-        buffer = k.buffer;
+        represented = high_kept h.core.entries h.bus.memory memory h.kept.tables (space_of h.kept) h.kept.grants high k.represented;
         grants = k.grants;
         size = size;
         kept = subst (λ (rs : List ℕ). KeptIs rs new.kept memory s) (sym ready)
@@ -261,7 +264,7 @@ module _ (h : Held) (m : State) (p : ℕ) (rest : List ℕ) (k : Stands h m) (re
   stays : (c : CoreState) (e : Event) → c.entries ≡ h.core.entries → asid_of c.system ≡ asid_of h.core.system → OnProcessor (is_user c.system) c.slot c p m
       → Stands (record h { core = c }) m
   stays c e entries space on = record {
-    buffer = rw entries k.buffer;
+    represented = subst (λ (es : List Entry). IsRepresented es h.bus.memory h.kept.tables (space_of h.kept) h.kept.grants) (sym entries) k.represented;
     grants = k.grants;
     size = k.size;
     kept = k.kept;
@@ -322,7 +325,7 @@ module _ (h : Held) (m : State) (p : ℕ) (rest : List ℕ) (k : Stands h m) (re
       let quiet : whole.step h.core h.bus ≡ with_tick (whole.instruction h.core h.bus) =
       ap (λ (b : Bool). cond b (trapped h.core h.bus Interrupt) (with_tick (whole.instruction h.core h.bus))) (rests h.bus h.kept h.core.system k.devices mode) in
       subst (Meets h.core h.bus h.kept.grants here p (instruction here p h.core.pc)) (sym (is ∙ quiet))
-      (instruction_meets h.core h.bus h.kept here p (sym (registers_put m p h.core.registers running.seat)) kept.pages k.size mode small k.buffer k.grants running.seat.0 running.owner running.space)
+      (instruction_meets h.core h.bus h.kept here p (sym (registers_put m p h.core.registers running.seat)) kept.pages k.size mode small k.represented.buffer k.grants running.seat.0 running.owner running.space)
 
   -- registers that are put here are put in m
   put_here : (r : Registers) → with_registers here p r ≡ with_registers m p r
@@ -347,7 +350,7 @@ module _ (h : Held) (m : State) (p : ℕ) (rest : List ℕ) (k : Stands h m) (re
         let went : instruction m p (process_of m p).pc ≡ Went (record (with_registers m p w.after) { memory = pages }) =
         sym first_alike ∙ (w.went ∙ ap (λ (t : State). Went (record t { memory = pages })) (put_here w.after)) in
         subst Goes (sym w.step)
-        (retires w.after w.memory 1 (word ((process_of m p).pc + 4)) w.size (is_unit ∙ ap (λ (x : Outcome). owes_boundary m.time p (after_instruction m p (process_of m p).pc x)) went) a.next (ap ticks_of a.first))
+        (retires w.after w.memory 1 (word ((process_of m p).pc + 4)) w.size w.high (is_unit ∙ ap (λ (x : Outcome). owes_boundary m.time p (after_instruction m p (process_of m p).pc x)) went) a.next (ap ticks_of a.first))
 
     first_turns : (s : core.Step) → Turns h.core h.bus here p (instruction here p h.core.pc) s → Goes s
     first_turns s w =
@@ -388,7 +391,7 @@ module _ (h : Held) (m : State) (p : ℕ) (rest : List ℕ) (k : Stands h m) (re
         let went : instruction here p h.core.pc ≡ Went (record (with_registers m p w.after) { memory = pages }) =
         w.went ∙ ap (λ (t : State). Went (record t { memory = pages })) (put_here w.after) in
         subst Goes (sym w.step)
-        (retires w.after w.memory 2 h.core.next w.size
+        (retires w.after w.memory 2 h.core.next w.size w.high
         (slot_unit ∙ ap (λ (x : Outcome). owes_boundary m.time p (after_slot here p (process_of m p).pc (word ((process_of m p).pc + 4)) h.core.next x)) went) refl (ap ticks_of a.second))
 
     slot_turns : (s : core.Step) → Turns h.core h.bus here p (instruction here p h.core.pc) s → Goes s

@@ -1,9 +1,11 @@
 -- Stations and steps that are related, and some that are not: each row is a theorem about the definitions alone.
-use Rattle.std.proofs.Common.{◌≡◌, ℕ, ◌+◌, ◌*◌, ◌<◌, ◌≤◌, ◌^◌, inl, inr, true, false, [], ◌∷◌, refl, ap, arith}
+use Rattle.std.proofs.Common.{◌≡◌, ℕ, ◌+◌, ◌*◌, ◌<◌, ◌≤◌, ◌^◌, inl, inr, true, false, List, [], ◌∷◌, refl, ap, arith}
 use Rattle.std.specs.Prelude.{Some, None, replicate, slice_index, slice_set}
+use Rattle.ds_word.specs.Bytes.{word_at}
 use Rattle.ds_isa.specs.Registers.{Registers, zero_registers}
 use Rattle.ds_isa.specs.declared.instr.Size.TheVariants.{Word}
 use Rattle.ds_isa.specs.declared.instr.Kind.TheVariants.{Load, Store}
+use Rattle.ds_tlb.specs.Words.{entry_of}
 use Rattle.ds_procs.specs.declared.process.Standing.TheVariants.{Ended}
 use Rattle.ds_policy.specs.declared.grant.Right.TheVariants.{Read}
 use Rattle.ds_policy.specs.declared.grant.Grant.{Grant}
@@ -21,7 +23,7 @@ use Rattle.ds_refinement.specs.declared.step.Step.TheVariants.{Inside, Boundary,
 use Rattle.ds_refinement.specs.Held.{Held, Kept}
 use Rattle.ds_refinement.specs.Stands.{AreResting, Stands}
 use Rattle.ds_refinement.specs.Steps.{StepTo, Comes, Follows, Stays, Moves}
-use Rattle.ds_refinement.specs.Services.{EntersBy}
+use Rattle.ds_refinement.specs.Services.{EntersBy, asked_entry}
 use Rattle.ds_refinement.specs.Real.{HasUnit, EndsUnit, MayGoBack, GoesBack, IsReal, Through}
 use Rattle.ds_refinement.specs.Granted.{IsGranted}
 use Rattle.ds_refinement.specs.Quiet.{IsQuiet}
@@ -153,6 +155,16 @@ a_granted_load_goes_on ends = let denied : Allowed 0 4 ≡ Denied ends.0 ends.1 
 pub a_store_that_is_not_granted_ends_its_unit : EndsUnit pages 1 0x00400004 (cause.Access (record { kind = Store; size = Word }))
 a_store_that_is_not_granted_ends_its_unit = (_, _, refl)
 
+-- the station with that grant and no page table, over a memory
+abbrev untabled : List ℕ → Held
+untabled memory = record (after 0) { bus = bus.at_start memory; kept = record kept { grants = grants; tables = replicate 4 None ∷ [] } }
+
+pub a_station_without_page_tables_stands_for_nothing : (memory : List ℕ) (m : State) → Stands (untabled memory) m → ⊥
+a_station_without_page_tables_stands_for_nothing memory m stands =
+    let process : 0 < 1 = omega arith in
+    let table : false ≡ true = stands.represented.words.regions 1 1 process in
+    absurd cc
+
 -- What goes back.
 
 pub a_granted_load_goes_back : MayGoBack pages 1 0x00400004 (cause.Access (record { kind = Load; size = Word }))
@@ -180,6 +192,18 @@ a_call_does_not_go_back real = elim (real.service (refl, λ none. absurd cc) ref
   | inl ends ↦ let owed : false ≡ true = ends.0 in absurd cc
   | inr back ↦ back.0
 ]
+
+-- What a refill puts into the buffer.
+
+-- the same over a memory, where process 1 has the table of its second 4 MiB at its second place
+abbrev tabled : List ℕ → Held
+tabled memory = record called { bus = bus.at_start memory; kept = record kept { tables = (None ∷ Some 1 ∷ None ∷ None ∷ []) ∷ replicate 4 None ∷ [] } }
+
+pub the_page_has_the_second_word_of_its_table : (memory : List ℕ) → asked_entry (tabled memory) 1 ≡ entry_of 0x00401040 (word_at memory 0x3004)
+the_page_has_the_second_word_of_its_table memory = refl
+
+pub process_2_has_the_word_of_the_empty_table : (memory : List ℕ) → asked_entry (tabled memory) 2 ≡ entry_of 0x00401040 (word_at memory 0x1004)
+process_2_has_the_word_of_the_empty_table memory = refl
 
 -- Where a granted word lies.
 

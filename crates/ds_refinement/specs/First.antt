@@ -11,7 +11,9 @@ use Rattle.ds_dev.specs.Clock.{clock_at_start}
 use Rattle.ds_dev.specs.Bus.{BusState}
 use Rattle.ds_core.specs.Core.{CoreState}
 use Rattle.ds_policy.specs.Value.{PolicyValue, InputValue}
+use Rattle.ds_tables.specs.Places.{Places}
 use Rattle.ds_grants.specs.State.{page_state}
+use Rattle.ds_grants.specs.Represented.{HasWords}
 use Rattle.ds_grants.specs.First.{first_grants}
 use Rattle.ds_pagemap.specs.Machine.{process_of}
 use Rattle.ds_pagemap.specs.First.{first_state}
@@ -43,11 +45,12 @@ first_bus memory rate = record {
   system = 2 ^ 7;
 }
 
--- what is kept of the first state of a policy; process 1 runs
-abbrev pub first_kept : PolicyValue → List (List ℕ) → InputValue → Kept
-first_kept policy images input = record {
+-- what is kept of the first state of a policy, with page tables at these places; process 1 runs
+abbrev pub first_kept : PolicyValue → List (List ℕ) → InputValue → Places → Kept
+first_kept policy images input tables = record {
   state = bare (first_state policy images input);
   grants = first_grants policy;
+  tables = tables;
   log = [];
   lines = 0;
   owner = 1;
@@ -60,5 +63,6 @@ pub record IsFirst (policy : PolicyValue) (images : List (List ℕ)) (input : In
   pub bus : h.bus ≡ first_bus h.bus.memory policy.rate
   pub pages : (first_state policy images input).memory ≡ page_state (first_grants policy) h.bus.memory
   pub size : length h.bus.memory ≡ 2 ^ 23
-  pub kept : h.kept ≡ first_kept policy images input
+  pub kept : h.kept ≡ first_kept policy images input h.kept.tables
+  pub tables : HasWords h.bus.memory h.kept.tables (first_grants policy)
   pub own : h.own ≡ record { failed = false; spent = 0 }

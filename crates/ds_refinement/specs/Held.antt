@@ -2,6 +2,7 @@
 use Rattle.std.specs.Prelude.{ℕ, ◌==◌, Bool, if◌then◌else◌, List, [], ◌∷◌, Option, Some, None}
 use Rattle.ds_policy.specs.Grants.{PageState}
 use Rattle.ds_log.specs.declared.line.Line.{Line}
+use Rattle.ds_tables.specs.Places.{Places}
 use Rattle.ds_grants.specs.State.{GrantsState, page_state}
 use Rattle.ds_dev.specs.Bus.{BusState}
 use Rattle.ds_core.specs.Core.{CoreState}
@@ -14,6 +15,8 @@ pub record Kept : Type 0 where
   -- the machine's state but for pages, table and log; its late loads are finished, and of the process that runs it has only its standing and its line
   pub state : State
   pub grants : GrantsState
+  -- where the page tables stand in memory
+  pub tables : Places
   -- the text of the log, and how many lines it has
   pub log : List ℕ
   pub lines : ℕ

@@ -1,5 +1,5 @@
 -- What instructions, services and boundaries make of what is held.
-use Rattle.std.specs.Prelude.{◌≡◌, ℕ, ◌+◌, ◌<◌, ◌≤◌, ◌++◌, true, false, if◌then◌else◌, List, [], ◌∷◌, length, flat_map, slice_set, Some, None, unwrap_or}
+use Rattle.std.specs.Prelude.{◌≡◌, ℕ, ◌+◌, ◌/◌, ◌^◌, ◌<◌, ◌≤◌, ◌++◌, true, false, if◌then◌else◌, List, [], ◌∷◌, length, flat_map, slice_set, Some, None, unwrap_or}
 use Rattle.ds_word.specs.Word.{word}
 use Rattle.ds_isa.specs.Registers.{Registers, settled}
 use Rattle.ds_procs.specs.declared.process.Standing.TheVariants.{Ready}
@@ -7,8 +7,11 @@ use Rattle.ds_log.specs.declared.line.Line.{Line}
 use Rattle.ds_log.specs.Text.{line_text}
 use Rattle.ds_tlb.specs.declared.entry.Entry.{Entry}
 use Rattle.ds_tlb.specs.Entries.{find}
+use Rattle.ds_tlb.specs.Words.{entry_of}
 use Rattle.ds_cp0.specs.System.{is_user, asid_of}
-use Rattle.ds_grants.specs.Buffer.{BufferHolds}
+use Rattle.ds_tables.specs.Tables.{entry_word}
+use Rattle.ds_grants.specs.Buffer.{hi_of}
+use Rattle.ds_grants.specs.Represented.{IsRepresented}
 use Rattle.ds_grants.specs.Sound.{NamesPages}
 use Rattle.ds_core.specs.declared.event.Event.{Event}
 use Rattle.ds_core.specs.declared.event.Event.TheVariants.{Retired, Branched, Raised}
@@ -102,7 +105,7 @@ pub record Serves (f : State → State) (old : Kept) (before : List ℕ) (new : 
 pub record EndsBy (f : State → State) (old new : Held) : Type 0 where
   pub serves : Serves f (seated old.core old.kept) old.bus.memory new.kept new.bus.memory
   pub enters : EntersBy new.kept.state.ready new.core new.kept
-  pub buffer : BufferHolds new.core.entries (space_of new.kept) new.kept.grants
+  pub represented : IsRepresented new.core.entries new.bus.memory new.kept.tables (space_of new.kept) new.kept.grants
   pub grants : NamesPages new.kept.grants
   pub size : length new.bus.memory ≡ length old.bus.memory
   pub devices : AreResting new.bus new.kept
@@ -120,6 +123,11 @@ touched_registers r pc = record (settled r) { general = slice_set (slice_set r.g
 -- the buffer with an entry in the place of what its address space has for its page, or where Random tells
 abbrev pub refilled : CoreState → Entry → List Entry
 refilled c e = slice_set c.entries (unwrap_or (find c.entries e.vpn e.asid) c.random) e
+
+-- the entry of the page that was refused: it has the page-table word of a process as it stands in memory
+abbrev pub asked_entry : Held → ℕ → Entry
+asked_entry h p =
+    entry_of (hi_of (h.core.system.bad_vaddr / 2 ^ 12) 1) (entry_word h.bus.memory h.kept.tables p h.core.system.bad_vaddr)
 
 -- the buffer is refilled, and the unit begins again with registers 26 and 27 lost
 abbrev pub with_refill : Held → Entry → Held

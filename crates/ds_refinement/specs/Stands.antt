@@ -9,7 +9,7 @@ use Rattle.ds_policy.specs.Pages.{decide}
 use Rattle.ds_log.specs.Text.{line_text}
 use Rattle.ds_grants.specs.State.{page_state}
 use Rattle.ds_grants.specs.Sound.{NamesPages}
-use Rattle.ds_grants.specs.Buffer.{BufferHolds}
+use Rattle.ds_grants.specs.Represented.{IsRepresented}
 use Rattle.ds_cp0.specs.System.{asid_of, is_user, pushed}
 use Rattle.ds_dev.specs.Serial.{serial_at_start}
 use Rattle.ds_dev.specs.Bus.{BusState}
@@ -127,7 +127,7 @@ pub record AreResting (b : BusState) (k : Kept) : Type 0 where
 
 -- the station stands for the machine state m
 pub record Stands (h : Held) (m : State) : Type 0 where
-  pub buffer : BufferHolds h.core.entries (space_of h.kept) h.kept.grants
+  pub represented : IsRepresented h.core.entries h.bus.memory h.kept.tables (space_of h.kept) h.kept.grants
   pub grants : NamesPages h.kept.grants
   pub size : length h.bus.memory ≡ 2 ^ 23
   pub kept : KeptIs h.kept.state.ready h.kept h.bus.memory m

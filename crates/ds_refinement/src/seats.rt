@@ -1,7 +1,7 @@
 //! The running process and its seat among those that are kept.
 ghost use Rattle.std.specs.Prelude.{◌≡◌, ℕ, ◌^◌, ◌∷◌, true, List, length};
 ghost use Rattle.ds_grants.specs.Sound.{NamesPages};
-ghost use Rattle.ds_grants.specs.Buffer.{BufferHolds};
+ghost use Rattle.ds_grants.specs.Represented.{IsRepresented};
 ghost use Rattle.ds_pagemap.specs.Machine.{State, process_of, with_process, touched};
 ghost use Rattle.ds_pagemap_laws.specs.Settled.{all_settled};
 ghost use Rattle.ds_refinement.specs.Held.{Held, Kept, whole, space_of};
@@ -22,7 +22,8 @@ pub fn the_runner_leaves()
 /// Where all is kept, the first ready process comes on the processor, touched.
 pub fn the_first_comes_in()
     ensures { (h : Held) (m : State) → IsKept h.kept h.bus.memory m
-        → BufferHolds h.core.entries (space_of h.kept) h.kept.grants → NamesPages h.kept.grants
+        → IsRepresented h.core.entries h.bus.memory h.kept.tables (space_of h.kept) h.kept.grants
+        → NamesPages h.kept.grants
         → length h.bus.memory ≡ 2 ^ 23 → AreResting h.bus h.kept
         → EntersBy h.kept.state.ready h.core h.kept → Stands h (touched true m) }
 {}
