@@ -42,8 +42,8 @@ grants_obey Z n c k g t x y (Ok done) meant is b does kept = record {
   count = omega arith;
 }
 grants_obey Z n c k g t x y (Err fault) meant is b does kept = (
-  ap₂ (λ (h : GrantsState) (u : Places). record k { grants = h; tables = u }) kept.0 kept.1.1.0,
-  kept.1.0,
+  ap₂ (λ (h : GrantsState) (u : Places). record k { grants = h; tables = u }) kept.0 kept.2,
+  kept.1,
   λ log. is log ∙ ap (or_logged (whole k x log) n) does.0,
 )
 
