@@ -18,7 +18,7 @@ returns-clause-first g c =
     let policy = c.args.policy.now in
     let images = c.args.images.now in
     ap (λ (m : Monitor). kept_of m) c.look_ahead.ensures
-    ∙ (begins policy images c.args.events _ _ _ _ _ _ _ _ _ c.new.new.tables
+    ∙ (begins policy images c.args.events _ _ _ _ _ _ _ _ _ _
     (c.in_ok-seats.ensures ∙ ap (map first_process) c.processes.ensures.all)
     (c.all_ready.ensures ∙ ap (λ (ps : List PolicyProcess). numbers (length ps) 1) c.processes-3.ensures.all)
     c.in_ok-queues.ensures c.new-2.ensures c.new-3.ensures.items c.rate.ensures.all (ap (λ (i : InputValue). i.commands) c.new-4.ensures) (ap (λ (i : InputValue). i.characters) c.new-4.ensures) c.in_ok-grants.ensures.state
