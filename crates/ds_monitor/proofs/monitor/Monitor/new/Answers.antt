@@ -2,6 +2,7 @@ use Rattle.std.proofs.Common.{◌∙◌, sym, ap, subst, length, map, List}
 use Rattle.ds_policy.specs.declared.policy.PolicyProcess.{PolicyProcess}
 use Rattle.ds_policy.specs.Value.{InputValue}
 use Rattle.ds_grants.specs.State.{GrantsState, pages_in}
+use Rattle.ds_grants.specs.Represented.{IsRepresented}
 use Rattle.ds_pagemap.specs.First.{first_process, first_state, numbers}
 use Rattle.ds_refinement.specs.Held.{Kept}
 use Rattle.ds_refinement.specs.First.{first_kept}
@@ -41,3 +42,8 @@ returns-clause-orderly g c =
 pub returns-clause-next : goal.returns-clause-next
 returns-clause-next g c =
     ap (λ (m : Monitor). m.quiet_until) c.look_ahead.ensures ∙ sym (ap (λ (m : Monitor). next_due (kept_of m)) c.look_ahead.ensures)
+
+pub returns-clause-represented : goal.returns-clause-represented
+returns-clause-represented g c = λ few empty numbers.
+    subst (λ (m : Monitor). IsRepresented (g.L.Lookaside.entries c.new.new.tlb) c.new.new.memory m.tables numbers m.grants) (sym c.look_ahead.ensures)
+    (c.in_ok-grants.ensures.represented few empty numbers)
