@@ -3,8 +3,6 @@ use Rattle.std.proofs.Common.{◌≡◌, inl, inr, ℕ, ◌+◌, ◌-◌, ◌*�
 use Rattle.std.specs.Prelude.{IsSome, ◌==◌, ◌&&◌, ◌||◌}
 use Rattle.ds_word.specs.Word.{truth, bits}
 use Rattle.ds_tlb.specs.declared.entry.Entry.{Entry}
-use Rattle.ds_tlb.specs.Words.{entry_of}
-use Rattle.ds_tables.specs.Tables.{entry_word}
 use Rattle.ds_isa.specs.declared.instr.Kind.{Kind}
 use Rattle.ds_isa.specs.declared.instr.Kind.TheVariants.{Fetch, Load, Store}
 use Rattle.ds_isa.specs.Access.{is_aligned}
@@ -22,7 +20,6 @@ use Rattle.ds_policy.specs.declared.grant.Grant.{Grant}
 use Rattle.ds_policy.specs.Pages.{Table, decide, entry_at, page_address, address_code, miss_code, allowed_on, by_right, by_entry}
 use Rattle.ds_policy.specs.Grants.{PageState}
 use Rattle.ds_grants.specs.State.{page_state}
-use Rattle.ds_grants.specs.Buffer.{hi_of}
 use Rattle.ds_core.specs.Core.{CoreState}
 use Rattle.ds_pagemap.specs.Machine.{State}
 use Rattle.ds_pagemap.specs.Unit.{Stop, denied_as, fault}
@@ -33,7 +30,7 @@ use Rattle.ds_refinement.specs.Held.{Held, Kept}
 use Rattle.ds_refinement.specs.Told.{told, is_delayed, own_in}
 use Rattle.ds_refinement.specs.Stands.{Stands, IsSound, InService, OnProcessor, RunningBy, RunningIs, ends_in_stop, ends_in_call, user_status}
 use Rattle.ds_refinement.specs.Ends.{EndsInStop, EndsInCall}
-use Rattle.ds_refinement.specs.Services.{EntersBy, with_refill, with_none_spent}
+use Rattle.ds_refinement.specs.Services.{EntersBy, asked_entry, with_refill, with_none_spent}
 use Rattle.ds_refinement.specs.Steps.{Follows, Moves, is_in_kernel, ticks_of}
 use Rattle.ds_refinement.specs.Real.{IsReal, EndsUnit, StopsBy, is_served}
 use Rattle.ds_refinement.proofs.Ending.{denied_ends, fault_ends, slot_ends, call_ends}
@@ -51,10 +48,6 @@ use Rattle.ds_monitor.specs.Kept.{kept_of}
 use Rattle.ds_kernel.specs.Good.{IsRate, IsOrderly, IsGood, IsBusy}
 use Rattle.ds_kernel.specs.Ended.{HasEnded, Does}
 use Rattle.ds_kernel.proofs.Keeping.{first_rest}
-
--- the entry of a process's page-table word of the address that was refused
-abbrev pub fill : Held → ℕ → Entry
-fill h p = entry_of (hi_of (h.core.system.bad_vaddr / 2 ^ 12) 1) (entry_word h.bus.memory h.kept.tables p h.core.system.bad_vaddr)
 
 -- A service of the first ready process.
 module _ (h : Held) (p : ℕ) (rest : List ℕ) (sound : IsSound h) (ready : h.kept.state.ready ≡ p ∷ rest) (kernel : is_user h.core.system ≡ false) where
@@ -114,12 +107,12 @@ module _ (h : Held) (p : ℕ) (rest : List ℕ) (sound : IsSound h) (ready : h.k
   pub refill_does : (access : Access) (page offset : ℕ) → h.kept.state.owed ≡ None → h.own.spent ≤ 64 → h.core.random < length h.core.entries
       → told h.core.system (page_state h.kept.grants h.bus.memory) p ≡ cause.Access access
       → decide h.kept.grants.table p access.kind access.size h.core.system.bad_vaddr ≡ Allowed page offset
-      → Does Inside h (with_refill h (fill h p))
+      → Does Inside h (with_refill h (asked_entry h p))
   refill_does access page offset owed few room is decides =
       let there = in_machine access.kind access.size page offset decides in
-      let new : Held = with_refill h (fill h p) in record {
+      let new : Held = with_refill h (asked_entry h p) in record {
         follows = record { follows = λ m k. refill_comes h m p rest access.kind access.size page offset k ready kernel (there m k) };
-        moves = refill_moves (fill h p) owed few;
+        moves = refill_moves (asked_entry h p) owed few;
         real = back_real h new p rest access page offset ready served_here is decides
             (refill_goes_back h sound.state p rest access.kind access.size page offset sound.stands ready kernel (there sound.state sound.stands) room) refl;
       }
@@ -215,7 +208,7 @@ module _ {L : Type 0} (p : ℕ) (old new : Parts L) (busy : IsBusy p old) (kerne
   -- a refill with the page-table word of the address
   pub refill_step : (access : Access) (page offset : ℕ) → old.core.random < length old.core.entries → tells (cause.Access access)
       → decide old.monitor.grants.table p access.kind access.size old.core.system.bad_vaddr ≡ Allowed page offset
-      → held new ≡ with_refill (held old) (fill (held old) p)
+      → held new ≡ with_refill (held old) (asked_entry (held old) p)
       → Does Inside (held old) (held new)
   refill_step access page offset room asked decides is =
       let r = first_rest old.monitor.ready p busy.first in

@@ -3,10 +3,11 @@ use Rattle.ds_policy.specs.declared.access.Verdict.TheVariants.{Allowed, Denied}
 use Rattle.ds_policy.specs.Pages.{decide}
 use Rattle.ds_pagemap.specs.Unit.{denied_as}
 use Rattle.ds_refinement.specs.declared.step.Step.{Step}
+use Rattle.ds_refinement.specs.Services.{asked_entry}
 use Rattle.ds_kernel.specs.declared.parts.Parts.{Parts}
 use Rattle.ds_kernel.specs.Parts.{held}
 use Rattle.ds_kernel.specs.Ended.{Does}
-use Rattle.ds_kernel.proofs.Doing.{verdict_is, denied_small, stopped_as, denied_step, fill, refill_step, refill_good, ended_good}
+use Rattle.ds_kernel.proofs.Doing.{verdict_is, denied_small, stopped_as, denied_step, refill_step, refill_good, ended_good}
 use Rattle.ds_kernel.proofs.parts.Parts.miss.Goals as goal
 
 pub stop-requires-clause-code : goal.stop-requires-clause-code
@@ -27,7 +28,7 @@ returns-in-Allowed-clause-does g c =
 pub returns-in-Allowed-clause-good : goal.returns-in-Allowed-clause-good
 returns-in-Allowed-clause-good g c =
     let old = c.args.self.now in
-    refill_good c.args.process old c.refill.new.self c.requires.busy c.requires.kernel (fill (held old) c.args.process) c.refill.ensures.held
+    refill_good c.args.process old c.refill.new.self c.requires.busy c.requires.kernel (asked_entry (held old) c.args.process) c.refill.ensures.held
     (ap (λ (x : Parts g.row.L.Denot). x.monitor) c.refill.ensures.rest) (returns-in-Allowed-clause-does g c)
 
 pub returns-in-Denied-clause-does : goal.returns-in-Denied-clause-does
