@@ -67,7 +67,7 @@ module _ {L : Type 0} (old came served new : Parts L) (ahead : Monitor) (turn : 
       monitor = record old.monitor { ticked = old.monitor.time; due = record old.monitor.due { characters = to_come (kept_of old.monitor).state } };
     })
     (serves : Serves (ruled came.monitor.time (map typed came.bus.serial.silo) came.bus.clock.flagged (runner_of came.monitor.owed)) (unowed (seated came.core (kept_of came.monitor))) came.bus.memory (kept_of served.monitor) served.bus.memory)
-    (orderly : monitor.IsOrderly (kept_of served.monitor)) (count : served.monitor.lines + length served.monitor.due.commands ≤ came.monitor.lines + length came.monitor.due.commands) (reads : served.bus ≡ record (read_out came.bus) { memory = served.bus.memory }) (low : IsLow came.bus.memory served.bus.memory)
+    (orderly : monitor.IsOrderly (kept_of served.monitor)) (count : served.monitor.lines + length served.monitor.due.commands ≤ came.monitor.lines + length came.monitor.due.commands) (reads : served.bus ≡ record (read_out came.bus) { memory = served.bus.memory }) (below : IsLow came.bus.memory served.bus.memory)
     (keeps : Keeps one_space came.core.entries came.bus.memory came.monitor.tables came.monitor.grants served.core.entries served.bus.memory served.monitor.tables served.monitor.grants)
     (still : served.core.random ≡ came.core.random)
     (rest : served ≡ record came {
@@ -88,7 +88,7 @@ module _ {L : Type 0} (old came served new : Parts L) (ahead : Monitor) (turn : 
     (looks : ahead ≡ record served.monitor { quiet_until = next_due (kept_of served.monitor) })
     (enters : EntersBy new.monitor.ready new.core (kept_of new.monitor))
     (represented : IsRepresented served.core.entries served.bus.memory ahead.tables (space_of (kept_of ahead)) ahead.grants
-        → IsRepresented new.core.entries new.bus.memory new.monitor.tables (space_of (kept_of new.monitor)) new.monitor.grants)
+    → IsRepresented new.core.entries new.bus.memory new.monitor.tables (space_of (kept_of new.monitor)) new.monitor.grants)
     (pages : NamesPages ahead.grants) (random : new.core.random ≡ served.core.random)
     (ends : new ≡ record (record served { monitor = ahead }) { core = new.core; monitor = record ahead { owner = new.monitor.owner }; spent = 0 }) where
   abbrev k : Kept
@@ -243,7 +243,7 @@ module _ {L : Type 0} (old came served new : Parts L) (ahead : Monitor) (turn : 
     enters = enters;
     represented = represented (subst (λ (m : Monitor). IsRepresented served.core.entries served.bus.memory m.tables (space_of (kept_of m)) m.grants) (sym ahead_is) held_between);
     grants = subst NamesPages (sym (ap (λ (m : Monitor). m.grants) monitor_is)) pages;
-    size = ap (λ (x : BusState). length x.memory) bus_then ∙ (low.0 ∙ ap (λ (x : List ℕ). length x) memory);
+    size = ap (λ (x : BusState). length x.memory) bus_then ∙ (below.0 ∙ ap (λ (x : List ℕ). length x) memory);
     devices = subst (λ (x : BusState). AreResting x (kept_of new.monitor)) (sym bus)
         (memory_rests (read_out (bus_at b k)) served.bus.memory (kept_of new.monitor)
         (rest_again b k resting (kept_of new.monitor) (ap (λ (m : Monitor). m.rate) all) (ap (λ (m : Monitor). m.ticked) all) (ap (λ (m : Monitor). m.time) all) none_owed before));

@@ -43,9 +43,7 @@ fn outcome<L: Lookaside>(
 ) -> Result<Option<String>, AllocError> {
     let came = replay.call(call);
     if let Some(address) = wrong_word(replay, call) {
-        return Ok(Some(
-            format!(in alloc; "another word for {address:08x}")?,
-        ));
+        return Ok(Some(format!(in alloc; "another word for {address:08x}")?));
     }
     match came {
         Some(Ok(())) => said(alloc, "ok"),

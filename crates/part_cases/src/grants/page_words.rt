@@ -63,16 +63,24 @@ fn changed(call: Call) -> (u32, Option<u32>) {
     match call {
         Call::Give { receiver, to, .. } => (receiver, Some(to >> 22)),
         Call::Grant {
-            process, address, ..
+            process,
+            address,
+            ..
         }
         | Call::Take {
-            process, address, ..
+            process,
+            address,
+            ..
         }
         | Call::Drop {
-            process, address, ..
+            process,
+            address,
+            ..
         }
         | Call::Revoke {
-            process, address, ..
+            process,
+            address,
+            ..
         }
         | Call::Narrow { process, address } => (process, Some(address >> 22)),
         Call::End { process } => (process, None),

@@ -91,7 +91,10 @@ impl<L: Lookaside> Replay<L> {
                 caller,
                 process,
                 address,
-            } => Some(self.grants.take(caller, process, address, memory, tables, buffer)),
+            } => Some(
+                self.grants
+                    .take(caller, process, address, memory, tables, buffer),
+            ),
             Call::Drop {
                 process,
                 address,
@@ -101,7 +104,10 @@ impl<L: Lookaside> Replay<L> {
                 process,
                 address,
                 rule,
-            } => Some(self.grants.revoke(process, address, rule, memory, tables, buffer)),
+            } => Some(
+                self.grants
+                    .revoke(process, address, rule, memory, tables, buffer),
+            ),
             Call::Narrow { process, address } => {
                 Some(self.grants.narrow(process, address, memory, tables, buffer))
             }
@@ -122,10 +128,7 @@ impl<L: Lookaside> Replay<L> {
             return None;
         }
         let (memory, tables, buffer) = (&mut self.memory, &mut self.tables, &mut self.buffer);
-        Some(
-            self.grants
-                .give(caller, address, receiver, to, mode, memory, tables, buffer),
-        )
+        Some(self.grants.give(caller, address, receiver, to, mode, memory, tables, buffer))
     }
 
     /// The operator grants a page that has a name.
@@ -143,8 +146,9 @@ impl<L: Lookaside> Replay<L> {
         }
         let (memory, tables, buffer) = (&mut self.memory, &mut self.tables, &mut self.buffer);
         Some(
-            self.grants
-                .grant(process, address, page, right, give, rule, memory, tables, buffer),
+            self.grants.grant(
+                process, address, page, right, give, rule, memory, tables, buffer,
+            ),
         )
     }
 
@@ -170,8 +174,12 @@ impl<L: Lookaside> Replay<L> {
         if !self.is_within(process) {
             return None;
         }
-        self.grants
-            .end_process(process, &mut self.memory, &mut self.tables, &mut self.buffer);
+        self.grants.end_process(
+            process,
+            &mut self.memory,
+            &mut self.tables,
+            &mut self.buffer,
+        );
         Some(Ok(()))
     }
 
