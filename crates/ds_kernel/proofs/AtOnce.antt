@@ -15,6 +15,7 @@ use Rattle.ds_policy.specs.InputFacts.{has_time, comes_at}
 use Rattle.ds_policy.specs.Grants.{PageState}
 use Rattle.ds_log.specs.declared.line.Line.{Line}
 use Rattle.ds_grants.specs.State.{page_state}
+use Rattle.ds_grants.specs.Represented.{IsRepresented}
 use Rattle.ds_pagemap.specs.declared.turn.Turn.{Turn}
 use Rattle.ds_pagemap.specs.Machine.{State, Process, no_process, process_of, with_process, first}
 use Rattle.ds_pagemap.specs.Unit.{at_pc}
@@ -27,7 +28,7 @@ use Rattle.ds_pagemap_laws.proofs.Asleep.{taken_asleep}
 use Rattle.ds_refinement.specs.declared.step.Step.TheVariants.{Unit, Boundary}
 use Rattle.ds_refinement.specs.declared.cause.Cause.TheVariants as cause
 use Rattle.ds_refinement.specs.Told.{told, code_in, is_delayed}
-use Rattle.ds_refinement.specs.Held.{Held, Kept, vacated, whole}
+use Rattle.ds_refinement.specs.Held.{Held, Kept, vacated, whole, space_of}
 use Rattle.ds_refinement.specs.Stands.{Stands, IsSound, AreResting, RunningIs, RunningBy, ends_in_call}
 use Rattle.ds_refinement.specs.Services.{IsBare, Serves, seated, with_first_seated, with_boundary, with_none_spent}
 use Rattle.ds_refinement.specs.Ends.{EndsInCall}
@@ -184,7 +185,7 @@ module _ (h : Held) (p : ℕ) (rest : List ℕ) (asked : Call) (answer : ℕ) (q
   ends = record {
     serves = serves;
     enters = entering s.ready p h.core in_seat.core in_seat.kept (ap first ready) (seat.0, (seat_kept later p behind seat).1, ap (λ (x : Process). x.standing) there ∙ standing) runs.owner (ap (on_processor h.core) (sym there));
-    buffer = sound.stands.buffer;
+    represented = subst (λ (x : List ℕ). IsRepresented h.core.entries x h.kept.tables (space_of h.kept) h.kept.grants) (sym by.memory) sound.stands.represented;
     grants = sound.stands.grants;
     size = ap (λ (x : List ℕ). length x) by.memory;
     devices = by.rests in_seat.kept (resting h.bus h.kept in_seat.kept (Some p) unowed refl refl refl sound.stands.devices);
@@ -211,7 +212,7 @@ module _ (h : Held) (p : ℕ) (rest : List ℕ) (asked : Call) (answer : ℕ) (q
 
   unseated : (m : State) → Stands in_seat m → Stands owing m
   unseated m k = record {
-    buffer = k.buffer;
+    represented = k.represented;
     grants = k.grants;
     size = k.size;
     kept = record { ready = k.kept.ready; state = k.kept.state ∙ vacant; pages = k.kept.pages; log = k.kept.log; lines = k.kept.lines };

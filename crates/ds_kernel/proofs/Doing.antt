@@ -20,7 +20,6 @@ use Rattle.ds_policy.specs.declared.grant.Grant.{Grant}
 use Rattle.ds_policy.specs.Pages.{Table, decide, entry_at, page_address, address_code, miss_code, allowed_on, by_right, by_entry}
 use Rattle.ds_policy.specs.Grants.{PageState}
 use Rattle.ds_grants.specs.State.{page_state}
-use Rattle.ds_grants.specs.Buffer.{translation}
 use Rattle.ds_core.specs.Core.{CoreState}
 use Rattle.ds_pagemap.specs.Machine.{State}
 use Rattle.ds_pagemap.specs.Unit.{Stop, denied_as, fault}
@@ -31,7 +30,7 @@ use Rattle.ds_refinement.specs.Held.{Held, Kept}
 use Rattle.ds_refinement.specs.Told.{told, is_delayed, own_in}
 use Rattle.ds_refinement.specs.Stands.{Stands, IsSound, InService, OnProcessor, RunningBy, RunningIs, ends_in_stop, ends_in_call, user_status}
 use Rattle.ds_refinement.specs.Ends.{EndsInStop, EndsInCall}
-use Rattle.ds_refinement.specs.Services.{EntersBy, with_refill, with_none_spent}
+use Rattle.ds_refinement.specs.Services.{EntersBy, asked_entry, with_refill, with_none_spent}
 use Rattle.ds_refinement.specs.Steps.{Follows, Moves, is_in_kernel, ticks_of}
 use Rattle.ds_refinement.specs.Real.{IsReal, EndsUnit, StopsBy, is_served}
 use Rattle.ds_refinement.proofs.Ending.{denied_ends, fault_ends, slot_ends, call_ends}
@@ -44,7 +43,6 @@ use Rattle.ds_kernel.proofs.Rooms.{boundary_room_behind}
 use Rattle.ds_monitor.specs.declared.monitor.Monitor.{Monitor}
 use Rattle.ds_kernel.specs.declared.parts.Parts.{Parts}
 use Rattle.ds_kernel.specs.Parts.{held}
-use Rattle.ds_kernel.specs.Refill.{right_of, entry_for}
 use Rattle.ds_monitor.specs.Coming.{next_due}
 use Rattle.ds_monitor.specs.Kept.{kept_of}
 use Rattle.ds_kernel.specs.Good.{IsRate, IsOrderly, IsGood, IsBusy}
@@ -106,17 +104,17 @@ module _ (h : Held) (p : ℕ) (rest : List ℕ) (sound : IsSound h) (ready : h.k
       → (m : State) → Stands h m → decide m.memory.table p access size h.core.system.bad_vaddr ≡ Allowed page offset
   in_machine access size page offset decides m k = ap (λ (s : PageState). decide s.table p access size h.core.system.bad_vaddr) k.kept.pages ∙ decides
 
-  pub refill_does : (access : Access) (page offset : ℕ) (grant : Grant) → h.kept.state.owed ≡ None → h.own.spent ≤ 64 → h.core.random < length h.core.entries
+  pub refill_does : (access : Access) (page offset : ℕ) → h.kept.state.owed ≡ None → h.own.spent ≤ 64 → h.core.random < length h.core.entries
       → told h.core.system (page_state h.kept.grants h.bus.memory) p ≡ cause.Access access
-      → decide h.kept.grants.table p access.kind access.size h.core.system.bad_vaddr ≡ Allowed page offset → entry_at h.kept.grants.table p (page_address h.core.system.bad_vaddr) ≡ Some grant
-      → Does Inside h (with_refill h (translation h.kept.grants (h.core.system.bad_vaddr / 2 ^ 12) page grant.right))
-  refill_does access page offset grant owed few room is decides granted =
+      → decide h.kept.grants.table p access.kind access.size h.core.system.bad_vaddr ≡ Allowed page offset
+      → Does Inside h (with_refill h (asked_entry h p))
+  refill_does access page offset owed few room is decides =
       let there = in_machine access.kind access.size page offset decides in
-      let new : Held = with_refill h (translation h.kept.grants (h.core.system.bad_vaddr / 2 ^ 12) page grant.right) in record {
-        follows = record { follows = λ m k. refill_comes h m p rest access.kind access.size page offset grant k ready kernel (there m k) granted };
-        moves = refill_moves (translation h.kept.grants (h.core.system.bad_vaddr / 2 ^ 12) page grant.right) owed few;
+      let new : Held = with_refill h (asked_entry h p) in record {
+        follows = record { follows = λ m k. refill_comes h m p rest access.kind access.size page offset k ready kernel (there m k) };
+        moves = refill_moves (asked_entry h p) owed few;
         real = back_real h new p rest access page offset ready served_here is decides
-            (refill_goes_back h sound.state p rest access.kind access.size page offset grant sound.stands ready kernel (there sound.state sound.stands) granted room) refl;
+            (refill_goes_back h sound.state p rest access.kind access.size page offset sound.stands ready kernel (there sound.state sound.stands) room) refl;
       }
 
 -- The marks after a service.
@@ -207,17 +205,15 @@ module _ {L : Type 0} (p : ℕ) (old new : Parts L) (busy : IsBusy p old) (kerne
       let r = first_rest old.monitor.ready p busy.first in
       call_does (held old) p r.0 busy.good.sound r.1 kernel (held new) unowed is outside ended.own ended.random ended.ends
 
-  -- a refill, by the right of the entry there
-  pub refill_step : (access : Access) (page offset : ℕ) (grant : Grant) → old.core.random < length old.core.entries → tells (cause.Access access)
-      → decide old.monitor.grants.table p access.kind access.size old.core.system.bad_vaddr ≡ Allowed page offset → entry_at old.monitor.grants.table p (page_address old.core.system.bad_vaddr) ≡ Some grant
-      → held new ≡ with_refill (held old) (entry_for old.monitor.grants p old.core.system.bad_vaddr page)
+  -- a refill with the page-table word of the address
+  pub refill_step : (access : Access) (page offset : ℕ) → old.core.random < length old.core.entries → tells (cause.Access access)
+      → decide old.monitor.grants.table p access.kind access.size old.core.system.bad_vaddr ≡ Allowed page offset
+      → held new ≡ with_refill (held old) (asked_entry (held old) p)
       → Does Inside (held old) (held new)
-  refill_step access page offset grant room asked decides granted is =
+  refill_step access page offset room asked decides is =
       let r = first_rest old.monitor.ready p busy.first in
-      let same : entry_for old.monitor.grants p old.core.system.bad_vaddr page ≡ translation old.monitor.grants (old.core.system.bad_vaddr / 2 ^ 12) page grant.right =
-      ap (λ (o : Option Grant). translation old.monitor.grants (old.core.system.bad_vaddr / 2 ^ 12) page (right_of o)) granted in
-      subst (λ (x : Held). Does Inside (held old) x) (sym (is ∙ ap (λ (e : Entry). with_refill (held old) e) same))
-      (refill_does (held old) p r.0 busy.good.sound r.1 kernel access page offset grant unowed busy.good.orderly.spent room asked decides granted)
+      subst (λ (x : Held). Does Inside (held old) x) (sym is)
+      (refill_does (held old) p r.0 busy.good.sound r.1 kernel access page offset unowed busy.good.orderly.spent room asked decides)
 
   pub refill_good : (e : Entry) → held new ≡ with_refill (held old) e → new.monitor ≡ old.monitor → Does Inside (held old) (held new) → IsGood new
   refill_good e is monitor does =

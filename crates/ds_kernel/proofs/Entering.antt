@@ -1,11 +1,13 @@
 -- Who comes on the processor, and the buffer after a flush.
-use Rattle.std.proofs.Common.{◌≡◌, ℕ, ◌==◌, cond, List, [], ◌∷◌, Some, refl, sym, ap, subst}
+use Rattle.std.proofs.Common.{◌≡◌, ℕ, ◌==◌, ◌≤◌, cond, List, [], ◌∷◌, length, Some, refl, sym, ap, subst}
 use Rattle.std.proofs.lemmas.Bool.{eq-eqb}
 use Rattle.ds_tlb.specs.declared.entry.Entry.{Entry}
 use Rattle.ds_tlb.specs.Entries.{empty_entries}
 use Rattle.ds_core.specs.Core.{CoreState}
 use Rattle.ds_grants.specs.State.{GrantsState}
+use Rattle.ds_tables.specs.Places.{Places}
 use Rattle.ds_grants.specs.Buffer.{BufferHolds}
+use Rattle.ds_grants.specs.Represented.{IsRepresented}
 use Rattle.ds_grants.proofs.Fills.{empty_buffer}
 use Rattle.ds_pagemap.specs.Machine.{process_of, first}
 use Rattle.ds_pagemap_laws.specs.Lawful.{IsReady}
@@ -13,9 +15,15 @@ use Rattle.ds_refinement.specs.Held.{Kept}
 use Rattle.ds_refinement.specs.Services.{Enters, EntersBy}
 use Rattle.ds_kernel.specs.Seats.{on_processor}
 
--- a buffer that was flushed holds
-pub flushed : {es : List Entry} (slots : ℕ) {numbers : ℕ → ℕ} {g : GrantsState} → es ≡ empty_entries slots → BufferHolds es numbers g
-flushed slots {numbers = numbers} {g = g} e = subst (λ (x : List Entry). BufferHolds x numbers g) (sym e) (empty_buffer slots numbers g)
+-- after a flush all is represented, whoever has which number
+pub flushed : {old new : List Entry} (slots : ℕ) {numbers others : ℕ → ℕ} {memory : List ℕ} {t : Places} {g : GrantsState} → length old ≡ slots → new ≡ empty_entries slots
+    → IsRepresented old memory t numbers g → IsRepresented new memory t others g
+flushed slots {others = others} {t = t} {g = g} long e r = record {
+  buffer = subst (λ (x : List Entry). BufferHolds x others g t) (sym e) (empty_buffer slots others g t (subst (λ (n : ℕ). n ≤ 64) long r.buffer.few));
+  words = r.words;
+  places = r.places;
+  empty = r.empty;
+}
 
 -- a ready process that is put on the processor, whose the address space is
 entering_one : (p : ℕ) (before c : CoreState) (k : Kept) → IsReady k.state p → k.owner ≡ p → c ≡ on_processor before (process_of k.state p) → Enters p (process_of k.state p) c k

@@ -45,8 +45,6 @@ allowed_tests true false (Some grant) access o page offset is = let r = allowed_
 
 -- the page and the offset of an access that the table allows
 pub record IsOnPage (g : GrantsState) (p : ℕ) (address page offset : ℕ) : Type 0 where
-  pub grant : Grant
-  pub granted : entry_at g.table p (page_address address) ≡ Some grant
   pub lives : is_live g page ≡ true
   pub low : page < g.frames
   pub few : g.frames ≤ 1024
@@ -55,8 +53,6 @@ pub record IsOnPage (g : GrantsState) (p : ℕ) (address page offset : ℕ) : Ty
 pub allowed_page : (g : GrantsState) (p : ℕ) (access : Kind) (size : Size) (address page offset : ℕ) → NamesPages g → decide g.table p access size address ≡ Allowed page offset → IsOnPage g p address page offset
 allowed_page g p access size address page offset names is =
     let r = allowed_tests (is_aligned size address) (nat_le (2 ^ 31) address) (entry_at g.table p (page_address address)) access (address % 4096) page offset is in record {
-      grant = r.0;
-      granted = r.1;
       lives = named_page_lives g p (page_address address) page r.0 r.1 r.2;
       low = names.named p (page_address address) page r.0 r.1 r.2;
       few = names.frames;

@@ -4,8 +4,8 @@ use Rattle.ds_tlb.specs.declared.entry.Entry.{Entry}
 use Rattle.ds_dev.specs.Serial.{SerialState}
 use Rattle.ds_dev.specs.Clock.{ClockState}
 use Rattle.ds_dev.specs.Bus.{BusState}
-use Rattle.ds_grants.specs.State.{GrantsState}
-use Rattle.ds_grants.specs.Buffer.{BufferHolds, KeepsBuffer, IsOneSpace}
+use Rattle.ds_grants.specs.Buffer.{one_space}
+use Rattle.ds_grants.specs.Represented.{IsRepresented, Keeps}
 use Rattle.ds_grants.specs.Sound.{NamesPages}
 use Rattle.ds_pagemap.specs.declared.turn.Turn.{Turn}
 use Rattle.ds_pagemap.specs.Boundary.{has_passed}
@@ -26,6 +26,7 @@ use Rattle.ds_procs.specs.declared.call.Call.TheVariants as call
 use Rattle.ds_kernel.specs.declared.parts.Parts.{Parts}
 use Rattle.ds_kernel.specs.Parts.{held}
 use Rattle.ds_kernel.specs.Ended.{HasEnded}
+use Rattle.ds_refinement.proofs.Spaces.{space_apart, space_known}
 use Rattle.ds_kernel.proofs.Keeping.{lawful_elsewhere}
 
 -- whoever has the address space, the service is the same
@@ -35,14 +36,6 @@ owner_unseen f a k x y owner s = record { lines = s.lines; state = s.state; bare
 -- and what is kept is orderly
 pub owner_orderly : (k : Kept) (owner : ℕ) → monitor.IsOrderly k → monitor.IsOrderly (record k { owner = owner })
 owner_orderly k owner it = record { lawful = lawful_elsewhere k [] [] [] [] it.lawful; ended = it.ended; commands = it.commands }
-
-at_most_one : (b : Bool) → cond b 1 0 ≤ 1
-at_most_one true = omega arith
-at_most_one false = omega arith
-
--- there is one address space
-pub one_space : (k : Kept) → IsOneSpace (space_of k)
-one_space k process = at_most_one (process == k.owner)
 
 -- the turn of a process that began at a time
 abbrev turn_of : ℕ → ℕ → Option Turn
@@ -106,7 +99,8 @@ module _ {L : Type 0} (f : State → State) (old new : Parts L) (between : Monit
   -- what comes in leaves
   pub record Comes : Type 0 where
     pub enters : EntersBy new.monitor.ready new.core (kept_of new.monitor)
-    pub buffer : BufferHolds entries (space_of (kept_of between)) between.grants → BufferHolds new.core.entries (space_of (kept_of new.monitor)) new.monitor.grants
+    pub represented : IsRepresented entries last between.tables (space_of (kept_of between)) between.grants
+        → IsRepresented new.core.entries new.bus.memory new.monitor.tables (space_of (kept_of new.monitor)) new.monitor.grants
     pub pages : NamesPages between.grants
     pub random : new.core.random ≡ old.core.random
     pub memory : new.bus.memory ≡ last
@@ -119,7 +113,7 @@ module _ {L : Type 0} (f : State → State) (old new : Parts L) (between : Monit
   pub record Served : Type 0 where
     pub serves : Serves f (seated old.core (kept_of old.monitor)) old.bus.memory (kept_of between) last
     pub size : length last ≡ length old.bus.memory
-    pub buffer : KeepsBuffer old.core.entries entries old.monitor.grants between.grants
+    pub keeps : Keeps one_space old.core.entries old.bus.memory old.monitor.tables old.monitor.grants entries last between.tables between.grants
     pub owner : between.owner ≡ old.monitor.owner
     pub rate : between.rate ≡ old.monitor.rate
     pub ticked : between.ticked ≡ old.monitor.ticked
@@ -144,8 +138,8 @@ module _ {L : Type 0} (f : State → State) (old new : Parts L) (between : Monit
           (subst (λ (k : Kept). Serves f (seated old.core (kept_of old.monitor)) old.bus.memory k last) (sym (kept_is b))
           (owner_unseen f (seated old.core (kept_of old.monitor)) (kept_of between) old.bus.memory last new.monitor.owner a.serves));
       enters = b.enters;
-      buffer = b.buffer (subst (λ (s : ℕ → ℕ). BufferHolds entries s between.grants) (same_space a)
-          (a.buffer (space_of (kept_of old.monitor)) (one_space (kept_of old.monitor)) sound.stands.buffer));
+      represented = b.represented (subst (λ (s : ℕ → ℕ). IsRepresented entries last between.tables s between.grants) (same_space a)
+          (a.keeps (space_of (kept_of old.monitor)) (space_apart (kept_of old.monitor)) (space_known (kept_of old.monitor)) sound.stands.represented));
       grants = subst NamesPages (sym (ap (λ (k : Kept). k.grants) (kept_is b))) b.pages;
       size = ap (λ (x : List ℕ). length x) b.memory ∙ a.size;
       devices = b.rests (kept_of new.monitor)
@@ -171,13 +165,14 @@ module _ {L : Type 0} (f : State → State) (old new : Parts L) (between : Monit
 pub comes_in : {L : Type 0} (f : State → State) (old left new : Parts L) (between : Monitor) (entries : List Entry) (memory : List ℕ) (p : ℕ)
     → left ≡ record old { monitor = record old.monitor { seats = left.monitor.seats } }
     → EntersBy new.monitor.ready new.core (kept_of new.monitor)
-    → (BufferHolds entries (space_of (kept_of between)) between.grants → BufferHolds new.core.entries (space_of (kept_of new.monitor)) new.monitor.grants)
+    → (IsRepresented entries memory between.tables (space_of (kept_of between)) between.grants
+    → IsRepresented new.core.entries new.bus.memory new.monitor.tables (space_of (kept_of new.monitor)) new.monitor.grants)
     → NamesPages between.grants → new.core.random ≡ left.core.random → new.bus.memory ≡ memory → ((k : Kept) → AreResting left.bus k → AreResting new.bus k)
     → new.monitor ≡ record between { owner = new.monitor.owner } → new.failed ≡ left.failed → new.spent ≡ 0
     → Comes f old new between entries memory p
-comes_in {L} f old left new between entries memory p leaves enters buffer pages random same rests monitor failed spent = record {
+comes_in {L} f old left new between entries memory p leaves enters represented pages random same rests monitor failed spent = record {
   enters = enters;
-  buffer = buffer;
+  represented = represented;
   pages = pages;
   random = random ∙ ap (λ (x : Parts L). x.core.random) leaves;
   memory = same;
@@ -200,14 +195,13 @@ pub stop_served : {L : Type 0} (old left new : Parts L) (between : Monitor) (p u
 stop_served {L} old left new between p unit pc stop unit_is pc_is above kept leaves orderly room serves lines rest =
     let lines_left : left.monitor.lines ≡ old.monitor.lines = ap (λ (x : Parts L). x.monitor.lines) leaves in
     let time_left : left.monitor.time ≡ old.monitor.time = ap (λ (x : Parts L). x.monitor.time) leaves in
-    let grants : between.grants ≡ old.monitor.grants = ap (λ (m : Monitor). m.grants) rest ∙ ap (λ (x : Parts L). x.monitor.grants) leaves in
-    let entries : left.core.entries ≡ old.core.entries = ap (λ (x : Parts L). x.core.entries) leaves in record {
+    record {
       serves = subst (λ (n : ℕ). Serves (ends_in_stop p n (own_in old.core.system) stop) (seated old.core (kept_of old.monitor)) old.bus.memory (kept_of between) old.bus.memory) unit_is
           (subst (λ (n : ℕ). Serves (ends_in_stop p unit n stop) (seated old.core (kept_of old.monitor)) old.bus.memory (kept_of between) old.bus.memory) pc_is
           (subst (λ (k : Kept). Serves (ends_in_stop p unit pc stop) k old.bus.memory (kept_of between) old.bus.memory) kept (serves old.bus.memory)));
       size = refl;
-      buffer = λ numbers one holds. subst (λ (g : GrantsState). BufferHolds left.core.entries numbers g) (sym grants)
-          (subst (λ (es : List Entry). BufferHolds es numbers old.monitor.grants) (sym entries) holds);
+      keeps = λ numbers apart known holds. subst (λ (m : Monitor). IsRepresented left.core.entries old.bus.memory m.tables numbers m.grants) (sym rest)
+          (subst (λ (x : Parts L). IsRepresented x.core.entries old.bus.memory x.monitor.tables numbers x.monitor.grants) (sym leaves) holds);
       owner = ap (λ (m : Monitor). m.owner) rest ∙ ap (λ (x : Parts L). x.monitor.owner) leaves;
       rate = ap (λ (m : Monitor). m.rate) rest ∙ ap (λ (x : Parts L). x.monitor.rate) leaves;
       ticked = ap (λ (m : Monitor). m.ticked) rest ∙ ap (λ (x : Parts L). x.monitor.ticked) leaves;
@@ -227,21 +221,18 @@ pub call_served : {L : Type 0} (old left new : Parts L) (between : Monitor) (ent
     → left ≡ record old { monitor = record old.monitor { seats = left.monitor.seats } }
     → monitor.IsOrderly (kept_of between) → between.lines ≤ left.monitor.lines + 1 → ((n : ℕ) → HasLogRoom (n + 1) left.monitor → HasLogRoom n between)
     → Serves (ends_in_call p unit) (kept_of left.monitor) left.bus.memory (kept_of between) memory → length memory ≡ length left.bus.memory
-    → KeepsBuffer left.core.entries entries left.monitor.grants between.grants
-    → between ≡ record left.monitor { grants = between.grants; seats = between.seats; ready = between.ready; queues = between.queues; consoles = between.consoles; log = between.log; lines = between.lines; time = between.time; owed = between.owed }
+    → Keeps one_space left.core.entries left.bus.memory left.monitor.tables left.monitor.grants entries memory between.tables between.grants
+    → between ≡ record left.monitor { grants = between.grants; tables = between.tables; seats = between.seats; ready = between.ready; queues = between.queues; consoles = between.consoles; log = between.log; lines = between.lines; time = between.time; owed = between.owed }
     → Served (ends_in_call p old.core.system.epc) old new between entries memory p
-call_served {L} old left new between entries memory p unit unit_is above within kept leaves orderly lines room serves size buffer rest =
+call_served {L} old left new between entries memory p unit unit_is above within kept leaves orderly lines room serves size keeps rest =
     let lines_left : left.monitor.lines ≡ old.monitor.lines = ap (λ (x : Parts L). x.monitor.lines) leaves in
     let time_left : left.monitor.time ≡ old.monitor.time = ap (λ (x : Parts L). x.monitor.time) leaves in
-    let grants : left.monitor.grants ≡ old.monitor.grants = ap (λ (x : Parts L). x.monitor.grants) leaves in
-    let before : left.core.entries ≡ old.core.entries = ap (λ (x : Parts L). x.core.entries) leaves in
     let held : left.bus.memory ≡ old.bus.memory = ap (λ (x : Parts L). x.bus.memory) leaves in record {
       serves = subst (λ (n : ℕ). Serves (ends_in_call p n) (seated old.core (kept_of old.monitor)) old.bus.memory (kept_of between) memory) unit_is
           (subst (λ (m : List ℕ). Serves (ends_in_call p unit) (seated old.core (kept_of old.monitor)) m (kept_of between) memory) held
           (subst (λ (k : Kept). Serves (ends_in_call p unit) k left.bus.memory (kept_of between) memory) kept serves));
       size = size ∙ ap (λ (x : List ℕ). length x) held;
-      buffer = subst (λ (es : List Entry). KeepsBuffer es entries old.monitor.grants between.grants) before
-          (subst (λ (g : GrantsState). KeepsBuffer left.core.entries entries g between.grants) grants buffer);
+      keeps = subst (λ (x : Parts L). Keeps one_space x.core.entries x.bus.memory x.monitor.tables x.monitor.grants entries memory between.tables between.grants) leaves keeps;
       owner = ap (λ (m : Monitor). m.owner) rest ∙ ap (λ (x : Parts L). x.monitor.owner) leaves;
       rate = ap (λ (m : Monitor). m.rate) rest ∙ ap (λ (x : Parts L). x.monitor.rate) leaves;
       ticked = ap (λ (m : Monitor). m.ticked) rest ∙ ap (λ (x : Parts L). x.monitor.ticked) leaves;

@@ -1,10 +1,10 @@
 -- A run of a station, by blocks of instructions and by steps.
-use Rattle.std.proofs.Common.{◌≡◌, ℕ, ◌+◌, ◌-◌, ◌*◌, ◌<◌, ◌≤◌, Bool, true, false, cond, [], Option, Some, None, refl, sym, ap, subst, ◌∙◌, arith, inr, zero, suc}
+use Rattle.std.proofs.Common.{◌≡◌, ℕ, ◌+◌, ◌-◌, ◌*◌, ◌<◌, ◌≤◌, Bool, true, false, cond, List, [], ◌∷◌, Option, Some, None, refl, sym, ap, subst, ◌∙◌, arith, inr, zero, suc}
 use Rattle.std.proofs.lemmas.Bool.Decides.{nat_tests}
 use Rattle.std.specs.Prelude.{IsSome, is_some, not, ◌||◌, ◌&&◌, nat_lt}
 use Rattle.ds_word.specs.Word.{truth}
 use Rattle.ds_pagemap.specs.declared.turn.Turn.{Turn}
-use Rattle.ds_pagemap.specs.Machine.{State}
+use Rattle.ds_pagemap.specs.Machine.{State, first}
 use Rattle.ds_pagemap.specs.Run.{goes_on, is_over}
 use Rattle.ds_refinement.specs.declared.step.Step.{Step}
 use Rattle.ds_refinement.specs.declared.step.Step.TheVariants.{Inside, Unit, Boundary, Over}
@@ -30,6 +30,14 @@ early n h going owed = by h.kept.state.time (not (is_over h.kept.state)) (sym (u
   where
     by : (t : ℕ) (going : Bool) → (nat_lt t n && going) ≡ true → t < n
     by t going e = grind (arith, nat_tests)
+
+somebody : (queue : List ℕ) → is_some (first queue) ≡ true → queue ≡ [] → ⊥
+somebody [] some none = absurd (cc)
+somebody (p ∷ rest) some none = cc
+
+-- a run goes on before its end while somebody is ready
+pub ready_goes : (n : ℕ) (h : Held) → IsSound h → is_some (first h.kept.state.ready) ≡ true → h.kept.state.time < n → held_goes_on n h ≡ true
+ready_goes n h sound some early = begins_goes n h sound.state sound.stands (inr (somebody h.kept.state.ready some, early))
 
 -- where somebody is ready, somebody has not ended
 pub ready_not_over : (h : Held) → IsSound h → h.kept.state.owed ≡ None → (h.kept.state.ready ≡ [] → ⊥) → is_over h.kept.state ≡ false

@@ -7,8 +7,8 @@ use Rattle.ds_dev.specs.Bus.{BusState, asks}
 use Rattle.ds_core.specs.Core.{CoreState}
 use Rattle.ds_policy.specs.declared.command.Character.{Character}
 use Rattle.ds_grants.specs.State.{page_state}
-use Rattle.ds_grants.specs.State.{GrantsState}
-use Rattle.ds_grants.specs.Buffer.{BufferHolds, KeepsBuffer}
+use Rattle.ds_grants.specs.Buffer.{one_space}
+use Rattle.ds_grants.specs.Represented.{IsRepresented, IsLow, Keeps}
 use Rattle.ds_grants.specs.Sound.{NamesPages}
 use Rattle.ds_pagemap.specs.declared.turn.Turn.{Turn}
 use Rattle.ds_pagemap.specs.Machine.{State}
@@ -29,7 +29,8 @@ use Rattle.ds_kernel.specs.Parts.{held}
 use Rattle.ds_kernel.specs.Devices.{IsOfLine, typed, interrupted}
 use Rattle.ds_kernel.specs.Attended.{to_come, bus_at, read_out, runner_of, unowed, ruled, HasAttended}
 use Rattle.ds_kernel.proofs.Attending.{at_boundary, quiet_kept, arrived_kept, seated_between, seat_beside, boundary_serves, unseen, ruled_alike, queued_alike, flag_is, rest_again}
-use Rattle.ds_kernel.proofs.Finishing.{one_space, owner_orderly}
+use Rattle.ds_refinement.proofs.Spaces.{space_apart, space_known}
+use Rattle.ds_kernel.proofs.Finishing.{owner_orderly, memory_rests}
 
 -- nothing was received yet, so each that was is of a line
 pub none_received : (silo : List Received) → silo ≡ [] → All IsOfLine silo
@@ -66,13 +67,15 @@ module _ {L : Type 0} (old came served new : Parts L) (ahead : Monitor) (turn : 
       monitor = record old.monitor { ticked = old.monitor.time; due = record old.monitor.due { characters = to_come (kept_of old.monitor).state } };
     })
     (serves : Serves (ruled came.monitor.time (map typed came.bus.serial.silo) came.bus.clock.flagged (runner_of came.monitor.owed)) (unowed (seated came.core (kept_of came.monitor))) came.bus.memory (kept_of served.monitor) served.bus.memory)
-    (orderly : monitor.IsOrderly (kept_of served.monitor)) (count : served.monitor.lines + length served.monitor.due.commands ≤ came.monitor.lines + length came.monitor.due.commands) (reads : served.bus ≡ read_out came.bus)
-    (keeps : KeepsBuffer came.core.entries served.core.entries came.monitor.grants served.monitor.grants) (still : served.core.random ≡ came.core.random)
+    (orderly : monitor.IsOrderly (kept_of served.monitor)) (count : served.monitor.lines + length served.monitor.due.commands ≤ came.monitor.lines + length came.monitor.due.commands) (reads : served.bus ≡ record (read_out came.bus) { memory = served.bus.memory }) (below : IsLow came.bus.memory served.bus.memory)
+    (keeps : Keeps one_space came.core.entries came.bus.memory came.monitor.tables came.monitor.grants served.core.entries served.bus.memory served.monitor.tables served.monitor.grants)
+    (still : served.core.random ≡ came.core.random)
     (rest : served ≡ record came {
       core = record came.core { entries = served.core.entries };
       bus = served.bus;
       monitor = record came.monitor {
         grants = served.monitor.grants;
+        tables = served.monitor.tables;
         seats = served.monitor.seats;
         ready = served.monitor.ready;
         queues = served.monitor.queues;
@@ -84,7 +87,8 @@ module _ {L : Type 0} (old came served new : Parts L) (ahead : Monitor) (turn : 
     })
     (looks : ahead ≡ record served.monitor { quiet_until = next_due (kept_of served.monitor) })
     (enters : EntersBy new.monitor.ready new.core (kept_of new.monitor))
-    (buffer : BufferHolds served.core.entries (space_of (kept_of ahead)) ahead.grants → BufferHolds new.core.entries (space_of (kept_of new.monitor)) new.monitor.grants)
+    (represented : IsRepresented served.core.entries served.bus.memory ahead.tables (space_of (kept_of ahead)) ahead.grants
+    → IsRepresented new.core.entries new.bus.memory new.monitor.tables (space_of (kept_of new.monitor)) new.monitor.grants)
     (pages : NamesPages ahead.grants) (random : new.core.random ≡ served.core.random)
     (ends : new ≡ record (record served { monitor = ahead }) { core = new.core; monitor = record ahead { owner = new.monitor.owner }; spent = 0 }) where
   abbrev k : Kept
@@ -166,8 +170,8 @@ module _ {L : Type 0} (old came served new : Parts L) (ahead : Monitor) (turn : 
   bus_then : new.bus ≡ served.bus
   bus_then = ap (λ (p : Parts L). p.bus) ends
 
-  bus : new.bus ≡ read_out (bus_at b k)
-  bus = bus_then ∙ (reads ∙ ap (λ (p : Parts L). read_out p.bus) comes)
+  bus : new.bus ≡ record (read_out (bus_at b k)) { memory = served.bus.memory }
+  bus = bus_then ∙ (reads ∙ ap (λ (p : Parts L). record (read_out p.bus) { memory = served.bus.memory }) comes)
 
   served_is : Serves boundary k0 b.memory (kept_of new.monitor) new.bus.memory
   served_is =
@@ -182,6 +186,7 @@ module _ {L : Type 0} (old came served new : Parts L) (ahead : Monitor) (turn : 
   looked until = record old.monitor {
     ticked = old.monitor.time;
     grants = served.monitor.grants;
+    tables = served.monitor.tables;
     seats = served.monitor.seats;
     ready = served.monitor.ready;
     queues = served.monitor.queues;
@@ -197,6 +202,7 @@ module _ {L : Type 0} (old came served new : Parts L) (ahead : Monitor) (turn : 
       ap (λ (p : Parts L). p.monitor) rest
       ∙ ap (λ (p : Parts L). record p.monitor {
         grants = served.monitor.grants;
+        tables = served.monitor.tables;
         seats = served.monitor.seats;
         ready = served.monitor.ready;
         queues = served.monitor.queues;
@@ -215,15 +221,12 @@ module _ {L : Type 0} (old came served new : Parts L) (ahead : Monitor) (turn : 
   entries : came.core.entries ≡ old.core.entries
   entries = ap (λ (p : Parts L). p.core.entries) comes ∙ same_entries (asks (bus_at b k)) old.core
 
-  granted : came.monitor.grants ≡ old.monitor.grants
-  granted = ap (λ (p : Parts L). p.monitor.grants) comes
-
-  -- the buffer before who is first comes in
-  held_between : BufferHolds served.core.entries (space_of k) served.monitor.grants
+  -- what is represented before who is first comes in
+  held_between : IsRepresented served.core.entries served.bus.memory served.monitor.tables (space_of k) served.monitor.grants
   held_between =
-      keeps (space_of k) (one_space k)
-      (subst (λ (es : List Entry). BufferHolds es (space_of k) came.monitor.grants) (sym entries)
-      (subst (λ (g : GrantsState). BufferHolds old.core.entries (space_of k) g) (sym granted) sound.stands.buffer))
+      keeps (space_of k) (space_apart k) (space_known k)
+      (subst (λ (es : List Entry). IsRepresented es came.bus.memory came.monitor.tables (space_of k) came.monitor.grants) (sym entries)
+      (subst (λ (p : Parts L). IsRepresented old.core.entries p.bus.memory p.monitor.tables (space_of k) p.monitor.grants) (sym comes) sound.stands.represented))
 
   random_is : new.core.random ≡ old.core.random
   random_is = random ∙ (still ∙ (ap (λ (p : Parts L). p.core.random) comes ∙ same_random (asks (bus_at b k)) old.core))
@@ -238,11 +241,12 @@ module _ {L : Type 0} (old came served new : Parts L) (ahead : Monitor) (turn : 
   ends_by = record {
     serves = served_is;
     enters = enters;
-    buffer = buffer (subst (λ (m : Monitor). BufferHolds served.core.entries (space_of (kept_of m)) m.grants) (sym ahead_is) held_between);
+    represented = represented (subst (λ (m : Monitor). IsRepresented served.core.entries served.bus.memory m.tables (space_of (kept_of m)) m.grants) (sym ahead_is) held_between);
     grants = subst NamesPages (sym (ap (λ (m : Monitor). m.grants) monitor_is)) pages;
-    size = ap (λ (x : BusState). length x.memory) bus;
+    size = ap (λ (x : BusState). length x.memory) bus_then ∙ (below.0 ∙ ap (λ (x : List ℕ). length x) memory);
     devices = subst (λ (x : BusState). AreResting x (kept_of new.monitor)) (sym bus)
-        (rest_again b k resting (kept_of new.monitor) (ap (λ (m : Monitor). m.rate) all) (ap (λ (m : Monitor). m.ticked) all) (ap (λ (m : Monitor). m.time) all) none_owed before);
+        (memory_rests (read_out (bus_at b k)) served.bus.memory (kept_of new.monitor)
+        (rest_again b k resting (kept_of new.monitor) (ap (λ (m : Monitor). m.rate) all) (ap (λ (m : Monitor). m.ticked) all) (ap (λ (m : Monitor). m.time) all) none_owed before));
   }
 
   few : new.monitor.lines + length new.monitor.due.commands ≤ old.monitor.lines + length old.monitor.due.commands

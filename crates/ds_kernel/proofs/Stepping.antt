@@ -45,10 +45,10 @@ sound_behind kind h new s f = let t = f.follows s.state s.stands in record { sta
 -- The marks are not seen by the machine.
 
 counted : (h : Held) (m : State) → Stands h m → Stands (with_one_spent h) m
-counted h m k = record { buffer = k.buffer; grants = k.grants; size = k.size; kept = k.kept; running = k.running; devices = k.devices }
+counted h m k = record { represented = k.represented; grants = k.grants; size = k.size; kept = k.kept; running = k.running; devices = k.devices }
 
 pub failure_unseen : (h : Held) (m : State) → Stands h m → Stands (with_failure h) m
-failure_unseen h m k = record { buffer = k.buffer; grants = k.grants; size = k.size; kept = k.kept; running = k.running; devices = k.devices }
+failure_unseen h m k = record { represented = k.represented; grants = k.grants; size = k.size; kept = k.kept; running = k.running; devices = k.devices }
 
 -- a failure leaves the station as it should be
 pub failed_good : {L : Type 0} (old new : Parts L) → IsGood old → old.monitor.owed ≡ None → held new ≡ with_failure (held old)

@@ -1,9 +1,13 @@
 //! The buffer is refilled from the page tables, and the unit goes on.
-ghost use Rattle.std.specs.Prelude.{◌≡◌, ◌/◌, ◌^◌};
-ghost use Rattle.ds_tlb.specs.Words.{entry_of};
+ghost use Rattle.std.specs.Prelude.{◌≡◌};
 ghost use Rattle.ds_tables.specs.Tables.{entry_word};
-ghost use Rattle.ds_grants.specs.Buffer.{hi_of};
-ghost use Rattle.ds_refinement.specs.Services.{at_unit, refilled, touched_registers, with_refill};
+ghost use Rattle.ds_refinement.specs.Services.{
+  at_unit,
+  refilled,
+  touched_registers,
+  asked_entry,
+  with_refill,
+};
 ghost use Rattle.ds_kernel.specs.Parts.{held};
 
 use crate::parts::Parts;
@@ -59,10 +63,8 @@ impl<L: Lookaside> Parts<L> {
     /// The page-table word of the address that was refused is put into the buffer, and the unit
     /// begins again.
     pub fn refill(&mut self, process: u32)
-        ensures held { held self.new ≡ with_refill (held self.old)
-            (entry_of (hi_of (self.old.core.system.bad_vaddr / 2 ^ 12) 1)
-            (entry_word self.old.bus.memory self.old.monitor.tables process
-            self.old.core.system.bad_vaddr)) }
+        ensures held { held self.new
+            ≡ with_refill (held self.old) (asked_entry (held self.old) process) }
         ensures rest { self.new ≡ record self.old { core = self.new.core } }
     {
         let address = self.bad_address();

@@ -2,7 +2,9 @@
 use Rattle.std.proofs.Common.{◌≡◌, ℕ, false, Bool, List, [], ◌∷◌, refl, sym, ap, subst, ◌∙◌}
 use Rattle.ds_refinement.specs.declared.step.Step.{Step}
 use Rattle.ds_refinement.specs.declared.step.Step.TheVariants.{Inside, Unit, Boundary, Over}
+use Rattle.ds_tlb.specs.Singles.{IsSingle}
 use Rattle.ds_refinement.specs.Held.{Held}
+use Rattle.ds_refinement.specs.Stands.{IsSound}
 use Rattle.ds_refinement.specs.Steps.{Moves, Stays}
 use Rattle.ds_refinement.specs.Services.{with_failure}
 use Rattle.ds_refinement.specs.Real.{Through}
@@ -13,6 +15,10 @@ use Rattle.ds_kernel.specs.declared.halt.Halt.TheVariants as halt
 use Rattle.ds_kernel.specs.Halts.{Halts}
 use Rattle.ds_kernel.specs.Ran.{HasRun, WasCut}
 use Rattle.ds_station.specs.Faults.{IsFaultAfter, of_halt}
+
+-- a station that is sound has a buffer in which no two entries match
+pub sound_single : (h : Held) → IsSound h → IsSingle h.core.entries
+sound_single h s = s.stands.represented.buffer.single
 
 -- where none stands, the fault of a step that is not done is a new one
 pub comes_after : (h : Halt) (s : Held) → Halts h s → IsFaultAfter s.own.failed (of_halt h)
@@ -41,7 +47,7 @@ ran_to n old new r over = to_end n old new r.within over
 -- each state that the station stood for, it stands for as one that has failed
 pub stands_still : (h : Held) → Stays h (with_failure h)
 stands_still h = record {
-  stays = λ m k. record { buffer = k.buffer; grants = k.grants; size = k.size; kept = k.kept; running = k.running; devices = k.devices };
+  stays = λ m k. record { represented = k.represented; grants = k.grants; size = k.size; kept = k.kept; running = k.running; devices = k.devices };
 }
 
 module _ (n : ℕ) (h : Halt) (old new : Held) (w : WasCut n h old new) where

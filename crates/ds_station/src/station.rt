@@ -18,6 +18,7 @@ ghost use Rattle.std.specs.Prelude.{
   false,
 };
 ghost use Rattle.ds_log.specs.Text.{line_text};
+ghost use Rattle.ds_tlb.specs.Singles.{IsSingle};
 ghost use Rattle.ds_policy.specs.PolicyParts.{sources_of};
 ghost use Rattle.ds_policy.specs.InputFacts.{AreGoodCommands};
 ghost use Rattle.ds_pagemap.specs.Machine.{State};
@@ -92,13 +93,16 @@ impl<L: Lookaside> Station<L> {
     }
 
     /// One machine instruction, one service, an idle turn with its boundary, or the boundary that is
-    /// owed. After a failure it answers `Failed`, and nothing changes.
+    /// owed. After a failure it answers `Failed`, and nothing changes. No two entries of the buffer
+    /// match the same page.
+    #[tactic(auto, using(crate::proofs::Runs::sound_single))]
     pub fn step(&mut self) -> Result<Step, Fault>
         requires { self.old.kept.state.owed ≡ None → self.old.kept.state.time < 1000000000 }
         ensures ok { IfOk result (λ step. Follows step self.old self.new) }
         ensures moves { IfOk result (λ step. Moves step self.old self.new) }
         ensures real { OnOk result (IsReal self.old self.new) }
         ensures sound { IsSound self.new }
+        ensures single { IsSingle self.new.core.entries }
         ensures err { OnErr result (Stays self.old self.new) }
         ensures still { OnErr result (self.new ≡ with_failure self.old) }
         ensures refused { IfErr result (λ f. RefusesStep f self.old) }
@@ -153,8 +157,9 @@ impl<L: Lookaside> Station<L> {
     }
 
     /// Does the boundary that is owed, if one is, and then runs until the time is n or all processes
-    /// have ended. After a failure it answers `Failed`, and nothing changes.
-    #[tactic(auto, using(crate::proofs::Runs::ran_to, crate::proofs::Runs::cut_within, crate::proofs::Runs::cut_after, crate::proofs::Guarded::run_guarded, crate::proofs::Guarded::cut_guarded))]
+    /// have ended. After a failure it answers `Failed`, and nothing changes. No two entries of the
+    /// buffer match the same page.
+    #[tactic(auto, using(crate::proofs::Runs::sound_single, crate::proofs::Runs::ran_to, crate::proofs::Runs::cut_within, crate::proofs::Runs::cut_after, crate::proofs::Guarded::run_guarded, crate::proofs::Guarded::cut_guarded))]
     pub fn run(&mut self, n: u64) -> Result<(), Fault>
         requires { n ≤ 1000000000 }
         ensures ok { OnOk result (RunsTo n self.old self.new) }
@@ -168,6 +173,7 @@ impl<L: Lookaside> Station<L> {
         ensures going { self.old.own.failed ≡ false
             → OnErr result (held_goes_on n self.new ≡ true) }
         ensures sound { IsSound self.new }
+        ensures single { IsSingle self.new.core.entries }
         ensures faults { IfErr result (IsFaultAfter self.old.own.failed) }
         ensures whole { OnErr result (self.new.kept.state.owed ≡ None) }
         ensures failed { OnErr result (self.new.own.failed ≡ true) }

@@ -64,6 +64,6 @@ returns-clause-ends g c =
     (call_served old left new mid.monitor mid.core.entries memory p unit c.unit_address-unit.ensures
     c.look_at_unit.ensures.above (subst (λ (n : ℕ). p ≤ n) (sym c.leave.ensures.as_many) c.look_at_unit.ensures.within) c.leave.ensures.kept c.leave.ensures.rest
     c.serve_call.ensures.orderly c.serve_call.ensures.lines c.serve_call.ensures.log c.serve_call.ensures.serves c.serve_call.ensures.size
-    c.serve_call.ensures.buffer (ap (λ (x : Parts g.row.L.Denot). x.monitor) served))
-    (comes_in f old left new mid.monitor mid.core.entries memory p c.leave.ensures.rest c.end_unit.ensures.enters c.end_unit.ensures.buffer c.end_unit.ensures.pages (c.end_unit.ensures.random ∙ c.serve_call.ensures.random)
+    c.serve_call.ensures.keeps (ap (λ (x : Parts g.row.L.Denot). x.monitor) served))
+    (comes_in f old left new mid.monitor mid.core.entries memory p c.leave.ensures.rest c.end_unit.ensures.enters c.end_unit.ensures.represented c.end_unit.ensures.pages (c.end_unit.ensures.random ∙ c.serve_call.ensures.random)
     (ap (λ (x : Parts g.row.L.Denot). x.bus.memory) rest) rests (ap (λ (x : Parts g.row.L.Denot). x.monitor) rest) (ap (λ (x : Parts g.row.L.Denot). x.failed) rest ∙ ap (λ (x : Parts g.row.L.Denot). x.failed) served) (ap (λ (x : Parts g.row.L.Denot). x.spent) rest))

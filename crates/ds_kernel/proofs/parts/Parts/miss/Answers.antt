@@ -3,22 +3,12 @@ use Rattle.ds_policy.specs.declared.access.Verdict.TheVariants.{Allowed, Denied}
 use Rattle.ds_policy.specs.Pages.{decide}
 use Rattle.ds_pagemap.specs.Unit.{denied_as}
 use Rattle.ds_refinement.specs.declared.step.Step.{Step}
+use Rattle.ds_refinement.specs.Services.{asked_entry}
 use Rattle.ds_kernel.specs.declared.parts.Parts.{Parts}
 use Rattle.ds_kernel.specs.Parts.{held}
-use Rattle.ds_kernel.specs.Refill.{entry_for}
 use Rattle.ds_kernel.specs.Ended.{Does}
-use Rattle.ds_kernel.proofs.Fetching.{allowed_page}
 use Rattle.ds_kernel.proofs.Doing.{verdict_is, denied_small, stopped_as, denied_step, refill_step, refill_good, ended_good}
 use Rattle.ds_kernel.proofs.parts.Parts.miss.Goals as goal
-
-pub refill-requires-clause-page : goal.refill-requires-clause-page
-refill-requires-clause-page g c =
-    let old = c.args.self.now in
-    let on = allowed_page old.monitor.grants c.args.process c.args.access.kind c.args.access.size old.core.system.bad_vaddr c.in-Allowed.page c.in-Allowed.offset c.table.ensures.pages
-    (verdict_is _ old.monitor.grants.table c.args.process c.args.access _ old.core.system.bad_vaddr _ (Allowed c.in-Allowed.page c.in-Allowed.offset) c.decide.ensures.exact c.table.ensures.value c.bad_address-address.ensures c.in-Allowed.is) in
-    let low = on.low in
-    let few = on.few in
-    omega (arith, low, few)
 
 pub stop-requires-clause-code : goal.stop-requires-clause-code
 stop-requires-clause-code g c =
@@ -33,13 +23,12 @@ returns-in-Allowed-clause-does g c =
     let new = c.refill.new.self in
     let decides : decide old.monitor.grants.table c.args.process c.args.access.kind c.args.access.size old.core.system.bad_vaddr ≡ Allowed c.in-Allowed.page c.in-Allowed.offset =
     verdict_is _ old.monitor.grants.table c.args.process c.args.access _ old.core.system.bad_vaddr _ (Allowed c.in-Allowed.page c.in-Allowed.offset) c.decide.ensures.exact c.table.ensures.value c.bad_address-address.ensures c.in-Allowed.is in
-    let on = allowed_page old.monitor.grants c.args.process c.args.access.kind c.args.access.size old.core.system.bad_vaddr c.in-Allowed.page c.in-Allowed.offset c.table.ensures.pages decides in
-    refill_step c.args.process old new c.requires.busy c.requires.kernel c.args.access c.in-Allowed.page c.in-Allowed.offset on.grant c.look_at_random.ensures c.requires.told decides on.granted c.refill.ensures.held
+    refill_step c.args.process old new c.requires.busy c.requires.kernel c.args.access c.in-Allowed.page c.in-Allowed.offset c.look_at_random.ensures c.requires.told decides c.refill.ensures.held
 
 pub returns-in-Allowed-clause-good : goal.returns-in-Allowed-clause-good
 returns-in-Allowed-clause-good g c =
     let old = c.args.self.now in
-    refill_good c.args.process old c.refill.new.self c.requires.busy c.requires.kernel (entry_for old.monitor.grants c.args.process old.core.system.bad_vaddr c.in-Allowed.page) c.refill.ensures.held
+    refill_good c.args.process old c.refill.new.self c.requires.busy c.requires.kernel (asked_entry (held old) c.args.process) c.refill.ensures.held
     (ap (λ (x : Parts g.row.L.Denot). x.monitor) c.refill.ensures.rest) (returns-in-Allowed-clause-does g c)
 
 pub returns-in-Denied-clause-does : goal.returns-in-Denied-clause-does

@@ -1,10 +1,15 @@
-use Rattle.std.proofs.Common.{◌≡◌, ◌≤◌, ◌<◌, List, [], ◌∷◌, ℕ, length, map, get_or, refl, sym, ◌∙◌, ap, ap₂, subst, arith}
+use Rattle.std.proofs.Common.{◌≡◌, ◌≤◌, ◌<◌, ◌^◌, List, [], ◌∷◌, ℕ, length, map, get_or, refl, sym, ◌∙◌, ap, ap₂, subst, arith}
 use Rattle.std.specs.Prelude.{slice_index_or}
 use Rattle.ds_tlb.specs.declared.entry.Entry.{Entry}
 use Rattle.ds_tlb.specs.Entries.{empty_entries}
 use Rattle.ds_dev.specs.Bus.{BusState}
 use Rattle.ds_policy.specs.declared.policy.PolicyProcess.{PolicyProcess}
-use Rattle.ds_grants.specs.State.{page_state}
+use Rattle.ds_mem.proofs.Zeros.{frame_of-zeros}
+use Rattle.ds_tables.specs.Tables.{HasEmptyTable}
+use Rattle.ds_grants.specs.State.{GrantsState, page_state}
+use Rattle.ds_grants.specs.Buffer.{one_space}
+use Rattle.ds_grants.specs.Represented.{HasWords}
+use Rattle.ds_grants.specs.First.{first_grants}
 use Rattle.ds_grants.specs.Sound.{NamesPages}
 use Rattle.ds_pagemap.specs.Machine.{no_process}
 use Rattle.ds_pagemap.specs.First.{first_process}
@@ -23,18 +28,26 @@ pub returns-clause-first : goal.returns-clause-first
 returns-clause-first g c =
     let none : PolicyProcess = record { start = 0; line = 0 } in
     let policy = c.args.policy.now in
-    let random = g.L.Lookaside.random_place c.args.tlb in
+    let random = g.L.Lookaside.random_place c.new-2.new.tlb in
     let all : c.processes.result.now ≡ policy.processes = c.processes.ensures.all in
     let pc : (get_or c.processes.result.now 0 none).start ≡ (slice_index_or (map first_process policy.processes) 0 no_process).pc = ap (λ (ps : List PolicyProcess). (get_or ps 0 none).start) all ∙ first_place policy.processes none c.processes.ensures.some in
-    let entries : g.L.Lookaside.entries c.args.tlb ≡ empty_entries 64 = c.requires.empty ∙ ap empty_entries c.requires.slots in
+    let entries = c.in_ok-monitor.ensures.entries ∙ ap empty_entries c.requires.slots in
     let memory = ap (λ (b : BusState). b.memory) c.first_bus.ensures in
     let grants = ap (λ (k : Kept). k.grants) c.in_ok-monitor.ensures.first in
+    let empty : HasEmptyTable c.in_ok-memory.memory = subst (λ (m : List ℕ). HasEmptyTable m) (sym c.in_ok-memory.ensures) (frame_of-zeros (2 ^ 23) 1 (omega arith)) in
+    let represented = c.in_ok-monitor.ensures.represented (omega (arith, c.requires.slots)) empty one_space in
     record {
-      core = c.first_core.ensures ∙ ap₂ (λ (es : List Entry) (n : ℕ). first_core es random n) entries pc;
+      core =
+          c.first_core.ensures
+          ∙ (ap₂ (λ (es : List Entry) (n : ℕ). first_core es random n) entries pc
+          ∙ ap (λ (r : ℕ). first_core (empty_entries 64) r (slice_index_or (map first_process policy.processes) 0 no_process).pc) c.in_ok-monitor.ensures.random);
       bus = c.first_bus.ensures ∙ ap₂ first_bus (sym memory) c.rate.ensures.all;
       pages = c.in_ok-monitor.ensures.kept.pages ∙ ap₂ page_state grants (sym memory);
       size = ap length memory ∙ c.word.ensures.size;
       kept = c.in_ok-monitor.ensures.first;
+      tables = subst (λ (m : List ℕ). HasWords m c.in_ok-monitor.monitor.tables (first_grants policy)) (sym memory)
+          (subst (λ (x : GrantsState). HasWords c.new-2.new.memory c.in_ok-monitor.monitor.tables x) grants
+          (record { words = represented.words; places = represented.places; empty = represented.empty }));
       own = refl;
     }
 
