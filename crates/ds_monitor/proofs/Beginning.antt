@@ -13,6 +13,7 @@ use Rattle.ds_policy.specs.Pages.{Pages}
 use Rattle.ds_procs.specs.Queue.{without}
 use Rattle.ds_grants.specs.State.{GrantsState, pages_in}
 use Rattle.ds_grants.specs.First.{first_grants}
+use Rattle.ds_tables.specs.Places.{Places}
 use Rattle.ds_pagemap.specs.First.{numbers, first_pages, first_process, first_state}
 use Rattle.ds_pagemap.specs.Machine.{Process, has_ended}
 use Rattle.ds_pagemap_laws.specs.Settled.{settled_process}
@@ -55,8 +56,8 @@ none_has_ended [] = refl
 none_has_ended (p ∷ ps) = ap (λ (bs : List Bool). false ∷ bs) (none_has_ended ps)
 
 -- what a monitor keeps at time 0
-abbrev pub beginning : List Process → List ℕ → List (List ℕ) → List (List ℕ) → List ℕ → ℕ → List TimedCommand → List Character → GrantsState → Kept
-beginning processes ready queues consoles log rate commands characters grants = record {
+abbrev pub beginning : List Process → List ℕ → List (List ℕ) → List (List ℕ) → List ℕ → ℕ → List TimedCommand → List Character → GrantsState → Places → Kept
+beginning processes ready queues consoles log rate commands characters grants tables = record {
   state = record {
     memory = no_memory;
     rate = rate;
@@ -71,23 +72,24 @@ beginning processes ready queues consoles log rate commands characters grants = 
     owed = None;
   };
   grants = grants;
+  tables = tables;
   log = log;
   lines = 0;
   owner = 1;
   ticked = 0;
 }
 
-pub begins : (policy : PolicyValue) (images : List (List ℕ)) (input : InputValue) (processes : List Process) (ready : List ℕ) (queues consoles : List (List ℕ)) (log : List ℕ) (rate : ℕ) (commands : List TimedCommand) (characters : List Character) (grants : GrantsState)
+pub begins : (policy : PolicyValue) (images : List (List ℕ)) (input : InputValue) (processes : List Process) (ready : List ℕ) (queues consoles : List (List ℕ)) (log : List ℕ) (rate : ℕ) (commands : List TimedCommand) (characters : List Character) (grants : GrantsState) (tables : Places)
     → processes ≡ map first_process policy.processes → ready ≡ numbers (length policy.processes) 1 → queues ≡ replicate 4 [] → consoles ≡ [] ∷ [] ∷ [] ∷ [] ∷ []
-    → log ≡ [] → rate ≡ policy.rate → commands ≡ input.commands → characters ≡ input.characters → grants ≡ first_grants policy → beginning processes ready queues consoles log rate commands characters grants ≡ first_kept policy images input
-begins policy images input processes ready queues consoles log rate commands characters grants a b c d e f i h g =
-    let seats : Kept = beginning (map first_process policy.processes) (numbers (length policy.processes) 1) (replicate 4 []) (replicate 4 []) [] policy.rate input.commands input.characters (first_grants policy) in
-    let all : beginning processes ready queues consoles log rate commands characters grants ≡ seats = rw (a, b, c, d, e, f, i, h, g) refl in
-    all ∙ ap (λ (ps : List Process). beginning ps (numbers (length policy.processes) 1) (replicate 4 []) (replicate 4 []) [] policy.rate input.commands input.characters (first_grants policy)) (sym (settled_first policy.processes))
+    → log ≡ [] → rate ≡ policy.rate → commands ≡ input.commands → characters ≡ input.characters → grants ≡ first_grants policy → beginning processes ready queues consoles log rate commands characters grants tables ≡ first_kept policy images input tables
+begins policy images input processes ready queues consoles log rate commands characters grants tables a b c d e f i h g =
+    let seats : Kept = beginning (map first_process policy.processes) (numbers (length policy.processes) 1) (replicate 4 []) (replicate 4 []) [] policy.rate input.commands input.characters (first_grants policy) tables in
+    let all : beginning processes ready queues consoles log rate commands characters grants tables ≡ seats = rw (a, b, c, d, e, f, i, h, g) refl in
+    all ∙ ap (λ (ps : List Process). beginning ps (numbers (length policy.processes) 1) (replicate 4 []) (replicate 4 []) [] policy.rate input.commands input.characters (first_grants policy) tables) (sym (settled_first policy.processes))
 
 -- nobody is on the processor, and all is kept of the first state
-pub first_is_kept : (policy : PolicyValue) (images : List (List ℕ)) (input : InputValue) (memory : List ℕ) → pages_in (first_grants policy) memory ≡ first_pages policy images → IsKept (first_kept policy images input) memory (first_state policy images input)
-first_is_kept policy images input memory pages = record {
+pub first_is_kept : (policy : PolicyValue) (images : List (List ℕ)) (input : InputValue) (tables : Places) (memory : List ℕ) → pages_in (first_grants policy) memory ≡ first_pages policy images → IsKept (first_kept policy images input tables) memory (first_state policy images input)
+first_is_kept policy images input tables memory pages = record {
   state = refl;
   pages = ap (λ (ps : Pages). record { pages = ps; table = (first_grants policy).table; named = (first_grants policy).named }) (sym pages);
   log = refl;
@@ -95,10 +97,10 @@ first_is_kept policy images input memory pages = record {
 }
 
 -- the first state is one that runs have
-pub first_orderly : (policy : PolicyValue) (images : List (List ℕ)) (input : InputValue) → length policy.processes ≤ 100 → All IsGoodProcess policy.processes → AreGoodCommands (length policy.pages) input.commands → IsOrderly (first_kept policy images input)
-first_orderly policy images input few good commands =
+pub first_orderly : (policy : PolicyValue) (images : List (List ℕ)) (input : InputValue) (tables : Places) → length policy.processes ≤ 100 → All IsGoodProcess policy.processes → AreGoodCommands (length policy.pages) input.commands → IsOrderly (first_kept policy images input tables)
+first_orderly policy images input tables few good commands =
     let l = first_lawful policy images input few good in
-    let k = first_kept policy images input in
+    let k = first_kept policy images input tables in
     let lawful : IsLawful (record (whole k [] []) { processes = map first_process policy.processes }) = record {
       formed = record { ready = l.formed.ready; processes = l.formed.processes; sizes = record { processes = l.formed.sizes.processes; queues = l.formed.sizes.queues; consoles = l.formed.sizes.consoles; table = l.formed.sizes.table } };
       asleep = l.asleep;

@@ -7,6 +7,7 @@ pub mod Beginning
 pub mod Lawful
 pub mod Living
 pub mod Granting
+pub mod Low
 pub mod Waking
 pub mod Coming
 pub mod Commanding

@@ -130,8 +130,14 @@ impl Monitor {
                 page,
                 right,
                 give,
-            } => { grants.grant(process, address, page, right, give, rule, memory, tables, tlb) }
-            Command::Narrow { process, address } => grants.narrow(process, address, memory, tables, tlb),
+            } => {
+                grants.grant(
+                    process, address, page, right, give, rule, memory, tables, tlb,
+                )
+            }
+            Command::Narrow { process, address } => grants.narrow(
+                process, address, memory, tables, tlb,
+            ),
             Command::Revoke { process, address } => {
                 grants.revoke(process, address, rule, memory, tables, tlb)
             }

@@ -129,9 +129,16 @@ impl Monitor {
         } }
     {
         look_at_size(memory);
-        let done = self
-            .grants
-            .give(process, address, receiver, to, mode, memory, &mut self.tables, tlb);
+        let done = self.grants.give(
+            process,
+            address,
+            receiver,
+            to,
+            mode,
+            memory,
+            &mut self.tables,
+            tlb,
+        );
         look_at_size(memory);
         match done {
             Ok(()) => self.answer(process, 0),

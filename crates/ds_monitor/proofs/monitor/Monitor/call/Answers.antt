@@ -2,6 +2,8 @@ use Rattle.std.proofs.Common.{[], sym, ◌≡◌, ◌∙◌, ◌+◌, ℕ, ap, s
 use Rattle.ds_word.specs.Word.{word}
 use Rattle.ds_dev.specs.Bus.{BusState}
 use Rattle.ds_procs.specs.Calls.{call_of}
+use Rattle.ds_grants.specs.Buffer.{one_space}
+use Rattle.ds_grants.specs.Represented.{Keeps}
 use Rattle.ds_pagemap.specs.Machine.{State, Process, process_of}
 use Rattle.ds_pagemap.proofs.Processes.{process_of-with_process}
 use Rattle.ds_monitor.specs.Sending.{bus_behind}
@@ -88,3 +90,13 @@ returns-clause-bus g c =
     ∙ ap (λ (b : BusState). record b { memory = c.serve.new.bus.memory })
     (ap (λ (x : Call). bus_behind x (process_of (kept_of c.go_to.new.self).state p).line c.args.bus.now) c.asked-call.ensures.value
     ∙ ap (λ (q : Process). bus_behind (call_of q.registers.general) q.line c.args.bus.now) moved)
+
+pub returns-clause-keeps : goal.returns-clause-keeps
+returns-clause-keeps g c =
+    let old = g.L.Lookaside.entries c.args.tlb.now in
+    let new = g.L.Lookaside.entries c.serve.new.tlb in
+    let x = c.args.bus.now.memory in
+    let y = c.serve.new.bus.memory in
+    let last = c.serve.new.self in
+    subst (λ (m : Monitor). Keeps one_space old x c.args.self.now.tables c.args.self.now.grants new y m.tables m.grants) (sym c.end_turn.ensures.rest)
+    (subst (λ (m : Monitor). Keeps one_space old x m.tables m.grants new y last.tables last.grants) c.go_to.ensures.rest c.serve.ensures.keeps)

@@ -12,6 +12,7 @@ use Rattle.ds_monitor.specs.Kept.{kept_of}
 use Rattle.ds_monitor.specs.Room.{HasLogRoom}
 use Rattle.ds_monitor.specs.Commands.{commanded, commands_by}
 use Rattle.ds_monitor.proofs.Commanding.{taken, commanded_then, commanded_end, by_next, good_first, fewer_lines}
+use Rattle.ds_monitor.proofs.Low.{low_same, low_then}
 use Rattle.ds_monitor.proofs.Lawful.{taken_orderly}
 use Rattle.ds_monitor.proofs.monitor.Monitor.commands.Goals as goal
 
@@ -25,8 +26,8 @@ loop-order-init g c = record {
   orderly = c.requires.orderly;
   named = refl;
   count = omega arith;
-  memory = refl;
-  buffer = λ numbers one holds. holds;
+  low = low_same c.args.memory.now;
+  keeps = λ numbers apart are holds. holds;
   random = refl;
   room = c.requires.room;
   rest = refl;
@@ -76,16 +77,16 @@ loop-order-preserved g c =
       orderly = c.command.ensures.orderly;
       named = c.command.ensures.named ∙ i.named;
       count = (let all = i.count in let one = c.command.ensures.lines in omega (arith, all, one, longer, same));
-      memory = c.command.ensures.memory ∙ i.memory;
-      buffer = λ numbers one holds. c.command.ensures.buffer numbers one (i.buffer numbers one holds);
+      low = low_then c.args.memory.now c.loop-order.memory c.command.new.memory i.low c.command.ensures.low;
+      keeps = λ numbers apart are holds. c.command.ensures.keeps numbers apart are (i.keeps numbers apart are holds);
       random = c.command.ensures.random ∙ i.random;
       room = subst (λ (d : InputValue). HasLogRoom (commands_by now d.commands) next) (sym still)
           (c.command.ensures.room (commands_by now left.commands) (fewer_lines (commands_by now left.commands + 1) (commands_by now last.due.commands) (record last { due = left }) (omega (arith, more)) i.room));
       rest =
           c.command.ensures.rest
-          ∙ (ap (λ (d : InputValue). record last { grants = next.grants; seats = next.seats; ready = next.ready; log = next.log; lines = next.lines; due = d }) c.take_command.ensures.rest
-          ∙ (ap (λ (m : Monitor). record m { grants = next.grants; seats = next.seats; ready = next.ready; log = next.log; lines = next.lines; due = record m.due { commands = left.commands } }) i.rest
-          ∙ ap (λ (d : InputValue). record c.args.self.now { grants = next.grants; seats = next.seats; ready = next.ready; log = next.log; lines = next.lines; due = record c.args.self.now.due { commands = d.commands } }) (sym still)));
+          ∙ (ap (λ (d : InputValue). record last { grants = next.grants; tables = next.tables; seats = next.seats; ready = next.ready; log = next.log; lines = next.lines; due = d }) c.take_command.ensures.rest
+          ∙ (ap (λ (m : Monitor). record m { grants = next.grants; tables = next.tables; seats = next.seats; ready = next.ready; log = next.log; lines = next.lines; due = record m.due { commands = left.commands } }) i.rest
+          ∙ ap (λ (d : InputValue). record c.args.self.now { grants = next.grants; tables = next.tables; seats = next.seats; ready = next.ready; log = next.log; lines = next.lines; due = record c.args.self.now.due { commands = d.commands } }) (sym still)));
     }
 
 pub returns-clause-serves : goal.returns-clause-serves

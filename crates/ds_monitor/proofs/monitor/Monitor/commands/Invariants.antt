@@ -1,5 +1,6 @@
 use Rattle.std.proofs.Common.{◌≡◌, ◌+◌, ◌≤◌, ℕ, List, length}
-use Rattle.ds_grants.specs.Buffer.{KeepsBuffer}
+use Rattle.ds_grants.specs.Buffer.{one_space}
+use Rattle.ds_grants.specs.Represented.{IsLow, Keeps}
 use Rattle.ds_refinement.specs.Held.{Kept}
 use Rattle.ds_refinement.specs.Services.{Serves}
 use Rattle.ds_monitor.specs.Kept.{kept_of}
@@ -14,12 +15,13 @@ invariant-loop-order g l = record {
   orderly : IsOrderly (kept_of l.self);
   named : l.self.grants.named ≡ l.fn.self.grants.named;
   count : l.self.lines + length l.self.due.commands ≤ l.fn.self.lines + length l.fn.self.due.commands;
-  memory : l.memory ≡ l.fn.memory;
-  buffer : KeepsBuffer (g.L.Lookaside.entries l.fn.tlb) (g.L.Lookaside.entries l.tlb) l.fn.self.grants l.self.grants;
+  low : IsLow l.fn.memory l.memory;
+  keeps : Keeps one_space (g.L.Lookaside.entries l.fn.tlb) l.fn.memory l.fn.self.tables l.fn.self.grants (g.L.Lookaside.entries l.tlb) l.memory l.self.tables l.self.grants;
   random : g.L.Lookaside.random_place l.tlb ≡ g.L.Lookaside.random_place l.fn.tlb;
   room : HasLogRoom (commands_by l.fn.self.time l.self.due.commands) l.self;
   rest : l.self ≡ record l.fn.self {
     grants = l.self.grants;
+    tables = l.self.tables;
     seats = l.self.seats;
     ready = l.self.ready;
     log = l.self.log;

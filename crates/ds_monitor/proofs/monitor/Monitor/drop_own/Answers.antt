@@ -17,6 +17,6 @@ returns-clause-serves g c = λ pc.
     let x = c.args.memory.now in
     let y = c.drop_page-dropped.new.memory in
     subst (λ (n : Kept). Serves (λ (m : State). served m p pc (call.Drop c.args.address)) k x n y) (sym c.answer.ensures.kept)
-    (number_serves (λ (m : State). drop_own m.memory p c.args.address) k x y c.drop_page-dropped.new.self p c.answer_of.result c.drop_page-dropped.result
+    (number_serves (λ (m : State). drop_own m.memory p c.args.address) k x y c.drop_page-dropped.new.self c.drop_page-dropped.new.tables p c.answer_of.result c.drop_page-dropped.result
     (drop_own (page_state k.grants x) p c.args.address) (record { memory = refl; log = refl })
     (λ log. refl) c.drop_page-dropped.ensures.does c.answer_of.ensures.done c.answer_of.ensures.refused)

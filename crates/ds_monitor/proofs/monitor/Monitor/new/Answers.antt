@@ -2,8 +2,10 @@ use Rattle.std.proofs.Common.{◌∙◌, sym, ap, subst, length, map, List}
 use Rattle.ds_policy.specs.declared.policy.PolicyProcess.{PolicyProcess}
 use Rattle.ds_policy.specs.Value.{InputValue}
 use Rattle.ds_grants.specs.State.{GrantsState, pages_in}
+use Rattle.ds_grants.specs.Represented.{IsRepresented}
 use Rattle.ds_pagemap.specs.First.{first_process, first_state, numbers}
 use Rattle.ds_refinement.specs.Held.{Kept}
+use Rattle.ds_refinement.specs.First.{first_kept}
 use Rattle.ds_refinement.specs.Stands.{IsKept}
 use Rattle.ds_monitor.specs.Orderly.{IsOrderly}
 use Rattle.ds_monitor.specs.Kept.{kept_of}
@@ -13,28 +15,35 @@ use Rattle.ds_monitor.proofs.Beginning.{begins, first_is_kept, first_orderly}
 use Rattle.ds_monitor.proofs.monitor.Monitor.new.Goals as goal
 
 pub returns-clause-first : goal.returns-clause-first
-returns-clause-first c =
+returns-clause-first g c =
     let policy = c.args.policy.now in
+    let images = c.args.images.now in
     ap (λ (m : Monitor). kept_of m) c.look_ahead.ensures
-    ∙ begins policy c.args.images.now c.args.events _ _ _ _ _ _ _ _ _
+    ∙ (begins policy images c.args.events _ _ _ _ _ _ _ _ _ _
     (c.in_ok-seats.ensures ∙ ap (map first_process) c.processes.ensures.all)
-    (c.all_ready.ensures ∙ ap (λ (ps : List PolicyProcess). numbers (length ps) 1) c.processes-2.ensures.all)
+    (c.all_ready.ensures ∙ ap (λ (ps : List PolicyProcess). numbers (length ps) 1) c.processes-3.ensures.all)
     c.in_ok-queues.ensures c.new-2.ensures c.new-3.ensures.items c.rate.ensures.all (ap (λ (i : InputValue). i.commands) c.new-4.ensures) (ap (λ (i : InputValue). i.characters) c.new-4.ensures) c.in_ok-grants.ensures.state
+    ∙ sym (ap (λ (m : Monitor). first_kept policy images c.args.events m.tables) c.look_ahead.ensures))
 
 pub returns-clause-kept : goal.returns-clause-kept
-returns-clause-kept c =
+returns-clause-kept g c =
     let policy = c.args.policy.now in
     let images = c.args.images.now in
     let memory = c.new.new.memory in
-    subst (λ (k : Kept). IsKept k memory (first_state policy images c.args.events)) (sym (returns-clause-first c))
-    (first_is_kept policy images c.args.events memory (ap (λ (g : GrantsState). pages_in g memory) (sym c.in_ok-grants.ensures.state) ∙ c.in_ok-grants.ensures.pages))
+    subst (λ (k : Kept). IsKept k memory (first_state policy images c.args.events)) (sym (returns-clause-first g c))
+    (first_is_kept policy images c.args.events c.look_ahead.new.self.tables memory (ap (λ (g : GrantsState). pages_in g memory) (sym c.in_ok-grants.ensures.state) ∙ c.in_ok-grants.ensures.pages))
 
 pub returns-clause-orderly : goal.returns-clause-orderly
-returns-clause-orderly c =
+returns-clause-orderly g c =
     let policy = c.args.policy.now in
-    subst IsOrderly (sym (returns-clause-first c)) (first_orderly policy c.args.images.now c.args.events c.processes.ensures.few
+    subst IsOrderly (sym (returns-clause-first g c)) (first_orderly policy c.args.images.now c.args.events c.look_ahead.new.self.tables c.processes.ensures.few
     c.processes.ensures.good c.requires.commands)
 
 pub returns-clause-next : goal.returns-clause-next
-returns-clause-next c =
+returns-clause-next g c =
     ap (λ (m : Monitor). m.quiet_until) c.look_ahead.ensures ∙ sym (ap (λ (m : Monitor). next_due (kept_of m)) c.look_ahead.ensures)
+
+pub returns-clause-represented : goal.returns-clause-represented
+returns-clause-represented g c = λ few empty numbers.
+    subst (λ (m : Monitor). IsRepresented (g.L.Lookaside.entries c.new.new.tlb) c.new.new.memory m.tables numbers m.grants) (sym c.look_ahead.ensures)
+    (c.in_ok-grants.ensures.represented few empty numbers)
