@@ -4,7 +4,7 @@ ghost use Rattle.ds_procs.specs.Calls.{call_of};
 ghost use Rattle.ds_log.specs.Length.{IsShortRule};
 ghost use Rattle.ds_grants.specs.State.{IsAsLarge};
 ghost use Rattle.ds_grants.specs.Buffer.{one_space};
-ghost use Rattle.ds_grants.specs.Represented.{IsLow, Keeps};
+ghost use Rattle.ds_grants.specs.Represented.{Keeps};
 ghost use Rattle.ds_pagemap.specs.Machine.{State, process_of};
 ghost use Rattle.ds_pagemap.specs.Calls.{ended, served};
 ghost use Rattle.ds_refinement.specs.Stands.{ends_in_call, ends_in_stop};
