@@ -155,7 +155,7 @@ as_long_table memory t p None (Some k) are free long =
     length-with_frame memory (zeros 4096) (table_frame p k) (length-zeros 4096) (omega arith)
 
 pub low_put : (memory : List ℕ) (t : Places) (p a w : ℕ) → ArePlaces t → 2 ^ 23 ≤ length memory → IsLow memory (tables.with_entry memory t p a w)
-low_put memory t p a w are long = (as_long (has_place t p (region_of a)), λ f page. frames_kept memory t p a w f are long (inr page))
+low_put memory t p a w are long = (as_long (has_place t p (region_of a)), λ f apart. frames_kept memory t p a w f are long apart)
   where
     middle : length (with_table memory t p (region_of a)) ≡ length memory
     middle = as_long_table memory t p (place_of t p (region_of a)) (free_place t p) are refl long

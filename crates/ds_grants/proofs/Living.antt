@@ -29,7 +29,7 @@ pages_from_same g g' memory at n same =
 pub pages_same : (g g' : GrantsState) (memory : List ℕ) → g'.frames ≡ g.frames → ((q : ℕ) → is_live g' q ≡ is_live g q) → pages_in g' memory ≡ pages_in g memory
 pages_same g g' memory size same = ap (λ n. map (page_in g' memory) (range_with_len 0 n)) size ∙ pages_from_same g g' memory 0 g.frames same
 
--- what changed below the pages leaves the page state
+-- what changed in page tables leaves the page state
 pub low_pages : (g : GrantsState) (old new : List ℕ) → IsLow old new → page_state g new ≡ page_state g old
 low_pages g old new low =
     let size = length-map-range_with_len (page_in g new) 0 g.frames in
@@ -37,7 +37,7 @@ low_pages g old new low =
     (λ k d h.
     let within : k < g.frames = omega arith in
     get_or-map-range_with_len (page_in g new) 0 g.frames k k d within (omega arith)
-    ∙ ap (λ (bytes : List ℕ). cond (is_live g k) (Some bytes) None) (low.1 (k + 402) (omega arith))
+    ∙ ap (λ (bytes : List ℕ). cond (is_live g k) (Some bytes) None) (low.1 (k + 402) (inr (omega arith)))
     ∙ sym (get_or-map-range_with_len (page_in g old) 0 g.frames k k d within (omega arith))) in
     ap (λ (pages : Pages). record { pages = pages; table = g.table; named = g.named }) pages
 

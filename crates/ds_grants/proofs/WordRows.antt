@@ -29,7 +29,10 @@ pub a_fifth_region_may_not_be_used : HasRegion (with_grant grants 2 0x01000000 (
 a_fifth_region_may_not_be_used e = absurd cc
 
 pub the_first_page_is_as_it_was : (old new : List ℕ) → IsLow old new → frame_of new 402 ≡ frame_of old 402
-the_first_page_is_as_it_was old new low = low.1 402 (omega arith)
+the_first_page_is_as_it_was old new low = low.1 402 (inr (omega arith))
+
+pub the_vectors_are_as_they_were : (old new : List ℕ) → IsLow old new → frame_of new 0 ≡ frame_of old 0
+the_vectors_are_as_they_were old new low = low.1 0 (inl (omega arith))
 
 pub the_last_table_is_as_it_was : (old new : List ℕ) → IsHigh old new → frame_of new 401 ≡ frame_of old 401
 the_last_table_is_as_it_was old new high = high.1 401 (omega arith)

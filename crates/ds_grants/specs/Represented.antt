@@ -35,10 +35,10 @@ Keeps known old_entries old_memory old_t old_g entries memory t g =
     → IsRepresented old_entries old_memory old_t numbers old_g
     → IsRepresented entries memory t numbers g
 
--- only frames below those of pages changed
+-- only frames of page tables changed: no page, nor the vectors or the empty table
 abbrev pub IsLow : List ℕ → List ℕ → Type 0
 IsLow old new = (length new ≡ length old)
-    × ((f : ℕ) → 402 ≤ f → frame_of new f ≡ frame_of old f)
+    × ((f : ℕ) → (f < 2) ⊎ (402 ≤ f) → frame_of new f ≡ frame_of old f)
 
 -- only frames of pages changed
 abbrev pub IsHigh : List ℕ → List ℕ → Type 0

@@ -1,5 +1,5 @@
 //! What a process may do with what it was granted: give it, take back what it gave, and drop it.
-ghost use Rattle.std.specs.Prelude.{◌≡◌, ◌≢◌, ℕ, ◌<◌, ◌≤◌, ◌^◌, List, true, false, length, if◌then◌else◌, Some, IsNone, OnErr, OnOk};
+ghost use Rattle.std.specs.Prelude.{◌≡◌, ◌≢◌, ◌⊎◌, ℕ, ◌<◌, ◌≤◌, ◌^◌, List, true, false, length, if◌then◌else◌, Some, IsNone, OnErr, OnOk};
 ghost use Rattle.ds_mem.specs.Memory.{frame_of};
 ghost use Rattle.ds_policy.specs.declared.grant.Right.TheVariants.{Write};
 ghost use Rattle.ds_policy.specs.Pages.{entries_of, entry_at, fresh};
@@ -45,7 +45,7 @@ impl Grants {
         ensures shared { mode ≢ 3 → IsLow memory.old memory.new }
         ensures entries { OnOk result
             (L.entries tlb.new ≡ both_forgotten (L.entries tlb.old) to 1) }
-        ensures elsewhere { (f : ℕ) → 402 ≤ f
+        ensures elsewhere { (f : ℕ) → (f < 2) ⊎ (402 ≤ f)
             → f ≢ frame_of_page self.old (fresh (pages_in self.old memory.old))
             → frame_of memory.new f ≡ frame_of memory.old f }
         ensures keeps { Keeps one_space
@@ -150,7 +150,7 @@ impl Grants {
         ensures same { IsAsLarge self.old self.new }
         ensures ended { self.new.ended ≡ self.old.ended }
         ensures entries { L.entries tlb.new ≡ both_forgotten (L.entries tlb.old) to 1 }
-        ensures elsewhere { (f : ℕ) → 402 ≤ f
+        ensures elsewhere { (f : ℕ) → (f < 2) ⊎ (402 ≤ f)
             → f ≢ frame_of_page self.old (fresh (pages_in self.old memory.old))
             → frame_of memory.new f ≡ frame_of memory.old f }
         ensures keeps { Keeps one_space
