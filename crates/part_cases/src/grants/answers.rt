@@ -1,9 +1,8 @@
 //! What steps answer.
 ghost use Rattle.std.specs.Prelude.{◌<◌, IfSome};
 
-use crate::grants::page_words::wrong_word;
 use crate::grants::replay::{FIRST_FRAME, Replay, SPACE};
-use crate::grants::step::{Call, Step};
+use crate::grants::step::Step;
 use ds_isa::Kind;
 use ds_mem::FRAMES;
 use ds_policy::{Grant, Right};
@@ -18,7 +17,14 @@ pub fn answer<L: Lookaside>(
 ) -> Result<Option<String>, AllocError> {
     match step {
         Step::Start { .. } => Ok(None),
-        Step::Call(call) => outcome(alloc, replay, call),
+        Step::Call(call) => match replay.call(call) {
+            Some(Ok(())) => said(alloc, "ok"),
+            Some(Err(refusal)) => {
+                let number = refusal.number();
+                Ok(Some(format!(in alloc; "{number}")?))
+            }
+            None => Ok(None),
+        },
         Step::Write { page, byte } => write(alloc, replay, page, byte),
         Step::Fill { process, address } => {
             let filled = replay.fill(process, address);
@@ -31,27 +37,6 @@ pub fn answer<L: Lookaside>(
         Step::Addresses { process } => addresses(alloc, replay, process),
         Step::Byte { page } => byte(alloc, replay, page),
         Step::Translation { address } => Ok(Some(translation(alloc, replay, address)?)),
-    }
-}
-
-/// What a call answers: its outcome, or where another word lies in the page tables after it than is
-/// granted there.
-fn outcome<L: Lookaside>(
-    alloc: Global,
-    replay: &mut Replay<L>,
-    call: Call,
-) -> Result<Option<String>, AllocError> {
-    let came = replay.call(call);
-    if let Some(address) = wrong_word(replay, call) {
-        return Ok(Some(format!(in alloc; "another word for {address:08x}")?));
-    }
-    match came {
-        Some(Ok(())) => said(alloc, "ok"),
-        Some(Err(refusal)) => {
-            let number = refusal.number();
-            Ok(Some(format!(in alloc; "{number}")?))
-        }
-        None => Ok(None),
     }
 }
 

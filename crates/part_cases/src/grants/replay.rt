@@ -1,12 +1,10 @@
-//! The grants on which a file is replayed, with the memory, the page tables in it, and the translation
-//! buffer beside them.
+//! The grants on which a file is replayed, with the memory and the translation buffer beside them.
 ghost use Rattle.std.specs.Prelude.{◌≡◌, ◌<◌, ◌≤◌, true, length};
 
 use crate::grants::step::Call;
 use ds_grants::{GrantFault, Grants};
 use ds_mem::{Memory, OutOfMemory};
 use ds_policy::{Grant, Right};
-use ds_tables::Tables;
 use ds_tlb::{Entry, Lookaside};
 use std::alloc::Global;
 
@@ -31,7 +29,6 @@ pub struct Replay<L> {
     pub grants: Grants,
     named: u32,
     pub memory: Memory,
-    pub tables: Tables,
     pub buffer: L,
     ghost names: { grants.named ≡ named },
 }
@@ -55,7 +52,6 @@ impl<L: Lookaside> Replay<L> {
             grants: Grants::empty(alloc, processes, frames, named)?,
             named,
             memory: Memory::new(alloc)?,
-            tables: Tables::new(processes),
             buffer: new_buffer(),
         })
     }
@@ -70,7 +66,7 @@ impl<L: Lookaside> Replay<L> {
 
     /// The outcome of a call; none where nobody can call so.
     pub fn call(&mut self, call: Call) -> Option<Result<(), GrantFault>> {
-        let (memory, tables, buffer) = (&mut self.memory, &mut self.tables, &mut self.buffer);
+        let (memory, buffer) = (&mut self.memory, &mut self.buffer);
         match call {
             Call::Give {
                 caller,
@@ -91,10 +87,7 @@ impl<L: Lookaside> Replay<L> {
                 caller,
                 process,
                 address,
-            } => Some(
-                self.grants
-                    .take(caller, process, address, memory, tables, buffer),
-            ),
+            } => Some(self.grants.take(caller, process, address, memory, buffer)),
             Call::Drop {
                 process,
                 address,
@@ -104,12 +97,9 @@ impl<L: Lookaside> Replay<L> {
                 process,
                 address,
                 rule,
-            } => Some(
-                self.grants
-                    .revoke(process, address, rule, memory, tables, buffer),
-            ),
+            } => Some(self.grants.revoke(process, address, rule, memory, buffer)),
             Call::Narrow { process, address } => {
-                Some(self.grants.narrow(process, address, memory, tables, buffer))
+                Some(self.grants.narrow(process, address, memory, buffer))
             }
             Call::End { process } => self.end(process),
         }
@@ -127,8 +117,11 @@ impl<L: Lookaside> Replay<L> {
         if !self.is_within(caller) {
             return None;
         }
-        let (memory, tables, buffer) = (&mut self.memory, &mut self.tables, &mut self.buffer);
-        Some(self.grants.give(caller, address, receiver, to, mode, memory, tables, buffer))
+        let (memory, buffer) = (&mut self.memory, &mut self.buffer);
+        Some(
+            self.grants
+                .give(caller, address, receiver, to, mode, memory, buffer),
+        )
     }
 
     /// The operator grants a page that has a name.
@@ -144,11 +137,10 @@ impl<L: Lookaside> Replay<L> {
         if page >= self.named || right == Right::Nothing {
             return None;
         }
-        let (memory, tables, buffer) = (&mut self.memory, &mut self.tables, &mut self.buffer);
+        let (memory, buffer) = (&mut self.memory, &mut self.buffer);
         Some(
-            self.grants.grant(
-                process, address, page, right, give, rule, memory, tables, buffer,
-            ),
+            self.grants
+                .grant(process, address, page, right, give, rule, memory, buffer),
         )
     }
 
@@ -162,10 +154,10 @@ impl<L: Lookaside> Replay<L> {
         if !by_command && !self.is_within(process) {
             return None;
         }
-        let (memory, tables, buffer) = (&mut self.memory, &mut self.tables, &mut self.buffer);
+        let (memory, buffer) = (&mut self.memory, &mut self.buffer);
         Some(
             self.grants
-                .drop_page(process, address, by_command, memory, tables, buffer),
+                .drop_page(process, address, by_command, memory, buffer),
         )
     }
 
@@ -174,12 +166,8 @@ impl<L: Lookaside> Replay<L> {
         if !self.is_within(process) {
             return None;
         }
-        self.grants.end_process(
-            process,
-            &mut self.memory,
-            &mut self.tables,
-            &mut self.buffer,
-        );
+        self.grants
+            .end_process(process, &mut self.memory, &mut self.buffer);
         Some(Ok(()))
     }
 
