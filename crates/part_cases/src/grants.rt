@@ -4,7 +4,6 @@
 mod answers;
 mod replay;
 mod report;
-mod step;
 mod words;
 
 pub use report::replay_all;
