@@ -1,7 +1,8 @@
-//! Calls on real grants, with a memory and a translation buffer. `tools/grants_cases.py` writes the
-//! files, from a model of its own.
+//! Calls on real grants, with a memory, page tables in it, and a translation buffer.
+//! `tools/grants_cases.py` writes the files, from a model of its own.
 
 mod answers;
+mod page_words;
 mod replay;
 mod report;
 mod words;

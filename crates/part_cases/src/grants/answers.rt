@@ -1,5 +1,6 @@
 //! What steps answer.
 
+use crate::grants::page_words::fits_after;
 use crate::grants::replay::{FIRST_FRAME, Replay, SPACE};
 use crate::machine::memory::{MIXED, fill, filled};
 use crate::machine::told::said;
@@ -29,7 +30,22 @@ pub fn answer<L: Lookaside>(
         ("addresses", [process]) => addresses(alloc, replay, *process),
         ("byte", [page]) => told_byte(alloc, filled(&replay.memory, frame_of(*page))),
         ("translation", [address]) => translation(alloc, replay, *address),
-        _ => told_call(alloc, replay.call(verb, operands)),
+        _ => called(alloc, replay, verb, operands),
+    }
+}
+
+/// The outcome of a call, or that other page-table words lie in memory after it than are granted.
+fn called<L: Lookaside>(
+    alloc: Global,
+    replay: &mut Replay<L>,
+    verb: &str,
+    operands: &[u32],
+) -> Result<Option<String>, AllocError> {
+    let outcome = replay.call(verb, operands);
+    if fits_after(replay, verb, operands) {
+        told_call(alloc, outcome)
+    } else {
+        said(alloc, "other words")
     }
 }
 

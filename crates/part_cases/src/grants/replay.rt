@@ -1,9 +1,11 @@
-//! The grants on which a file is replayed, with the memory and the translation buffer beside them.
+//! The grants on which a file is replayed, with the memory, the page tables in it, and the translation
+//! buffer beside them.
 ghost use Rattle.std.specs.Prelude.{◌≡◌, ◌<◌, ◌≤◌, true, length};
 
 use ds_grants::{GrantFault, Grants};
 use ds_mem::{Memory, OutOfMemory};
 use ds_policy::{Grant, Right};
+use ds_tables::Tables;
 use ds_tlb::{Entry, Lookaside};
 use std::alloc::Global;
 
@@ -28,6 +30,7 @@ pub struct Replay<L> {
     pub grants: Grants,
     named: u32,
     pub memory: Memory,
+    pub tables: Tables,
     pub buffer: L,
     ghost names: { grants.named ≡ named },
 }
@@ -51,6 +54,7 @@ impl<L: Lookaside> Replay<L> {
             grants: Grants::empty(alloc, processes, frames, named)?,
             named,
             memory: Memory::new(alloc)?,
+            tables: Tables::new(processes),
             buffer: new_buffer(),
         })
     }
@@ -73,7 +77,7 @@ impl<L: Lookaside> Replay<L> {
     ///     narrow PROCESS ADDRESS
     ///     end PROCESS
     pub fn call(&mut self, verb: &str, operands: &[u32]) -> Option<Result<(), GrantFault>> {
-        let (memory, buffer) = (&mut self.memory, &mut self.buffer);
+        let (memory, tables, buffer) = (&mut self.memory, &mut self.tables, &mut self.buffer);
         match (verb, operands) {
             ("give", [caller, address, receiver, to, mode]) => {
                 self.give(*caller, *address, *receiver, *to, *mode)
@@ -89,7 +93,7 @@ impl<L: Lookaside> Replay<L> {
             ("take", [caller, process, address]) => {
                 Some(
                     self.grants
-                        .take(*caller, *process, *address, memory, buffer),
+                        .take(*caller, *process, *address, memory, tables, buffer),
                 )
             }
             ("drop", [process, address, by_command @ 0..=1]) => {
@@ -98,11 +102,14 @@ impl<L: Lookaside> Replay<L> {
             ("revoke", [process, address, rule]) => {
                 Some(
                     self.grants
-                        .revoke(*process, *address, *rule, memory, buffer),
+                        .revoke(*process, *address, *rule, memory, tables, buffer),
                 )
             }
             ("narrow", [process, address]) => {
-                Some(self.grants.narrow(*process, *address, memory, buffer))
+                Some(
+                    self.grants
+                        .narrow(*process, *address, memory, tables, buffer),
+                )
             }
             ("end", [process]) => self.end(*process),
             _ => None,
@@ -121,11 +128,8 @@ impl<L: Lookaside> Replay<L> {
         if !self.is_within(caller) {
             return None;
         }
-        let (memory, buffer) = (&mut self.memory, &mut self.buffer);
-        Some(
-            self.grants
-                .give(caller, address, receiver, to, mode, memory, buffer),
-        )
+        let (memory, tables, buffer) = (&mut self.memory, &mut self.tables, &mut self.buffer);
+        Some(self.grants.give(caller, address, receiver, to, mode, memory, tables, buffer))
     }
 
     /// The operator grants a page that has a name.
@@ -141,10 +145,11 @@ impl<L: Lookaside> Replay<L> {
         if page >= self.named || right == Right::Nothing {
             return None;
         }
-        let (memory, buffer) = (&mut self.memory, &mut self.buffer);
+        let (memory, tables, buffer) = (&mut self.memory, &mut self.tables, &mut self.buffer);
         Some(
-            self.grants
-                .grant(process, address, page, right, give, rule, memory, buffer),
+            self.grants.grant(
+                process, address, page, right, give, rule, memory, tables, buffer,
+            ),
         )
     }
 
@@ -158,10 +163,10 @@ impl<L: Lookaside> Replay<L> {
         if !by_command && !self.is_within(process) {
             return None;
         }
-        let (memory, buffer) = (&mut self.memory, &mut self.buffer);
+        let (memory, tables, buffer) = (&mut self.memory, &mut self.tables, &mut self.buffer);
         Some(
             self.grants
-                .drop_page(process, address, by_command, memory, buffer),
+                .drop_page(process, address, by_command, memory, tables, buffer),
         )
     }
 
@@ -170,8 +175,12 @@ impl<L: Lookaside> Replay<L> {
         if !self.is_within(process) {
             return None;
         }
-        self.grants
-            .end_process(process, &mut self.memory, &mut self.buffer);
+        self.grants.end_process(
+            process,
+            &mut self.memory,
+            &mut self.tables,
+            &mut self.buffer,
+        );
         Some(Ok(()))
     }
 
