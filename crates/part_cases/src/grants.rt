@@ -5,7 +5,6 @@ mod answers;
 mod page_words;
 mod replay;
 mod report;
-mod step;
 mod words;
 
 pub use report::replay_all;

@@ -3,12 +3,14 @@
 
 mod arithmetic;
 mod bus;
-mod case;
+pub mod case;
+pub mod memory;
 mod processor;
 mod programs;
 mod report;
 mod subject;
 mod system;
+pub mod told;
 mod words;
 
 pub use report::run_cases;

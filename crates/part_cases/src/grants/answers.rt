@@ -1,11 +1,11 @@
 //! What steps answer.
-ghost use Rattle.std.specs.Prelude.{◌<◌, IfSome};
 
-use crate::grants::page_words::wrong_word;
+use crate::grants::page_words::fits_after;
 use crate::grants::replay::{FIRST_FRAME, Replay, SPACE};
-use crate::grants::step::{Call, Step};
+use crate::machine::memory::{MIXED, fill, filled};
+use crate::machine::told::said;
+use ds_grants::GrantFault;
 use ds_isa::Kind;
-use ds_mem::FRAMES;
 use ds_policy::{Grant, Right};
 use ds_tlb::Lookaside;
 use std::alloc::{AllocError, Global};
@@ -14,95 +14,69 @@ use std::alloc::{AllocError, Global};
 pub fn answer<L: Lookaside>(
     alloc: Global,
     replay: &mut Replay<L>,
-    step: Step,
+    verb: &str,
+    operands: &[u32],
 ) -> Result<Option<String>, AllocError> {
-    match step {
-        Step::Start { .. } => Ok(None),
-        Step::Call(call) => outcome(alloc, replay, call),
-        Step::Write { page, byte } => write(alloc, replay, page, byte),
-        Step::Fill { process, address } => {
-            let filled = replay.fill(process, address);
-            said(alloc, if filled { "filled" } else { "nothing" })
+    match (verb, operands) {
+        ("write", [page, byte]) => match fill(&mut replay.memory, frame_of(*page), *byte) {
+            Some(_) => said(alloc, "ok"),
+            None => Ok(None),
+        },
+        ("fill", [process, address]) => {
+            let is_filled = replay.fill(*process, *address);
+            said(alloc, if is_filled { "filled" } else { "nothing" })
         }
-        Step::Entry { process, address } => Ok(Some(told_entry(
-            alloc,
-            replay.entry(process, address),
-        )?)),
-        Step::Addresses { process } => addresses(alloc, replay, process),
-        Step::Byte { page } => byte(alloc, replay, page),
-        Step::Translation { address } => Ok(Some(translation(alloc, replay, address)?)),
+        ("entry", [process, address]) => told_entry(alloc, replay.entry(*process, *address)),
+        ("addresses", [process]) => addresses(alloc, replay, *process),
+        ("byte", [page]) => told_byte(alloc, filled(&replay.memory, frame_of(*page))),
+        ("translation", [address]) => translation(alloc, replay, *address),
+        _ => called(alloc, replay, verb, operands),
     }
 }
 
-/// What a call answers: its outcome, or where another word lies in the page tables after it than is
-/// granted there.
-fn outcome<L: Lookaside>(
+/// The outcome of a call, or that other page-table words lie in memory after it than are granted.
+fn called<L: Lookaside>(
     alloc: Global,
     replay: &mut Replay<L>,
-    call: Call,
+    verb: &str,
+    operands: &[u32],
 ) -> Result<Option<String>, AllocError> {
-    let came = replay.call(call);
-    if let Some(address) = wrong_word(replay, call) {
-        return Ok(Some(format!(in alloc; "another word for {address:08x}")?));
+    let outcome = replay.call(verb, operands);
+    if fits_after(replay, verb, operands) {
+        told_call(alloc, outcome)
+    } else {
+        said(alloc, "other words")
     }
-    match came {
+}
+
+/// The outcome of a call: `ok`, or the number of its refusal.
+fn told_call(
+    alloc: Global,
+    outcome: Option<Result<(), GrantFault>>,
+) -> Result<Option<String>, AllocError> {
+    match outcome {
         Some(Ok(())) => said(alloc, "ok"),
-        Some(Err(refusal)) => {
-            let number = refusal.number();
-            Ok(Some(format!(in alloc; "{number}")?))
-        }
+        Some(Err(refusal)) => told_number(alloc, refusal.number()),
         None => Ok(None),
     }
 }
 
-/// An answer of one word.
-fn said(alloc: Global, word: &str) -> Result<Option<String>, AllocError> {
-    Ok(Some(String::from_str(alloc, word)?))
+/// A number in decimal digits.
+fn told_number(alloc: Global, number: u32) -> Result<Option<String>, AllocError> {
+    Ok(Some(format!(in alloc; "{number}")?))
 }
 
-/// The frame of a page, where memory has it.
-fn frame_of(page: u32) -> Option<u32>
-    ensures { IfSome result (λ frame. frame < 2048) }
-{
-    let frame = page.checked_add(FIRST_FRAME)?;
-    if (frame as usize) < FRAMES {
-        Some(frame)
-    } else {
-        None
-    }
-}
-
-/// Fills a page's frame with a byte.
-fn write<L: Lookaside>(
-    alloc: Global,
-    replay: &mut Replay<L>,
-    page: u32,
-    byte: u32,
-) -> Result<Option<String>, AllocError> {
-    match (frame_of(page), u8::try_from(byte)) {
-        (Some(frame), Ok(byte)) => {
-            replay.memory.frame_mut(frame).fill(byte);
-            said(alloc, "ok")
-        }
-        _ => Ok(None),
-    }
+/// The frame of a page. There may be none of that number.
+fn frame_of(page: u32) -> u32 {
+    page.saturating_add(FIRST_FRAME)
 }
 
 /// What a page's frame is filled with.
-fn byte<L: Lookaside>(
-    alloc: Global,
-    replay: &Replay<L>,
-    page: u32,
-) -> Result<Option<String>, AllocError> {
-    let Some(frame) = frame_of(page) else {
-        return Ok(None);
-    };
-    let bytes = replay.memory.frame(frame);
-    let first = bytes[0];
-    if bytes.iter().all(|b| *b == first) {
-        Ok(Some(format!(in alloc; "{first}")?))
-    } else {
-        said(alloc, "mixed")
+fn told_byte(alloc: Global, byte: Option<u32>) -> Result<Option<String>, AllocError> {
+    match byte {
+        Some(MIXED) => said(alloc, "mixed"),
+        Some(byte) => told_number(alloc, byte),
+        None => Ok(None),
     }
 }
 
@@ -116,16 +90,17 @@ fn word_of(right: Right) -> &'static str {
 }
 
 /// An entry in words.
-fn told_entry(alloc: Global, grant: Option<Grant>) -> Result<String, AllocError> {
+fn told_entry(alloc: Global, grant: Option<Grant>) -> Result<Option<String>, AllocError> {
     let Some(grant) = grant else {
-        return String::from_str(alloc, "none");
+        return said(alloc, "none");
     };
     let (right, rule, giver) = (word_of(grant.right), grant.rule, grant.giver);
     let give = if grant.give { "give" } else { "keep" };
-    match grant.page {
-        Some(page) => format!(in alloc; "{right} {page} {rule} {give} {giver}"),
-        None => format!(in alloc; "{right} - {rule} {give} {giver}"),
-    }
+    let text = match grant.page {
+        Some(page) => format!(in alloc; "{right} {page} {rule} {give} {giver}")?,
+        None => format!(in alloc; "{right} - {rule} {give} {giver}")?,
+    };
+    Ok(Some(text))
 }
 
 /// The addresses of a process's entries, one after the other.
@@ -139,13 +114,17 @@ fn addresses<L: Lookaside>(
     }
     let mut text = String::new(alloc);
     for entry in replay.grants.table().entries(process) {
-        let address = entry.address;
-        if !text.is_empty() {
-            text.push_str(" ")?;
-        }
-        write!(text, "{address:08x}")?;
+        push_address(&mut text, entry.address)?;
     }
     Ok(Some(text))
+}
+
+/// Adds an address, after a blank where it is not the first.
+fn push_address(text: &mut String, address: u32) -> Result<(), AllocError> {
+    if !text.is_empty() {
+        text.push(' ')?;
+    }
+    write!(text, "{address:08x}")
 }
 
 /// The page to which the buffer leads an access of this kind, if to one.
@@ -163,16 +142,21 @@ fn translation<L: Lookaside>(
     alloc: Global,
     replay: &mut Replay<L>,
     address: u32,
-) -> Result<String, AllocError> {
+) -> Result<Option<String>, AllocError> {
     let fetched = page_of(replay, Kind::Fetch, address);
     let loaded = page_of(replay, Kind::Load, address);
     let stored = page_of(replay, Kind::Store, address);
     match (loaded, stored) {
-        (None, None) if fetched.is_none() => String::from_str(alloc, "none"),
-        (Some(page), None) if fetched == loaded => format!(in alloc; "read {page}"),
+        (None, None) if fetched.is_none() => said(alloc, "none"),
+        (Some(page), None) if fetched == loaded => told_page(alloc, "read", page),
         (Some(page), Some(_)) if fetched == loaded && stored == loaded => {
-            format!(in alloc; "write {page}")
+            told_page(alloc, "write", page)
         }
-        _ => String::from_str(alloc, "mixed"),
+        _ => said(alloc, "mixed"),
     }
+}
+
+/// A page, and what may be done with it.
+fn told_page(alloc: Global, right: &str, page: u32) -> Result<Option<String>, AllocError> {
+    Ok(Some(format!(in alloc; "{right} {page}")?))
 }

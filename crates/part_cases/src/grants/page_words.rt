@@ -1,8 +1,7 @@
-//! The page-table words that go with what is granted, by a plain rule: they are compared after each
-//! call with those that lie in memory.
+//! The page-table words that go with what is granted, by a plain rule: after each call they are
+//! compared with those that lie in memory.
 
 use crate::grants::replay::{FIRST_FRAME, Replay};
-use crate::grants::step::Call;
 use ds_policy::{Grant, Right};
 use ds_tlb::Lookaside;
 
@@ -45,52 +44,37 @@ fn words_of<L: Lookaside>(replay: &Replay<L>, process: u32, region: u32) -> [u32
     words
 }
 
-/// The first address of a process in a region at which another word lies in memory.
-fn wrong_in<L: Lookaside>(replay: &Replay<L>, process: u32, region: u32) -> Option<u32> {
+/// Whether the words of a process's pages of a region lie in memory.
+fn fits<L: Lookaside>(replay: &Replay<L>, process: u32, region: u32) -> bool {
     let mut address = region << 22;
     for word in words_of(replay, process, region) {
         if replay.tables.entry(&replay.memory, process, address) != word {
-            return Some(address);
+            return false;
         }
         address = address.wrapping_add(4096);
     }
-    None
+    true
 }
 
-/// The process whose entries a call may change, and the region in which it may, or none where it is
-/// any.
-fn changed(call: Call) -> (u32, Option<u32>) {
-    match call {
-        Call::Give { receiver, to, .. } => (receiver, Some(to >> 22)),
-        Call::Grant {
-            process,
-            address,
-            ..
+/// Whether the words of all of a process's pages lie in memory.
+fn fits_all<L: Lookaside>(replay: &Replay<L>, process: u32) -> bool {
+    for region in 0..REGIONS {
+        if !fits(replay, process, region) {
+            return false;
         }
-        | Call::Take {
-            process,
-            address,
-            ..
-        }
-        | Call::Drop {
-            process,
-            address,
-            ..
-        }
-        | Call::Revoke {
-            process,
-            address,
-            ..
-        }
-        | Call::Narrow { process, address } => (process, Some(address >> 22)),
-        Call::End { process } => (process, None),
     }
+    true
 }
 
-/// The first address at which another word lies in memory than is granted after a call.
-pub fn wrong_word<L: Lookaside>(replay: &Replay<L>, call: Call) -> Option<u32> {
-    match changed(call) {
-        (process, Some(region)) => wrong_in(replay, process, region),
-        (process, None) => (0..REGIONS).find_map(|region| wrong_in(replay, process, region)),
+/// Whether the words that a call may have changed lie in memory: those of a region of one process,
+/// or all of its words where it has ended.
+pub fn fits_after<L: Lookaside>(replay: &Replay<L>, verb: &str, operands: &[u32]) -> bool {
+    match (verb, operands) {
+        ("give", [_, _, process, address, _]) | ("take", [_, process, address]) => {
+            fits(replay, *process, *address >> 22)
+        }
+        ("end", [process]) => fits_all(replay, *process),
+        (_, [process, address, ..]) => fits(replay, *process, *address >> 22),
+        _ => true,
     }
 }

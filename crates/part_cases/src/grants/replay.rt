@@ -2,7 +2,6 @@
 //! buffer beside them.
 ghost use Rattle.std.specs.Prelude.{◌≡◌, ◌<◌, ◌≤◌, true, length};
 
-use crate::grants::step::Call;
 use ds_grants::{GrantFault, Grants};
 use ds_mem::{Memory, OutOfMemory};
 use ds_policy::{Grant, Right};
@@ -68,50 +67,52 @@ impl<L: Lookaside> Replay<L> {
         process > 0 && process as usize <= self.grants.table().processes()
     }
 
-    /// The outcome of a call; none where nobody can call so.
-    pub fn call(&mut self, call: Call) -> Option<Result<(), GrantFault>> {
+    /// The outcome of a call; none where nobody can call so. The calls are
+    ///
+    ///     grant PROCESS ADDRESS PAGE read|write keep|give RULE
+    ///     give CALLER ADDRESS RECEIVER TO MODE
+    ///     take CALLER PROCESS ADDRESS
+    ///     drop PROCESS ADDRESS own|command
+    ///     revoke PROCESS ADDRESS RULE
+    ///     narrow PROCESS ADDRESS
+    ///     end PROCESS
+    pub fn call(&mut self, verb: &str, operands: &[u32]) -> Option<Result<(), GrantFault>> {
         let (memory, tables, buffer) = (&mut self.memory, &mut self.tables, &mut self.buffer);
-        match call {
-            Call::Give {
-                caller,
-                address,
-                receiver,
-                to,
-                mode,
-            } => self.give(caller, address, receiver, to, mode),
-            Call::Grant {
-                process,
-                address,
-                page,
-                right,
-                give,
-                rule,
-            } => self.grant(process, address, page, right, give, rule),
-            Call::Take {
-                caller,
-                process,
-                address,
-            } => Some(
-                self.grants
-                    .take(caller, process, address, memory, tables, buffer),
-            ),
-            Call::Drop {
-                process,
-                address,
-                by_command,
-            } => self.drop_page(process, address, by_command),
-            Call::Revoke {
-                process,
-                address,
-                rule,
-            } => Some(
-                self.grants
-                    .revoke(process, address, rule, memory, tables, buffer),
-            ),
-            Call::Narrow { process, address } => {
-                Some(self.grants.narrow(process, address, memory, tables, buffer))
+        match (verb, operands) {
+            ("give", [caller, address, receiver, to, mode]) => {
+                self.give(*caller, *address, *receiver, *to, *mode)
             }
-            Call::End { process } => self.end(process),
+            ("grant", [process, address, page, right @ 0..=1, give @ 0..=1, rule]) => {
+                let right = if *right == 1 {
+                    Right::Write
+                } else {
+                    Right::Read
+                };
+                self.grant(*process, *address, *page, right, *give == 1, *rule)
+            }
+            ("take", [caller, process, address]) => {
+                Some(
+                    self.grants
+                        .take(*caller, *process, *address, memory, tables, buffer),
+                )
+            }
+            ("drop", [process, address, by_command @ 0..=1]) => {
+                self.drop_page(*process, *address, *by_command == 1)
+            }
+            ("revoke", [process, address, rule]) => {
+                Some(
+                    self.grants
+                        .revoke(*process, *address, *rule, memory, tables, buffer),
+                )
+            }
+            ("narrow", [process, address]) => {
+                Some(
+                    self.grants
+                        .narrow(*process, *address, memory, tables, buffer),
+                )
+            }
+            ("end", [process]) => self.end(*process),
+            _ => None,
         }
     }
 

@@ -3,7 +3,9 @@ ghost use Rattle.std.specs.Prelude.{◌≡◌};
 
 use crate::grants::answers::answer;
 use crate::grants::replay::Replay;
-use crate::grants::step::Step;
+use crate::grants::words::operands;
+use crate::machine::case::step_of;
+use crate::machine::told::said;
 use ds_mem::OutOfMemory;
 use ds_tlb::{Indexed, Lookaside, Tlb};
 use std::alloc::{AllocError, Global};
@@ -23,7 +25,7 @@ const FILES: [&str; 4] = [
 const TOLD: u64 = 10;
 
 /// How the lines of a file came out.
-#[derive(Clone, Copy, Debug)]
+#[derive(Clone, Copy)]
 struct Tally {
     calls: u64,
     others: u64,
@@ -59,34 +61,63 @@ fn parts_of(line: &str) -> (&str, &str) {
     }
 }
 
-/// What a line asks for.
-fn step_of(alloc: Global, asked: &str) -> Result<Option<Step>, AllocError> {
-    let words: Vec<&str> = asked.split_whitespace().collect(alloc)?;
-    Ok(Step::read(&words))
-}
-
-/// Does what a line asks for, and answers it.
+/// Does what a line asks for, by its verb and operands, and answers it. Beside calls there are
+///
+///     start PROCESSES FRAMES NAMED    anew, with no entries
+///     write PAGE BYTE                 fills the page's frame
+///     fill PROCESS ADDRESS            what a miss of the process there leads to
+///     entry PROCESS ADDRESS           what is granted there
+///     addresses PROCESS               those of all its entries, in the order in which they came
+///     byte PAGE                       what the page's frame is filled with
+///     translation ADDRESS             what the buffer answers
 fn answered<L: Lookaside>(
     alloc: Global,
     replay: &mut Replay<L>,
-    step: Option<Step>,
+    verb: &str,
+    operands: &[u32],
 ) -> Result<Option<String>, AllocError>
     requires slots { L.SLOTS ≡ 64 }
     requires wired { L.WIRED ≡ 8 }
 {
-    match step {
-        Some(
-            Step::Start {
-                processes,
-                frames,
-                named,
-            },
-        ) => {
-            *replay = restarted(alloc, processes, frames, named)?;
-            Ok(Some(String::from_str(alloc, "ok")?))
+    match (verb, operands) {
+        ("start", [processes, frames, named]) => {
+            *replay = restarted(alloc, *processes, *frames, *named)?;
+            said(alloc, "ok")
         }
-        Some(step) => answer(alloc, replay, step),
+        _ => answer(alloc, replay, verb, operands),
+    }
+}
+
+/// What a line asks for, as the text that comes of it; none where nobody can ask so.
+fn came_of<L: Lookaside>(
+    alloc: Global,
+    replay: &mut Replay<L>,
+    asked: &str,
+) -> Result<Option<String>, AllocError>
+    requires slots { L.SLOTS ≡ 64 }
+    requires wired { L.WIRED ≡ 8 }
+{
+    let (verb, rest) = step_of(asked);
+    match operands(alloc, rest)? {
+        Some(operands) => answered(alloc, replay, verb, &operands),
         None => Ok(None),
+    }
+}
+
+/// The text that came, or words that no line wants.
+fn text_of(came: &Option<String>) -> &str {
+    match came {
+        Some(came) => came.as_str(),
+        None => "nothing, since nobody can ask so",
+    }
+}
+
+/// Whether a line asks for a call.
+fn is_call(asked: &str) -> bool {
+    let (verb, _) = step_of(asked);
+    match verb {
+        "grant" | "give" | "take" | "drop" | "revoke" | "narrow" | "end" => true,
+        _ => false,
     }
 }
 
@@ -101,10 +132,11 @@ impl Tally {
     }
 
     /// Counts a line.
-    fn count(&mut self, step: &Option<Step>, is_as_wanted: bool) {
-        match step {
-            Some(Step::Call(_)) => self.calls = self.calls.saturating_add(1),
-            _ => self.others = self.others.saturating_add(1),
+    fn count(&mut self, is_call: bool, is_as_wanted: bool) {
+        if is_call {
+            self.calls = self.calls.saturating_add(1);
+        } else {
+            self.others = self.others.saturating_add(1);
         }
         if !is_as_wanted {
             self.differ = self.differ.saturating_add(1);
@@ -128,24 +160,17 @@ fn replay_line<L: Lookaside, W: Write>(
     if asked.is_empty() {
         return Ok(());
     }
-    let step = step_of(alloc, asked)?;
-    let came = answered(alloc, replay, step)?;
-    let is_as_wanted = match &came {
-        Some(came) => came.as_str() == wanted,
-        None => false,
-    };
-    tally.count(&step, is_as_wanted);
-    if !is_as_wanted && tally.differ <= TOLD {
-        let (file, line) = place;
-        match came {
-            Some(came) => write!(
-                out,
-                "{file}:{line}: {asked}: wanted {wanted}, came {came}\n"
-            )?,
-            None => write!(out, "{file}:{line}: {asked}: nothing that can be asked\n")?,
-        }
+    let came = came_of(alloc, replay, asked)?;
+    let came = text_of(&came);
+    tally.count(is_call(asked), came == wanted);
+    if came == wanted || tally.differ > TOLD {
+        return Ok(());
     }
-    Ok(())
+    let (file, line) = place;
+    write!(
+        out,
+        "{file}:{line}: {asked}: wanted {wanted}, came {came}\n"
+    )
 }
 
 /// Replays a file over a buffer, and writes how many lines differ, after the first of these;

@@ -1,33 +1,26 @@
-//! The words of a line.
+//! The operands of a line.
 
-use ds_policy::Right;
+use std::alloc::{AllocError, Global};
 
-/// A number in decimal digits.
-pub fn number(word: &str) -> Option<u32> {
-    word.parse::<u32>().ok()
-}
-
-/// An address in hexadecimal digits.
-pub fn address(word: &str) -> Option<u32> {
-    u32::from_str_radix(word, 16).ok()
-}
-
-/// A right that can be granted.
-pub fn right(word: &str) -> Option<Right> {
-    match word {
-        "read" => Some(Right::Read),
-        "write" => Some(Right::Write),
-        _ => None,
+/// The operands that a line has after its verb, as numbers, where all are operands.
+pub fn operands(alloc: Global, text: &str) -> Result<Option<Vec<u32>>, AllocError> {
+    let mut operands = Vec::new(alloc);
+    for word in text.split_whitespace() {
+        match operand(word) {
+            Some(operand) => operands.push(operand)?,
+            None => return Ok(None),
+        }
     }
+    Ok(Some(operands))
 }
 
-/// Which of two words it is: the first is no, and the second yes.
-pub fn choice(word: &str, no: &str, yes: &str) -> Option<bool> {
-    if word == no {
-        Some(false)
-    } else if word == yes {
-        Some(true)
-    } else {
-        None
+/// An address in eight hexadecimal digits, a number in decimal digits, or one of two words: 0 for
+/// the first and 1 for the second of `read` and `write`, `keep` and `give`, `own` and `command`.
+fn operand(word: &str) -> Option<u32> {
+    match word {
+        "read" | "keep" | "own" => Some(0),
+        "write" | "give" | "command" => Some(1),
+        _ if word.len() == 8 => u32::from_str_radix(word, 16).ok(),
+        _ => word.parse::<u32>().ok(),
     }
 }

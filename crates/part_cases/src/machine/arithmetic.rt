@@ -1,5 +1,6 @@
 //! What arithmetic makes of words, and the fields of an instruction.
 
+use crate::machine::told::{number, said};
 use ds_word::{
     byte_signed, byte_unsigned, checked_difference, checked_sum, code, div_signed, div_unsigned,
     funct, half_signed, half_unsigned, imm, is_negative, merge_left, merge_right, mul_signed,
@@ -19,20 +20,23 @@ pub fn answer(alloc: Global, name: &str, operands: &[u32]) -> Result<Option<Stri
         _ => None,
     };
     if let Some(word) = word {
-        return Ok(Some(format!(in alloc; "{word:08x}")?));
+        return number(alloc, word);
     }
     match (name, operands) {
-        ("fields", [word]) => fields(alloc, *word).map(Some),
+        ("fields", [word]) => fields(alloc, *word),
         (_, [a, b]) => of_pair(alloc, name, *a, *b),
         _ => Ok(None),
     }
 }
 
 /// The six fields of a word, by their numbers.
-fn fields(alloc: Global, word: u32) -> Result<String, AllocError> {
+fn fields(alloc: Global, word: u32) -> Result<Option<String>, AllocError> {
     let (source, second, destination) = (rs(word), rt(word), rd(word));
     let (operation, amount, function) = (op(word), shamt(word), funct(word));
-    format!(in alloc; "{operation} {source} {second} {destination} {amount} {function}")
+    let text = format!(in alloc;
+        "{operation} {source} {second} {destination} {amount} {function}"
+    )?;
+    Ok(Some(text))
 }
 
 /// The functions of one word.
@@ -88,17 +92,17 @@ fn of_pair(alloc: Global, name: &str, a: u32, b: u32) -> Result<Option<String>, 
         "mul_unsigned" => mul_unsigned(a, b),
         "div_signed" => div_signed(a, b),
         "div_unsigned" => div_unsigned(a, b),
-        "checked_sum" => return told(alloc, checked_sum(a, b)).map(Some),
-        "checked_difference" => return told(alloc, checked_difference(a, b)).map(Some),
+        "checked_sum" => return told(alloc, checked_sum(a, b)),
+        "checked_difference" => return told(alloc, checked_difference(a, b)),
         _ => return Ok(None),
     };
     Ok(Some(format!(in alloc; "{high:08x} {low:08x}")?))
 }
 
 /// A word, or - for none.
-fn told(alloc: Global, word: Option<u32>) -> Result<String, AllocError> {
+fn told(alloc: Global, word: Option<u32>) -> Result<Option<String>, AllocError> {
     match word {
-        Some(word) => format!(in alloc; "{word:08x}"),
-        None => format!(in alloc; "-"),
+        Some(word) => number(alloc, word),
+        None => said(alloc, "-"),
     }
 }

@@ -1,4 +1,6 @@
 //! Steps on the bus.
+
+use crate::machine::told::{number, said};
 use ds_dev::Bus;
 use ds_isa::Size;
 use std::alloc::{AllocError, Global};
@@ -11,8 +13,8 @@ pub fn answer(
     operands: &[u32],
 ) -> Result<Option<String>, AllocError> {
     match (step, operands) {
-        ("sent", []) => sent(alloc, bus).map(Some),
-        ("lines", []) => lines(alloc, bus).map(Some),
+        ("sent", []) => sent(alloc, bus),
+        ("lines", []) => said(alloc, lines(bus)),
         ("receive", [line @ 0..=3, byte @ 0..=255]) => {
             let taken = bus.receive(*line as u8, *byte as u8);
             said(alloc, if taken { "taken" } else { "lost" })
@@ -28,11 +30,6 @@ pub fn answer(
             None => Ok(None),
         },
     }
-}
-
-/// An answer of one word.
-fn said(alloc: Global, word: &str) -> Result<Option<String>, AllocError> {
-    Ok(Some(String::from_str(alloc, word)?))
 }
 
 /// How much a step loads or stores.
@@ -55,7 +52,7 @@ fn access(
 ) -> Result<Option<String>, AllocError> {
     match operands {
         [address] if size.is_aligned(*address) => match bus.load(*address, size) {
-            Ok(value) => Ok(Some(format!(in alloc; "{value:08x}")?)),
+            Ok(value) => number(alloc, value),
             Err(_) => said(alloc, "refused"),
         },
         [address, value] if size.is_aligned(*address) => {
@@ -69,21 +66,19 @@ fn access(
 }
 
 /// The character that waits to leave: its line and its byte.
-fn sent(alloc: Global, bus: &mut Bus) -> Result<String, AllocError> {
-    match bus.sent() {
-        Some((line, byte)) => format!(in alloc; "{line} {byte:02x}"),
-        None => format!(in alloc; "nothing"),
-    }
+fn sent(alloc: Global, bus: &mut Bus) -> Result<Option<String>, AllocError> {
+    let Some((line, byte)) = bus.sent() else {
+        return said(alloc, "nothing");
+    };
+    Ok(Some(format!(in alloc; "{line} {byte:02x}")?))
 }
 
 /// The requests to the processor, of the system register and of the clock.
-fn lines(alloc: Global, bus: &Bus) -> Result<String, AllocError> {
-    let (system, clock) = bus.lines();
-    let text = match (system, clock) {
+fn lines(bus: &Bus) -> &'static str {
+    match bus.lines() {
         (false, false) => "none",
         (true, false) => "system",
         (false, true) => "clock",
         (true, true) => "both",
-    };
-    String::from_str(alloc, text)
+    }
 }

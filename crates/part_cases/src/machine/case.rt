@@ -3,7 +3,7 @@
 use std::alloc::{AllocError, Global};
 
 /// A case: what it is run on, and what has to come out.
-#[derive(Clone, Copy, Debug, PartialEq, Eq)]
+#[derive(Clone, Copy)]
 pub struct Case<'a> {
     /// A step's name, where the file has steps, and numbers in hexadecimal digits.
     pub given: &'a str,
@@ -12,7 +12,7 @@ pub struct Case<'a> {
 }
 
 /// A line, without its comment, which begins with `#`.
-#[derive(Clone, Copy, Debug, PartialEq, Eq)]
+#[derive(Clone, Copy)]
 pub enum Line<'a> {
     /// Nothing.
     Blank,

@@ -2,7 +2,7 @@
 ghost use Rattle.std.specs.Prelude.{◌≡◌};
 
 use crate::machine::processor::{KERNEL, new_core, put_program};
-use ds_core::{Core, Event};
+use ds_core::Event;
 use ds_cp0::{Cp0, ExceptionCode, register};
 use ds_dev::Bus;
 use ds_tlb::Lookaside;
@@ -28,7 +28,7 @@ pub fn fault_of<L: Lookaside>(
     };
     for _ in 0..4 {
         if let Event::Raised(code) = core.step(bus) {
-            return Ok(Some(told_fault(alloc, code, &core.cp0, core.pc)?));
+            return told_fault(alloc, code, &core.cp0, core.pc);
         }
     }
     Ok(None)
@@ -40,12 +40,12 @@ fn told_fault(
     code: ExceptionCode,
     cp0: &Cp0,
     pc: u32,
-) -> Result<String, AllocError> {
+) -> Result<Option<String>, AllocError> {
     let epc = cp0.read(register::EPC);
     let address = cp0.read(register::BAD_VADDR);
     let in_slot = cp0.read(register::CAUSE) >> 31 == 1;
     let slot = if in_slot { "BD" } else { "-" };
-    format!(in alloc; "{code:?} {epc:08x} {address:08x} {slot} {pc:08x}")
+    Ok(Some(format!(in alloc; "{code:?} {epc:08x} {address:08x} {slot} {pc:08x}")?))
 }
 
 /// What registers 4 and 9 hold after the words that are given, run by the kernel with register 8
@@ -65,7 +65,11 @@ pub fn registers_behind<L: Lookaside>(
     for _ in words {
         core.step(bus);
     }
-    let (fourth, ninth) = (core.registers[4], core.registers[9]);
+    told_registers(alloc, core.registers[4], core.registers[9])
+}
+
+/// Two registers in digits.
+fn told_registers(alloc: Global, fourth: u32, ninth: u32) -> Result<Option<String>, AllocError> {
     Ok(Some(format!(in alloc; "{fourth:08x} {ninth:08x}")?))
 }
 
@@ -86,20 +90,24 @@ pub fn entry_behind<L: Lookaside>(
     let Ok(mut core) = new_core::<L>(0, KERNEL, 0) else {
         return Ok(None);
     };
-    put_entry(&mut core, *index, *high, *low);
+    put_entry(&mut core.cp0, *index, *high, *low);
     for _ in words {
         core.step(bus);
     }
-    let index = core.cp0.read(register::INDEX);
-    let high = core.cp0.read(register::ENTRY_HI);
-    let low = core.cp0.read(register::ENTRY_LO);
-    let ninth = core.registers[9];
-    Ok(Some(format!(in alloc; "{index:08x} {high:08x} {low:08x} {ninth:08x}")?))
+    told_entry(alloc, &core.cp0, core.registers[9])
+}
+
+/// Index, EntryHi and EntryLo in digits, and the word after them.
+fn told_entry(alloc: Global, cp0: &Cp0, word: u32) -> Result<Option<String>, AllocError> {
+    let index = cp0.read(register::INDEX);
+    let high = cp0.read(register::ENTRY_HI);
+    let low = cp0.read(register::ENTRY_LO);
+    Ok(Some(format!(in alloc; "{index:08x} {high:08x} {low:08x} {word:08x}")?))
 }
 
 /// Puts words into Index, EntryHi and EntryLo.
-fn put_entry<L: Lookaside>(core: &mut Core<L>, index: u32, high: u32, low: u32) {
-    core.cp0.write(register::INDEX, index);
-    core.cp0.write(register::ENTRY_HI, high);
-    core.cp0.write(register::ENTRY_LO, low);
+fn put_entry(cp0: &mut Cp0, index: u32, high: u32, low: u32) {
+    cp0.write(register::INDEX, index);
+    cp0.write(register::ENTRY_HI, high);
+    cp0.write(register::ENTRY_LO, low);
 }

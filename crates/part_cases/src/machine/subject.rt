@@ -1,17 +1,19 @@
 //! What the cases are about.
+ghost use Rattle.std.specs.Prelude.{◌≡◌};
 
 use crate::machine::case::{numbers, step_of};
 use crate::machine::programs::{entry_behind, fault_of, registers_behind};
 use crate::machine::words::{instruction_of, kind_of_all, operation_of, registers_of};
-use crate::machine::{arithmetic, bus, system};
+use crate::machine::{arithmetic, bus, memory, system, told};
 use ds_cp0::Cp0;
 use ds_dev::Bus;
-use ds_tlb::{Indexed, Tlb};
+use ds_tables::Tables;
+use ds_tlb::{Indexed, Lookaside, Tlb};
 use std::alloc::{AllocError, Global};
 use std::fmt;
 
 /// Which translation buffer the processor has.
-#[derive(Clone, Copy, Debug, PartialEq, Eq)]
+#[derive(Clone, Copy)]
 pub enum Buffer {
     /// The one that is searched slot by slot.
     Searched,
@@ -19,17 +21,18 @@ pub enum Buffer {
     Indexed,
 }
 
-impl fmt::Display for Buffer {
-    fn fmt<W: fmt::Write>(&self, f: &mut fmt::Formatter<W>) -> fmt::Result {
+impl Buffer {
+    /// Its name, in what is told.
+    fn name(self) -> &'static str {
         match self {
-            Buffer::Searched => write!(f, "searched"),
-            Buffer::Indexed => write!(f, "indexed"),
+            Buffer::Searched => "searched",
+            Buffer::Indexed => "indexed",
         }
     }
 }
 
 /// What the cases of a file are about.
-#[derive(Clone, Copy, Debug, PartialEq, Eq)]
+#[derive(Clone, Copy)]
 pub enum Subject {
     /// What arithmetic makes of words.
     Arithmetic,
@@ -45,6 +48,8 @@ pub enum Subject {
     System,
     /// Steps on the bus.
     Bus,
+    /// Steps on the memory and the page tables in it.
+    Memory,
     /// Programs that end in a fault.
     Faults(Buffer),
     /// Loads, whose values come late.
@@ -54,7 +59,7 @@ pub enum Subject {
 }
 
 /// All of them, in the order in which they are told.
-pub const SUBJECTS: [Subject; 13] = [
+pub const SUBJECTS: [Subject; 14] = [
     Subject::Arithmetic,
     Subject::Decoded,
     Subject::Registers,
@@ -62,6 +67,7 @@ pub const SUBJECTS: [Subject; 13] = [
     Subject::Rowless,
     Subject::System,
     Subject::Bus,
+    Subject::Memory,
     Subject::Faults(Buffer::Searched),
     Subject::Faults(Buffer::Indexed),
     Subject::Late(Buffer::Searched),
@@ -75,6 +81,7 @@ pub const SUBJECTS: [Subject; 13] = [
 pub struct Machine {
     pub bus: Bus,
     pub cp0: Cp0,
+    pub tables: Tables,
 }
 
 impl Subject {
@@ -88,6 +95,7 @@ impl Subject {
             Subject::Rowless => "machine/rowless",
             Subject::System => "machine/system",
             Subject::Bus => "machine/bus",
+            Subject::Memory => "machine/memory",
             Subject::Faults(_) => "machine/faults",
             Subject::Late(_) => "machine/late",
             Subject::Entries(_) => "machine/entries",
@@ -102,7 +110,10 @@ impl Subject {
         machine: &mut Machine,
         given: &str,
     ) -> Result<Option<String>, AllocError> {
-        let is_step = matches!(&self, Subject::Arithmetic | Subject::System | Subject::Bus);
+        let is_step = matches!(
+            &self,
+            Subject::Arithmetic | Subject::System | Subject::Bus | Subject::Memory
+        );
         let (step, operands) = if is_step { step_of(given) } else { ("", given) };
         let Some(operands) = numbers(alloc, operands)? else {
             return Ok(None);
@@ -112,6 +123,13 @@ impl Subject {
             Subject::Arithmetic => arithmetic::answer(alloc, step, operands),
             Subject::System => system::answer(alloc, &mut machine.cp0, step, operands),
             Subject::Bus => bus::answer(alloc, &mut machine.bus, step, operands),
+            Subject::Memory => {
+                let memory = machine.bus.memory();
+                match memory::answer(memory, &mut machine.tables, step, operands) {
+                    Some(number) => told::number(alloc, number),
+                    None => Ok(None),
+                }
+            }
             Subject::Decoded | Subject::Registers | Subject::Operations | Subject::Rowless =>
                 self.of_words(alloc, operands),
             Subject::Faults(_) | Subject::Late(_) | Subject::Entries(_) => {
@@ -139,12 +157,29 @@ impl Subject {
         given: &[u32],
     ) -> Result<Option<String>, AllocError> {
         match self {
-            Subject::Faults(Buffer::Searched) => fault_of::<Tlb<64, 8>>(alloc, bus, given),
-            Subject::Faults(Buffer::Indexed) => fault_of::<Indexed<64, 8>>(alloc, bus, given),
-            Subject::Late(Buffer::Searched) => registers_behind::<Tlb<64, 8>>(alloc, bus, given),
-            Subject::Late(Buffer::Indexed) => registers_behind::<Indexed<64, 8>>(alloc, bus, given),
-            Subject::Entries(Buffer::Searched) => entry_behind::<Tlb<64, 8>>(alloc, bus, given),
-            Subject::Entries(Buffer::Indexed) => entry_behind::<Indexed<64, 8>>(alloc, bus, given),
+            Subject::Faults(Buffer::Searched)
+            | Subject::Late(Buffer::Searched)
+            | Subject::Entries(Buffer::Searched) => {
+                self.of_program_over::<Tlb<64, 8>>(alloc, bus, given)
+            }
+            _ => self.of_program_over::<Indexed<64, 8>>(alloc, bus, given),
+        }
+    }
+
+    /// What comes of a case of a program over a buffer.
+    fn of_program_over<L: Lookaside>(
+        self,
+        alloc: Global,
+        bus: &mut Bus,
+        given: &[u32],
+    ) -> Result<Option<String>, AllocError>
+        requires slots { L.SLOTS ≡ 64 }
+        requires wired { L.WIRED ≡ 8 }
+    {
+        match self {
+            Subject::Faults(_) => fault_of::<L>(alloc, bus, given),
+            Subject::Late(_) => registers_behind::<L>(alloc, bus, given),
+            Subject::Entries(_) => entry_behind::<L>(alloc, bus, given),
             _ => Ok(None),
         }
     }
@@ -155,7 +190,8 @@ impl fmt::Display for Subject {
         let file = self.file();
         match self {
             Subject::Faults(buffer) | Subject::Late(buffer) | Subject::Entries(buffer) => {
-                write!(f, "{file}, {buffer} buffer")
+                let name = buffer.name();
+                write!(f, "{file}, {name} buffer")
             }
             _ => write!(f, "{file}"),
         }

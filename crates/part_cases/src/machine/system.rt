@@ -1,5 +1,6 @@
 //! Steps on the system coprocessor.
 
+use crate::machine::told::{number, said};
 use ds_cp0::{Cp0, Exception, ExceptionCode};
 use std::alloc::{AllocError, Global};
 
@@ -11,58 +12,55 @@ pub fn answer(
     step: &str,
     operands: &[u32],
 ) -> Result<Option<String>, AllocError> {
-    let text = match (step, operands) {
-        ("read", [number @ 0..=31]) => {
-            let value = cp0.read(*number as u8);
-            format!(in alloc; "{value:08x}")?
-        }
-        ("write", [number @ 0..=31, value]) => {
-            cp0.write(*number as u8, *value);
-            format!(in alloc; "done")?
+    match (step, operands) {
+        ("read", [register @ 0..=31]) => number(alloc, cp0.read(*register as u8)),
+        ("write", [register @ 0..=31, value]) => {
+            cp0.write(*register as u8, *value);
+            said(alloc, "done")
         }
         ("rfe", []) => {
             cp0.rfe();
-            format!(in alloc; "done")?
+            said(alloc, "done")
         }
-        ("mode", []) => {
-            let mode = if cp0.user() { "user" } else { "kernel" };
-            format!(in alloc; "{mode}")?
-        }
-        ("address_space", []) => {
-            let asid = cp0.asid();
-            format!(in alloc; "{asid}")?
-        }
+        ("mode", []) => said(alloc, if cp0.user() { "user" } else { "kernel" }),
+        ("address_space", []) => number(alloc, u32::from(cp0.asid())),
         ("pending", [system, clock]) => {
             let pending = cp0.pending(*system == 1, *clock == 1);
-            format!(in alloc; "{pending}")?
+            said(alloc, if pending { "true" } else { "false" })
         }
-        ("nonzero", []) => nonzero(alloc, cp0)?,
-        ("enter", operands) => return enter(alloc, cp0, operands),
-        _ => return Ok(None),
-    };
-    Ok(Some(text))
+        ("nonzero", []) => nonzero(alloc, cp0).map(Some),
+        ("enter", operands) => enter(alloc, cp0, operands),
+        _ => Ok(None),
+    }
 }
 
 /// The numbers of the registers that do not read 0, each with what it reads.
 fn nonzero(alloc: Global, cp0: &Cp0) -> Result<String, AllocError> {
     let mut text = String::new(alloc);
     for number in 0..32u8 {
-        let value = cp0.read(number);
-        if value != 0 {
-            let blank = if text.is_empty() { "" } else { " " };
-            text.push_str(format!(in alloc; "{blank}{number:x} {value:08x}")?.as_str())?;
-        }
+        push_register(&mut text, number, cp0.read(number))?;
     }
     Ok(text)
+}
+
+/// Adds a register's number and what it reads, where that is not 0.
+fn push_register(text: &mut String, number: u8, value: u32) -> Result<(), AllocError> {
+    if value == 0 {
+        return Ok(());
+    }
+    if !text.is_empty() {
+        text.push(' ')?;
+    }
+    write!(text, "{number:x} {value:08x}")
 }
 
 /// Enters an exception of the instruction at 00400000: its cause, the coprocessor, 1 where it is in
 /// a slot, 1 where no entry matched, and the address that was refused, if there is one.
 fn enter(alloc: Global, cp0: &mut Cp0, operands: &[u32]) -> Result<Option<String>, AllocError> {
-    let [number, unit @ 0..=3, slot, miss, refused @ ..] = operands else {
+    let [cause, unit @ 0..=3, slot, miss, refused @ ..] = operands else {
         return Ok(None);
     };
-    let Some(code) = code_of(*number) else {
+    let Some(code) = code_of(*cause) else {
         return Ok(None);
     };
     let vector = cp0.enter(Exception {
@@ -73,7 +71,7 @@ fn enter(alloc: Global, cp0: &mut Cp0, operands: &[u32]) -> Result<Option<String
         addr: refused.first().copied(),
         miss: *miss == 1,
     });
-    Ok(Some(format!(in alloc; "{vector:08x}")?))
+    number(alloc, vector)
 }
 
 /// The cause that Cause shows by a number.

@@ -19,7 +19,7 @@ pub fn instruction_of(alloc: Global, word: u32) -> Result<String, AllocError> {
 }
 
 /// A register's number, or - for none.
-#[derive(Clone, Copy, Debug)]
+#[derive(Clone, Copy)]
 struct Register(Option<u8>);
 
 impl fmt::Display for Register {
@@ -49,7 +49,7 @@ pub fn operation_of(alloc: Global, word: u32) -> Result<String, AllocError> {
 }
 
 /// Whether a word fits a row of the table.
-#[derive(Clone, Copy, Debug, PartialEq, Eq)]
+#[derive(Clone, Copy, PartialEq, Eq)]
 enum Kind {
     /// It is an instruction.
     Row,
@@ -75,14 +75,11 @@ fn kind_of(word: u32) -> Kind
     ensures coprocessor { (unit : ℕ) → result ≡ Kind.Coprocessor unit
         → instruction_of word ≡ Instr.Cop unit word }
 {
-    match decode(word) {
-        Instr::Reserved(kept) if encode(&Instr::Reserved(word)) == word && kept == word => {
-            Kind::Reserved
-        }
-        Instr::Cop { unit, word: kept }
-            if encode(&Instr::Cop { unit, word }) == word && kept == word => {
-            Kind::Coprocessor(unit)
-        }
+    let instr = decode(word);
+    let comes_back = encode(&instr) == word;
+    match instr {
+        Instr::Reserved(kept) if comes_back && kept == word => Kind::Reserved,
+        Instr::Cop { unit, word: kept } if comes_back && kept == word => Kind::Coprocessor(unit),
         _ => Kind::Row,
     }
 }

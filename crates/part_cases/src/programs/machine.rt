@@ -81,24 +81,21 @@ impl<L: Lookaside> Machine<L> {
         })
     }
 
-    /// A machine in kernel mode and address space 1, at the start of a program. Its code is page
-    /// 00400 of spaces 1 and 2, and frame 1; page 00410 is frame 2 in space 1 and frame 4 in space
-    /// 2; page 00411 is frame 3, and clean.
-    pub fn new(alloc: Global, image: &Image) -> io::Result<Machine<L>>
+    /// Puts a program into a blank machine, which stands at its start in address space 1. Its code
+    /// is page 00400 of spaces 1 and 2, and frame 1; page 00410 is frame 2 in space 1 and frame 4 in
+    /// space 2; page 00411 is frame 3, and clean.
+    pub fn load(&mut self, image: &Image)
         requires slots { L.SLOTS ≡ 64 }
-        requires wired { L.WIRED ≡ 8 }
     {
-        let mut machine = Machine::blank(alloc)?;
-        image.page(0, machine.bus.memory().frame_mut(1));
-        let tlb: &mut L = &mut machine.core.tlb;
+        image.page(0, self.bus.memory().frame_mut(1));
+        let tlb: &mut L = &mut self.core.tlb;
         tlb.write(8, page(0x400, 1, 1, true));
         tlb.write(9, page(0x410, 1, 2, true));
         tlb.write(10, page(0x411, 1, 3, false));
         tlb.write(11, page(0x400, 2, 1, true));
         tlb.write(12, page(0x410, 2, 4, true));
-        machine.core.cp0.write(register::ENTRY_HI, 0x40);
-        machine.go_on_at(START);
-        Ok(machine)
+        self.core.cp0.write(register::ENTRY_HI, 0x40);
+        self.go_on_at(START);
     }
 
     /// Goes on at an address.

@@ -1,4 +1,5 @@
 //! Random programs, by single steps and ahead.
+ghost use Rattle.std.specs.Prelude.{◌≡◌};
 
 mod dice;
 mod pair;
@@ -7,8 +8,8 @@ mod start;
 mod turn;
 mod words;
 
-use ds_tlb::{Indexed, Tlb};
-use pair::Pair;
+use ds_tlb::{Indexed, Lookaside, Tlb};
+pub use pair::Pair;
 use reached::EXCEPTIONS;
 pub use reached::Reached;
 use std::alloc::Global;
@@ -17,30 +18,68 @@ use std::io;
 /// The steps of a program.
 const STEPS: u32 = 1000;
 
+/// How programs went.
+#[derive(Clone, Copy)]
+enum Outcome {
+    /// All went alike.
+    Alike,
+    /// The program of this number did not, and was found out after so many steps.
+    Differ(u32, u32),
+    /// The programs did, and left memories that are not alike.
+    MemoriesDiffer,
+}
+
+/// Goes through every other one of so many programs, from the first or the second on.
+fn go_through<A: Lookaside, B: Lookaside>(
+    alloc: Global,
+    first: u32,
+    programs: u32,
+    reached: &mut Reached,
+) -> io::Result<Outcome>
+    requires slots { A.SLOTS ≡ 64 }
+    requires wired { A.WIRED ≡ 8 }
+    requires ahead_slots { B.SLOTS ≡ 64 }
+    requires ahead_wired { B.WIRED ≡ 8 }
+{
+    let mut pair: Pair<A, B> = Pair::new(alloc)?;
+    for number in first..programs {
+        if number % 2 == first {
+            if let Some(steps) = pair.differ(number, reached)? {
+                return Ok(Outcome::Differ(number, steps));
+            }
+        }
+    }
+    if pair.have_like_memories() {
+        Ok(Outcome::Alike)
+    } else {
+        Ok(Outcome::MemoriesDiffer)
+    }
+}
+
 /// Goes through so many programs, each over either buffer in turn, and tells what they reached.
 /// Answers whether all went alike.
 pub fn run_random<R: Print>(rt: &R, alloc: Global, programs: u32) -> io::Result<bool> {
-    let mut over_indexed: Pair<Tlb<64, 8>, Indexed<64, 8>> = Pair::new(alloc)?;
-    let mut over_tlb: Pair<Indexed<64, 8>, Tlb<64, 8>> = Pair::new(alloc)?;
     let mut reached = Reached::new();
-    for number in 0..programs {
-        let differ = if number % 2 == 0 {
-            over_indexed.differ(number, &mut reached)?
-        } else {
-            over_tlb.differ(number, &mut reached)?
-        };
-        if let Some(steps) = differ {
+    let even = go_through::<Tlb<64, 8>, Indexed<64, 8>>(alloc, 0, programs, &mut reached)?;
+    let odd = go_through::<Indexed<64, 8>, Tlb<64, 8>>(alloc, 1, programs, &mut reached)?;
+    let well = is_alike(rt, even)? && is_alike(rt, odd)?;
+    if well {
+        println!(rt; "{programs} random programs of {STEPS} steps: alike")?;
+        tell(rt, &reached)?;
+    }
+    Ok(well)
+}
+
+/// Tells of programs that did not go alike; whether they did.
+fn is_alike<R: Print>(rt: &R, outcome: Outcome) -> io::Result<bool> {
+    match outcome {
+        Outcome::Alike => return Ok(true),
+        Outcome::Differ(number, steps) => {
             println!(rt; "random program {number}: not alike after {steps} steps")?;
-            return Ok(false);
         }
+        Outcome::MemoriesDiffer => println!(rt; "random programs: memories not alike")?,
     }
-    if !(over_indexed.have_like_memories() && over_tlb.have_like_memories()) {
-        println!(rt; "random programs: memories not alike")?;
-        return Ok(false);
-    }
-    println!(rt; "{programs} random programs of {STEPS} steps: alike")?;
-    tell(rt, &reached)?;
-    Ok(true)
+    Ok(false)
 }
 
 /// Tells what programs reached.

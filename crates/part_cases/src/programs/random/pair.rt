@@ -7,9 +7,10 @@ use super::reached::Reached;
 use super::start::{FIRST_PAGE, PAGES, Start};
 use super::turn::Turn;
 use super::words::random_word;
-use crate::programs::lockstep::{are_alike, are_frames_alike};
+use crate::programs::lockstep::{are_alike, are_frames_alike, go_alike};
 use crate::programs::machine::Machine;
-use ds_cp0::register;
+use ds_asm::Image;
+use ds_cp0::{ExceptionCode, register};
 use ds_mem::FRAMES;
 use ds_tlb::Lookaside;
 use std::alloc::Global;
@@ -40,6 +41,18 @@ impl<A: Lookaside, B: Lookaside> Pair<A, B> {
             plain: Machine::blank(alloc)?,
             ahead: Machine::blank(alloc)?,
         })
+    }
+
+    /// Puts a program into both machines, and goes through it; whether they went alike.
+    pub fn go_alike(&mut self, image: &Image) -> bool
+        requires slots { A.SLOTS ≡ 64 }
+        requires wired { A.WIRED ≡ 8 }
+        requires ahead_slots { B.SLOTS ≡ 64 }
+        requires ahead_wired { B.WIRED ≡ 8 }
+    {
+        self.plain.load(image);
+        self.ahead.load(image);
+        go_alike(&mut self.plain, &mut self.ahead)
     }
 
     /// Goes through the program of a number. Answers where the two were found to differ, if they
@@ -126,16 +139,21 @@ impl<A: Lookaside, B: Lookaside> Pair<A, B> {
         if went != walked || !are_alike(&self.plain, &self.ahead) {
             return None;
         }
-        let (steps, turn) = match walked.raised {
-            Some(code) => {
-                let epc = self.plain.core.cp0.read(register::EPC);
-                let turn = Turn::after_exception(dice, start, code, epc);
-                (walked.steps.saturating_add(1), turn)
-            }
-            None => (walked.steps, Turn::after_calm(dice, start)),
-        };
+        let steps = walked
+            .steps
+            .saturating_add(u32::from(walked.raised.is_some()));
+        let epc = self.plain.core.cp0.read(register::EPC);
+        let turn = turn_after(dice, start, walked.raised, epc);
         self.plain.turn(turn, steps);
         self.ahead.turn(turn, steps);
         Some(steps)
+    }
+}
+
+/// What is done after steps, of which the last may have raised an exception that goes back to `epc`.
+fn turn_after(dice: &mut Dice, start: &Start, raised: Option<ExceptionCode>, epc: u32) -> Turn {
+    match raised {
+        Some(code) => Turn::after_exception(dice, start, code, epc),
+        None => Turn::after_calm(dice, start),
     }
 }
