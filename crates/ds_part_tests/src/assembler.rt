@@ -1,40 +1,50 @@
 //! What a source assembles to, where no run shows it.
-use ds_asm::{AsmFault, assemble};
+use ds_asm::{AsmFault, Image, assemble};
+use std::alloc::{AllocError, Global};
 use std::test::*;
 
 /// Sources with bars between them, each after the length of its image and an equals sign.
 const LENGTHS: &str =
     "0=|0=\n\n \t\r\n|0=# \x00\x0b\u{ff}: lw $1 # ,\n|4=nop|4=nop\n|8=\t nop \t\r\nnop#\u{ff}\r\n|4=x:nop|0= x: \t # here\n_1:\n|4=lw $1 , -0 ( $2 ) |4=lw\t$1\t,\t0x0\t(\t$2\t)\t|4=syscall # 1048576|4=jalr $4|4=abcdefghijabcdefghijabcdefghijab: j abcdefghijabcdefghijabcdefghijab|4=sll: j sll|8=.byte 1\n.space 3\nnop|65536=.space 65536|0=.space 0|65536=.space 65532\nnop\nend:";
 
-#[test]
-fn blanks_comments_and_ends_of_lines_are_free(rt: HostRuntime) -> Result<(), Fail> {
-    for case in LENGTHS.split('|') {
-        let (length, text) = case.split_once('=').ok_or("a length")?;
-        let length = length.parse::<usize>().ok().ok_or("a number")?;
-        let image = assemble(rt.alloc(), text.as_bytes())
-            .ok()
-            .ok_or("an image")?;
-        assert_eq!(rt; image.len(), length, "{text}");
-        assert_eq!(rt; image.is_empty(), length == 0, "{text}");
+/// Whether a case's image has the length that stands before it.
+fn is_as_long(alloc: Global, case: &str) -> bool {
+    let Some((length, text)) = case.split_once('=') else {
+        return false;
+    };
+    match (length.parse::<usize>(), assemble(alloc, text.as_bytes())) {
+        (Ok(length), Ok(image)) => { image.len() == length && image.is_empty() == (length == 0) }
+        _ => false,
     }
-    Ok(())
+}
+
+#[test]
+fn blanks_comments_and_ends_of_lines_are_free(rt: HostRuntime) {
+    for case in LENGTHS.split('|') {
+        assert!(rt; is_as_long(rt.alloc(), case), "{case}");
+    }
+}
+
+/// A page of an image, put over other bytes.
+fn page_of(image: &Image, part: u8) -> [u8; 4096] {
+    let mut page = [0xAAu8; 4096];
+    image.page(part, &mut page);
+    page
 }
 
 #[test]
 fn a_page_past_the_end_is_zero(rt: HostRuntime) -> Result<(), Fail> {
     let text = b".space 4094\n.byte 1\n.byte 2\n.byte -3\n".as_slice();
-    let image = assemble(rt.alloc(), text).ok().ok_or("an image")?;
-    assert_eq!(rt; image.len(), 4097);
-    let mut page = [0xAAu8; 4096];
-    image.page(0, &mut page);
+    let image = assemble(rt.alloc(), text)?;
+    let page = page_of(&image, 0);
     assert_eq!(rt; (page[0], page[4093], page[4094], page[4095]), (0, 0, 1, 2));
-    let mut page = [0xAAu8; 4096];
-    image.page(1, &mut page);
-    assert_eq!(rt; (page[0], page[1], page[4095]), (253, 0, 0));
+    let page = page_of(&image, 1);
+    assert_eq!(rt;
+        (image.len(), page[0], page[1], page[4095]),
+        (4097, 253, 0, 0)
+    );
     for part in [2, 15, 16, 255u8] {
-        let mut page = [0xAAu8; 4096];
-        image.page(part, &mut page);
-        assert!(rt; page.iter().all(|b| *b == 0), "{part}");
+        assert!(rt; page_of(&image, part) == [0; 4096], "{part}");
     }
     Ok(())
 }
@@ -55,18 +65,22 @@ fn each_front_of_a_source_has_an_image_or_a_fault(rt: HostRuntime) -> Result<(),
     Ok(())
 }
 
+/// A source of 3,000 labels, each before an instruction, and the words of three of them.
+fn source_of_labels(alloc: Global) -> Result<String, AllocError> {
+    let mut text = String::new(alloc);
+    for number in 0..3000u32 {
+        write!(text, "l{number}: nop\n")?;
+    }
+    text.push_str(".word l0\n.word l1499\n.word l2999\n")?;
+    Ok(text)
+}
+
 #[test]
 fn a_label_of_many_is_found(rt: HostRuntime) -> Result<(), Fail> {
-    let mut text = Vec::new(rt.alloc());
-    for number in 0..3000u32 {
-        let line = format!(in rt.alloc(); "l{number}: nop\n")?;
-        text.extend_from_slice(line.as_bytes())?;
-    }
-    text.extend_from_slice(b".word l0\n.word l1499\n.word l2999\n".as_slice())?;
-    let image = assemble(rt.alloc(), &text).ok().ok_or("an image")?;
+    let text = source_of_labels(rt.alloc())?;
+    let image = assemble(rt.alloc(), text.as_bytes())?;
     assert_eq!(rt; image.len(), 12_012);
-    let mut page = [0xAAu8; 4096];
-    image.page(2, &mut page);
+    let page = page_of(&image, 2);
     let words = [0, 0, 0x40, 0, 0x6C, 0x17, 0x40, 0, 0xDC, 0x2E, 0x40, 0];
     assert_eq!(rt; &page[3808..3820], words.as_slice());
     Ok(())

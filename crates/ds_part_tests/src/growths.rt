@@ -1,4 +1,6 @@
 //! Want of memory. These tests pass whichever growth is refused: `rt try --test --fail-alloc N`.
+use crate::table::is_filled;
+use ds_mem::Memory;
 use ds_policy::{
     Character, Command, EventList, Events, EventsFault, Grant, Policy, PolicyRule, Right, Table,
 };
@@ -21,6 +23,15 @@ fn policy_of(rt: &impl Abort, alloc: Global, text: &str) -> Option<Policy> {
             assert_eq!(rt; fault.number(), 25);
             None
         }
+    }
+}
+
+/// The one growth is refused with 25.
+#[test]
+fn for_want_of_memory_there_is_no_workstations_memory(rt: HostRuntime) {
+    match Memory::new(rt.alloc()) {
+        Ok(memory) => assert_eq!(rt; memory.word(0), 0),
+        Err(fault) => assert_eq!(rt; fault.number(), 25),
     }
 }
 
@@ -66,15 +77,15 @@ fn for_want_of_memory_there_is_no_table(rt: HostRuntime) {
         give: false,
         giver: 0,
     };
-    for i in 0..256u32 {
-        let addr = i * 4096;
-        assert!(rt; table.set(1, addr, grant).is_ok(), "entry {i}");
-    }
-    assert!(rt; table.set(1, 256 * 4096, grant).is_err());
-    assert_eq!(rt; table.entry(1, 255 * 4096), Some(grant));
-    assert!(rt; table.remove(1, 0).is_ok());
+    assert!(rt; is_filled(&mut table, grant, 256));
+    let refused = table.set(1, 256 * 4096, grant).is_err();
+    let last = table.entry(1, 255 * 4096);
+    let removed = table.remove(1, 0).is_ok();
     table.clear(1);
-    assert_eq!(rt; table.entry(1, 255 * 4096), None);
+    assert_eq!(rt;
+        (refused, last, removed, table.entry(1, 255 * 4096)),
+        (true, Some(grant), true, None)
+    );
 }
 
 /// There are 20 growths: 11 of the policy, 3 of the nine words, and 6 of the two commands and the
@@ -86,47 +97,53 @@ fn for_want_of_memory_an_input_says_nothing_else(rt: HostRuntime) {
     let Some(policy) = policy_of(&rt, rt.alloc(), SMALLEST) else {
         return;
     };
-    for (text, wanted, commands, characters) in [
-        (b"".as_slice(), 0, 0, 0),
-        (b"# nothing\n\n".as_slice(), 0, 0, 0),
-        (b"\n#\n1 2 3 4 5 6 7 8 9".as_slice(), 3, 0, 0),
+    for (text, wanted) in [
+        (b"".as_slice(), (0, 0, 0)),
+        (b"# nothing\n\n".as_slice(), (0, 0, 0)),
+        (b"\n#\n1 2 3 4 5 6 7 8 9".as_slice(), (3, 0, 0)),
         (
             b"1 stop 1\n1 key 0 4142\n2 drop 1 00000000".as_slice(),
-            0,
-            2,
-            2,
+            (0, 2, 2),
         ),
     ] {
-        match Events::read(rt.alloc(), text, &policy) {
-            Ok(events) => {
-                assert_eq!(rt; wanted, 0, "{text:?}");
-                assert_eq!(rt; events.commands().len(), commands);
-                assert_eq!(rt; events.characters().len(), characters);
-            }
-            Err(EventsFault::InputFault(line)) => assert_eq!(rt; line, wanted, "{text:?}"),
-            Err(EventsFault::Memory) => {}
+        if let Some(said) = said_by(rt.alloc(), text, &policy) {
+            assert_eq!(rt; said, wanted, "{text:?}");
         }
     }
 }
 
-/// Stops unless the list has so many commands, one a tick, and so many characters, two a tick.
-fn check_list(rt: &impl Abort, list: EventList, commands: usize, characters: usize) {
-    assert_eq!(rt; list.commands().len(), commands);
-    for (i, command) in list.commands().iter().enumerate() {
-        assert_eq!(rt; command.time, i as u64);
-        assert_eq!(rt; command.number as usize, i + 1);
+/// The line of an input's fault, or 0, and how many commands and characters it has; none where
+/// memory ran out.
+fn said_by(alloc: Global, text: &[u8], policy: &Policy) -> Option<(u64, usize, usize)> {
+    match Events::read(alloc, text, policy) {
+        Ok(events) => Some((0, events.commands().len(), events.characters().len())),
+        Err(EventsFault::InputFault(line)) => Some((line, 0, 0)),
+        Err(EventsFault::Memory) => None,
     }
+}
+
+/// Whether the list has so many commands, one a tick.
+fn has_commands(list: &EventList, count: usize) -> bool {
+    let mut right = list.commands().len() == count;
+    for (i, command) in list.commands().iter().enumerate() {
+        right = right && command.time == i as u64 && command.number as usize == i.saturating_add(1);
+    }
+    right
+}
+
+/// Whether the list has so many characters, two a tick.
+fn has_characters(list: EventList, count: usize) -> bool {
     let mut left = list.into_characters();
-    assert_eq!(rt; left.len(), characters);
-    for i in 0..characters {
+    let mut right = left.len() == count;
+    for i in 0..count {
         let wanted = Character {
             time: i as u64 / 2,
             line: 3,
-            byte: b'A' + (i % 2) as u8,
+            byte: if i % 2 == 0 { b'A' } else { b'B' },
         };
-        assert_eq!(rt; left.take_first(), Some(wanted));
+        right = right && left.take_first() == Some(wanted);
     }
-    assert_eq!(rt; left.take_first(), None);
+    right && left.take_first().is_none()
 }
 
 /// Each list grows several times. Where a growth is refused, the list is as it was.
@@ -140,13 +157,15 @@ fn for_want_of_memory_an_event_is_not_added(rt: HostRuntime) {
             .add_command(time, Command::Stop { process: time })
             .is_err()
         {
-            return check_list(&rt, list, added, 2 * added);
+            assert!(rt; has_commands(&list, added) && has_characters(list, 2 * added));
+            return;
         }
         assert!(rt; list.follows(time));
         if list.add_characters(time, 3, b"AB".as_slice()).is_err() {
-            return check_list(&rt, list, added + 1, 2 * added);
+            assert!(rt; has_commands(&list, added + 1) && has_characters(list, 2 * added));
+            return;
         }
     }
     assert!(rt; !list.follows(7));
-    check_list(&rt, list, 9, 18);
+    assert!(rt; has_commands(&list, 9) && has_characters(list, 18));
 }

@@ -96,44 +96,28 @@ fn new_bus(alloc: Global) -> Result<(Bus, u32), OutOfMemory> {
     Ok((Bus::new(memory), frame))
 }
 
-/// Registers 26 and 27, what is late, and EntryLo, as the handler has left them before each of its
-/// words.
-fn lent(place: usize) -> (u32, u32, Option<Late>, u32)
-    ensures { ForSome result.2 (λ l. (0 < l.register) × (l.register < 32)) }
+/// What is late before each word of the handler.
+fn late(place: usize) -> Option<Late>
+    ensures { ForSome result (λ l. (0 < l.register) × (l.register < 32)) }
 {
-    let context = pte_address(MISSED);
+    let (register, old) = match place {
+        1 => (26, 7),
+        2 => (27, 7),
+        3 => (26, pte_address(MISSED)),
+        _ => return None,
+    };
+    Some(Late { register, old })
+}
+
+/// Registers 26 and 27, and EntryLo, as the handler has left them before each of its words.
+fn lent(place: usize) -> (u32, u32, u32) {
     match place {
-        0 => (7, 7, None, 0),
-        1 => (
-            context,
-            7,
-            Some(Late {
-                register: 26,
-                old: 7,
-            }),
-            0,
-        ),
-        2 => (
-            context,
-            PROGRAM,
-            Some(Late {
-                register: 27,
-                old: 7,
-            }),
-            0,
-        ),
-        3 => (
-            WORD,
-            PROGRAM,
-            Some(Late {
-                register: 26,
-                old: context,
-            }),
-            0,
-        ),
-        4 => (WORD, PROGRAM, None, 0),
-        5 => (WORD, PROGRAM, None, WORD),
-        _ => (0, PROGRAM, None, WORD),
+        0 => (7, 7, 0),
+        1 => (pte_address(MISSED), 7, 0),
+        2 => (pte_address(MISSED), PROGRAM, 0),
+        3 | 4 => (WORD, PROGRAM, 0),
+        5 => (WORD, PROGRAM, WORD),
+        _ => (0, PROGRAM, WORD),
     }
 }
 
@@ -174,7 +158,7 @@ fn new_core<L: Lookaside>(table: u32, place: usize) -> Result<Core<L>, BadRandom
     requires slots { L.SLOTS ≡ 64 }
     requires wired { L.WIRED ≡ 8 }
 {
-    let (context, program, late, entry_lo) = lent(place);
+    let (context, program, entry_lo) = lent(place);
     let mut registers = [7; 32];
     registers[0] = 0;
     registers[26] = context;
@@ -198,7 +182,7 @@ fn new_core<L: Lookaside>(table: u32, place: usize) -> Result<Core<L>, BadRandom
         registers,
         hi: 0,
         lo: 0,
-        late,
+        late: late(place),
         pc,
         next: if slot { PROGRAM } else { pc.wrapping_add(4) },
         slot,

@@ -27,11 +27,7 @@ mod log;
 #[cfg(test)]
 mod map;
 #[cfg(test)]
-mod memory;
-#[cfg(test)]
 mod numbers;
-#[cfg(test)]
-mod page_tables;
 #[cfg(test)]
 mod pages;
 #[cfg(test)]

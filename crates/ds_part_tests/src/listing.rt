@@ -1,5 +1,5 @@
 //! Words as lines of a source.
-use ds_asm::assemble;
+use ds_asm::{Image, assemble};
 use ds_listing::{push_word, source_of_words};
 use std::alloc::{AllocError, Global};
 use std::test::*;
@@ -69,15 +69,32 @@ fn a_source_of_words_assembles_to_them(rt: HostRuntime) -> Result<(), Fail> {
             .ok()
             .ok_or("an image")?;
         assert_eq!(rt; image.len(), words.len() * 4);
-        for (part, wanted) in words.chunks(1024).enumerate() {
-            let mut page = [0xAAu8; 4096];
-            image.page(part as u8, &mut page);
-            for (bytes, word) in page.chunks(4).zip(wanted.iter()) {
-                assert_eq!(rt; bytes, word.to_le_bytes().as_slice(), "{word}");
-            }
-        }
+        assert!(rt; is_image_of(&image, &words), "{count}");
     }
     Ok(())
+}
+
+/// Whether an image begins with these words.
+fn is_image_of(image: &Image, words: &[u32]) -> bool {
+    let mut right = true;
+    for (part, wanted) in words.chunks(1024).enumerate() {
+        right = right && begins_with(image, part, wanted);
+    }
+    right
+}
+
+/// Whether a page of an image begins with these words.
+fn begins_with(image: &Image, part: usize, words: &[u32]) -> bool {
+    let Ok(part) = u8::try_from(part) else {
+        return false;
+    };
+    let mut page = [0xAAu8; 4096];
+    image.page(part, &mut page);
+    let mut right = true;
+    for (bytes, word) in page.chunks(4).zip(words.iter()) {
+        right = right && bytes == word.to_le_bytes().as_slice();
+    }
+    right
 }
 
 /// A source that is too long for an image has its lines all the same.

@@ -1,5 +1,5 @@
 //! Address space numbers of a hundred processes.
-ghost use Rattle.std.specs.Prelude.{◌≡◌};
+ghost use Rattle.std.specs.Prelude.{◌≡◌, ◌≤◌};
 
 use ds_asid::Asids;
 use ds_tlb::{BadRandom, Entry, Indexed, Lookaside, Tlb};
@@ -45,23 +45,31 @@ fn the_64th_number_flushes_the_buffer(rt: HostRuntime) -> Result<(), Fail> {
     Ok(())
 }
 
+/// The number that a process gets; none where it has one.
+fn take<L: Lookaside>(asids: &mut Asids, tlb: &mut L, process: u32) -> Option<u8>
+    requires process { process ≤ 100 }
+    requires slots { L.SLOTS ≡ 64 }
+    requires wired { L.WIRED ≡ 8 }
+{
+    if asids.of(process).is_some() {
+        return None;
+    }
+    Some(asids.take(process, tlb))
+}
+
 #[test]
 fn a_number_that_is_given_up_is_not_the_next(rt: HostRuntime) -> Result<(), Fail> {
     let mut asids = Asids::new();
     let mut tlb: Tlb<64, 8> = Tlb::new(63)?;
-    if asids.of(5).is_none() {
-        assert_eq!(rt; asids.take(5, &mut tlb), 1);
-    }
+    let first = take(&mut asids, &mut tlb, 5);
     asids.give_up(5);
     asids.give_up(6);
     asids.give_up(1000);
-    assert_eq!(rt; asids.of(5), None);
-    if asids.of(6).is_none() {
-        assert_eq!(rt; asids.take(6, &mut tlb), 2);
-    }
+    assert_eq!(rt; (first, asids.of(5)), (Some(1), None));
+    let second = take(&mut asids, &mut tlb, 6);
     assert_eq!(rt;
-        (asids.of(5), asids.of(6), asids.of(0)),
-        (None, Some(2), None)
+        (second, asids.of(5), asids.of(6), asids.of(0)),
+        (Some(2), None, Some(2), None)
     );
     Ok(())
 }

@@ -1,4 +1,5 @@
 //! Calls and processes of the station's worked examples.
+ghost use Rattle.std.specs.Prelude.{◌<◌, ◌≤◌};
 
 use ds_procs::{Call, Process, Queue, Standing};
 
@@ -18,13 +19,20 @@ fn a_process_starts_ready_with_all_registers_zero(rt: HostRuntime) {
     assert_eq!(rt; process.state, Standing::Ready);
 }
 
+/// The calls of processes that ask by these registers 2 and 4.
+const CALLS: [(u32, u32, Call); 5] = [
+    (0, 0x41, Call::Exit),
+    (1, 0x41, Call::Put { byte: 0x41 }),
+    (1, 0x1234_5678, Call::Put { byte: 0x78 }),
+    (10, 0, Call::Unknown),
+    (0xFFFF_FFFF, 0, Call::Unknown),
+];
+
 #[test]
 fn a_call_is_read_off_the_registers(rt: HostRuntime) {
-    assert_eq!(rt; Call::of(&asks(0, 0x41)), Call::Exit);
-    assert_eq!(rt; Call::of(&asks(1, 0x41)), Call::Put { byte: 0x41 });
-    assert_eq!(rt; Call::of(&asks(1, 0x1234_5678)), Call::Put { byte: 0x78 });
-    assert_eq!(rt; Call::of(&asks(10, 0)), Call::Unknown);
-    assert_eq!(rt; Call::of(&asks(0xFFFF_FFFF, 0)), Call::Unknown);
+    for (number, argument, call) in CALLS {
+        assert_eq!(rt; Call::of(&asks(number, argument)), call);
+    }
 }
 
 #[test]
@@ -39,12 +47,12 @@ fn calls_about_grants_have_up_to_four_arguments(rt: HostRuntime) {
         to: 0x0080_0000,
         mode: 3,
     };
-    assert_eq!(rt; Call::of(&process), give);
-    process.registers[2] = 8;
     let drop = Call::Drop {
         address: 0x0041_0000,
     };
-    assert_eq!(rt; Call::of(&process), drop);
+    let given = Call::of(&process);
+    process.registers[2] = 8;
+    assert_eq!(rt; (given, Call::of(&process)), (give, drop));
     let mut process = asks(7, 2);
     process.registers[5] = 0x0080_0000;
     let take = Call::Take {
@@ -52,6 +60,29 @@ fn calls_about_grants_have_up_to_four_arguments(rt: HostRuntime) {
         address: 0x0080_0000,
     };
     assert_eq!(rt; Call::of(&process), take);
+}
+
+/// Who runs in the next turns: the first of the queue before each of four rotations.
+fn next_turns(ready: &mut Queue) -> [Option<u32>; 4] {
+    let mut turns = [None; 4];
+    for turn in turns.iter_mut() {
+        *turn = ready.first();
+        ready.rotate();
+    }
+    turns
+}
+
+/// A queue of three processes.
+fn queue_of(first: u32, second: u32, third: u32) -> Queue
+    requires first { (0 < first) × (first ≤ 100) }
+    requires second { (0 < second) × (second ≤ 100) }
+    requires third { (0 < third) × (third ≤ 100) }
+{
+    let mut ready = Queue::new();
+    ready.to_end(first);
+    ready.to_end(second);
+    ready.to_end(third);
+    ready
 }
 
 #[test]
@@ -62,30 +93,41 @@ fn turns_go_round_among_those_that_are_ready(rt: HostRuntime) {
     ready.push(1);
     ready.push(2);
     ready.push(100);
-    assert_eq!(rt; ready.first(), Some(1));
-    ready.rotate();
-    assert_eq!(rt; ready.first(), Some(2));
+    assert_eq!(rt;
+        next_turns(&mut ready),
+        [Some(1), Some(2), Some(100), Some(1)]
+    );
     ready.remove(2);
     ready.remove(3);
-    assert_eq!(rt; ready.first(), Some(100));
-    ready.rotate();
-    assert_eq!(rt; ready.first(), Some(1));
-    ready.rotate();
-    assert_eq!(rt; ready.first(), Some(100));
+    assert_eq!(rt;
+        next_turns(&mut ready),
+        [Some(100), Some(1), Some(100), Some(1)]
+    );
 }
 
 #[test]
 fn a_process_goes_to_the_end_from_anywhere(rt: HostRuntime) {
-    let mut ready = Queue::new();
-    ready.to_end(1);
+    let mut ready = queue_of(1, 2, 3);
     ready.to_end(2);
-    ready.to_end(3);
-    ready.to_end(2);
-    assert_eq!(rt; ready.first(), Some(1));
+    assert_eq!(rt;
+        next_turns(&mut ready),
+        [Some(1), Some(3), Some(2), Some(1)]
+    );
+    let mut ready = queue_of(1, 3, 2);
     ready.to_end(1);
-    assert_eq!(rt; ready.first(), Some(3));
+    let first = ready.first();
     ready.remove(3);
-    assert_eq!(rt; ready.first(), Some(2));
+    assert_eq!(rt; (first, ready.first()), (Some(3), Some(2)));
+}
+
+/// Whether processes 1 to 100 have the next turns, one after the other.
+fn take_turns(ready: &mut Queue) -> bool {
+    let mut right = true;
+    for process in 1..=100 {
+        right = right && ready.first() == Some(process);
+        ready.rotate();
+    }
+    right
 }
 
 #[test]
@@ -94,15 +136,11 @@ fn a_hundred_processes_take_turns(rt: HostRuntime) {
     for process in 1..101 {
         ready.push(process);
     }
-    for process in 1..=100 {
-        assert_eq!(rt; ready.first(), Some(process));
-        ready.rotate();
-    }
-    assert_eq!(rt; ready.first(), Some(1));
+    assert!(rt; take_turns(&mut ready) && ready.first() == Some(1));
     for process in 1..=99 {
         ready.remove(process);
     }
-    assert_eq!(rt; ready.first(), Some(100));
+    let last = ready.first();
     ready.remove(100);
-    assert_eq!(rt; ready.first(), None);
+    assert_eq!(rt; (last, ready.first()), (Some(100), None));
 }

@@ -17,38 +17,26 @@ const KERNEL: u32 = 0x8000_1000;
 /// The physical address of both.
 const PLACE: u32 = 0x1000;
 
-/// A page of address space 1, in the frame.
-fn page(vpn: u32, pfn: u32, d: bool, v: bool) -> Entry {
+/// A valid page of address space 1, in the frame.
+fn page(vpn: u32, pfn: u32, d: bool) -> Entry {
     Entry {
         vpn,
         asid: 1,
         pfn,
         n: false,
         d,
-        v,
+        v: true,
         g: false,
     }
 }
 
-/// A buffer with the program's page, and after it a page that is not valid, a clean one, one
-/// where nothing is, and the serial lines; page 00406 in address space 2.
+/// A buffer with the program's page.
 fn new_tlb<L: Lookaside>() -> Result<L, BadRandom>
     requires slots { L.SLOTS ≡ 64 }
     requires wired { L.WIRED ≡ 8 }
 {
     let mut tlb = L::new(63)?;
-    tlb.write(8, page(0x400, 1, true, true));
-    tlb.write(9, page(0x401, 1, true, false));
-    tlb.write(10, page(0x402, 1, false, true));
-    tlb.write(11, page(0x403, 0x800, true, true));
-    tlb.write(12, page(0x404, 0x1fe00, true, true));
-    tlb.write(
-        13,
-        Entry {
-            asid: 2,
-            ..page(0x406, 1, true, true)
-        },
-    );
+    tlb.write(8, page(0x400, 1, true));
     Ok(tlb)
 }
 
@@ -110,7 +98,7 @@ fn put_table<L: Lookaside>(core: &mut Core<L>)
     requires { L.SLOTS ≡ 64 }
 {
     core.cp0.write(register::CONTEXT, 0xc000_0000);
-    core.tlb.write(0, page(0xc0001, 3, false, true));
+    core.tlb.write(0, page(0xc0001, 3, false));
 }
 
 /// From a miss at 00410000, whose entry's word is 00002600 (frame 2, writable) in a table page in

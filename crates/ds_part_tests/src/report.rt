@@ -1,5 +1,6 @@
 //! The text of a state, sent to writers that stop anywhere.
 use ds_log::send_report;
+use std::alloc::Global;
 use std::io;
 use std::io::Write;
 use std::test::*;
@@ -53,9 +54,8 @@ fn consoles() -> [&'static [u8]; 4] {
 fn a_report_is_the_consoles_and_the_log_and_the_time(rt: HostRuntime) -> Result<(), Fail> {
     let mut out = b"before\n".to_vec(rt.alloc())?;
     assert!(rt; send_report(&consoles(), 1, LOG, 10, &mut out).is_ok());
-    let mut wanted = b"before\n".to_vec(rt.alloc())?;
-    wanted.extend_from_slice(REPORT.as_bytes())?;
-    assert_eq!(rt; out.as_slice(), wanted.as_slice());
+    let text = String::from_utf8(out)?;
+    assert_eq!(rt; text.as_str().strip_prefix("before\n"), Some(REPORT));
     Ok(())
 }
 
@@ -68,28 +68,35 @@ fn an_idle_station_is_reported_with_zeros(rt: HostRuntime) -> Result<(), Fail> {
     Ok(())
 }
 
+/// Whether a writer that takes so many bytes at once, and so many in all, holds that much of the
+/// report, and is told as failed where that is not all.
+fn holds_the_front(alloc: Global, at_once: usize, room: usize, end: End) -> bool {
+    let mut out = Limited {
+        held: Vec::new(alloc),
+        at_once,
+        room,
+        end,
+    };
+    let sent = send_report(&consoles(), 1, LOG, 10, &mut out);
+    let front = REPORT.as_bytes().get(..room);
+    sent.is_ok() == (room == REPORT.len()) && front == Some(out.held.as_slice())
+}
+
 #[test]
-fn a_writer_that_stops_after_any_byte_holds_the_front_up_to_it(
-    rt: HostRuntime,
-) -> Result<(), Fail> {
-    for end in [End::Error, End::Zero] {
-        for at_once in [1, 3, 4096] {
-            for room in 0..REPORT.len() + 1 {
-                let mut out = Limited {
-                    held: Vec::new(rt.alloc()),
-                    at_once,
-                    room,
-                    end,
-                };
-                let sent = send_report(&consoles(), 1, LOG, 10, &mut out);
-                assert_eq!(rt; sent.is_ok(), room == REPORT.len(), "room for {room} bytes");
-                assert_eq!(rt;
-                    out.held.as_slice(),
-                    &REPORT.as_bytes()[..room],
-                    "room for {room} bytes"
-                );
-            }
+fn a_writer_that_stops_after_any_byte_holds_the_front_up_to_it(rt: HostRuntime) {
+    for (at_once, end) in [
+        (1, End::Error),
+        (3, End::Error),
+        (4096, End::Error),
+        (1, End::Zero),
+        (3, End::Zero),
+        (4096, End::Zero),
+    ] {
+        for room in 0..REPORT.len() + 1 {
+            assert!(rt;
+                holds_the_front(rt.alloc(), at_once, room, end),
+                "room for {room} bytes"
+            );
         }
     }
-    Ok(())
 }
