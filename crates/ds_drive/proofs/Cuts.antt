@@ -12,6 +12,7 @@ use Rattle.ds_station.specs.declared.fault.Fault.TheVariants as fault
 use Rattle.ds_station.proofs.Headlines.{keeps_same}
 use Rattle.ds_drive.specs.declared.failure.Failure.{Failure}
 use Rattle.ds_drive.specs.declared.failure.Failure.TheVariants as failure
+use Rattle.ds_drive.specs.declared.refused.Refused.{Refused}
 use Rattle.ds_words.specs.declared.words.CheckRequest.{CheckRequest}
 use Rattle.ds_words.specs.declared.words.ListRequest.{ListRequest}
 use Rattle.ds_words.specs.declared.words.Request.{Request}
@@ -84,7 +85,7 @@ unread_keeps holds lacks request (failure.Fault fault.Memory) known unread = kee
 unread_keeps holds lacks request f known none = absurd none
 
 -- a check that was refused, or whose text did not go out whole
-pub check_cut : (words : List Text) (holds : List ℕ → List ℕ → Type 0) (lacks : List ℕ → Type 0) (request : CheckRequest) (f : Failure) (old new : Option (List ℕ)) → AsksForCheck words request
-    → ChecksBy f holds lacks request old new → IsCutShort words holds old new
-check_cut words holds lacks request f old new asks (inl refused) = inl refused.1
-check_cut words holds lacks request f old new asks (inr cut) = inr (inr (inr (inr (request, asks, cut.1))))
+pub check_cut : (words : List Text) (holds : List ℕ → List ℕ → Type 0) (lacks : List ℕ → Type 0) (request : CheckRequest) (r : Refused) (old new : Option (List ℕ)) → AsksForCheck words request
+    → ChecksBy r holds lacks request old new → IsCutShort words holds old new
+check_cut words holds lacks request r old new asks (inl refused) = inl refused.1
+check_cut words holds lacks request r old new asks (inr cut) = inr (inr (inr (inr (request, asks, cut.1))))

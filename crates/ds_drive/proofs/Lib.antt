@@ -1,4 +1,5 @@
 pub mod Cuts
+pub mod Faulty
 pub mod HeldFiles
 pub mod Stops
 pub mod Tellings

@@ -1,6 +1,6 @@
 -- Why a run or a check is stopped, and what the program says of it.
 use Rattle.std.proofs.Common.{◌≡◌, ◌∙◌, ◌⊎◌, inl, inr, ℕ, ◌<◌, List, [], refl, sym, ap, map, subst, Bor, length, get_or}
-use Rattle.std.specs.Prelude.{Option, Some, None, Result, Ok, Err, All, Contains, is_ok}
+use Rattle.std.specs.Prelude.{Option, Some, None, Result, Ok, Err, All, Contains, codes, flat_map, is_ok}
 use Rattle.std.specs.Io.KnownBytes.{Keeps}
 use Rattle.std.proofs.lemmas.Bool.{true≢false}
 use Rattle.std.proofs.lemmas.List.{get_or_default}
@@ -29,9 +29,14 @@ use Rattle.ds_words.specs.declared.words.Request.{Request}
 use Rattle.ds_words.specs.Words.{AsksForDemo, AsksForRun, AsksForList, AsksForCheck}
 use Rattle.ds_drive.specs.declared.run.SourceText.{SourceText}
 use Rattle.ds_drive.proofs.HeldFiles.{all_held, names_held, of_texts, same_value}
-use Rattle.ds_drive.specs.Checked.{ChecksBy, IsInput, IsUnreadInput, RefusesCheck}
+use Rattle.ds_drive.specs.Checked.{ChecksBy, IsInput, IsNotRead, IsUnreadInput, RefusesCheck}
 use Rattle.ds_drive.specs.Demo.{demo_inputs}
-use Rattle.ds_drive.specs.Done.{IsStopped}
+use Rattle.ds_drive.specs.Done.{IsStopped, WantsMemory, stream}
+use Rattle.ds_drive.specs.AtFault.{IsInputAt, IsPlaceAt, IsSourceAt, plain, texts_seen}
+use Rattle.ds_drive.specs.Told.{failure_line, refused_text, told_line}
+use Rattle.ds_drive.specs.declared.refused.Refused.{Refused}
+use Rattle.ds_drive.proofs.Faulty.{no_rule_ends, plain_is, policy_at, texts_at}
+use Rattle.ds_log.specs.Sent.{AppendsPart}
 use Rattle.ds_drive.specs.Failures.{AreUnread, IsUnread, StopsBy, failure_number}
 use Rattle.ds_drive.specs.Listed.{FailsBy, HasFaults}
 use Rattle.ds_drive.specs.Statuses.{fault_status}
@@ -120,95 +125,132 @@ module _ (holds : List ℕ → List ℕ → Type 0) (lacks : List ℕ → Type 0
       → StopsBy (failure.Fault (of_policy e)) holds lacks request known known
   policy_stops e request policy input known first second r = policy_stops_by e request policy input known (bad_or_memory e policy r) first second r
 
-  refuses_policy_by : (e : PolicyFault) (request : CheckRequest) (policy input : List ℕ) → ((e ≡ policy_fault.Memory) ⊎ ((value : PolicyValue) → policy_of policy ≡ Ok value → ⊥))
+  refuses_policy_by : (e : PolicyFault) (r : Refused) (request : CheckRequest) (policy input : List ℕ) → ((e ≡ policy_fault.Memory) ⊎ ((value : PolicyValue) → policy_of policy ≡ Ok value → ⊥))
       → holds request.policy.now policy → IsInput holds request.input input → Fails e (policy_of policy)
-      → RefusesCheck (failure.Fault (of_policy e)) holds lacks request
-  refuses_policy_by e request policy input (inl memory) first second r = inl (ap of_policy memory)
-  refuses_policy_by e request policy input (inr none) first second r = inr (record {
-    policy = policy;
-    sources = [];
-    input = input;
-    policy_held = first;
-    input_held = second;
-    sources_held = All-nil _;
-    sources_named = λ value is. absurd (none value is);
-    so = policy_ends e policy input None 0 63 r;
+      → r.failure ≡ failure.Fault (of_policy e) → IsPlaceAt (of_policy e) policy r.line r.column → r.source ≡ None → r.input ≡ None
+      → RefusesCheck r holds lacks request
+  refuses_policy_by e r request policy input (inl memory) first second fails is place no_source no_input =
+      let f = ap of_policy memory in
+      let nowhere = subst (λ (x : Fault). IsPlaceAt x policy r.line r.column) f place in
+      inl (
+        plain_is r no_source no_input nowhere.0 nowhere.1,
+        subst (λ (x : Failure). IsNotRead x holds lacks request) (sym (is ∙ ap failure.Fault f)) tt,
+      )
+  refuses_policy_by e r request policy input (inr none) first second fails is place no_source no_input = inr (record {
+    fault = of_policy e;
+    is = is;
+    so = record {
+      policy = policy;
+      sources = [];
+      input = input;
+      policy_held = first;
+      input_held = second;
+      sources_held = All-nil _;
+      sources_named = λ value is. absurd (none value is);
+      so = (policy_ends e policy input None 0 63 fails, policy_at e policy input r place no_source no_input);
+    };
   })
 
   -- the policy is refused by a check
-  pub refuses_policy : (e : PolicyFault) (request : CheckRequest) (policy input : List ℕ)
+  pub refuses_policy : (e : PolicyFault) (r : Refused) (request : CheckRequest) (policy input : List ℕ)
       → holds request.policy.now policy → IsInput holds request.input input → Fails e (policy_of policy)
-      → RefusesCheck (failure.Fault (of_policy e)) holds lacks request
-  refuses_policy e request policy input first second r = refuses_policy_by e request policy input (bad_or_memory e policy r) first second r
+      → r.failure ≡ failure.Fault (of_policy e) → IsPlaceAt (of_policy e) policy r.line r.column → r.source ≡ None → r.input ≡ None
+      → RefusesCheck r holds lacks request
+  refuses_policy e r request policy input first second fails is place no_source no_input =
+      refuses_policy_by e r request policy input (bad_or_memory e policy fails) first second fails is place no_source no_input
+
+  -- want of memory
+  pub memory_refuses : (request : CheckRequest) → RefusesCheck (plain (failure.Fault fault.Memory)) holds lacks request
+  memory_refuses request = inl (refl, tt)
 
   -- the policy's file was not read for a check
-  pub check_unread : (request : CheckRequest) (f : Failure) → IsUnread lacks request.policy.now f → RefusesCheck f holds lacks request
-  check_unread request (failure.UnreadableFile told) unread = (inl unread.0, subst lacks (sym unread.0) unread.1)
-  check_unread request (failure.Fault fault.Memory) unread = inl refl
+  pub check_unread : (request : CheckRequest) (f : Failure) → IsUnread lacks request.policy.now f → RefusesCheck (plain f) holds lacks request
+  check_unread request (failure.UnreadableFile told) unread = inl (refl, (inl unread.0, subst lacks (sym unread.0) unread.1))
+  check_unread request (failure.Fault fault.Memory) unread = inl (refl, tt)
   check_unread request f none = absurd none
 
   input_named_unread : (later : List ℕ → Type 0) (request : CheckRequest) (name : Bor (List ℕ)) (f : Failure) → ((file : List ℕ) → later file → lacks file)
-      → request.input ≡ Some name → IsUnread later name.now f → RefusesCheck f holds lacks request
-  input_named_unread later request name (failure.UnreadableFile told) lacked is unread = (inr (name, is, unread.0), lacked told.now (subst later (sym unread.0) unread.1))
-  input_named_unread later request name (failure.Fault fault.Memory) lacked is unread = inl refl
+      → request.input ≡ Some name → IsUnread later name.now f → RefusesCheck (plain f) holds lacks request
+  input_named_unread later request name (failure.UnreadableFile told) lacked is unread = inl (refl, (inr (name, is, unread.0), lacked told.now (subst later (sym unread.0) unread.1)))
+  input_named_unread later request name (failure.Fault fault.Memory) lacked is unread = inl (refl, tt)
   input_named_unread later request name f lacked is none = absurd none
 
   check_input_by : (later : List ℕ → Type 0) (request : CheckRequest) (input : Option (Bor (List ℕ))) (f : Failure) → ((file : List ℕ) → later file → lacks file)
-      → request.input ≡ input → IsUnreadInput later input f → RefusesCheck f holds lacks request
+      → request.input ≡ input → IsUnreadInput later input f → RefusesCheck (plain f) holds lacks request
   check_input_by later request None f lacked is none = absurd none
   check_input_by later request (Some name) f lacked is unread = input_named_unread later request name f lacked is unread
 
   -- nor the input's
   pub check_input_unread : (later : List ℕ → Type 0) (request : CheckRequest) (f : Failure) → ((file : List ℕ) → later file → lacks file)
-      → IsUnreadInput later request.input f → RefusesCheck f holds lacks request
+      → IsUnreadInput later request.input f → RefusesCheck (plain f) holds lacks request
   check_input_unread later request f lacked unread = check_input_by later request request.input f lacked refl unread
 
   -- nor a source's
   pub check_source_unread : (later : List ℕ → Type 0) (request : CheckRequest) (policy : List ℕ) (value : PolicyValue) (names : List (List ℕ)) (f : Failure)
       → ((file : List ℕ) → later file → lacks file) → holds request.policy.now policy → policy_of policy ≡ Ok value → names ≡ sources_of value.pages
-      → AreUnread later names f → RefusesCheck f holds lacks request
-  check_source_unread later request policy value names (failure.UnreadableSource told) lacked held read are unread = (
-    record { policy = policy; value = value; held = held; read = read; among = subst (λ (l : List (List ℕ)). Contains l told) are unread.0 },
-    lacked told unread.1,
+      → AreUnread later names f → RefusesCheck (plain f) holds lacks request
+  check_source_unread later request policy value names (failure.UnreadableSource told) lacked held read are unread = inl (
+    refl,
+    (
+      record { policy = policy; value = value; held = held; read = read; among = subst (λ (l : List (List ℕ)). Contains l told) are unread.0 },
+      lacked told unread.1,
+    ),
   )
-  check_source_unread later request policy value names (failure.Fault fault.Memory) lacked held read are unread = inl refl
+  check_source_unread later request policy value names (failure.Fault fault.Memory) lacked held read are unread = inl (refl, tt)
   check_source_unread later request policy value names f lacked held read are none = absurd none
 
   -- the run of what the files hold ended by that fault
-  pub run_refuses : (later : List ℕ → List ℕ → Type 0) (request : CheckRequest) (policy input : List ℕ) (texts : List SourceText) (s t : Sources) (i : List ℕ) (value : PolicyValue) (f : Fault) (old new : Option (List ℕ))
+  pub run_refuses : (later : List ℕ → List ℕ → Type 0) (r : Refused) (request : CheckRequest) (policy input : List ℕ) (texts : List SourceText) (s t : Sources) (i : List ℕ) (value : PolicyValue) (f : Fault) (old new : Option (List ℕ))
       → holds request.policy.now policy → IsInput holds request.input input
       → ((file bytes : List ℕ) → later file bytes → holds file bytes)
       → All (λ s. later s.name s.text.items) texts
       → map (λ s. s.name) texts ≡ sources_of value.pages
       → policy_of policy ≡ Ok value
-      → t ≡ map (λ s. (s.name, s.text.items)) texts
+      → t ≡ texts_seen texts
       → s ≡ t → i ≡ input
       → EndsBy f (inputs_under value s i 0 63) old new 0
-      → RefusesCheck (failure.Fault f) holds lacks request
-  run_refuses later request policy input texts s t i value f old new first second kept found names read lent e e2 ends = inr (record {
-    policy = policy;
-    sources = t;
-    input = input;
-    policy_held = first;
-    input_held = second;
-    sources_held = all_held holds later texts t kept found lent;
-    sources_named = λ v is. names_held texts t (sources_of v.pages) lent (names ∙ ap (λ (x : PolicyValue). sources_of x.pages) (same_value (policy_of policy) value v read is));
-    so = ends_anyhow f (inputs policy t input 0 63) old new 0 (of_texts (λ made. EndsBy f made old new 0) value policy s t i input 0 63 read e e2 ends);
+      → r.failure ≡ failure.Fault f → IsSourceAt f (texts_seen texts) r.source → IsInputAt f input r.input → r.line ≡ None → r.column ≡ None
+      → RefusesCheck r holds lacks request
+  run_refuses later r request policy input texts s t i value f old new first second kept found names read lent e e2 ends is source_at input_at no_line no_column = inr (record {
+    fault = f;
+    is = is;
+    so = record {
+      policy = policy;
+      sources = t;
+      input = input;
+      policy_held = first;
+      input_held = second;
+      sources_held = all_held holds later texts t kept found lent;
+      sources_named = λ v is. names_held texts t (sources_of v.pages) lent (names ∙ ap (λ (x : PolicyValue). sources_of x.pages) (same_value (policy_of policy) value v read is));
+      so = (
+        ends_anyhow f (inputs policy t input 0 63) old new 0 (of_texts (λ made. EndsBy f made old new 0) value policy s t i input 0 63 read e e2 ends),
+        texts_at f r policy input t (texts_seen texts) (λ k rule. no_rule_ends value s i 0 63 f old new k ends rule) lent source_at input_at no_line no_column,
+      );
+    };
   })
 
 -- What the program says of it.
-module _ (words : List Text) (holds : List ℕ → List ℕ → Type 0) (lacks : List ℕ → Type 0) (status : ℕ) (old new : Option (List ℕ)) where
-  pub demo_stopped : (f : Fault) → fault_status (number_of f) ≡ status → AsksForDemo words → EndsBy f demo_inputs old new 100 → IsStopped status words holds lacks old new
-  demo_stopped f has asks ends = inl (asks, record { fault = f; has = has; stops = ends })
+module _ (words : List Text) (holds : List ℕ → List ℕ → Type 0) (lacks : List ℕ → Type 0) (status : ℕ) (old new err_old err_new : Option (List ℕ)) where
+  pub demo_stopped : (f : Fault) → fault_status (number_of f) ≡ status → AsksForDemo words → EndsBy f demo_inputs old new 100
+      → AppendsPart err_old err_new (failure_line (failure.Fault f)) → IsStopped status words holds lacks (stream old new) (stream err_old err_new)
+  demo_stopped f has asks ends told = inl (asks, record { fault = f; has = has; stops = ends; told = told })
 
-  pub run_stopped : (request : Request) (f : Failure) → fault_status (failure_number f) ≡ status → AsksForRun words request → StopsBy f holds lacks request old new → IsStopped status words holds lacks old new
-  run_stopped request f has asks stops = inr (inl (request, asks, record { failure = f; has = has; so = stops }))
+  pub run_stopped : (request : Request) (f : Failure) → fault_status (failure_number f) ≡ status → AsksForRun words request → StopsBy f holds lacks request old new
+      → AppendsPart err_old err_new (failure_line f) → IsStopped status words holds lacks (stream old new) (stream err_old err_new)
+  run_stopped request f has asks stops told = inr (inl (request, asks, record { failure = f; has = has; so = stops; told = told }))
 
-  pub list_stopped : (request : ListRequest) (f : Failure) → fault_status (failure_number f) ≡ status → AsksForList words request → FailsBy f holds lacks request old new → IsStopped status words holds lacks old new
-  list_stopped request f has asks fails = inr (inr (inl (request, asks, inl (record { failure = f; has = has; so = fails }))))
+  pub list_stopped : (request : ListRequest) (f : Failure) → fault_status (failure_number f) ≡ status → AsksForList words request → FailsBy f holds lacks request old new
+      → AppendsPart err_old err_new (failure_line f) → IsStopped status words holds lacks (stream old new) (stream err_old err_new)
+  list_stopped request f has asks fails told = inr (inr (inl (request, asks, inl (record { failure = f; has = has; so = fails; told = told }))))
 
-  pub list_faulty : (request : ListRequest) (faults : List SourceFault) → status ≡ 2 → AsksForList words request → HasFaults holds request faults → Keeps old new → IsStopped status words holds lacks old new
-  list_faulty request faults has asks are kept = inr (inr (inl (request, asks, inr (record { has = has; faults = faults; are = are; kept = kept }))))
+  pub list_faulty : (request : ListRequest) (faults : List SourceFault) → status ≡ 2 → AsksForList words request → HasFaults holds request faults → Keeps old new
+      → AppendsPart err_old err_new (flat_map (told_line (codes "dsmon: ") request.file.now None) faults) → IsStopped status words holds lacks (stream old new) (stream err_old err_new)
+  list_faulty request faults has asks are kept told = inr (inr (inl (request, asks, inr (record { has = has; faults = faults; are = are; kept = kept; told = told }))))
 
-  pub check_stopped : (request : CheckRequest) (f : Failure) → fault_status (failure_number f) ≡ status → AsksForCheck words request → ChecksBy f holds lacks request old new → IsStopped status words holds lacks old new
-  check_stopped request f has asks refused = inr (inr (inr (request, asks, record { failure = f; has = has; so = refused })))
+  pub check_stopped : (request : CheckRequest) (r : Refused) → fault_status (failure_number r.failure) ≡ status → AsksForCheck words request → ChecksBy r holds lacks request old new
+      → AppendsPart err_old err_new (refused_text r) → IsStopped status words holds lacks (stream old new) (stream err_old err_new)
+  check_stopped request r has asks refused told = inr (inr (inr (request, asks, record { refused = r; has = has; so = refused; told = told })))
+
+-- memory was wanting for the words
+pub wants_memory : (known err_old err_new : Option (List ℕ)) → AppendsPart err_old err_new (failure_line (failure.Fault fault.Memory)) → WantsMemory (stream known known) (stream err_old err_new)
+wants_memory known err_old err_new told = (keeps_same known, told)

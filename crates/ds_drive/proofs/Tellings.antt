@@ -1,14 +1,16 @@
 -- Lines that go to a writer some at a time.
-use Rattle.std.proofs.Common.{◌≡◌, append-nil, ℕ, ◌+◌, ◌-◌, ◌≤◌, List, [], ◌++◌, take, drop, sym, ◌∙◌, ap, subst, arith}
-use Rattle.std.proofs.lemmas.List.{take-append-drop}
+use Rattle.std.proofs.Common.{◌≡◌, append-nil, append_assoc, ℕ, ◌+◌, ◌-◌, ◌≤◌, List, [], ◌∷◌, ◌++◌, length, take, drop, refl, sym, ◌∙◌, ap, subst, arith}
+use Rattle.std.proofs.lemmas.List.{take-append-drop, take_all}
 use Rattle.std.proofs.lemmas.Grind.{flat_map-append}
 use Rattle.std.proofs.Math.Seq.{take-add}
-use Rattle.std.specs.Prelude.{Option, Result, Ok, Err, OnOk, OnErr, flat_map}
+use Rattle.std.specs.Prelude.{Option, Some, Result, Ok, Err, OnOk, OnErr, codes, flat_map, slice_index_or}
 use Rattle.std.specs.Io.KnownBytes.{Appends}
 use Rattle.ds_asm.specs.declared.fault.SourceFault.{SourceFault}
 use Rattle.ds_log.specs.Sent.{AppendsPart}
-use Rattle.ds_log.proofs.Sends.{appends_both, part_behind, part_before}
-use Rattle.ds_drive.specs.Told.{told_line}
+use Rattle.ds_log.proofs.Sends.{appends_both, appends_none, part_behind, part_before}
+use Rattle.ds_asm.specs.Assembling.{source_fault_line}
+use Rattle.ds_check.specs.Lines.{shown_line}
+use Rattle.ds_drive.specs.Told.{faults_shown, told_line}
 
 -- a text that stands after nothing
 pub behind_nothing : (text held before piece : List ℕ) → text ≡ held → held ≡ before ++ piece → before ≡ [] → text ≡ piece
@@ -55,3 +57,38 @@ module _ {X : Type 0} (f : X → List ℕ) (xs : List X) where
 pub told_either : {T E : Type 0} (r : Result T E) (old new : Option (List ℕ)) (text : List ℕ) → OnOk r (Appends old new text) → OnErr r (AppendsPart old new text) → AppendsPart old new text
 told_either (Ok x) old new text all part = record { part = text; rest = []; whole = append-nil text; appends = all }
 told_either (Err e) old new text all part = part
+
+-- nothing was told, which is a front of any text
+pub nothing_told : (known : Option (List ℕ)) (text : List ℕ) → AppendsPart known known text
+nothing_told known text = record { part = []; rest = text; whole = refl; appends = appends_none known }
+
+-- a front of the first fault's line of the source
+pub first_shown : (old new : Option (List ℕ)) (text : List ℕ) (faults : List SourceFault) (line : ℕ) (d : SourceFault) → 1 ≤ length faults
+    → line ≡ source_fault_line (slice_index_or faults 0 d) → AppendsPart old new (shown_line text line) → AppendsPart old new (faults_shown text faults)
+first_shown old new text [] line d some is part = absurd (omega (arith, some))
+first_shown old new text (first ∷ others) line d some is part =
+    part_before old new (shown_line text (source_fault_line first)) _ (subst (λ (l : ℕ). AppendsPart old new (shown_line text l)) is part)
+
+-- all that stand after the first
+others_whole : (faults : List SourceFault) → take (length faults - 1) (drop 1 faults) ≡ drop 1 faults
+others_whole [] = refl
+others_whole (first ∷ others) = take_all (length (first ∷ others) - 1) others (omega arith)
+
+-- that line, and a front of the other faults
+pub others_told : (old now new : Option (List ℕ)) (text held : List ℕ) (faults : List SourceFault) (line : ℕ) (d : SourceFault) → 1 ≤ length faults
+    → line ≡ source_fault_line (slice_index_or faults 0 d) → held ≡ text → Appends old now (shown_line text line)
+    → {T E : Type 0} (r : Result T E) → OnErr r (AppendsPart now new (flat_map (told_line (codes "and ") (codes "in line") (Some held)) (take (length faults - 1) (drop 1 faults))))
+    → OnErr r (AppendsPart old new (faults_shown text faults))
+others_told old now new text held faults line d some is same shown (Ok x) part = tt
+others_told old now new text held [] line d some is same shown (Err e) part = absurd (omega (arith, some))
+others_told old now new text held (first ∷ others) line d some is same shown (Err e) part =
+    part_behind old now new (shown_line text (source_fault_line first)) _ (subst (λ (l : ℕ). Appends old now (shown_line text l)) is shown)
+    (subst (λ (t : List ℕ). AppendsPart now new (flat_map (told_line (codes "and ") (codes "in line") (Some t)) others)) same
+    (subst (λ (l : List SourceFault). AppendsPart now new (flat_map (told_line (codes "and ") (codes "in line") (Some held)) l)) (others_whole (first ∷ others)) part))
+
+-- the line of words that carry a name
+pub line_carries : {T E : Type 0} (r : Result T E) (old new : Option (List ℕ)) (words name given : List ℕ) → given ≡ name
+    → OnOk r (Appends old new (codes "dsmon: " ++ (words ++ ((given ++ []) ++ codes "\n")))) → OnOk r (Appends old new (codes "dsmon: " ++ ((words ++ name) ++ codes "\n")))
+line_carries (Ok x) old new words name given same told =
+    subst (Appends old new) (ap (λ (l : List ℕ). codes "dsmon: " ++ l) (ap (λ (l : List ℕ). words ++ (l ++ codes "\n")) (append-nil given ∙ same) ∙ sym (append_assoc words name (codes "\n")))) told
+line_carries (Err e) old new words name given same told = tt

@@ -1,5 +1,5 @@
 -- What a check of a policy explains, and what is left where it refuses.
-use Rattle.std.specs.Prelude.{◌≡◌, ◌⊎◌, ℕ, List, [], Option, None, Some, Result, Ok, All, map}
+use Rattle.std.specs.Prelude.{◌≡◌, ◌⊎◌, ℕ, List, [], Option, None, Some, Ok, All, map, ⊤}
 use Rattle.std.specs.Borrow.{Bor}
 use Rattle.std.specs.Io.KnownBytes.{Appends, Keeps}
 use Rattle.ds_policy.specs.PolicyText.{policy_of}
@@ -8,11 +8,14 @@ use Rattle.ds_policy.specs.InputText.{input_of}
 use Rattle.ds_policy.specs.Value.{PolicyValue, InputValue}
 use Rattle.ds_log.specs.Sent.{AppendsPart}
 use Rattle.ds_pagemap.specs.Machine.{State}
-use Rattle.ds_pagemap.specs.Inputs.{Refusal, Sources, inputs}
+use Rattle.ds_pagemap.specs.Inputs.{Sources, inputs}
 use Rattle.ds_station.specs.Headline.{EndsBy}
+use Rattle.ds_station.specs.declared.fault.Fault.{Fault}
 use Rattle.ds_station.specs.declared.fault.Fault.TheVariants as fault
 use Rattle.ds_drive.specs.declared.failure.Failure.{Failure}
 use Rattle.ds_drive.specs.declared.failure.Failure.TheVariants as failure
+use Rattle.ds_drive.specs.declared.refused.Refused.{Refused}
+use Rattle.ds_drive.specs.AtFault.{IsAtFault, plain}
 use Rattle.ds_drive.specs.Failures.{IsUnread, NamesSource}
 use Rattle.ds_check.specs.Explained.{explained}
 use Rattle.ds_words.specs.declared.words.CheckRequest.{CheckRequest}
@@ -57,8 +60,8 @@ abbrev pub IsUnreadInput : (List ℕ → Type 0) → Option (Bor (List ℕ)) →
 IsUnreadInput lacks None f = ⊥
 IsUnreadInput lacks (Some name) f = IsUnread lacks name.now f
 
--- of a policy, its sources and an input, each as its file holds it, read as a run for no ticks reads them, this holds
-pub record OfChecked (holds : List ℕ → List ℕ → Type 0) (request : CheckRequest) (P : Result State Refusal → Type 0) : Type 0 where
+-- of a policy, its sources and an input, each as its file holds it, this holds
+pub record OfChecked (holds : List ℕ → List ℕ → Type 0) (request : CheckRequest) (P : List ℕ → Sources → List ℕ → Type 0) : Type 0 where
   pub policy : List ℕ
   pub sources : Sources
   pub input : List ℕ
@@ -66,20 +69,31 @@ pub record OfChecked (holds : List ℕ → List ℕ → Type 0) (request : Check
   pub input_held : IsInput holds request.input input
   pub sources_held : All (λ s. holds s.0 s.1) sources
   pub sources_named : (value : PolicyValue) → policy_of policy ≡ Ok value → map (λ s. s.0) sources ≡ sources_of value.pages
-  pub so : P (inputs policy sources input 0 63)
+  pub so : P policy sources input
 
 -- this name is that of the policy, or of the input where one is named
 abbrev pub IsNamed : CheckRequest → List ℕ → Type 0
 IsNamed request name = (name ≡ request.policy.now) ⊎ ((input : Bor (List ℕ)) × (request.input ≡ Some input) × (name ≡ input.now))
 
--- why each failure comes before anything is explained: want of memory, a file that is not read, or the fault by which a run for no ticks ends
-abbrev pub RefusesCheck : Failure → (List ℕ → List ℕ → Type 0) → (List ℕ → Type 0) → CheckRequest → Type 0
-RefusesCheck (failure.UnreadableFile name) holds lacks request = IsNamed request name.now × lacks name.now
-RefusesCheck (failure.UnreadableSource name) holds lacks request = NamesSource holds request.policy.now name × lacks name
-RefusesCheck (failure.Fault f) holds lacks request = (f ≡ fault.Memory) ⊎ OfChecked holds request (λ read. EndsBy f read None None 0)
+-- not all was read: a file is lacking, or memory ran out
+abbrev pub IsNotRead : Failure → (List ℕ → List ℕ → Type 0) → (List ℕ → Type 0) → CheckRequest → Type 0
+IsNotRead (failure.UnreadableFile name) holds lacks request = IsNamed request name.now × lacks name.now
+IsNotRead (failure.UnreadableSource name) holds lacks request = NamesSource holds request.policy.now name × lacks name
+IsNotRead (failure.Fault fault.Memory) holds lacks request = ⊤
+IsNotRead (failure.Fault f) holds lacks request = ⊥
+
+-- the fault by which a run for no ticks ends, and what is at fault then
+pub record RunRefuses (holds : List ℕ → List ℕ → Type 0) (request : CheckRequest) (r : Refused) : Type 0 where
+  pub fault : Fault
+  pub is : r.failure ≡ failure.Fault fault
+  pub so : OfChecked holds request (λ policy sources input. EndsBy fault (inputs policy sources input 0 63) None None 0 × IsAtFault fault r policy sources input)
+
+-- why a check is refused before anything is explained: not all was read, and nothing is told besides; or a run for no ticks is refused
+abbrev pub RefusesCheck : Refused → (List ℕ → List ℕ → Type 0) → (List ℕ → Type 0) → CheckRequest → Type 0
+RefusesCheck r holds lacks request = ((r ≡ plain r.failure) × IsNotRead r.failure holds lacks request) ⊎ RunRefuses holds request r
 
 -- and what it leaves: nothing, or a front of what is explained where the writer failed
-abbrev pub ChecksBy : Failure → (List ℕ → List ℕ → Type 0) → (List ℕ → Type 0) → CheckRequest → Option (List ℕ) → Option (List ℕ) → Type 0
-ChecksBy f holds lacks request old new =
-    (RefusesCheck f holds lacks request × Keeps old new)
-    ⊎ ((f ≡ failure.Fault fault.WriteFault) × CutsExplanation holds request old new)
+abbrev pub ChecksBy : Refused → (List ℕ → List ℕ → Type 0) → (List ℕ → Type 0) → CheckRequest → Option (List ℕ) → Option (List ℕ) → Type 0
+ChecksBy r holds lacks request old new =
+    (RefusesCheck r holds lacks request × Keeps old new)
+    ⊎ ((r ≡ plain (failure.Fault fault.WriteFault)) × CutsExplanation holds request old new)

@@ -1,5 +1,5 @@
 -- What the program has done.
-use Rattle.std.specs.Prelude.{◌≡◌, ◌⊎◌, ℕ, List, Option}
+use Rattle.std.specs.Prelude.{◌≡◌, ◌⊎◌, ℕ, List, Option, None, codes, flat_map}
 use Rattle.std.specs.Io.KnownBytes.{Keeps}
 use Rattle.clap.specs.Words.{Text}
 use Rattle.ds_asm.specs.declared.fault.SourceFault.{SourceFault}
@@ -11,7 +11,11 @@ use Rattle.ds_words.specs.declared.words.CheckRequest.{CheckRequest}
 use Rattle.ds_words.specs.declared.words.ListRequest.{ListRequest}
 use Rattle.ds_words.specs.declared.words.Request.{Request}
 use Rattle.ds_drive.specs.Demo.{demo_inputs}
-use Rattle.ds_drive.specs.Failures.{RunsFiles, CutsFiles, StopsBy, failure_number}
+use Rattle.ds_drive.specs.declared.failure.Failure.TheVariants as failure
+use Rattle.ds_drive.specs.declared.refused.Refused.{Refused}
+use Rattle.ds_drive.specs.Failures.{RunsFiles, CutsFiles, StopsBy, failure_number, memory_failure}
+use Rattle.ds_drive.specs.Told.{failure_line, refused_text, told_line}
+use Rattle.ds_log.specs.Sent.{AppendsPart}
 use Rattle.ds_drive.specs.Statuses.{fault_status}
 use Rattle.ds_drive.specs.Checked.{Explains, CutsExplanation, ChecksBy}
 use Rattle.ds_drive.specs.Listed.{ListsFile, CutsListing, FailsBy, HasFaults}
@@ -36,29 +40,56 @@ IsCutShort words holds old new =
     ⊎ (((request : ListRequest) × AsksForList words request × CutsListing holds request old new)
     ⊎ ((request : CheckRequest) × AsksForCheck words request × CutsExplanation holds request old new))))
 
--- the demonstration ended by a fault of this status
-pub record DemoStops (status : ℕ) (old new : Option (List ℕ)) : Type 0 where
+-- what a writer held before, and what it holds now, where that is known
+pub record Stream : Type 0 where
+  pub old : Option (List ℕ)
+  pub new : Option (List ℕ)
+
+-- these two
+abbrev pub stream : Option (List ℕ) → Option (List ℕ) → Stream
+stream old new = record { old = old; new = new }
+
+-- a front of a text was told
+abbrev pub Tells : Stream → List ℕ → Type 0
+Tells err text = AppendsPart err.old err.new text
+
+-- the demonstration ended by a fault of this status, which was told
+pub record DemoStops (status : ℕ) (out err : Stream) : Type 0 where
   pub fault : Fault
   pub has : fault_status (number_of fault) ≡ status
-  pub stops : EndsBy fault demo_inputs old new 100
+  pub stops : EndsBy fault demo_inputs out.old out.new 100
+  pub told : Tells err (failure_line (failure.Fault fault))
 
--- a failure of this status, of which this holds
-pub record FailsWith (status : ℕ) (P : Failure → Type 0) : Type 0 where
+-- a failure of this status, of which this holds, was told
+pub record FailsWith (status : ℕ) (err : Stream) (P : Failure → Type 0) : Type 0 where
   pub failure : Failure
   pub has : fault_status (failure_number failure) ≡ status
   pub so : P failure
+  pub told : Tells err (failure_line failure)
 
--- the file is a source with faults, which have status 2, and nothing is written
-pub record IsFaulty (status : ℕ) (holds : List ℕ → List ℕ → Type 0) (request : ListRequest) (old new : Option (List ℕ)) : Type 0 where
+-- the file is a source with faults, which have status 2: they were told, and nothing is written
+pub record IsFaulty (status : ℕ) (holds : List ℕ → List ℕ → Type 0) (request : ListRequest) (out err : Stream) : Type 0 where
   pub has : status ≡ 2
   pub faults : List SourceFault
   pub are : HasFaults holds request faults
-  pub kept : Keeps old new
+  pub kept : Keeps out.old out.new
+  pub told : Tells err (flat_map (told_line (codes "dsmon: ") request.file.now None) faults)
 
--- what the words ask for is not done, for a cause that has this status
-abbrev pub IsStopped : ℕ → List Text → (List ℕ → List ℕ → Type 0) → (List ℕ → Type 0) → Option (List ℕ) → Option (List ℕ) → Type 0
-IsStopped status words holds lacks old new =
-    (AsksForDemo words × DemoStops status old new)
-    ⊎ (((request : Request) × AsksForRun words request × FailsWith status (λ f. StopsBy f holds lacks request old new))
-    ⊎ (((request : ListRequest) × AsksForList words request × (FailsWith status (λ f. FailsBy f holds lacks request old new) ⊎ IsFaulty status holds request old new))
-    ⊎ ((request : CheckRequest) × AsksForCheck words request × FailsWith status (λ f. ChecksBy f holds lacks request old new))))
+-- a refusal of this status, of which this holds, was told
+pub record RefusesWith (status : ℕ) (err : Stream) (P : Refused → Type 0) : Type 0 where
+  pub refused : Refused
+  pub has : fault_status (failure_number refused.failure) ≡ status
+  pub so : P refused
+  pub told : Tells err (refused_text refused)
+
+-- what the words ask for is not done, for a cause that has this status and was told
+abbrev pub IsStopped : ℕ → List Text → (List ℕ → List ℕ → Type 0) → (List ℕ → Type 0) → Stream → Stream → Type 0
+IsStopped status words holds lacks out err =
+    (AsksForDemo words × DemoStops status out err)
+    ⊎ (((request : Request) × AsksForRun words request × FailsWith status err (λ f. StopsBy f holds lacks request out.old out.new))
+    ⊎ (((request : ListRequest) × AsksForList words request × (FailsWith status err (λ f. FailsBy f holds lacks request out.old out.new) ⊎ IsFaulty status holds request out err))
+    ⊎ ((request : CheckRequest) × AsksForCheck words request × RefusesWith status err (λ r. ChecksBy r holds lacks request out.old out.new))))
+
+-- nothing is written, and want of memory was told
+abbrev pub WantsMemory : Stream → Stream → Type 0
+WantsMemory out err = Keeps out.old out.new × Tells err (failure_line memory_failure)

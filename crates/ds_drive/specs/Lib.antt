@@ -1,3 +1,4 @@
+pub mod AtFault
 pub mod Demo
 pub mod Listed
 pub mod Checked

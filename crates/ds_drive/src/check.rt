@@ -43,7 +43,7 @@ fn input_of<'a, F: Files>(
 
 /// Reads the policy, the input and each source, as a run would, and answers what a run would refuse.
 /// Once a run of no ticks has taken the input, only want of memory refuses it.
-#[tactic(auto, using(crate::proofs::Stops::check_unread, crate::proofs::Stops::check_input_unread, crate::proofs::Stops::check_source_unread, crate::proofs::Stops::refuses_policy, crate::proofs::Stops::ends_anyhow))]
+#[tactic(auto, using(crate::proofs::Stops::check_unread, crate::proofs::Stops::check_input_unread, crate::proofs::Stops::check_source_unread, crate::proofs::Stops::memory_refuses))]
 fn read_good<'a, F: Files>(
     alloc: Global,
     request: &CheckRequest<'a>,
@@ -51,7 +51,7 @@ fn read_good<'a, F: Files>(
 ) -> Result<Good, Refused<'a>>
     ensures good { IfOk result (λ good. AreGood (F.holds files.old) request.now
         good.policy good.input.items good.events) }
-    ensures refused { IfErr result (λ r. RefusesCheck r.failure (F.holds files.old)
+    ensures refused { IfErr result (λ r. RefusesCheck r (F.holds files.old)
         (F.lacks files.old) request.now) }
     ensures kept { (file bytes : List ℕ) → F.holds files.new file bytes
         → F.holds files.old file bytes }
@@ -100,7 +100,7 @@ pub fn check_files<'a, F: Files, W: Write>(
 ) -> Result<(), Refused<'a>>
     ensures ok { OnOk result (Explains (F.holds files.old) request.now
         (W.contents out.old) (W.contents out.new)) }
-    ensures err { IfErr result (λ r. ChecksBy r.failure (F.holds files.old) (F.lacks files.old)
+    ensures err { IfErr result (λ r. ChecksBy r (F.holds files.old) (F.lacks files.old)
         request.now (W.contents out.old) (W.contents out.new)) }
     ensures kept { (file bytes : List ℕ) → F.holds files.new file bytes
         → F.holds files.old file bytes }

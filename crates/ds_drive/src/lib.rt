@@ -11,11 +11,13 @@ mod program;
 mod refused;
 mod run;
 mod status;
+mod told;
 
 pub use check::check_files;
 pub use ds_words::{CheckRequest, ListRequest, Request, Wish, program_words, wish_of};
 pub use failure::Failure;
 pub use files::{FileFault, Files, MOST_BYTES, SystemFiles};
 pub use list::{Listing, list_file, tell_faults};
-pub use program::{drive, refuse_words, tell};
-pub use refused::{FaultyInput, FaultySource, Refused, tell_refused};
+pub use program::{drive, refuse_words};
+pub use refused::{FaultyInput, FaultySource, Refused};
+pub use told::{tell, tell_refused};

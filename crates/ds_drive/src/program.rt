@@ -1,9 +1,10 @@
 //! The whole program, which takes its words, files and streams from its caller.
 ghost use Rattle.std.specs.Prelude.{◌≡◌, ◌≢◌, ◌≤◌, ◌⊎◌, ◌∷◌, List, [], ℕ, codes, map, string_bytes};
 ghost use Rattle.std.specs.Io.KnownBytes.{Keeps};
-ghost use Rattle.ds_drive.specs.Done.{IsCutShort, IsDone, IsStopped};
-ghost use Rattle.ds_drive.specs.Failures.{failure_number};
-ghost use Rattle.ds_drive.specs.Statuses.{fault_status};
+ghost use Rattle.ds_drive.specs.Done.{IsCutShort, IsDone, IsStopped, WantsMemory, stream};
+ghost use Rattle.ds_drive.specs.Failures.{memory_failure};
+ghost use Rattle.ds_drive.specs.Told.{failure_line};
+ghost use Rattle.ds_log.specs.Sent.{AppendsPart};
 ghost use Rattle.ds_words.specs.Words.{AsksForSomething};
 
 use crate::check::check_files;
@@ -11,9 +12,10 @@ use crate::demo::run_demo;
 use crate::failure::Failure;
 use crate::files::Files;
 use crate::list::{Listing, list_file, tell_faults};
-use crate::refused::tell_refused;
 use crate::run::run_request;
-use crate::status::{DONE, WORDS_REFUSED, status_of};
+use crate::status::{DONE, WORDS_REFUSED};
+use crate::told::{tell, tell_refused};
+use ds_log::send;
 use ds_station::Fault;
 use ds_words::{Wish, wish_of};
 use std::alloc::Global;
@@ -22,7 +24,7 @@ use std::io::{ErrorKind, Write};
 /// Does what the words ask for, the program's own name first, and answers the status: 0 done; 1 the
 /// words were refused for another cause than memory, or ask for help; 2 refused input; 3 a fault of
 /// the run. What was refused is told on `err`; that a write there fails changes no status.
-#[tactic(auto, using(ds_words::proofs::WordLemmas::alone, crate::proofs::Cuts::nothing_written, crate::proofs::Cuts::demo_cut, crate::proofs::Cuts::run_cut, crate::proofs::Cuts::list_cut, crate::proofs::Cuts::check_cut, crate::proofs::Stops::demo_stopped, crate::proofs::Stops::run_stopped, crate::proofs::Stops::list_stopped, crate::proofs::Stops::list_faulty, crate::proofs::Stops::check_stopped))]
+#[tactic(auto, using(ds_words::proofs::WordLemmas::alone, crate::proofs::Cuts::nothing_written, crate::proofs::Cuts::demo_cut, crate::proofs::Cuts::run_cut, crate::proofs::Cuts::list_cut, crate::proofs::Cuts::check_cut, crate::proofs::Stops::demo_stopped, crate::proofs::Stops::run_stopped, crate::proofs::Stops::list_stopped, crate::proofs::Stops::list_faulty, crate::proofs::Stops::check_stopped, crate::proofs::Stops::wants_memory))]
 pub fn drive<F: Files, W: Write, E: Write>(
     alloc: Global,
     words: &[String],
@@ -43,10 +45,14 @@ pub fn drive<F: Files, W: Write, E: Write>(
         (W.contents out.old) (W.contents out.new) }
     ensures unread { result ≡ 2 → Keeps (W.contents out.old) (W.contents out.new) }
     ensures stopped { result ≡ 2 → IsStopped 2 (map string_bytes words.now) (F.holds files.old)
-        (F.lacks files.old) (W.contents out.old) (W.contents out.new) }
-    ensures failed { result ≡ 3 → Keeps (W.contents out.old) (W.contents out.new)
+        (F.lacks files.old) (stream (W.contents out.old) (W.contents out.new))
+        (stream (E.contents err.old) (E.contents err.new)) }
+    ensures failed { result ≡ 3
+        → WantsMemory (stream (W.contents out.old) (W.contents out.new))
+        (stream (E.contents err.old) (E.contents err.new))
         ⊎ IsStopped 3 (map string_bytes words.now) (F.holds files.old) (F.lacks files.old)
-        (W.contents out.old) (W.contents out.new) }
+        (stream (W.contents out.old) (W.contents out.new))
+        (stream (E.contents err.old) (E.contents err.new)) }
     ensures silent { result ≡ 0 → E.contents err.new ≡ E.contents err.old }
     ensures kept { (file bytes : List ℕ) → F.holds files.new file bytes
         → F.holds files.old file bytes }
@@ -71,7 +77,7 @@ pub fn drive<F: Files, W: Write, E: Write>(
             Err(refused) => tell_refused(alloc, err, &refused),
         },
         Ok(None) => {
-            let _ = write!(err, "dsmon: the words leave something out\n");
+            let _ = send(err, b"dsmon: the words leave something out\n");
             WORDS_REFUSED
         }
         Err(error) if error.kind() == clap::error::ErrorKind::OutOfMemory => {
@@ -88,18 +94,14 @@ pub fn drive<F: Files, W: Write, E: Write>(
 pub fn refuse_words<E: Write>(err: &mut E, kind: ErrorKind) -> u8
     ensures memory { kind ≡ ErrorKind.OutOfMemory → result ≡ 3 }
     ensures other { kind ≢ ErrorKind.OutOfMemory → result ≡ 1 }
+    ensures told { kind ≡ ErrorKind.OutOfMemory → AppendsPart (E.contents err.old)
+        (E.contents err.new) (failure_line memory_failure) }
+    ensures told_other { kind ≢ ErrorKind.OutOfMemory → AppendsPart (E.contents err.old)
+        (E.contents err.new) (codes "dsmon: the words are no text\n") }
 {
     if kind == ErrorKind::OutOfMemory {
         return tell(err, &Failure::Fault(Fault::Memory));
     }
-    let _ = write!(err, "dsmon: the words are no text\n");
+    let _ = send(err, b"dsmon: the words are no text\n");
     WORDS_REFUSED
-}
-
-/// Tells of a failure in one line, and answers the status.
-pub fn tell<'a, E: Write>(err: &mut E, failure: &Failure<'a>) -> u8
-    ensures { result ≡ fault_status (failure_number failure.now) }
-{
-    let _ = write!(err, "dsmon: {failure}\n");
-    status_of(failure.number())
 }

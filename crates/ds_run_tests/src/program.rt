@@ -1,4 +1,5 @@
 //! The program over files and streams in memory, where no row of a table can make them.
+use ds_asm::SourceFault;
 use ds_drive::{Failure, FileFault, Files, MOST_BYTES, SystemFiles, drive, refuse_words, tell};
 use ds_policy::Text;
 use ds_station::Fault;
@@ -437,6 +438,36 @@ fn a_fault_that_no_run_of_files_reaches_is_told_in_its_line(rt: HostRuntime) -> 
     ] {
         let mut err: Vec<u8> = Vec::new(rt.alloc());
         assert_eq!(rt; tell(&mut err, &Failure::Fault(fault)), status, "{line}");
+        assert_eq!(rt; err.as_slice(), line.as_bytes(), "{line}");
+    }
+    Ok(())
+}
+
+#[test]
+fn the_text_of_a_failure_is_what_is_told_of_it(rt: HostRuntime) -> Result<(), Fail> {
+    let in_source = |name, fault| Fault::InSource {
+        name: Text::of(name),
+        fault,
+    };
+    for failure in [
+        Failure::UnreadableFile("a file.toml"),
+        Failure::UnreadableSource(Text::of("one.s")),
+        Failure::Fault(Fault::BadRandom),
+        Failure::Fault(in_source("one.s", SourceFault::Syntax(7))),
+        Failure::Fault(in_source("", SourceFault::UnknownLabel(16_777_217))),
+        Failure::Fault(Fault::BadToml),
+        Failure::Fault(Fault::BadRule(999)),
+        Failure::Fault(Fault::Limit("frames")),
+        Failure::Fault(Fault::InputFault(12)),
+        Failure::Fault(Fault::Stuck),
+        Failure::Fault(Fault::Failed),
+        Failure::Fault(Fault::WriteFault),
+        Failure::Fault(Fault::NoSource(Text::of("two.s"))),
+        Failure::Fault(Fault::Memory),
+    ] {
+        let mut err: Vec<u8> = Vec::new(rt.alloc());
+        let _ = tell(&mut err, &failure);
+        let line = format!(in rt.alloc(); "dsmon: {failure}\n")?;
         assert_eq!(rt; err.as_slice(), line.as_bytes(), "{line}");
     }
     Ok(())

@@ -34,4 +34,4 @@ returns-in-Ok-Faults-clause-stopped g c two =
     let old = g.W.Write.contents c.args.out.now in
     let new = g.W.Write.contents c.list_file.new.out in
     let lists = subst (λ (came : Listing). Lists came holds c.in-Ok-Some-List.request old new) c.in-Ok-Faults.field-0-is c.in-Ok-Faults.ensures.ok in
-    list_faulty (map string_bytes c.args.words.now) holds (g.F.Files.lacks c.args.files.now) 2 old new c.in-Ok-Some-List.request c.in-Ok-Faults.faults.items refl (search rules) lists.0 lists.1
+    list_faulty (map string_bytes c.args.words.now) holds (g.F.Files.lacks c.args.files.now) 2 old new (g.E.Write.contents c.args.err.now) (g.E.Write.contents c.tell_faults.new.err) c.in-Ok-Some-List.request c.in-Ok-Faults.faults.items refl (search rules) lists.0 lists.1 (search rules)

@@ -1,0 +1,149 @@
+-- What is at fault where a check is refused.
+use Rattle.std.proofs.Common.{◌≡◌, ◌∙◌, ℕ, suc, zero, ◌<◌, List, [], ◌∷◌, ◌++◌, Bool, true, false, Option, None, Some, Result, Ok, Err, refl, sym, ap, subst, length, get_or, arith}
+use Rattle.std.specs.Prelude.{bytes_eq, codes, nat_le, nat_lt, position, slice_index_or, ◌&&◌}
+use Rattle.ds_asm.specs.Faults.{all_faults}
+use Rattle.std.proofs.lemmas.Bool.{true≢false}
+use Rattle.std.proofs.lemmas.List.Quantifiers.{position-Some}
+use Rattle.ds_word.specs.ResultBinding.{◌>>=◌}
+use Rattle.ds_asm.specs.declared.fault.SourceFault.{SourceFault}
+use Rattle.ds_asm.specs.Assembly.{assembled}
+use Rattle.ds_policy.specs.Value.{PolicyValue, InputValue}
+use Rattle.ds_policy.specs.InputText.{input_of}
+use Rattle.ds_policy.specs.PolicyParts.{sources_of}
+use Rattle.ds_policy.specs.declared.fault.PolicyFault.{PolicyFault}
+use Rattle.ds_policy.specs.declared.fault.PolicyFault.TheVariants as policy_fault
+use Rattle.ds_pagemap.specs.Inputs.{Refusal, Sources, check, image_read, images_from, input_read, inputs_under, inputs_under_by, source_read, text_named}
+use Rattle.ds_pagemap.specs.Inputs as refusal
+use Rattle.ds_pagemap.specs.First.{first_state}
+use Rattle.ds_station.proofs.Preparing.{with_images, with_input, with_ticks}
+use Rattle.ds_station.specs.Faults.{of_policy}
+use Rattle.ds_station.specs.Headline.{EndsBy}
+use Rattle.ds_station.specs.declared.fault.Fault.{Fault}
+use Rattle.ds_station.specs.declared.fault.Fault.TheVariants as fault
+use Rattle.ds_drive.specs.declared.refused.Refused.{Refused}
+use Rattle.ds_drive.specs.declared.refused.FaultyInput.{FaultyInput}
+use Rattle.ds_drive.specs.declared.refused.FaultySource.{FaultySource}
+use Rattle.ds_drive.specs.declared.run.SourceText.{SourceText}
+use Rattle.ds_drive.specs.AtFault.{IsAtFault, IsInputAt, IsPlaceAt, IsSourceAt, plain, texts_seen}
+
+-- a refusal of which nothing is told besides
+pub plain_is : (r : Refused) → r.source ≡ None → r.input ≡ None → r.line ≡ None → r.column ≡ None → r ≡ plain r.failure
+plain_is r a b c d =
+    ap (λ (s : Option FaultySource). record { failure = r.failure; source = s; input = r.input; line = r.line; column = r.column }) a
+    ∙ (ap (λ (i : Option FaultyInput). record { failure = r.failure; source = None; input = i; line = r.line; column = r.column }) b
+    ∙ (ap (λ (l : Option ℕ). record { failure = r.failure; source = None; input = None; line = l; column = r.column }) c
+    ∙ ap (λ (k : Option ℕ). record { failure = r.failure; source = None; input = None; line = None; column = k }) d))
+
+-- a refusal of the policy is none of the input
+no_input_at : (e : PolicyFault) (input : List ℕ) → IsInputAt (of_policy e) input None
+no_input_at policy_fault.BadToml input = tt
+no_input_at (policy_fault.BadRule number) input = tt
+no_input_at (policy_fault.Limit key) input = tt
+no_input_at policy_fault.Memory input = tt
+
+-- what is at fault where the policy is refused
+pub policy_at : (e : PolicyFault) (policy input : List ℕ) (r : Refused) → IsPlaceAt (of_policy e) policy r.line r.column → r.source ≡ None → r.input ≡ None
+    → IsAtFault (of_policy e) r policy [] input
+policy_at e policy input r place no_source no_input = record {
+  source_at = subst (IsSourceAt (of_policy e) []) (sym no_source) tt;
+  input_at = subst (IsInputAt (of_policy e) input) (sym no_input) (no_input_at e input);
+  place_at = place;
+}
+
+-- where no rule is refused, no place may be told
+nowhere : (f : Fault) (policy : List ℕ) → ((k : ℕ) → f ≡ fault.BadRule k → ⊥) → IsPlaceAt f policy None None
+nowhere (fault.BadRule number) policy none = absurd (none number refl)
+nowhere fault.BadToml policy none = (refl, refl)
+nowhere fault.BadRandom policy none = (refl, refl)
+nowhere (fault.InSource name f) policy none = (refl, refl)
+nowhere (fault.Limit key) policy none = (refl, refl)
+nowhere (fault.InputFault line) policy none = (refl, refl)
+nowhere fault.Stuck policy none = (refl, refl)
+nowhere fault.Failed policy none = (refl, refl)
+nowhere fault.WriteFault policy none = (refl, refl)
+nowhere (fault.NoSource name) policy none = (refl, refl)
+nowhere fault.Memory policy none = (refl, refl)
+
+-- what is at fault where the run is refused
+pub texts_at : (f : Fault) (r : Refused) (policy input : List ℕ) (sources seen : Sources) → ((k : ℕ) → f ≡ fault.BadRule k → ⊥) → sources ≡ seen
+    → IsSourceAt f seen r.source → IsInputAt f input r.input → r.line ≡ None → r.column ≡ None → IsAtFault f r policy sources input
+texts_at f r policy input sources seen none same source_at input_at no_line no_column = record {
+  source_at = subst (λ (x : Sources). IsSourceAt f x r.source) (sym same) source_at;
+  input_at = input_at;
+  place_at = subst (λ (l : Option ℕ). IsPlaceAt f policy l r.column) (sym no_line) (subst (IsPlaceAt f policy None) (sym no_column) (nowhere f policy none));
+}
+
+-- No rule is refused where the policy was read.
+
+abbrev refuses_rule : Refusal → Bool
+refuses_rule (refusal.BadRule k) = true
+refuses_rule r = false
+
+abbrev is_of_rule : {A : Type 0} → Result A Refusal → Bool
+is_of_rule (Ok x) = false
+is_of_rule (Err r) = refuses_rule r
+
+no_rule_then : {A B : Type 0} (first : Result A Refusal) (next : A → Result B Refusal) → is_of_rule first ≡ false → ((x : A) → is_of_rule (next x) ≡ false) → is_of_rule (first >>= next) ≡ false
+no_rule_then (Ok x) next one other = other x
+no_rule_then (Err r) next one other = one
+
+no_rule_source : (name : List ℕ) (image : Result (List ℕ) SourceFault) → is_of_rule (source_read name image) ≡ false
+no_rule_source name (Ok bytes) = refl
+no_rule_source name (Err f) = refl
+
+no_rule_image : (name : List ℕ) (text : Option (List ℕ)) → is_of_rule (image_read name text) ≡ false
+no_rule_image name None = refl
+no_rule_image name (Some text) = no_rule_source name (assembled text)
+
+no_rule_images : (sources : Sources) (done : List (List ℕ)) (names : List (List ℕ)) → is_of_rule (images_from sources done names) ≡ false
+unfolding images_from
+no_rule_images sources done [] = refl
+no_rule_images sources done (name ∷ names) =
+    no_rule_then (image_read name (text_named sources name)) (λ bytes. images_from sources (done ++ bytes ∷ []) names) (no_rule_image name (text_named sources name))
+    (λ bytes. no_rule_images sources (done ++ bytes ∷ []) names)
+
+no_rule_input : (input : Result InputValue ℕ) → is_of_rule (input_read input) ≡ false
+no_rule_input (Ok x) = refl
+no_rule_input (Err line) = refl
+
+no_rule_check : (b : Bool) (r : Refusal) → refuses_rule r ≡ false → is_of_rule (check b r) ≡ false
+no_rule_check true r other = refl
+no_rule_check false r other = other
+
+no_rule_under : (value : PolicyValue) (sources : Sources) (input : List ℕ) (n random : ℕ) → is_of_rule (inputs_under value sources input n random) ≡ false
+unfolding inputs_under inputs_under_by
+no_rule_under value sources input n random =
+    no_rule_then (images_from sources [] (sources_of value.pages)) (λ images. with_images first_state value images input n random) (no_rule_images sources [] (sources_of value.pages))
+    (λ images. no_rule_then (input_read (input_of value.pages input)) (λ events. with_input first_state value images events n random) (no_rule_input (input_of value.pages input))
+    (λ events. no_rule_then (check (nat_le n 1000000000) (refusal.Limit (codes "n"))) (λ few. with_ticks first_state value images events random) (no_rule_check (nat_le n 1000000000) (refusal.Limit (codes "n")) refl)
+    (λ few. no_rule_then (check (nat_le 8 random && nat_lt random 64) refusal.BadRandom) (λ good. Ok (first_state value images events)) (no_rule_check (nat_le 8 random && nat_lt random 64) refusal.BadRandom refl)
+    (λ good. refl))))
+
+-- so the fault by which such a run ends is no rule's
+pub no_rule_ends : (value : PolicyValue) (sources : Sources) (input : List ℕ) (n random : ℕ) (f : Fault) (old new : Option (List ℕ)) (k : ℕ)
+    → EndsBy f (inputs_under value sources input n random) old new n → f ≡ fault.BadRule k → ⊥
+no_rule_ends value sources input n random f old new k ends is =
+    let rule = subst (λ (x : Fault). EndsBy x (inputs_under value sources input n random) old new n) is ends in
+    true≢false (sym (ap is_of_rule rule.0) ∙ no_rule_under value sources input n random)
+
+-- the text at the place of the first source of a name is the one of that name
+named_at : (texts : List SourceText) (name : List ℕ) (i : ℕ) (d : SourceText) → i < length texts → bytes_eq (get_or texts i d).name name ≡ true
+    → ((k : ℕ) → k < i → bytes_eq (get_or texts k d).name name ≡ false) → text_named (texts_seen texts) name ≡ Some (get_or texts i d).text.items
+named_at [] name i d within here before = absurd (omega (arith, within))
+named_at (s ∷ texts) name zero d within here before = rw here refl
+named_at (s ∷ texts) name (suc i) d within here before =
+    rw (before 0 (omega arith)) (named_at texts name i d (omega (arith, within)) here (λ k h. before (suc k) (omega (arith, h))))
+
+named_first : (texts : List SourceText) (name : List ℕ) (i : ℕ) (d : SourceText) → position (λ s. bytes_eq s.name name) texts ≡ Some i
+    → text_named (texts_seen texts) name ≡ Some (get_or texts i d).text.items
+named_first texts name i d is =
+    let first = position-Some (λ s. bytes_eq s.name name) texts i d is in
+    named_at texts name i d first.0 first.1 first.2
+
+-- what was found by that name is the source at fault
+pub source_found : (f : Fault) (name given : List ℕ) (first : SourceFault) (texts held : List SourceText) (i : ℕ) (s : SourceText) (r : FaultySource)
+    → f ≡ fault.InSource name first → given ≡ name → held ≡ texts → position (λ s. bytes_eq s.name given) held ≡ Some i → s ≡ slice_index_or texts i s
+    → r.text.items ≡ s.text.items → r.faults.items ≡ all_faults r.text.items → IsSourceAt f (texts_seen texts) (Some r)
+source_found f name given first texts held i s r is named same at found text faults =
+    let there = named_first texts name i s (subst (λ (l : List SourceText). position (λ t. bytes_eq t.name name) l ≡ Some i) same (subst (λ (n : List ℕ). position (λ t. bytes_eq t.name n) held ≡ Some i) named at)) in
+    subst (λ (x : Fault). IsSourceAt x (texts_seen texts) (Some r)) (sym is) (there ∙ ap (λ (t : List ℕ). Some t) (ap (λ (x : SourceText). x.text.items) (sym found) ∙ sym text), faults)

@@ -1,0 +1,23 @@
+use Rattle.std.specs.Prelude.{codes, flat_map}
+use Rattle.ds_log.proofs.Sends.{at_err, part_behind, part_before}
+use Rattle.ds_drive.proofs.told.send_line.Goals as goal
+
+pub returns-in_err-send-clause-front : goal.returns-in_err-send-clause-front
+returns-in_err-send-clause-front g c = at_err c.from_residual.result (part_before _ _ (codes "dsmon: ") _ c.in_err-send.ensures.err)
+
+pub returns-in_err-send_words-clause-front : goal.returns-in_err-send_words-clause-front
+returns-in_err-send_words-clause-front g c = at_err c.from_residual-in_err-send_words.result
+    (part_behind _ _ _ (codes "dsmon: ") _ c.in_ok-send.ensures.ok
+    (part_before _ _ _ _ c.in_err-send_words.ensures.front))
+
+pub returns-in_err-send_words-2-clause-front : goal.returns-in_err-send_words-2-clause-front
+returns-in_err-send_words-2-clause-front g c = at_err c.from_residual-in_err-send_words-2.result
+    (part_behind _ _ _ (codes "dsmon: ") _ c.in_ok-send.ensures.ok
+    (part_behind _ _ _ (flat_map (λ w. w.now) c.args.words.now) _ c.in_ok-send_words.ensures.all
+    (part_before _ _ _ (codes "\n") c.in_err-send_words-2.ensures.front)))
+
+pub returns-in_err-send-2-clause-front : goal.returns-in_err-send-2-clause-front
+returns-in_err-send-2-clause-front g c = at_err c.from_residual-in_err-send-2.result
+    (part_behind _ _ _ (codes "dsmon: ") _ c.in_ok-send.ensures.ok
+    (part_behind _ _ _ (flat_map (λ w. w.now) c.args.words.now) _ c.in_ok-send_words.ensures.all
+    (part_behind _ _ _ (flat_map (λ w. w.now) c.args.carried.now) _ c.in_ok-send_words-2.ensures.all c.in_err-send-2.ensures.err)))

@@ -1,0 +1,45 @@
+-- Which source, which input and which place in a policy are told of a check that is refused.
+use Rattle.std.specs.Prelude.{◌≡◌, ◌≤◌, ℕ, List, Option, None, Some, length, map, ⊤}
+use Rattle.ds_asm.specs.Faults.{all_faults}
+use Rattle.ds_check.specs.Places.{place_at, rule_line}
+use Rattle.ds_pagemap.specs.Inputs.{Sources, text_named}
+use Rattle.ds_station.specs.declared.fault.Fault.{Fault}
+use Rattle.ds_station.specs.declared.fault.Fault.TheVariants as fault
+use Rattle.ds_drive.specs.declared.failure.Failure.{Failure}
+use Rattle.ds_drive.specs.declared.refused.FaultyInput.{FaultyInput}
+use Rattle.ds_drive.specs.declared.refused.FaultySource.{FaultySource}
+use Rattle.ds_drive.specs.declared.refused.Refused.{Refused}
+use Rattle.ds_drive.specs.declared.run.SourceText.{SourceText}
+
+-- each source's name and text
+abbrev pub texts_seen : List SourceText → Sources
+texts_seen texts = map (λ s. (s.name, s.text.items)) texts
+
+-- a failure of which nothing is told besides
+abbrev pub plain : Failure → Refused
+plain f = record { failure = f; source = None; input = None; line = None; column = None }
+
+-- the source that is told is the one that the fault names, with all its faults; where memory is wanting for them, none is told
+abbrev pub IsSourceAt : Fault → Sources → Option FaultySource → Type 0
+IsSourceAt f sources None = ⊤
+IsSourceAt (fault.InSource name first) sources (Some s) = (text_named sources name ≡ Some s.text.items) × (s.faults.items ≡ all_faults s.text.items)
+IsSourceAt f sources (Some s) = ⊥
+
+-- an input is told where the fault is the input's, with the fault's line
+abbrev pub IsInputAt : Fault → List ℕ → Option FaultyInput → Type 0
+IsInputAt (fault.InputFault line) text None = ⊥
+IsInputAt (fault.InputFault line) text (Some i) = (i.text.items ≡ text) × (i.line ≡ line)
+IsInputAt f text None = ⊤
+IsInputAt f text (Some i) = ⊥
+
+-- a line of a policy is told where the fault is a rule's: the one in which that rule begins; and a line and a column where the policy is no document: those of some place in its text
+abbrev pub IsPlaceAt : Fault → List ℕ → Option ℕ → Option ℕ → Type 0
+IsPlaceAt (fault.BadRule number) policy line column = (line ≡ rule_line policy number) × (column ≡ None)
+IsPlaceAt fault.BadToml policy (Some line) (Some column) = (n : ℕ) × (n ≤ length policy) × (record { line = line; column = column } ≡ place_at policy n)
+IsPlaceAt f policy line column = (line ≡ None) × (column ≡ None)
+
+-- what is told besides of a fault of these texts is this
+pub record IsAtFault (f : Fault) (r : Refused) (policy : List ℕ) (sources : Sources) (input : List ℕ) : Type 0 where
+  pub source_at : IsSourceAt f sources r.source
+  pub input_at : IsInputAt f input r.input
+  pub place_at : IsPlaceAt f policy r.line r.column

@@ -1,0 +1,282 @@
+//! What standard error is told of a failure, and of a check that is refused.
+ghost use Rattle.std.specs.Prelude.{◌≡◌, ◌++◌, OnErr, OnOk, codes, flat_map};
+ghost use Rattle.std.specs.Io.KnownBytes.{Appends};
+ghost use Rattle.ds_check.specs.Lines.{shown_line};
+ghost use Rattle.ds_check.specs.Mending.{mended};
+ghost use Rattle.ds_drive.specs.Failures.{failure_number};
+ghost use Rattle.ds_drive.specs.Statuses.{fault_status};
+ghost use Rattle.ds_drive.specs.Told.{failure_line, fault_words, faults_shown, input_shown, place_line, refused_text, source_fault_words, source_shown, text_or_none};
+ghost use Rattle.ds_log.specs.Sent.{AppendsPart};
+
+use crate::failure::Failure;
+use crate::faults::{Untold, Wording, tell_lines};
+use crate::refused::{FaultyInput, FaultySource, Refused};
+use crate::status::status_of;
+use ds_asm::SourceFault;
+use ds_check::{Lines, mend_text};
+use ds_log::send;
+use ds_station::Fault;
+use itoa::Buffer;
+use std::alloc::Global;
+use std::io::Write;
+
+/// Tells of a failure in one line, and answers the status. Where the writer fails, the rest is not
+/// told.
+#[tactic(auto, using(crate::proofs::Tellings::told_either))]
+pub fn tell<'a, E: Write>(err: &mut E, failure: &Failure<'a>) -> u8
+    ensures status { result ≡ fault_status (failure_number failure.now) }
+    ensures told { AppendsPart (E.contents err.old) (E.contents err.new)
+        (failure_line failure.now) }
+{
+    let _ = send_failure(err, failure);
+    status_of(failure.number())
+}
+
+/// Tells of a refusal as a run does, and below it where it is, the source's line with the other faults
+/// of the source and their lines, and how it is mended; and answers the status. Where the writer
+/// fails, or memory runs out, the rest is not told.
+#[tactic(auto, using(crate::proofs::Tellings::told_either))]
+pub fn tell_refused<'a, E: Write>(alloc: Global, err: &mut E, refused: &Refused<'a>) -> u8
+    ensures status { result ≡ fault_status (failure_number refused.now.failure) }
+    ensures told { AppendsPart (E.contents err.old) (E.contents err.new)
+        (refused_text refused.now) }
+{
+    let _ = send_refused(alloc, err, refused);
+    status_of(refused.failure.number())
+}
+
+/// Hands all that is told of a refusal to the writer.
+fn send_refused<'a, E: Write>(
+    alloc: Global,
+    err: &mut E,
+    refused: &Refused<'a>,
+) -> Result<(), Untold>
+    ensures all { OnOk result (Appends (E.contents err.old) (E.contents err.new)
+        (refused_text refused.now)) }
+    ensures front { OnErr result (AppendsPart (E.contents err.old) (E.contents err.new)
+        (refused_text refused.now)) }
+{
+    send_failure(err, &refused.failure)?;
+    send_place(err, refused.line, refused.column)?;
+    send_source(alloc, err, &refused.source)?;
+    send_input(alloc, err, &refused.input)?;
+    send_mending(err, refused.failure.number())
+}
+
+/// Hands the line of a failure to the writer.
+fn send_failure<'a, E: Write>(err: &mut E, failure: &Failure<'a>) -> Result<(), Untold>
+    ensures all { OnOk result (Appends (E.contents err.old) (E.contents err.new)
+        (failure_line failure.now)) }
+    ensures front { OnErr result (AppendsPart (E.contents err.old) (E.contents err.new)
+        (failure_line failure.now)) }
+{
+    match failure {
+        Failure::UnreadableFile(name) => {
+            send_line(err, &[b"26 Unreadable "], &[name.as_bytes()])
+        }
+        Failure::UnreadableSource(name) => {
+            send_line(err, &[b"26 Unreadable "], &[name.as_str().as_bytes()])
+        }
+        Failure::Fault(fault) => send_fault(err, fault),
+    }
+}
+
+/// Hands the line of a fault to the writer.
+fn send_fault<E: Write>(err: &mut E, fault: &Fault) -> Result<(), Untold>
+    ensures all { OnOk result (Appends (E.contents err.old) (E.contents err.new)
+        (codes "dsmon: " ++ (fault_words fault.now ++ codes "\n"))) }
+    ensures front { OnErr result (AppendsPart (E.contents err.old) (E.contents err.new)
+        (codes "dsmon: " ++ (fault_words fault.now ++ codes "\n"))) }
+{
+    let mut digits = Buffer::new();
+    match fault {
+        Fault::BadRandom => send_line(err, &[b"1 BadRandom"], &[]),
+        Fault::InSource { name, fault } => send_source_fault(err, name.as_str(), fault),
+        Fault::BadToml => send_line(err, &[b"8 BadToml"], &[]),
+        Fault::BadRule(number) => {
+            send_line(err, &[b"9 BadRule "], &[digits.format(*number).as_bytes()])
+        }
+        Fault::Limit(key) => send_line(err, &[b"10 Limit "], &[key.as_bytes()]),
+        Fault::InputFault(line) => {
+            send_line(
+                err,
+                &[b"20 InputFault "],
+                &[digits.format(*line).as_bytes()],
+            )
+        }
+        Fault::Stuck => send_line(err, &[b"21 Stuck"], &[]),
+        Fault::Failed => send_line(err, &[b"22 Failed"], &[]),
+        Fault::WriteFault => send_line(err, &[b"23 WriteFault"], &[]),
+        Fault::NoSource(name) => { send_line(err, &[b"24 NoSource "], &[name.as_str().as_bytes()]) }
+        Fault::Memory => send_line(err, &[b"25 Memory"], &[]),
+    }
+}
+
+/// Hands the line of a fault of the source of this name to the writer.
+fn send_source_fault<E: Write>(err: &mut E, name: &str, fault: &SourceFault) -> Result<(), Untold>
+    ensures all { OnOk result (Appends (E.contents err.old) (E.contents err.new)
+        (codes "dsmon: " ++ (source_fault_words name.now fault.now ++ codes "\n"))) }
+    ensures front { OnErr result (AppendsPart (E.contents err.old) (E.contents err.new)
+        (codes "dsmon: " ++ (source_fault_words name.now fault.now ++ codes "\n"))) }
+{
+    let mut numbers = Buffer::new();
+    let mut lines = Buffer::new();
+    let head = [
+        numbers.format(fault.number()).as_bytes(),
+        b" ".as_slice(),
+        fault.name().as_bytes(),
+        b" ".as_slice(),
+    ];
+    let carried = [
+        name.as_bytes(),
+        b" ".as_slice(),
+        lines.format(fault.line()).as_bytes(),
+    ];
+    send_line(err, &head, &carried)
+}
+
+/// Hands a line of the program to the writer: some words, and what they carry.
+fn send_line<E: Write>(err: &mut E, words: &[&[u8]], carried: &[&[u8]]) -> Result<(), Untold>
+    ensures all { OnOk result (Appends (E.contents err.old) (E.contents err.new)
+        (codes "dsmon: " ++ (flat_map (λ word. word.now) words.now
+        ++ (flat_map (λ word. word.now) carried.now ++ codes "\n")))) }
+    ensures front { OnErr result (AppendsPart (E.contents err.old) (E.contents err.new)
+        (codes "dsmon: " ++ (flat_map (λ word. word.now) words.now
+        ++ (flat_map (λ word. word.now) carried.now ++ codes "\n")))) }
+{
+    send(err, b"dsmon: ")?;
+    send_words(err, words)?;
+    send_words(err, carried)?;
+    send(err, b"\n")?;
+    Ok(())
+}
+
+/// Hands words to the writer, one after another.
+fn send_words<E: Write>(err: &mut E, words: &[&[u8]]) -> Result<(), Untold>
+    ensures all { OnOk result (Appends (E.contents err.old) (E.contents err.new)
+        (flat_map (λ word. word.now) words.now)) }
+    ensures front { OnErr result (AppendsPart (E.contents err.old) (E.contents err.new)
+        (flat_map (λ word. word.now) words.now)) }
+{
+    for word in words {
+        send(err, word)?;
+    }
+    Ok(())
+}
+
+/// Hands the line that tells of a place in the policy to the writer, where one is known.
+fn send_place<E: Write>(err: &mut E, line: Option<u64>, column: Option<u64>) -> Result<(), Untold>
+    ensures all { OnOk result (Appends (E.contents err.old) (E.contents err.new)
+        (place_line line column)) }
+    ensures front { OnErr result (AppendsPart (E.contents err.old) (E.contents err.new)
+        (place_line line column)) }
+{
+    match (line, column) {
+        (Some(line), Some(column)) => send_words(
+            err,
+            &[
+                b"in line ",
+                Buffer::new().format(line).as_bytes(),
+                b", column ",
+                Buffer::new().format(column).as_bytes(),
+                b" of the policy\n",
+            ],
+        ),
+        (Some(line), None) => send_words(
+            err,
+            &[
+                b"in line ",
+                Buffer::new().format(line).as_bytes(),
+                b" of the policy\n",
+            ],
+        ),
+        (None, _) => Ok(()),
+    }
+}
+
+/// Shows a source that is at fault, where one is.
+fn send_source<E: Write>(
+    alloc: Global,
+    err: &mut E,
+    source: &Option<FaultySource>,
+) -> Result<(), Untold>
+    ensures all { OnOk result (Appends (E.contents err.old) (E.contents err.new)
+        (source_shown source.now)) }
+    ensures front { OnErr result (AppendsPart (E.contents err.old) (E.contents err.new)
+        (source_shown source.now)) }
+{
+    match source {
+        Some(source) => send_faults(alloc, err, &source.text, &source.faults),
+        None => Ok(()),
+    }
+}
+
+/// Shows the line of a source's first fault, and tells of the other faults, each with its line.
+fn send_faults<E: Write>(
+    alloc: Global,
+    err: &mut E,
+    text: &[u8],
+    faults: &[SourceFault],
+) -> Result<(), Untold>
+    ensures all { OnOk result (Appends (E.contents err.old) (E.contents err.new)
+        (faults_shown text.now faults.now)) }
+    ensures front { OnErr result (AppendsPart (E.contents err.old) (E.contents err.new)
+        (faults_shown text.now faults.now)) }
+{
+    let wording = Wording {
+        front: "and ",
+        place: "in line",
+    };
+    match faults {
+        [first, others @ ..] => {
+            show_line(alloc, err, text, first.line())?;
+            let mut lines = Some(Lines::of(text));
+            tell_lines(alloc, err, wording, &mut lines, others)
+        }
+        [] => Ok(()),
+    }
+}
+
+/// Shows the line of an input that is at fault, where it is.
+fn send_input<E: Write>(
+    alloc: Global,
+    err: &mut E,
+    input: &Option<FaultyInput>,
+) -> Result<(), Untold>
+    ensures all { OnOk result (Appends (E.contents err.old) (E.contents err.new)
+        (input_shown input.now)) }
+    ensures front { OnErr result (AppendsPart (E.contents err.old) (E.contents err.new)
+        (input_shown input.now)) }
+{
+    match input {
+        Some(input) => show_line(alloc, err, &input.text, input.line),
+        None => Ok(()),
+    }
+}
+
+/// Shows the line of this number of a text.
+fn show_line<E: Write>(alloc: Global, err: &mut E, text: &[u8], number: u64) -> Result<(), Untold>
+    ensures all { OnOk result (Appends (E.contents err.old) (E.contents err.new)
+        (shown_line text.now number)) }
+    ensures front { OnErr result (AppendsPart (E.contents err.old) (E.contents err.new)
+        (shown_line text.now number)) }
+{
+    let mut lines = Lines::of(text);
+    let mut shown = Vec::new(alloc);
+    lines.push(&mut shown, number)?;
+    send(err, &shown)?;
+    Ok(())
+}
+
+/// Tells how a refusal of this number is mended, where that is known.
+fn send_mending<E: Write>(err: &mut E, number: u32) -> Result<(), Untold>
+    ensures all { OnOk result (Appends (E.contents err.old) (E.contents err.new)
+        (text_or_none (mended number))) }
+    ensures front { OnErr result (AppendsPart (E.contents err.old) (E.contents err.new)
+        (text_or_none (mended number))) }
+{
+    match mend_text(number) {
+        Some(words) => Ok(send(err, words.as_bytes())?),
+        None => Ok(()),
+    }
+}
