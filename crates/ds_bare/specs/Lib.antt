@@ -1,0 +1,6 @@
+pub mod Faults
+pub mod Machine
+pub mod Endings
+pub mod Steps
+pub mod Ends
+pub mod Runs
