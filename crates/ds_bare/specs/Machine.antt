@@ -38,14 +38,13 @@ unfoldable pub memory_with : List ℕ → ℕ → List ℕ
 memory_with image zero = zeros (2 ^ 23)
 memory_with image (suc k) = with_frame (memory_with image k) (1024 + k) (part_of image k)
 
+-- a processor with an image in its memory, and nothing sent
+abbrev pub machine_with : CoreState → List ℕ → List Character → Machine
+machine_with c image keys = record { core = c; bus = bus.at_start (memory_with image 16); coming = keys; sent = [] }
+
 -- the machine before its first instruction
 abbrev pub machine_at_start : List ℕ → ℕ → List Character → Machine
-machine_at_start image random keys = record {
-  core = core_at_start random;
-  bus = bus.at_start (memory_with image 16);
-  coming = keys;
-  sent = [];
-}
+machine_at_start image random keys = machine_with (core_at_start random) image keys
 
 -- the bus after a character has come in
 abbrev pub with_character : BusState → Character → BusState

@@ -1,10 +1,11 @@
 //! Why there is no run, or no whole text of one.
 ghost use Rattle.std.specs.Prelude.{◌≡◌};
 ghost use Rattle.ds_bare.specs.Faults.{number_of};
-ghost use Rattle.ds_bare.specs.declared.fault.BareFault.TheVariants.{BadRandom, Memory, WriteFault};
+ghost use Rattle.ds_bare.specs.declared.fault.BareFault.TheVariants as variants;
 
 use ds_log::WriteFailed;
 use ds_mem::OutOfMemory;
+use ds_tlb::BadRandom;
 use std::alloc::{AllocError, AllocFailed};
 use thiserror::Error;
 
@@ -36,8 +37,16 @@ impl BareFault {
     }
 }
 
+impl From<BadRandom> for BareFault {
+    ghost from_gives = { λ _ e. e ≡ variants.BadRandom };
+
+    fn from(_e: BadRandom) -> BareFault {
+        BareFault::BadRandom
+    }
+}
+
 impl From<WriteFailed> for BareFault {
-    ghost from_gives = { λ _ e. e ≡ WriteFault };
+    ghost from_gives = { λ _ e. e ≡ variants.WriteFault };
 
     fn from(_e: WriteFailed) -> BareFault {
         BareFault::WriteFault
@@ -45,7 +54,7 @@ impl From<WriteFailed> for BareFault {
 }
 
 impl From<OutOfMemory> for BareFault {
-    ghost from_gives = { λ _ e. e ≡ Memory };
+    ghost from_gives = { λ _ e. e ≡ variants.Memory };
 
     fn from(_e: OutOfMemory) -> BareFault {
         BareFault::Memory
@@ -53,7 +62,7 @@ impl From<OutOfMemory> for BareFault {
 }
 
 impl From<AllocError> for BareFault {
-    ghost from_gives = { λ _ e. e ≡ Memory };
+    ghost from_gives = { λ _ e. e ≡ variants.Memory };
 
     fn from(_e: AllocError) -> BareFault {
         BareFault::Memory
@@ -61,7 +70,7 @@ impl From<AllocError> for BareFault {
 }
 
 impl<T: Drop> From<AllocFailed<T>> for BareFault {
-    ghost from_gives = { λ _ e. e ≡ Memory };
+    ghost from_gives = { λ _ e. e ≡ variants.Memory };
 
     fn from(_e: AllocFailed<T>) -> BareFault {
         BareFault::Memory

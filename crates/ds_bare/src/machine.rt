@@ -1,16 +1,16 @@
 //! The machine: the processor, its bus, and the characters that come in and go out.
-ghost use Rattle.std.specs.Prelude.{◌≡◌, ◌≤◌, IfOk, OnOk, Err, length};
+ghost use Rattle.std.specs.Prelude.{◌≡◌, ◌≤◌, IfOk, OnOk, OnErr, true, false};
+ghost use Rattle.ds_bare.specs.Faults.{may_start};
 ghost use Rattle.ds_bare.specs.Machine.{bus_fed, core_at_start, memory_with, still_coming, with_sent};
 
 use crate::ending::Processor;
-use crate::fault::BareFault;
 use ds_asm::Image;
 use ds_core::{Core, Event};
 use ds_cp0::Cp0;
 use ds_dev::Bus;
 use ds_mem::{Memory, OutOfMemory};
 use ds_policy::Character;
-use ds_tlb::{Indexed, Lookaside};
+use ds_tlb::{BadRandom, Indexed, Lookaside};
 use std::alloc::{AllocError, Global};
 use std::marker::Model;
 
@@ -46,13 +46,12 @@ impl<'a> Model for Machine<'a> {
 }
 
 /// A new processor at the image's first word.
-fn core_at_start(random: u8) -> Result<Processor, BareFault>
-    ensures { IfOk result (λ core. core ≡ core_at_start random) }
+pub(crate) fn core_at_start(random: u8) -> Result<Processor, BadRandom>
+    ensures start { IfOk result (λ core. core ≡ core_at_start random) }
+    ensures made { OnOk result (may_start random ≡ true) }
+    ensures refused { OnErr result (may_start random ≡ false) }
 {
-    let tlb = match Indexed::<64, 8>::new(random as usize) {
-        Ok(tlb) => tlb,
-        Err(_) => return Err(BareFault::BadRandom),
-    };
+    let tlb = Indexed::<64, 8>::new(random as usize)?;
     Ok(Core {
         registers: [0; 32],
         hi: 0,
@@ -109,18 +108,17 @@ fn add_sent(sent: &mut Vec<(u8, u8)>, character: Option<(u8, u8)>) -> Result<(),
 
 impl<'a> Machine<'a> {
     ghost use Rattle.std.specs.Prelude.{◌≡◌, ◌↔◌, ◌<◌, ◌≤◌, IfOk, OnOk, OnErr, IfErr};
-    ghost use Rattle.ds_bare.specs.Machine.{fed, machine_at_start, next_step, settled, stepped};
+    ghost use Rattle.ds_bare.specs.Machine.{fed, machine_with, next_step, settled, stepped};
 
-    /// The machine before its first instruction.
+    /// A processor with an image in its memory.
     pub fn new(
         alloc: Global,
+        core: Processor,
         image: &Image,
-        random: u8,
         keys: &'a [Character],
-    ) -> Result<Machine<'a>, BareFault>
-        ensures { IfOk result (λ m. m ≡ machine_at_start image.now random keys.entry.now) }
+    ) -> Result<Machine<'a>, OutOfMemory>
+        ensures { IfOk result (λ m. m ≡ machine_with core image.now keys.entry.now) }
     {
-        let core = core_at_start(random)?;
         let memory = memory_with(alloc, image)?;
         Ok(Machine {
             core,

@@ -1,8 +1,9 @@
 //! A run, told to a writer.
 ghost use Rattle.std.specs.Prelude.{◌≡◌, ◌≤◌, ◌<◌, ◌+◌, ◌^◌, ◌↔◌, IfOk, IfErr, OnOk, OnErr, Ok, Err, true, false};
-ghost use Rattle.std.specs.Io.KnownBytes.{Appends};
+ghost use Rattle.std.specs.Io.KnownBytes.{Appends, Keeps};
 ghost use Rattle.std.specs.String.{string_bytes};
 ghost use Rattle.ds_log.specs.Sent.{AppendsPart};
+ghost use Rattle.ds_bare.specs.Faults.{is_cut, may_start};
 ghost use Rattle.ds_bare.specs.Machine.{fed, machine_at_start, next_step};
 ghost use Rattle.ds_bare.specs.Endings.{word_at_pc};
 ghost use Rattle.ds_bare.specs.Steps.{before_word, line_text};
@@ -13,7 +14,7 @@ use crate::before::Before;
 use crate::end::push_end;
 use crate::ending::{Ending, ending_by, word_at_pc};
 use crate::fault::BareFault;
-use crate::machine::Machine;
+use crate::machine::{Machine, core_at_start};
 use crate::step::push_line;
 use ds_asm::Image;
 use ds_log::{Output, hand};
@@ -39,8 +40,13 @@ pub fn run_bare<O: Output>(
         (λ e. e ≡ ending_from most 0 (machine_at_start image.now random keys.now)) }
     ensures err { OnErr result (AppendsPart (O.contents out.old) (O.contents out.new)
         (bare_text quiet image.now random most keys.now)) }
+    ensures started { OnOk result (may_start random ≡ true) }
+    ensures refused { IfErr result (λ f. is_cut f ≡ may_start random) }
+    ensures kept { IfErr result (λ f. is_cut f ≡ false
+        → Keeps (O.contents out.old) (O.contents out.new)) }
 {
-    let mut machine = Machine::new(alloc, image, random, keys)?;
+    let core = core_at_start(random)?;
+    let mut machine = Machine::new(alloc, core, image, keys)?;
     run(alloc, &mut machine, u64::from(most), quiet, out)
 }
 
@@ -58,6 +64,7 @@ fn run<'a, O: Output>(
     ensures ending { IfOk result (λ e. e ≡ ending_from most 0 machine.old) }
     ensures err { OnErr result (AppendsPart (O.contents out.old) (O.contents out.new)
         (run_from quiet most 0 machine.old)) }
+    ensures cut { IfErr result (λ f. is_cut f ≡ true) }
 {
     let mut line = String::new(alloc);
     for done in 0..most {
@@ -90,6 +97,7 @@ fn turn<'a, O: Output>(
     ensures state { OnOk result (machine.new ≡ turned done machine.old) }
     ensures err { OnErr result (AppendsPart (O.contents out.old) (O.contents out.new)
         (told quiet done machine.old)) }
+    ensures cut { IfErr result (λ f. is_cut f ≡ true) }
 {
     machine.feed(done);
     let word = word_at_pc(&machine.core, &machine.bus);
@@ -122,6 +130,7 @@ fn end<'a, O: Output>(
         (end_text ending done machine.now)) }
     ensures err { OnErr result (AppendsPart (O.contents out.old) (O.contents out.new)
         (end_text ending done machine.now)) }
+    ensures cut { IfErr result (λ f. is_cut f ≡ true) }
 {
     let mut text = String::new(alloc);
     push_end(alloc, &mut text, ending, done, machine)?;
