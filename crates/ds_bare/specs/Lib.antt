@@ -1,4 +1,5 @@
 pub mod Faults
+pub mod Keys
 pub mod Machine
 pub mod Endings
 pub mod Steps
