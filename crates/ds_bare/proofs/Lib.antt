@@ -1,0 +1,5 @@
+pub mod Taken
+pub mod Memories
+pub mod Pieces
+pub mod UnderWay
+pub mod Zeros

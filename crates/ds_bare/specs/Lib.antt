@@ -1,0 +1,7 @@
+pub mod Faults
+pub mod Keys
+pub mod Machine
+pub mod Endings
+pub mod Steps
+pub mod Ends
+pub mod Runs

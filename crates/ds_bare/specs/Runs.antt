@@ -1,0 +1,51 @@
+-- A run of the bare machine, and its text.
+use Rattle.std.specs.Prelude.{◌≡◌, ℕ, zero, suc, ◌+◌, Bool, if◌then◌else◌, List, [], ◌++◌, Option, Some, None}
+use Rattle.std.specs.Io.KnownBytes.{Appends}
+use Rattle.ds_policy.specs.declared.command.Character.{Character}
+use Rattle.ds_bare.specs.declared.ending.Ending.{Ending}
+use Rattle.ds_bare.specs.declared.ending.Ending.TheVariants.{Counted}
+use Rattle.ds_bare.specs.Machine.{Machine, machine_at_start, fed, stepped, settled}
+use Rattle.ds_bare.specs.Endings.{ending_of}
+use Rattle.ds_bare.specs.Steps.{step_text}
+use Rattle.ds_bare.specs.Ends.{end_text}
+
+-- the machine after one more instruction, when so many are done
+unfoldable pub turned : ℕ → Machine → Machine
+turned k m = settled (stepped (fed k m))
+
+-- what is told of that instruction
+unfoldable pub told : Bool → ℕ → Machine → List ℕ
+told quiet k m = if quiet then [] else step_text (k + 1) (fed k m)
+
+-- why the run ends with it, if it does
+unfoldable pub ended : ℕ → Machine → Option Ending
+ended k m = ending_of (fed k m)
+
+-- the end, where there is one, else what comes after
+abbrev pub end_or : Option Ending → ℕ → Machine → List ℕ → List ℕ
+end_or None k m rest = rest
+end_or (Some e) k m rest = end_text e k m
+
+-- the text of at most so many instructions more, when so many are done
+abbrev pub run_from : Bool → ℕ → ℕ → Machine → List ℕ
+run_from quiet zero k m = end_text Counted k m
+run_from quiet (suc n) k m = told quiet k m ++ end_or (ended k m) (k + 1) (turned k m) (run_from quiet n (k + 1) (turned k m))
+
+-- why the same instructions end
+abbrev pub end_or_later : Option Ending → Ending → Ending
+end_or_later None later = later
+end_or_later (Some e) later = e
+
+abbrev pub ending_from : ℕ → ℕ → Machine → Ending
+ending_from zero k m = Counted
+ending_from (suc n) k m = end_or_later (ended k m) (ending_from n (k + 1) (turned k m))
+
+-- the text of a run of an image
+unfoldable pub bare_text : Bool → List ℕ → ℕ → ℕ → List Character → List ℕ
+bare_text quiet image random n keys = run_from quiet n 0 (machine_at_start image random keys)
+
+-- a part of a text is written, and the rest of it is to come
+pub record IsUnderWay (old now : Option (List ℕ)) (rest whole : List ℕ) : Type 0 where
+  pub written : List ℕ
+  pub appends : Appends old now written
+  pub goes_on : written ++ rest ≡ whole

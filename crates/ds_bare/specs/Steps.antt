@@ -1,0 +1,204 @@
+-- The line of a step: its number, its address, its instruction, and what it changed.
+use Rattle.std.specs.Prelude.{codes, decimal, ℕ, ◌+◌, ◌*◌, ◌/◌, ◌%◌, ◌^◌, Bool, true, false, ◌==◌, if◌then◌else◌, List, [], ◌∷◌, ◌++◌, slice_get, slice_set, Option, Some, None, Result, Ok, Err}
+use Rattle.ds_word.specs.Bytes.{word_at}
+use Rattle.ds_isa.specs.declared.instr.Late.{Late}
+use Rattle.ds_isa.specs.declared.instr.Instr.{Instr}
+use Rattle.ds_isa.specs.declared.instr.Instr.TheVariants as instr
+use Rattle.ds_isa.specs.declared.instr.Kind.TheVariants.{Store}
+use Rattle.ds_isa.specs.Instruction.{instruction_of}
+use Rattle.ds_isa.specs.Registers.{Registers, read}
+use Rattle.ds_isa.specs.Meaning.{address_of}
+use Rattle.ds_listing.specs.Texts.{hex8, text_of}
+use Rattle.ds_tlb.specs.declared.entry.Entry.{Entry}
+use Rattle.ds_cp0.specs.Codes.{number_of}
+use Rattle.ds_cp0.specs.System.{asid_of}
+use Rattle.ds_amap.specs.declared.map.Physical.{Physical}
+use Rattle.ds_amap.specs.declared.map.Fault.{Fault}
+use Rattle.ds_amap.specs.Map.{translate}
+use Rattle.ds_dev.specs.Bus.{BusState, is_memory}
+use Rattle.ds_core.specs.declared.event.Event.{Event}
+use Rattle.ds_core.specs.declared.event.Event.TheVariants.{Retired, Branched, Raised}
+use Rattle.ds_core.specs.Access.{mode_of}
+use Rattle.ds_core.specs.Coprocessor.{indexed}
+use Rattle.ds_core.specs.Core.{CoreState}
+use Rattle.ds_bare.specs.declared.before.Before.{Before}
+use Rattle.ds_bare.specs.declared.before.Stored.{Stored}
+use Rattle.ds_bare.specs.Endings.{word_at_pc}
+use Rattle.ds_bare.specs.Machine.{Machine, next_step, stepped}
+
+-- a register's name, by its number: 0 to 31 are the general ones
+unfoldable pub name_of : ℕ → List ℕ
+name_of n =
+    if n == 32 then codes "HI" else
+    if n == 33 then codes "LO" else
+    if n == 34 then codes "Index" else
+    if n == 35 then codes "EntryLo" else
+    if n == 36 then codes "Context" else
+    if n == 37 then codes "BadVAddr" else
+    if n == 38 then codes "EntryHi" else
+    if n == 39 then codes "Status" else
+    if n == 40 then codes "Cause" else
+    if n == 41 then codes "EPC" else 36 ∷ decimal n
+
+-- the general registers with the old value of one whose load is late
+abbrev pub seen_by : Option Late → List ℕ → List ℕ
+seen_by None general = general
+seen_by (Some l) general = slice_set general l.register l.old
+
+-- the general registers, as the next instruction reads them
+abbrev pub seen : Registers → List ℕ
+seen r = seen_by r.late r.general
+
+-- HI, LO, and the coprocessor's registers, in the order of their names
+unfoldable pub others : CoreState → List ℕ
+others c =
+    c.registers.hi ∷ c.registers.lo
+    ∷ c.system.index ∷ c.system.entry_lo ∷ c.system.context ∷ c.system.bad_vaddr ∷ c.system.entry_hi
+    ∷ c.system.status ∷ c.system.cause ∷ c.system.epc ∷ []
+
+-- the slot of the buffer that an instruction writes, if it does
+abbrev pub slot_of : CoreState → Instr → Option ℕ
+slot_of c instr.Tlbwi = Some (indexed c.system)
+slot_of c instr.Tlbwr = Some c.random
+slot_of c i = None
+
+-- the address of a store and the register that is stored, if the instruction is one
+abbrev pub store_of : Registers → Instr → Option (ℕ × ℕ)
+store_of r (instr.Sb rt rs i) = Some (address_of r rs i, read r rt)
+store_of r (instr.Sh rt rs i) = Some (address_of r rs i, read r rt)
+store_of r (instr.Swl rt rs i) = Some (address_of r rs i, read r rt)
+store_of r (instr.Sw rt rs i) = Some (address_of r rs i, read r rt)
+store_of r (instr.Swr rt rs i) = Some (address_of r rs i, read r rt)
+store_of r i = None
+
+-- the physical place of a store
+abbrev pub stored_at : ℕ → Result Physical Fault → Option Stored
+stored_at value (Err fault) = None
+stored_at value (Ok place) = Some (record { place = place.0; value = value })
+
+-- the same, where there is a store
+abbrev pub stored_by : CoreState → Option (ℕ × ℕ) → Option Stored
+stored_by c None = None
+stored_by c (Some s) = stored_at s.1 (translate c.entries (asid_of c.system) (mode_of c.system) Store s.0)
+
+-- what of the machine before an instruction its line tells
+abbrev pub before_word : CoreState → Option ℕ → Before
+before_word c None = record { pc = c.pc; word = None; registers = seen c.registers; others = others c; slot = None; stored = None }
+before_word c (Some w) = record {
+  pc = c.pc;
+  word = Some w;
+  registers = seen c.registers;
+  others = others c;
+  slot = slot_of c (instruction_of w);
+  stored = stored_by c (store_of c.registers (instruction_of w));
+}
+
+-- the instruction, or that there is none in memory
+abbrev pub instruction_text : Option ℕ → List ℕ
+instruction_text None = codes "not fetched"
+instruction_text (Some w) = text_of w
+
+-- the bits of an entry
+abbrev pub flag_text : List ℕ → Bool → List ℕ
+flag_text name true = name
+flag_text name false = []
+
+abbrev pub flags_text : Entry → List ℕ
+flags_text e = flag_text (codes " N") e.n ++ flag_text (codes " D") e.d ++ flag_text (codes " V") e.v ++ flag_text (codes " G") e.g
+
+-- an entry of the buffer: the page's address, its address space, the frame's address, the bits
+abbrev pub entry_text : Entry → List ℕ
+entry_text e =
+    hex8 (e.vpn % 2 ^ 20 * 2 ^ 12) ++ codes " asid " ++ decimal e.asid ++ codes " frame " ++ hex8 (e.pfn % 2 ^ 20 * 2 ^ 12) ++ flags_text e
+
+-- a slot with its entry
+abbrev pub slot_entry_text : ℕ → Option Entry → List ℕ
+slot_entry_text slot None = []
+slot_entry_text slot (Some e) = codes "slot " ++ decimal slot ++ codes " " ++ entry_text e
+
+-- the slot that was written, if one was
+abbrev pub slot_text : List Entry → Option ℕ → List ℕ
+slot_text entries None = []
+slot_text entries (Some slot) = codes "; " ++ slot_entry_text slot (slice_get entries slot)
+
+-- the word that a place has after a store: in memory its word, else what the device was given
+abbrev pub word_stored : BusState → Stored → ℕ
+word_stored b s = if is_memory s.place then word_at b.memory s.place else s.value
+
+-- the word that was stored, with its physical address, if one was
+abbrev pub stored_text : BusState → Option Stored → List ℕ
+stored_text b None = []
+stored_text b (Some s) = codes "; " ++ hex8 (s.place / 4 * 4) ++ codes " holds " ++ hex8 (word_stored b s)
+
+-- the register whose load is late, if one is
+abbrev pub late_text : Option Late → List ℕ
+late_text None = []
+late_text (Some l) = codes "; " ++ name_of l.register ++ codes " is late"
+
+-- what an instruction that is done wrote elsewhere than into a register
+abbrev pub done_text : Before → CoreState → BusState → List ℕ
+done_text before c b = slot_text c.entries before.slot ++ stored_text b before.stored ++ late_text c.registers.late
+
+-- the same by the step's event
+abbrev pub written_text : Before → Event → CoreState → BusState → List ℕ
+written_text before Retired c b = done_text before c b
+written_text before Branched c b = []
+written_text before (Raised code) c b = []
+
+-- a register that may have changed
+abbrev pub change_text : ℕ → ℕ → ℕ → List ℕ
+change_text n old new = if old == new then [] else codes "; " ++ name_of n ++ codes " " ++ hex8 new
+
+-- the registers that changed, the first of which has this number
+abbrev pub changes_text : ℕ → List ℕ → List ℕ → List ℕ
+changes_text n [] news = []
+changes_text n (old ∷ olds) [] = []
+changes_text n (old ∷ olds) (new ∷ news) = change_text n old new ++ changes_text (n + 1) olds news
+
+-- an exception's name, by the number that Cause shows (Kane and Heinrich, chapter 5)
+abbrev pub code_name : ℕ → List ℕ
+code_name n =
+    if n == 0 then codes "Int" else
+    if n == 1 then codes "Mod" else
+    if n == 2 then codes "TLBL" else
+    if n == 3 then codes "TLBS" else
+    if n == 4 then codes "AdEL" else
+    if n == 5 then codes "AdES" else
+    if n == 6 then codes "IBE" else
+    if n == 7 then codes "DBE" else
+    if n == 8 then codes "Sys" else
+    if n == 9 then codes "Bp" else
+    if n == 10 then codes "RI" else
+    if n == 11 then codes "CpU" else
+    if n == 12 then codes "Ov" else codes "reserved"
+
+-- an exception's code and its name
+unfoldable pub code_text : ℕ → List ℕ
+code_text n = decimal n ++ codes " " ++ code_name n
+
+-- an exception with its code and its vector
+unfoldable pub raised_text : ℕ → ℕ → List ℕ
+raised_text code pc = codes "; exception " ++ code_text code ++ codes " at " ++ hex8 pc
+
+-- the same by a step's event
+abbrev pub event_text : Event → ℕ → List ℕ
+event_text Retired pc = []
+event_text Branched pc = []
+event_text (Raised code) pc = raised_text (number_of code) pc
+
+-- what all registers have that changed
+unfoldable pub registers_text : Before → CoreState → List ℕ
+registers_text before c = changes_text 0 before.registers (seen c.registers) ++ changes_text 32 before.others (others c)
+
+-- a step's number, its address and its instruction
+unfoldable pub front_text : ℕ → ℕ → Option ℕ → List ℕ
+front_text k pc word = decimal k ++ codes " " ++ hex8 pc ++ codes " " ++ instruction_text word
+
+-- the line of the step with this number
+unfoldable pub line_text : ℕ → Before → Event → CoreState → BusState → List ℕ
+line_text k before event c b =
+    front_text k before.pc before.word ++ written_text before event c b ++ registers_text before c ++ event_text event c.pc ++ codes "\n"
+
+-- the line of a machine's next step
+unfoldable pub step_text : ℕ → Machine → List ℕ
+step_text k m = line_text k (before_word m.core (word_at_pc m.core m.bus)) (next_step m).event (stepped m).core (stepped m).bus

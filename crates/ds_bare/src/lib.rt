@@ -1,0 +1,23 @@
+//! A program on the bare machine: the processor in kernel mode with the bus, one instruction at a
+//! time, for those who write refill code of their own.
+#![tactic(auto)]
+
+mod before;
+mod digits;
+mod end;
+mod ending;
+mod entries;
+mod fault;
+mod keys;
+mod machine;
+mod matches;
+mod names;
+mod registers;
+mod run;
+mod step;
+
+pub use ds_policy::Character;
+pub use ending::Ending;
+pub use fault::BareFault;
+pub use keys::keys_of;
+pub use run::run_bare;

@@ -1,0 +1,48 @@
+//! What the processor's registers hold.
+ghost use Rattle.std.specs.Prelude.{◌≡◌};
+ghost use Rattle.ds_isa.specs.Registers.{read};
+ghost use Rattle.ds_bare.specs.Steps.{others, seen};
+
+use crate::ending::Processor;
+use ds_cp0::register;
+
+/// The general registers, as the next instruction reads them.
+pub(crate) fn seen(core: &Processor) -> [u32; 32]
+    ensures { result ≡ seen core.now.registers }
+{
+    let mut registers = core.registers;
+    if let Some(late) = core.late {
+        registers[late.register as usize] = late.old;
+    }
+    registers
+}
+
+/// A register, as the next instruction reads it.
+pub(crate) fn read(core: &Processor, register: u8) -> u32
+    ensures { result ≡ read core.now.registers register }
+{
+    let number = register % 32;
+    match core.late {
+        Some(late) if late.register == number => late.old,
+        _ => core.registers[number as usize],
+    }
+}
+
+/// HI, LO, and the coprocessor's registers.
+#[tactic(auto, unfolding(crate::specs::Steps::others))]
+pub(crate) fn others(core: &Processor) -> [u32; 10]
+    ensures { result ≡ others core.now }
+{
+    [
+        core.hi,
+        core.lo,
+        core.cp0.read(register::INDEX),
+        core.cp0.read(register::ENTRY_LO),
+        core.cp0.read(register::CONTEXT),
+        core.cp0.read(register::BAD_VADDR),
+        core.cp0.read(register::ENTRY_HI),
+        core.cp0.read(register::STATUS),
+        core.cp0.read(register::CAUSE),
+        core.cp0.read(register::EPC),
+    ]
+}

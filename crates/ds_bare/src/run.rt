@@ -1,0 +1,139 @@
+//! A run, told to a writer.
+ghost use Rattle.std.specs.Prelude.{◌≡◌, ◌≤◌, ◌<◌, ◌+◌, ◌^◌, ◌↔◌, IfOk, IfErr, OnOk, OnErr, Ok, Err, true, false};
+ghost use Rattle.std.specs.Io.KnownBytes.{Appends, Keeps};
+ghost use Rattle.std.specs.String.{string_bytes};
+ghost use Rattle.ds_log.specs.Sent.{AppendsPart};
+ghost use Rattle.ds_bare.specs.Faults.{is_cut, may_start};
+ghost use Rattle.ds_bare.specs.Machine.{fed, machine_at_start, next_step};
+ghost use Rattle.ds_bare.specs.Endings.{word_at_pc};
+ghost use Rattle.ds_bare.specs.Steps.{before_word, line_text};
+ghost use Rattle.ds_bare.specs.Ends.{end_text};
+ghost use Rattle.ds_bare.specs.Runs.{bare_text, ended, ending_from, run_from, told, turned};
+
+use crate::before::Before;
+use crate::end::push_end;
+use crate::ending::{Ending, ending_by, word_at_pc};
+use crate::fault::BareFault;
+use crate::machine::{Machine, core_at_start};
+use crate::step::push_line;
+use ds_asm::Image;
+use ds_log::{Output, hand};
+use ds_policy::Character;
+use std::alloc::Global;
+
+/// Runs an image on the bare machine, from its first word on in kernel mode, for at most so many
+/// instructions, and tells of it: a line for each instruction unless it is to be quiet, and at the
+/// end how the machine stands. It answers why the run ended.
+#[tactic(auto, unfolding(crate::specs::Runs::bare_text), using(crate::proofs::UnderWay::part_none))]
+pub fn run_bare<O: Output>(
+    alloc: Global,
+    image: &Image,
+    most: u32,
+    random: u8,
+    keys: &[Character],
+    quiet: bool,
+    out: &mut O,
+) -> Result<Ending, BareFault>
+    ensures ok { OnOk result (Appends (O.contents out.old) (O.contents out.new)
+        (bare_text quiet image.now random most keys.now)) }
+    ensures ending { IfOk result
+        (λ e. e ≡ ending_from most 0 (machine_at_start image.now random keys.now)) }
+    ensures err { OnErr result (AppendsPart (O.contents out.old) (O.contents out.new)
+        (bare_text quiet image.now random most keys.now)) }
+    ensures started { OnOk result (may_start random ≡ true) }
+    ensures refused { IfErr result (λ f. is_cut f ≡ may_start random) }
+    ensures kept { IfErr result (λ f. is_cut f ≡ false
+        → Keeps (O.contents out.old) (O.contents out.new)) }
+{
+    let core = core_at_start(random)?;
+    let mut machine = Machine::new(alloc, core, image, keys)?;
+    run(alloc, &mut machine, u64::from(most), quiet, out)
+}
+
+/// Runs a machine for at most so many instructions.
+fn run<'a, O: Output>(
+    alloc: Global,
+    machine: &mut Machine<'a>,
+    most: u64,
+    quiet: bool,
+    out: &mut O,
+) -> Result<Ending, BareFault>
+    requires { most < 2 ^ 32 }
+    ensures ok { OnOk result (Appends (O.contents out.old) (O.contents out.new)
+        (run_from quiet most 0 machine.old)) }
+    ensures ending { IfOk result (λ e. e ≡ ending_from most 0 machine.old) }
+    ensures err { OnErr result (AppendsPart (O.contents out.old) (O.contents out.new)
+        (run_from quiet most 0 machine.old)) }
+    ensures cut { IfErr result (λ f. is_cut f ≡ true) }
+{
+    let mut line = String::new(alloc);
+    for done in 0..most {
+        match turn(machine, done, quiet, &mut line, out)? {
+            Some(ending) => {
+                end(alloc, machine, ending, done + 1, out)?;
+                return Ok(ending);
+            }
+            None => {}
+        }
+    }
+    end(alloc, machine, Ending::Counted, most, out)?;
+    Ok(Ending::Counted)
+}
+
+/// Does one instruction, when so many are done, tells of it, and answers why the run ends with it.
+#[inline(always)]
+#[tactic(auto, unfolding(crate::specs::Runs::told, crate::specs::Runs::ended, crate::specs::Runs::turned, crate::specs::Endings::ending_of, crate::specs::Steps::step_text))]
+fn turn<'a, O: Output>(
+    machine: &mut Machine<'a>,
+    done: u64,
+    quiet: bool,
+    line: &mut String,
+    out: &mut O,
+) -> Result<Option<Ending>, BareFault>
+    requires { done < 2 ^ 32 }
+    ensures ok { OnOk result (Appends (O.contents out.old) (O.contents out.new)
+        (told quiet done machine.old)) }
+    ensures ending { IfOk result (λ e. e ≡ ended done machine.old) }
+    ensures state { OnOk result (machine.new ≡ turned done machine.old) }
+    ensures err { OnErr result (AppendsPart (O.contents out.old) (O.contents out.new)
+        (told quiet done machine.old)) }
+    ensures cut { IfErr result (λ f. is_cut f ≡ true) }
+{
+    machine.feed(done);
+    let word = word_at_pc(&machine.core, &machine.bus);
+    if quiet {
+        let event = machine.step();
+        let ending = ending_by(word, event, &machine.core, &machine.bus);
+        machine.settle()?;
+        return Ok(ending);
+    }
+    let before = Before::of(&machine.core, word);
+    let event = machine.step();
+    let ending = ending_by(word, event, &machine.core, &machine.bus);
+    line.clear();
+    push_line(line, done + 1, &before, event, &machine.core, &machine.bus)?;
+    machine.settle()?;
+    hand(out, line.as_bytes())?;
+    Ok(ending)
+}
+
+/// Tells of the end.
+#[tactic(auto, using(crate::proofs::UnderWay::part_none))]
+fn end<'a, O: Output>(
+    alloc: Global,
+    machine: &Machine<'a>,
+    ending: Ending,
+    done: u64,
+    out: &mut O,
+) -> Result<(), BareFault>
+    ensures ok { OnOk result (Appends (O.contents out.old) (O.contents out.new)
+        (end_text ending done machine.now)) }
+    ensures err { OnErr result (AppendsPart (O.contents out.old) (O.contents out.new)
+        (end_text ending done machine.now)) }
+    ensures cut { IfErr result (λ f. is_cut f ≡ true) }
+{
+    let mut text = String::new(alloc);
+    push_end(alloc, &mut text, ending, done, machine)?;
+    hand(out, text.as_bytes())?;
+    Ok(())
+}
