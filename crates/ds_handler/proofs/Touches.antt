@@ -1,0 +1,86 @@
+-- In the handler the process may be touched: registers 26 and 27 are lent, and nothing else of it shows.
+use Rattle.std.proofs.Common.{◌≡◌, ◌⊎◌, ℕ, ◌==◌, Bool, true, false, List, ◌∷◌, set, Option, refl, sym, ap, ap₂, subst, ◌∙◌, inl, inr}
+use Rattle.ds_word.specs.Word.{bits}
+use Rattle.ds_isa.specs.declared.instr.Late.{Late}
+use Rattle.ds_isa.specs.Registers.{Registers, settled}
+use Rattle.ds_cp0.specs.System.{is_user}
+use Rattle.ds_grants.specs.Words.{granted_word}
+use Rattle.ds_core.specs.Core.{CoreState}
+use Rattle.ds_pagemap.specs.Machine.{State, Process, process_of, with_process, touched, touched_process}
+use Rattle.ds_refinement.specs.Held.{Held, Kept}
+use Rattle.ds_refinement.specs.Stands.{IsLinked}
+use Rattle.ds_refinement.specs.Services.{touched_registers}
+use Rattle.ds_refinement.proofs.Registers.{HasSeat, process_put}
+use Rattle.ds_refinement.proofs.Links.{touched_link}
+use Rattle.ds_handler.specs.Stages.{Phase, next_of, Lends, AreUnits, InHandler, InKernel, OnProcessor, Stands, is_general, has_touched}
+use Rattle.ds_handler.proofs.Lent.{lent_again, touched_twice}
+use Rattle.ds_handler.proofs.Standing.{in_handler, runs, behind_touch, as_touched}
+
+-- the handler's stage, for the state with the process touched
+module _ (phase : Phase) (c : CoreState) (k : Kept) (p : ℕ) (m : State) (seat : HasSeat m p) (z : InHandler phase c k p m) where
+  abbrev q : Process
+  q = touched_process (process_of m p)
+
+  abbrev behind : State
+  behind = with_process m p q
+
+  put : process_of behind p ≡ q
+  put = process_put m p q seat
+
+  same_pc : (process_of m p).pc ≡ (process_of behind p).pc
+  same_pc = ap (λ (x : Process). x.pc) (sym put)
+
+  units : AreUnits (touched_registers z.base (process_of m p).pc) p behind
+  units = elim z.units [
+    | inl same ↦ inl (ap (λ (r : Registers). touched_registers r (process_of m p).pc) same ∙ ap (λ (x : Process). settled x.registers) (sym put))
+    | inr link ↦ elim (touched_link m p z.base link.target seat link.branched) [
+      | inl gone ↦ inl (ap settled (gone ∙ ap (λ (x : Process). x.registers) (sym put)))
+      | inr again ↦ inr again
+    ]
+  ]
+
+  pub is_touched : process_of behind p ≡ touched_process (process_of behind p)
+  is_touched = put ∙ (touched_twice (process_of m p) ∙ ap touched_process (sym put))
+
+  pub touched_handler : InHandler phase c k p behind
+  touched_handler = record {
+    whole = z.whole;
+    owed = z.owed;
+    pc = z.pc;
+    next = z.next ∙ ap (λ (n : ℕ). next_of phase n c.pc) same_pc;
+    slot = z.slot;
+    status = z.status;
+    epc = z.epc ∙ same_pc;
+    vpn = z.vpn;
+    user = z.user;
+    hi = z.hi;
+    context = z.context;
+    answers = z.answers;
+    base = touched_registers z.base (process_of m p).pc;
+    first = z.first;
+    second = z.second;
+    late = z.late;
+    registers = z.registers ∙ ap (λ (g : List ℕ). record z.base { general = g; late = z.late }) (sym (lent_again z.base.general 0 (process_of m p).pc z.first z.second));
+    units = units;
+    lends = subst (λ (n : ℕ). Lends phase
+      (record { context = c.system.context; unit = n; entry = granted_word k.grants p z.vpn })
+      (record { first = z.first; second = z.second; late = z.late; entry_lo = c.system.entry_lo })) same_pc z.lends;
+    touch = λ behind_write. is_touched;
+  }
+
+module _ (h : Held) (m : State) (p : ℕ) (rest : List ℕ) (k : Stands h m) (ready : h.kept.state.ready ≡ p ∷ rest) (user : is_user h.core.system ≡ false) (general : is_general h.core ≡ false) where
+  -- the word that the processor is at
+  pub here : (phase : Phase) × InHandler phase h.core h.kept p m
+  here =
+      subst (λ (x : Bool). InKernel x (bits h.core.system.status 3 1 == 1) h.core h.kept p m) general
+      (subst (λ (x : Bool). OnProcessor x h.core.slot h.core h.kept p m) user (runs h m p rest k ready).on)
+
+  -- the station stands for the state with the process touched
+  pub stands_behind : Stands h (with_process m p (touched_process (process_of m p)))
+  stands_behind =
+      let r = runs h m p rest k ready in
+      behind_touch h m p rest k ready h.core k.represented.buffer k.base r.set
+      (in_handler here.0 h.core h.kept p (with_process m p (touched_process (process_of m p))) (touched_handler here.0 h.core h.kept p m r.seat here.1))
+
+  pub unseen : Stands h (touched true m)
+  unseen = as_touched h m p rest k ready h stands_behind

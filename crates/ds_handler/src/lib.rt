@@ -1,0 +1,11 @@
+//! The refill handler as a part of the relation between a station and the machine states that it
+//! stands for: what the nine words are lent at each of them, where an exception enters, and that
+//! each word, and the service of a double miss, is a part of a unit.
+#![tactic(auto)]
+
+mod stages;
+
+pub use stages::{
+    a_double_miss_goes_back, a_handler_does_not_see_a_touch, a_miss_enters_the_handler,
+    a_word_of_the_handler_is_a_part_of_the_unit, an_exception_enters,
+};
