@@ -156,13 +156,21 @@ struct Answer {
 
 fn answer_to(alloc: Global, line: &str, files: &[(&str, &[u8])]) -> Result<Answer, AllocError> {
     let words = words_of(alloc, line)?;
+    answer_to_words(alloc, words.as_slice(), files)
+}
+
+fn answer_to_words(
+    alloc: Global,
+    words: &[String],
+    files: &[(&str, &[u8])],
+) -> Result<Answer, AllocError> {
     let mut held = Held {
         files,
         asked: String::new(alloc),
     };
     let mut out = Vec::new(alloc);
     let mut err = Vec::new(alloc);
-    let status = drive(alloc, words.as_slice(), &mut held, &mut out, &mut err);
+    let status = drive(alloc, words, &mut held, &mut out, &mut err);
     Ok(Answer {
         status,
         out,
@@ -203,69 +211,74 @@ dsmon list --help|  1  00400000  24020000    end:  addiu $2,$0,0
 dsmon check --help|  00400000 read  code, part 0 of guest.s, rule 1
 ";
 
-/// Each line has words that are answered with status 1 and without output, and are told what stands
-/// after the bar.
+/// Whether words are answered with status 1 and without output, and are told what is wanted.
+fn is_told(alloc: Global, words: &str, wanted: &str) -> Result<bool, AllocError> {
+    let answer = answer_to(alloc, words, &[])?;
+    match String::from_utf8(answer.err) {
+        Ok(text) => {
+            let is_in = text.as_str().contains(wanted);
+            Ok(answer.status == 1 && answer.out.is_empty() && is_in)
+        }
+        Err(_) => Ok(false),
+    }
+}
+
 #[test]
 fn words_that_run_nothing_are_told_why(rt: HostRuntime) -> Result<(), Fail> {
     for line in TOLD_WORDS.lines() {
         let (words, wanted) = line.split_once('|').ok_or("a bar")?;
-        let answer = answer_to(rt.alloc(), words, &[])?;
-        let text = String::from_utf8(answer.err).ok().ok_or("a text")?;
-        assert_eq!(rt; answer.status, 1, "{line}");
-        assert!(rt; text.as_str().contains(wanted), "{line}: {text}");
-        assert!(rt; answer.out.is_empty(), "{line}");
+        assert!(rt; is_told(rt.alloc(), words, wanted)?, "{line}");
     }
     let answer = answer_to(rt.alloc(), "dsmon --version", &[])?;
     assert!(rt; answer.err.ends_with(b"dsmon 0.1.0\n"));
     Ok(())
 }
 
+/// Whether a command of which all goes well writes what a run of `SOURCE` does, and asks for these
+/// files.
+fn is_run(alloc: Global, line: &str, asked: &str) -> Result<bool, AllocError> {
+    let answer = answer_to(alloc, line, &files_with("", SOURCE))?;
+    let is_well = answer.status == 0 && answer.err.is_empty();
+    let is_written = answer.out.as_slice() == WRITTEN.as_bytes();
+    Ok(is_well && is_written && answer.asked.as_str() == asked)
+}
+
 /// The demonstration asks for no file; a run asks for the policy, the input and the sources in this
 /// order.
 #[test]
 fn a_run_asks_for_its_files_and_writes_its_text(rt: HostRuntime) -> Result<(), Fail> {
-    for (line, asked) in [("dsmon demo", ""), (RUN, "p.toml\nin.txt\none.s\n")] {
-        let answer = answer_to(rt.alloc(), line, &files_with("", SOURCE))?;
-        assert_eq!(rt; answer.status, 0, "{line}");
-        assert_eq!(rt; answer.out.as_slice(), WRITTEN.as_bytes(), "{line}");
-        assert!(rt; answer.err.is_empty(), "{line}");
-        assert_eq!(rt; answer.asked.as_str(), asked, "{line}");
-    }
+    assert!(rt; is_run(rt.alloc(), DEMO, "")?);
+    assert!(rt; is_run(rt.alloc(), RUN, "p.toml\nin.txt\none.s\n")?);
     Ok(())
 }
 
 #[test]
 fn a_file_that_can_not_be_read_is_told_by_its_name(rt: HostRuntime) -> Result<(), Fail> {
-    let mut words = words_of(rt.alloc(), "dsmon run")?;
-    for word in ["no such policy.toml", "in.txt", "9"] {
-        words.push(String::from_str(rt.alloc(), word)?)?;
+    let mut words = words_of(rt.alloc(), "dsmon run policy.toml in.txt 9")?;
+    if let Some(word) = words.get_mut(2) {
+        *word = String::from_str(rt.alloc(), "no such policy.toml")?;
     }
-    let mut files = Held {
-        files: &[],
-        asked: String::new(rt.alloc()),
-    };
-    let mut out: Vec<u8> = Vec::new(rt.alloc());
-    let mut err: Vec<u8> = Vec::new(rt.alloc());
-    let status = drive(rt.alloc(), words.as_slice(), &mut files, &mut out, &mut err);
-    assert_eq!(rt; status, 2);
+    let answer = answer_to_words(rt.alloc(), words.as_slice(), &[])?;
     assert_eq!(rt;
-        err.as_slice(),
-        b"dsmon: 26 Unreadable no such policy.toml\n".as_slice()
+        (answer.status, answer.err.as_slice()),
+        (2, b"dsmon: 26 Unreadable no such policy.toml\n".as_slice())
     );
     Ok(())
 }
 
+/// The status and the text of words that could not be had.
+fn refused_words(alloc: Global, kind: io::ErrorKind) -> (u8, Vec<u8>) {
+    let mut err: Vec<u8> = Vec::new(alloc);
+    let status = refuse_words(&mut err, kind);
+    (status, err)
+}
+
 #[test]
 fn words_that_could_not_be_had_are_told(rt: HostRuntime) {
-    let mut err: Vec<u8> = Vec::new(rt.alloc());
-    assert_eq!(rt; refuse_words(&mut err, io::ErrorKind::OutOfMemory), 3);
-    assert_eq!(rt; err.as_slice(), b"dsmon: 25 Memory\n".as_slice());
-    let mut err: Vec<u8> = Vec::new(rt.alloc());
-    assert_eq!(rt; refuse_words(&mut err, io::ErrorKind::InvalidData), 1);
-    assert_eq!(rt;
-        err.as_slice(),
-        b"dsmon: the words are no text\n".as_slice()
-    );
+    let (status, err) = refused_words(rt.alloc(), io::ErrorKind::OutOfMemory);
+    assert!(rt; status == 3 && err.as_slice() == NO_MEMORY);
+    let (status, err) = refused_words(rt.alloc(), io::ErrorKind::InvalidData);
+    assert!(rt; status == 1 && err.as_slice() == b"dsmon: the words are no text\n".as_slice());
 }
 
 #[test]
@@ -299,18 +312,14 @@ fn answer_to_long_source(alloc: Global, count: usize) -> Result<Answer, AllocErr
 
 #[test]
 fn a_source_has_at_most_16777216_bytes(rt: HostRuntime) -> Result<(), Fail> {
-    let answer = answer_to_long_source(rt.alloc(), 16_777_216)?;
-    assert_eq!(rt;
-        answer.err.as_slice(),
-        b"dsmon: 3 Syntax one.s 1\n".as_slice()
-    );
-    assert_eq!(rt; answer.status, 2);
-    let answer = answer_to_long_source(rt.alloc(), 16_777_217)?;
-    assert_eq!(rt;
-        answer.err.as_slice(),
-        b"dsmon: 26 Unreadable one.s\n".as_slice()
-    );
-    assert_eq!(rt; answer.status, 2);
+    for (count, wanted) in [
+        (16_777_216, "dsmon: 3 Syntax one.s 1\n"),
+        (16_777_217, "dsmon: 26 Unreadable one.s\n"),
+    ] {
+        let answer = answer_to_long_source(rt.alloc(), count)?;
+        assert_eq!(rt; answer.err.as_slice(), wanted.as_bytes());
+        assert_eq!(rt; answer.status, 2);
+    }
     Ok(())
 }
 
@@ -318,6 +327,24 @@ fn a_source_has_at_most_16777216_bytes(rt: HostRuntime) -> Result<(), Fail> {
 const WRITE_FAULT: &[u8] = b"dsmon: 23 WriteFault\n";
 
 const NO_MEMORY: &[u8] = b"dsmon: 25 Memory\n";
+
+/// The status of a command whose output is closed, and what it tells.
+fn answer_closed(alloc: Global, line: &str) -> Result<(u8, Vec<u8>), AllocError> {
+    let words = words_of(alloc, line)?;
+    let files = files_with(INPUT, SOURCE);
+    let mut held = Held {
+        files: &files,
+        asked: String::new(alloc),
+    };
+    let mut err: Vec<u8> = Vec::new(alloc);
+    let status = drive(alloc, words.as_slice(), &mut held, &mut Closed, &mut err);
+    Ok((status, err))
+}
+
+/// Whether a text begins with a line, or is the line.
+fn is_line(text: &[u8], line: &[u8], is_all: bool) -> bool {
+    text.starts_with(line) && (!is_all || text.len() == line.len())
+}
 
 /// A command, and whether the line of its fault is all that is told.
 #[test]
@@ -330,25 +357,23 @@ fn an_output_that_is_closed_is_a_write_fault(rt: HostRuntime) -> Result<(), Fail
         (CHECK, false),
         (CHECK_POLICY, false),
     ] {
-        let words = words_of(rt.alloc(), line)?;
-        let files = files_with(INPUT, SOURCE);
-        let mut held = Held {
-            files: &files,
-            asked: String::new(rt.alloc()),
-        };
-        let mut err: Vec<u8> = Vec::new(rt.alloc());
-        let status = drive(
-            rt.alloc(),
-            words.as_slice(),
-            &mut held,
-            &mut Closed,
-            &mut err,
-        );
-        assert_eq!(rt; status, 3, "{line}");
-        assert!(rt; err.starts_with(WRITE_FAULT), "{line}");
-        assert!(rt; !is_all || err.len() == WRITE_FAULT.len(), "{line}");
+        let (status, err) = answer_closed(rt.alloc(), line)?;
+        assert!(rt; status == 3 && is_line(&err, WRITE_FAULT, is_all), "{line}");
     }
     Ok(())
+}
+
+/// The status of a command whose error stream is closed, and whether it writes nothing.
+fn answer_untold(alloc: Global, line: &str, source: &str) -> Result<(u8, bool), AllocError> {
+    let words = words_of(alloc, line)?;
+    let files = files_with(INPUT, source);
+    let mut held = Held {
+        files: &files,
+        asked: String::new(alloc),
+    };
+    let mut out: Vec<u8> = Vec::new(alloc);
+    let status = drive(alloc, words.as_slice(), &mut held, &mut out, &mut Closed);
+    Ok((status, out.is_empty()))
 }
 
 #[test]
@@ -363,22 +388,8 @@ fn a_closed_error_stream_changes_no_answer(rt: HostRuntime) -> Result<(), Fail> 
         (LIST, SOURCE, 0),
         (CHECK, SOURCE, 0),
     ] {
-        let words = words_of(rt.alloc(), line)?;
-        let files = files_with(INPUT, source);
-        let mut held = Held {
-            files: &files,
-            asked: String::new(rt.alloc()),
-        };
-        let mut out: Vec<u8> = Vec::new(rt.alloc());
-        let status = drive(
-            rt.alloc(),
-            words.as_slice(),
-            &mut held,
-            &mut out,
-            &mut Closed,
-        );
-        assert_eq!(rt; status, wanted, "{line}");
-        assert_eq!(rt; out.is_empty(), wanted != 0, "{line}");
+        let answer = answer_untold(rt.alloc(), line, source)?;
+        assert_eq!(rt; answer, (wanted, wanted != 0), "{line}");
     }
     Ok(())
 }
@@ -398,6 +409,21 @@ fn a_demonstration_whose_streams_are_closed_is_a_write_fault(rt: HostRuntime) ->
     Ok(())
 }
 
+/// What a command answers where there is no memory after so many files.
+fn answer_exhausted(alloc: Global, line: &str, before: u32) -> Result<Answer, AllocError> {
+    let words = words_of(alloc, line)?;
+    let mut files = Exhausted { before };
+    let mut out: Vec<u8> = Vec::new(alloc);
+    let mut err: Vec<u8> = Vec::new(alloc);
+    let status = drive(alloc, words.as_slice(), &mut files, &mut out, &mut err);
+    Ok(Answer {
+        status,
+        out,
+        err,
+        asked: String::new(alloc),
+    })
+}
+
 /// A command, after how many files there is no memory, and whether the line of its fault is all
 /// that is told.
 #[test]
@@ -412,35 +438,30 @@ fn want_of_memory_for_a_file_is_status_3(rt: HostRuntime) -> Result<(), Fail> {
         (CHECK, 1, false),
         (CHECK, 2, false),
     ] {
-        let words = words_of(rt.alloc(), line)?;
-        let mut files = Exhausted { before };
-        let mut out: Vec<u8> = Vec::new(rt.alloc());
-        let mut err: Vec<u8> = Vec::new(rt.alloc());
-        let status = drive(rt.alloc(), words.as_slice(), &mut files, &mut out, &mut err);
-        assert_eq!(rt; status, 3, "{line} {before}");
-        assert!(rt; out.is_empty(), "{line} {before}");
-        assert!(rt; err.starts_with(NO_MEMORY), "{line} {before}");
-        assert!(rt; !is_all || err.len() == NO_MEMORY.len(), "{line} {before}");
+        let answer = answer_exhausted(rt.alloc(), line, before)?;
+        assert_eq!(rt;
+            (answer.status, answer.out.is_empty()),
+            (3, true),
+            "{line} {before}"
+        );
+        assert!(rt; is_line(&answer.err, NO_MEMORY, is_all), "{line} {before}");
     }
     Ok(())
 }
 
+/// Whether a fault is told in a line, with a status.
+fn is_told_as(alloc: Global, fault: Fault, status: u8, line: &str) -> bool {
+    let mut err: Vec<u8> = Vec::new(alloc);
+    tell(&mut err, &Failure::Fault(fault)) == status && err.as_slice() == line.as_bytes()
+}
+
 #[test]
-fn a_fault_that_no_run_of_files_reaches_is_told_in_its_line(rt: HostRuntime) -> Result<(), Fail> {
-    for (fault, status, line) in [
-        (Fault::Stuck, 3, "dsmon: 21 Stuck\n"),
-        (Fault::Failed, 3, "dsmon: 22 Failed\n"),
-        (
-            Fault::NoSource(Text::of("one.s")),
-            2,
-            "dsmon: 24 NoSource one.s\n",
-        ),
-    ] {
-        let mut err: Vec<u8> = Vec::new(rt.alloc());
-        assert_eq!(rt; tell(&mut err, &Failure::Fault(fault)), status, "{line}");
-        assert_eq!(rt; err.as_slice(), line.as_bytes(), "{line}");
-    }
-    Ok(())
+fn a_fault_that_no_run_of_files_reaches_is_told_in_its_line(rt: HostRuntime) {
+    let alloc = rt.alloc();
+    let source = Fault::NoSource(Text::of("one.s"));
+    assert!(rt; is_told_as(alloc, Fault::Stuck, 3, "dsmon: 21 Stuck\n"));
+    assert!(rt; is_told_as(alloc, Fault::Failed, 3, "dsmon: 22 Failed\n"));
+    assert!(rt; is_told_as(alloc, source, 2, "dsmon: 24 NoSource one.s\n"));
 }
 
 #[test]

@@ -43,83 +43,83 @@ fn run_of<'a>(policy: &'a str, sources: &'a [(&'a str, &'a [u8])]) -> Run<'a> {
     }
 }
 
+/// Compares each run with what is wanted of it.
+fn check_all<'a>(rt: &impl Abort, alloc: Global, runs: &[(Run<'a>, &str)]) -> Result<(), Fail> {
+    for (run, wanted) in runs {
+        check(rt, alloc, *run, wanted)?;
+    }
+    Ok(())
+}
+
 #[test]
 fn a_source_that_is_not_there_is_told(rt: HostRuntime) -> Result<(), Fail> {
-    let alloc = rt.alloc();
     let none = run_of(POLICY, &[]);
-    check(&rt, alloc, none, "24 NoSource one.s")?;
     let named = [("One.s", PUT_A.as_bytes()), ("one.s ", PUT_A.as_bytes())];
-    check(&rt, alloc, run_of(POLICY, &named), "24 NoSource one.s")?;
     let policy = Run {
         policy: b"version =",
         ..none
     };
-    check(&rt, alloc, policy, "8 BadToml")?;
     let input = Run {
         input: BAD_LINE,
         ..none
     };
-    check(&rt, alloc, input, "24 NoSource one.s")
+    let runs = [
+        (none, "24 NoSource one.s"),
+        (run_of(POLICY, &named), "24 NoSource one.s"),
+        (policy, "8 BadToml"),
+        (input, "24 NoSource one.s"),
+    ];
+    check_all(&rt, rt.alloc(), &runs)
 }
 
 #[test]
 fn of_two_sources_of_one_name_the_first_is_taken(rt: HostRuntime) -> Result<(), Fail> {
-    let alloc = rt.alloc();
     let good_first = [("one.s", PUT_A.as_bytes()), ("one.s", BAD_SECOND_LINE)];
-    check(&rt, alloc, run_of(POLICY, &good_first), A)?;
     let bad_first = [("one.s", BAD_SECOND_LINE), ("one.s", PUT_A.as_bytes())];
-    check(&rt, alloc, run_of(POLICY, &bad_first), "3 Syntax one.s 2")
+    let runs = [
+        (run_of(POLICY, &good_first), A),
+        (run_of(POLICY, &bad_first), "3 Syntax one.s 2"),
+    ];
+    check_all(&rt, rt.alloc(), &runs)
 }
 
 #[test]
 fn of_two_names_the_first_ones_fault_is_told(rt: HostRuntime) -> Result<(), Fail> {
-    let alloc = rt.alloc();
     let bad_first = [("one.s", BAD_SECOND_LINE)];
-    check(
-        &rt,
-        alloc,
-        run_of(TWO_SOURCES, &bad_first),
-        "3 Syntax one.s 2",
-    )?;
     let bad_second = [("two.s", BAD_SECOND_LINE)];
-    check(
-        &rt,
-        alloc,
-        run_of(TWO_SOURCES, &bad_second),
-        "24 NoSource one.s",
-    )?;
     let good_first = [("one.s", PUT_A.as_bytes())];
-    check(
-        &rt,
-        alloc,
-        run_of(TWO_SOURCES, &good_first),
-        "24 NoSource two.s",
-    )
+    let runs = [
+        (run_of(TWO_SOURCES, &bad_first), "3 Syntax one.s 2"),
+        (run_of(TWO_SOURCES, &bad_second), "24 NoSource one.s"),
+        (run_of(TWO_SOURCES, &good_first), "24 NoSource two.s"),
+    ];
+    check_all(&rt, rt.alloc(), &runs)
 }
 
 #[test]
 fn more_ticks_than_are_served_are_refused_behind_the_input_and_before_random(
     rt: HostRuntime,
 ) -> Result<(), Fail> {
-    let alloc = rt.alloc();
     let good = [("one.s", PUT_A.as_bytes())];
+    let bad = [("one.s", BAD_SECOND_LINE)];
     let many = Run {
         n: TOO_MANY,
         ..run_of(POLICY, &good)
     };
-    check(&rt, alloc, many, "10 Limit n")?;
-    for random in [7, 64] {
-        check(&rt, alloc, Run { random, ..many }, "10 Limit n")?;
-    }
     let input = Run {
         input: BAD_LINE,
         ..many
     };
-    check(&rt, alloc, input, "20 InputFault 1")?;
-    let bad = [("one.s", BAD_SECOND_LINE)];
     let source = Run {
         sources: &bad,
         ..input
     };
-    check(&rt, alloc, source, "3 Syntax one.s 2")
+    let runs = [
+        (many, "10 Limit n"),
+        (Run { random: 7, ..many }, "10 Limit n"),
+        (Run { random: 64, ..many }, "10 Limit n"),
+        (input, "20 InputFault 1"),
+        (source, "3 Syntax one.s 2"),
+    ];
+    check_all(&rt, rt.alloc(), &runs)
 }
