@@ -40,7 +40,7 @@ use Rattle.ds_handler.proofs.Touches.{here, is_touched, touched_handler, stands_
 
 -- The processor by its seven values.
 
-is_at_word : (c : CoreState) (pc next : ℕ) (slot : Bool) (r : Registers) → c.pc ≡ pc → c.next ≡ next → c.slot ≡ slot → c.registers ≡ r → c ≡ at_word pc next slot r c.system c.entries c.random
+pub is_at_word : (c : CoreState) (pc next : ℕ) (slot : Bool) (r : Registers) → c.pc ≡ pc → c.next ≡ next → c.slot ≡ slot → c.registers ≡ r → c ≡ at_word pc next slot r c.system c.entries c.random
 is_at_word c pc next slot r e f g h =
     ap (λ (x : ℕ). at_word x c.next c.slot c.registers c.system c.entries c.random) e
     ∙ ap (λ (x : ℕ). at_word pc x c.slot c.registers c.system c.entries c.random) f
