@@ -1,5 +1,5 @@
 -- A refill at once is a path of nine steps.
-use Rattle.std.proofs.Common.{◌≡◌, ℕ, suc, ◌+◌, false, List, [], ◌∷◌, length, refl, sym, ap, subst, ◌∙◌, arith}
+use Rattle.std.proofs.Common.{◌≡◌, ℕ, suc, ◌+◌, List, [], ◌∷◌, length, refl, sym, ap, subst, ◌∙◌, arith}
 use Rattle.ds_core.specs.declared.event.Event.{Event}
 use Rattle.ds_core.specs.Core.{CoreState, Step}
 use Rattle.ds_core.specs.Effect.{step}
@@ -7,7 +7,7 @@ use Rattle.ds_refill_laws.specs.Refill.{handler_events}
 use Rattle.ds_pagemap.specs.Machine.{State, touched}
 use Rattle.ds_refinement.specs.Held.{Held}
 use Rattle.ds_handler.specs.Stages.{Stands, touches, with_step}
-use Rattle.ds_handler.specs.Refills.{RunsInside, StepsOn, StaysInside, Through, RealPath, with_refill}
+use Rattle.ds_handler.specs.Refills.{RunsInside, StepsOn, StaysInside, RealPath, with_refill}
 use Rattle.ds_handler.proofs.Words.{word_goes_on}
 
 -- the machine doesn't see how the station counts

@@ -1,5 +1,5 @@
 -- What a refill at once leaves is what nine words leave.
-use Rattle.std.proofs.Common.{◌≡◌, ℕ, ◌+◌, ◌%◌, ◌^◌, ◌<◌, Bool, true, false, List, refl, sym, ap, subst, ◌∙◌, length}
+use Rattle.std.proofs.Common.{◌≡◌, ℕ, ◌+◌, ◌%◌, ◌^◌, ◌<◌, true, false, List, refl, sym, ap, subst, ◌∙◌, length}
 use Rattle.std.specs.Prelude.{slice_index, slice_set, None, Option, Ok}
 use Rattle.ds_word.specs.Word.{word}
 use Rattle.ds_word.specs.Bytes.{word_at}

@@ -1,8 +1,8 @@
 -- What a small processor shows at each word of the handler, and after a double miss: each row is a theorem about the
 -- definitions alone. The page at 00400000 was missed, whose page-table word is 1700 (frame 1, valid, dirty, global) and
 -- stands at C0001000; the unit's address is 00400004.
-use Rattle.std.specs.Prelude.{◌≡◌, ℕ, true, false, List, [], ◌∷◌, slice_index, slice_get, Some, None, refl}
-use Rattle.ds_isa.specs.Registers.{Registers, zero_registers}
+use Rattle.std.specs.Prelude.{◌≡◌, ℕ, ◌<◌, ◌^◌, true, false, [], ◌∷◌, slice_index, slice_get, Some, None, refl}
+use Rattle.ds_isa.specs.Registers.{zero_registers}
 use Rattle.ds_tlb.specs.declared.entry.Entry.{Entry}
 use Rattle.ds_cp0.specs.System.{System, at_start, is_user}
 use Rattle.ds_refill.specs.Handler.{address_of, phase_of}

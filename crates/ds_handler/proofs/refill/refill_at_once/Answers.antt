@@ -1,4 +1,4 @@
-use Rattle.std.proofs.Common.{◌≡◌, sym, ap, subst, ◌∙◌}
+use Rattle.std.proofs.Common.{sym, ap, subst, ◌∙◌}
 use Rattle.ds_core.specs.Core.{CoreState}
 use Rattle.ds_refill_laws.specs.Refill.{handler_events}
 use Rattle.ds_handler.specs.Refills.{after_refill, RunsInside}
