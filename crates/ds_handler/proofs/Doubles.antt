@@ -1,5 +1,5 @@
 -- After a double miss the entry of the table's page is written, and the unit begins again.
-use Rattle.std.proofs.Common.{◌≡◌, ℕ, ◌+◌, ◌-◌, ◌<◌, true, List, ◌∷◌, set, None, refl, sym, ap, ap₂, subst, ◌∙◌, arith, inr}
+use Rattle.std.proofs.Common.{◌≡◌, ℕ, ◌+◌, ◌-◌, ◌<◌, true, List, ◌∷◌, None, refl, sym, ap, ap₂, subst, ◌∙◌, arith, inr}
 use Rattle.std.specs.Prelude.{slice_index, slice_set}
 use Rattle.ds_word.specs.Word.{word, bits}
 use Rattle.ds_isa.specs.Registers.{Registers}
@@ -12,7 +12,7 @@ use Rattle.ds_grants.proofs.Fills.{missed_buffer}
 use Rattle.ds_pagemap.specs.Machine.{State, process_of, touched}
 use Rattle.ds_refinement.specs.Held.{Held, space_of}
 use Rattle.ds_refinement.proofs.Spaces.{space_apart}
-use Rattle.ds_handler.specs.Stages.{IsSet, InDouble, Stands, with_table_page, table_entry}
+use Rattle.ds_handler.specs.Stages.{InDouble, Stands, with_table_page, table_entry}
 use Rattle.ds_handler.proofs.Fields.{region_of_hi}
 use Rattle.ds_handler.proofs.Lent.{lend_26, in_27, base_size}
 use Rattle.ds_handler.proofs.Standing.{runs, few, touched_state}

@@ -1,23 +1,22 @@
 -- An exception of a user comes to the handler's first word, or waits at the general vector for the service.
-use Rattle.std.proofs.Common.{◌≡◌, ◌≢◌, ◌⊎◌, ℕ, ◌+◌, ◌*◌, ◌/◌, ◌%◌, ◌^◌, ◌<◌, ◌==◌, Bool, true, false, cond, List, ◌∷◌, Option, Some, None, refl, sym, ap, ap₂, subst, ◌∙◌, arith, inl, inr}
+use Rattle.std.proofs.Common.{◌≡◌, ℕ, ◌/◌, ◌^◌, ◌<◌, Bool, true, false, cond, List, ◌∷◌, Option, Some, None, refl, sym, ap, ap₂, subst, ◌∙◌, arith, inl, inr}
 use Rattle.std.proofs.lemmas.Bool.{cases_Bool}
 use Rattle.std.proofs.lemmas.Bool.Decides.{nat_tests}
 use Rattle.std.specs.Prelude.{slice_index, nat_lt, ◌&&◌}
-use Rattle.ds_word.specs.Word.{word, bits}
+use Rattle.ds_word.specs.Word.{bits}
 use Rattle.ds_isa.specs.Registers.{settled}
 use Rattle.ds_tlb.specs.Entries.{find}
 use Rattle.ds_cp0.specs.declared.exception.Exception.{Exception}
 use Rattle.ds_cp0.specs.Codes.{is_translation}
 use Rattle.ds_cp0.specs.System.{System, asid_of, is_user, is_kuseg, vector, entered, with_address, with_field, pushed, epc_of, cause_of}
-use Rattle.ds_grants.specs.Buffer.{hi_of}
-use Rattle.ds_core.specs.Core.{CoreState, core_at_vector}
+use Rattle.ds_core.specs.Core.{core_at_vector}
 use Rattle.ds_pagemap.specs.Machine.{State, process_of}
 use Rattle.ds_pagemap.specs.Unit.{with_registers}
 use Rattle.ds_refinement.specs.Told.{told, is_delayed}
 use Rattle.ds_refinement.specs.Held.{Held, space_of}
 use Rattle.ds_refinement.specs.Stands.{user_status, Promise, InService}
 use Rattle.ds_refinement.proofs.Exceptions.{status_told, epc_told}
-use Rattle.ds_handler.specs.Stages.{AtContext, HasBase, IsSet, IsWhole, AreUnits, InHandler, OnProcessor, RunningIs, Stands, IsMiss}
+use Rattle.ds_handler.specs.Stages.{AtContext, HasBase, IsSet, IsWhole, AreUnits, InHandler, OnProcessor, Stands, IsMiss}
 use Rattle.ds_handler.proofs.Fields.{space_set, hi_entered, context_entered, hi_low, hi_small, context_high, context_low}
 use Rattle.ds_handler.proofs.Lent.{lent_itself}
 use Rattle.ds_handler.proofs.Standing.{runs, kept, few, same_state, in_handler, in_service, mode_of_user}

@@ -6,3 +6,5 @@ pub mod Touches
 pub mod Words
 pub mod Doubles
 pub mod Entered
+pub mod Once
+pub mod Nine

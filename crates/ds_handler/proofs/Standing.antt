@@ -1,5 +1,5 @@
 -- What a station stands for, with the processor at another place of the unit, or with the process touched.
-use Rattle.std.proofs.Common.{◌≡◌, ◌⊎◌, ℕ, ◌+◌, ◌*◌, ◌<◌, ◌==◌, Bool, true, false, List, ◌∷◌, Option, None, refl, sym, ap, subst, ◌∙◌, inl, inr}
+use Rattle.std.proofs.Common.{◌≡◌, ◌⊎◌, ℕ, ◌+◌, ◌<◌, ◌==◌, Bool, true, false, List, ◌∷◌, None, refl, sym, ap, subst, ◌∙◌, inl, inr}
 use Rattle.ds_word.specs.Word.{word, bits}
 use Rattle.ds_isa.specs.Registers.{Registers}
 use Rattle.ds_cp0.specs.System.{is_user}

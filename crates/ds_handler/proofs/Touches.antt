@@ -1,18 +1,16 @@
 -- In the handler the process may be touched: registers 26 and 27 are lent, and nothing else of it shows.
-use Rattle.std.proofs.Common.{◌≡◌, ◌⊎◌, ℕ, ◌==◌, Bool, true, false, List, ◌∷◌, set, Option, refl, sym, ap, ap₂, subst, ◌∙◌, inl, inr}
+use Rattle.std.proofs.Common.{◌≡◌, ℕ, ◌==◌, Bool, true, false, List, ◌∷◌, sym, ap, subst, ◌∙◌, inl, inr}
 use Rattle.ds_word.specs.Word.{bits}
-use Rattle.ds_isa.specs.declared.instr.Late.{Late}
 use Rattle.ds_isa.specs.Registers.{Registers, settled}
 use Rattle.ds_cp0.specs.System.{is_user}
 use Rattle.ds_grants.specs.Words.{granted_word}
 use Rattle.ds_core.specs.Core.{CoreState}
 use Rattle.ds_pagemap.specs.Machine.{State, Process, process_of, with_process, touched, touched_process}
 use Rattle.ds_refinement.specs.Held.{Held, Kept}
-use Rattle.ds_refinement.specs.Stands.{IsLinked}
 use Rattle.ds_refinement.specs.Services.{touched_registers}
 use Rattle.ds_refinement.proofs.Registers.{HasSeat, process_put}
 use Rattle.ds_refinement.proofs.Links.{touched_link}
-use Rattle.ds_handler.specs.Stages.{Phase, next_of, Lends, AreUnits, InHandler, InKernel, OnProcessor, Stands, is_general, has_touched}
+use Rattle.ds_handler.specs.Stages.{Phase, next_of, Lends, AreUnits, InHandler, InKernel, OnProcessor, Stands, is_general}
 use Rattle.ds_handler.proofs.Lent.{lent_again, touched_twice}
 use Rattle.ds_handler.proofs.Standing.{in_handler, runs, behind_touch, as_touched}
 

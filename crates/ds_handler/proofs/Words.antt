@@ -1,5 +1,5 @@
 -- Each word of the handler leaves the station standing for the same state, and the seventh for that state touched.
-use Rattle.std.proofs.Common.{◌≡◌, ◌≢◌, ◌⊎◌, ℕ, ◌+◌, ◌-◌, ◌*◌, ◌/◌, ◌%◌, ◌^◌, ◌<◌, ◌≤◌, ◌==◌, Bool, true, false, cond, List, [], ◌∷◌, length, set, Option, Some, None, refl, sym, ap, ap₂, subst, ◌∙◌, arith, inl, inr, length-set}
+use Rattle.std.proofs.Common.{◌≡◌, ℕ, ◌+◌, ◌*◌, ◌/◌, ◌%◌, ◌^◌, ◌<◌, ◌≤◌, ◌==◌, Bool, true, false, List, ◌∷◌, length, set, Option, Some, None, refl, sym, ap, ap₂, subst, ◌∙◌, arith, inl, length-set}
 use Rattle.std.proofs.lemmas.Bool.Decides.{nat_tests}
 use Rattle.std.specs.Prelude.{slice_index, slice_set, nat_lt, Ok, Err}
 use Rattle.ds_word.specs.Word.{word, bits}
@@ -25,7 +25,7 @@ use Rattle.ds_refill_laws.proofs.Whole.{word_0, word_1, word_2, word_2_misses, w
 use Rattle.ds_tables.specs.Places.{region_of, page_of_table}
 use Rattle.ds_tables.specs.Tables.{word_place}
 use Rattle.ds_grants.specs.Words.{granted_word}
-use Rattle.ds_grants.specs.Buffer.{hi_of, lo_of, entry_for}
+use Rattle.ds_grants.specs.Buffer.{lo_of, entry_for}
 use Rattle.ds_grants.proofs.Fields.{user_lo}
 use Rattle.ds_grants.proofs.Fills.{find_written, same_keys, missed_buffer}
 use Rattle.ds_pagemap.specs.Machine.{State, process_of, with_process, touched, touched_process}
@@ -40,7 +40,7 @@ use Rattle.ds_handler.proofs.Touches.{here, is_touched, touched_handler, stands_
 
 -- The processor by its seven values.
 
-is_at_word : (c : CoreState) (pc next : ℕ) (slot : Bool) (r : Registers) → c.pc ≡ pc → c.next ≡ next → c.slot ≡ slot → c.registers ≡ r → c ≡ at_word pc next slot r c.system c.entries c.random
+pub is_at_word : (c : CoreState) (pc next : ℕ) (slot : Bool) (r : Registers) → c.pc ≡ pc → c.next ≡ next → c.slot ≡ slot → c.registers ≡ r → c ≡ at_word pc next slot r c.system c.entries c.random
 is_at_word c pc next slot r e f g h =
     ap (λ (x : ℕ). at_word x c.next c.slot c.registers c.system c.entries c.random) e
     ∙ ap (λ (x : ℕ). at_word pc x c.slot c.registers c.system c.entries c.random) f

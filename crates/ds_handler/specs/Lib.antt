@@ -1,1 +1,3 @@
 pub mod Stages
+pub mod Refills
+pub mod Rows

@@ -19,7 +19,7 @@ use Rattle.ds_grants.specs.Words.{granted_word}
 use Rattle.ds_grants.specs.Represented.{IsRepresented}
 use Rattle.ds_grants.specs.Sound.{NamesPages}
 use Rattle.ds_core.specs.Core.{CoreState, Step}
-use Rattle.ds_pagemap.specs.Machine.{State, Process, process_of, touched_process}
+use Rattle.ds_pagemap.specs.Machine.{State, process_of, touched_process}
 use Rattle.ds_refinement.specs.Held.{Held, Kept, space_of}
 use Rattle.ds_refinement.specs.Stands.{user_status, IsLinked, AtStart, InSlot, InService, KeptIs, AreResting}
 

@@ -1,0 +1,114 @@
+//! A whole refill at once: what the nine words of the handler make of the processor.
+ghost use Rattle.std.specs.Prelude.{◌≡◌, ◌%◌, true, false, None, IfSome, ℕ, List, ◌∷◌, length, slice_index};
+ghost use Rattle.ds_core.specs.Core.{CoreState};
+ghost use Rattle.ds_refill.specs.Handler.{HasWords};
+ghost use Rattle.ds_refill_laws.specs.Refill.{IsKernel, handler_events};
+ghost use Rattle.ds_refinement.specs.Held.{Held};
+ghost use Rattle.ds_handler.specs.Refills.{after_refill, CanLoad, RunsInside, RealPath, with_refill};
+
+use ds_amap::{Access, Mode, Physical, reach};
+use ds_core::Core;
+use ds_cp0::register;
+use ds_dev::Bus;
+use ds_mem::SIZE;
+use ds_tlb::{Entry, Lookaside};
+use ds_word::wrapping_sum;
+
+/// The words before the one that writes the TLB: Random goes down by one with each.
+const BEFORE_WRITE: u32 = 6;
+
+/// That word, and the two after it.
+const FROM_WRITE: u32 = 3;
+
+/// Does the whole refill where the processor stands at the handler's first word, and answers whether
+/// it did: the processor is as the nine words leave it. Where the page-table word can't be loaded, or
+/// isn't one, nothing is done.
+pub fn refill_at_once<L: Lookaside>(core: &mut Core<L>, bus: &Bus) -> bool
+    requires slots { L.SLOTS ≡ 64 }
+    requires wired { L.WIRED ≡ 8 }
+    requires words { HasWords bus.now.memory }
+    requires kernel { IsKernel core.old.system }
+    requires pc { core.old.pc ≡ 0x80000000 }
+    requires next { core.old.next ≡ 0x80000004 }
+    requires slot { core.old.slot ≡ false }
+    requires late { core.old.registers.late ≡ None }
+    ensures done { result ≡ true → RunsInside handler_events core.old bus.now core.new }
+    ensures still { result ≡ false → core.new ≡ core.old }
+{
+    look_at_registers(core);
+    match table_word(core, bus) {
+        Some(word) => {
+            put(core, word);
+            true
+        }
+        None => false,
+    }
+}
+
+/// There are 32 registers, of which the first is 0.
+fn look_at_registers<L: Lookaside>(core: &Core<L>)
+    ensures size { length core.now.registers.general ≡ 32 }
+    ensures nought { slice_index core.now.registers.general 0 ≡ 0 }
+{
+    look_at_size(&core.registers);
+}
+
+/// There are 32 of them.
+fn look_at_size(registers: &[u32; 32])
+    ensures { length registers.now ≡ 32 }
+{
+    let _last = registers[31];
+}
+
+/// The page-table word that Context names, where the handler can load it from memory and it has no
+/// low bits.
+fn table_word<L: Lookaside>(core: &mut Core<L>, bus: &Bus) -> Option<u32>
+    requires kernel { IsKernel core.old.system }
+    ensures word { IfSome result (λ w. CanLoad core.old bus.now w) }
+    ensures same { core.new ≡ core.old }
+{
+    let address = core.cp0.read(register::CONTEXT);
+    let asid = core.cp0.asid();
+    if address % 4 != 0 {
+        return None;
+    }
+    match reach(address, Access::Load, Mode::Kernel, &mut core.tlb, asid) {
+        Ok(Physical(place)) => {
+            if place as usize >= SIZE {
+                return None;
+            }
+            let word = bus.word(place);
+            if word % 256 == 0 { Some(word) } else { None }
+        }
+        Err(_) => None,
+    }
+}
+
+/// The processor as the nine words leave it, with the entry of a page-table word.
+fn put<L: Lookaside>(core: &mut Core<L>, word: u32)
+    requires slots { L.SLOTS ≡ 64 }
+    requires wired { L.WIRED ≡ 8 }
+    requires low { word % 256 ≡ 0 }
+    ensures { core.new ≡ after_refill core.old word }
+{
+    let epc = core.cp0.read(register::EPC);
+    core.cp0.write(register::ENTRY_LO, word);
+    let entry = Entry::of_words(core.cp0.read(register::ENTRY_HI), word);
+    core.tlb.pass(BEFORE_WRITE);
+    core.tlb.write_random(entry);
+    core.tlb.pass(FROM_WRITE);
+    core.registers[26] = 0;
+    core.registers[27] = epc;
+    core.late = None;
+    core.pc = epc;
+    core.next = wrapping_sum(epc, 4);
+    core.slot = false;
+    core.cp0.rfe();
+}
+
+/// A whole refill at once is a path of nine steps, each an instruction of the processor that counts
+/// and ends no unit, and each followed by the machine: it is touched with the seventh.
+pub fn a_refill_is_nine_real_steps()
+    ensures { (h : Held) (c : CoreState) (p : ℕ) (rest : List ℕ) → h.kept.state.ready ≡ p ∷ rest
+        → RunsInside handler_events h.core h.bus c → RealPath h (with_refill h c 9) }
+{}
