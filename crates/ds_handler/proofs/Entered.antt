@@ -63,7 +63,7 @@ module _ (h : Held) (m : State) (p : ℕ) (rest : List ℕ) (e : Exception) (k :
   page_shown miss =
       ap (with_address (record h.core.system { status = pushed h.core.system.status; cause = cause_of h.core.system.cause e; epc = epc_of e }) e) miss.is
       ∙ ap (λ (x : Bool). cond x (with_page h.core.system e miss.address)
-        (record (record h.core.system { status = pushed h.core.system.status; cause = cause_of h.core.system.cause e; epc = epc_of e }) { bad_vaddr = miss.address })) miss.code
+      (record (record h.core.system { status = pushed h.core.system.status; cause = cause_of h.core.system.cause e; epc = epc_of e }) { bad_vaddr = miss.address })) miss.code
 
   -- the handler's first word
   at_first_word : (miss : IsMiss h.core e) → InHandler AtContext (core_at_vector h.core e) h.kept p m

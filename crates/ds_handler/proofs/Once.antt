@@ -33,17 +33,79 @@ whole_inside : (r : Registers) (x y : ℕ) (s : System) (es : List Entry) (rando
     (at_word s.epc (word (s.epc + 4)) false (lent r 0 s.epc None) (returned (record s { entry_lo = w })) (slice_set es (later 6 random) (entry_of s.entry_hi w)) (later 9 random))
 whole_inside r x y s es random place w b h k size zero within aligned reach here is small low =
     let t : System = record s { entry_lo = w } in
-    let kt : IsKernel t = record { mode = k.mode; off = k.off } in
-    (k.mode, refl, (_, word_0 r x y s es random b h k size,
-    (k.mode, refl, (_, word_1 r s.context y _ s es _ b h k size,
-    (k.mode, refl, (_, word_2 r s.context s.epc y s es _ place w b h k size within aligned reach here is,
-    (k.mode, refl, (_, word_3 r w s.epc _ s es _ b h k,
-    (k.mode, refl, (_, word_4 r w s.epc s es _ b h k size small low,
-    (k.mode, refl, (_, word_5 r w s.epc t es _ b h kt zero,
-    (k.mode, refl, (_, word_6 r 0 s.epc t es _ b h kt,
-    (k.mode, refl, (_, word_7 r 0 s.epc t _ _ b h kt size,
-    (k.mode, refl, (_, word_8 r 0 s.epc s.epc t _ _ b h kt,
-    refl))))))))))))))))))
+    let kt : IsKernel t = record { mode = k.mode; off = k.off } in (
+      k.mode,
+      refl,
+      (
+        _,
+        word_0 r x y s es random b h k size,
+        (
+          k.mode,
+          refl,
+          (
+            _,
+            word_1 r s.context y _ s es _ b h k size,
+            (
+              k.mode,
+              refl,
+              (
+                _,
+                word_2 r s.context s.epc y s es _ place w b h k size within aligned reach here is,
+                (
+                  k.mode,
+                  refl,
+                  (
+                    _,
+                    word_3 r w s.epc _ s es _ b h k,
+                    (
+                      k.mode,
+                      refl,
+                      (
+                        _,
+                        word_4 r w s.epc s es _ b h k size small low,
+                        (
+                          k.mode,
+                          refl,
+                          (
+                            _,
+                            word_5 r w s.epc t es _ b h kt zero,
+                            (
+                              k.mode,
+                              refl,
+                              (
+                                _,
+                                word_6 r 0 s.epc t es _ b h kt,
+                                (
+                                  k.mode,
+                                  refl,
+                                  (
+                                    _,
+                                    word_7 r 0 s.epc t _ _ b h kt size,
+                                    (
+                                      k.mode,
+                                      refl,
+                                      (
+                                        _,
+                                        word_8 r 0 s.epc s.epc t _ _ b h kt,
+                                        refl,
+                                      ),
+                                    ),
+                                  ),
+                                ),
+                              ),
+                            ),
+                          ),
+                        ),
+                      ),
+                    ),
+                  ),
+                ),
+              ),
+            ),
+          ),
+        ),
+      ),
+    )
 
 pub at_once_runs : (c : CoreState) (b : BusState) (w : ℕ) → HasWords b.memory → IsKernel c.system → c.pc ≡ 0x80000000 → c.next ≡ 0x80000004 → c.slot ≡ false → c.registers.late ≡ None
     → length c.registers.general ≡ 32 → slice_index c.registers.general 0 ≡ 0 → CanLoad c b w → RunsInside handler_events c b (after_refill c w)

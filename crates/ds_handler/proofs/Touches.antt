@@ -61,8 +61,8 @@ module _ (phase : Phase) (c : CoreState) (k : Kept) (p : ℕ) (m : State) (seat 
     registers = z.registers ∙ ap (λ (g : List ℕ). record z.base { general = g; late = z.late }) (sym (lent_again z.base.general 0 (process_of m p).pc z.first z.second));
     units = units;
     lends = subst (λ (n : ℕ). Lends phase
-      (record { context = c.system.context; unit = n; entry = granted_word k.grants p z.vpn })
-      (record { first = z.first; second = z.second; late = z.late; entry_lo = c.system.entry_lo })) same_pc z.lends;
+        (record { context = c.system.context; unit = n; entry = granted_word k.grants p z.vpn })
+        (record { first = z.first; second = z.second; late = z.late; entry_lo = c.system.entry_lo })) same_pc z.lends;
     touch = λ behind_write. is_touched;
   }
 

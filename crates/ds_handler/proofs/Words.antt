@@ -111,8 +111,26 @@ module _ (h : Held) (m : State) (p : ℕ) (rest : List ℕ) (k : Stands h m) (re
       is_at_word h.core 0x80000000 0x80000004 false (lent z.base x y None) z.pc (z.next ∙ ap (λ (n : ℕ). word (n + 4)) z.pc) z.slot (z.registers ∙ ap (lent z.base x y) z.lends) in
       let u : CoreState = at_word 0x80000004 0x80000008 false (lent z.base s.context y (late_of 26 x)) s es later in
       let there : InHandler AtAddress u h.kept p m = record {
-        whole = wider _ z _ _ _ _ _ _ _ _ z.whole.slots; owed = z.owed; pc = refl; next = refl; slot = refl; status = z.status; epc = z.epc; vpn = z.vpn; user = z.user; hi = z.hi; context = z.context; answers = z.answers;
-        base = z.base; first = s.context; second = y; late = late_of 26 x; registers = refl; units = z.units; touch = z.touch; lends = (x, refl, refl);
+        whole = wider _ z _ _ _ _ _ _ _ _ z.whole.slots;
+        owed = z.owed;
+        pc = refl;
+        next = refl;
+        slot = refl;
+        status = z.status;
+        epc = z.epc;
+        vpn = z.vpn;
+        user = z.user;
+        hi = z.hi;
+        context = z.context;
+        answers = z.answers;
+        base = z.base;
+        first = s.context;
+        second = y;
+        late = late_of 26 x;
+        registers = refl;
+        units = z.units;
+        touch = z.touch;
+        lends = (x, refl, refl);
       } in
       goes false Retired u (ap (λ (n : ℕ). n == address_of 6) z.pc)
       (ap (λ (d : CoreState). step d b) is ∙ word_0 z.base x y s es h.core.random b k.vectors (kernel s z.status) (long _ z))
@@ -126,8 +144,26 @@ module _ (h : Held) (m : State) (p : ℕ) (rest : List ℕ) (k : Stands h m) (re
       is_at_word h.core 0x80000004 0x80000008 false (lent z.base x y z.late) z.pc (z.next ∙ ap (λ (n : ℕ). word (n + 4)) z.pc) z.slot z.registers in
       let u : CoreState = at_word 0x80000008 0x8000000C false (lent z.base x s.epc (late_of 27 y)) s es later in
       let there : InHandler AtLoad u h.kept p m = record {
-        whole = wider _ z _ _ _ _ _ _ _ _ z.whole.slots; owed = z.owed; pc = refl; next = refl; slot = refl; status = z.status; epc = z.epc; vpn = z.vpn; user = z.user; hi = z.hi; context = z.context; answers = z.answers;
-        base = z.base; first = x; second = s.epc; late = late_of 27 y; registers = refl; units = z.units; touch = z.touch; lends = (y, z.lends.1, z.epc, refl);
+        whole = wider _ z _ _ _ _ _ _ _ _ z.whole.slots;
+        owed = z.owed;
+        pc = refl;
+        next = refl;
+        slot = refl;
+        status = z.status;
+        epc = z.epc;
+        vpn = z.vpn;
+        user = z.user;
+        hi = z.hi;
+        context = z.context;
+        answers = z.answers;
+        base = z.base;
+        first = x;
+        second = s.epc;
+        late = late_of 27 y;
+        registers = refl;
+        units = z.units;
+        touch = z.touch;
+        lends = (y, z.lends.1, z.epc, refl);
       } in
       goes false Retired u (ap (λ (n : ℕ). n == address_of 6) z.pc)
       (ap (λ (d : CoreState). step d b) is ∙ word_1 z.base x y z.late s es h.core.random b k.vectors (kernel s z.status) (long _ z))
@@ -172,8 +208,26 @@ module _ (h : Held) (m : State) (p : ℕ) (rest : List ℕ) (k : Stands h m) (re
           ap₂ (λ (a n : ℕ). translate es a Kernel Load n) space address ∙ table_hit es (space_of h.kept) h.kept.grants h.kept.tables p z.vpn slot k.represented.buffer k.represented.places now.seat.0 now.number z.user found in
           let u : CoreState = at_word 0x8000000C 0x80000010 false (lent z.base w z.second (late_of 26 z.first)) s es later in
           let there : InHandler AtPause u h.kept p m = record {
-            whole = wider _ z _ _ _ _ _ _ _ _ z.whole.slots; owed = z.owed; pc = refl; next = refl; slot = refl; status = z.status; epc = z.epc; vpn = z.vpn; user = z.user; hi = z.hi; context = z.context; answers = z.answers;
-            base = z.base; first = w; second = z.second; late = late_of 26 z.first; registers = refl; units = z.units; touch = z.touch; lends = (z.first, refl, z.lends.2, refl);
+            whole = wider _ z _ _ _ _ _ _ _ _ z.whole.slots;
+            owed = z.owed;
+            pc = refl;
+            next = refl;
+            slot = refl;
+            status = z.status;
+            epc = z.epc;
+            vpn = z.vpn;
+            user = z.user;
+            hi = z.hi;
+            context = z.context;
+            answers = z.answers;
+            base = z.base;
+            first = w;
+            second = z.second;
+            late = late_of 26 z.first;
+            registers = refl;
+            units = z.units;
+            touch = z.touch;
+            lends = (z.first, refl, z.lends.2, refl);
           } in
           goes false Retired u (ap (λ (n : ℕ). n == address_of 6) z.pc)
           (ap (λ (d : CoreState). step d b) is ∙ word_2 z.base z.first z.second z.lends.0 s es h.core.random place w b k.vectors (kernel s z.status) (long _ z) small aligned reach (in_memory (page_of_table h.kept.tables p (region_of (z.vpn * 2 ^ 12))) (z.vpn * 2 ^ 12) (table_below h.kept.tables p (region_of (z.vpn * 2 ^ 12)) k.represented.places)) (k.represented.words.words p z.vpn now.seat.0 z.user))
@@ -210,8 +264,26 @@ module _ (h : Held) (m : State) (p : ℕ) (rest : List ℕ) (k : Stands h m) (re
       is_at_word h.core 0x8000000C 0x80000010 false (lent z.base x y z.late) z.pc (z.next ∙ ap (λ (n : ℕ). word (n + 4)) z.pc) z.slot z.registers in
       let u : CoreState = at_word 0x80000010 0x80000014 false (lent z.base x y None) s es later in
       let there : InHandler AtMove u h.kept p m = record {
-        whole = wider _ z _ _ _ _ _ _ _ _ z.whole.slots; owed = z.owed; pc = refl; next = refl; slot = refl; status = z.status; epc = z.epc; vpn = z.vpn; user = z.user; hi = z.hi; context = z.context; answers = z.answers;
-        base = z.base; first = x; second = y; late = None; registers = refl; units = z.units; touch = z.touch; lends = (z.lends.1, z.lends.2, refl);
+        whole = wider _ z _ _ _ _ _ _ _ _ z.whole.slots;
+        owed = z.owed;
+        pc = refl;
+        next = refl;
+        slot = refl;
+        status = z.status;
+        epc = z.epc;
+        vpn = z.vpn;
+        user = z.user;
+        hi = z.hi;
+        context = z.context;
+        answers = z.answers;
+        base = z.base;
+        first = x;
+        second = y;
+        late = None;
+        registers = refl;
+        units = z.units;
+        touch = z.touch;
+        lends = (z.lends.1, z.lends.2, refl);
       } in
       goes false Retired u (ap (λ (n : ℕ). n == address_of 6) z.pc)
       (ap (λ (d : CoreState). step d b) is ∙ word_3 z.base x y z.late s es h.core.random b k.vectors (kernel s z.status))
@@ -226,8 +298,26 @@ module _ (h : Held) (m : State) (p : ℕ) (rest : List ℕ) (k : Stands h m) (re
       is_at_word h.core 0x80000010 0x80000014 false (lent z.base x y None) z.pc (z.next ∙ ap (λ (n : ℕ). word (n + 4)) z.pc) z.slot (z.registers ∙ ap (lent z.base x y) z.lends.2) in
       let u : CoreState = at_word 0x80000014 0x80000018 false (lent z.base x y None) (record s { entry_lo = x }) es later in
       let there : InHandler AtClear u h.kept p m = record {
-        whole = wider _ z _ _ _ _ _ _ _ _ z.whole.slots; owed = z.owed; pc = refl; next = refl; slot = refl; status = z.status; epc = z.epc; vpn = z.vpn; user = z.user; hi = z.hi; context = z.context; answers = z.answers;
-        base = z.base; first = x; second = y; late = None; registers = refl; units = z.units; touch = z.touch; lends = (z.lends.1, refl, z.lends.0);
+        whole = wider _ z _ _ _ _ _ _ _ _ z.whole.slots;
+        owed = z.owed;
+        pc = refl;
+        next = refl;
+        slot = refl;
+        status = z.status;
+        epc = z.epc;
+        vpn = z.vpn;
+        user = z.user;
+        hi = z.hi;
+        context = z.context;
+        answers = z.answers;
+        base = z.base;
+        first = x;
+        second = y;
+        late = None;
+        registers = refl;
+        units = z.units;
+        touch = z.touch;
+        lends = (z.lends.1, refl, z.lends.0);
       } in
       goes false Retired u (ap (λ (n : ℕ). n == address_of 6) z.pc)
       (ap (λ (d : CoreState). step d b) is ∙ word_4 z.base x y s es h.core.random b k.vectors (kernel s z.status) (long _ z)
@@ -242,8 +332,26 @@ module _ (h : Held) (m : State) (p : ℕ) (rest : List ℕ) (k : Stands h m) (re
       is_at_word h.core 0x80000014 0x80000018 false (lent z.base x y None) z.pc (z.next ∙ ap (λ (n : ℕ). word (n + 4)) z.pc) z.slot (z.registers ∙ ap (lent z.base x y) z.lends.1) in
       let u : CoreState = at_word 0x80000018 0x8000001C false (lent z.base 0 y None) s es later in
       let there : InHandler AtWrite u h.kept p m = record {
-        whole = wider _ z _ _ _ _ _ _ _ _ z.whole.slots; owed = z.owed; pc = refl; next = refl; slot = refl; status = z.status; epc = z.epc; vpn = z.vpn; user = z.user; hi = z.hi; context = z.context; answers = z.answers;
-        base = z.base; first = 0; second = y; late = None; registers = refl; units = z.units; touch = z.touch; lends = (refl, z.lends.0, refl, z.lends.2);
+        whole = wider _ z _ _ _ _ _ _ _ _ z.whole.slots;
+        owed = z.owed;
+        pc = refl;
+        next = refl;
+        slot = refl;
+        status = z.status;
+        epc = z.epc;
+        vpn = z.vpn;
+        user = z.user;
+        hi = z.hi;
+        context = z.context;
+        answers = z.answers;
+        base = z.base;
+        first = 0;
+        second = y;
+        late = None;
+        registers = refl;
+        units = z.units;
+        touch = z.touch;
+        lends = (refl, z.lends.0, refl, z.lends.2);
       } in
       goes false Retired u (ap (λ (n : ℕ). n == address_of 6) z.pc)
       (ap (λ (d : CoreState). step d b) is ∙ word_5 z.base x y s es h.core.random b k.vectors (kernel s z.status) (none_in _ z))
@@ -262,9 +370,26 @@ module _ (h : Held) (m : State) (p : ℕ) (rest : List ℕ) (k : Stands h m) (re
       is_at_word h.core 0x80000018 0x8000001C false (lent z.base x y None) z.pc (z.next ∙ ap (λ (n : ℕ). word (n + 4)) z.pc) z.slot (z.registers ∙ ap (lent z.base x y) z.lends.2) in
       let u : CoreState = at_word 0x8000001C 0x80000020 false (lent z.base x y None) s (slice_set es h.core.random e) later in
       let there : InHandler AtJump u h.kept p m = record {
-        whole = wider _ z _ _ _ _ _ _ _ _ (length-set es h.core.random e ∙ z.whole.slots); owed = z.owed; pc = refl; next = refl; slot = refl; status = z.status; epc = z.epc; vpn = z.vpn; user = z.user; hi = z.hi; context = z.context;
+        whole = wider _ z _ _ _ _ _ _ _ _ (length-set es h.core.random e ∙ z.whole.slots);
+        owed = z.owed;
+        pc = refl;
+        next = refl;
+        slot = refl;
+        status = z.status;
+        epc = z.epc;
+        vpn = z.vpn;
+        user = z.user;
+        hi = z.hi;
+        context = z.context;
         answers = (h.core.random, find_written es z.vpn asid h.core.random e z.answers (let high = z.whole.high in let slots = z.whole.slots in omega arith) (same_keys z.vpn asid lo (omega (arith, user)) below));
-        base = z.base; first = x; second = y; late = None; registers = refl; units = z.units; touch = λ written. touch; lends = (z.lends.0, z.lends.1, refl);
+        base = z.base;
+        first = x;
+        second = y;
+        late = None;
+        registers = refl;
+        units = z.units;
+        touch = λ written. touch;
+        lends = (z.lends.0, z.lends.1, refl);
       } in
       follows Retired u
       (ap (λ (d : CoreState). step d b) is ∙ word_6 z.base x y s es h.core.random b k.vectors (kernel s z.status)
@@ -279,8 +404,26 @@ module _ (h : Held) (m : State) (p : ℕ) (rest : List ℕ) (k : Stands h m) (re
       is_at_word h.core 0x8000001C 0x80000020 false (lent z.base x y None) z.pc (z.next ∙ ap (λ (n : ℕ). word (n + 4)) z.pc) z.slot (z.registers ∙ ap (lent z.base x y) z.lends.2) in
       let u : CoreState = at_word 0x80000020 y true (lent z.base x y None) s es later in
       let there : InHandler AtReturn u h.kept p m = record {
-        whole = wider _ z _ _ _ _ _ _ _ _ z.whole.slots; owed = z.owed; pc = refl; next = z.lends.1; slot = refl; status = z.status; epc = z.epc; vpn = z.vpn; user = z.user; hi = z.hi; context = z.context; answers = z.answers;
-        base = z.base; first = x; second = y; late = None; registers = refl; units = z.units; touch = z.touch; lends = (z.lends.0, z.lends.1, refl);
+        whole = wider _ z _ _ _ _ _ _ _ _ z.whole.slots;
+        owed = z.owed;
+        pc = refl;
+        next = z.lends.1;
+        slot = refl;
+        status = z.status;
+        epc = z.epc;
+        vpn = z.vpn;
+        user = z.user;
+        hi = z.hi;
+        context = z.context;
+        answers = z.answers;
+        base = z.base;
+        first = x;
+        second = y;
+        late = None;
+        registers = refl;
+        units = z.units;
+        touch = z.touch;
+        lends = (z.lends.0, z.lends.1, refl);
       } in
       goes false Branched u (ap (λ (n : ℕ). n == address_of 6) z.pc)
       (ap (λ (d : CoreState). step d b) is ∙ word_7 z.base x y s es h.core.random b k.vectors (kernel s z.status) (long _ z))

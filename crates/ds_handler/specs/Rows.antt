@@ -15,8 +15,31 @@ use Rattle.ds_refinement.specs.Held.{Held, Kept, Own}
 use Rattle.ds_refinement.specs.Stands.{InService}
 use Rattle.ds_handler.specs.Refills.{after_refill}
 use Rattle.ds_handler.specs.Stages.{
-  handler_status, nested_status, HasBase, IsSet, AtContext, AtAddress, AtLoad, AtPause, AtMove, AtClear, AtWrite, AtJump, AtReturn,
-  index_of, next_of, in_slot, Asked, Lends, Answers, has_touched, touches, InHandler, InDouble, OnProcessor, with_table_page
+  handler_status,
+  nested_status,
+  HasBase,
+  IsSet,
+  AtContext,
+  AtAddress,
+  AtLoad,
+  AtPause,
+  AtMove,
+  AtClear,
+  AtWrite,
+  AtJump,
+  AtReturn,
+  index_of,
+  next_of,
+  in_slot,
+  Asked,
+  Lends,
+  Answers,
+  has_touched,
+  touches,
+  InHandler,
+  InDouble,
+  OnProcessor,
+  with_table_page,
 }
 
 -- Status.
