@@ -109,6 +109,8 @@ def try_all(repository, tasks, given, clock):
     among those that are still tried."""
     done = []
     jobs = lambda: max(given.lanes // max(len(tasks) - len(done), 1), 1)
+    if given.said:
+        Path(given.said).mkdir(parents=True, exist_ok=True)
     how = How(given.proved, jobs, given.said, clock)
     with ThreadPoolExecutor(max(given.lanes, 1)) as lanes:
         for it in as_completed([lanes.submit(try_task, repository, task, how) for task in tasks]):
