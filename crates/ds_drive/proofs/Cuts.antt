@@ -88,4 +88,4 @@ unread_keeps holds lacks request f known none = absurd none
 pub check_cut : (words : List Text) (holds : List ℕ → List ℕ → Type 0) (lacks : List ℕ → Type 0) (request : CheckRequest) (r : Refused) (old new : Option (List ℕ)) → AsksForCheck words request
     → ChecksBy r holds lacks request old new → IsCutShort words holds old new
 check_cut words holds lacks request r old new asks (inl refused) = inl refused.1
-check_cut words holds lacks request r old new asks (inr cut) = inr (inr (inr (inr (request, asks, cut.1))))
+check_cut words holds lacks request r old new asks (inr cut) = inr (inr (inr (inr (inl (request, asks, cut.1)))))

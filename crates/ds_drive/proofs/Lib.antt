@@ -1,3 +1,4 @@
+pub mod BareLemmas
 pub mod Cuts
 pub mod Faulty
 pub mod HeldFiles

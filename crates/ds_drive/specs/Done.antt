@@ -7,6 +7,7 @@ use Rattle.ds_station.specs.Faults.{number_of}
 use Rattle.ds_station.specs.Headline.{Begins, Writes, WritesPart, EndsBy}
 use Rattle.ds_station.specs.declared.fault.Fault.{Fault}
 use Rattle.ds_drive.specs.declared.failure.Failure.{Failure}
+use Rattle.ds_words.specs.declared.words.BareRequest.{BareRequest}
 use Rattle.ds_words.specs.declared.words.CheckRequest.{CheckRequest}
 use Rattle.ds_words.specs.declared.words.ListRequest.{ListRequest}
 use Rattle.ds_words.specs.declared.words.Request.{Request}
@@ -17,28 +18,32 @@ use Rattle.ds_drive.specs.Failures.{RunsFiles, CutsFiles, StopsBy, failure_numbe
 use Rattle.ds_drive.specs.Told.{failure_line, refused_text, told_line}
 use Rattle.ds_log.specs.Sent.{AppendsPart}
 use Rattle.ds_drive.specs.Statuses.{fault_status}
+use Rattle.ds_drive.specs.BareRuns.{RunsBare, CutsBare, BareFailsBy, HasBareFaults}
 use Rattle.ds_drive.specs.Checked.{Explains, CutsExplanation, ChecksBy}
 use Rattle.ds_drive.specs.Listed.{ListsFile, CutsListing, FailsBy, HasFaults}
-use Rattle.ds_words.specs.Words.{AsksForDemo, AsksForRun, AsksForList, AsksForCheck}
+use Rattle.ds_words.specs.Words.{AsksForBare, AsksForDemo, AsksForRun, AsksForList, AsksForCheck}
 
--- what the words ask for was run, listed or explained, and its text is written
+-- what the words ask for was run, listed or explained, and its text is written; a run is under a
+-- policy or on the bare machine
 abbrev pub IsDone : List Text → (List ℕ → List ℕ → Type 0) → Option (List ℕ) → Option (List ℕ) → Type 0
 IsDone words holds old new =
     (AsksForDemo words × Begins demo_inputs (Writes old new 100))
     ⊎ (((request : Request) × AsksForRun words request × RunsFiles holds request old new)
     ⊎ (((request : ListRequest) × AsksForList words request × ListsFile holds request old new)
-    ⊎ ((request : CheckRequest) × AsksForCheck words request × Explains holds request old new)))
+    ⊎ (((request : CheckRequest) × AsksForCheck words request × Explains holds request old new)
+    ⊎ ((request : BareRequest) × AsksForBare words request × RunsBare holds request old new))))
 
 -- nothing is written; or what the words ask for was run, and a front of the text of a run that was
 -- cut short between two turns, or has ended, is written and nothing else; or a front of
--- a listing or of what is explained
+-- a listing, of what is explained, or of a run on the bare machine
 abbrev pub IsCutShort : List Text → (List ℕ → List ℕ → Type 0) → Option (List ℕ) → Option (List ℕ) → Type 0
 IsCutShort words holds old new =
     Keeps old new
     ⊎ ((AsksForDemo words × Begins demo_inputs (WritesPart old new 100))
     ⊎ (((request : Request) × AsksForRun words request × CutsFiles holds request old new)
     ⊎ (((request : ListRequest) × AsksForList words request × CutsListing holds request old new)
-    ⊎ ((request : CheckRequest) × AsksForCheck words request × CutsExplanation holds request old new))))
+    ⊎ (((request : CheckRequest) × AsksForCheck words request × CutsExplanation holds request old new)
+    ⊎ ((request : BareRequest) × AsksForBare words request × CutsBare holds request old new)))))
 
 -- what a writer held before, and what it holds now, where that is known
 pub record Stream : Type 0 where
@@ -75,6 +80,14 @@ pub record IsFaulty (status : ℕ) (holds : List ℕ → List ℕ → Type 0) (r
   pub kept : Keeps out.old out.new
   pub told : Tells err (flat_map (told_line (codes "dsmon: ") request.file.now None) faults)
 
+-- so where the source was to run on the bare machine
+pub record IsFaultyBare (status : ℕ) (holds : List ℕ → List ℕ → Type 0) (request : BareRequest) (out err : Stream) : Type 0 where
+  pub has : status ≡ 2
+  pub faults : List SourceFault
+  pub are : HasBareFaults holds request faults
+  pub kept : Keeps out.old out.new
+  pub told : Tells err (flat_map (told_line (codes "dsmon: ") request.source.now None) faults)
+
 -- a refusal of this status, of which this holds, was told
 pub record RefusesWith (status : ℕ) (err : Stream) (P : Refused → Type 0) : Type 0 where
   pub refused : Refused
@@ -88,7 +101,8 @@ IsStopped status words holds lacks out err =
     (AsksForDemo words × DemoStops status out err)
     ⊎ (((request : Request) × AsksForRun words request × FailsWith status err (λ f. StopsBy f holds lacks request out.old out.new))
     ⊎ (((request : ListRequest) × AsksForList words request × (FailsWith status err (λ f. FailsBy f holds lacks request out.old out.new) ⊎ IsFaulty status holds request out err))
-    ⊎ ((request : CheckRequest) × AsksForCheck words request × RefusesWith status err (λ r. ChecksBy r holds lacks request out.old out.new))))
+    ⊎ (((request : CheckRequest) × AsksForCheck words request × RefusesWith status err (λ r. ChecksBy r holds lacks request out.old out.new))
+    ⊎ ((request : BareRequest) × AsksForBare words request × (FailsWith status err (λ f. BareFailsBy f holds lacks request out.old out.new) ⊎ IsFaultyBare status holds request out err)))))
 
 -- nothing is written, and want of memory was told
 abbrev pub WantsMemory : Stream → Stream → Type 0

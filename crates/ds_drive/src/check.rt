@@ -24,7 +24,7 @@ struct Good {
 }
 
 /// The bytes of the input's file; none where no file is named.
-fn input_of<'a, F: Files>(
+pub(crate) fn input_of<'a, F: Files>(
     alloc: Global,
     files: &mut F,
     name: Option<&'a str>,

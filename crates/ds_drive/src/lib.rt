@@ -1,6 +1,7 @@
 //! The program `dsmon` as a call: what its words ask for is done over files and writers.
 #![tactic(auto)]
 
+mod bare;
 mod check;
 mod demo;
 mod failure;
@@ -13,8 +14,9 @@ mod run;
 mod status;
 mod told;
 
+pub use bare::bare_file;
 pub use check::check_files;
-pub use ds_words::{CheckRequest, ListRequest, Request, Wish, program_words, wish_of};
+pub use ds_words::{BareRequest, CheckRequest, ListRequest, Request, Wish, program_words, wish_of};
 pub use failure::Failure;
 pub use files::{FileFault, Files, MOST_BYTES, SystemFiles};
 pub use list::{Listing, list_file, tell_faults};

@@ -7,6 +7,7 @@ ghost use Rattle.ds_drive.specs.Told.{failure_line};
 ghost use Rattle.ds_log.specs.Sent.{AppendsPart};
 ghost use Rattle.ds_words.specs.Words.{AsksForSomething};
 
+use crate::bare::bare_file;
 use crate::check::check_files;
 use crate::demo::run_demo;
 use crate::failure::Failure;
@@ -24,7 +25,7 @@ use std::io::{ErrorKind, Write};
 /// Does what the words ask for, the program's own name first, and answers the status: 0 done; 1 the
 /// words were refused for another cause than memory, or ask for help; 2 refused input; 3 a fault of
 /// the run. What was refused is told on `err`; that a write there fails changes no status.
-#[tactic(auto, using(ds_words::proofs::WordLemmas::alone, crate::proofs::Cuts::nothing_written, crate::proofs::Cuts::demo_cut, crate::proofs::Cuts::run_cut, crate::proofs::Cuts::list_cut, crate::proofs::Cuts::check_cut, crate::proofs::Stops::demo_stopped, crate::proofs::Stops::run_stopped, crate::proofs::Stops::list_stopped, crate::proofs::Stops::list_faulty, crate::proofs::Stops::check_stopped, crate::proofs::Stops::wants_memory))]
+#[tactic(auto, using(ds_words::proofs::WordLemmas::alone, crate::proofs::Cuts::nothing_written, crate::proofs::Cuts::demo_cut, crate::proofs::Cuts::run_cut, crate::proofs::Cuts::list_cut, crate::proofs::Cuts::check_cut, crate::proofs::BareLemmas::bare_cut, crate::proofs::BareLemmas::bare_stopped, crate::proofs::BareLemmas::bare_faulty, crate::proofs::Stops::demo_stopped, crate::proofs::Stops::run_stopped, crate::proofs::Stops::list_stopped, crate::proofs::Stops::list_faulty, crate::proofs::Stops::check_stopped, crate::proofs::Stops::wants_memory))]
 pub fn drive<F: Files, W: Write, E: Write>(
     alloc: Global,
     words: &[String],
@@ -75,6 +76,11 @@ pub fn drive<F: Files, W: Write, E: Write>(
         Ok(Some(Wish::Check(request))) => match check_files(alloc, &request, files, out) {
             Ok(()) => DONE,
             Err(refused) => tell_refused(alloc, err, &refused),
+        },
+        Ok(Some(Wish::Bare(request))) => match bare_file(alloc, &request, files, out) {
+            Ok(Listing::Written) => DONE,
+            Ok(Listing::Faults(faults)) => tell_faults(alloc, err, request.source, &faults),
+            Err(failure) => tell(err, &failure),
         },
         Ok(None) => {
             let _ = send(err, b"dsmon: the words leave something out\n");

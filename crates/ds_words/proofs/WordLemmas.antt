@@ -5,10 +5,11 @@ use Rattle.clap.specs.Words.{HasKind, IsAmong, Row, Text, fault_of, kind_of, sub
 use Rattle.clap.specs.declared.error.Error.{Error}
 use Rattle.clap.specs.declared.error.kind.ErrorKind.TheVariants.{OutOfMemory}
 use Rattle.clap.proofs.OnLiterals.{clap_on_literals}
+use Rattle.ds_words.specs.declared.words.BareRequest.{BareRequest}
 use Rattle.ds_words.specs.declared.words.CheckRequest.{CheckRequest}
 use Rattle.ds_words.specs.declared.words.ListRequest.{ListRequest}
 use Rattle.ds_words.specs.declared.words.Request.{Request}
-use Rattle.ds_words.specs.Words.{AsksForDemo, AsksForSomething, NamesCheck, NamesList, NamesRun, command_named, dsmon_app}
+use Rattle.ds_words.specs.Words.{AsksForDemo, AsksForSomething, NamesBare, NamesCheck, NamesList, NamesRun, command_named, dsmon_app}
 
 -- the one word `demo` asks for the demonstration, whatever the program's own name is
 pub alone : (program : Text) (words : List Text) → words ≡ program ∷ codes "demo" ∷ []
@@ -21,7 +22,8 @@ pub taken : (words : List Text) → AsksForSomething words → fault_of dsmon_ap
 taken words (inl demo) = demo.taken
 taken words (inr (inl run)) = run.1.taken
 taken words (inr (inr (inl list))) = list.1.taken
-taken words (inr (inr (inr check))) = check.1.taken
+taken words (inr (inr (inr (inl check)))) = check.1.taken
+taken words (inr (inr (inr (inr bare)))) = bare.1.taken
 
 -- where the words ask for something, clap fails for memory alone
 pub only_memory_fails : (words : List Text) (e : Error) → AsksForSomething words
@@ -56,27 +58,39 @@ pub asks_run : (words : List Text) (rows : List Row) → subcommand_of dsmon_app
 asks_run words rows named none (inl demo) = let e : 114 ≡ 100 = ap first_letter_of (sym (ap name_in named) ∙ demo.named) in omega (arith, e)
 asks_run words rows named none (inr (inl run)) = none run.0 (subst (λ (x : List Row). NamesRun x run.0) (sym (ap rows_in (sym named ∙ run.1.named))) run.1.names)
 asks_run words rows named none (inr (inr (inl list))) = let e : 114 ≡ 108 = ap first_letter (sym named ∙ list.1.named) in omega (arith, e)
-asks_run words rows named none (inr (inr (inr check))) = let e : 114 ≡ 99 = ap first_letter (sym named ∙ check.1.named) in omega (arith, e)
+asks_run words rows named none (inr (inr (inr (inl check)))) = let e : 114 ≡ 99 = ap first_letter (sym named ∙ check.1.named) in omega (arith, e)
+asks_run words rows named none (inr (inr (inr (inr bare)))) = let e : 114 ≡ 98 = ap first_letter (sym named ∙ bare.1.named) in omega (arith, e)
 
 pub asks_list : (words : List Text) (rows : List Row) → subcommand_of dsmon_app words ≡ Some (codes "list", rows)
     → ((request : ListRequest) → NamesList rows request → ⊥) → AsksForSomething words → ⊥
 asks_list words rows named none (inl demo) = let e : 108 ≡ 100 = ap first_letter_of (sym (ap name_in named) ∙ demo.named) in omega (arith, e)
 asks_list words rows named none (inr (inl run)) = let e : 108 ≡ 114 = ap first_letter (sym named ∙ run.1.named) in omega (arith, e)
 asks_list words rows named none (inr (inr (inl list))) = none list.0 (subst (λ (x : List Row). NamesList x list.0) (sym (ap rows_in (sym named ∙ list.1.named))) list.1.names)
-asks_list words rows named none (inr (inr (inr check))) = let e : 108 ≡ 99 = ap first_letter (sym named ∙ check.1.named) in omega (arith, e)
+asks_list words rows named none (inr (inr (inr (inl check)))) = let e : 108 ≡ 99 = ap first_letter (sym named ∙ check.1.named) in omega (arith, e)
+asks_list words rows named none (inr (inr (inr (inr bare)))) = let e : 108 ≡ 98 = ap first_letter (sym named ∙ bare.1.named) in omega (arith, e)
 
 pub asks_check : (words : List Text) (rows : List Row) → subcommand_of dsmon_app words ≡ Some (codes "check", rows)
     → ((request : CheckRequest) → NamesCheck rows request → ⊥) → AsksForSomething words → ⊥
 asks_check words rows named none (inl demo) = let e : 99 ≡ 100 = ap first_letter_of (sym (ap name_in named) ∙ demo.named) in omega (arith, e)
 asks_check words rows named none (inr (inl run)) = let e : 99 ≡ 114 = ap first_letter (sym named ∙ run.1.named) in omega (arith, e)
 asks_check words rows named none (inr (inr (inl list))) = let e : 99 ≡ 108 = ap first_letter (sym named ∙ list.1.named) in omega (arith, e)
-asks_check words rows named none (inr (inr (inr check))) = none check.0 (subst (λ (x : List Row). NamesCheck x check.0) (sym (ap rows_in (sym named ∙ check.1.named))) check.1.names)
+asks_check words rows named none (inr (inr (inr (inl check)))) = none check.0 (subst (λ (x : List Row). NamesCheck x check.0) (sym (ap rows_in (sym named ∙ check.1.named))) check.1.names)
+asks_check words rows named none (inr (inr (inr (inr bare)))) = let e : 99 ≡ 98 = ap first_letter (sym named ∙ bare.1.named) in omega (arith, e)
 
--- words that name no command of the four ask for nothing
+pub asks_bare : (words : List Text) (rows : List Row) → subcommand_of dsmon_app words ≡ Some (codes "bare", rows)
+    → ((request : BareRequest) → NamesBare rows request → ⊥) → AsksForSomething words → ⊥
+asks_bare words rows named none (inl demo) = let e : 98 ≡ 100 = ap first_letter_of (sym (ap name_in named) ∙ demo.named) in omega (arith, e)
+asks_bare words rows named none (inr (inl run)) = let e : 98 ≡ 114 = ap first_letter (sym named ∙ run.1.named) in omega (arith, e)
+asks_bare words rows named none (inr (inr (inl list))) = let e : 98 ≡ 108 = ap first_letter (sym named ∙ list.1.named) in omega (arith, e)
+asks_bare words rows named none (inr (inr (inr (inl check)))) = let e : 98 ≡ 99 = ap first_letter (sym named ∙ check.1.named) in omega (arith, e)
+asks_bare words rows named none (inr (inr (inr (inr bare)))) = none bare.0 (subst (λ (x : List Row). NamesBare x bare.0) (sym (ap rows_in (sym named ∙ bare.1.named))) bare.1.names)
+
+-- words that name no command of the five ask for nothing
 pub asks_nothing : (words : List Text) (named : Option Text) → command_named words ≡ named
-    → (named ≡ Some (codes "demo") → ⊥) → (named ≡ Some (codes "run") → ⊥) → (named ≡ Some (codes "check") → ⊥) → (named ≡ Some (codes "list") → ⊥)
+    → (named ≡ Some (codes "demo") → ⊥) → (named ≡ Some (codes "run") → ⊥) → (named ≡ Some (codes "check") → ⊥) → (named ≡ Some (codes "list") → ⊥) → (named ≡ Some (codes "bare") → ⊥)
     → AsksForSomething words → ⊥
-asks_nothing words named is demo run check list (inl asked) = demo (sym is ∙ asked.named)
-asks_nothing words named is demo run check list (inr (inl asked)) = run (sym is ∙ ap name_in asked.1.named)
-asks_nothing words named is demo run check list (inr (inr (inl asked))) = list (sym is ∙ ap name_in asked.1.named)
-asks_nothing words named is demo run check list (inr (inr (inr asked))) = check (sym is ∙ ap name_in asked.1.named)
+asks_nothing words named is demo run check list bare (inl asked) = demo (sym is ∙ asked.named)
+asks_nothing words named is demo run check list bare (inr (inl asked)) = run (sym is ∙ ap name_in asked.1.named)
+asks_nothing words named is demo run check list bare (inr (inr (inl asked))) = list (sym is ∙ ap name_in asked.1.named)
+asks_nothing words named is demo run check list bare (inr (inr (inr (inl asked)))) = check (sym is ∙ ap name_in asked.1.named)
+asks_nothing words named is demo run check list bare (inr (inr (inr (inr asked)))) = bare (sym is ∙ ap name_in asked.1.named)

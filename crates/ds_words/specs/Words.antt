@@ -2,6 +2,7 @@
 use Rattle.std.specs.Prelude.{◌≡◌, ◌⊎◌, ◌<◌, ◌^◌, ℕ, List, [], ◌∷◌, Option, Some, None, true, false, codes, option_map}
 use Rattle.std.specs.Str.Parse.{IsNumeral, digits_value, without_leading_plus}
 use Rattle.clap.specs.Words.{App, Row, Rule, Text, fault_of, first_of, one_of, new_app, new_rule, subcommand_of, with_rule, with_subcommand}
+use Rattle.ds_words.specs.declared.words.BareRequest.{BareRequest}
 use Rattle.ds_words.specs.declared.words.CheckRequest.{CheckRequest}
 use Rattle.ds_words.specs.declared.words.ListRequest.{ListRequest}
 use Rattle.ds_words.specs.declared.words.Request.{Request}
@@ -49,9 +50,22 @@ files_app = with_subcommand (with_subcommand bare_app run_app.top) list_app.top
 abbrev pub check_app : App
 check_app = with_rule (with_rule (new_app (codes "check")) (required_rule (codes "POLICY"))) (new_rule (codes "INPUT"))
 
+-- `--quiet`
+abbrev pub quiet_rule : Rule
+quiet_rule = record (new_rule (codes "quiet")) { long = Some (codes "quiet"); action = Some SetTrue }
+
+-- `--keys INPUT`
+abbrev pub keys_rule : Rule
+keys_rule = record (new_rule (codes "INPUT")) { long = Some (codes "keys") }
+
+-- `bare SOURCE N [--random R] [--quiet] [--keys INPUT]`
+abbrev pub machine_app : App
+machine_app = with_rule (with_rule (with_rule (with_rule (with_rule (new_app (codes "bare"))
+    (required_rule (codes "SOURCE"))) time_rule) random_rule) quiet_rule) keys_rule
+
 -- the whole command line
 abbrev pub dsmon_app : App
-dsmon_app = with_subcommand (with_subcommand files_app check_app.top) (new_app (codes "demo")).top
+dsmon_app = with_subcommand (with_subcommand (with_subcommand files_app check_app.top) machine_app.top) (new_app (codes "demo")).top
 
 -- the command that the words name
 abbrev pub command_named : List Text → Option Text
@@ -106,9 +120,28 @@ pub record AsksForCheck (words : List Text) (request : CheckRequest) : Type 0 wh
   pub named : subcommand_of dsmon_app words ≡ Some (codes "check", rows)
   pub names : NamesCheck rows request
 
--- the words ask for the demonstration, for a run of files, for a listing or for a check
+-- what stands after `bare` names the source, the numbers and an input where one is wanted, and says
+-- whether it is quiet
+pub record NamesBare (rows : List Row) (request : BareRequest) : Type 0 where
+  pub source : first_of (codes "SOURCE") rows ≡ Some request.source.now
+  pub most : IsNumber 32 (one_of (codes "N") rows) request.most
+  pub random : IsNumber 8 (one_of (codes "R") rows) request.random
+  pub quiet : one_of (codes "quiet") rows ≡ Some (codes "true") → request.quiet ≡ true
+  pub told : one_of (codes "quiet") rows ≡ Some (codes "false") → request.quiet ≡ false
+  pub keys : first_of (codes "INPUT") rows ≡ option_map (λ s. s.now) request.keys
+
+-- clap takes the words, and they ask for a run of this source on the bare machine
+pub record AsksForBare (words : List Text) (request : BareRequest) : Type 0 where
+  pub taken : fault_of dsmon_app words ≡ []
+  pub rows : List Row
+  pub named : subcommand_of dsmon_app words ≡ Some (codes "bare", rows)
+  pub names : NamesBare rows request
+
+-- the words ask for the demonstration, for a run of files, for a listing, for a check or for a run
+-- on the bare machine
 abbrev pub AsksForSomething : List Text → Type 0
 AsksForSomething words =
     AsksForDemo words ⊎ (((request : Request) × AsksForRun words request)
     ⊎ (((request : ListRequest) × AsksForList words request)
-    ⊎ ((request : CheckRequest) × AsksForCheck words request)))
+    ⊎ (((request : CheckRequest) × AsksForCheck words request)
+    ⊎ ((request : BareRequest) × AsksForBare words request))))

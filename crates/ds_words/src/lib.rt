@@ -3,4 +3,4 @@
 
 mod words;
 
-pub use words::{CheckRequest, ListRequest, Request, Wish, program_words, wish_of};
+pub use words::{BareRequest, CheckRequest, ListRequest, Request, Wish, program_words, wish_of};

@@ -2,7 +2,7 @@
 ghost use Rattle.std.specs.Prelude.{◌≡◌, ◌↔◌, IfOk, IfSome, None, Some, codes, false, map, string_bytes};
 ghost use Rattle.clap.specs.Words.{FailsBy, app_of, fault_of, found_of, new_app, new_rule, rows_of, rule_of, subcommand_name_of, subcommand_of, subcommand_rows_of, with_rule, with_subcommand};
 ghost use Rattle.clap.specs.declared.builder.command.Command.TheViews.{out-Command as fields_of};
-ghost use Rattle.ds_words.specs.Words.{AsksForCheck, AsksForList, AsksForRun, AsksForSomething, NamesCheck, NamesList, NamesRun, bare_app, check_app, command_named, dsmon_app, files_app, list_app, random_rule, required_rule, run_app, time_rule, words_rule};
+ghost use Rattle.ds_words.specs.Words.{AsksForBare, AsksForCheck, AsksForList, AsksForRun, AsksForSomething, NamesBare, NamesCheck, NamesList, NamesRun, bare_app, check_app, command_named, dsmon_app, files_app, keys_rule, list_app, machine_app, quiet_rule, random_rule, required_rule, run_app, time_rule, words_rule};
 
 use clap::builder::ValueParser;
 use clap::{Arg, ArgAction, ArgMatches, Command, Error};
@@ -41,6 +41,21 @@ pub struct CheckRequest<'a> {
     pub input: Option<&'a str>,
 }
 
+/// A source that the words want run on the bare machine.
+#[derive(Clone, Copy, Debug, PartialEq, Eq)]
+pub struct BareRequest<'a> {
+    /// The name of the source's file.
+    pub source: &'a str,
+    /// The most instructions, from 0 to 1,000,000,000.
+    pub most: u32,
+    /// Where the register Random starts.
+    pub random: u8,
+    /// Whether the instructions are not told, but the end alone.
+    pub quiet: bool,
+    /// The name of the file of an input, whose characters come in.
+    pub keys: Option<&'a str>,
+}
+
 /// What the words ask for.
 #[derive(Clone, Copy, Debug, PartialEq, Eq)]
 pub enum Wish<'a> {
@@ -52,6 +67,8 @@ pub enum Wish<'a> {
     List(ListRequest<'a>),
     /// What a policy and an input mean.
     Check(CheckRequest<'a>),
+    /// A run of a source on the bare machine.
+    Bare(BareRequest<'a>),
 }
 
 /// The words that the program was started with, its own name first.
@@ -64,6 +81,7 @@ const HELP: &str = "Examples:
   dsmon list guest.s
   dsmon check policy.toml input.txt
   dsmon run policy.toml input.txt 1000
+  dsmon bare handler.s 300
 
 The status is 0 where all was done, 1 where the words are wrong or ask for help,
 2 where the policy, a source, the input or R is refused, and 3 where a fault ends
@@ -118,6 +136,18 @@ Examples:
   dsmon list --words guest.bin
     addiu $2,$0,0
     syscall";
+
+/// What stands at the end of the help of `bare`.
+const BARE_HELP: &str =
+    "The source starts at 80400000, in kernel mode, with no monitor: a miss goes to 80000000 or 80000080,
+and a handler at 80000000 is the source's own. Each instruction is a line, with what it changed; at
+the end come the registers, the entries of the buffer and what the lines sent. It ends after N
+instructions, with `break 1`, at 80000080, or at 80000000 where no handler is. The status is 0 then.
+Of INPUT the key lines count, their times in instructions.
+
+Examples:
+  dsmon bare handler.s 300
+  dsmon bare handler.s 1000000 --quiet --random 40 --keys input.txt";
 
 /// What stands at the end of the help of `demo`.
 const DEMO_HELP: &str = "Its policy and its source are held in the program; it writes 66 bytes.
@@ -226,6 +256,57 @@ fn list_command<'a>(alloc: Global) -> Result<Command<'a>, AllocError>
         .arg(words_argument(alloc))
 }
 
+fn count_argument<'a>(alloc: Global) -> Arg<'a>
+    ensures rule { rule_of result ≡ time_rule }
+    ensures local { result.global ≡ false }
+{
+    Arg::new(alloc, "N")
+        .required(true)
+        .value_parser(ValueParser::unsigned(0, 1_000_000_000))
+        .help("The most instructions, from 0 to 1000000000")
+}
+
+fn quiet_argument<'a>(alloc: Global) -> Arg<'a>
+    ensures rule { rule_of result ≡ quiet_rule }
+    ensures local { result.global ≡ false }
+{
+    Arg::new(alloc, "quiet")
+        .long("quiet")
+        .action(ArgAction::SetTrue)
+        .help("The instructions are not told, but the end alone")
+}
+
+fn keys_argument<'a>(alloc: Global) -> Arg<'a>
+    ensures rule { rule_of result ≡ keys_rule }
+    ensures local { result.global ≡ false }
+{
+    Arg::new(alloc, "INPUT")
+        .long("keys")
+        .help("The file of an input, whose characters come in")
+}
+
+fn machine_described<'a>(alloc: Global) -> Result<Command<'a>, AllocError>
+    ensures app { IfOk result (λ c. app_of c ≡ with_rule (with_rule (new_app (codes "bare"))
+        (required_rule (codes "SOURCE"))) time_rule) }
+    ensures local { IfOk result (λ c. (fields_of c).has_globals ≡ false) }
+{
+    Command::new(alloc, "bare")
+        .about("Runs a source on the bare machine, in kernel mode, and tells of each instruction")
+        .after_help(BARE_HELP)
+        .arg(file_argument(alloc, "SOURCE", "The file of the source"))?
+        .arg(count_argument(alloc))
+}
+
+fn machine_command<'a>(alloc: Global) -> Result<Command<'a>, AllocError>
+    ensures app { IfOk result (λ c. app_of c ≡ machine_app) }
+    ensures local { IfOk result (λ c. (fields_of c).has_globals ≡ false) }
+{
+    machine_described(alloc)?
+        .arg(random_argument(alloc))?
+        .arg(quiet_argument(alloc))?
+        .arg(keys_argument(alloc))
+}
+
 fn bare_command<'a>(alloc: Global) -> Command<'a>
     ensures { app_of result ≡ bare_app }
 {
@@ -257,6 +338,14 @@ fn with_check<'a>(alloc: Global) -> Result<Command<'a>, AllocError>
     files_command(alloc)?.subcommand(check)
 }
 
+fn with_machine<'a>(alloc: Global) -> Result<Command<'a>, AllocError>
+    ensures { IfOk result (λ c. app_of c ≡ with_subcommand
+        (with_subcommand files_app check_app.top) machine_app.top) }
+{
+    let machine = machine_command(alloc)?;
+    with_check(alloc)?.subcommand(machine)
+}
+
 fn demo_command<'a>(alloc: Global) -> Command<'a>
     ensures app { app_of result ≡ new_app (codes "demo") }
     ensures local { (fields_of result).has_globals ≡ false }
@@ -269,7 +358,7 @@ fn demo_command<'a>(alloc: Global) -> Command<'a>
 fn command<'a>(alloc: Global) -> Result<Command<'a>, AllocError>
     ensures { IfOk result (λ c. app_of c ≡ dsmon_app) }
 {
-    with_check(alloc)?.subcommand(demo_command(alloc))
+    with_machine(alloc)?.subcommand(demo_command(alloc))
 }
 
 // What clap reads in the words.
@@ -316,6 +405,20 @@ fn check_request_of<'a>(found: &ArgMatches<'a>) -> Option<CheckRequest<'a>>
     })
 }
 
+/// What the words after `bare` ask for.
+fn bare_request_of<'a>(found: &ArgMatches<'a>) -> Option<BareRequest<'a>>
+    ensures some { IfSome result (λ request. NamesBare (rows_of (found_of found.now)) request) }
+    ensures none { result ≡ None → (request : BareRequest) → ¬ NamesBare (rows_of (found_of found.now)) request }
+{
+    Some(BareRequest {
+        source: found.get_str("SOURCE")?,
+        most: found.get_one("N")?,
+        random: found.get_one("R")?,
+        quiet: found.get_flag("quiet"),
+        keys: found.get_str("INPUT"),
+    })
+}
+
 /// What `words` ask for, the program's own name first. An error is clap's: a mistake in the words,
 /// a call for help or the version, or memory that ran out. `None` stands for words that clap accepts
 /// although they ask for nothing. It is not reached, since clap rejects such words; that it does is
@@ -331,6 +434,9 @@ pub fn wish_of<'a>(alloc: Global, words: &'a [String]) -> Result<Option<Wish<'a>
     ensures check { IfOk result (λ wish. (request : CheckRequest)
         → wish ≡ Some (Wish.Check request)
         → AsksForCheck (map string_bytes words.entry.now) request) }
+    ensures bare { IfOk result (λ wish. (request : BareRequest)
+        → wish ≡ Some (Wish.Bare request)
+        → AsksForBare (map string_bytes words.entry.now) request) }
     ensures none { IfOk result (λ wish. wish ≡ None
         → ¬ AsksForSomething (map string_bytes words.entry.now)) }
 {
@@ -340,6 +446,7 @@ pub fn wish_of<'a>(alloc: Global, words: &'a [String]) -> Result<Option<Wish<'a>
         Some(("run", found)) => Ok(request_of(found).map(Wish::Run)),
         Some(("check", found)) => Ok(check_request_of(found).map(Wish::Check)),
         Some(("list", found)) => Ok(list_request_of(found).map(Wish::List)),
+        Some(("bare", found)) => Ok(bare_request_of(found).map(Wish::Bare)),
         _ => Ok(None),
     }
 }

@@ -1,7 +1,9 @@
 use Rattle.std.proofs.Common.{refl, subst, rules, inl, map, string_bytes}
 use Rattle.ds_drive.specs.declared.list.Listing.{Listing}
 use Rattle.ds_drive.specs.Listed.{Lists}
-use Rattle.ds_drive.proofs.Cuts.{demo_cut, run_cut}
+use Rattle.ds_drive.specs.BareRuns.{RunsOrIsFaulty}
+use Rattle.ds_drive.proofs.BareLemmas.{bare_cut, bare_faulty}
+use Rattle.ds_drive.proofs.Cuts.{demo_cut, list_cut, run_cut}
 use Rattle.ds_drive.proofs.Stops.{list_faulty}
 use Rattle.ds_words.proofs.WordLemmas.{alone, fails_for_memory, only_memory_fails}
 use Rattle.ds_drive.proofs.program.drive.Goals as goal
@@ -13,6 +15,14 @@ returns-in-Err-run_demo-clause-cut g c three =
 pub returns-in-Err-run_request-clause-cut : goal.returns-in-Err-run_request-clause-cut
 returns-in-Err-run_request-clause-cut g c three =
     run_cut _ (g.F.Files.holds c.args.files.now) (g.F.Files.lacks c.args.files.now) _ c.in-Err-run_request.failure (g.W.Write.contents c.args.out.now) (g.W.Write.contents c.run_request.new.out) (search rules) c.in-Err-run_request.ensures.err
+
+pub returns-in-Err-list_file-clause-cut : goal.returns-in-Err-list_file-clause-cut
+returns-in-Err-list_file-clause-cut g c three =
+    list_cut _ (g.F.Files.holds c.args.files.now) (g.F.Files.lacks c.args.files.now) _ c.in-Err-list_file.unlisted (g.W.Write.contents c.args.out.now) (g.W.Write.contents c.list_file.new.out) (search rules) c.in-Err-list_file.ensures.err
+
+pub returns-in-Err-bare_file-clause-cut : goal.returns-in-Err-bare_file-clause-cut
+returns-in-Err-bare_file-clause-cut g c three =
+    bare_cut _ (g.F.Files.holds c.args.files.now) (g.F.Files.lacks c.args.files.now) _ c.in-Err-bare_file.failure (g.W.Write.contents c.args.out.now) (g.W.Write.contents c.bare_file.new.out) (search rules) c.in-Err-bare_file.ensures.err
 
 pub returns-in-Err-2-clause-alone : goal.returns-in-Err-2-clause-alone
 returns-in-Err-2-clause-alone g c program same =
@@ -35,3 +45,11 @@ returns-in-Ok-Faults-clause-stopped g c two =
     let new = g.W.Write.contents c.list_file.new.out in
     let lists = subst (λ (came : Listing). Lists came holds c.in-Ok-Some-List.request old new) c.in-Ok-Faults.field-0-is c.in-Ok-Faults.ensures.ok in
     list_faulty (map string_bytes c.args.words.now) holds (g.F.Files.lacks c.args.files.now) 2 old new (g.E.Write.contents c.args.err.now) (g.E.Write.contents c.tell_faults.new.err) c.in-Ok-Some-List.request c.in-Ok-Faults.faults.items refl (search rules) lists.0 lists.1 (search rules)
+
+pub returns-in-Ok-Faults-bare_file-clause-stopped : goal.returns-in-Ok-Faults-bare_file-clause-stopped
+returns-in-Ok-Faults-bare_file-clause-stopped g c two =
+    let holds = g.F.Files.holds c.args.files.now in
+    let old = g.W.Write.contents c.args.out.now in
+    let new = g.W.Write.contents c.bare_file.new.out in
+    let runs = subst (λ (came : Listing). RunsOrIsFaulty came holds c.in-Ok-Some-Bare.request old new) c.in-Ok-Faults-bare_file.field-0-is c.in-Ok-Faults-bare_file.ensures.ok in
+    bare_faulty (map string_bytes c.args.words.now) holds (g.F.Files.lacks c.args.files.now) 2 old new (g.E.Write.contents c.args.err.now) (g.E.Write.contents c.tell_faults-in-Ok-Faults-bare_file.new.err) c.in-Ok-Some-Bare.request c.in-Ok-Faults-bare_file.faults.items refl (search rules) runs.0 runs.1 (search rules)

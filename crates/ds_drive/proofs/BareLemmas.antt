@@ -1,0 +1,93 @@
+-- Why there is no run on the bare machine, and what it leaves.
+use Rattle.std.proofs.Common.{◌≡◌, inl, inr, ℕ, List, [], refl, sym, subst, Bor}
+use Rattle.std.specs.Prelude.{Option, Some, None, Ok, false, codes, flat_map}
+use Rattle.std.specs.Io.KnownBytes.{Keeps}
+use Rattle.clap.specs.Words.{Text}
+use Rattle.ds_asm.specs.declared.fault.SourceFault.{SourceFault}
+use Rattle.ds_asm.specs.Assembly.{assembled}
+use Rattle.ds_policy.specs.InputText.{input_of}
+use Rattle.ds_policy.specs.declared.command.Character.{Character}
+use Rattle.ds_policy.specs.declared.events.fault.EventsFault.{EventsFault}
+use Rattle.ds_policy.specs.declared.events.fault.EventsFault.TheVariants as events
+use Rattle.ds_log.specs.Sent.{AppendsPart}
+use Rattle.ds_bare.specs.Faults.{is_cut, may_start}
+use Rattle.ds_bare.specs.Keys.{IsFaultOf, keys_in}
+use Rattle.ds_bare.specs.Runs.{bare_text}
+use Rattle.ds_bare.specs.declared.fault.BareFault.{BareFault}
+use Rattle.ds_bare.specs.declared.fault.BareFault.TheVariants as bare
+use Rattle.ds_station.specs.Faults.{of_events}
+use Rattle.ds_station.specs.declared.fault.Fault.TheVariants as fault
+use Rattle.ds_station.proofs.Headlines.{keeps_same}
+use Rattle.ds_drive.specs.declared.failure.Failure.{Failure}
+use Rattle.ds_drive.specs.declared.failure.Failure.TheVariants as failure
+use Rattle.ds_drive.specs.BareRuns.{BareFailsBy, HasBareFaults, of_bare}
+use Rattle.ds_drive.specs.Checked.{IsInput, IsUnreadInput}
+use Rattle.ds_drive.specs.Done.{IsCutShort, IsStopped, stream}
+use Rattle.ds_drive.specs.Failures.{IsUnread, failure_number}
+use Rattle.ds_drive.specs.Statuses.{fault_status}
+use Rattle.ds_drive.specs.Told.{failure_line, told_line}
+use Rattle.ds_words.specs.declared.words.BareRequest.{BareRequest}
+use Rattle.ds_words.specs.Words.{AsksForBare}
+
+module _ (holds : List ℕ → List ℕ → Type 0) (lacks : List ℕ → Type 0) (request : BareRequest) where
+  -- the source's file was not read
+  pub source_unread : (f : Failure) (known : Option (List ℕ)) → IsUnread lacks request.source.now f → BareFailsBy f holds lacks request known known
+  source_unread (failure.UnreadableFile name) known unread = (inl unread.0, subst lacks (sym unread.0) unread.1, keeps_same known)
+  source_unread (failure.Fault fault.Memory) known unread = inl (keeps_same known)
+  source_unread f known none = absurd none
+
+  input_unread_by : (later : List ℕ → Type 0) (input : Option (Bor (List ℕ))) (f : Failure) (known : Option (List ℕ)) → ((file : List ℕ) → later file → lacks file)
+      → request.keys ≡ input → IsUnreadInput later input f → BareFailsBy f holds lacks request known known
+  input_unread_by later None f known lacked is none = absurd none
+  input_unread_by later (Some name) (failure.UnreadableFile told) known lacked is unread =
+      (inr (name, is, unread.0), lacked told.now (subst later (sym unread.0) unread.1), keeps_same known)
+  input_unread_by later (Some name) (failure.Fault fault.Memory) known lacked is unread = inl (keeps_same known)
+  input_unread_by later (Some name) f known lacked is none = absurd none
+
+  -- nor the input's
+  pub input_unread : (later : List ℕ → Type 0) (f : Failure) (known : Option (List ℕ)) → ((file : List ℕ) → later file → lacks file)
+      → IsUnreadInput later request.keys f → BareFailsBy f holds lacks request known known
+  input_unread later f known lacked unread = input_unread_by later request.keys f known lacked refl unread
+
+  -- want of memory before the run
+  pub memory_keeps : (known : Option (List ℕ)) → BareFailsBy (failure.Fault fault.Memory) holds lacks request known known
+  memory_keeps known = inl (keeps_same known)
+
+  -- a line of the input is wrong
+  pub wrong_line : (e : EventsFault) (input : List ℕ) (known : Option (List ℕ)) → IsInput holds request.keys input → IsFaultOf (input_of [] input) e
+      → BareFailsBy (failure.Fault (of_events e)) holds lacks request known known
+  wrong_line (events.InputFault line) input known held wrong = (record { input = input; held = held; wrong = wrong }, keeps_same known)
+  wrong_line events.Memory input known held wrong = inl (keeps_same known)
+
+  -- the run was refused, or cut short
+  pub run_fails : (e : BareFault) (source input image : List ℕ) (keys : List Character) (old new : Option (List ℕ))
+      → holds request.source.now source → IsInput holds request.keys input → assembled source ≡ Ok image → keys_in (input_of [] input) ≡ Ok keys
+      → is_cut e ≡ may_start request.random → (is_cut e ≡ false → Keeps old new)
+      → AppendsPart old new (bare_text request.quiet image request.random request.most keys)
+      → BareFailsBy (failure.Fault (of_bare e)) holds lacks request old new
+  run_fails bare.BadRandom source input image keys old new source_held input_held assembles says starts kept part = (sym starts, kept refl)
+  run_fails bare.WriteFault source input image keys old new source_held input_held assembles says starts kept part =
+      record { source = source; input = input; image = image; keys = keys; source_held = source_held; input_held = input_held; assembles = assembles; says = says; starts = sym starts; so = part }
+  run_fails bare.Memory source input image keys old new source_held input_held assembles says starts kept part =
+      inr (record { source = source; input = input; image = image; keys = keys; source_held = source_held; input_held = input_held; assembles = assembles; says = says; starts = sym starts; so = part })
+
+-- whatever the failure, nothing is written, or a front of the text of the run
+pub bare_cut : (words : List Text) (holds : List ℕ → List ℕ → Type 0) (lacks : List ℕ → Type 0) (request : BareRequest) (f : Failure) (old new : Option (List ℕ)) → AsksForBare words request
+    → BareFailsBy f holds lacks request old new → IsCutShort words holds old new
+bare_cut words holds lacks request (failure.Fault fault.WriteFault) old new asks cut = inr (inr (inr (inr (inr (request, asks, cut)))))
+bare_cut words holds lacks request (failure.Fault fault.Memory) old new asks (inl kept) = inl kept
+bare_cut words holds lacks request (failure.Fault fault.Memory) old new asks (inr cut) = inr (inr (inr (inr (inr (request, asks, cut)))))
+bare_cut words holds lacks request (failure.Fault fault.BadRandom) old new asks refused = inl refused.1
+bare_cut words holds lacks request (failure.Fault (fault.InputFault line)) old new asks refused = inl refused.1
+bare_cut words holds lacks request (failure.UnreadableFile name) old new asks unread = inl unread.2
+bare_cut words holds lacks request f old new asks none = absurd none
+
+-- What the program says of it.
+module _ (words : List Text) (holds : List ℕ → List ℕ → Type 0) (lacks : List ℕ → Type 0) (status : ℕ) (old new err_old err_new : Option (List ℕ)) where
+  pub bare_stopped : (request : BareRequest) (f : Failure) → fault_status (failure_number f) ≡ status → AsksForBare words request → BareFailsBy f holds lacks request old new
+      → AppendsPart err_old err_new (failure_line f) → IsStopped status words holds lacks (stream old new) (stream err_old err_new)
+  bare_stopped request f has asks fails told = inr (inr (inr (inr (request, asks, inl (record { failure = f; has = has; so = fails; told = told })))))
+
+  pub bare_faulty : (request : BareRequest) (faults : List SourceFault) → status ≡ 2 → AsksForBare words request → HasBareFaults holds request faults → Keeps old new
+      → AppendsPart err_old err_new (flat_map (told_line (codes "dsmon: ") request.source.now None) faults) → IsStopped status words holds lacks (stream old new) (stream err_old err_new)
+  bare_faulty request faults has asks are kept told = inr (inr (inr (inr (request, asks, inr (record { has = has; faults = faults; are = are; kept = kept; told = told })))))

@@ -1,0 +1,59 @@
+//! A source run on the bare machine.
+ghost use Rattle.std.specs.Prelude.{◌≡◌, ℕ, List, IfErr, IfOk};
+ghost use Rattle.ds_drive.specs.BareRuns.{RunsOrIsFaulty, BareFailsBy, of_bare};
+
+use crate::check::input_of;
+use crate::failure::Failure;
+use crate::files::Files;
+use crate::list::Listing;
+use crate::run::named_file;
+use ds_asm::{Assembled, assemble_or_faults};
+use ds_bare::{BareFault, keys_of, run_bare};
+use ds_station::Fault;
+use ds_words::BareRequest;
+use std::alloc::Global;
+use std::io::Write;
+
+/// What a refusal of a bare run is to the program.
+fn fault_of(fault: BareFault) -> Fault
+    ensures { result ≡ of_bare fault }
+{
+    match fault {
+        BareFault::BadRandom => Fault::BadRandom,
+        BareFault::WriteFault => Fault::WriteFault,
+        BareFault::Memory => Fault::Memory,
+    }
+}
+
+/// Reads the source, and the input where one is named, and runs the source's image on the bare
+/// machine, or answers the faults of the source. Nothing is written before both are read and good.
+#[tactic(auto, using(crate::proofs::BareLemmas::source_unread, crate::proofs::BareLemmas::input_unread, crate::proofs::BareLemmas::memory_keeps))]
+pub fn bare_file<'a, F: Files, W: Write>(
+    alloc: Global,
+    request: &BareRequest<'a>,
+    files: &mut F,
+    out: &mut W,
+) -> Result<Listing, Failure<'a>>
+    ensures ok { IfOk result (λ came. RunsOrIsFaulty came (F.holds files.old) request.now
+        (W.contents out.old) (W.contents out.new)) }
+    ensures err { IfErr result (λ f. BareFailsBy f (F.holds files.old) (F.lacks files.old)
+        request.now (W.contents out.old) (W.contents out.new)) }
+    ensures kept { (file bytes : List ℕ) → F.holds files.new file bytes
+        → F.holds files.old file bytes }
+    ensures lacked { (file : List ℕ) → F.lacks files.new file → F.lacks files.old file }
+{
+    let source = named_file(alloc, files, request.source)?;
+    let input = input_of(alloc, files, request.keys)?;
+    let image = match assemble_or_faults(alloc, &source)? {
+        Assembled::Image(image) => image,
+        Assembled::Faults(faults) => return Ok(Listing::Faults(faults)),
+    };
+    let keys = match keys_of(alloc, &input) {
+        Ok(keys) => keys,
+        Err(wrong) => return Err(Failure::Fault(Fault::from(wrong))),
+    };
+    match run_bare(alloc, &image, request.most, request.random, &keys, request.quiet, out) {
+        Ok(_) => Ok(Listing::Written),
+        Err(refused) => Err(Failure::Fault(fault_of(refused))),
+    }
+}
