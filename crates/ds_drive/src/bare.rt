@@ -52,7 +52,15 @@ pub fn bare_file<'a, F: Files, W: Write>(
         Ok(keys) => keys,
         Err(wrong) => return Err(Failure::Fault(Fault::from(wrong))),
     };
-    match run_bare(alloc, &image, request.most, request.random, &keys, request.quiet, out) {
+    match run_bare(
+        alloc,
+        &image,
+        request.most,
+        request.random,
+        &keys,
+        request.quiet,
+        out,
+    ) {
         Ok(_) => Ok(Listing::Written),
         Err(refused) => Err(Failure::Fault(fault_of(refused))),
     }
