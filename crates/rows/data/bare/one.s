@@ -1,0 +1,2 @@
+        addiu $8,$0,1
+        break 1
