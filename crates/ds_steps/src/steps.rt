@@ -22,7 +22,7 @@ pub fn stations_write<F: Files + Drop>(
     wanted: &[u8],
 ) -> bool {
     match wish_of(alloc, words) {
-        Ok(Some(Wish::Demo | Wish::List(_) | Wish::Check(_))) => true,
+        Ok(Some(Wish::Demo | Wish::List(_) | Wish::Check(_) | Wish::Bare(_))) => true,
         Ok(Some(Wish::Run(request))) => request_writes(alloc, &request, files, wanted)
             == Some(true),
         _ => false,
