@@ -59,8 +59,8 @@ mode_of_user true c k p m a = a.mode
 mode_of_user false c k p m a = a.mode
 
 -- What is kept doesn't show the process that runs.
-pub kept_behind : (p : ℕ) (rest : List ℕ) (k : Kept) (memory : List ℕ) (m : State) (q : Process) → KeptIs (p ∷ rest) k memory m → KeptIs (p ∷ rest) k memory (with_process m p q)
-kept_behind p rest k memory m q a = record {
+pub kept_after_put : (p : ℕ) (rest : List ℕ) (k : Kept) (memory : List ℕ) (m : State) (q : Process) → KeptIs (p ∷ rest) k memory m → KeptIs (p ∷ rest) k memory (with_process m p q)
+kept_after_put p rest k memory m q a = record {
   ready = a.ready;
   state = ap bare (with_process_again m p q no_process) ∙ a.state;
   pages = a.pages;
@@ -75,14 +75,14 @@ module _ (m : State) (p : ℕ) (c : CoreState) (base : Registers) (seat : HasSea
   abbrev q : Process
   q = touched_process (process_of m p)
 
-  abbrev behind : State
-  behind = with_process m p q
+  abbrev after_touch : State
+  after_touch = with_process m p q
 
-  put : process_of behind p ≡ q
+  put : process_of after_touch p ≡ q
   put = process_put m p q seat
 
-  are_touched : (touched_registers base (process_of m p).pc ≡ (process_of behind p).registers)
-      ⊎ ((m.owed ≡ None) × ((process_of behind p).registers.late ≡ None) × IsLinked (touched_registers base (process_of m p).pc) p behind)
+  are_touched : (touched_registers base (process_of m p).pc ≡ (process_of after_touch p).registers)
+      ⊎ ((m.owed ≡ None) × ((process_of after_touch p).registers.late ≡ None) × IsLinked (touched_registers base (process_of m p).pc) p after_touch)
   are_touched = elim units [
     | inl same ↦ inl (ap (λ (r : Registers). touched_registers r (process_of m p).pc) same ∙ ap (λ (x : Process). x.registers) (sym put))
     | inr link ↦ elim (touched_link m p base link.target seat link.branched) [
@@ -91,13 +91,13 @@ module _ (m : State) (p : ℕ) (c : CoreState) (base : Registers) (seat : HasSea
     ]
   ]
 
-  starts_touched : AtStart c p behind
+  starts_touched : AtStart c p after_touch
   starts_touched = record {
     mode = mode;
     first = first;
     pc = at ∙ ap (λ (x : Process). x.pc) (sym put);
     next = next ∙ ap (λ (x : Process). word (x.pc + 4)) (sym put);
-    registers = subst (λ (r : Registers). (r ≡ (process_of behind p).registers) ⊎ ((m.owed ≡ None) × ((process_of behind p).registers.late ≡ None) × IsLinked r p behind)) (sym registers) are_touched;
+    registers = subst (λ (r : Registers). (r ≡ (process_of after_touch p).registers) ⊎ ((m.owed ≡ None) × ((process_of after_touch p).registers.late ≡ None) × IsLinked r p after_touch)) (sym registers) are_touched;
   }
 
 -- A station that stands for m, whose first ready process is p.
@@ -130,9 +130,9 @@ module _ (h : Held) (m : State) (p : ℕ) (rest : List ℕ) (k : Stands h m) (re
   }
 
   -- for the state with the process touched
-  pub behind_touch : (c : CoreState) → BufferHolds c.entries (space_of h.kept) h.kept.grants h.kept.tables → HasBase c.system → IsSet c.system (space_of h.kept p)
+  pub stands_after : (c : CoreState) → BufferHolds c.entries (space_of h.kept) h.kept.grants h.kept.tables → HasBase c.system → IsSet c.system (space_of h.kept p)
       → OnProcessor (is_user c.system) c.slot c h.kept p (with_process m p (touched_process (process_of m p))) → Stands (record h { core = c }) (with_process m p (touched_process (process_of m p)))
-  behind_touch c buffer base set on =
+  stands_after c buffer base set on =
       let q : Process = touched_process (process_of m p) in
       let s : State = with_process m p q in
       let put : process_of s p ≡ q = process_put m p q runs.seat in
@@ -142,7 +142,7 @@ module _ (h : Held) (m : State) (p : ℕ) (rest : List ℕ) (k : Stands h m) (re
         base = base;
         grants = k.grants;
         size = k.size;
-        kept = subst (λ (rs : List ℕ). KeptIs rs h.kept h.bus.memory s) (sym ready) (kept_behind p rest h.kept h.bus.memory m q kept);
+        kept = subst (λ (rs : List ℕ). KeptIs rs h.kept h.bus.memory s) (sym ready) (kept_after_put p rest h.kept h.bus.memory m q kept);
         running = subst (λ (rs : List ℕ). RunningBy rs c h.kept s) (sym ready) (record {
           seat = seat_kept m p q runs.seat;
           standing = ap (λ (x : Process). x.standing) put ∙ runs.standing;
@@ -167,5 +167,5 @@ module _ (h : Held) (m : State) (p : ℕ) (rest : List ℕ) (k : Stands h m) (re
       → c.system.status ≡ user_status → c.slot ≡ false → c.pc ≡ (process_of m p).pc → c.next ≡ word ((process_of m p).pc + 4) → c.registers ≡ lent base 0 (process_of m p).pc None
       → Stands (record h { core = c }) (touched true m)
   touched_state c base owed units buffer tables set mode first at next registers =
-      as_touched (record h { core = c }) (behind_touch c buffer tables set
+      as_touched (record h { core = c }) (stands_after c buffer tables set
       (at_start c h.kept p (with_process m p (touched_process (process_of m p))) (starts_touched m p c base runs.seat owed units mode first at next registers)))

@@ -12,23 +12,23 @@ use Rattle.ds_refinement.proofs.Registers.{HasSeat, process_put}
 use Rattle.ds_refinement.proofs.Links.{touched_link}
 use Rattle.ds_handler.specs.Stages.{Phase, next_of, Lends, AreUnits, InHandler, InKernel, OnProcessor, Stands, is_general}
 use Rattle.ds_handler.proofs.Lent.{lent_again, touched_twice}
-use Rattle.ds_handler.proofs.Standing.{in_handler, runs, behind_touch, as_touched}
+use Rattle.ds_handler.proofs.Standing.{in_handler, runs, stands_after, as_touched}
 
 -- the handler's stage, for the state with the process touched
 module _ (phase : Phase) (c : CoreState) (k : Kept) (p : ℕ) (m : State) (seat : HasSeat m p) (z : InHandler phase c k p m) where
   abbrev q : Process
   q = touched_process (process_of m p)
 
-  abbrev behind : State
-  behind = with_process m p q
+  abbrev after_touch : State
+  after_touch = with_process m p q
 
-  put : process_of behind p ≡ q
+  put : process_of after_touch p ≡ q
   put = process_put m p q seat
 
-  same_pc : (process_of m p).pc ≡ (process_of behind p).pc
+  same_pc : (process_of m p).pc ≡ (process_of after_touch p).pc
   same_pc = ap (λ (x : Process). x.pc) (sym put)
 
-  units : AreUnits (touched_registers z.base (process_of m p).pc) p behind
+  units : AreUnits (touched_registers z.base (process_of m p).pc) p after_touch
   units = elim z.units [
     | inl same ↦ inl (ap (λ (r : Registers). touched_registers r (process_of m p).pc) same ∙ ap (λ (x : Process). settled x.registers) (sym put))
     | inr link ↦ elim (touched_link m p z.base link.target seat link.branched) [
@@ -37,10 +37,10 @@ module _ (phase : Phase) (c : CoreState) (k : Kept) (p : ℕ) (m : State) (seat 
     ]
   ]
 
-  pub is_touched : process_of behind p ≡ touched_process (process_of behind p)
+  pub is_touched : process_of after_touch p ≡ touched_process (process_of after_touch p)
   is_touched = put ∙ (touched_twice (process_of m p) ∙ ap touched_process (sym put))
 
-  pub touched_handler : InHandler phase c k p behind
+  pub touched_handler : InHandler phase c k p after_touch
   touched_handler = record {
     whole = z.whole;
     owed = z.owed;
@@ -63,7 +63,7 @@ module _ (phase : Phase) (c : CoreState) (k : Kept) (p : ℕ) (m : State) (seat 
     lends = subst (λ (n : ℕ). Lends phase
         (record { context = c.system.context; unit = n; entry = granted_word k.grants p z.vpn })
         (record { first = z.first; second = z.second; late = z.late; entry_lo = c.system.entry_lo })) same_pc z.lends;
-    touch = λ behind_write. is_touched;
+    touch = λ written. is_touched;
   }
 
 module _ (h : Held) (m : State) (p : ℕ) (rest : List ℕ) (k : Stands h m) (ready : h.kept.state.ready ≡ p ∷ rest) (user : is_user h.core.system ≡ false) (general : is_general h.core ≡ false) where
@@ -74,11 +74,11 @@ module _ (h : Held) (m : State) (p : ℕ) (rest : List ℕ) (k : Stands h m) (re
       (subst (λ (x : Bool). OnProcessor x h.core.slot h.core h.kept p m) user (runs h m p rest k ready).on)
 
   -- the station stands for the state with the process touched
-  pub stands_behind : Stands h (with_process m p (touched_process (process_of m p)))
-  stands_behind =
+  pub stands_after_touch : Stands h (with_process m p (touched_process (process_of m p)))
+  stands_after_touch =
       let r = runs h m p rest k ready in
-      behind_touch h m p rest k ready h.core k.represented.buffer k.base r.set
+      stands_after h m p rest k ready h.core k.represented.buffer k.base r.set
       (in_handler here.0 h.core h.kept p (with_process m p (touched_process (process_of m p))) (touched_handler here.0 h.core h.kept p m r.seat here.1))
 
   pub unseen : Stands h (touched true m)
-  unseen = as_touched h m p rest k ready h stands_behind
+  unseen = as_touched h m p rest k ready h stands_after_touch

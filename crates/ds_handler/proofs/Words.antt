@@ -36,7 +36,7 @@ use Rattle.ds_handler.proofs.Fields.{space_in, hi_low, hi_small, context_high, c
 use Rattle.ds_handler.proofs.Loads.{table_hit, table_miss_is, table_below}
 use Rattle.ds_handler.proofs.Lent.{in_0, base_size, base_nought, ticked_low, ticked_high}
 use Rattle.ds_handler.proofs.Standing.{in_handler, in_double, runs, few, same_state, touched_state, touched_already, as_touched}
-use Rattle.ds_handler.proofs.Touches.{here, is_touched, touched_handler, stands_behind}
+use Rattle.ds_handler.proofs.Touches.{here, is_touched, touched_handler, stands_after_touch}
 
 -- The processor by its seven values.
 
@@ -448,11 +448,11 @@ module _ (h : Held) (m : State) (p : ℕ) (rest : List ℕ) (k : Stands h m) (re
   -- the seventh word, which nobody sees whether it finds the process touched
   touching : InHandler AtWrite h.core h.kept p m → Stands (with_step h (step h.core h.bus)) (touched (touches h.core) m)
   touching z =
-      let behind : State = with_process m p (touched_process (process_of m p)) in
+      let after_touch : State = with_process m p (touched_process (process_of m p)) in
       let seat = (runs h m p rest k ready).seat in
       subst (λ (b : Bool). Stands (with_step h (step h.core h.bus)) (touched b m)) (sym (ap (λ (n : ℕ). n == address_of 6) z.pc))
       (as_touched h m p rest k ready (with_step h (step h.core h.bus))
-      (at_write h behind p rest (stands_behind h m p rest k ready user general) ready (touched_handler AtWrite h.core h.kept p m seat z) (is_touched AtWrite h.core h.kept p m seat z)))
+      (at_write h after_touch p rest (stands_after_touch h m p rest k ready user general) ready (touched_handler AtWrite h.core h.kept p m seat z) (is_touched AtWrite h.core h.kept p m seat z)))
 
   by_phase : (phase : Phase) → InHandler phase h.core h.kept p m → Stands (with_step h (step h.core h.bus)) (touched (touches h.core) m)
   by_phase AtContext z = at_context h m p rest k ready z
