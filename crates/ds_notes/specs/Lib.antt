@@ -1,0 +1,5 @@
+pub mod CodeNotes
+pub mod CodeRows
+pub mod PolicyNotes
+pub mod PolicyRows
+pub mod Texts

@@ -1,0 +1,9 @@
+pub mod InputWords
+pub mod InputSteps
+pub mod InputLaws
+pub mod Pairs
+pub mod Lists
+pub mod PolicyLaws
+pub mod Exactness
+pub mod WordsExact
+pub mod RulesExact

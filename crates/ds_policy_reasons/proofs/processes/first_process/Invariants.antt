@@ -1,0 +1,13 @@
+use Rattle.std.proofs.Common.{◌≡◌, ◌+◌, ◌≤◌, length, map}
+use Rattle.toml.specs.View.{view}
+use Rattle.ds_policy_reasons.specs.Processes.{process_from}
+use Rattle.ds_policy_reasons.proofs.processes.first_process.Given as goal
+
+abbrev pub invariant-loop-left : goal.invariant-loop-left
+invariant-loop-left l = record {
+  same : process_from l.number (map view l.left) ≡ process_from 1 (map view l.values);
+  within : l.number + length l.left ≤ 1 + length l.values;
+}
+
+abbrev pub decreases-loop-left : goal.decreases-loop-left
+decreases-loop-left l = length l.left

@@ -1,0 +1,11 @@
+pub mod Layout
+pub mod Words
+pub mod Inputs
+pub mod InputRows
+pub mod Document
+pub mod Processes
+pub mod PolicyPages
+pub mod Rules
+pub mod Policies
+pub mod Texts
+pub mod PolicyRows

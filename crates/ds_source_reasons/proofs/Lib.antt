@@ -1,0 +1,5 @@
+pub mod WrittenForms
+pub mod Exact
+pub mod ExactRanges
+pub mod Passed
+pub mod Reach

@@ -1,0 +1,12 @@
+pub mod Operands
+pub mod Forms
+pub mod Reasons
+pub mod Plain
+pub mod Ranges
+pub mod PlainRanges
+pub mod Texts
+pub mod Told
+pub mod OnLines
+pub mod SyntaxRows
+pub mod RangeRows
+pub mod TextRows

@@ -1,0 +1,124 @@
+//! The reasons of the faults of a source.
+ghost use Rattle.std.specs.Prelude.{◌≡◌, ◌++◌, ◌-◌, OnOk, option_map};
+ghost use Rattle.ds_asm.specs.Assembling.{source_fault_line};
+ghost use Rattle.ds_source_reasons.specs.PlainRanges.{plain_range};
+ghost use Rattle.ds_source_reasons.specs.Ranges.{range_reason_of, target_reason_of};
+ghost use Rattle.ds_source_reasons.specs.Reasons.{or_next};
+ghost use Rattle.ds_source_reasons.specs.Told.{after_line, after_lines, fault_text, line_after, place_after, plain_fault, reason_at, told_reason};
+
+use crate::line::syntax_reason;
+use crate::range::range_reason;
+use crate::reason::{RangeReason, SyntaxReason};
+use crate::target::target_reason;
+use crate::told::{push_range_reason, push_syntax_reason};
+use ds_asm::{SourceFault, first_line, source_line};
+use std::alloc::AllocError;
+
+/// The reason of a fault.
+#[derive(Clone, Copy, Debug, PartialEq, Eq)]
+pub enum FaultReason<'a> {
+    /// Why the line can't be read.
+    Syntax(SyntaxReason<'a>),
+    /// Why its statement is out of range.
+    Range(RangeReason<'a>),
+}
+
+/// The lines of a source, of which some were passed.
+#[derive(Clone, Copy, Debug, PartialEq, Eq)]
+pub struct FaultyLines<'a> {
+    rest: &'a [u8],
+    passed: u64,
+}
+
+impl<'a> FaultyLines<'a> {
+    /// All lines of a source.
+    pub fn of(text: &'a [u8]) -> FaultyLines<'a>
+        ensures rest { result.rest.now ≡ text.now }
+        ensures passed { result.passed ≡ 0 }
+    {
+        FaultyLines {
+            rest: text,
+            passed: 0,
+        }
+    }
+
+    /// The reason of a fault in a line that was not passed, and passes that line: faults are asked
+    /// for in the order of their lines. Bytes of the image are counted from the line passed last, as
+    /// the assembler does after a fault. `UnknownLabel`, `DoubleLabel` and `TooLong` have no reason.
+    pub fn reason(&mut self, fault: SourceFault) -> Option<FaultReason<'a>>
+        ensures reason { option_map plain_fault result
+            ≡ reason_at (source_fault_line fault - self.old.passed - 1) fault self.old.rest.now }
+        ensures rest { self.new.rest.now ≡ after_line
+            (after_lines (source_fault_line fault - self.old.passed - 1) self.old.rest.now) }
+        ensures passed { self.new.passed ≡ source_fault_line fault }
+    {
+        let line = fault.line();
+        let count = line.saturating_sub(self.passed).saturating_sub(1);
+        let (place, rest) = past(count, self.rest);
+        let (text, behind) = first_line(rest);
+        self.rest = behind;
+        self.passed = line;
+        fault_reason(fault, place, text)
+    }
+}
+
+/// What stands after so many lines, and how far behind a multiple of four their bytes end.
+fn past(count: u64, text: &[u8]) -> (u64, &[u8])
+    ensures place { result.0 ≡ place_after count 0 text.now }
+    ensures rest { result.1.now ≡ after_lines count text.now }
+{
+    let mut place = 0u64;
+    let mut rest = text;
+    for _ in 0..count {
+        let (line, behind) = first_line(rest);
+        place = place_past(place, line);
+        rest = behind;
+    }
+    (place, rest)
+}
+
+fn place_past(place: u64, line: &[u8]) -> u64
+    ensures { result ≡ line_after place line.now }
+{
+    (place % 4 + source_line(line).size % 4) % 4
+}
+
+/// The reason of a fault of this line, which begins at a place of the image.
+pub fn fault_reason(fault: SourceFault, place: u64, line: &[u8]) -> Option<FaultReason<'_>>
+    ensures { option_map plain_fault result ≡ told_reason fault place line.now }
+{
+    match fault {
+        SourceFault::Syntax(_) => match syntax_reason(line) {
+            Some(reason) => Some(FaultReason::Syntax(reason)),
+            None => None,
+        },
+        SourceFault::Range(_) => match range_or_target(place, line) {
+            Some(reason) => Some(FaultReason::Range(reason)),
+            None => None,
+        },
+        SourceFault::UnknownLabel(_) | SourceFault::DoubleLabel(_) | SourceFault::TooLong(_) => {
+            None
+        }
+    }
+}
+
+fn range_or_target(place: u64, line: &[u8]) -> Option<RangeReason<'_>>
+    ensures { option_map plain_range result
+        ≡ or_next (range_reason_of place line.now) (target_reason_of line.now) }
+{
+    match range_reason(place, line) {
+        Some(reason) => Some(reason),
+        None => target_reason(line),
+    }
+}
+
+/// Adds the words of a reason, with what to write in the place of what stands there.
+pub fn push_reason(sheet: &mut Vec<u8>, reason: FaultReason<'_>) -> Result<(), AllocError>
+    ensures { OnOk result (sheet.new.items
+        ≡ sheet.old.items ++ fault_text (plain_fault reason.entry)) }
+{
+    match reason {
+        FaultReason::Syntax(reason) => push_syntax_reason(sheet, reason),
+        FaultReason::Range(reason) => push_range_reason(sheet, reason),
+    }
+}

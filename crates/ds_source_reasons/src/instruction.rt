@@ -1,0 +1,232 @@
+//! From the text of operands to what an instruction has in their places.
+ghost use Rattle.std.specs.Prelude.{◌≡◌, option_map, map};
+ghost use Rattle.ds_isa.specs.Fields.{rs, imm};
+ghost use Rattle.ds_asm.specs.Operands.{bare, with_value, with_number, with_target, with_register, with_unsigned, with_signed, with_indexed, with_operand, has_comma, with_first, with_next, with_operands, before_close};
+ghost use Rattle.ds_source_reasons.specs.Forms.{field_of, operand_of, plain_instruction, plain_target};
+ghost use Rattle.ds_source_reasons.specs.Plain.{plain_number};
+
+use crate::characters::{is_name, split_at_first, trimmed};
+use crate::form::{Operand, Place};
+use crate::number::{Number, number_of};
+use crate::register::{register_of, system_register_of};
+
+/// The register that links go to.
+const LINK_REGISTER: u32 = 31;
+
+/// The label that an instruction goes to, if it does.
+#[derive(Clone, Copy)]
+pub(crate) enum Target<'a> {
+    Nowhere,
+    Branch(&'a [u8]),
+    Jump(&'a [u8]),
+}
+
+/// What the text of an instruction says.
+#[derive(Clone, Copy)]
+pub(crate) struct Instruction<'a> {
+    /// Its word, with 0 in the place of a label.
+    pub(crate) word: u32,
+    /// Whether its numbers are in range.
+    pub(crate) in_range: bool,
+    pub(crate) target: Target<'a>,
+}
+
+/// The instruction of a word, its operands and their text.
+pub(crate) fn instruction_of<'a>(
+    word: u32,
+    operands: &[Operand],
+    text: Option<&'a [u8]>,
+) -> Option<Instruction<'a>>
+    ensures { option_map plain_instruction result
+        ≡ with_operands (map operand_of operands.now) (option_map (λ t. t.now) text.entry)
+        (bare word) }
+{
+    Instruction::bare(word).with_operands(operands, text)
+}
+
+impl<'a> Instruction<'a> {
+    /// An instruction without operands.
+    fn bare(word: u32) -> Instruction<'a>
+        ensures { plain_instruction result ≡ bare word }
+    {
+        Instruction {
+            word,
+            in_range: true,
+            target: Target::Nowhere,
+        }
+    }
+
+    /// With all operands of what is left of the text.
+    #[tactic(auto, unfolding(ds_asm::specs::Operands::with_operands))]
+    fn with_operands(self, operands: &[Operand], left: Option<&'a [u8]>) -> Option<Instruction<'a>>
+        ensures { option_map plain_instruction result
+            ≡ with_operands (map operand_of operands.now) (option_map (λ t. t.now) left.entry)
+            (plain_instruction self.entry) }
+    {
+        match operands {
+            [] => match left {
+                None => Some(self),
+                Some(_) => None,
+            },
+            [operand, more @ ..] => match self.with_next(*operand, left) {
+                Some((behind, next)) => next.with_operands(more, behind),
+                None => None,
+            },
+        }
+    }
+
+    /// With one operand of what is left of the text; and what is left then.
+    fn with_next(
+        self,
+        operand: Operand,
+        left: Option<&'a [u8]>,
+    ) -> Option<(Option<&'a [u8]>, Instruction<'a>)>
+        ensures { option_map (λ p. (option_map (λ t. t.now) p.0, plain_instruction p.1)) result
+            ≡ with_next (operand_of operand) (option_map (λ t. t.now) left.entry)
+            (plain_instruction self.entry) }
+    {
+        match left {
+            None => {
+                if operand.is_code() {
+                    Some((None, self))
+                } else {
+                    None
+                }
+            }
+            Some(text) => {
+                if operand.is_link() && !has_comma(text) {
+                    Some((Some(text), self.with_value(Place::Rd, LINK_REGISTER)))
+                } else {
+                    self.with_first(operand, text)
+                }
+            }
+        }
+    }
+
+    fn with_first(
+        self,
+        operand: Operand,
+        text: &'a [u8],
+    ) -> Option<(Option<&'a [u8]>, Instruction<'a>)>
+        ensures { option_map (λ p. (option_map (λ t. t.now) p.0, plain_instruction p.1)) result
+            ≡ with_first (operand_of operand) text.now (plain_instruction self.entry) }
+    {
+        let (front, behind) = split_at_first(b',', text);
+        match self.with_operand(operand, trimmed(front)) {
+            Some(next) => Some((behind, next)),
+            None => None,
+        }
+    }
+
+    #[tactic(auto, unfolding(ds_asm::specs::Operands::with_operand))]
+    fn with_operand(self, operand: Operand, text: &'a [u8]) -> Option<Instruction<'a>>
+        ensures { option_map plain_instruction result
+            ≡ with_operand (operand_of operand) text.now (plain_instruction self.entry) }
+    {
+        match operand {
+            Operand::Register(place) => self.with_register(place, register_of(text)),
+            Operand::LinkRegister => self.with_register(Place::Rd, register_of(text)),
+            Operand::SystemRegister => self.with_register(Place::Rd, system_register_of(text)),
+            Operand::Number(place) => self.with_unsigned(place, text),
+            Operand::Code => self.with_unsigned(Place::Code, text),
+            Operand::Signed => self.with_signed(text),
+            Operand::Branch => {
+                if is_name(text) {
+                    Some(self.with_target(Target::Branch(text)))
+                } else {
+                    None
+                }
+            }
+            Operand::Jump => {
+                if is_name(text) {
+                    Some(self.with_target(Target::Jump(text)))
+                } else {
+                    None
+                }
+            }
+            Operand::Indexed => self.with_indexed(text),
+        }
+    }
+
+    #[tactic(auto, unfolding(ds_asm::specs::Operands::with_indexed))]
+    fn with_indexed(self, text: &[u8]) -> Option<Instruction<'a>>
+        ensures { option_map plain_instruction result
+            ≡ with_indexed rs imm text.now (plain_instruction self.entry) }
+    {
+        let (offset, behind) = split_at_first(b'(', text);
+        let inner = before_close(behind?)?;
+        let base = register_of(trimmed(inner))?;
+        self.with_value(Place::Rs, base)
+            .with_signed(trimmed(offset))
+    }
+
+    fn with_signed(self, text: &[u8]) -> Option<Instruction<'a>>
+        ensures { option_map plain_instruction result
+            ≡ with_signed imm text.now (plain_instruction self.entry) }
+    {
+        let number = number_of(text)?;
+        Some(self.with_number(Place::Immediate, 0x8000, 0x7FFF, &number))
+    }
+
+    fn with_unsigned(self, place: Place, text: &[u8]) -> Option<Instruction<'a>>
+        ensures { option_map plain_instruction result
+            ≡ with_unsigned (field_of place) text.now (plain_instruction self.entry) }
+    {
+        let number = number_of(text)?;
+        Some(self.with_number(place, 0, u64::from(place.most()), &number))
+    }
+
+    fn with_register(self, place: Place, register: Option<u32>) -> Option<Instruction<'a>>
+        ensures { option_map plain_instruction result
+            ≡ with_register (field_of place) register (plain_instruction self.entry) }
+    {
+        Some(self.with_value(place, register?))
+    }
+
+    fn with_number(self, place: Place, least: u64, most: u64, number: &Number) -> Instruction<'a>
+        ensures { plain_instruction result
+            ≡ with_number (field_of place) least most (plain_number number.now) (plain_instruction self.entry) }
+    {
+        let next = self.with_value(place, number.as_word());
+        Instruction {
+            in_range: self.in_range && number.is_within(least, most),
+            ..next
+        }
+    }
+
+    /// With a value added in its place.
+    pub(crate) fn with_value(self, place: Place, value: u32) -> Instruction<'a>
+        ensures { plain_instruction result
+            ≡ with_value (field_of place) value (plain_instruction self.entry) }
+    {
+        Instruction {
+            word: self.word.wrapping_add(place.put(value)),
+            ..self
+        }
+    }
+
+    fn with_target(self, target: Target<'a>) -> Instruction<'a>
+        ensures { plain_instruction result
+            ≡ with_target (plain_target target.entry) (plain_instruction self.entry) }
+    {
+        Instruction { target, ..self }
+    }
+}
+
+/// Whether a text has a comma.
+pub(crate) fn has_comma(text: &[u8]) -> bool
+    ensures { result ≡ has_comma text.now }
+{
+    let (_, behind) = split_at_first(b',', text);
+    behind.is_some()
+}
+
+/// What stands before the parenthesis at the end.
+pub(crate) fn before_close(text: &[u8]) -> Option<&[u8]>
+    ensures { option_map (λ t. t.now) result ≡ before_close text.now }
+{
+    match text {
+        [inner @ .., b')'] => Some(inner),
+        _ => None,
+    }
+}

@@ -1,0 +1,31 @@
+//! Why a line of an assembly source is refused, and what to write in its place.
+#![tactic(auto)]
+
+mod characters;
+mod fault;
+mod form;
+mod instruction;
+mod law;
+mod line;
+mod macros;
+mod number;
+mod operand;
+mod range;
+mod reason;
+mod register;
+mod shape;
+mod statement;
+mod target;
+mod texts;
+mod told;
+
+pub use fault::{FaultReason, FaultyLines, fault_reason, push_reason};
+pub use law::{
+    a_range_reason_is_a_range_fault, a_reason_is_a_syntax_fault,
+    a_target_is_reached_at_multiples_of_four,
+};
+pub use line::syntax_reason;
+pub use range::range_reason;
+pub use reason::{RangeReason, SyntaxReason, Wanted};
+pub use target::target_reason;
+pub use told::{push_range_reason, push_syntax_reason};

@@ -1,0 +1,94 @@
+//! Numbers of a source.
+ghost use Rattle.std.specs.Prelude.{◌≡◌, option_map};
+ghost use Rattle.ds_asm.specs.Numbers.{decimal_of, hexadecimal_of, unsigned_of, number_of, is_within, as_word};
+ghost use Rattle.ds_source_reasons.specs.Plain.{plain_number};
+
+use ds_word::number_of_digits;
+
+/// A number as it is written: a sign and a magnitude.
+#[derive(Clone, Copy, Debug, PartialEq, Eq)]
+pub(crate) struct Number {
+    pub(crate) negative: bool,
+    pub(crate) magnitude: u64,
+}
+
+/// The most that ten decimal digits say.
+const MOST_DECIMAL: u64 = 9_999_999_999;
+
+/// The number of a text: one to ten decimal digits, with or without `-` before them, or `0x` and
+/// one to eight hexadecimal digits.
+pub(crate) fn number_of(text: &[u8]) -> Option<Number>
+    ensures { option_map plain_number result ≡ number_of text.now }
+{
+    match text {
+        [] => None,
+        [b'-', digits @ ..] => {
+            let magnitude = decimal_of(digits)?;
+            Some(Number {
+                negative: true,
+                magnitude,
+            })
+        }
+        [_, ..] => {
+            let magnitude = unsigned_of(text)?;
+            Some(Number {
+                negative: false,
+                magnitude,
+            })
+        }
+    }
+}
+
+fn unsigned_of(text: &[u8]) -> Option<u64>
+    ensures { result ≡ unsigned_of text.now }
+{
+    match text.strip_prefix(b"0x".as_slice()) {
+        Some(digits) => hexadecimal_of(digits),
+        None => decimal_of(text),
+    }
+}
+
+fn decimal_of(text: &[u8]) -> Option<u64>
+    ensures { result ≡ decimal_of text.now }
+{
+    if text.len() >= 1 && text.len() <= 10 {
+        number_of_digits(10, MOST_DECIMAL, text)
+    } else {
+        None
+    }
+}
+
+fn hexadecimal_of(text: &[u8]) -> Option<u64>
+    ensures { result ≡ hexadecimal_of text.now }
+{
+    if text.len() >= 1 && text.len() <= 8 {
+        number_of_digits(16, u64::from(u32::MAX), text)
+    } else {
+        None
+    }
+}
+
+impl Number {
+    /// Whether it is neither below `-least` nor above `most`.
+    pub(crate) fn is_within(&self, least: u64, most: u64) -> bool
+        ensures { result ≡ is_within least most (plain_number self.now) }
+    {
+        if self.negative {
+            self.magnitude <= least
+        } else {
+            self.magnitude <= most
+        }
+    }
+
+    /// The number as a word, in two's complement.
+    pub(crate) fn as_word(&self) -> u32
+        ensures { result ≡ as_word (plain_number self.now) }
+    {
+        let low = self.magnitude % 0x1_0000_0000;
+        if self.negative {
+            ((0x1_0000_0000 - low) % 0x1_0000_0000) as u32
+        } else {
+            low as u32
+        }
+    }
+}

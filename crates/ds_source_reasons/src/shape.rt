@@ -1,0 +1,66 @@
+//! What the place and the form of a statement depend on.
+ghost use Rattle.std.specs.Prelude.{◌≡◌, option_map};
+ghost use Rattle.ds_asm.specs.Lines.{instruction_named, number_word, statement_named};
+ghost use Rattle.ds_asm.specs.Numbers.{number_of};
+ghost use Rattle.ds_source_reasons.specs.Forms.{plain_instruction};
+ghost use Rattle.ds_source_reasons.specs.Ranges.{shape_of};
+
+use crate::characters::is_name;
+use crate::form::form_named;
+use crate::instruction::{Instruction, instruction_of};
+use crate::number::number_of;
+
+/// What a statement becomes.
+#[derive(Clone, Copy, Debug, PartialEq, Eq)]
+pub(crate) enum Shape {
+    /// An instruction, with 0 in the place of a label.
+    Instruction(u32),
+    /// Another word.
+    Word,
+    /// Bytes, which may stand anywhere.
+    Bytes,
+}
+
+/// The shape of the statement of a first word and of what stands after it, if it can be read.
+#[tactic(auto, unfolding(ds_asm::specs::Lines::statement_named))]
+pub(crate) fn shape_named(name: &[u8], left: Option<&[u8]>) -> Option<Shape>
+    ensures { result
+        ≡ option_map shape_of (statement_named name.now (option_map (λ t. t.now) left.entry)) }
+{
+    if name == b".word".as_slice() {
+        word_shape(left?)
+    } else if name == b".byte".as_slice() {
+        number_of(left?)?;
+        Some(Shape::Bytes)
+    } else if name == b".space".as_slice() {
+        number_of(left?)?;
+        Some(Shape::Bytes)
+    } else {
+        let instruction = instruction_named(name, left)?;
+        Some(Shape::Instruction(instruction.word))
+    }
+}
+
+fn word_shape(text: &[u8]) -> Option<Shape>
+    ensures { result ≡ option_map shape_of (number_word (number_of text.now) text.now) }
+{
+    match number_of(text) {
+        Some(_) => Some(Shape::Word),
+        None => {
+            if is_name(text) {
+                Some(Shape::Word)
+            } else {
+                None
+            }
+        }
+    }
+}
+
+/// The instruction of a mnemonic and of what stands after it, if it can be read.
+pub(crate) fn instruction_named<'a>(name: &[u8], left: Option<&'a [u8]>) -> Option<Instruction<'a>>
+    ensures { option_map plain_instruction result
+        ≡ instruction_named name.now (option_map (λ t. t.now) left.entry) }
+{
+    let form = form_named(name)?;
+    instruction_of(form.word, form.operands, left)
+}

@@ -1,0 +1,90 @@
+//! The reason of a statement.
+ghost use Rattle.std.specs.Prelude.{◌≡◌, option_map};
+ghost use Rattle.ds_source_reasons.specs.Forms.{written_of};
+ghost use Rattle.ds_source_reasons.specs.Plain.{plain_reason};
+ghost use Rattle.ds_source_reasons.specs.Reasons.{directive_reason, has_upper_case, instruction_reason, no_mnemonic, statement_reason, text_reason};
+
+use crate::characters::split_word;
+use crate::form::{Form, form_named};
+use crate::operand::{counted, counted_by, fits, misfit, operand_count, operands_reason};
+use crate::reason::{SyntaxReason, Wanted};
+
+/// The reason of the text of a statement; an empty one has none.
+pub(crate) fn text_reason(text: &[u8]) -> Option<SyntaxReason<'_>>
+    ensures { option_map plain_reason result ≡ text_reason text.now }
+{
+    if text.is_empty() {
+        return None;
+    }
+    let (name, after) = split_word(text);
+    let left = if after.is_empty() { None } else { Some(after) };
+    statement_reason(name, left)
+}
+
+#[tactic(auto, unfolding(crate::specs::Reasons::statement_reason))]
+fn statement_reason<'a>(name: &'a [u8], left: Option<&'a [u8]>) -> Option<SyntaxReason<'a>>
+    ensures { option_map plain_reason result
+        ≡ statement_reason name.now (option_map (λ t. t.now) left.entry) }
+{
+    if name == b".word".as_slice() {
+        directive_reason(Wanted::NumberOrLabel, left)
+    } else if name == b".byte".as_slice() || name == b".space".as_slice() {
+        directive_reason(Wanted::Number, left)
+    } else {
+        instruction_reason(name, left, form_named(name))
+    }
+}
+
+fn directive_reason(wanted: Wanted, left: Option<&[u8]>) -> Option<SyntaxReason<'_>>
+    ensures { option_map plain_reason result
+        ≡ directive_reason wanted (option_map (λ t. t.now) left.entry) }
+{
+    match left {
+        None => Some(SyntaxReason::Operands {
+            least: 1,
+            most: 1,
+            found: 0,
+        }),
+        Some(text) => {
+            if fits(wanted, text) {
+                None
+            } else {
+                Some(counted(1, 1, operand_count(left), misfit(1, wanted, text)))
+            }
+        }
+    }
+}
+
+fn instruction_reason<'a>(
+    name: &'a [u8],
+    left: Option<&'a [u8]>,
+    form: Option<&Form>,
+) -> Option<SyntaxReason<'a>>
+    ensures { option_map plain_reason result
+        ≡ instruction_reason name.now (option_map (λ t. t.now) left.entry)
+        (option_map (λ f. written_of f.now) form.entry) }
+{
+    match form {
+        None => Some(no_mnemonic(name)),
+        Some(form) => {
+            let reason = operands_reason(1, form.operands, left)?;
+            Some(counted_by(form.operands, left, reason))
+        }
+    }
+}
+
+fn no_mnemonic(name: &[u8]) -> SyntaxReason<'_>
+    ensures { plain_reason result ≡ no_mnemonic name.now }
+{
+    if has_upper_case(name) {
+        SyntaxReason::UpperCase(name)
+    } else {
+        SyntaxReason::NoSuchMnemonic(name)
+    }
+}
+
+fn has_upper_case(text: &[u8]) -> bool
+    ensures { result ≡ has_upper_case text.now }
+{
+    text.iter().any(|c| b'A' <= *c && *c <= b'Z')
+}
