@@ -35,7 +35,7 @@ pub(crate) const RANGE: &str = "\
 One of four things. A number does not fit: `addiu $1, $0, 40000`, since the
 number goes from -32768 to 32767; build a greater one in two steps,
 `lui $1, 0x0041` and `ori $1, $1, 0x0008`. A word is not at a multiple of
-four, behind `.byte` or `.space`; fill up by `.space`. The form is reserved,
+four, after `.byte` or `.space`; fill up by `.space`. The form is reserved,
 such as `jalr $5, $5`. A target cannot be reached.
 ";
 

@@ -13,8 +13,8 @@ use Rattle.ds_check.specs.Lines.{shown_line}
 use Rattle.ds_drive.specs.Told.{faults_shown, told_line}
 
 -- a text that stands after nothing
-pub behind_nothing : (text held before piece : List ℕ) → text ≡ held → held ≡ before ++ piece → before ≡ [] → text ≡ piece
-behind_nothing text held before piece same is none = same ∙ (is ∙ ap (λ (xs : List ℕ). xs ++ piece) none)
+pub after_nothing : (text held before piece : List ℕ) → text ≡ held → held ≡ before ++ piece → before ≡ [] → text ≡ piece
+after_nothing text held before piece same is none = same ∙ (is ∙ ap (λ (xs : List ℕ). xs ++ piece) none)
 
 -- faults that were told with the lines of one source were told with those of the same
 pub told_of : (front place : List ℕ) (faults : List SourceFault) (held before : List ℕ) (now old : Option (List ℕ)) → now ≡ old
@@ -33,8 +33,8 @@ module _ {X : Type 0} (f : X → List ℕ) (xs : List X) where
   lines_split n = sym (flat_map-append f (take n xs) (drop n xs)) ∙ ap (flat_map f) (take-append-drop n xs)
 
   -- of what stands after a place, those up to another and the rest
-  lines_split_behind : (a m : ℕ) → flat_map f (take m (drop a xs)) ++ flat_map f (drop m (drop a xs)) ≡ flat_map f (drop a xs)
-  lines_split_behind a m = sym (flat_map-append f (take m (drop a xs)) (drop m (drop a xs))) ∙ ap (flat_map f) (take-append-drop m (drop a xs))
+  lines_split_after : (a m : ℕ) → flat_map f (take m (drop a xs)) ++ flat_map f (drop m (drop a xs)) ≡ flat_map f (drop a xs)
+  lines_split_after a m = sym (flat_map-append f (take m (drop a xs)) (drop m (drop a xs))) ∙ ap (flat_map f) (take-append-drop m (drop a xs))
 
   -- what was told is a front of all
   pub told_so_far : (old new : Option (List ℕ)) (n : ℕ) → Appends old new (flat_map f (take n xs)) → AppendsPart old new (flat_map f xs)
@@ -50,7 +50,7 @@ module _ {X : Type 0} (f : X → List ℕ) (xs : List X) where
   pub told_part : (old now new : Option (List ℕ)) (a b : ℕ) (text : List ℕ) → text ≡ flat_map f (take (b - a) (drop a xs))
       → Appends old now (flat_map f (take a xs)) → AppendsPart now new text → AppendsPart old new (flat_map f xs)
   told_part old now new a b text is told part =
-      subst (AppendsPart old new) (ap (λ (ys : List ℕ). flat_map f (take a xs) ++ ys) (lines_split_behind a (b - a)) ∙ lines_split a)
+      subst (AppendsPart old new) (ap (λ (ys : List ℕ). flat_map f (take a xs) ++ ys) (lines_split_after a (b - a)) ∙ lines_split a)
       (part_behind old now new (flat_map f (take a xs)) _ told (part_before now new _ (flat_map f (drop (b - a) (drop a xs))) (subst (AppendsPart now new) is part)))
 
 -- all was told, or a front of it: in either case a front

@@ -6,7 +6,7 @@ use Rattle.ds_asm.specs.Faults.{all_faults}
 use Rattle.ds_listing.specs.declared.annotated.Listed.{Listed}
 use Rattle.ds_listing.specs.declared.annotated.Listed.TheVariants as came
 use Rattle.ds_listing.specs.Listing.{listing_of}
-use Rattle.ds_listing.specs.Sources.{source_of_bytes}
+use Rattle.ds_listing.specs.Sources.{source_of_file}
 use Rattle.ds_log.specs.Sent.{AppendsPart}
 use Rattle.ds_station.specs.declared.fault.Fault.TheVariants as fault
 use Rattle.ds_drive.specs.declared.failure.Failure.{Failure}
@@ -15,9 +15,9 @@ use Rattle.ds_drive.specs.declared.list.Listing.{Listing}
 use Rattle.ds_drive.specs.declared.list.Listing.TheVariants as listing
 use Rattle.ds_words.specs.declared.words.ListRequest.{ListRequest}
 
--- the source of a file's bytes; or the listing of a source, or its first fault
+-- the source of a file; or the listing of a source, or its first fault
 abbrev pub listed : Bool → List ℕ → Result (List ℕ) SourceFault
-listed true bytes = Ok (source_of_bytes bytes)
+listed true bytes = Ok (source_of_file bytes)
 listed false text = listing_of text
 
 -- what comes of it: the text, or all faults of the source, of which it has one at least

@@ -10,7 +10,7 @@ use crate::files::Files;
 use crate::run::named_file;
 use crate::status::INPUT_REFUSED;
 use ds_asm::SourceFault;
-use ds_listing::{Listed, listing_or_faults, source_of_bytes};
+use ds_listing::{Listed, listing_or_faults, source_of_file};
 use ds_log::send;
 use ds_station::Fault;
 use ds_words::ListRequest;
@@ -31,7 +31,7 @@ fn listed(alloc: Global, words: bool, bytes: &[u8]) -> Result<Listed, AllocError
     ensures { IfOk result (λ came. IsListed words bytes.now came) }
 {
     if words {
-        let text = source_of_bytes(alloc, bytes)?;
+        let text = source_of_file(alloc, bytes)?;
         Ok(Listed::Sheet(text.into_bytes()))
     } else {
         listing_or_faults(alloc, bytes)

@@ -14,7 +14,7 @@ use crate::refused::{FaultyInput, FaultySource, Refused};
 use crate::status::status_of;
 use ds_asm::SourceFault;
 use ds_check::{Lines, mend_text};
-use ds_log::send;
+use ds_log::{WriteFailed, send};
 use ds_station::Fault;
 use itoa::Buffer;
 use std::alloc::Global;
@@ -145,21 +145,21 @@ fn send_line<E: Write>(err: &mut E, words: &[&[u8]], carried: &[&[u8]]) -> Resul
         ++ (flat_map (λ word. word.now) carried.now ++ codes "\n")))) }
 {
     send(err, b"dsmon: ")?;
-    send_words(err, words)?;
-    send_words(err, carried)?;
+    send_all(err, words)?;
+    send_all(err, carried)?;
     send(err, b"\n")?;
     Ok(())
 }
 
-/// Hands words to the writer, one after another.
-fn send_words<E: Write>(err: &mut E, words: &[&[u8]]) -> Result<(), Untold>
-    ensures all { OnOk result (Appends (E.contents err.old) (E.contents err.new)
-        (flat_map (λ word. word.now) words.now)) }
-    ensures front { OnErr result (AppendsPart (E.contents err.old) (E.contents err.new)
-        (flat_map (λ word. word.now) words.now)) }
+/// Hands the pieces of a text to the writer, one after another.
+fn send_all<W: Write>(out: &mut W, pieces: &[&[u8]]) -> Result<(), WriteFailed>
+    ensures ok { OnOk result
+        (Appends (W.contents out.old) (W.contents out.new) (flat_map (λ p. p.now) pieces.now)) }
+    ensures err { OnErr result
+        (AppendsPart (W.contents out.old) (W.contents out.new) (flat_map (λ p. p.now) pieces.now)) }
 {
-    for word in words {
-        send(err, word)?;
+    for piece in pieces {
+        send(out, piece)?;
     }
     Ok(())
 }
@@ -172,7 +172,7 @@ fn send_place<E: Write>(err: &mut E, line: Option<u64>, column: Option<u64>) -> 
         (place_line line column)) }
 {
     match (line, column) {
-        (Some(line), Some(column)) => send_words(
+        (Some(line), Some(column)) => Ok(send_all(
             err,
             &[
                 b"in line ",
@@ -181,15 +181,15 @@ fn send_place<E: Write>(err: &mut E, line: Option<u64>, column: Option<u64>) -> 
                 Buffer::new().format(column).as_bytes(),
                 b" of the policy\n",
             ],
-        ),
-        (Some(line), None) => send_words(
+        )?),
+        (Some(line), None) => Ok(send_all(
             err,
             &[
                 b"in line ",
                 Buffer::new().format(line).as_bytes(),
                 b" of the policy\n",
             ],
-        ),
+        )?),
         (None, _) => Ok(()),
     }
 }

@@ -1,19 +1,20 @@
 -- The text of bytes assembles to them.
-use Rattle.std.proofs.Common.{◌≡◌, ◌∙◌, ap, sym, refl, ℕ, ◌+◌, ◌*◌, ◌/◌, ◌%◌, ◌^◌, ◌<◌, ◌≤◌, true, false, ◌==◌, nat_le, nat_lt, List, [], ◌∷◌, ◌++◌, length, length-append, map, Option, Some, option_map, Ok, arith, append-nil, append_assoc}
+use Rattle.std.proofs.Common.{◌≡◌, ◌∙◌, ap, sym, refl, ℕ, ◌+◌, ◌*◌, ◌/◌, ◌%◌, ◌^◌, ◌<◌, ◌≤◌, Bool, true, false, ◌==◌, nat_le, nat_lt, List, [], ◌∷◌, ◌++◌, length, length-append, map, Option, Some, option_map, Ok, arith, append-nil, append_assoc}
 use Rattle.std.specs.Prelude.{codes}
-use Rattle.std.specs.List.{All, list_all}
+use Rattle.std.specs.List.{All, list_all, starts_with}
 use Rattle.std.proofs.lemmas.Bool.{and_from, le-leb, le-ltb, ne_eqb}
 use Rattle.std.proofs.lemmas.List.Elements.{All-head, All-tail}
 use Rattle.ds_word.specs.Bytes.{bytes_of_word}
 use Rattle.ds_word.specs.Digits.{digits_from}
 use Rattle.ds_word.specs.ResultBinding.{◌>>=◌}
 use Rattle.ds_asm.specs.Numbers.{number_of}
-use Rattle.ds_asm.specs.Lines.{Byte, statement_named, statement_of, line_of}
+use Rattle.ds_asm.specs.Lines.{Byte, nothing, statement_named, statement_of, line_of}
 use Rattle.ds_asm.specs.Assembly.{empty_layout, most_bytes, with_line, with_lines, line_bytes, bytes_from, lines_of, address_of, assembled}
+use Rattle.ds_asm.proofs.Nothings.{nothing_said}
 use Rattle.ds_asm.proofs.SourceLines.{lines_of-first}
-use Rattle.ds_listing.specs.Laws.{alone, IsLineOf}
+use Rattle.ds_listing.specs.Laws.{alone, AreSaid}
 use Rattle.ds_listing.specs.Texts.{hex2, hex_digit, text_of}
-use Rattle.ds_listing.specs.Sources.{word_of_bytes, byte_text, byte_lines, source_of_bytes}
+use Rattle.ds_listing.specs.Sources.{word_of_bytes, byte_text, byte_lines, elf_magic, source_of_bytes, source_of_file}
 use Rattle.ds_listing.proofs.Numbers.{below_at, hex_digit_of, digit_read, digits_end}
 use Rattle.ds_listing.proofs.Values.{number_hexadecimal}
 use Rattle.ds_listing.proofs.Parts.{IsBody, all_both, all_weaker, is_other, body_line, until_seam, after_seam}
@@ -87,16 +88,7 @@ left_added n find before (b ∷ bytes) small =
     ap (λ r. r >>= (λ more. bytes_from (n + 1) find (before ++ more) (map byte_text bytes))) (byte_added n (length before) b find (All-head (λ b. b < 256) b bytes small))
     ∙ (left_added (n + 1) find (before ++ b ∷ []) bytes (All-tail (λ b. b < 256) b bytes small) ∙ ap (λ bs. Ok bs) (append_assoc before (b ∷ []) bytes))
 
--- a word's text is read back as its bytes
-pub record IsWordOf (a b c d : ℕ) : Type 0 where
-  pub read : IsLineOf (text_of (word_of_bytes a b c d)) (word_of_bytes a b c d)
-  pub bytes : bytes_of_word (word_of_bytes a b c d) ≡ a ∷ b ∷ c ∷ d ∷ []
-
--- each word is, and the others are bytes
-abbrev pub AreSaid : List ℕ → Type 0
-AreSaid (a ∷ b ∷ c ∷ d ∷ bytes) = IsWordOf a b c d × AreSaid bytes
-AreSaid bytes = All (λ b. b < 256) bytes
-
+-- the lines of the text of bytes
 abbrev lines_in : List ℕ → List (List ℕ)
 lines_in (a ∷ b ∷ c ∷ d ∷ bytes) = text_of (word_of_bytes a b c d) ∷ lines_in bytes
 lines_in bytes = map byte_text bytes
@@ -131,11 +123,28 @@ source_added n find before (a ∷ b ∷ c ∷ d ∷ bytes) said =
     ∙ (source_added (n + 1) find (before ++ a ∷ b ∷ c ∷ d ∷ []) bytes said.1 ∙ ap (λ bs. Ok bs) (append_assoc before (a ∷ b ∷ c ∷ d ∷ []) bytes))
 
 -- the text of bytes, as many as an image holds, says them
-pub bytes_read : (bytes : List ℕ) → AreSaid bytes → length bytes ≤ 65536 → assembled (source_of_bytes bytes) ≡ Ok bytes
+bytes_read : (bytes : List ℕ) → AreSaid bytes → length bytes ≤ 65536 → assembled (source_of_bytes bytes) ≡ Ok bytes
 bytes_read bytes said few =
     ap (λ ls. with_lines 1 empty_layout ls >>= (λ layout. bytes_from 1 (address_of layout.labels) [] ls)) (lines_of_source bytes said)
     ∙ (ap (λ r. r >>= (λ layout. bytes_from 1 (address_of layout.labels) [] (lines_in bytes))) (source_laid 1 0 bytes said refl (omega arith))
     ∙ source_added 1 (address_of []) [] bytes said)
+
+-- also with a line before it that says nothing
+commented_read : (line bytes : List ℕ) → list_all (is_other 10) line ≡ true → line_of line ≡ Some nothing → AreSaid bytes → length bytes ≤ 65536 → assembled (line ++ 10 ∷ source_of_bytes bytes) ≡ Ok bytes
+commented_read line bytes one none said few =
+    ap (λ ls. with_lines 1 empty_layout ls >>= (λ layout. bytes_from 1 (address_of layout.labels) [] ls)) (line_before line (source_of_bytes bytes) one ∙ ap (λ ls. line ∷ ls) (lines_of_source bytes said))
+    ∙ (ap (λ x. (with_line 1 x empty_layout >>= (λ more. with_lines 2 more (lines_in bytes))) >>= (λ layout. bytes_from 1 (address_of layout.labels) [] (line ∷ lines_in bytes))) none
+    ∙ (ap (λ r. r >>= (λ layout. bytes_from 1 (address_of layout.labels) [] (line ∷ lines_in bytes))) (source_laid 2 0 bytes said refl (omega arith))
+    ∙ (ap (λ x. line_bytes 1 (address_of []) 0 x >>= (λ more. bytes_from 2 (address_of []) ([] ++ more) (lines_in bytes))) none
+    ∙ source_added 2 (address_of []) [] bytes said)))
+
+-- the text of a file says its bytes
+file_read_by : (elf : Bool) (bytes : List ℕ) → starts_with (λ a b. a == b) bytes elf_magic ≡ elf → AreSaid bytes → length bytes ≤ 65536 → assembled (source_of_file bytes) ≡ Ok bytes
+file_read_by true bytes is said few = rw is (commented_read (codes "# this file begins as an ELF file does") bytes refl (nothing_said (codes "# this file begins as an ELF file does") refl) said few)
+file_read_by false bytes is said few = rw is (bytes_read bytes said few)
+
+pub file_read : (bytes : List ℕ) → AreSaid bytes → length bytes ≤ 65536 → assembled (source_of_file bytes) ≡ Ok bytes
+file_read bytes said few = file_read_by (starts_with (λ a b. a == b) bytes elf_magic) bytes refl said few
 
 -- fewer than four bytes are no word
 pub few_lines : (bytes : List ℕ) → length bytes < 4 → source_of_bytes bytes ≡ byte_lines bytes

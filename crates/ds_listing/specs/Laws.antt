@@ -1,9 +1,10 @@
 -- What it means that a line says a word.
-use Rattle.std.specs.Prelude.{◌≡◌, ℕ, ◌%◌, true, not, ◌==◌, List, [], ◌∷◌, Option, Some, None, option_map, Ok, ⊤}
-use Rattle.std.specs.List.{list_all}
+use Rattle.std.specs.Prelude.{◌≡◌, ℕ, ◌%◌, true, not, ◌==◌, ◌<◌, List, [], ◌∷◌, Option, Some, None, option_map, Ok, ⊤}
+use Rattle.std.specs.List.{All, list_all}
 use Rattle.ds_word.specs.Bytes.{bytes_of_word}
 use Rattle.ds_asm.specs.Lines.{Statement, Line, line_of}
 use Rattle.ds_asm.specs.Assembly.{size_of, is_in_range, is_aligned, statement_bytes}
+use Rattle.ds_listing.specs.Sources.{word_of_bytes}
 use Rattle.ds_listing.specs.Texts.{text_of}
 
 -- a line of a statement alone
@@ -32,3 +33,13 @@ pub record IsLineOf (text : List ℕ) (w : ℕ) : Type 0 where
 abbrev pub EachIsRead : List ℕ → Type 0
 EachIsRead [] = ⊤
 EachIsRead (w ∷ ws) = IsLineOf (text_of w) w × EachIsRead ws
+
+-- a word's text is such a line, and the word is these bytes
+pub record IsWordOf (a b c d : ℕ) : Type 0 where
+  pub read : IsLineOf (text_of (word_of_bytes a b c d)) (word_of_bytes a b c d)
+  pub bytes : bytes_of_word (word_of_bytes a b c d) ≡ a ∷ b ∷ c ∷ d ∷ []
+
+-- so it is for each four bytes, and the others are bytes
+abbrev pub AreSaid : List ℕ → Type 0
+AreSaid (a ∷ b ∷ c ∷ d ∷ bytes) = IsWordOf a b c d × AreSaid bytes
+AreSaid bytes = All (λ b. b < 256) bytes

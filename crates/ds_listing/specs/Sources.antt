@@ -1,6 +1,6 @@
--- The source of bytes.
-use Rattle.std.specs.Prelude.{codes, ℕ, ◌+◌, ◌*◌, ◌^◌, List, [], ◌∷◌, ◌++◌}
-use Rattle.std.specs.List.{flat_map}
+-- The source of bytes, and of a file.
+use Rattle.std.specs.Prelude.{codes, ℕ, ◌+◌, ◌*◌, ◌^◌, ◌==◌, if◌then◌else◌, List, [], ◌∷◌, ◌++◌}
+use Rattle.std.specs.List.{flat_map, starts_with}
 use Rattle.ds_listing.specs.Texts.{hex2, text_of}
 
 -- the word of four bytes, the lowest first
@@ -23,3 +23,15 @@ byte_lines bytes = flat_map byte_line bytes
 abbrev pub source_of_bytes : List ℕ → List ℕ
 source_of_bytes (a ∷ b ∷ c ∷ d ∷ bytes) = text_of (word_of_bytes a b c d) ++ 10 ∷ source_of_bytes bytes
 source_of_bytes bytes = byte_lines bytes
+
+-- the bytes with which an ELF file begins
+abbrev pub elf_magic : List ℕ
+elf_magic = 0x7F ∷ codes "ELF"
+
+-- a comment that tells of them, where a file has them
+abbrev pub elf_comment : List ℕ → List ℕ
+elf_comment bytes = if starts_with (λ a b. a == b) bytes elf_magic then codes "# this file begins as an ELF file does\n" else []
+
+-- the text of a file: that of its bytes, after the comment
+abbrev pub source_of_file : List ℕ → List ℕ
+source_of_file bytes = elf_comment bytes ++ source_of_bytes bytes

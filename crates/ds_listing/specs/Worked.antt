@@ -2,7 +2,7 @@
 use Rattle.std.specs.Prelude.{codes, refl, ◌≡◌, ℕ, List, [], ◌∷◌}
 use Rattle.std.specs.Fmt.{digits}
 use Rattle.ds_listing.specs.Texts.{hex4, hex8, is_label, form_of, text_of, source_of}
-use Rattle.ds_listing.specs.Sources.{source_of_bytes}
+use Rattle.ds_listing.specs.Sources.{source_of_bytes, source_of_file}
 
 -- The nine words of the refill handler (Kane and Heinrich, chapter 6).
 abbrev refill_words : List ℕ
@@ -38,3 +38,12 @@ bytes_left = refl
 words_alone : source_of_bytes (0xFF ∷ 0xFF ∷ 0xFF ∷ 0xFF ∷ []) ≡ codes ".word 0xFFFFFFFF\n"
 unfolding text_of form_of hex4 hex8 is_label digits
 words_alone = refl
+
+-- a file that begins as an ELF file does; and one that has three of the four bytes
+an_elf_file : source_of_file (0x7F ∷ 0x45 ∷ 0x4C ∷ 0x46 ∷ 0x0C ∷ 0x00 ∷ 0x00 ∷ 0x00 ∷ 0xFF ∷ [])
+    ≡ codes "# this file begins as an ELF file does\n.word 0x464C457F\nsyscall\n.byte 0xFF\n"
+unfolding text_of form_of hex4 hex8 is_label digits
+an_elf_file = refl
+
+no_elf_file : source_of_file (0x7F ∷ 0x45 ∷ 0x4C ∷ []) ≡ codes ".byte 0x7F\n.byte 0x45\n.byte 0x4C\n"
+no_elf_file = refl

@@ -1,31 +1,60 @@
-//! The source of bytes.
+//! The source of a file's bytes.
 ghost use Rattle.std.specs.Prelude.{◌≡◌, ◌<◌, ◌≤◌, ◌++◌, IfOk, Ok, OnOk, length};
 ghost use Rattle.std.specs.List.{All};
 ghost use Rattle.std.specs.String.{string_bytes};
 ghost use Rattle.ds_asm.specs.Assembly.{assembled};
-ghost use Rattle.ds_listing.specs.Sources.{byte_line, byte_lines, source_of_bytes, word_of_bytes};
+ghost use Rattle.ds_listing.specs.Laws.{AreSaid};
+ghost use Rattle.ds_listing.specs.Sources.{byte_line, byte_lines, elf_comment, source_of_bytes, source_of_file, word_of_bytes};
 
 use crate::digits::push_byte;
 use crate::line::push_word;
 use std::alloc::{AllocError, Global};
 
-/// The source of bytes: the text of the word of each four, as `push_word` adds it, and for each of
-/// the one to three bytes that may be left at the end a line `.byte`. Where they are no more than the
-/// 65,536 of an image, the source assembles to them.
-pub fn source_of_bytes(alloc: Global, bytes: &[u8]) -> Result<String, AllocError>
-    ensures text { IfOk result (λ t. string_bytes t ≡ source_of_bytes bytes.now) }
+/// The bytes with which an ELF file begins.
+const ELF_MAGIC: &[u8] = b"\x7FELF";
+
+/// What tells of them.
+const ELF_COMMENT: &str = "# this file begins as an ELF file does\n";
+
+/// The source of a file's bytes: the text of the word of each four, as `push_word` adds it, and for
+/// each of the one to three bytes that may be left at the end a line `.byte`. A comment stands before
+/// it where the file begins as an ELF file does, since such a file is no image. Where they are no more
+/// than the 65,536 bytes of an image, the source assembles to them.
+pub fn source_of_file(alloc: Global, bytes: &[u8]) -> Result<String, AllocError>
+    ensures text { IfOk result (λ t. string_bytes t ≡ source_of_file bytes.now) }
     ensures back { length bytes.now ≤ 65536 → IfOk result (λ t.
         assembled (string_bytes t) ≡ Ok bytes.now) }
 {
     let mut text = String::new(alloc);
+    text.push_str(elf_comment(bytes))?;
+    push_source(&mut text, bytes)?;
+    Ok(text)
+}
+
+/// The comment, where bytes begin as an ELF file does; else nothing.
+fn elf_comment(bytes: &[u8]) -> &'static str
+    ensures { result.now ≡ elf_comment bytes.now }
+{
+    if bytes.starts_with(ELF_MAGIC) {
+        ELF_COMMENT
+    } else {
+        ""
+    }
+}
+
+/// Adds the source of bytes.
+fn push_source(text: &mut String, bytes: &[u8]) -> Result<(), AllocError>
+    ensures text { OnOk result
+        (string_bytes text.new ≡ string_bytes text.old ++ source_of_bytes bytes.now) }
+    ensures said { OnOk result (AreSaid bytes.now) }
+{
     let mut left = bytes;
     while let [a, b, c, d, rest @ ..] = left {
-        push_word(&mut text, word_of(*a, *b, *c, *d))?;
+        push_word(text, word_of(*a, *b, *c, *d))?;
         text.push('\n')?;
         left = rest;
     }
-    push_byte_lines(&mut text, left)?;
-    Ok(text)
+    push_byte_lines(text, left)
 }
 
 fn word_of(a: u8, b: u8, c: u8, d: u8) -> u32

@@ -12,7 +12,7 @@ mod sheet;
 mod source;
 
 pub use annotated::{Listed, listing, listing_or_faults};
-pub use bytes::source_of_bytes;
+pub use bytes::source_of_file;
 pub use law::a_word_is_read_back;
 pub use line::push_word;
 pub use source::source_of_words;
