@@ -19,6 +19,8 @@ COMMANDS = [  # those that take longest first
     ["tools/test_reading_cases.py"],
     ["tools/test_grants_cases.py"],
     ["tools/test_refused_memory.py"],
+    ["tools/test_unit_course.py"],
+    ["tools/unit_course.py"],
     ["tools/test_gate_times.py"],
     ["tools/test_figures.py"],
     ["tools/test_refusals.py"],

@@ -1,0 +1,173 @@
+-- Where Random and the turn of the first eight slots stood.
+use Rattle.std.proofs.Common.{◌≡◌, ◌≢◌, ℕ, zero, suc, ◌+◌, ◌-◌, ◌<◌, ◌≤◌, ◌⊎◌, inl, inr, Bool, true, List, [], ◌∷◌, length, ap, ◌∙◌, arith, set, length-set, get_or, refl, subst, sym}
+use Rattle.std.specs.Prelude.{slice_get, slice_set, slice_index_or, Some, None, IsSome, not}
+use Rattle.std.proofs.lemmas.Bool.Decides.{nat_tests}
+use Rattle.std.proofs.lemmas.Bool.{cases_eq}
+use Rattle.std.proofs.lemmas.Option.{slice_get-get_or, slice_get_within, get_or_from_slice_get}
+use Rattle.std.proofs.lemmas.List.{get_or-set_same}
+use Rattle.ds_tlb.specs.declared.entry.Entry.{Entry}
+use Rattle.ds_tlb.specs.Entries.{ticked, matches, find}
+use Rattle.ds_tlb.proofs.Bits.{read_set_other}
+use Rattle.ds_tlb.proofs.Matches.{missed_match}
+use Rattle.ds_bounds.specs.Kept.{behind, IsKept}
+use Rattle.ds_bounds.proofs.Keeping.{begins, steps, wired, found}
+use Rattle.ds_bounds.specs.Steps.{turned, HasKeys, later}
+use Rattle.ds_bounds.specs.Tally.{turns, IsTableKept, Stood, AllStood, IsSince}
+
+-- Random.
+
+ticks_on : (slot random n : ℕ) → 8 ≤ random → random < 64 → 8 ≤ slot → slot < 64 → n < 55 → behind slot random ≤ n → behind slot (ticked 64 8 random) ≡ behind slot random + 1
+ticks_on slot random n a b c d e f = grind (arith, nat_tests)
+
+ticks_first : (random : ℕ) → 8 ≤ random → random < 64 → behind random (ticked 64 8 random) ≡ 1
+ticks_first random a b = grind (arith, nat_tests)
+
+pub ticked_low : (random : ℕ) → 8 ≤ random → random < 64 → 8 ≤ ticked 64 8 random
+ticked_low random a b = grind (arith, nat_tests)
+
+pub ticked_high : (random : ℕ) → 8 ≤ random → random < 64 → ticked 64 8 random < 64
+ticked_high random a b = grind (arith, nat_tests)
+
+stood_ticks : (slot random spent : ℕ) → 8 ≤ random → random < 64 → spent ≤ 60 → Stood slot random (spent - 7) → Stood slot (ticked 64 8 random) (spent + 1 - 7)
+stood_ticks slot random spent a b few s =
+    let since = s.since in
+    let most = s.few in
+    let e = ticks_on slot random (spent - 7) a b s.low s.high (omega arith) most in
+    record { low = s.low; high = s.high; since = omega arith; few = omega arith }
+
+pub all_stood_tick : (slots : List ℕ) (random spent : ℕ) → 8 ≤ random → random < 64 → spent ≤ 60 → AllStood slots random (spent - 7) → AllStood slots (ticked 64 8 random) (spent + 1 - 7)
+all_stood_tick [] random spent a b few all = tt
+all_stood_tick (slot ∷ more) random spent a b few all = (stood_ticks slot random spent a b few all.0, all_stood_tick more random spent a b few all.1)
+
+pub stood_first : (random spent : ℕ) → 8 ≤ random → random < 64 → 7 ≤ spent → Stood random (ticked 64 8 random) (spent + 1 - 7)
+stood_first random spent a b begun = let e = ticks_first random a b in record { low = a; high = b; since = omega arith; few = omega arith }
+
+weaker : (entries : List Entry) (random n k vpn asid : ℕ) → n ≤ k → IsKept entries random n vpn asid → IsKept entries random k vpn asid
+weaker entries random n k vpn asid less kept =
+    let few = kept.few in
+    record { slot = kept.slot; entry = kept.entry; at = kept.at; page = kept.page; space = kept.space; low = kept.low; high = kept.high; since = kept.since; few = omega arith }
+
+pub kept_ticks : (entries : List Entry) (random spent vpn asid : ℕ) → 8 ≤ random → random < 64 → spent ≤ 60 → IsKept entries random (spent - 7) vpn asid → IsKept entries (ticked 64 8 random) (spent + 1 - 7) vpn asid
+kept_ticks entries random spent vpn asid a b few kept =
+    let since = kept.since in
+    let most = kept.few in
+    weaker entries (ticked 64 8 random) (spent - 7 + 1) (spent + 1 - 7) vpn asid (omega arith) (steps entries random (spent - 7) vpn asid a b (omega arith) kept)
+
+pub kept_first : (entries : List Entry) (e : Entry) (random spent : ℕ) → length entries ≡ 64 → 8 ≤ random → random < 64 → 7 ≤ spent → IsKept (slice_set entries random e) (ticked 64 8 random) (spent + 1 - 7) e.vpn e.asid
+kept_first entries e random spent size a b begun = weaker (slice_set entries random e) (ticked 64 8 random) 1 (spent + 1 - 7) e.vpn e.asid (omega arith) (begins entries e random size a b)
+
+-- The turn of the first eight slots.
+
+pub turn_small : (wired : ℕ) → wired < 8 → turned wired < 8
+turn_small wired a = grind (arith, nat_tests)
+
+pub turn_on : (slot wired n : ℕ) → slot < 8 → wired < 8 → n < 8 → turns slot wired ≤ n → turns slot (turned wired) ≤ n + 1
+turn_on slot wired n a b c d = grind (arith, nat_tests)
+
+pub turn_first : (wired n : ℕ) → wired < 8 → turns wired (turned wired) ≤ n + 1
+turn_first wired n a = grind (arith, nat_tests)
+
+pub turn_apart : (slot wired n : ℕ) → n < 8 → turns slot wired ≤ n → slot ≢ wired
+turn_apart slot wired n a b = λ (e : ◌≡◌ {A = ℕ} slot wired). grind (arith, nat_tests)
+
+-- what stands at another place stays
+pub other_stays : (entries : List Entry) (at slot : ℕ) (e other : Entry) → slot ≢ at → slice_get entries slot ≡ Some e → slice_get (slice_set entries at other) slot ≡ Some e
+other_stays entries at slot e other apart is = read_set_other entries at slot other apart ∙ is
+
+pub table_first : (entries : List Entry) (e : Entry) (wired n : ℕ) → length entries ≡ 64 → wired < 8 → IsTableKept (slice_set entries wired e) (turned wired) (n + 1) e.vpn e.asid
+table_first entries e wired n size low =
+    let same = length-set entries wired e in
+    record {
+      slot = wired;
+      entry = e;
+      at = slice_get-get_or (set entries wired e) wired e (omega arith) ∙ ap (λ (x : Entry). Some x) (get_or-set_same entries wired e e (omega arith));
+      vpn = refl;
+      space = refl;
+      high = low;
+      few = turn_first wired n low;
+    }
+
+pub table_turns : (entries : List Entry) (e : Entry) (wired n vpn asid : ℕ) → wired < 8 → n < 8 → IsTableKept entries wired n vpn asid → IsTableKept (slice_set entries wired e) (turned wired) (n + 1) vpn asid
+table_turns entries e wired n vpn asid low less k = record {
+  slot = k.slot;
+  entry = k.entry;
+  at = other_stays entries wired k.slot k.entry e (turn_apart k.slot wired n less k.few) k.at;
+  vpn = k.vpn;
+  space = k.space;
+  high = k.high;
+  few = turn_on k.slot wired n k.high low less k.few;
+}
+
+-- a refill writes elsewhere
+pub table_stays : (entries : List Entry) (e : Entry) (random wired n vpn asid : ℕ) → 8 ≤ random → IsTableKept entries wired n vpn asid → IsTableKept (slice_set entries random e) wired n vpn asid
+table_stays entries e random wired n vpn asid low k =
+    let high = k.high in
+    let apart : k.slot ≢ random = λ (e : ◌≡◌ {A = ℕ} k.slot random). omega arith in
+    record { slot = k.slot; entry = k.entry; at = other_stays entries random k.slot k.entry e apart k.at; vpn = k.vpn; space = k.space; high = high; few = k.few }
+
+-- what is kept is found
+page_matches : (e : Entry) (vpn asid : ℕ) → e.vpn ≡ vpn → e.asid ≡ asid → matches vpn asid e ≡ true
+page_matches e vpn asid page space = grind (arith, nat_tests)
+
+pub table_found : (entries : List Entry) (wired n vpn asid : ℕ) → IsTableKept entries wired n vpn asid → find entries vpn asid ≡ None → ⊥
+table_found entries wired n vpn asid k is =
+    let all = (missed_match vpn asid entries None (sym is)).0 refl in
+    let within = slice_get_within entries k.slot k.entry k.at in
+    let no : not (matches vpn asid (get_or entries k.slot k.entry)) ≡ true = all k.slot k.entry within in
+    let here : get_or entries k.slot k.entry ≡ k.entry = get_or_from_slice_get entries k.slot k.entry k.entry k.at in
+    let wrong : not true ≡ true = subst (λ (b : Bool). not b ≡ true) (page_matches k.entry vpn asid k.vpn k.space) (subst (λ (x : Entry). not (matches vpn asid x) ≡ true) here no) in
+    absurd cc
+
+pub kept_found : (entries : List Entry) (random n vpn asid : ℕ) → IsKept entries random n vpn asid → find entries vpn asid ≡ None → ⊥
+kept_found entries random n vpn asid k is = let some : IsSome (find entries vpn asid) = found entries random n vpn asid k in absurd cc
+
+-- Entries whose keys stay.
+
+pub kept_keys : (old new : List Entry) (random n vpn asid : ℕ) → HasKeys old new → IsKept old random n vpn asid → IsKept new random n vpn asid
+kept_keys old new random n vpn asid keys k =
+    let f = keys k.slot k.entry k.at in
+    record { slot = k.slot; entry = f.0; at = f.1; page = f.2 ∙ k.page; space = f.3 ∙ k.space; low = k.low; high = k.high; since = k.since; few = k.few }
+
+pub table_keys : (old new : List Entry) (wired n vpn asid : ℕ) → HasKeys old new → IsTableKept old wired n vpn asid → IsTableKept new wired n vpn asid
+table_keys old new wired n vpn asid keys k =
+    let f = keys k.slot k.entry k.at in
+    record { slot = k.slot; entry = f.0; at = f.1; vpn = f.2 ∙ k.vpn; space = f.3 ∙ k.space; high = k.high; few = k.few }
+
+-- Steps of Random since the first refill.
+
+pub since_ticks : (slots : List ℕ) (since spent : ℕ) → IsSince slots since spent → IsSince slots (later slots since) (spent + 1)
+since_ticks [] since spent s = s
+since_ticks (slot ∷ more) since spent s = omega arith
+
+pub since_writes : (slots : List ℕ) (slot since spent : ℕ) → 7 ≤ spent → IsSince slots since spent → IsSince (slot ∷ slots) (since + 1) (spent + 1)
+since_writes [] slot since spent begun s = omega arith
+since_writes (other ∷ more) slot since spent begun s = omega arith
+
+-- an entry that is worded anew keeps its key
+pub keys_reworded : (entries : List Entry) (slot : ℕ) (old e : Entry) → slice_get entries slot ≡ Some old → e.vpn ≡ old.vpn → e.asid ≡ old.asid → HasKeys entries (slice_set entries slot e)
+keys_reworded entries slot old e is page space other f at = by_cases (cases_eq other slot)
+  where
+    by_cases : (other ≡ slot) ⊎ (other ≢ slot) → (g : Entry) × (slice_get (slice_set entries slot e) other ≡ Some g) × (g.vpn ≡ f.vpn) × (g.asid ≡ f.asid)
+    by_cases (inl here) =
+        let within = slice_get_within entries slot old is in
+        let size = length-set entries slot e in
+        let same : Some f ≡ Some old = sym at ∙ (ap (slice_get entries) here ∙ is) in
+        let alike : f ≡ old = cc in
+        let there : slice_get (set entries slot e) slot ≡ Some e = slice_get-get_or (set entries slot e) slot e (omega arith) ∙ ap (λ (x : Entry). Some x) (get_or-set_same entries slot e e within) in
+        (e, ap (slice_get (set entries slot e)) here ∙ there, page ∙ ap (λ (x : Entry). x.vpn) (sym alike), space ∙ ap (λ (x : Entry). x.asid) (sym alike))
+    by_cases (inr apart) = (f, read_set_other entries slot other e apart ∙ at, refl, refl)
+
+pub keys_again : (old between new : List Entry) → HasKeys old between → HasKeys between new → HasKeys old new
+keys_again old between new first second slot e at =
+    let f = first slot e at in
+    let g = second slot f.0 f.1 in
+    (g.0, g.1, g.2 ∙ f.2, g.3 ∙ f.3)
+
+-- a slot among these is where Random stood
+pub stood_among : (slots : List ℕ) (random n slot k : ℕ) → AllStood slots random n → k < length slots → slice_index_or slots k slot ≡ slot → Stood slot random n
+stood_among [] random n slot k all within is = absurd (omega arith)
+stood_among (first ∷ more) random n slot zero all within is = subst (λ (x : ℕ). Stood x random n) is all.0
+stood_among (first ∷ more) random n slot (suc k) all within is = stood_among more random n slot k all.1 (omega arith) is
+
+pub stood_apart : (slot random n : ℕ) → Stood slot random n → slot ≢ random
+stood_apart slot random n s = let since = s.since in λ (e : ◌≡◌ {A = ℕ} slot random). grind (arith, nat_tests)

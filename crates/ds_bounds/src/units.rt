@@ -1,0 +1,49 @@
+//! The course of a unit: it is short, and what it writes into the buffer stays.
+ghost use Rattle.std.specs.Prelude.{◌≡◌, ◌≢◌, ℕ, ◌<◌, ◌≤◌, List, length, slice_get, slice_set, Some};
+ghost use Rattle.ds_tlb.specs.declared.entry.Entry.{Entry};
+ghost use Rattle.ds_bounds.specs.Course.{Course, AtWord, AtDoubleMiss, AtModification};
+ghost use Rattle.ds_bounds.specs.Steps.{After, Begins, HasKeys, Next};
+ghost use Rattle.ds_bounds.specs.Tally.{IsShort, IsTallied, WasWritten, steps_ahead};
+
+/// A unit is tallied where it begins, and however it goes on; and what is tallied has few counts.
+pub fn a_unit_is_tallied()
+    ensures begins { (c : Course) → Begins c → IsTallied c }
+    ensures goes_on { (c d : Course) → IsTallied c → Next c d → IsTallied d }
+    ensures short { (c : Course) → IsTallied c → IsShort c.work }
+{}
+
+/// However many steps a unit takes before it ends, it has at most 61 instructions, 4 refills, 54
+/// steps of Random since the first of these, 4 entries of page tables' pages, and 6 services.
+pub fn a_units_course_is_short()
+    ensures { (n : ℕ) (c d : Course) → Begins c → After n c d → IsShort d.work }
+{}
+
+/// What a unit has written into the buffer is not replaced while it goes on, except by the service
+/// of a copy, which leaves each slot its page and its address space. Each step leaves fewer to take.
+pub fn what_a_unit_writes_stays()
+    ensures stays { (c d : Course) (slot : ℕ) → IsTallied c → Next c d → c.place ≢ AtModification
+        → WasWritten c.work slot → slice_get d.work.entries slot ≡ slice_get c.work.entries slot }
+    ensures grows { (c d : Course) (slot : ℕ) → IsTallied c → Next c d → WasWritten c.work slot
+        → WasWritten d.work slot }
+    ensures falls { (c d : Course) → IsTallied c → Next c d → steps_ahead d < steps_ahead c }
+{}
+
+/// An entry may be replaced by one of the same page and address space; so may many, one after the
+/// other.
+pub fn keys_stay()
+    ensures one { (entries : List Entry) (slot : ℕ) (old e : Entry)
+        → slice_get entries slot ≡ Some old → e.vpn ≡ old.vpn → e.asid ≡ old.asid
+        → HasKeys entries (slice_set entries slot e) }
+    ensures many { (old between new : List Entry) → HasKeys old between → HasKeys between new
+        → HasKeys old new }
+{}
+
+/// Before a refill writes, at most three slots were written. Before a service after which the unit
+/// goes on there were at most five services, and at a double miss at most three entries of page
+/// tables' pages.
+pub fn there_is_room_to_count()
+    ensures refill { (c : Course) → IsTallied c → c.place ≡ AtWord 6 → length c.work.written ≤ 3 }
+    ensures table { (c : Course) → IsTallied c → c.place ≡ AtDoubleMiss
+        → (c.work.tables ≤ 3) × (c.work.services ≤ 5) }
+    ensures copy { (c : Course) → IsTallied c → c.place ≡ AtModification → c.work.services ≤ 5 }
+{}

@@ -1,0 +1,4 @@
+pub mod Needs
+pub mod Asks
+pub mod Counts
+pub mod Rows
