@@ -1,5 +1,5 @@
 -- Registers 26 and 27 while the handler has them, and Random as it passes.
-use Rattle.std.proofs.Common.{◌≡◌, ◌≢◌, ℕ, ◌-◌, ◌<◌, ◌≤◌, ◌==◌, Bool, true, false, cond, List, length, set, Option, None, sym, ap, ◌∙◌, arith, inl, inr, length-set}
+use Rattle.std.proofs.Common.{◌≡◌, ◌≢◌, ℕ, ◌-◌, ◌<◌, ◌≤◌, ◌==◌, Bool, true, false, cond, List, length, set, Option, None, sym, ap, ap₂, ◌∙◌, arith, inl, inr, length-set}
 use Rattle.std.proofs.lemmas.Bool.{cases_eq}
 use Rattle.std.proofs.lemmas.Bool.Decides.{nat_tests}
 use Rattle.std.proofs.lemmas.List.{get_or-set_same, get_or-set_other, set-set, set_comm, set-get_or}
@@ -7,8 +7,8 @@ use Rattle.std.specs.Prelude.{slice_index}
 use Rattle.ds_isa.specs.declared.instr.Late.{Late}
 use Rattle.ds_isa.specs.Registers.{Registers, settled}
 use Rattle.ds_tlb.specs.Entries.{ticked}
-use Rattle.ds_refill_laws.specs.Refill.{lent}
-use Rattle.ds_pagemap.specs.Machine.{Process, touched_process}
+use Rattle.ds_core.specs.Core.{CoreState}
+use Rattle.ds_refill_laws.specs.Refill.{lent, at_word}
 
 pub apart : ◌≢◌ {A = ℕ} 27 26
 apart = λ (e : ◌≡◌ {A = ℕ} 27 26). omega arith
@@ -40,10 +40,6 @@ lent_itself r =
     ap (λ (g : List ℕ). record r { general = g; late = None })
     (sym (ap (λ (l : List ℕ). set l 27 (slice_index r.general 27)) (set-get_or r.general 26 0) ∙ set-get_or r.general 27 0))
 
--- who is touched may be touched again
-pub touched_twice : (q : Process) → touched_process q ≡ touched_process (touched_process q)
-touched_twice q = ap (λ (g : List ℕ). record q { registers = record q.registers { general = g; late = None } }) (sym (lent_again q.registers.general 0 q.pc 0 q.pc))
-
 -- Random stays among the slots from 8 to 63.
 
 pub ticked_low : (r : ℕ) → 8 ≤ r → r < 64 → 8 ≤ ticked 64 8 r
@@ -57,3 +53,11 @@ ticked_high r low high = elim (cases_eq r 8) [
   | inl at ↦ (let e : ticked 64 8 r ≡ 63 = ap (λ (b : Bool). cond b 63 (r - 1)) (let t : (r == 8) ≡ true = grind (arith, nat_tests) in t) in omega arith)
   | inr above ↦ (let e : ticked 64 8 r ≡ r - 1 = ap (λ (b : Bool). cond b 63 (r - 1)) (let t : (r == 8) ≡ false = grind (arith, nat_tests) in t) in omega arith)
 ]
+
+-- The processor by its seven values.
+
+pub is_at_word : (c : CoreState) (pc next : ℕ) (slot : Bool) (r : Registers) → c.pc ≡ pc → c.next ≡ next → c.slot ≡ slot → c.registers ≡ r → c ≡ at_word pc next slot r c.system c.entries c.random
+is_at_word c pc next slot r e f g h =
+    ap (λ (x : ℕ). at_word x c.next c.slot c.registers c.system c.entries c.random) e
+    ∙ ap (λ (x : ℕ). at_word pc x c.slot c.registers c.system c.entries c.random) f
+    ∙ ap₂ (λ (x : Bool) (y : Registers). at_word pc next x y c.system c.entries c.random) g h

@@ -17,8 +17,7 @@ use Rattle.ds_refill.specs.Handler.{HasWords}
 use Rattle.ds_refill_laws.specs.Refill.{IsKernel, lent, at_word, later, handler_events}
 use Rattle.ds_refill_laws.proofs.Whole.{word_0, word_1, word_2, word_3, word_4, word_5, word_6, word_7, word_8}
 use Rattle.ds_handler.specs.Refills.{after_refill, CanLoad, RunsInside}
-use Rattle.ds_handler.proofs.Lent.{lent_itself}
-use Rattle.ds_handler.proofs.Words.{is_at_word}
+use Rattle.ds_handler.proofs.Lent.{lent_itself, is_at_word}
 
 -- registers without a late load
 none_late : (r : Registers) → r.late ≡ None → r ≡ lent r (slice_index r.general 26) (slice_index r.general 27) None

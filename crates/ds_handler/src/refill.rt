@@ -1,10 +1,8 @@
 //! A whole refill at once: what the nine words of the handler make of the processor.
-ghost use Rattle.std.specs.Prelude.{◌≡◌, ◌%◌, true, false, None, IfSome, ℕ, List, ◌∷◌, length, slice_index};
-ghost use Rattle.ds_core.specs.Core.{CoreState};
+ghost use Rattle.std.specs.Prelude.{◌≡◌, ◌%◌, true, false, None, IfSome, length, slice_index};
 ghost use Rattle.ds_refill.specs.Handler.{HasWords};
 ghost use Rattle.ds_refill_laws.specs.Refill.{IsKernel, handler_events};
-ghost use Rattle.ds_refinement.specs.Held.{Held};
-ghost use Rattle.ds_handler.specs.Refills.{after_refill, CanLoad, RunsInside, RealPath, with_refill};
+ghost use Rattle.ds_handler.specs.Refills.{after_refill, CanLoad, RunsInside};
 
 use ds_amap::{Access, Mode, Physical, reach};
 use ds_core::Core;
@@ -105,10 +103,3 @@ fn put<L: Lookaside>(core: &mut Core<L>, word: u32)
     core.slot = false;
     core.cp0.rfe();
 }
-
-/// A whole refill at once is a path of nine steps, each an instruction of the processor that counts
-/// and ends no unit, and each followed by the machine: it is touched with the seventh.
-pub fn a_refill_is_nine_real_steps()
-    ensures { (h : Held) (c : CoreState) (p : ℕ) (rest : List ℕ) → h.kept.state.ready ≡ p ∷ rest
-        → RunsInside handler_events h.core h.bus c → RealPath h (with_refill h c 9) }
-{}

@@ -1,17 +1,14 @@
 -- How far a block of instructions may go.
-use Rattle.std.proofs.Common.{◌≡◌, ◌≢◌, ℕ, ◌+◌, ◌-◌, ◌<◌, ◌≤◌, Bool, true, false, not, nat_le, List, [], ◌∷◌, None, refl, sym, ap, subst, ◌∙◌, arith}
+use Rattle.std.proofs.Common.{◌≡◌, ◌≢◌, ℕ, ◌+◌, ◌-◌, ◌<◌, ◌≤◌, Bool, true, false, nat_le, List, [], ◌∷◌, None, refl, sym, subst, arith}
 use Rattle.std.specs.Prelude.{min, is_some, Option, Some}
 use Rattle.std.specs.List.Sorted.{IsNonDecreasingBy}
 use Rattle.std.proofs.lemmas.Bool.Decides.{nat_tests}
 use Rattle.std.proofs.Math.Nat.{min-eq_left, min-eq_right, min-le_right}
 use Rattle.ds_cp0.specs.System.{is_user}
-use Rattle.ds_core.specs.Core.{CoreState}
 use Rattle.ds_core.specs.Ahead.{owed_tick}
 use Rattle.ds_policy.specs.InputFacts.{has_time, comes_at}
 use Rattle.ds_pagemap.specs.declared.turn.Turn.{Turn}
-use Rattle.ds_pagemap.specs.Machine.{State, first}
-use Rattle.ds_refinement.specs.Held.{Kept}
-use Rattle.ds_refinement.specs.Stands.{RunningBy, OnProcessor}
+use Rattle.ds_pagemap.specs.Machine.{first}
 use Rattle.ds_refinement.specs.Blocks.{MayRunAhead}
 use Rattle.ds_refinement.proofs.Quieter.{quiet_until, user_status_of}
 use Rattle.ds_monitor.specs.Coming.{first_time, first_event, period_end}
@@ -21,28 +18,15 @@ use Rattle.ds_kernel.specs.Good.{IsGood}
 use Rattle.ds_kernel.proofs.Waiting.{due_later, passed_later}
 use Rattle.ds_kernel.proofs.Bounding.{nothing_due}
 
--- an exception that waits has been counted in its unit, so where none or the branch alone is counted none waits
-user_by : (user slot : Bool) (c : CoreState) (p : ℕ) (m : State) (spent : ℕ) → (user ≡ false → 0 < spent) → spent ≡ owed_tick c.slot → OnProcessor user slot c p m → user ≡ true
-user_by true slot c p m spent raised is on = refl
-user_by false slot c p m spent raised is on =
-    let none : spent ≡ 0 = is ∙ ap owed_tick on.first in
-    let some : 0 < spent = raised refl in
-    absurd (omega (arith, none, some))
-
-user_of : (queue : List ℕ) (c : CoreState) (k : Kept) (m : State) (spent : ℕ) → queue ≢ [] → (is_user c.system ≡ false → 0 < spent) → spent ≡ owed_tick c.slot → RunningBy queue c k m → is_user c.system ≡ true
-user_of [] c k m spent some raised is running = absurd (some refl)
-user_of (p ∷ rest) c k m spent some raised is running = user_by (is_user c.system) c.slot c p m spent raised is running.on
-
-pub may_run_ahead : {L : Type 0} (p : Parts L) (limit : ℕ) → IsGood p → IsNonDecreasingBy has_time p.monitor.due.commands → IsNonDecreasingBy comes_at p.monitor.due.characters → p.monitor.owed ≡ None → p.monitor.ready ≢ [] → p.spent ≡ owed_tick p.core.slot
+pub may_run_ahead : {L : Type 0} (p : Parts L) (limit : ℕ) → IsGood p → IsNonDecreasingBy has_time p.monitor.due.commands → IsNonDecreasingBy comes_at p.monitor.due.characters → p.monitor.owed ≡ None → p.monitor.ready ≢ [] → is_user p.core.system ≡ true → p.spent ≡ owed_tick p.core.slot
     → p.monitor.time + limit + 1 < p.monitor.quiet_until → MayRunAhead limit (held p)
-may_run_ahead p limit good commands order owed ready spent early =
-    let user : is_user p.core.system ≡ true = user_of p.monitor.ready p.core (held p).kept good.sound.state p.spent ready (λ e. good.orderly.raised (ap not e)) spent good.sound.stands.running in record {
-      owed = owed;
-      ready = ready;
-      mode = user_status_of (held p) good.sound user;
-      spent = spent;
-      quiet = quiet_until (p.monitor.time + limit + 1) (held p).kept good.orderly.ticked (nothing_due p.monitor (p.monitor.time + limit + 1) p.monitor.owed commands order good.next early good.orderly.kept.lawful);
-    }
+may_run_ahead p limit good commands order owed ready user spent early = record {
+  owed = owed;
+  ready = ready;
+  mode = user_status_of (held p) good.sound user;
+  spent = spent;
+  quiet = quiet_until (p.monitor.time + limit + 1) (held p).kept good.orderly.ticked (nothing_due p.monitor (p.monitor.time + limit + 1) p.monitor.owed commands order good.next early good.orderly.kept.lawful);
+}
 
 below_both : (a b t : ℕ) → t < a → t < b → t < min a b
 below_both a b t x y = elim (nat_le a b) as (λ (r : Bool). nat_le a b ≡ r → t < min a b) [

@@ -13,7 +13,7 @@ use Rattle.ds_pagemap.specs.Machine.{State, Process, process_of, lives}
 use Rattle.ds_pagemap.specs.Calls.{answered, or_number, or_denied, queue_of, after_get, after_wait, served}
 use Rattle.ds_pagemap.specs.Unit.{settle, at_pc}
 use Rattle.ds_refinement.specs.Held.{Kept}
-use Rattle.ds_refinement.specs.Stands.{ends_in_call}
+use Rattle.ds_refinement.specs.Units.{ends_in_call}
 use Rattle.ds_refinement.specs.Services.{Serves}
 use Rattle.ds_refinement.proofs.Registers.{HasSeat, seat_kept, process_put, registers_put}
 use Rattle.ds_kernel.specs.Seats.{AreAnswered}

@@ -1,11 +1,13 @@
 -- A call that is answered at once: what is held after it and its boundary, with the seat of the process as it was.
+use Rattle.std.proofs.lemmas.Bool.Decides.{nat_tests}
 use Rattle.std.proofs.Common.{◌≡◌, ℕ, ◌+◌, ◌%◌, ◌<◌, ◌≤◌, ◌==◌, Bool, true, false, cond, List, [], ◌∷◌, ◌++◌, length, length-set, Option, Some, None, refl, sym, ap, ap₂, subst, ◌∙◌, arith, ◌⊎◌, inl, inr}
-use Rattle.std.specs.Prelude.{IsSome, slice_index, slice_set, slice_index_or, drop}
+use Rattle.std.specs.Prelude.{slice_index, slice_set, slice_index_or, drop}
 use Rattle.ds_word.specs.Word.{word}
 use Rattle.ds_cp0.specs.System.{System, is_user}
 use Rattle.ds_core.specs.Core.{CoreState}
 use Rattle.ds_core.specs.Ahead.{owed_tick}
 use Rattle.ds_dev.specs.Bus.{BusState}
+use Rattle.ds_refill.specs.Handler.{HasWords}
 use Rattle.ds_procs.specs.declared.process.Standing.TheVariants.{Ready}
 use Rattle.ds_procs.specs.declared.call.Call.{Call}
 use Rattle.ds_procs.specs.declared.call.Call.TheVariants as call
@@ -29,14 +31,16 @@ use Rattle.ds_refinement.specs.declared.step.Step.TheVariants.{Unit, Boundary}
 use Rattle.ds_refinement.specs.declared.cause.Cause.TheVariants as cause
 use Rattle.ds_refinement.specs.Told.{told, code_in, is_delayed}
 use Rattle.ds_refinement.specs.Held.{Held, Kept, vacated, whole, space_of}
-use Rattle.ds_refinement.specs.Stands.{Stands, IsSound, AreResting, RunningIs, RunningBy, ends_in_call}
+use Rattle.ds_refinement.specs.Units.{ends_in_call, is_served, has_left_user}
+use Rattle.ds_refinement.specs.Stands.{Stands, IsSound, AreResting, RunningIs, RunningBy}
 use Rattle.ds_refinement.specs.Services.{IsBare, Serves, seated, with_first_seated, with_boundary, with_none_spent}
 use Rattle.ds_refinement.specs.Ends.{EndsInCall}
 use Rattle.ds_refinement.specs.Quiet.{IsQuiet}
-use Rattle.ds_refinement.specs.Real.{StopsBy, GoesBackBy, GoesBack}
+use Rattle.ds_refinement.specs.Real.{EndsReally, GoesOnReally, GoesBack}
 use Rattle.ds_refinement.specs.Runs.{held_goes_on}
 use Rattle.ds_refinement.proofs.RunSteps.{begins_goes}
 use Rattle.ds_refinement.proofs.Boundaries.{quiet}
+use Rattle.ds_refinement.proofs.NoNewPairs.{same_pairs}
 use Rattle.ds_refinement.proofs.Registers.{HasSeat, seat_kept, process_put}
 use Rattle.ds_monitor.specs.Sending.{with_sent}
 use Rattle.ds_monitor.specs.Coming.{next_due}
@@ -55,7 +59,7 @@ use Rattle.ds_kernel.specs.Good.{IsOrderly, IsGood}
 use Rattle.ds_kernel.specs.Ended.{Does}
 use Rattle.ds_kernel.specs.Going.{GoesOn}
 use Rattle.ds_kernel.proofs.Bounding.{nothing_due}
-use Rattle.ds_kernel.proofs.Doing.{call_does}
+use Rattle.ds_kernel.proofs.Doing.{call_does, kernel_of}
 use Rattle.ds_kernel.proofs.Entering.{entering}
 use Rattle.ds_kernel.proofs.Finishing.{resting, sent_rests}
 use Rattle.ds_kernel.proofs.Running.{step_goes, goes_join, owed_goes_on}
@@ -66,9 +70,17 @@ use Rattle.ds_kernel.proofs.Stepping.{sound_behind, none_is_not_some}
 told_call : (s : System) (pages : PageState) (p : ℕ) → code_in s ≡ 8 → told s pages p ≡ cause.Call
 told_call s pages p is = let e : (code_in s == 8) ≡ true = ap (λ (n : ℕ). n == 8) is in grind arith
 
+-- who has the one address space's number has the space
+owner_of : (k : Kept) (p : ℕ) → 0 < space_of k p → k.owner ≡ p
+owner_of k p some = by p k.owner (p == k.owner) refl some
+  where
+    by : (p owner : ℕ) (b : Bool) → (p == owner) ≡ b → 0 < cond b 1 0 → owner ≡ p
+    by p owner true is some = grind (arith, nat_tests)
+    by p owner false is some = (let no : 0 < 0 = some in absurd (omega (arith, no)))
+
 -- what is held, by its parts
-abbrev held_by : CoreState → BusState → Kept → Bool → ℕ → Held
-held_by c b k failed spent = record { core = c; bus = b; kept = k; own = record { failed = failed; spent = spent } }
+abbrev held_by : CoreState → BusState → Kept → Bool → ℕ → ℕ → Held
+held_by c b k failed spent wired = record { core = c; bus = b; kept = k; own = record { failed = failed; spent = spent; wired = wired } }
 
 -- a state with other queues and consoles
 abbrev pub with_texts : State → List (List ℕ) → List (List ℕ) → State
@@ -98,7 +110,7 @@ pub record Answers (s : State) (p pc : ℕ) (asked : Call) (answer : ℕ) (queue
   pub asleep : NobodyWakes s → NobodyWakes (with_texts s queues consoles)
 
 -- A call of the process that runs.
-module _ (h : Held) (p : ℕ) (rest : List ℕ) (asked : Call) (answer : ℕ) (queues consoles : List (List ℕ)) (b : BusState) (sound : IsSound h) (ready : h.kept.state.ready ≡ p ∷ rest) (kernel : is_user h.core.system ≡ false)
+module _ (h : Held) (p : ℕ) (rest : List ℕ) (asked : Call) (answer : ℕ) (queues consoles : List (List ℕ)) (b : BusState) (sound : IsSound h) (ready : h.kept.state.ready ≡ p ∷ rest) (serving : is_served h.core ≡ true) (from_user : has_left_user h.core ≡ true)
     (unowed : h.kept.state.owed ≡ None) (bare : IsBare h.kept.state) (seat : HasSeat h.kept.state p) (standing : (process_of h.kept.state p).standing ≡ Ready) (code : code_in h.core.system ≡ 8) (outside : is_delayed h.core.system ≡ false)
     (asks : call_of h.core.registers.general ≡ asked) (by : Answers h.kept.state p h.core.system.epc asked answer queues consoles h.bus b) where
   abbrev s : State
@@ -137,6 +149,9 @@ module _ (h : Held) (p : ℕ) (rest : List ℕ) (asked : Call) (answer : ℕ) (q
 
   abbrev left : State
   left = with_process s p leaving
+
+  kernel : is_user h.core.system ≡ false
+  kernel = kernel_of h.core serving
 
   seat_is : seated h.core h.kept ≡ record h.kept { state = left }
   seat_is =
@@ -184,15 +199,17 @@ module _ (h : Held) (p : ℕ) (rest : List ℕ) (asked : Call) (answer : ℕ) (q
   ends : EndsInCall p h in_seat
   ends = record {
     serves = serves;
-    enters = entering s.ready p h.core in_seat.core in_seat.kept (ap first ready) (seat.0, (seat_kept later p behind seat).1, ap (λ (x : Process). x.standing) there ∙ standing) runs.owner (ap (on_processor h.core) (sym there));
+    enters = entering s.ready p h.core in_seat.core in_seat.kept (ap first ready) (seat.0, (seat_kept later p behind seat).1, ap (λ (x : Process). x.standing) there ∙ standing) (owner_of h.kept p runs.number) (ap (on_processor h.core) (sym there));
     represented = subst (λ (x : List ℕ). IsRepresented h.core.entries x h.kept.tables (space_of h.kept) h.kept.grants) (sym by.memory) sound.stands.represented;
+    vectors = subst HasWords (sym by.memory) sound.stands.vectors;
+    base = record { tables = sound.stands.base.tables; whole = sound.stands.base.whole };
     grants = sound.stands.grants;
     size = ap (λ (x : List ℕ). length x) by.memory;
     devices = by.rests in_seat.kept (resting h.bus h.kept in_seat.kept (Some p) unowed refl refl refl sound.stands.devices);
   }
 
   seated_does : Does Unit h in_seat
-  seated_does = call_does h p rest sound ready kernel in_seat unowed (told_call h.core.system (page_state h.kept.grants h.bus.memory) p code) outside refl refl ends
+  seated_does = call_does h p rest sound ready serving from_user in_seat unowed (told_call h.core.system (page_state h.kept.grants h.bus.memory) p code) outside refl refl (same_pairs h.core.entries) ends
 
   -- The running process's saved registers are meaningless.
 
@@ -205,14 +222,16 @@ module _ (h : Held) (p : ℕ) (rest : List ℕ) (asked : Call) (answer : ℕ) (q
     standing = r.standing;
     kept = standing;
     line = r.line ∙ ap (λ (x : Process). x.line) there;
-    owner = r.owner;
-    space = r.space;
+    number = r.number;
+    set = r.set;
     on = r.on;
   }
 
   unseated : (m : State) → Stands in_seat m → Stands owing m
   unseated m k = record {
     represented = k.represented;
+    vectors = k.vectors;
+    base = k.base;
     grants = k.grants;
     size = k.size;
     kept = record { ready = k.kept.ready; state = k.kept.state ∙ vacant; pages = k.kept.pages; log = k.kept.log; lines = k.kept.lines };
@@ -221,19 +240,18 @@ module _ (h : Held) (p : ℕ) (rest : List ℕ) (asked : Call) (answer : ℕ) (q
   }
 
   still_back : GoesBack h in_seat → GoesBack h owing
-  still_back g = record { mode = g.mode; address = g.address; bus = g.bus; slot = g.slot; entry = g.entry; entries = g.entries; asked = g.asked }
+  still_back g = record { mode = g.mode; address = g.address; pages = g.pages; devices = g.devices; answered = g.answered }
 
-  still_served : (IsSome in_seat.kept.state.owed × StopsBy s.ready h) ⊎ (GoesBackBy s.ready h × GoesBack h in_seat)
-      → (IsSome owing.kept.state.owed × StopsBy s.ready h) ⊎ (GoesBackBy s.ready h × GoesBack h owing)
-  still_served (inl ends) = inl ends
-  still_served (inr back) = inr (back.0, still_back back.1)
+  still_served : EndsReally h in_seat ⊎ GoesOnReally h in_seat → EndsReally h owing ⊎ GoesOnReally h owing
+  still_served (inl e) = inl (record { owed = e.owed; left = e.left; stops = e.stops })
+  still_served (inr g) = inr (record { may = g.may; back = still_back g.back })
 
   unit_does : Does Unit h owing
   unit_does =
       let d = seated_does in record {
         follows = record { follows = λ m k. (let t = d.follows.follows m k in (t.0, t.1, unseated t.0 t.2)) };
         moves = d.moves;
-        real = record { instruction = d.real.instruction; service = λ unit served. still_served (d.real.service unit served); random = d.real.random };
+        real = record { instruction = d.real.instruction; service = λ unit served. still_served (d.real.service unit served); random = d.real.random; pairs = d.real.pairs };
       }
 
   -- The boundary after it.
@@ -247,6 +265,7 @@ module _ (h : Held) (p : ℕ) (rest : List ℕ) (asked : Call) (answer : ℕ) (q
           instruction = λ unit other. (let no : Some (record { began = s.time; runner = Some p }) ≡ None = unit.0 in absurd (cc));
           service = λ unit other. (let no : Some (record { began = s.time; runner = Some p }) ≡ None = unit.0 in absurd (cc));
           random = λ all. refl;
+          pairs = λ all. same_pairs owing.core.entries;
         };
       }
 
@@ -267,7 +286,7 @@ module _ (h : Held) (p : ℕ) (rest : List ℕ) (asked : Call) (answer : ℕ) (q
       let ticked : h.kept.ticked ≤ s.time = o.ticked in record {
         begun = λ some. refl;
         failed = λ is. refl;
-        raised = λ is. (let no : false ≡ true = is in absurd (cc));
+        raised = λ is. (let no : true ≡ false = is in absurd (cc));
         running = λ some. (let no : 0 < 0 = some in absurd (omega (arith, no)));
         spent = omega arith;
         lines = omega (arith, lines);
@@ -290,7 +309,7 @@ module _ {L : Type 0} (p answer : ℕ) (asked : Call) (queues consoles : List (L
     (commands : IsNonDecreasingBy has_time old.monitor.due.commands) (order : IsNonDecreasingBy comes_at old.monitor.due.characters)
     (core : new.core ≡ on_processor old.core (behind_call old.core answer (process_of (kept_of old.monitor).state p)))
     (kept : kept_of new.monitor ≡ record (kept_of old.monitor) { state = record (with_texts (kept_of old.monitor).state queues consoles) { time = old.monitor.time + 1 } })
-    (until : new.monitor.quiet_until ≡ old.monitor.quiet_until) (log : HasLogRoom 1 old.monitor → HasLogRoom 1 new.monitor) (failed : new.failed ≡ old.failed) (spent : new.spent ≡ 0) where
+    (until : new.monitor.quiet_until ≡ old.monitor.quiet_until) (log : HasLogRoom 1 old.monitor → HasLogRoom 1 new.monitor) (failed : new.failed ≡ old.failed) (spent : new.spent ≡ 0) (wired : new.wired ≡ old.wired) where
   abbrev h : Held
   h = held old
 
@@ -308,10 +327,11 @@ module _ {L : Type 0} (p answer : ℕ) (asked : Call) (queues consoles : List (L
 
   is : held new ≡ closed_held
   is =
-      ap (λ (c : CoreState). held_by c new.bus (kept_of new.monitor) new.failed new.spent) core
-      ∙ (ap (λ (k : Kept). held_by closed_held.core new.bus k new.failed new.spent) kept
-      ∙ (ap (λ (o : Option Turn). held_by closed_held.core new.bus (record (kept_of old.monitor) { state = record state_then { owed = o } }) new.failed new.spent) unowed
-      ∙ ap₂ (λ (f : Bool) (n : ℕ). held_by closed_held.core new.bus closed_held.kept f n) failed spent))
+      ap (λ (c : CoreState). held_by c new.bus (kept_of new.monitor) new.failed new.spent new.wired) core
+      ∙ (ap (λ (k : Kept). held_by closed_held.core new.bus k new.failed new.spent new.wired) kept
+      ∙ (ap (λ (o : Option Turn). held_by closed_held.core new.bus (record (kept_of old.monitor) { state = record state_then { owed = o } }) new.failed new.spent new.wired) unowed
+      ∙ (ap₂ (λ (f : Bool) (n : ℕ). held_by closed_held.core new.bus closed_held.kept f n new.wired) failed spent
+      ∙ ap (λ (w : ℕ). held_by closed_held.core new.bus closed_held.kept old.failed 0 w) wired)))
 
   none : IsQuiet (owing_of h p answer queues consoles new.bus).kept
   none =
@@ -328,13 +348,13 @@ module _ {L : Type 0} (p answer : ℕ) (asked : Call) (queues consoles : List (L
   queue = (first_rest old.monitor.ready p waits.busy.first).1
 
   sound : IsSound closed_held
-  sound = sound_then h p others asked answer queues consoles new.bus good.sound queue waits.kernel unowed (record { memory = refl; log = refl }) (ready.0, ready.1) ready.2 waits.code waits.outside asks by good.orderly.ticked none
+  sound = sound_then h p others asked answer queues consoles new.bus good.sound queue waits.called.served waits.called.left unowed (record { memory = refl; log = refl }) (ready.0, ready.1) ready.2 waits.called.code waits.outside asks by good.orderly.ticked none
 
   good_behind : IsGood new
   good_behind = record {
     sound = subst IsSound (sym is) sound;
     orderly = subst IsOrderly (sym is)
-        (orderly_then h p others asked answer queues consoles new.bus good.sound queue waits.kernel unowed (record { memory = refl; log = refl }) (ready.0, ready.1) ready.2 waits.code waits.outside asks by waits.busy.early good.orderly);
+        (orderly_then h p others asked answer queues consoles new.bus good.sound queue waits.called.served waits.called.left unowed (record { memory = refl; log = refl }) (ready.0, ready.1) ready.2 waits.called.code waits.outside asks by waits.busy.early good.orderly);
     room = λ some. absurd (omega (arith, spent, some));
     owed = λ some. absurd (none_is_not_some new.monitor.owed (ap (λ (x : Held). x.kept.state.owed) is) some);
     next = until ∙ (good.next ∙ sym (ap next_due kept));
@@ -343,7 +363,7 @@ module _ {L : Type 0} (p answer : ℕ) (asked : Call) (queues consoles : List (L
   goes_behind : (n : ℕ) → old.monitor.time < n → GoesOn n h (held new)
   goes_behind n before =
       subst (λ (x : Held). GoesOn n h x) (sym is)
-      (goes_then h p others asked answer queues consoles new.bus good.sound queue waits.kernel unowed (record { memory = refl; log = refl }) (ready.0, ready.1) ready.2 waits.code waits.outside asks by n good.orderly.ticked none before)
+      (goes_then h p others asked answer queues consoles new.bus good.sound queue waits.called.served waits.called.left unowed (record { memory = refl; log = refl }) (ready.0, ready.1) ready.2 waits.called.code waits.outside asks by n good.orderly.ticked none before)
 
   pub is_answered : IsAnswered old new
   is_answered = record {
@@ -351,6 +371,7 @@ module _ {L : Type 0} (p answer : ℕ) (asked : Call) (queues consoles : List (L
     goes = goes_behind;
     unowed = ap (λ (x : Held). x.kept.state.owed) is;
     ready = ap (λ (k : Kept). k.state.ready) kept;
+    user = ap (λ (c : CoreState). is_user c.system) core;
     begins = spent ∙ sym (ap (λ (c : CoreState). owed_tick c.slot) core);
     until = until;
     log = log;

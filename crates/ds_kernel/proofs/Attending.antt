@@ -17,9 +17,10 @@ use Rattle.ds_pagemap.specs.Machine.{State, Process, process_of, with_process}
 use Rattle.ds_pagemap.specs.Boundary.{all_queued, woken, rotated, has_passed, boundary}
 use Rattle.ds_pagemap_laws.specs.Due.{come}
 use Rattle.ds_refinement.specs.Held.{Held, Kept, whole, began_or, last_boundary}
-use Rattle.ds_refinement.specs.Stands.{IsSound, RunningBy, OnProcessor, AreResting, user_status}
+use Rattle.ds_refinement.specs.Units.{user_status, is_general, has_left_user}
+use Rattle.ds_refinement.specs.Stands.{IsSound, RunningBy, OnProcessor, AreResting}
 use Rattle.ds_refinement.specs.Services.{Serves, seated_process, with_first_seated}
-use Rattle.ds_refinement.proofs.Boundaries.{owed_is}
+use Rattle.ds_refinement.proofs.Boundaries.{owed_is, kernel_owes}
 use Rattle.ds_monitor.specs.Commands.{commanded}
 use Rattle.ds_kernel.specs.Devices.{typed, emptied, interrupted}
 use Rattle.ds_kernel.specs.Attended.{to_come, bus_at, read_out, unowed, ruled}
@@ -34,14 +35,14 @@ abbrev pub FirstBy : List ℕ → CoreState → Type 0
 FirstBy [] c = Unit {0}
 FirstBy (p ∷ rest) c = c.slot ≡ false
 
-begins_by : (user slot : Bool) (c : CoreState) (p : ℕ) (m : State) (turn : Turn) → m.owed ≡ Some turn → OnProcessor user slot c p m → (c.system.status ≡ user_status) × (c.slot ≡ false)
-begins_by false slot c p m turn o a = let no : Some turn ≡ None = sym o ∙ a.owed in absurd (cc)
-begins_by true true c p m turn o a = let no : Some turn ≡ None = sym o ∙ a.owed in absurd (cc)
-begins_by true false c p m turn o a = (a.mode, a.first)
+begins_by : (user slot : Bool) (c : CoreState) (k : Kept) (p : ℕ) (m : State) (turn : Turn) → m.owed ≡ Some turn → OnProcessor user slot c k p m → (c.system.status ≡ user_status) × (c.slot ≡ false)
+begins_by false slot c k p m turn o a = let no : Some turn ≡ None = sym o ∙ kernel_owes (is_general c) (has_left_user c) c k p m a in absurd (cc)
+begins_by true true c k p m turn o a = let no : Some turn ≡ None = sym o ∙ a.owed in absurd (cc)
+begins_by true false c k p m turn o a = (a.mode, a.first)
 
 rests_by : (queue : List ℕ) (c : CoreState) (k : Kept) (m : State) (turn : Turn) → m.owed ≡ Some turn → RunningBy queue c k m → (c.system.status ≡ user_status) × FirstBy queue c
 rests_by [] c k m turn o a = (a, tt)
-rests_by (p ∷ rest) c k m turn o a = begins_by (is_user c.system) c.slot c p m turn o a.on
+rests_by (p ∷ rest) c k m turn o a = begins_by (is_user c.system) c.slot c k p m turn o a.on
 
 pub at_boundary : (h : Held) (turn : Turn) → IsSound h → h.kept.state.owed ≡ Some turn → (h.core.system.status ≡ user_status) × FirstBy h.kept.state.ready h.core
 at_boundary h turn sound owed = rests_by h.kept.state.ready h.core h.kept sound.state turn (owed_is h sound.state sound.stands ∙ owed) sound.stands.running

@@ -1,12 +1,11 @@
 -- The beginning of a run leaves the station as it should be.
-use Rattle.std.proofs.Common.{◌≡◌, ℕ, ◌≤◌, List, length, true, false, not, None, sym, ap, subst, ◌∙◌, arith}
+use Rattle.std.proofs.Common.{◌≡◌, ℕ, ◌≤◌, List, length, true, false, None, sym, ap, subst, ◌∙◌, arith}
 use Rattle.ds_cp0.specs.System.{is_user}
 use Rattle.ds_core.specs.Core.{CoreState}
 use Rattle.ds_policy.specs.Value.{PolicyValue, InputValue}
 use Rattle.ds_pagemap.specs.First.{first_state}
 use Rattle.ds_refinement.specs.Held.{Kept, Own}
 use Rattle.ds_refinement.specs.Stands.{Stands}
-use Rattle.ds_refinement.specs.Steps.{is_in_kernel}
 use Rattle.ds_refinement.specs.First.{IsFirst}
 use Rattle.ds_monitor.specs.Kept.{kept_of}
 use Rattle.ds_monitor.specs.Orderly as monitor
@@ -25,13 +24,13 @@ first_good p policy images input start first stands orderly is_rate next few =
     let ticked : p.monitor.ticked ≡ 0 = ap (λ (k : Kept). k.ticked) first.kept in
     let time : p.monitor.time ≡ 0 = ap (λ (k : Kept). k.state.time) first.kept in
     let rate : p.monitor.rate ≡ policy.rate = ap (λ (k : Kept). k.state.rate) first.kept in
-    let user : is_in_kernel (held p) ≡ false = ap (λ (c : CoreState). not (is_user c.system)) first.core in
+    let user : is_user p.core.system ≡ true = ap (λ (c : CoreState). is_user c.system) first.core in
     record {
       sound = record { state = first_state policy images input; stands = stands };
       orderly = record {
         begun = λ some. unowed;
         failed = λ failed. unowed;
-        raised = λ kernel. (let no : false ≡ true = sym user ∙ kernel in absurd (cc));
+        raised = λ kernel. (let no : true ≡ false = sym user ∙ kernel in absurd (cc));
         running = λ some. absurd (omega (arith, spent, some));
         spent = omega (arith, spent);
         lines = omega (arith, lines, few);

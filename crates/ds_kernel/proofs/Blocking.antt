@@ -1,20 +1,27 @@
 -- A block of instructions of a process goes on in a run.
 use Rattle.std.proofs.Common.{◌≡◌, ◌≢◌, ℕ, zero, suc, ◌+◌, ◌-◌, ◌*◌, ◌<◌, ◌≤◌, Bool, true, false, cond, [], Option, Some, None, refl, sym, ap, ap₂, subst, ◌∙◌, length, arith}
-use Rattle.std.specs.Prelude.{is_some, not, ◌==◌}
+use Rattle.std.specs.Prelude.{is_some, not, ◌==◌, ◌&&◌}
 use Rattle.ds_word.specs.Word.{truth, bits}
+use Rattle.ds_cp0.specs.System.{is_user}
 use Rattle.ds_cp0.specs.declared.exception.ExceptionCode.{ExceptionCode}
-use Rattle.ds_cp0.specs.System.{System}
+use Rattle.ds_cp0.specs.declared.exception.Exception.{Exception}
+use Rattle.ds_cp0.specs.declared.exception.ExceptionCode.TheVariants.{SystemCall}
+use Rattle.ds_cp0.specs.System.{System, is_user, entered, pushed}
 use Rattle.ds_core.specs.Ahead as ahead
 use Rattle.ds_core.specs.Ahead.{Hardware, hardware_of, after_steps, is_raised, Advances, AdvancesTo, ComesByWords, owed_tick, ticks}
 use Rattle.ds_dev.specs.Bus.{BusState}
-use Rattle.ds_core.specs.Core.{CoreState}
+use Rattle.ds_core.specs.declared.event.Event.TheVariants.{Raised}
+use Rattle.ds_core.specs.Core.{CoreState, Step, exception}
 use Rattle.ds_core.proofs.Users.{keeps_system}
 use Rattle.ds_pagemap.specs.declared.turn.Turn.{Turn}
-use Rattle.ds_refinement.specs.Told.{is_delayed}
+use Rattle.ds_refinement.specs.Told.{code_in, is_delayed}
 use Rattle.ds_refinement.specs.Held.{Held}
-use Rattle.ds_refinement.specs.Stands.{IsSound, user_status}
-use Rattle.ds_refinement.specs.Steps.{is_in_kernel, steps_left}
+use Rattle.ds_refinement.specs.Units.{user_status, is_served}
+use Rattle.ds_refinement.specs.Handling.{IsWhole}
+use Rattle.ds_refinement.specs.Stands.{IsSound}
+use Rattle.ds_refinement.specs.Steps.{steps_left}
 use Rattle.ds_refinement.specs.Blocks.{moved, time_behind, with_block, with_exception, MayRunAhead}
+use Rattle.ds_refinement.proofs.Exceptions.{code_told, status_told}
 use Rattle.ds_refinement.proofs.Meets.{barred}
 use Rattle.ds_refinement.proofs.Joined.{path_join, path_sound}
 use Rattle.ds_refinement.proofs.BlockPaths.{block_is_path, raised_is_path, block_runs, raised_runs}
@@ -25,11 +32,13 @@ use Rattle.ds_kernel.specs.declared.parts.Parts.{Parts}
 use Rattle.ds_kernel.specs.Parts.{held}
 use Rattle.ds_monitor.specs.Coming.{next_due}
 use Rattle.ds_kernel.specs.Good.{IsRate, IsGood}
+use Rattle.ds_kernel.specs.AtOnce.{IsCalled}
 use Rattle.ds_kernel.specs.Ran.{HasRun}
 use Rattle.ds_kernel.specs.Going.{rank, GoesOn}
 use Rattle.ds_monitor.proofs.Lawful.{turn_orderly}
 use Rattle.ds_monitor.specs.Orderly as state
 use Rattle.ds_kernel.proofs.Rooms.{room_later, turn_room}
+use Rattle.ds_kernel.proofs.Called.{call_told}
 use Rattle.ds_kernel.proofs.Stepping.{none_is_not_some}
 
 -- Small numbers.
@@ -59,12 +68,12 @@ module _ (n steps ticks : ℕ) (old new : Held) (unowed : old.kept.state.owed �
   less : ticks ≡ 0 → steps_left new < steps_left old
   less none =
       let more : old.own.spent < new.own.spent = omega (arith, none, all, some) in
-      fewer_left old.own.spent new.own.spent (truth (is_in_kernel old)) (truth (is_in_kernel new)) more few (truth_small (is_in_kernel new))
+      fewer_left old.own.spent new.own.spent (truth (is_served old.core)) (truth (is_served new.core)) more few (truth_small (is_served new.core))
 
   pub nearer : rank n new < rank n old
   nearer =
       let early : old.kept.state.time < n = omega (arith, some, soon) in
-      let most : steps_left new ≤ 129 = few_left new.own.spent (truth (is_in_kernel new)) (truth_small (is_in_kernel new)) in
+      let most : steps_left new ≤ 129 = few_left new.own.spent (truth (is_served new.core)) (truth_small (is_served new.core)) in
       let f = falls n old.kept.state.time ticks (steps_left old) (steps_left new) early most less in
       rw (rank_of n old unowed, rank_of n new same, time) f
 
@@ -75,7 +84,7 @@ module _ (n steps ticks : ℕ) (old new : Held) (unowed : old.kept.state.owed �
 
 -- the station is as it should be at a later time
 later_good : {L : Type 0} (old new : Parts L) → IsGood old → IsSound (held new) → old.monitor.owed ≡ None → old.monitor.ready ≢ [] → new.monitor ≡ record old.monitor { time = new.monitor.time } → new.failed ≡ old.failed
-    → old.monitor.time ≤ new.monitor.time → (is_in_kernel (held new) ≡ true → 0 < new.spent) → new.spent ≤ 64 → HasRoom 1 old.monitor → (0 < new.spent → new.monitor.time + 2 < old.monitor.quiet_until) → new.monitor.time ≤ 1000000001 → IsGood new
+    → old.monitor.time ≤ new.monitor.time → (is_user new.core.system ≡ false → 0 < new.spent) → new.spent ≤ 64 → HasRoom 1 old.monitor → (0 < new.spent → new.monitor.time + 2 < old.monitor.quiet_until) → new.monitor.time ≤ 1000000001 → IsGood new
 later_good old new good sound unowed ready monitor failed later raised few room quiet early =
     let owed : new.monitor.owed ≡ None = ap (λ (m : Monitor). m.owed) monitor ∙ unowed in
     let lines : new.monitor.lines ≡ old.monitor.lines = ap (λ (m : Monitor). m.lines) monitor in
@@ -148,17 +157,17 @@ module _ {L : Type 0} (limit n : ℕ) (old : Parts L) (c : CoreState) (b : BusSt
         let later : old.monitor.time + passed ≡ old.monitor.time + ticks n start = omega (arith, passed_is) in
         moved_alike (held old) hw (old.monitor.time + passed) (time_behind n (held old)) spent (owed_tick c.slot) old.monitor.owed later goes.owed left
 
-    user : is_in_kernel (held new) ≡ false
+    user : is_user c.system ≡ true
     user =
         let system : c.system ≡ old.core.system = ap (λ (x : Hardware). x.core.system) advances.state ∙ system_kept start n goes.mode advances.calm in
-        ap (λ (w : ℕ). not (bits w 1 1 == 1)) (ap (λ (s : System). s.status) system ∙ goes.mode)
+        ap (λ (w : ℕ). bits w 1 1 == 1) (ap (λ (s : System). s.status) system ∙ goes.mode)
 
     pub calm_good : IsGood new
     calm_good =
         let small : owed_tick c.slot ≤ 1 = owed_small c.slot in
         later_good old new good
         (subst IsSound (sym calm_is) (path_sound (held old) (with_block n (held old) hw) good.sound (block_is_path n limit (held old) hw within goes advances words)))
-        goes.owed goes.ready refl refl (omega arith) (λ is. (let no : false ≡ true = sym user ∙ is in absurd (cc))) (omega (arith, left, small)) room
+        goes.owed goes.ready refl refl (omega arith) (λ is. (let no : true ≡ false = sym user ∙ is in absurd (cc))) (omega (arith, left, small)) room
         (λ some. (let one : owed_tick old.core.slot ≤ 1 = owed_small old.core.slot in omega (arith, soon, within, time, one, left, some)))
         (let one : owed_tick old.core.slot ≤ 1 = owed_small old.core.slot in omega (arith, in_time, within, time, one))
 
@@ -180,7 +189,7 @@ module _ {L : Type 0} (limit n : ℕ) (old : Parts L) (c : CoreState) (b : BusSt
         }
 
   -- the one after them did
-  module _ (code : ExceptionCode) (fewer : n < limit) (leads : AdvancesTo n (Some code) start hw) (all : ticks n start + owed_tick (is_delayed c.system) ≡ n + owed_tick old.core.slot)
+  module _ (code : ExceptionCode) (fewer : n < limit) (leads : AdvancesTo n (Some code) start hw) (whole : IsWhole c) (all : ticks n start + owed_tick (is_delayed c.system) ≡ n + owed_tick old.core.slot)
       (time : passed ≡ n + owed_tick old.core.slot - owed_tick (is_delayed c.system)) (left : spent ≡ owed_tick (is_delayed c.system) + 1) where
     raised_is : held new ≡ with_exception n (held old) hw
     raised_is =
@@ -192,7 +201,7 @@ module _ {L : Type 0} (limit n : ℕ) (old : Parts L) (c : CoreState) (b : BusSt
         let small : owed_tick (is_delayed c.system) ≤ 1 = owed_small (is_delayed c.system) in
         let within : n ≤ limit = omega (arith, fewer) in
         later_good old new good
-        (subst IsSound (sym raised_is) (path_sound (held old) (with_exception n (held old) hw) good.sound (raised_is_path n limit (held old) hw code within goes leads words)))
+        (subst IsSound (sym raised_is) (path_sound (held old) (with_exception n (held old) hw) good.sound (raised_is_path n limit (held old) hw code within goes leads words whole)))
         goes.owed goes.ready refl refl (omega arith) (λ is. omega (arith, left)) (omega (arith, left, small)) room
         (λ some. (let one : owed_tick old.core.slot ≤ 1 = owed_small old.core.slot in omega (arith, soon, fewer, time, one)))
         (let one : owed_tick old.core.slot ≤ 1 = owed_small old.core.slot in omega (arith, in_time, within, time, one))
@@ -207,10 +216,26 @@ module _ {L : Type 0} (limit n : ℕ) (old : Parts L) (c : CoreState) (b : BusSt
         let last : old.monitor.time + (n + 1) + old.spent ≤ end = omega (arith, upto, before) in
         let few : spent ≤ 64 = omega (arith, left, small) in record {
           runs = λ first h. subst (HasRun end first) (sym raised_is) (record {
-            path = path_join first (held old) (with_exception n (held old) hw) h.path (raised_is_path n limit (held old) hw code within goes leads words);
-            within = raised_runs n limit end first (held old) hw code within goes upto leads words h.within;
+            path = path_join first (held old) (with_exception n (held old) hw) h.path (raised_is_path n limit (held old) hw code within goes leads words whole);
+            within = raised_runs n limit end first (held old) hw code within goes upto leads words whole h.within;
           });
           nearer = nearer end (n + 1) passed (held old) (held new) goes.owed goes.owed refl sum (omega arith) few last;
           working = refl;
           begun = before_end end (n + 1) passed (held old) (held new) goes.owed goes.owed refl sum (omega arith) few last;
+        }
+
+    -- where it was a call, the processor tells that
+    pub raised_call : code ≡ SystemCall → IsCalled c
+    raised_call is =
+        let last : Hardware = leads.0 in
+        let e : Exception = exception last.core SystemCall in
+        let there : last.core.system.status ≡ user_status =
+        ap (λ (x : Hardware). x.core.system.status) leads.1.state ∙ (ap (λ (s : System). s.status) (system_kept start n goes.mode leads.1.calm) ∙ goes.mode) in
+        let told = call_told last.core last.bus (ap (λ (s : Step). s.event) (sym leads.2) ∙ ap Raised is) in
+        let system : c.system ≡ entered last.core.system e = ap (λ (s : Step). s.core.system) leads.2 ∙ told.0 in
+        let at : c.pc ≡ 0x80000080 = ap (λ (s : Step). s.core.pc) leads.2 ∙ told.1 in
+        let status : c.system.status ≡ pushed user_status = ap (λ (s : System). s.status) system ∙ (status_told last.core.system e ∙ ap pushed there) in record {
+          served = ap₂ (λ (w pc : ℕ). not (bits w 1 1 == 1) && (pc == 0x80000080)) status at;
+          left = ap (λ (w : ℕ). bits w 3 1 == 1) status;
+          code = ap code_in system ∙ code_told last.core.system e;
         }

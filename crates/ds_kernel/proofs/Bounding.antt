@@ -12,10 +12,13 @@ use Rattle.ds_refinement.specs.declared.step.Step.TheVariants.{Boundary}
 use Rattle.ds_refinement.specs.Held.{Held, whole}
 use Rattle.ds_refinement.specs.Stands.{IsSound}
 use Rattle.ds_refinement.specs.Services.{with_boundary, with_idle_turn}
-use Rattle.ds_refinement.specs.Steps.{Moves, is_in_kernel}
+use Rattle.ds_refinement.specs.Steps.{Moves}
+use Rattle.ds_cp0.specs.System.{is_user}
+use Rattle.ds_refinement.specs.Pairs.{HasNoNewPairs}
 use Rattle.ds_refinement.specs.Quiet.{IsQuiet}
 use Rattle.ds_refinement.specs.Real.{IsReal}
 use Rattle.ds_refinement.proofs.Boundaries.{quiet, idle, stands_waited}
+use Rattle.ds_refinement.proofs.NoNewPairs.{same_pairs}
 use Rattle.ds_refinement.proofs.Attended.{boundary_served, idle_served, served_moves, idle_served_moves}
 use Rattle.ds_monitor.specs.Coming.{first_time, first_event, period_end, next_due}
 use Rattle.ds_monitor.specs.Kept.{kept_of}
@@ -58,11 +61,12 @@ module _ {L : Type 0} (old : Parts L) (good : IsGood old) (owed : IsSome old.mon
   none_spent zero begun = refl
   none_spent (suc n) begun = absurd (none_is_not_some old.monitor.owed (begun (omega arith)) owed)
 
-  real : (new : Held) → new.core.random ≡ h.core.random → IsReal h new
-  real new random = record {
+  real : (new : Held) → new.core.random ≡ h.core.random → HasNoNewPairs h.core.entries new.core.entries → IsReal h new
+  real new random pairs = record {
     instruction = λ unit other. absurd (none_is_not_some old.monitor.owed unit.0 owed);
     service = λ unit served. absurd (none_is_not_some old.monitor.owed unit.0 owed);
     random = λ all. random;
+    pairs = λ all. pairs;
   }
 
   quiet_does : IsQuiet h.kept → Does Boundary h (with_boundary h)
@@ -71,13 +75,13 @@ module _ {L : Type 0} (old : Parts L) (good : IsGood old) (owed : IsSome old.mon
       let time : h.kept.state.time ≡ h.kept.state.time + truth (not (is_some h.kept.state.owed)) = same ∙ ap (λ (b : Bool). h.kept.state.time + truth (not b)) (sym owed) in record {
         follows = quiet h owed good.orderly.ticked q;
         moves = (refl, none_spent old.spent good.orderly.begun, time, refl);
-        real = real (with_boundary h) refl;
+        real = real (with_boundary h) refl (same_pairs h.core.entries);
       }
 
   pub bounded_does : (new : Held) → IsBounded h new → Does Boundary h new
   bounded_does new by = elim by [
     | inl none ↦ subst (Does Boundary h) (sym none.1) (quiet_does none.0)
-    | inr ends ↦ record { follows = boundary_served h new owed ends.0; moves = served_moves h new owed ends.1 ends.0; real = real new ends.2 }
+    | inr ends ↦ record { follows = boundary_served h new owed ends.0; moves = served_moves h new owed ends.1 ends.0; real = real new ends.2 ends.3 }
   ]
 
   pub quiet_good : IsQuiet h.kept → IsGood (record old { monitor = record old.monitor { owed = None } })
@@ -106,7 +110,7 @@ module _ {L : Type 0} (old : Parts L) (good : IsGood old) (owed : IsSome old.mon
       let o = good.orderly in
       let moves : Moves Boundary h (held new) = served_moves h (held new) owed a.own a.ends in
       let none : new.spent ≡ 0 = moves.1 in
-      let user : is_in_kernel (held new) ≡ false = ap (λ (n : ℕ). not (bits n 1 1 == 1)) (enters_user new.monitor.ready new.core (held new).kept a.ends.enters) in
+      let user : is_user new.core.system ≡ true = ap (λ (n : ℕ). bits n 1 1 == 1) (enters_user new.monitor.ready new.core (held new).kept a.ends.enters) in
       let few : old.monitor.lines + length old.monitor.due.commands ≤ old.monitor.time + 4096 = o.lines in
       let lines : new.monitor.lines + length new.monitor.due.commands ≤ old.monitor.lines + length old.monitor.due.commands = a.lines in
       let time : new.monitor.time ≡ old.monitor.time = a.time in
@@ -116,7 +120,7 @@ module _ {L : Type 0} (old : Parts L) (good : IsGood old) (owed : IsSome old.mon
         orderly = record {
           begun = λ some. moves.0;
           failed = λ failed. moves.0;
-          raised = λ is. (let no : false ≡ true = sym user ∙ is in absurd (cc));
+          raised = λ is. (let no : true ≡ false = sym user ∙ is in absurd (cc));
           running = λ some. absurd (omega (arith, none, some));
           spent = omega (arith, none);
           lines = omega (arith, lines, time, few);
@@ -144,11 +148,12 @@ module _ {L : Type 0} (old between waiting : Parts L) (good : IsGood old) (unowe
   waiting_is : held waiting ≡ with_idle_turn (held old)
   waiting_is = waits ∙ ap with_idle_turn is
 
-  real_idle : (new : Held) → new.core.random ≡ old.core.random → IsReal (held old) new
-  real_idle new random = record {
+  real_idle : (new : Held) → new.core.random ≡ old.core.random → HasNoNewPairs old.core.entries new.core.entries → IsReal (held old) new
+  real_idle new random pairs = record {
     instruction = λ unit other. absurd (unit.1 nobody);
     service = λ unit served. absurd (unit.1 nobody);
     random = λ all. random;
+    pairs = λ all. pairs;
   }
 
   quiet_idle : IsQuiet (with_idle_turn (held old)).kept → Does Boundary (held old) (with_boundary (with_idle_turn (held old)))
@@ -156,13 +161,13 @@ module _ {L : Type 0} (old between waiting : Parts L) (good : IsGood old) (unowe
       let time : old.monitor.time + 1 ≡ old.monitor.time + truth (not (is_some old.monitor.owed)) = ap (λ (o : Option Turn). old.monitor.time + truth (not (is_some o))) (sym unowed) in record {
         follows = idle (held old) unowed nobody going q;
         moves = (refl, none_begun, time, refl);
-        real = real_idle (with_boundary (with_idle_turn (held old))) refl;
+        real = real_idle (with_boundary (with_idle_turn (held old))) refl (same_pairs old.core.entries);
       }
 
   by_bounded : (new : Held) → IsBounded (with_idle_turn (held old)) new → Does Boundary (held old) new
   by_bounded new by = elim by [
     | inl none ↦ subst (Does Boundary (held old)) (sym none.1) (quiet_idle none.0)
-    | inr ends ↦ record { follows = idle_served (held old) new unowed nobody going ends.0; moves = idle_served_moves (held old) new unowed ends.1 ends.0; real = real_idle new ends.2 }
+    | inr ends ↦ record { follows = idle_served (held old) new unowed nobody going ends.0; moves = idle_served_moves (held old) new unowed ends.1 ends.0; real = real_idle new ends.2 ends.3 }
   ]
 
   pub idle_bounded : (new : Held) → IsBounded (held waiting) new → Does Boundary (held old) new

@@ -1,12 +1,10 @@
 -- What the steps of a station do: each is followed by the machine with its counts, and is real.
-use Rattle.std.proofs.Common.{◌≡◌, inl, inr, ℕ, ◌+◌, ◌-◌, ◌*◌, ◌%◌, ◌^◌, ◌<◌, ◌≤◌, Bool, true, false, cond, not, nat_le, List, [], ◌∷◌, length, Option, Some, None, refl, sym, ap, ap₂, subst, ◌∙◌, arith}
-use Rattle.std.specs.Prelude.{IsSome, ◌==◌, ◌&&◌, ◌||◌}
-use Rattle.ds_word.specs.Word.{truth, bits}
-use Rattle.ds_tlb.specs.declared.entry.Entry.{Entry}
+use Rattle.std.proofs.Common.{◌≡◌, ◌≢◌, ℕ, ◌+◌, ◌%◌, ◌^◌, ◌<◌, ◌≤◌, Bool, true, false, cond, not, nat_le, List, [], ◌∷◌, length, Option, Some, None, refl, sym, ap, ap₂, subst, ◌∙◌, arith}
+use Rattle.std.specs.Prelude.{IsSome, ◌==◌}
+use Rattle.ds_word.specs.Word.{bits}
 use Rattle.ds_isa.specs.declared.instr.Kind.{Kind}
 use Rattle.ds_isa.specs.declared.instr.Kind.TheVariants.{Fetch, Load, Store}
 use Rattle.ds_isa.specs.Access.{is_aligned}
-use Rattle.ds_isa.specs.declared.instr.Size.{Size}
 use Rattle.ds_cp0.specs.System.{is_user}
 use Rattle.ds_policy.specs.declared.access.Access.{Access}
 use Rattle.ds_policy.specs.declared.access.Rule.{Rule}
@@ -28,15 +26,18 @@ use Rattle.ds_refinement.specs.declared.cause.Cause.TheVariants as cause
 use Rattle.ds_refinement.specs.declared.step.Step.TheVariants.{Inside, Unit}
 use Rattle.ds_refinement.specs.Held.{Held, Kept}
 use Rattle.ds_refinement.specs.Told.{told, is_delayed, own_in}
-use Rattle.ds_refinement.specs.Stands.{Stands, IsSound, InService, OnProcessor, RunningBy, RunningIs, ends_in_stop, ends_in_call, user_status}
+use Rattle.ds_refinement.specs.Units.{InService, ends_in_stop, ends_in_call, user_status, is_general, is_served, has_left_user}
+use Rattle.ds_refinement.specs.Stands.{IsSound, InKernel}
 use Rattle.ds_refinement.specs.Ends.{EndsInStop, EndsInCall}
-use Rattle.ds_refinement.specs.Services.{EntersBy, asked_entry, with_refill, with_none_spent}
-use Rattle.ds_refinement.specs.Steps.{Follows, Moves, is_in_kernel, ticks_of}
-use Rattle.ds_refinement.specs.Real.{IsReal, EndsUnit, StopsBy, is_served}
-use Rattle.ds_refinement.proofs.Ending.{denied_ends, fault_ends, slot_ends, call_ends}
-use Rattle.ds_refinement.proofs.Counting.{stop_moves, call_moves}
-use Rattle.ds_refinement.proofs.Filling.{refill_comes, refill_goes_back}
-use Rattle.ds_refinement.proofs.Joined.{back_real}
+use Rattle.ds_refinement.specs.Pairs.{HasNoNewPairs}
+use Rattle.ds_refinement.specs.Services.{EntersBy, gone_back, table_entry, with_table_page, with_none_spent}
+use Rattle.ds_refinement.specs.Steps.{Follows, Moves, ticks_of}
+use Rattle.ds_refinement.specs.Real.{EndsUnit}
+use Rattle.ds_refinement.proofs.Ending.{served_parts, served_kernel, denied_ends, fault_ends, slot_ends, call_ends}
+use Rattle.ds_refinement.proofs.Counting.{stop_moves, call_moves, back_moves}
+use Rattle.ds_refinement.proofs.NoNewPairs.{same_pairs, written_pairs}
+use Rattle.ds_refinement.proofs.WaysBack.{gone_back_follows, gone_back_goes, double_page, double_follows, double_goes}
+use Rattle.ds_refinement.proofs.Joined.{end_real, back_real, double_real}
 use Rattle.ds_policy.specs.Value.{InputValue}
 use Rattle.ds_monitor.specs.Room.{HasBoundaryRoom, HasTurnRoom}
 use Rattle.ds_kernel.proofs.Rooms.{boundary_room_behind}
@@ -49,72 +50,60 @@ use Rattle.ds_kernel.specs.Good.{IsRate, IsOrderly, IsGood, IsBusy}
 use Rattle.ds_kernel.specs.Ended.{HasEnded, Does}
 use Rattle.ds_kernel.proofs.Keeping.{first_rest}
 
+-- where the monitor is to serve, the processor is in kernel mode
+pub kernel_of : (c : CoreState) → is_served c ≡ true → is_user c.system ≡ false
+kernel_of c served = (served_parts (is_user c.system) (is_general c) served).0
+
+-- who is ready is somebody
+pub some_ready : (queue : List ℕ) (p : ℕ) (rest : List ℕ) → queue ≡ p ∷ rest → queue ≢ []
+some_ready queue p rest is none = let no : p ∷ rest ≡ [] = sym is ∙ none in absurd (cc)
+
 -- A service of the first ready process.
-module _ (h : Held) (p : ℕ) (rest : List ℕ) (sound : IsSound h) (ready : h.kept.state.ready ≡ p ∷ rest) (kernel : is_user h.core.system ≡ false) where
-  here : InService h.core p sound.state
-  here =
-      let runs : RunningIs p h.core h.kept sound.state = subst (λ (ps : List ℕ). RunningBy ps h.core h.kept sound.state) ready sound.stands.running in
-      subst (λ (b : Bool). OnProcessor b h.core.slot h.core p sound.state) kernel runs.on
+module _ (h : Held) (p : ℕ) (rest : List ℕ) (sound : IsSound h) (ready : h.kept.state.ready ≡ p ∷ rest) (served : is_served h.core ≡ true) where
+  abbrev kept_pages : PageState
+  kept_pages = page_state h.kept.grants h.bus.memory
 
-  by_vector : (n : ℕ) → h.core.pc ≡ n → ((n == 0x80000000) || (n == 0x80000080)) ≡ true → is_served h.core ≡ true
-  by_vector n at is = ap₂ (λ (b : Bool) (i : ℕ). not b && ((i == 0x80000000) || (i == 0x80000080))) kernel at ∙ is
+  -- the exception waits outside of slots
+  outside_slot : has_left_user h.core ≡ true → h.core.slot ≡ false
+  outside_slot left =
+      let waits : InService h.core p sound.state = subst (λ (up : Bool). InKernel true up h.core h.kept p sound.state) left (served_kernel h sound.state p rest sound.stands ready served) in
+      waits.first
 
-  -- the monitor is to serve
-  pub served_here : is_served h.core ≡ true
-  served_here = elim here.vector [
-    | inl e ↦ by_vector 0x80000000 e refl
-    | inr e ↦ by_vector 0x80000080 e refl
-  ]
+  pub stop_does : has_left_user h.core ≡ true → (new : Held) (why : Cause) (stop : Stop) → h.kept.state.owed ≡ None → told h.core.system kept_pages p ≡ why
+      → EndsUnit kept_pages p h.core.system.bad_vaddr why → new.own ≡ with_none_spent h.own → new.core.random ≡ h.core.random → HasNoNewPairs h.core.entries new.core.entries
+      → EndsInStop p stop h new → Follows Unit h new → Does Unit h new
+  stop_does left new why stop owed is ends own random pairs by follows =
+      let moves : Moves Unit h new = stop_moves p stop h new owed (outside_slot left) own by in
+      record { follows = follows; moves = moves; real = end_real h new p rest why ready served left is ends moves.1 random pairs }
 
-  ends_really : (new : Held) (why : Cause) → told h.core.system (page_state h.kept.grants h.bus.memory) p ≡ why
-      → EndsUnit (page_state h.kept.grants h.bus.memory) p h.core.system.bad_vaddr why
-      → IsSome new.kept.state.owed → new.core.random ≡ h.core.random → IsReal h new
-  ends_really new why is ends owed random = record {
-    instruction = λ has user. (let no : true ≡ false = sym served_here ∙ user in absurd (cc));
-    service = λ has served. inl (
-      owed,
-      subst (λ (ps : List ℕ). StopsBy ps h) (sym ready)
-          (subst (λ (w : Cause). EndsUnit (page_state h.kept.grants h.bus.memory) p h.core.system.bad_vaddr w) (sym is) ends),
-    );
-    random = λ has. random;
+  pub call_does : has_left_user h.core ≡ true → (new : Held) → h.kept.state.owed ≡ None → told h.core.system kept_pages p ≡ cause.Call → is_delayed h.core.system ≡ false
+      → new.own ≡ with_none_spent h.own → new.core.random ≡ h.core.random → HasNoNewPairs h.core.entries new.core.entries → EndsInCall p h new → Does Unit h new
+  call_does left new owed is outside own random pairs by =
+      let moves : Moves Unit h new = call_moves p h new owed (outside_slot left) own by in
+      record { follows = call_ends h new p rest ready served left is outside by; moves = moves; real = end_real h new p rest cause.Call ready served left is tt moves.1 random pairs }
+
+  pub back_does : has_left_user h.core ≡ true → (access : Access) (page offset : ℕ) → h.kept.state.owed ≡ None → h.own.spent ≤ 64
+      → told h.core.system kept_pages p ≡ cause.Access access
+      → decide h.kept.grants.table p access.kind access.size h.core.system.bad_vaddr ≡ Allowed page offset
+      → Does Inside h (gone_back h)
+  back_does left access page offset owed few is decides = record {
+    follows = gone_back_follows h (some_ready h.kept.state.ready p rest ready) served left;
+    moves = back_moves h (gone_back h) owed served few refl refl refl refl;
+    real = back_real h (gone_back h) p rest access page offset ready served is decides (gone_back_goes h left) refl (same_pairs h.core.entries);
   }
 
-  pub stop_does : (new : Held) (why : Cause) (stop : Stop) → h.kept.state.owed ≡ None → told h.core.system (page_state h.kept.grants h.bus.memory) p ≡ why
-      → EndsUnit (page_state h.kept.grants h.bus.memory) p h.core.system.bad_vaddr why → new.own ≡ with_none_spent h.own → new.core.random ≡ h.core.random
-      → EndsInStop p stop h new → Follows Unit h new → Does Unit h new
-  stop_does new why stop owed is ends own random by follows =
-      let moves : Moves Unit h new = stop_moves p stop h new owed here.first own by in
-      record { follows = follows; moves = moves; real = ends_really new why is ends moves.1 random }
+  -- the page that EntryHi names is none of a user's
+  pub page_above : has_left_user h.core ≡ false → 0xC0000 ≤ bits h.core.system.entry_hi 12 20
+  page_above left = double_page h sound (some_ready h.kept.state.ready p rest ready) served left
 
-  pub call_does : (new : Held) → h.kept.state.owed ≡ None → told h.core.system (page_state h.kept.grants h.bus.memory) p ≡ cause.Call → is_delayed h.core.system ≡ false
-      → new.own ≡ with_none_spent h.own → new.core.random ≡ h.core.random → EndsInCall p h new → Does Unit h new
-  call_does new owed is outside own random by =
-      let moves : Moves Unit h new = call_moves p h new owed here.first own by in
-      record { follows = call_ends h new p rest ready kernel is outside by; moves = moves; real = ends_really new cause.Call is tt moves.1 random }
-
-  refill_moves : (e : Entry) → h.kept.state.owed ≡ None → h.own.spent ≤ 64 → Moves Inside h (with_refill h e)
-  refill_moves e owed few =
-      let inside : truth (is_in_kernel h) ≡ 1 = ap (λ (b : Bool). truth (not b)) kernel in
-      let outside : truth (not (is_in_kernel h)) ≡ 0 = ap (λ (b : Bool). truth (not (not b))) kernel in
-      let count : h.own.spent ≡ h.own.spent + truth (not (is_in_kernel h)) = omega (arith, outside) in
-      let fewer : 2 * (64 - h.own.spent) + 0 < 2 * (64 - h.own.spent) + truth (is_in_kernel h) = omega (arith, inside) in
-      (owed, owed, refl, count, few, fewer, refl)
-
-  in_machine : (access : Kind) (size : Size) (page offset : ℕ) → decide h.kept.grants.table p access size h.core.system.bad_vaddr ≡ Allowed page offset
-      → (m : State) → Stands h m → decide m.memory.table p access size h.core.system.bad_vaddr ≡ Allowed page offset
-  in_machine access size page offset decides m k = ap (λ (s : PageState). decide s.table p access size h.core.system.bad_vaddr) k.kept.pages ∙ decides
-
-  pub refill_does : (access : Access) (page offset : ℕ) → h.kept.state.owed ≡ None → h.own.spent ≤ 64 → h.core.random < length h.core.entries
-      → told h.core.system (page_state h.kept.grants h.bus.memory) p ≡ cause.Access access
-      → decide h.kept.grants.table p access.kind access.size h.core.system.bad_vaddr ≡ Allowed page offset
-      → Does Inside h (with_refill h (asked_entry h p))
-  refill_does access page offset owed few room is decides =
-      let there = in_machine access.kind access.size page offset decides in
-      let new : Held = with_refill h (asked_entry h p) in record {
-        follows = record { follows = λ m k. refill_comes h m p rest access.kind access.size page offset k ready kernel (there m k) };
-        moves = refill_moves (asked_entry h p) owed few;
-        real = back_real h new p rest access page offset ready served_here is decides
-            (refill_goes_back h sound.state p rest access.kind access.size page offset sound.stands ready kernel (there sound.state sound.stands) room) refl;
+  pub double_does : has_left_user h.core ≡ false → h.kept.state.owed ≡ None → h.own.spent ≤ 64 → Does Inside h (with_table_page h p)
+  double_does left owed few =
+      let above : 0xC0000 ≤ bits h.core.system.entry_hi 12 20 = page_above left in
+      let new : Held = with_table_page h p in record {
+        follows = double_follows h p rest ready served left;
+        moves = back_moves h new owed served few refl refl refl refl;
+        real = double_real h new served left (double_goes h p rest sound ready served left) refl
+            (written_pairs h.core.entries (h.own.wired % 8) (table_entry h p) (omega (arith, above)));
       }
 
 -- The marks after a service.
@@ -139,7 +128,7 @@ pub ended_good : {L : Type 0} (f : State → State) (p : ℕ) (old new : Parts L
 ended_good f p old new busy ended does =
     let none : new.spent ≡ 0 = does.moves.3 in
     let same : new.failed ≡ old.failed = does.moves.4 in
-    let user : is_in_kernel (held new) ≡ false = ap (λ (n : ℕ). not (bits n 1 1 == 1)) (enters_user new.monitor.ready new.core (held new).kept ended.ends.enters) in
+    let user : is_user new.core.system ≡ true = ap (λ (n : ℕ). bits n 1 1 == 1) (enters_user new.monitor.ready new.core (held new).kept ended.ends.enters) in
     let time : new.monitor.time ≡ old.monitor.time + ticks_of old.core.slot = does.moves.2 in
     let tick : 1 ≤ ticks_of old.core.slot = some_tick old.core.slot in
     let most : ticks_of old.core.slot ≤ 2 = two_ticks old.core.slot in
@@ -153,7 +142,7 @@ ended_good f p old new busy ended does =
       orderly = record {
         begun = λ some. absurd (omega (arith, none, some));
         failed = λ is. (let no : false ≡ true = sym busy.working ∙ (sym same ∙ is) in absurd (cc));
-        raised = λ is. (let no : false ≡ true = sym user ∙ is in absurd (cc));
+        raised = λ is. (let no : true ≡ false = sym user ∙ is in absurd (cc));
         running = λ some. absurd (omega (arith, none, some));
         spent = omega (arith, none);
         lines = omega (arith, time, tick, few, lines, same_due);
@@ -168,75 +157,89 @@ ended_good f p old new busy ended does =
     }
 
 -- Each end of a unit.
-module _ {L : Type 0} (p : ℕ) (old new : Parts L) (busy : IsBusy p old) (kernel : is_user old.core.system ≡ false) where
+module _ {L : Type 0} (p : ℕ) (old new : Parts L) (busy : IsBusy p old) (served : is_served old.core ≡ true) where
   abbrev tells : Cause → Type 0
   tells why = told old.core.system (page_state old.monitor.grants old.bus.memory) p ≡ why
 
   unowed : old.monitor.owed ≡ None
   unowed = busy.good.orderly.begun busy.begun
 
-  pub denied_step : (access : Access) (rule : Rule) (code : ℕ) → tells (cause.Access access) → decide old.monitor.grants.table p access.kind access.size old.core.system.bad_vaddr ≡ Denied rule code
+  pub denied_step : has_left_user old.core ≡ true → (access : Access) (rule : Rule) (code : ℕ) → tells (cause.Access access) → decide old.monitor.grants.table p access.kind access.size old.core.system.bad_vaddr ≡ Denied rule code
       → HasEnded (ends_in_stop p old.core.system.epc (own_in old.core.system) (record { kind = denied_as access.kind; address = old.core.system.bad_vaddr; rule = rule; code = code })) old new
       → Does Unit (held old) (held new)
-  denied_step access rule code is denied ended =
+  denied_step left access rule code is denied ended =
       let r = first_rest old.monitor.ready p busy.first in
       let stop : Stop = record { kind = denied_as access.kind; address = old.core.system.bad_vaddr; rule = rule; code = code } in
-      stop_does (held old) p r.0 busy.good.sound r.1 kernel (held new) (cause.Access access) stop unowed is (rule, code, denied) ended.own ended.random ended.ends
-      (denied_ends (held old) (held new) p r.0 r.1 kernel access rule code is denied ended.ends)
+      stop_does (held old) p r.0 busy.good.sound r.1 served left (held new) (cause.Access access) stop unowed is (rule, code, denied) ended.own ended.random ended.pairs ended.ends
+      (denied_ends (held old) (held new) p r.0 r.1 served left access rule code is denied ended.ends)
 
-  pub fault_step : (code : ℕ) → tells (cause.Fault code)
+  pub fault_step : has_left_user old.core ≡ true → (code : ℕ) → tells (cause.Fault code)
       → HasEnded (ends_in_stop p old.core.system.epc (own_in old.core.system) (fault (own_in old.core.system) code)) old new
       → Does Unit (held old) (held new)
-  fault_step code is ended =
+  fault_step left code is ended =
       let r = first_rest old.monitor.ready p busy.first in
-      stop_does (held old) p r.0 busy.good.sound r.1 kernel (held new) (cause.Fault code) (fault (own_in old.core.system) code) unowed is tt ended.own ended.random ended.ends
-      (fault_ends (held old) (held new) p r.0 r.1 kernel code is ended.ends)
+      stop_does (held old) p r.0 busy.good.sound r.1 served left (held new) (cause.Fault code) (fault (own_in old.core.system) code) unowed is tt ended.own ended.random ended.pairs ended.ends
+      (fault_ends (held old) (held new) p r.0 r.1 served left code is ended.ends)
 
-  pub slot_step : tells cause.Call → is_delayed old.core.system ≡ true
+  pub slot_step : has_left_user old.core ≡ true → tells cause.Call → is_delayed old.core.system ≡ true
       → HasEnded (ends_in_stop p old.core.system.epc (own_in old.core.system) (fault (own_in old.core.system) 8)) old new
       → Does Unit (held old) (held new)
-  slot_step is delayed ended =
+  slot_step left is delayed ended =
       let r = first_rest old.monitor.ready p busy.first in
-      stop_does (held old) p r.0 busy.good.sound r.1 kernel (held new) cause.Call (fault (own_in old.core.system) 8) unowed is tt ended.own ended.random ended.ends
-      (slot_ends (held old) (held new) p r.0 r.1 kernel is delayed ended.ends)
+      stop_does (held old) p r.0 busy.good.sound r.1 served left (held new) cause.Call (fault (own_in old.core.system) 8) unowed is tt ended.own ended.random ended.pairs ended.ends
+      (slot_ends (held old) (held new) p r.0 r.1 served left is delayed ended.ends)
 
-  pub call_step : tells cause.Call → is_delayed old.core.system ≡ false → HasEnded (ends_in_call p old.core.system.epc) old new → Does Unit (held old) (held new)
-  call_step is outside ended =
+  pub call_step : has_left_user old.core ≡ true → tells cause.Call → is_delayed old.core.system ≡ false → HasEnded (ends_in_call p old.core.system.epc) old new → Does Unit (held old) (held new)
+  call_step left is outside ended =
       let r = first_rest old.monitor.ready p busy.first in
-      call_does (held old) p r.0 busy.good.sound r.1 kernel (held new) unowed is outside ended.own ended.random ended.ends
+      call_does (held old) p r.0 busy.good.sound r.1 served left (held new) unowed is outside ended.own ended.random ended.pairs ended.ends
 
-  -- a refill with the page-table word of the address
-  pub refill_step : (access : Access) (page offset : ℕ) → old.core.random < length old.core.entries → tells (cause.Access access)
+  -- the unit begins again where the table lets it
+  pub back_step : has_left_user old.core ≡ true → (access : Access) (page offset : ℕ) → tells (cause.Access access)
       → decide old.monitor.grants.table p access.kind access.size old.core.system.bad_vaddr ≡ Allowed page offset
-      → held new ≡ with_refill (held old) (asked_entry (held old) p)
+      → held new ≡ gone_back (held old)
       → Does Inside (held old) (held new)
-  refill_step access page offset room asked decides is =
+  back_step left access page offset asked decides is =
       let r = first_rest old.monitor.ready p busy.first in
       subst (λ (x : Held). Does Inside (held old) x) (sym is)
-      (refill_does (held old) p r.0 busy.good.sound r.1 kernel access page offset unowed busy.good.orderly.spent room asked decides)
+      (back_does (held old) p r.0 busy.good.sound r.1 served left access page offset unowed busy.good.orderly.spent asked decides)
 
-  pub refill_good : (e : Entry) → held new ≡ with_refill (held old) e → new.monitor ≡ old.monitor → Does Inside (held old) (held new) → IsGood new
-  refill_good e is monitor does =
-      let o = busy.good.orderly in
-      let good : IsOrderly (with_refill (held old) e) = record {
-        begun = o.begun;
-        failed = o.failed;
-        raised = λ k. (let no : false ≡ true = k in absurd (cc));
-        running = o.running;
-        spent = o.spent;
-        lines = o.lines;
-        ticked = o.ticked;
-        kept = o.kept;
-        early = o.early;
-        rate = o.rate;
-      } in
-      let t = does.follows.follows busy.good.sound.state busy.good.sound.stands in record {
-        sound = record { state = t.0; stands = t.2 };
-        orderly = subst IsOrderly (sym is) good;
-        room = λ some. subst HasTurnRoom (sym monitor) (busy.good.room busy.begun);
-        owed = λ some. subst HasBoundaryRoom (sym monitor) (busy.good.owed (subst (λ (m : Monitor). IsSome m.owed) monitor some));
-        next = subst (λ (m : Monitor). m.quiet_until ≡ next_due (kept_of m)) (sym monitor) busy.good.next;
-      }
+  -- and after a double miss
+  pub double_step : has_left_user old.core ≡ false → held new ≡ with_table_page (held old) p → Does Inside (held old) (held new)
+  double_step left is =
+      let r = first_rest old.monitor.ready p busy.first in
+      subst (λ (x : Held). Does Inside (held old) x) (sym is)
+      (double_does (held old) p r.0 busy.good.sound r.1 served left unowed busy.good.orderly.spent)
+
+  pub table_page_above : has_left_user old.core ≡ false → 0xC0000 ≤ bits old.core.system.entry_hi 12 20
+  table_page_above left =
+      let r = first_rest old.monitor.ready p busy.first in
+      page_above (held old) p r.0 busy.good.sound r.1 served left
+
+-- the station is as it should be where the unit goes on in user mode
+pub back_good : {L : Type 0} (p : ℕ) (old new : Parts L) → IsBusy p old → new.monitor ≡ old.monitor → new.spent ≡ old.spent → new.failed ≡ old.failed
+    → is_user new.core.system ≡ true → Does Inside (held old) (held new) → IsGood new
+back_good p old new busy monitor spent failed user does =
+    let o = busy.good.orderly in
+    let marks : IsOrderly (record (held new) { kept = kept_of old.monitor }) = record {
+      begun = λ some. o.begun (subst (λ (n : ℕ). 0 < n) spent some);
+      failed = λ is. o.failed (sym failed ∙ is);
+      raised = λ kernel. (let no : true ≡ false = sym user ∙ kernel in absurd (cc));
+      running = λ some. o.running (subst (λ (n : ℕ). 0 < n) spent some);
+      spent = subst (λ (n : ℕ). n ≤ 64) (sym spent) o.spent;
+      lines = o.lines;
+      ticked = o.ticked;
+      kept = o.kept;
+      early = o.early;
+      rate = o.rate;
+    } in
+    let t = does.follows.follows busy.good.sound.state busy.good.sound.stands in record {
+      sound = record { state = t.0; stands = t.2 };
+      orderly = subst (λ (m : Monitor). IsOrderly (record (held new) { kept = kept_of m })) (sym monitor) marks;
+      room = λ some. subst HasTurnRoom (sym monitor) (busy.good.room busy.begun);
+      owed = λ some. subst HasBoundaryRoom (sym monitor) (busy.good.owed (subst (λ (m : Monitor). IsSome m.owed) monitor some));
+      next = subst (λ (m : Monitor). m.quiet_until ≡ next_due (kept_of m)) (sym monitor) busy.good.next;
+    }
 
 -- What the table answered to the access that was refused.
 

@@ -1,5 +1,5 @@
 -- Who comes on the processor, and the buffer after a flush.
-use Rattle.std.proofs.Common.{◌≡◌, ℕ, ◌==◌, ◌≤◌, cond, List, [], ◌∷◌, length, Some, refl, sym, ap, subst}
+use Rattle.std.proofs.Common.{◌≡◌, ℕ, ◌==◌, ◌*◌, ◌^◌, ◌<◌, ◌≤◌, cond, List, [], ◌∷◌, length, Some, refl, sym, ap, subst, arith}
 use Rattle.std.proofs.lemmas.Bool.{eq-eqb}
 use Rattle.ds_tlb.specs.declared.entry.Entry.{Entry}
 use Rattle.ds_tlb.specs.Entries.{empty_entries}
@@ -31,8 +31,8 @@ entering_one p before c k ready owner is =
     let space : ◌≡◌ {A = ℕ} 1 (cond (p == k.owner) 1 0) = subst (λ (o : ℕ). ◌≡◌ {A = ℕ} 1 (cond (p == o) 1 0)) (sym owner) (sym (ap (λ b. cond b 1 0) (eq-eqb p p refl))) in
     subst (λ (x : CoreState). Enters p (process_of k.state p) x k) (sym is) (record {
       mode = refl;
-      owner = owner;
-      space = space;
+      number = subst (λ (n : ℕ). 0 < n) space (omega arith);
+      set = record { space = ap (λ (n : ℕ). n * 2 ^ 6) space; small = omega arith };
       first = refl;
       pc = refl;
       next = refl;

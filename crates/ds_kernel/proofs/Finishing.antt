@@ -1,6 +1,9 @@
 -- A service ends the unit.
-use Rattle.std.proofs.Common.{◌≡◌, ℕ, ◌+◌, ◌%◌, ◌^◌, ◌<◌, ◌≤◌, ◌==◌, Bool, true, false, cond, List, [], length, Option, Some, None, refl, sym, ap, ap₂, subst, ◌∙◌, arith}
+use Rattle.std.proofs.Common.{◌≡◌, ℕ, ◌+◌, ◌/◌, ◌%◌, ◌^◌, ◌<◌, ◌≤◌, ◌==◌, Bool, true, false, cond, List, [], length, Option, Some, None, refl, sym, ap, ap₂, subst, ◌∙◌, arith}
 use Rattle.ds_tlb.specs.declared.entry.Entry.{Entry}
+use Rattle.ds_mem.specs.Memory.{frame_of}
+use Rattle.ds_cp0.specs.System.{System}
+use Rattle.ds_refill.specs.Handler.{HasWords}
 use Rattle.ds_dev.specs.Serial.{SerialState}
 use Rattle.ds_dev.specs.Clock.{ClockState}
 use Rattle.ds_dev.specs.Bus.{BusState}
@@ -13,7 +16,10 @@ use Rattle.ds_pagemap.specs.Machine.{State}
 use Rattle.ds_refinement.specs.Held.{Kept, Own, space_of, began_or, last_boundary}
 use Rattle.ds_pagemap.specs.Unit.{Stop}
 use Rattle.ds_refinement.specs.Told.{own_in}
-use Rattle.ds_refinement.specs.Stands.{AreResting, IsSound, ends_in_stop, ends_in_call}
+use Rattle.ds_refinement.specs.Units.{ends_in_stop, ends_in_call}
+use Rattle.ds_refinement.specs.Handling.{HasBase}
+use Rattle.ds_refinement.specs.Pairs.{HasNoNewPairs}
+use Rattle.ds_refinement.specs.Stands.{AreResting, IsSound}
 use Rattle.ds_refinement.specs.Services.{Serves, EntersBy, seated}
 use Rattle.ds_monitor.specs.declared.monitor.Monitor.{Monitor}
 use Rattle.ds_monitor.specs.Coming.{next_due}
@@ -27,6 +33,8 @@ use Rattle.ds_kernel.specs.declared.parts.Parts.{Parts}
 use Rattle.ds_kernel.specs.Parts.{held}
 use Rattle.ds_kernel.specs.Ended.{HasEnded}
 use Rattle.ds_refinement.proofs.Spaces.{space_apart, space_known}
+use Rattle.ds_refinement.proofs.NoNewPairs.{same_pairs, joined_pairs}
+use Rattle.ds_refinement.proofs.Vectors.{vectors_first}
 use Rattle.ds_kernel.proofs.Keeping.{lawful_elsewhere}
 
 -- whoever has the address space, the service is the same
@@ -42,8 +50,8 @@ abbrev turn_of : ℕ → ℕ → Option Turn
 turn_of began p = Some (record { began = began; runner = Some p })
 
 -- the station's own marks
-abbrev own_of_marks : Bool → ℕ → Own
-own_of_marks failed spent = record { failed = failed; spent = spent }
+abbrev own_of_marks : Bool → ℕ → ℕ → Own
+own_of_marks failed spent wired = record { failed = failed; spent = spent; wired = wired }
 
 abbrev resting_clock : ℕ → ℕ → ClockState
 resting_clock x y = record { rate = x; enabled = true; flagged = false; time = y % 2 ^ 17 }
@@ -94,6 +102,13 @@ call_rests (call.Drop address) b line k r = r
 call_rests call.Wait b line k r = r
 call_rests call.Unknown b line k r = r
 
+-- Context is as it was, and so is its base
+pub base_as : (old new : System) → new.context ≡ old.context → HasBase old → HasBase new
+base_as old new same b = record {
+  tables = subst (λ (n : ℕ). n / 2 ^ 21 ≡ 0x600) (sym same) b.tables;
+  whole = subst (λ (n : ℕ). n % 4 ≡ 0) (sym same) b.whole;
+}
+
 -- What is kept between the service and who comes in.
 module _ {L : Type 0} (f : State → State) (old new : Parts L) (between : Monitor) (entries : List Entry) (last : List ℕ) (p : ℕ) where
   -- what comes in leaves
@@ -108,11 +123,16 @@ module _ {L : Type 0} (f : State → State) (old new : Parts L) (between : Monit
     pub monitor : new.monitor ≡ record between { owner = new.monitor.owner }
     pub failed : new.failed ≡ old.failed
     pub spent : new.spent ≡ 0
+    pub wired : new.wired ≡ old.wired
+    pub context : new.core.system.context ≡ old.core.system.context
+    pub pairs : HasNoNewPairs entries new.core.entries
 
   -- what the service leaves
   pub record Served : Type 0 where
     pub serves : Serves f (seated old.core (kept_of old.monitor)) old.bus.memory (kept_of between) last
     pub size : length last ≡ length old.bus.memory
+    pub first : frame_of last 0 ≡ frame_of old.bus.memory 0
+    pub pairs : HasNoNewPairs old.core.entries entries
     pub keeps : Keeps one_space old.core.entries old.bus.memory old.monitor.tables old.monitor.grants entries last between.tables between.grants
     pub owner : between.owner ≡ old.monitor.owner
     pub rate : between.rate ≡ old.monitor.rate
@@ -140,6 +160,8 @@ module _ {L : Type 0} (f : State → State) (old new : Parts L) (between : Monit
       enters = b.enters;
       represented = b.represented (subst (λ (s : ℕ → ℕ). IsRepresented entries last between.tables s between.grants) (same_space a)
           (a.keeps (space_of (kept_of old.monitor)) (space_apart (kept_of old.monitor)) (space_known (kept_of old.monitor)) sound.stands.represented));
+      vectors = subst HasWords (sym b.memory) (vectors_first old.bus.memory last a.first sound.stands.vectors);
+      base = base_as old.core.system new.core.system b.context sound.stands.base;
       grants = subst NamesPages (sym (ap (λ (k : Kept). k.grants) (kept_is b))) b.pages;
       size = ap (λ (x : List ℕ). length x) b.memory ∙ a.size;
       devices = b.rests (kept_of new.monitor)
@@ -149,8 +171,9 @@ module _ {L : Type 0} (f : State → State) (old new : Parts L) (between : Monit
           (ap (λ (m : Monitor). m.owed) b.monitor ∙ a.owed)
           sound.stands.devices);
     };
-    own = ap₂ (λ (x : Bool) (y : ℕ). own_of_marks x y) b.failed b.spent;
+    own = ap₂ (λ (x : Bool) (y : ℕ). own_of_marks x y new.wired) b.failed b.spent ∙ ap (own_of_marks old.failed 0) b.wired;
     random = b.random;
+    pairs = joined_pairs old.core.entries entries new.core.entries a.pairs b.pairs;
     lines = subst (λ (n : ℕ). n ≤ old.monitor.lines + 1) (sym (ap (λ (m : Monitor). m.lines) b.monitor)) a.lines;
     ticked = ap (λ (m : Monitor). m.ticked) b.monitor ∙ a.ticked;
     rate = ap (λ (m : Monitor). m.rate) b.monitor ∙ a.rate;
@@ -168,9 +191,10 @@ pub comes_in : {L : Type 0} (f : State → State) (old left new : Parts L) (betw
     → (IsRepresented entries memory between.tables (space_of (kept_of between)) between.grants
     → IsRepresented new.core.entries new.bus.memory new.monitor.tables (space_of (kept_of new.monitor)) new.monitor.grants)
     → NamesPages between.grants → new.core.random ≡ left.core.random → new.bus.memory ≡ memory → ((k : Kept) → AreResting left.bus k → AreResting new.bus k)
-    → new.monitor ≡ record between { owner = new.monitor.owner } → new.failed ≡ left.failed → new.spent ≡ 0
+    → new.monitor ≡ record between { owner = new.monitor.owner } → new.failed ≡ left.failed → new.spent ≡ 0 → new.wired ≡ left.wired
+    → new.core.system.context ≡ left.core.system.context → HasNoNewPairs entries new.core.entries
     → Comes f old new between entries memory p
-comes_in {L} f old left new between entries memory p leaves enters represented pages random same rests monitor failed spent = record {
+comes_in {L} f old left new between entries memory p leaves enters represented pages random same rests monitor failed spent wired context pairs = record {
   enters = enters;
   represented = represented;
   pages = pages;
@@ -180,6 +204,9 @@ comes_in {L} f old left new between entries memory p leaves enters represented p
   monitor = monitor;
   failed = failed ∙ ap (λ (x : Parts L). x.failed) leaves;
   spent = spent;
+  wired = wired ∙ ap (λ (x : Parts L). x.wired) leaves;
+  context = context ∙ ap (λ (x : Parts L). x.core.system.context) leaves;
+  pairs = pairs;
 }
 
 -- What a stop leaves.
@@ -200,6 +227,8 @@ stop_served {L} old left new between p unit pc stop unit_is pc_is above kept lea
           (subst (λ (n : ℕ). Serves (ends_in_stop p unit n stop) (seated old.core (kept_of old.monitor)) old.bus.memory (kept_of between) old.bus.memory) pc_is
           (subst (λ (k : Kept). Serves (ends_in_stop p unit pc stop) k old.bus.memory (kept_of between) old.bus.memory) kept (serves old.bus.memory)));
       size = refl;
+      first = refl;
+      pairs = subst (λ (x : Parts L). HasNoNewPairs old.core.entries x.core.entries) (sym leaves) (same_pairs old.core.entries);
       keeps = λ numbers apart known holds. subst (λ (m : Monitor). IsRepresented left.core.entries old.bus.memory m.tables numbers m.grants) (sym rest)
           (subst (λ (x : Parts L). IsRepresented x.core.entries old.bus.memory x.monitor.tables numbers x.monitor.grants) (sym leaves) holds);
       owner = ap (λ (m : Monitor). m.owner) rest ∙ ap (λ (x : Parts L). x.monitor.owner) leaves;
@@ -220,11 +249,12 @@ pub call_served : {L : Type 0} (old left new : Parts L) (between : Monitor) (ent
     → kept_of left.monitor ≡ seated old.core (kept_of old.monitor)
     → left ≡ record old { monitor = record old.monitor { seats = left.monitor.seats } }
     → monitor.IsOrderly (kept_of between) → between.lines ≤ left.monitor.lines + 1 → ((n : ℕ) → HasLogRoom (n + 1) left.monitor → HasLogRoom n between)
-    → Serves (ends_in_call p unit) (kept_of left.monitor) left.bus.memory (kept_of between) memory → length memory ≡ length left.bus.memory
+    → Serves (ends_in_call p unit) (kept_of left.monitor) left.bus.memory (kept_of between) memory → length memory ≡ length left.bus.memory → ((f : ℕ) → f < 2 → frame_of memory f ≡ frame_of left.bus.memory f)
     → Keeps one_space left.core.entries left.bus.memory left.monitor.tables left.monitor.grants entries memory between.tables between.grants
+    → HasNoNewPairs left.core.entries entries
     → between ≡ record left.monitor { grants = between.grants; tables = between.tables; seats = between.seats; ready = between.ready; queues = between.queues; consoles = between.consoles; log = between.log; lines = between.lines; time = between.time; owed = between.owed }
     → Served (ends_in_call p old.core.system.epc) old new between entries memory p
-call_served {L} old left new between entries memory p unit unit_is above within kept leaves orderly lines room serves size keeps rest =
+call_served {L} old left new between entries memory p unit unit_is above within kept leaves orderly lines room serves size elsewhere keeps pairs rest =
     let lines_left : left.monitor.lines ≡ old.monitor.lines = ap (λ (x : Parts L). x.monitor.lines) leaves in
     let time_left : left.monitor.time ≡ old.monitor.time = ap (λ (x : Parts L). x.monitor.time) leaves in
     let held : left.bus.memory ≡ old.bus.memory = ap (λ (x : Parts L). x.bus.memory) leaves in record {
@@ -232,6 +262,8 @@ call_served {L} old left new between entries memory p unit unit_is above within 
           (subst (λ (m : List ℕ). Serves (ends_in_call p unit) (seated old.core (kept_of old.monitor)) m (kept_of between) memory) held
           (subst (λ (k : Kept). Serves (ends_in_call p unit) k left.bus.memory (kept_of between) memory) kept serves));
       size = size ∙ ap (λ (x : List ℕ). length x) held;
+      first = elsewhere 0 (omega arith) ∙ ap (λ (x : List ℕ). frame_of x 0) held;
+      pairs = subst (λ (x : Parts L). HasNoNewPairs x.core.entries entries) leaves pairs;
       keeps = subst (λ (x : Parts L). Keeps one_space x.core.entries x.bus.memory x.monitor.tables x.monitor.grants entries memory between.tables between.grants) leaves keeps;
       owner = ap (λ (m : Monitor). m.owner) rest ∙ ap (λ (x : Parts L). x.monitor.owner) leaves;
       rate = ap (λ (m : Monitor). m.rate) rest ∙ ap (λ (x : Parts L). x.monitor.rate) leaves;

@@ -18,6 +18,9 @@ pub mod Finishing
 pub mod Doing
 pub mod Stepping
 pub mod Beginning
+pub mod Called
 pub mod Blocking
 pub mod Running
+pub mod Refilling
+pub mod IdleTurns
 pub mod AtOnce

@@ -3,14 +3,16 @@ use Rattle.std.proofs.Common.{◌≡◌, ℕ, ◌+◌, ◌-◌, ◌*◌, ◌<◌
 use Rattle.std.proofs.lemmas.Bool.Decides.{nat_tests}
 use Rattle.std.specs.Prelude.{IsSome, is_some, not, ◌||◌, ◌&&◌, nat_lt}
 use Rattle.ds_word.specs.Word.{truth}
+use Rattle.ds_cp0.specs.System.{is_user}
 use Rattle.ds_pagemap.specs.declared.turn.Turn.{Turn}
 use Rattle.ds_pagemap.specs.Machine.{State, first}
 use Rattle.ds_pagemap.specs.Run.{goes_on, is_over}
 use Rattle.ds_refinement.specs.declared.step.Step.{Step}
 use Rattle.ds_refinement.specs.declared.step.Step.TheVariants.{Inside, Unit, Boundary, Over}
 use Rattle.ds_refinement.specs.Held.{Held}
+use Rattle.ds_refinement.specs.Units.{is_served}
 use Rattle.ds_refinement.specs.Stands.{IsSound}
-use Rattle.ds_refinement.specs.Steps.{Follows, Moves, ticks_of, is_in_kernel, steps_left}
+use Rattle.ds_refinement.specs.Steps.{Follows, Moves, ticks_of, steps_left}
 use Rattle.ds_refinement.specs.Runs.{held_goes_on}
 use Rattle.ds_refinement.proofs.Joined.{one_step, path_join}
 use Rattle.ds_refinement.proofs.RunSteps.{goes_alike, begins_goes, within_start, within_step}
@@ -25,7 +27,7 @@ unowed_goes : (n : ℕ) (h : Held) → h.kept.state.owed ≡ None → held_goes_
 unowed_goes n h owed = ap (λ (o : Option Turn). is_some o || (nat_lt h.kept.state.time n && not (is_over h.kept.state))) owed
 
 -- where no boundary is owed, a run that goes on isn't at its end
-early : (n : ℕ) (h : Held) → held_goes_on n h ≡ true → h.kept.state.owed ≡ None → h.kept.state.time < n
+pub early : (n : ℕ) (h : Held) → held_goes_on n h ≡ true → h.kept.state.owed ≡ None → h.kept.state.time < n
 early n h going owed = by h.kept.state.time (not (is_over h.kept.state)) (sym (unowed_goes n h owed) ∙ going)
   where
     by : (t : ℕ) (going : Bool) → (nat_lt t n && going) ≡ true → t < n
@@ -70,7 +72,7 @@ not_done n old new sound going f =
     goes_somewhere n sound.state t.1.0 t.1.1 (goes_alike n old sound.state sound.stands ∙ going)
 
 left_most : (h : Held) → steps_left h ≤ 129
-left_most h = few_left h.own.spent (truth (is_in_kernel h)) (truth_small (is_in_kernel h))
+left_most h = few_left h.own.spent (truth (is_served h.core)) (truth_small (is_served h.core))
 
 rank_most : (n : ℕ) (h : Held) → rank n h ≤ 131 * (n - h.kept.state.time) + 130
 rank_most n h = by (is_some h.kept.state.owed)
@@ -144,7 +146,7 @@ goes_join n a b c first second =
     }
 
 -- a run goes on where an exception waits in a unit that was begun before its end
-pub raised_goes_on : (n : ℕ) (h : Held) → IsSound h → IsOrderly h → is_in_kernel h ≡ true → (0 < h.own.spent → h.kept.state.time < n) → held_goes_on n h ≡ true
+pub raised_goes_on : (n : ℕ) (h : Held) → IsSound h → IsOrderly h → is_user h.core.system ≡ false → (0 < h.own.spent → h.kept.state.time < n) → held_goes_on n h ≡ true
 raised_goes_on n h sound orderly kernel before =
     let some : 0 < h.own.spent = orderly.raised kernel in
     begins_goes n h sound.state sound.stands (inr (orderly.running some, before some))

@@ -1,5 +1,5 @@
 -- The boundary that is served, put together.
-use Rattle.std.proofs.Common.{◌≡◌, ℕ, ◌+◌, ◌<◌, ◌≤◌, Bool, true, false, List, [], length, take, map, Option, Some, None, refl, sym, ap, ap₂, subst, ◌∙◌, arith}
+use Rattle.std.proofs.Common.{◌≡◌, inl, ℕ, ◌+◌, ◌<◌, ◌≤◌, Bool, true, false, List, [], length, take, map, Option, Some, None, refl, sym, ap, ap₂, subst, ◌∙◌, arith}
 use Rattle.std.specs.List.{All}
 use Rattle.ds_tlb.specs.declared.entry.Entry.{Entry}
 use Rattle.ds_dev.specs.declared.serial.Character.{Character as Received}
@@ -16,6 +16,8 @@ use Rattle.ds_pagemap.specs.Boundary.{all_queued, has_passed, boundary}
 use Rattle.ds_pagemap_laws.specs.Due.{come}
 use Rattle.ds_pagemap_laws.proofs.Formed.{formed_with}
 use Rattle.ds_refinement.specs.Held.{Kept, Own, whole, space_of}
+use Rattle.ds_refill.specs.Handler.{HasWords}
+use Rattle.ds_refinement.specs.Pairs.{HasNoNewPairs}
 use Rattle.ds_refinement.specs.Stands.{IsSound, AreResting}
 use Rattle.ds_refinement.specs.Services.{Serves, EntersBy, EndsBy, seated}
 use Rattle.ds_pagemap.proofs.Boundaries.{boundary_owed}
@@ -30,19 +32,25 @@ use Rattle.ds_kernel.specs.Devices.{IsOfLine, typed, interrupted}
 use Rattle.ds_kernel.specs.Attended.{to_come, bus_at, read_out, runner_of, unowed, ruled, HasAttended}
 use Rattle.ds_kernel.proofs.Attending.{at_boundary, quiet_kept, arrived_kept, seated_between, seat_beside, boundary_serves, unseen, ruled_alike, queued_alike, flag_is, rest_again}
 use Rattle.ds_refinement.proofs.Spaces.{space_apart, space_known}
-use Rattle.ds_kernel.proofs.Finishing.{owner_orderly, memory_rests}
+use Rattle.ds_refinement.proofs.NoNewPairs.{joined_pairs}
+use Rattle.ds_refinement.proofs.Vectors.{vectors_first}
+use Rattle.ds_kernel.proofs.Finishing.{owner_orderly, memory_rests, base_as}
 
 -- nothing was received yet, so each that was is of a line
 pub none_received : (silo : List Received) → silo ≡ [] → All IsOfLine silo
 none_received silo e = subst (λ (xs : List Received). All IsOfLine xs) (sym e) (λ k d below. absurd (omega (arith, below)))
 
 -- the station's own marks
-abbrev own_of : Bool → ℕ → Own
-own_of failed spent = record { failed = failed; spent = spent }
+abbrev own_of : Bool → ℕ → ℕ → Own
+own_of failed spent wired = record { failed = failed; spent = spent; wired = wired }
 
 same_entries : (asked : Bool) (c : CoreState) → (interrupted asked c).entries ≡ c.entries
 same_entries true c = refl
 same_entries false c = refl
+
+same_context : (asked : Bool) (c : CoreState) → (interrupted asked c).system.context ≡ c.system.context
+same_context true c = refl
+same_context false c = refl
 
 same_random : (asked : Bool) (c : CoreState) → (interrupted asked c).random ≡ c.random
 same_random true c = refl
@@ -69,7 +77,7 @@ module _ {L : Type 0} (old came served new : Parts L) (ahead : Monitor) (turn : 
     (serves : Serves (ruled came.monitor.time (map typed came.bus.serial.silo) came.bus.clock.flagged (runner_of came.monitor.owed)) (unowed (seated came.core (kept_of came.monitor))) came.bus.memory (kept_of served.monitor) served.bus.memory)
     (orderly : monitor.IsOrderly (kept_of served.monitor)) (count : served.monitor.lines + length served.monitor.due.commands ≤ came.monitor.lines + length came.monitor.due.commands) (reads : served.bus ≡ record (read_out came.bus) { memory = served.bus.memory }) (below : IsLow came.bus.memory served.bus.memory)
     (keeps : Keeps one_space came.core.entries came.bus.memory came.monitor.tables came.monitor.grants served.core.entries served.bus.memory served.monitor.tables served.monitor.grants)
-    (still : served.core.random ≡ came.core.random)
+    (adds : HasNoNewPairs came.core.entries served.core.entries) (still : served.core.random ≡ came.core.random)
     (rest : served ≡ record came {
       core = record came.core { entries = served.core.entries };
       bus = served.bus;
@@ -89,6 +97,7 @@ module _ {L : Type 0} (old came served new : Parts L) (ahead : Monitor) (turn : 
     (enters : EntersBy new.monitor.ready new.core (kept_of new.monitor))
     (represented : IsRepresented served.core.entries served.bus.memory ahead.tables (space_of (kept_of ahead)) ahead.grants
     → IsRepresented new.core.entries new.bus.memory new.monitor.tables (space_of (kept_of new.monitor)) new.monitor.grants)
+    (brings : HasNoNewPairs served.core.entries new.core.entries) (context : new.core.system.context ≡ served.core.system.context)
     (pages : NamesPages ahead.grants) (random : new.core.random ≡ served.core.random)
     (ends : new ≡ record (record served { monitor = ahead }) { core = new.core; monitor = record ahead { owner = new.monitor.owner }; spent = 0 }) where
   abbrev k : Kept
@@ -234,6 +243,22 @@ module _ {L : Type 0} (old came served new : Parts L) (ahead : Monitor) (turn : 
   failed_is : new.failed ≡ old.failed
   failed_is = ap (λ (p : Parts L). p.failed) ends ∙ (ap (λ (p : Parts L). p.failed) rest ∙ ap (λ (p : Parts L). p.failed) comes)
 
+  wired_is : new.wired ≡ old.wired
+  wired_is = ap (λ (p : Parts L). p.wired) ends ∙ (ap (λ (p : Parts L). p.wired) rest ∙ ap (λ (p : Parts L). p.wired) comes)
+
+  context_is : new.core.system.context ≡ old.core.system.context
+  context_is = context ∙ (ap (λ (p : Parts L). p.core.system.context) rest ∙ (ap (λ (p : Parts L). p.core.system.context) comes ∙ same_context (asks (bus_at b k)) old.core))
+
+  vectors_are : HasWords new.bus.memory
+  vectors_are =
+      subst (λ (x : BusState). HasWords x.memory) (sym bus_then)
+      (vectors_first came.bus.memory served.bus.memory (below.1 0 (inl (omega arith))) (subst HasWords (sym memory) sound.stands.vectors))
+
+  pairs_are : HasNoNewPairs old.core.entries new.core.entries
+  pairs_are =
+      joined_pairs old.core.entries served.core.entries new.core.entries
+      (subst (λ (es : List Entry). HasNoNewPairs es served.core.entries) entries adds) brings
+
   none_owed : new.monitor.owed ≡ None
   none_owed = sym (ap (λ (s : State). s.owed) (served_is.state [])) ∙ boundary_owed (whole k0 b.memory [])
 
@@ -242,6 +267,8 @@ module _ {L : Type 0} (old came served new : Parts L) (ahead : Monitor) (turn : 
     serves = served_is;
     enters = enters;
     represented = represented (subst (λ (m : Monitor). IsRepresented served.core.entries served.bus.memory m.tables (space_of (kept_of m)) m.grants) (sym ahead_is) held_between);
+    vectors = vectors_are;
+    base = base_as old.core.system new.core.system context_is sound.stands.base;
     grants = subst NamesPages (sym (ap (λ (m : Monitor). m.grants) monitor_is)) pages;
     size = ap (λ (x : BusState). length x.memory) bus_then ∙ (below.0 ∙ ap (λ (x : List ℕ). length x) memory);
     devices = subst (λ (x : BusState). AreResting x (kept_of new.monitor)) (sym bus)
@@ -258,8 +285,9 @@ module _ {L : Type 0} (old came served new : Parts L) (ahead : Monitor) (turn : 
   pub has_attended : HasAttended old new
   has_attended = record {
     ends = ends_by;
-    own = ap₂ (λ (x : Bool) (y : ℕ). own_of x y) failed_is (ap (λ (p : Parts L). p.spent) ends);
+    own = ap₂ (λ (x : Bool) (y : ℕ). own_of x y new.wired) failed_is (ap (λ (p : Parts L). p.spent) ends) ∙ ap (own_of old.failed 0) wired_is;
     random = random_is;
+    pairs = pairs_are;
     lines = few;
     time = ap (λ (m : Monitor). m.time) all;
     ticked = ap (λ (m : Monitor). m.ticked) all;

@@ -1,8 +1,8 @@
 -- What single steps of a station do: an instruction, a boundary, an idle turn; and a failure.
 use Rattle.std.proofs.Common.{◌≡◌, ◌≢◌, ℕ, ◌+◌, ◌-◌, ◌*◌, ◌^◌, ◌<◌, ◌≤◌, Bool, true, false, not, [], length, Option, None, refl, sym, ap, ap₂, subst, ◌∙◌, arith}
-use Rattle.std.specs.Prelude.{IsSome, is_some, ◌==◌, ◌&&◌, ◌||◌}
+use Rattle.std.specs.Prelude.{IsSome, is_some, ◌&&◌}
 use Rattle.ds_word.specs.Word.{truth}
-use Rattle.ds_cp0.specs.System.{System, is_user}
+use Rattle.ds_cp0.specs.System.{is_user}
 use Rattle.ds_core.specs.declared.event.Event.{Event}
 use Rattle.ds_core.specs.declared.event.Event.TheVariants.{Retired, Branched, Raised}
 use Rattle.ds_core.specs.Core as core
@@ -18,16 +18,20 @@ use Rattle.ds_refinement.specs.declared.step.Step.{Step}
 use Rattle.ds_refinement.specs.declared.step.Step.TheVariants.{Inside, Over}
 use Rattle.ds_refinement.specs.Held.{Held}
 use Rattle.ds_refinement.specs.Stands.{Stands, IsSound}
-use Rattle.ds_refinement.specs.Services.{after_event, step_of, with_failure, with_one_spent}
-use Rattle.ds_refinement.specs.Steps.{Follows, Moves, is_in_kernel, ticks_of}
-use Rattle.ds_refinement.specs.Real.{is_served}
+use Rattle.ds_refinement.specs.Handling.{IsWhole}
+use Rattle.ds_refinement.specs.Services.{after_event, step_of, with_failure, with_one_spent, with_step}
+use Rattle.ds_refinement.specs.Steps.{Follows, Moves, ticks_of}
+use Rattle.ds_refinement.specs.Units.{is_general, is_served}
 use Rattle.ds_refinement.proofs.Boundaries.{rests}
-use Rattle.ds_refinement.proofs.Joined.{instruction_real}
+use Rattle.ds_refinement.proofs.Joined.{instruction_real, word_real}
 use Rattle.ds_refinement.proofs.Meets.{barred}
+use Rattle.ds_refinement.proofs.NoNewPairs.{same_pairs}
+use Rattle.ds_refinement.proofs.Words.{word_follows}
 use Rattle.ds_refinement.proofs.Quieter.{user_status_of}
 use Rattle.ds_refinement.proofs.Stages.{step_follows}
 use Rattle.ds_monitor.specs.Coming.{next_due}
 use Rattle.ds_monitor.specs.Kept.{kept_of}
+use Rattle.ds_monitor.specs.declared.monitor.Monitor.{Monitor}
 use Rattle.ds_monitor.specs.Room.{HasBoundaryRoom, HasTurnRoom}
 use Rattle.ds_monitor.proofs.Lawful.{turn_orderly}
 use Rattle.ds_kernel.proofs.Rooms.{turn_room_still, boundary_room}
@@ -45,10 +49,10 @@ sound_behind kind h new s f = let t = f.follows s.state s.stands in record { sta
 -- The marks are not seen by the machine.
 
 counted : (h : Held) (m : State) → Stands h m → Stands (with_one_spent h) m
-counted h m k = record { represented = k.represented; grants = k.grants; size = k.size; kept = k.kept; running = k.running; devices = k.devices }
+counted h m k = record { represented = k.represented; vectors = k.vectors; base = k.base; grants = k.grants; size = k.size; kept = k.kept; running = k.running; devices = k.devices }
 
 pub failure_unseen : (h : Held) (m : State) → Stands h m → Stands (with_failure h) m
-failure_unseen h m k = record { represented = k.represented; grants = k.grants; size = k.size; kept = k.kept; running = k.running; devices = k.devices }
+failure_unseen h m k = record { represented = k.represented; vectors = k.vectors; base = k.base; grants = k.grants; size = k.size; kept = k.kept; running = k.running; devices = k.devices }
 
 -- a failure leaves the station as it should be
 pub failed_good : {L : Type 0} (old new : Parts L) → IsGood old → old.monitor.owed ≡ None → held new ≡ with_failure (held old)
@@ -74,64 +78,21 @@ failed_good old new good unowed is until room =
       next = until ∙ (good.next ∙ sym (ap (λ (h : Held). next_due h.kept) is));
     }
 
--- One instruction of the process that runs, in user mode and with no boundary owed.
-module _ (h : Held) (sound : IsSound h) (orderly : IsOrderly h) (working : h.own.failed ≡ false) (unowed : h.kept.state.owed ≡ None) (ready : h.kept.state.ready ≢ [])
-    (user : is_user h.core.system ≡ true) (word : h.core.pc < 2 ^ 32) (few : h.own.spent < 64) (soon : h.kept.state.time < 1000000000) where
-  abbrev s : core.Step
-  s = step h.core h.bus
-
-  abbrev behind : Event → Held
-  behind e = after_event e (with_one_spent h) s
-
-  follows : Follows (step_of s.event) h (behind s.event)
-  follows = record { follows = λ m k. (step_follows (with_one_spent h) s refl unowed ready user word).follows m (counted h m k) }
-
-  one : truth (not (is_in_kernel h)) ≡ 1
-  one = ap (λ (u : Bool). truth (not (not u))) user
-
-  outside : truth (is_in_kernel h) ≡ 0
-  outside = ap (λ (u : Bool). truth (not u)) user
-
+-- A step of the processor in a unit, with no boundary owed and no service to be done.
+module _ (h : Held) (orderly : IsOrderly h) (unowed : h.kept.state.owed ≡ None) (ready : h.kept.state.ready ≢ []) (unserved : is_served h.core ≡ false) (few : h.own.spent < 64) where
   truth_small : (b : Bool) → truth b ≤ 1
   truth_small true = omega arith
   truth_small false = omega arith
 
-  two_ticks : (b : Bool) → ticks_of b ≤ 2
-  two_ticks true = omega arith
-  two_ticks false = omega arith
-
-  some_tick : (b : Bool) → 1 ≤ ticks_of b
-  some_tick true = omega arith
-  some_tick false = omega arith
-
-  inside_moves : (e : Event) → step_of e ≡ Inside → (behind e) ≡ record h { core = s.core; bus = s.bus; own = record h.own { spent = h.own.spent + 1 } } → Moves Inside h (behind e)
-  inside_moves e inside is =
-      let new : Held = record h { core = s.core; bus = s.bus; own = record h.own { spent = h.own.spent + 1 } } in
-      let count : h.own.spent + 1 ≡ h.own.spent + truth (not (is_in_kernel h)) = ap (λ (n : ℕ). h.own.spent + n) (sym one) in
-      let small : truth (is_in_kernel new) ≤ 1 = truth_small (is_in_kernel new) in
-      let fewer : 2 * (64 - (h.own.spent + 1)) + truth (is_in_kernel new) < 2 * (64 - h.own.spent) + truth (is_in_kernel h) = omega (arith, small, few, outside) in
-      subst (Moves Inside h) (sym is) (unowed, unowed, refl, count, omega (arith, few), fewer, refl)
-
-  moves : (e : Event) → Moves (step_of e) h (behind e)
-  moves Retired = (unowed, refl, refl, refl, refl)
-  moves Branched = inside_moves Branched refl refl
-  moves (Raised code) = inside_moves (Raised code) refl refl
-
-  no_service : is_served h.core ≡ false
-  no_service = ap (λ (u : Bool). not u && ((h.core.pc == 0x80000000) || (h.core.pc == 0x80000080))) user
-
-  -- the machine follows, and it is real
-  pub instruction_does : Does (step_of s.event) h (behind s.event)
-  instruction_does = record {
-    follows = follows;
-    moves = moves s.event;
-    real = instruction_real s.event h s (unowed, ready) no_service refl;
-  }
-
-  stays_user : s.event ≡ Retired → is_in_kernel (behind Retired) ≡ false
-  stays_user at =
-      let same : s.core.system ≡ h.core.system = keeps_system h.core h.bus (barred h.core 0 (user_status_of h sound user)) (ap is_raised at) in
-      ap (λ (x : System). not (is_user x)) same ∙ ap not user
+  -- it counts, where it ends no unit
+  inside_moves : (c : CoreState) (b : BusState) → Moves Inside h (record h { core = c; bus = b; own = record h.own { spent = h.own.spent + 1 } })
+  inside_moves c b =
+      let new : Held = record h { core = c; bus = b; own = record h.own { spent = h.own.spent + 1 } } in
+      let outside : truth (is_served h.core) ≡ 0 = ap truth unserved in
+      let count : h.own.spent + 1 ≡ h.own.spent + truth (not (is_served h.core)) = ap (λ (u : Bool). h.own.spent + truth (not u)) (sym unserved) in
+      let small : truth (is_served c) ≤ 1 = truth_small (is_served c) in
+      let fewer : 2 * (64 - (h.own.spent + 1)) + truth (is_served c) < 2 * (64 - h.own.spent) + truth (is_served h.core) = omega (arith, small, few, outside) in
+      (unowed, unowed, refl, count, omega (arith, few), fewer, refl)
 
   inside_orderly : (c : CoreState) (b : BusState) → IsOrderly (record h { core = c; bus = b; own = record h.own { spent = h.own.spent + 1 } })
   inside_orderly c b = record {
@@ -147,6 +108,52 @@ module _ (h : Held) (sound : IsSound h) (orderly : IsOrderly h) (working : h.own
     rate = orderly.rate;
   }
 
+-- in user mode no service is to be done
+pub user_unserved : (c : CoreState) → is_user c.system ≡ true → is_served c ≡ false
+user_unserved c user = ap (λ (u : Bool). not u && is_general c) user
+
+-- One instruction of the process that runs, in user mode.
+module _ (h : Held) (sound : IsSound h) (orderly : IsOrderly h) (working : h.own.failed ≡ false) (unowed : h.kept.state.owed ≡ None) (ready : h.kept.state.ready ≢ [])
+    (user : is_user h.core.system ≡ true) (word : h.core.pc < 2 ^ 32) (few : h.own.spent < 64) (soon : h.kept.state.time < 1000000000)
+    (whole : is_raised (step h.core h.bus).event ≡ true → IsWhole (step h.core h.bus).core) where
+  abbrev s : core.Step
+  s = step h.core h.bus
+
+  abbrev behind : Event → Held
+  behind e = after_event e (with_one_spent h) s
+
+  follows : Follows (step_of s.event) h (behind s.event)
+  follows = record { follows = λ m k. (step_follows (with_one_spent h) s refl unowed ready user word whole).follows m (counted h m k) }
+
+  two_ticks : (b : Bool) → ticks_of b ≤ 2
+  two_ticks true = omega arith
+  two_ticks false = omega arith
+
+  some_tick : (b : Bool) → 1 ≤ ticks_of b
+  some_tick true = omega arith
+  some_tick false = omega arith
+
+  unserved : is_served h.core ≡ false
+  unserved = user_unserved h.core user
+
+  moves : (e : Event) → Moves (step_of e) h (behind e)
+  moves Retired = (unowed, refl, refl, refl, refl)
+  moves Branched = inside_moves h orderly unowed ready unserved few s.core s.bus
+  moves (Raised code) = inside_moves h orderly unowed ready unserved few s.core s.bus
+
+  -- the machine follows, and it is real
+  pub instruction_does : Does (step_of s.event) h (behind s.event)
+  instruction_does = record {
+    follows = follows;
+    moves = moves s.event;
+    real = instruction_real s.event h s (unowed, ready) unserved refl;
+  }
+
+  stays_user : s.event ≡ Retired → is_user s.core.system ≡ true
+  stays_user at =
+      let same : s.core.system ≡ h.core.system = keeps_system h.core h.bus (barred h.core 0 (user_status_of h sound user)) (ap is_raised at) in
+      ap is_user same ∙ user
+
   marks : (e : Event) → s.event ≡ e → IsOrderly (behind e)
   marks Retired at =
       let tick : 1 ≤ ticks_of h.core.slot = some_tick h.core.slot in
@@ -155,7 +162,7 @@ module _ (h : Held) (sound : IsSound h) (orderly : IsOrderly h) (working : h.own
       record {
         begun = λ some. (let no : 0 < 0 = some in absurd (omega (arith, no)));
         failed = λ failed. (let no : false ≡ true = sym working ∙ failed in absurd (cc));
-        raised = λ kernel. (let no : false ≡ true = sym (stays_user at) ∙ kernel in absurd (cc));
+        raised = λ kernel. (let no : true ≡ false = sym (stays_user at) ∙ kernel in absurd (cc));
         running = λ some. (let no : 0 < 0 = some in absurd (omega (arith, no)));
         spent = omega arith;
         lines = omega (arith, lines, tick);
@@ -164,8 +171,8 @@ module _ (h : Held) (sound : IsSound h) (orderly : IsOrderly h) (working : h.own
         early = (let most : ticks_of h.core.slot ≤ 2 = two_ticks h.core.slot in omega (arith, soon, most));
         rate = orderly.rate;
       }
-  marks Branched at = inside_orderly s.core s.bus
-  marks (Raised code) at = inside_orderly s.core s.bus
+  marks Branched at = inside_orderly h orderly unowed ready unserved few s.core s.bus
+  marks (Raised code) at = inside_orderly h orderly unowed ready unserved few s.core s.bus
 
   pub instruction_orderly : IsOrderly (behind s.event)
   instruction_orderly = marks s.event refl
@@ -182,6 +189,7 @@ over_does old unowed nobody over = record {
     instruction = λ unit other. absurd (unit.1 nobody);
     service = λ unit served. absurd (unit.1 nobody);
     random = λ all. refl;
+    pairs = λ all. same_pairs old.core.entries;
   };
 }
 
@@ -204,7 +212,8 @@ event_time (Raised code) h s = omega arith
 module _ {L : Type 0} (old between new : Parts L) (kind : Step) (good : IsGood old) (working : old.failed ≡ false) (unowed : old.monitor.owed ≡ None) (ready : old.monitor.ready ≢ [])
     (user : is_user old.core.system ≡ true) (word : old.core.pc < 2 ^ 32) (few : old.spent < 64) (soon : old.monitor.time < 1000000000) (begun : held between ≡ with_one_spent (held old)) (until : between.monitor.quiet_until ≡ old.monitor.quiet_until) (room : HasTurnRoom between.monitor)
     (done : (s : core.Step) → s ≡ step between.core between.bus → (held new ≡ after_event s.event (held between) s) × (kind ≡ step_of s.event))
-    (rest : new ≡ record between { core = new.core; bus = new.bus; monitor = record between.monitor { time = new.monitor.time; owed = new.monitor.owed }; spent = new.spent }) where
+    (rest : new ≡ record between { core = new.core; bus = new.bus; monitor = record between.monitor { time = new.monitor.time; owed = new.monitor.owed }; spent = new.spent })
+    (all : IsWhole new.core) where
   abbrev stepped : core.Step
   stepped = step old.core old.bus
 
@@ -215,11 +224,20 @@ module _ {L : Type 0} (old between new : Parts L) (kind : Step) (good : IsGood o
   new_is : held new ≡ after_event stepped.event (with_one_spent (held old)) stepped
   new_is = (done stepped same_step).0 ∙ ap (λ (x : Held). after_event stepped.event x stepped) begun
 
+  core_after : (e : Event) → (after_event e (with_one_spent (held old)) stepped).core ≡ stepped.core
+  core_after Retired = refl
+  core_after Branched = refl
+  core_after (Raised code) = refl
+
+  -- the processor after an exception has all that every processor has
+  whole : is_raised stepped.event ≡ true → IsWhole stepped.core
+  whole raised = subst IsWhole (ap (λ (x : Held). x.core) new_is ∙ core_after stepped.event) all
+
   pub attempt_does : Does kind (held old) (held new)
   attempt_does =
       subst (λ (k : Step). Does k (held old) (held new)) (sym (done stepped same_step).1)
       (subst (Does (step_of stepped.event) (held old)) (sym new_is)
-      (instruction_does (held old) good.sound good.orderly working unowed ready user word few soon))
+      (instruction_does (held old) good.sound good.orderly working unowed ready user word few soon whole))
 
   monitor_behind : new.monitor ≡ record between.monitor { time = new.monitor.time; owed = new.monitor.owed }
   monitor_behind = ap (λ (x : Parts L). x.monitor) rest
@@ -245,11 +263,47 @@ module _ {L : Type 0} (old between new : Parts L) (kind : Step) (good : IsGood o
 
   pub attempt_good : IsGood new
   attempt_good = record {
-    sound = subst IsSound (sym new_is) (instruction_sound (held old) good.sound good.orderly working unowed ready user word few soon);
-    orderly = subst IsOrderly (sym new_is) (instruction_orderly (held old) good.sound good.orderly working unowed ready user word few soon);
+    sound = subst IsSound (sym new_is) (instruction_sound (held old) good.sound good.orderly working unowed ready user word few soon whole);
+    orderly = subst IsOrderly (sym new_is) (instruction_orderly (held old) good.sound good.orderly working unowed ready user word few soon whole);
     room = unit_room_behind;
     owed = λ some. boundary_room_then;
     next =
         ap (λ (x : Parts L). x.monitor.quiet_until) rest
         ∙ (until ∙ (good.next ∙ sym (ap (λ (x : Parts L). next_due (kept_of x.monitor)) rest ∙ ap (λ (x : Held). next_due x.kept) begun)));
+  }
+
+-- A word of the refill handler, counted and done.
+module _ {L : Type 0} (old between new : Parts L) (good : IsGood old) (unowed : old.monitor.owed ≡ None) (ready : old.monitor.ready ≢ [])
+    (kernel : is_user old.core.system ≡ false) (unserved : is_served old.core ≡ false) (few : old.spent < 64) (begun : held between ≡ with_one_spent (held old)) (until : between.monitor.quiet_until ≡ old.monitor.quiet_until) (room : HasTurnRoom between.monitor)
+    (done : held new ≡ with_step (held between) (step between.core between.bus))
+    (rest : new ≡ record between { core = new.core; bus = new.bus }) where
+  abbrev worded : core.Step
+  worded = step old.core old.bus
+
+  after_word : held new ≡ with_step (with_one_spent (held old)) worded
+  after_word = done ∙ ap (λ (x : Held). with_step x (step x.core x.bus)) begun
+
+  word_joins : Follows Inside (held old) (with_step (with_one_spent (held old)) worded)
+  word_joins = record { follows = λ m k. (word_follows (with_one_spent (held old)) ready kernel unserved).follows m (counted (held old) m k) }
+
+  pub word_does : Does Inside (held old) (held new)
+  word_does = subst (Does Inside (held old)) (sym after_word) (record {
+    follows = word_joins;
+    moves = inside_moves (held old) good.orderly unowed ready unserved few worded.core worded.bus;
+    real = word_real (held old) (unowed, ready) unserved;
+  })
+
+  monitor_then : new.monitor ≡ between.monitor
+  monitor_then = ap (λ (x : Parts L). x.monitor) rest
+
+  none_owed : new.monitor.owed ≡ None
+  none_owed = ap (λ (x : Held). x.kept.state.owed) after_word ∙ unowed
+
+  pub word_good : IsGood new
+  word_good = record {
+    sound = subst IsSound (sym after_word) (sound_behind Inside (held old) (with_step (with_one_spent (held old)) worded) good.sound word_joins);
+    orderly = subst IsOrderly (sym after_word) (inside_orderly (held old) good.orderly unowed ready unserved few worded.core worded.bus);
+    room = λ some. subst HasTurnRoom (sym monitor_then) room;
+    owed = λ some. absurd (none_is_not_some new.monitor.owed none_owed some);
+    next = ap (λ (m : Monitor). m.quiet_until) monitor_then ∙ (until ∙ (good.next ∙ sym (ap (λ (x : Held). next_due x.kept) after_word)));
   }

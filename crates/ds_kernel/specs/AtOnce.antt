@@ -1,8 +1,10 @@
 -- Calls that are answered at once, and the block of instructions after one.
-use Rattle.std.specs.Prelude.{◌≡◌, ℕ, ◌+◌, ◌-◌, ◌<◌, false, None}
+use Rattle.std.specs.Prelude.{◌≡◌, ℕ, ◌+◌, ◌-◌, ◌<◌, true, false, None}
 use Rattle.ds_cp0.specs.System.{is_user}
+use Rattle.ds_core.specs.Core.{CoreState}
 use Rattle.ds_core.specs.Ahead.{owed_tick}
 use Rattle.ds_refinement.specs.Told.{code_in, is_delayed}
+use Rattle.ds_refinement.specs.Units.{is_served, has_left_user}
 use Rattle.ds_refinement.specs.Blocks.{MayRunAhead}
 use Rattle.ds_monitor.specs.Room.{HasLogRoom, HasRoom}
 use Rattle.ds_kernel.specs.declared.parts.Parts.{Parts}
@@ -10,11 +12,16 @@ use Rattle.ds_kernel.specs.Parts.{held}
 use Rattle.ds_kernel.specs.Good.{IsBusy, IsGood}
 use Rattle.ds_kernel.specs.Going.{GoesOn}
 
+-- a call left the program: it is served, it came from user mode, and Cause has its code
+pub record IsCalled (c : CoreState) : Type 0 where
+  pub served : is_served c ≡ true
+  pub left : has_left_user c ≡ true
+  pub code : code_in c.system ≡ 8
+
 -- a call of a process outside the slot of a branch waits, and the boundary after its turn has nothing to do
 pub record IsQuietCall {L : Type 0} (process : ℕ) (p : Parts L) : Type 0 where
   pub busy : IsBusy process p
-  pub kernel : is_user p.core.system ≡ false
-  pub code : code_in p.core.system ≡ 8
+  pub called : IsCalled p.core
   pub outside : is_delayed p.core.system ≡ false
   pub early : p.monitor.time + 1 < p.monitor.quiet_until
 
@@ -24,6 +31,7 @@ pub record IsAnswered {L : Type 0} (old new : Parts L) : Type 0 where
   pub goes : (n : ℕ) → old.monitor.time < n → GoesOn n (held old) (held new)
   pub unowed : new.monitor.owed ≡ None
   pub ready : new.monitor.ready ≡ old.monitor.ready
+  pub user : is_user new.core.system ≡ true
   pub begins : new.spent ≡ owed_tick new.core.slot
   pub until : new.monitor.quiet_until ≡ old.monitor.quiet_until
   pub log : HasLogRoom 1 old.monitor → HasLogRoom 1 new.monitor

@@ -8,6 +8,7 @@ use Rattle.ds_pagemap.specs.Machine.{State}
 use Rattle.ds_pagemap.specs.Boundary.{all_queued, woken, rotated, boundary}
 use Rattle.ds_pagemap_laws.specs.Due.{come}
 use Rattle.ds_refinement.specs.Held.{Held, Kept}
+use Rattle.ds_refinement.specs.Pairs.{HasNoNewPairs}
 use Rattle.ds_refinement.specs.Quiet.{IsQuiet}
 use Rattle.ds_refinement.specs.Services.{EndsBy, with_boundary, with_none_spent}
 use Rattle.ds_monitor.specs.Coming.{next_due}
@@ -61,6 +62,7 @@ pub record HasAttended {L : Type 0} (old new : Parts L) : Type 0 where
   pub ends : EndsBy boundary (held old) (held new)
   pub own : (held new).own ≡ with_none_spent (held old).own
   pub random : new.core.random ≡ old.core.random
+  pub pairs : HasNoNewPairs old.core.entries new.core.entries
   pub lines : new.monitor.lines + length new.monitor.due.commands ≤ old.monitor.lines + length old.monitor.due.commands
   pub time : new.monitor.time ≡ old.monitor.time
   pub ticked : new.monitor.ticked ≡ old.monitor.time
@@ -72,4 +74,5 @@ pub record HasAttended {L : Type 0} (old new : Parts L) : Type 0 where
 abbrev pub IsBounded : Held → Held → Type 0
 IsBounded old new =
     (IsQuiet old.kept × (new ≡ with_boundary old))
-    ⊎ (EndsBy boundary old new × (new.own ≡ with_none_spent old.own) × (new.core.random ≡ old.core.random))
+    ⊎ (EndsBy boundary old new × (new.own ≡ with_none_spent old.own) × (new.core.random ≡ old.core.random)
+    × HasNoNewPairs old.core.entries new.core.entries)

@@ -3,6 +3,7 @@ use Rattle.std.specs.Prelude.{◌≡◌, ℕ, ◌+◌, ◌≤◌}
 use Rattle.ds_pagemap.specs.Machine.{State}
 use Rattle.ds_refinement.specs.declared.step.Step.{Step}
 use Rattle.ds_refinement.specs.Held.{Held}
+use Rattle.ds_refinement.specs.Pairs.{HasNoNewPairs}
 use Rattle.ds_refinement.specs.Services.{EndsBy, with_none_spent}
 use Rattle.ds_refinement.specs.Steps.{Follows, Moves}
 use Rattle.ds_refinement.specs.Real.{IsReal}
@@ -18,6 +19,7 @@ pub record HasEnded {L : Type 0} (f : State → State) (old new : Parts L) : Typ
   pub ends : EndsBy f (held old) (held new)
   pub own : (held new).own ≡ with_none_spent (held old).own
   pub random : new.core.random ≡ old.core.random
+  pub pairs : HasNoNewPairs old.core.entries new.core.entries
   pub lines : new.monitor.lines ≤ old.monitor.lines + 1
   pub ticked : new.monitor.ticked ≡ old.monitor.ticked
   pub rate : new.monitor.rate ≡ old.monitor.rate

@@ -1,11 +1,11 @@
 -- What is true of a station's parts at any time, and while a unit goes on.
 use Rattle.std.specs.Prelude.{◌≡◌, ◌≢◌, ℕ, ◌+◌, ◌<◌, ◌≤◌, true, false, [], length, Some, None, IsSome}
+use Rattle.ds_cp0.specs.System.{is_user}
 use Rattle.ds_monitor.specs.Coming.{next_due}
 use Rattle.ds_monitor.specs.Kept.{kept_of}
 use Rattle.ds_pagemap.specs.Machine.{first}
 use Rattle.ds_refinement.specs.Held.{Held}
 use Rattle.ds_refinement.specs.Stands.{IsSound}
-use Rattle.ds_refinement.specs.Steps.{is_in_kernel}
 use Rattle.ds_monitor.specs.Room.{HasBoundaryRoom, HasTurnRoom}
 use Rattle.ds_monitor.specs.Orderly as monitor
 use Rattle.ds_kernel.specs.declared.parts.Parts.{Parts}
@@ -22,7 +22,7 @@ pub record IsOrderly (h : Held) : Type 0 where
   pub begun : 0 < h.own.spent → h.kept.state.owed ≡ None
   pub failed : h.own.failed ≡ true → h.kept.state.owed ≡ None
   -- an exception is raised in a unit, and a unit is that of a process that is ready
-  pub raised : is_in_kernel h ≡ true → 0 < h.own.spent
+  pub raised : is_user h.core.system ≡ false → 0 < h.own.spent
   pub running : 0 < h.own.spent → h.kept.state.ready ≢ []
   pub spent : h.own.spent ≤ 64
   -- a unit writes a line of the log at most, and so does a command

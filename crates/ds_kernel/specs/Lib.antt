@@ -8,4 +8,6 @@ pub mod Attended
 pub mod Halts
 pub mod Ran
 pub mod Going
+pub mod Refilled
 pub mod AtOnce
+pub mod Idling

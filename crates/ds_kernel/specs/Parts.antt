@@ -9,5 +9,5 @@ held p = record {
   core = p.core;
   bus = p.bus;
   kept = kept_of p.monitor;
-  own = record { failed = p.failed; spent = p.spent };
+  own = record { failed = p.failed; spent = p.spent; wired = p.wired };
 }

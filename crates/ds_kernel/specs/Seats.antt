@@ -4,7 +4,7 @@ use Rattle.ds_word.specs.Word.{word}
 use Rattle.ds_isa.specs.Registers.{Registers, settled}
 use Rattle.ds_core.specs.Core.{CoreState}
 use Rattle.ds_pagemap.specs.Machine.{Process}
-use Rattle.ds_refinement.specs.Stands.{user_status}
+use Rattle.ds_refinement.specs.Units.{user_status}
 
 -- the processor at the beginning of a unit at an address: no load is late, and registers 26 and 27 have what the refill of a translation leaves there
 abbrev pub begun_at : CoreState → ℕ → CoreState

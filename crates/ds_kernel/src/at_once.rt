@@ -5,7 +5,7 @@ ghost use Rattle.ds_cp0.specs.System.{is_user};
 ghost use Rattle.ds_core.specs.Ahead.{owed_tick};
 ghost use Rattle.ds_monitor.specs.Room.{HasLogRoom};
 ghost use Rattle.ds_kernel.specs.Good.{IsBusy, IsGood};
-ghost use Rattle.ds_kernel.specs.AtOnce.{IsQuietCall, IsAnswered, MayGoOn};
+ghost use Rattle.ds_kernel.specs.AtOnce.{IsCalled, IsQuietCall, IsAnswered, MayGoOn};
 
 use crate::parts::Parts;
 use ds_tlb::Lookaside;
@@ -54,17 +54,17 @@ impl<L: Lookaside> Parts<L> {
         self.go_on_behind_call(answer);
     }
 
-    /// Whether the exception that waits is a put or a get outside the slot of a branch, which is then
+    /// Whether the call that waits is a put or a get outside the slot of a branch, which is then
     /// answered.
     #[inline(always)]
     pub(crate) fn answer_at_once(&mut self, process: u32) -> bool
         requires busy { IsBusy process self.old }
-        requires kernel { is_user self.old.core.system ≡ false }
+        requires called { IsCalled self.old.core }
         requires early { self.old.monitor.time + 1 < self.old.monitor.quiet_until }
         ensures answered { result ≡ true → IsAnswered self.old self.new }
         ensures still { result ≡ false → self.new ≡ self.old }
     {
-        if !self.is_call() || self.is_delayed() {
+        if self.is_delayed() {
             return false;
         }
         match self.core.registers[2] {
@@ -82,6 +82,7 @@ impl<L: Lookaside> Parts<L> {
         requires good { IsGood self.now }
         requires unowed { self.now.monitor.owed ≡ None }
         requires ready { self.now.monitor.ready ≢ [] }
+        requires user { is_user self.now.core.system ≡ true }
         requires begins { self.now.spent ≡ owed_tick self.now.core.slot }
         requires quiet { end + 2 ≤ self.now.monitor.quiet_until }
         requires log { HasLogRoom 1 self.now.monitor }

@@ -1,5 +1,6 @@
 //! Many instructions of a process at once, with one bookkeeping for all their units.
-ghost use Rattle.std.specs.Prelude.{[], ◌≢◌, ◌≡◌, ◌<◌, ◌≤◌, ◌+◌, ◌-◌, min, ℕ, None, false, IfSome, IfErr, OnOk, OnErr, IsNone, IsSome};
+ghost use Rattle.std.specs.Prelude.{[], ◌≢◌, ◌≡◌, ◌<◌, ◌≤◌, ◌+◌, ◌-◌, min, ℕ, None, true, false, IfSome, IfErr, OnOk, OnErr, IsNone, IsSome};
+ghost use Rattle.ds_cp0.specs.declared.exception.ExceptionCode.TheVariants as exception;
 ghost use Rattle.ds_core.specs.Ahead.{hardware_of, AdvancesTo, ComesByWords, ticks, owed_tick};
 ghost use Rattle.ds_refinement.specs.Blocks.{MayRunAhead};
 ghost use Rattle.ds_refinement.specs.Services.{with_failure};
@@ -7,11 +8,13 @@ ghost use Rattle.ds_monitor.specs.Room.{HasRoom};
 ghost use Rattle.ds_kernel.specs.Parts.{held};
 ghost use Rattle.ds_kernel.specs.Good.{IsGood};
 ghost use Rattle.ds_kernel.specs.Going.{GoesOn};
+ghost use Rattle.ds_kernel.specs.AtOnce.{IsCalled};
 ghost use Rattle.ds_kernel.specs.Halts.{Halts};
 
 use crate::halt::Halt;
 use crate::parts::Parts;
 use ds_core::Ahead;
+use ds_cp0::ExceptionCode;
 use ds_tlb::Lookaside;
 
 /// The tick that a branch leaves to its slot.
@@ -20,6 +23,17 @@ fn owed_tick(slot: bool) -> u32
     ensures { result ≡ owed_tick slot }
 {
     if slot { 1 } else { 0 }
+}
+
+/// Whether the code is that of a call.
+#[inline(always)]
+fn is_call(code: ExceptionCode) -> bool
+    ensures { result ≡ true → code ≡ exception.SystemCall }
+{
+    match code {
+        ExceptionCode::SystemCall => true,
+        _ => false,
+    }
 }
 
 impl<L: Lookaside> Parts<L> {
@@ -31,10 +45,9 @@ impl<L: Lookaside> Parts<L> {
         owed_tick(self.core.slot)
     }
 
-    /// The most instructions that may run ahead in a run for n, if any may: the process is at the
-    /// beginning of its unit or in the slot of its branch, and each unit begins before n, and so
-    /// early that no command is due after it. An exception that waits has been counted in its unit,
-    /// so none waits there.
+    /// The most instructions that may run ahead in a run for n, if any may: the process is in user
+    /// mode, at the beginning of its unit or in the slot of its branch, and each unit begins before
+    /// n, and so early that no command is due after it.
     #[inline(always)]
     pub(crate) fn may_run_ahead(&self, n: u64) -> Option<u32>
         requires good { IsGood self.now }
@@ -46,6 +59,9 @@ impl<L: Lookaside> Parts<L> {
         ensures any { self.now.monitor.time + 1 < n → MayRunAhead 2 (held self.now)
             → IsSome result }
     {
+        if !self.is_user() {
+            return None;
+        }
         if self.monitor.time >= n || self.monitor.owed.is_some() {
             return None;
         }
@@ -117,9 +133,9 @@ impl<L: Lookaside> Parts<L> {
     }
 
     /// Takes so many instructions, or fewer and then one that raises an exception. No
-    /// boundary between their units has anything to do.
+    /// boundary between their units has anything to do. Whether the last was a call.
     #[inline(always)]
-    pub(crate) fn run_block(&mut self, limit: u32)
+    pub(crate) fn run_block(&mut self, limit: u32) -> bool
         requires slots { L.SLOTS ≡ 64 }
         requires wired { L.WIRED ≡ 8 }
         requires good { IsGood self.old }
@@ -131,6 +147,7 @@ impl<L: Lookaside> Parts<L> {
         ensures good { IsGood self.new }
         ensures goes { (n : ℕ) → self.old.monitor.time + limit + owed_tick self.old.core.slot ≤ n
             → GoesOn n (held self.old) (held self.new) }
+        ensures called { result ≡ true → IsCalled self.new.core }
         ensures soon { self.new.monitor.time ≤ self.old.monitor.time + limit + 1 }
         ensures rest { self.new ≡ record self.old {
           core = self.new.core;
@@ -145,10 +162,13 @@ impl<L: Lookaside> Parts<L> {
             None => {
                 let left = self.slot_tick();
                 self.count(ahead.steps + before - left, left);
+                false
             }
-            Some(_) => {
+            Some(code) => {
+                self.look_at_processor();
                 let left = owed_tick(self.is_delayed());
                 self.count(ahead.steps + before - left, left + 1);
+                is_call(code)
             }
         }
     }

@@ -2,6 +2,7 @@
 ghost use Rattle.std.specs.Prelude.{◌≡◌, ◌+◌, ◌<◌, ◌≤◌, ◌^◌, length, map, All, IsSome};
 ghost use Rattle.ds_grants.specs.Buffer.{one_space};
 ghost use Rattle.ds_grants.specs.Represented.{IsLow, Keeps};
+ghost use Rattle.ds_refinement.specs.Pairs.{HasNoNewPairs};
 ghost use Rattle.ds_refinement.specs.Services.{Serves, seated};
 ghost use Rattle.ds_monitor.specs.Kept.{kept_of, kept_after};
 ghost use Rattle.ds_monitor.specs.Commands.{commanded};
@@ -88,6 +89,7 @@ impl<L: Lookaside> Parts<L> {
             self.old.monitor.grants
             self.new.core.entries self.new.bus.memory self.new.monitor.tables
             self.new.monitor.grants }
+        ensures pairs { HasNoNewPairs self.old.core.entries self.new.core.entries }
         ensures random { self.new.core.random ≡ self.old.core.random }
         ensures rest { self.new ≡ record self.old {
           core = record self.old.core { entries = self.new.core.entries };
@@ -132,6 +134,7 @@ impl<L: Lookaside> Parts<L> {
             self.old.monitor.grants
             self.new.core.entries self.new.bus.memory self.new.monitor.tables
             self.new.monitor.grants }
+        ensures pairs { HasNoNewPairs self.old.core.entries self.new.core.entries }
         ensures random { self.new.core.random ≡ self.old.core.random }
         ensures rest { self.new ≡ record self.old {
           core = record self.old.core { entries = self.new.core.entries };

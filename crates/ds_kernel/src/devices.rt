@@ -7,7 +7,7 @@ ghost use Rattle.ds_dev.specs.Bus.{with_clock, with_serial, after_ticks, asks};
 ghost use Rattle.ds_pagemap.specs.Machine.{State};
 ghost use Rattle.ds_pagemap.specs.Boundary.{all_queued};
 ghost use Rattle.ds_pagemap_laws.specs.Due.{come};
-ghost use Rattle.ds_refinement.specs.Stands.{user_status};
+ghost use Rattle.ds_refinement.specs.Units.{user_status};
 ghost use Rattle.ds_monitor.specs.Kept.{kept_of, kept_after};
 ghost use Rattle.ds_kernel.specs.Devices.{IsOfLine, oldest, all_received, typed, emptied, interrupted};
 ghost use Rattle.ds_kernel.specs.Attended.{to_come, bus_at};
@@ -74,7 +74,7 @@ fn take_interrupt<L: Lookaside>(core: &mut Core<L>, bus: &mut Bus)
 
 impl<L: Lookaside> Parts<L> {
     /// The clock is brought to the time.
-    fn catch_up(&mut self)
+    pub(crate) fn catch_up(&mut self)
         requires before { self.old.monitor.ticked ≤ self.old.monitor.time }
         requires early { self.old.monitor.time < 2 ^ 62 }
         ensures { self.new ≡ record self.old {

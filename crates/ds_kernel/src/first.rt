@@ -19,6 +19,7 @@ use ds_isa::Size;
 use ds_mem::{Memory, OutOfMemory};
 use ds_monitor::Monitor;
 use ds_policy::{Events, Policy};
+use ds_refill::install;
 use ds_tlb::Lookaside;
 use ds_word::wrapping_sum;
 use std::alloc::Global;
@@ -91,7 +92,8 @@ fn first_bus(memory: Memory, rate: u32) -> Bus
 
 impl<L: Lookaside> Parts<L> {
     /// What a station holds at the beginning of a run of a policy, over an empty buffer: the
-    /// processes at their start, the images in their pages, and what is to come. There is one image
+    /// refill handler at the vector of misses, the processes at their start, the images in their
+    /// pages, and what is to come. There is one image
     /// for each source name of the policy, in their order. Refused only where the host has no room
     /// for it.
     pub fn new(
@@ -112,6 +114,7 @@ impl<L: Lookaside> Parts<L> {
         ensures good { IfOk result (λ p. IsGood p) }
     {
         let mut memory = Memory::new(alloc)?;
+        install(&mut memory);
         let monitor = Monitor::new(alloc, policy, images, events, &mut memory, &mut tlb)?;
         // All of memory is there, and each page that the table names lies in it.
         let _ = memory.word(0);
@@ -122,6 +125,7 @@ impl<L: Lookaside> Parts<L> {
             monitor,
             failed: false,
             spent: 0,
+            wired: 0,
         })
     }
 }

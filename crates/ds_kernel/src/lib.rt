@@ -3,12 +3,16 @@
 #![tactic(auto)]
 
 mod at_once;
+mod backs;
 mod blocks;
 mod boundary;
 mod cause;
 mod devices;
+mod doubles;
 mod first;
 mod halt;
+mod idle;
+mod mode;
 mod parts;
 mod refill;
 mod run;
@@ -19,4 +23,5 @@ mod turn;
 mod units;
 
 pub use halt::Halt;
+pub use idle::turns_of_nobody_are_one_step;
 pub use parts::Parts;

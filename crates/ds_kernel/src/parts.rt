@@ -17,4 +17,7 @@ pub struct Parts<L: Lookaside> {
     pub failed: bool,
     /// The instructions that the unit has taken so far.
     pub spent: u32,
+    /// The next of the first eight slots of the buffer, which Random never names: they take the
+    /// entries of tables' pages in turn (Kane and Heinrich, chapter 4).
+    pub wired: u32,
 }

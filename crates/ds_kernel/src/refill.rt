@@ -1,75 +1,138 @@
-//! The buffer is refilled from the page tables, and the unit goes on.
-ghost use Rattle.std.specs.Prelude.{◌≡◌};
-ghost use Rattle.ds_tables.specs.Tables.{entry_word};
-ghost use Rattle.ds_refinement.specs.Services.{
-  at_unit,
-  refilled,
-  touched_registers,
-  asked_entry,
-  with_refill,
-};
+//! A whole refill at once, where a page of the process that runs was missed, and the instruction that
+//! it is for.
+ghost use Rattle.std.specs.Prelude.{◌≡◌, ◌≢◌, ℕ, ◌+◌, ◌<◌, [], true, false};
+ghost use Rattle.ds_cp0.specs.System.{is_user};
+ghost use Rattle.ds_refill_laws.specs.Refill.{handler_events};
+ghost use Rattle.ds_handler.specs.Refills.{RunsInside};
+ghost use Rattle.ds_refinement.specs.Held.{Held};
 ghost use Rattle.ds_kernel.specs.Parts.{held};
+ghost use Rattle.ds_kernel.specs.Good.{IsGood};
+ghost use Rattle.ds_kernel.specs.Going.{GoesOn};
+ghost use Rattle.ds_kernel.specs.Refilled.{has_missed};
 
 use crate::parts::Parts;
-use crate::seats::{ONE_SPACE, USER_STATUS};
-use ds_cp0::register;
-use ds_tlb::{Entry, Lookaside};
-use ds_word::wrapping_sum;
+use crate::steps::MOST_SPENT;
+use ds_handler::refill_at_once;
+use ds_tlb::Lookaside;
+
+/// Where the processor goes on after the miss of a user's page: at the handler's first word.
+const MISS_VECTOR: u32 = 0x80000000;
+
+/// The instructions of the handler, each of which counts in the unit.
+const HANDLER_WORDS: u32 = 9;
 
 impl<L: Lookaside> Parts<L> {
-    /// The page-table word of a process for the page of an address.
-    fn page_table_word(&mut self, process: u32, address: u32) -> u32
-        ensures value { result
-            ≡ entry_word self.old.bus.memory self.old.monitor.tables process address }
-        ensures same { self.new ≡ self.old }
+    /// Whether the processor is before the handler's first word: a page of the process that runs
+    /// was missed.
+    #[inline(always)]
+    fn has_missed(&self) -> bool
+        ensures { result ≡ has_missed self.now.core }
     {
-        self.monitor
-            .tables
-            .entry(self.bus.memory(), process, address)
+        !self.core.cp0.user() && self.core.pc == MISS_VECTOR
     }
 
-    /// Puts an entry into the buffer: over the one that matches, or else where Random tells.
-    fn put_entry(&mut self, entry: Entry)
-        ensures { self.new ≡ record self.old {
-          core = record self.old.core { entries = refilled self.old.core entry };
+    /// The handler's nine words at once, where the unit may take so many instructions more, and one
+    /// after them. Whether they were done: they are left to single steps where the page-table word
+    /// can't be loaded.
+    #[inline(always)]
+    fn refill(&mut self) -> bool
+        requires slots { L.SLOTS ≡ 64 }
+        requires wired { L.WIRED ≡ 8 }
+        requires good { IsGood self.old }
+        requires ready { self.old.monitor.ready ≢ [] }
+        requires missed { has_missed self.old.core ≡ true }
+        ensures good { IsGood self.new }
+        ensures words { result ≡ true
+            → RunsInside handler_events self.old.core self.old.bus self.new.core }
+        ensures nearer { result ≡ true → (n : ℕ) → self.old.monitor.time < n
+            → GoesOn n (held self.old) (held self.new) }
+        ensures spent { result ≡ true → self.new.spent ≡ self.old.spent + 9 }
+        ensures few { result ≡ true → self.new.spent < 64 }
+        ensures still { result ≡ false → self.new ≡ self.old }
+        ensures rest { self.new ≡ record self.old {
+          core = self.new.core;
+          spent = self.new.spent;
         } }
     {
-        match self.core.tlb.find(entry.vpn, entry.asid) {
-            Some(slot) => self.core.tlb.write(slot, entry),
-            None => {
-                self.core.tlb.write_random(entry);
-            }
+        if self.spent + HANDLER_WORDS >= MOST_SPENT {
+            return false;
         }
+        if !refill_at_once(&mut self.core, &self.bus) {
+            return false;
+        }
+        self.spent += HANDLER_WORDS;
+        true
     }
 
-    /// The unit begins again; registers 26 and 27 are lost to the refill.
-    fn go_back(&mut self)
-        ensures { self.new ≡ record self.old {
-          core = record (at_unit self.old.core self.old.core.system.epc) {
-            registers = touched_registers self.old.core.registers self.old.core.system.epc;
-          };
-        } }
+    /// The instruction whose page was missed, once more, and the boundary after it, where it ends
+    /// its unit.
+    #[inline(always)]
+    fn retry(&mut self)
+        requires slots { L.SLOTS ≡ 64 }
+        requires wired { L.WIRED ≡ 8 }
+        requires good { IsGood self.old }
+        requires working { self.old.failed ≡ false }
+        requires ready { self.old.monitor.ready ≢ [] }
+        requires user { is_user self.old.core.system ≡ true }
+        requires early { self.old.monitor.time < 1000000000 }
+        requires begun { 0 < self.old.spent }
+        requires few { self.old.spent < 64 }
+        ensures good { IsGood self.new }
+        ensures nearer { (n : ℕ) → self.old.monitor.time < n
+            → GoesOn n (held self.old) (held self.new) }
     {
-        let unit = self.unit_address();
-        self.core.registers[26] = 0;
-        self.core.registers[27] = unit;
-        self.core.late = None;
-        self.core.pc = unit;
-        self.core.next = wrapping_sum(unit, 4);
-        self.core.slot = false;
-        self.core.cp0.write(register::STATUS, USER_STATUS);
+        self.look_at_program();
+        self.spent += 1;
+        self.execute();
+        self.look_at_processor();
+        self.do_owed();
     }
 
-    /// The page-table word of the address that was refused is put into the buffer, and the unit
-    /// begins again.
-    pub fn refill(&mut self, process: u32)
-        ensures held { held self.new
-            ≡ with_refill (held self.old) (asked_entry (held self.old) process) }
-        ensures rest { self.new ≡ record self.old { core = self.new.core } }
+    /// A whole refill, and the instruction that it was for. Whether the refill was done.
+    // It stands apart, so that what a block needs stays in registers.
+    #[inline(never)]
+    fn refill_and_retry(&mut self) -> bool
+        requires slots { L.SLOTS ≡ 64 }
+        requires wired { L.WIRED ≡ 8 }
+        requires good { IsGood self.old }
+        requires working { self.old.failed ≡ false }
+        requires early { self.old.monitor.time < 1000000000 }
+        requires ready { self.old.monitor.ready ≢ [] }
+        requires missed { has_missed self.old.core ≡ true }
+        ensures good { IsGood self.new }
+        ensures nearer { result ≡ true → (n : ℕ) → self.old.monitor.time < n
+            → GoesOn n (held self.old) (held self.new) }
+        ensures still { result ≡ false → self.new ≡ self.old }
     {
-        let address = self.bad_address();
-        let word = self.page_table_word(process, address);
-        self.put_entry(Entry::of_words(address / 4096 * 4096 + ONE_SPACE, word));
-        self.go_back();
+        if !self.refill() {
+            return false;
+        }
+        if self.is_user() {
+            self.retry();
+        }
+        true
+    }
+
+    /// Where a page of the process that runs was missed, the handler's nine words at once, and the
+    /// instruction that missed it once more. Whether they were done.
+    #[inline(always)]
+    pub(crate) fn refill_missed(&mut self) -> bool
+        requires slots { L.SLOTS ≡ 64 }
+        requires wired { L.WIRED ≡ 8 }
+        requires good { IsGood self.old }
+        requires working { self.old.failed ≡ false }
+        requires early { 0 < self.old.spent → self.old.monitor.time < 1000000000 }
+        ensures good { IsGood self.new }
+        ensures missed { result ≡ true → has_missed self.old.core ≡ true }
+        ensures nearer { result ≡ true → (n : ℕ) → self.old.monitor.time < n
+            → GoesOn n (held self.old) (held self.new) }
+        ensures goes { (n : ℕ) (start : Held) → (0 < self.old.spent → self.old.monitor.time < n)
+            → GoesOn n start (held self.old) → GoesOn n start (held self.new) }
+        ensures still { result ≡ false → self.new ≡ self.old }
+    {
+        if self.has_missed() && self.monitor.first_ready().is_some() {
+            return self.refill_and_retry();
+        }
+        false
     }
 }

@@ -1,14 +1,14 @@
 //! Runs of a station, by blocks of instructions where it can and by single steps elsewhere.
 ghost use Rattle.std.specs.Prelude.{◌≡◌, ◌⊎◌, ℕ, ◌+◌, ◌<◌, ◌≤◌, true, false, IfErr, OnOk, OnErr, IsErrOf};
 ghost use Rattle.ds_refinement.specs.Held.{Held};
-ghost use Rattle.ds_refinement.specs.Steps.{is_in_kernel};
+ghost use Rattle.ds_refinement.specs.Units.{is_served};
 ghost use Rattle.ds_refinement.specs.Runs.{held_goes_on};
 ghost use Rattle.ds_refinement.specs.Services.{with_failure};
 ghost use Rattle.ds_kernel.specs.Parts.{held};
-ghost use Rattle.ds_kernel.specs.Good.{IsGood};
+ghost use Rattle.ds_kernel.specs.Good.{IsBusy, IsGood};
 ghost use Rattle.ds_kernel.specs.Going.{GoesOn};
 ghost use Rattle.ds_kernel.specs.Halts.{Halts};
-ghost use Rattle.ds_kernel.specs.AtOnce.{MayGoOn};
+ghost use Rattle.ds_kernel.specs.AtOnce.{IsCalled, MayGoOn};
 ghost use Rattle.ds_monitor.specs.Room.{HasLogRoom, HasRoom};
 ghost use Rattle.ds_refinement.specs.Blocks.{MayRunAhead};
 ghost use Rattle.ds_kernel.specs.Ran.{HasRun, WasCut};
@@ -35,7 +35,7 @@ impl<L: Lookaside> Parts<L> {
 
     /// The boundary, where one is owed.
     #[inline(always)]
-    fn do_owed(&mut self)
+    pub(crate) fn do_owed(&mut self)
         requires slots { L.SLOTS ≡ 64 }
         requires wired { L.WIRED ≡ 8 }
         requires good { IsGood self.old }
@@ -48,19 +48,28 @@ impl<L: Lookaside> Parts<L> {
         }
     }
 
-    /// Whether an exception waits to be served.
+    /// The service of the exception that waits, and the boundary after it, where that ended the unit.
     #[inline(always)]
-    fn is_in_kernel(&self) -> bool
-        ensures { result ≡ is_in_kernel (held self.now) }
+    fn serve_waiting(&mut self, n: u64, process: u32)
+        requires slots { L.SLOTS ≡ 64 }
+        requires wired { L.WIRED ≡ 8 }
+        requires busy { IsBusy process self.old }
+        requires served { is_served self.old.core ≡ true }
+        requires before { self.old.monitor.time < n }
+        ensures good { IsGood self.new }
+        ensures goes { (start : Held) → GoesOn n start (held self.old)
+            → GoesOn n start (held self.new) }
     {
-        !self.core.cp0.user()
+        self.serve(process);
+        self.do_owed();
     }
 
     /// The service of the exception that waits, where one does, and the boundary after it, where
-    /// that ended the unit. Whether another block may begin at once, as it may after a call that was
-    /// answered at once; it is to leave time for a unit before the end.
+    /// that ended the unit; or the refill, where a page was missed. Whether another block may begin
+    /// at once, as it may after a call that was answered at once; it is to leave time for a unit
+    /// before the end.
     #[inline(always)]
-    fn serve_raised(&mut self, n: u64, end: u64) -> bool
+    fn serve_raised(&mut self, n: u64, end: u64, called: bool) -> bool
         requires slots { L.SLOTS ≡ 64 }
         requires wired { L.WIRED ≡ 8 }
         requires good { IsGood self.old }
@@ -70,6 +79,7 @@ impl<L: Lookaside> Parts<L> {
         requires early { self.old.monitor.time + 1 < self.old.monitor.quiet_until }
         requires quiet { end + 2 ≤ self.old.monitor.quiet_until }
         requires log { HasLogRoom 1 self.old.monitor }
+        requires called { called ≡ true → IsCalled self.old.core }
         ensures good { IsGood self.new }
         ensures goes { (start : Held) → GoesOn n start (held self.old)
             → GoesOn n start (held self.new) }
@@ -79,15 +89,21 @@ impl<L: Lookaside> Parts<L> {
             → self.new.monitor.quiet_until ≡ self.old.monitor.quiet_until }
     {
         match self.monitor.first_ready() {
-            Some(process) if self.is_in_kernel() => {
+            Some(process) if called => {
                 if self.answer_at_once(process) {
                     return self.may_go_on(end);
                 }
-                self.serve(process);
-                self.do_owed();
+                self.serve_waiting(n, process);
                 false
             }
-            _ => false,
+            Some(process) if self.is_served() => {
+                self.serve_waiting(n, process);
+                false
+            }
+            _ => {
+                self.refill_missed();
+                false
+            }
         }
     }
 
@@ -112,8 +128,8 @@ impl<L: Lookaside> Parts<L> {
         ensures until { result ≡ true
             → self.new.monitor.quiet_until ≡ self.old.monitor.quiet_until }
     {
-        self.run_block(limit);
-        self.serve_raised(n, end)
+        let called = self.run_block(limit);
+        self.serve_raised(n, end, called)
     }
 
     /// Blocks of instructions, the first of so many, each with the service of the exception that ends
@@ -140,8 +156,25 @@ impl<L: Lookaside> Parts<L> {
         }
     }
 
+    /// What may be done at once where no block may begin: a refill, or turns in which nobody runs.
+    /// Whether there was something.
+    #[inline(always)]
+    fn go_at_once(&mut self, n: u64) -> bool
+        requires slots { L.SLOTS ≡ 64 }
+        requires wired { L.WIRED ≡ 8 }
+        requires good { IsGood self.old }
+        requires working { self.old.failed ≡ false }
+        requires few { n ≤ 1000000000 }
+        requires going { held_goes_on n (held self.old) ≡ true }
+        ensures good { IsGood self.new }
+        ensures goes { result ≡ true → GoesOn n (held self.old) (held self.new) }
+        ensures still { result ≡ false → self.new ≡ self.old }
+    {
+        self.refill_missed() || self.idle_ahead(n)
+    }
+
     /// A block of instructions where one may begin, with the service of the exception that ends it,
-    /// or else one step.
+    /// or else what may be done at once, or one step.
     #[inline(always)]
     fn run_blocks_or_step(&mut self, n: u64) -> Result<(), Halt>
         requires slots { L.SLOTS ≡ 64 }
@@ -161,7 +194,9 @@ impl<L: Lookaside> Parts<L> {
                 self.run_blocks(n, limit);
             }
             None => {
-                self.step()?;
+                if !self.go_at_once(n) {
+                    self.step()?;
+                }
             }
         }
         Ok(())

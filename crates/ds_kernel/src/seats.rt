@@ -4,6 +4,8 @@ ghost use Rattle.ds_pagemap.specs.Machine.{State, Process, process_of, first};
 ghost use Rattle.ds_pagemap_laws.specs.Lawful.{AreRegisters, IsReady};
 ghost use Rattle.ds_grants.specs.Represented.{IsRepresented};
 ghost use Rattle.ds_refinement.specs.Held.{space_of};
+ghost use Rattle.ds_refinement.specs.Handling.{IsWhole};
+ghost use Rattle.ds_refinement.specs.Pairs.{HasNoNewPairs};
 ghost use Rattle.ds_refinement.specs.Services.{resume_address, seated, EntersBy};
 ghost use Rattle.ds_monitor.specs.Kept.{kept_of};
 ghost use Rattle.ds_monitor.specs.Orderly as monitor;
@@ -48,6 +50,18 @@ impl<L: Lookaside> Parts<L> {
         look_at_size(&self.core.registers);
     }
 
+    /// Every processor has 32 registers, of which the first is 0, and 64 slots of its buffer, of
+    /// which Random spares 8.
+    #[inline(always)]
+    pub(crate) fn look_at_processor(&self)
+        requires slots { L.SLOTS ≡ 64 }
+        requires wired { L.WIRED ≡ 8 }
+        ensures whole { IsWhole self.now.core }
+    {
+        self.look_at_registers();
+        let _random = self.core.tlb.random();
+    }
+
     /// The process that runs leaves the processor for its seat, where it goes on at an address. A
     /// late load is finished.
     #[inline(always)]
@@ -84,6 +98,7 @@ impl<L: Lookaside> Parts<L> {
             → IsRepresented self.new.core.entries self.new.bus.memory
             self.new.monitor.tables (space_of (kept_of self.new.monitor))
             self.new.monitor.grants }
+        ensures pairs { HasNoNewPairs self.old.core.entries self.new.core.entries }
         ensures rest { self.new ≡ record self.old {
           core = record self.old.core { entries = self.new.core.entries };
           monitor = self.new.monitor;
@@ -190,6 +205,8 @@ impl<L: Lookaside> Parts<L> {
             → IsRepresented self.new.core.entries self.new.bus.memory
             self.new.monitor.tables (space_of (kept_of self.new.monitor))
             self.new.monitor.grants }
+        ensures pairs { HasNoNewPairs self.old.core.entries self.new.core.entries }
+        ensures context { self.new.core.system.context ≡ self.old.core.system.context }
         ensures random { self.new.core.random ≡ self.old.core.random }
         ensures rest { self.new ≡ record self.old {
           core = self.new.core;

@@ -1,11 +1,11 @@
-//! The exception that waits is served: the buffer is refilled and the unit goes on, or it ends in a
-//! denial, a fault or a call.
-ghost use Rattle.std.specs.Prelude.{◌≡◌, ◌<◌, length, true, false};
-ghost use Rattle.ds_cp0.specs.System.{is_user};
+//! The exception that waits is served: the page of a table that the refill handler missed goes into
+//! the buffer, the unit begins again, or it ends in a denial, a fault or a call.
+ghost use Rattle.std.specs.Prelude.{◌≡◌, true, false};
 ghost use Rattle.ds_grants.specs.State.{page_state};
 ghost use Rattle.ds_pagemap.specs.Unit.{denied_as};
 ghost use Rattle.ds_refinement.specs.declared.cause.Cause.TheVariants as cause;
 ghost use Rattle.ds_refinement.specs.Told.{told, is_delayed};
+ghost use Rattle.ds_refinement.specs.Units.{is_served, has_left_user};
 ghost use Rattle.ds_kernel.specs.Parts.{held};
 ghost use Rattle.ds_kernel.specs.Good.{IsBusy, IsGood};
 ghost use Rattle.ds_kernel.specs.Ended.{Does};
@@ -32,29 +32,23 @@ fn denied_as(kind: Kind) -> Denied
 }
 
 impl<L: Lookaside> Parts<L> {
-    /// Random names a slot of the buffer.
-    fn look_at_random(&self)
-        ensures { self.now.core.random < length self.now.core.entries }
-    {
-        let _random = self.core.tlb.random();
-    }
-
-    /// What the buffer did not let go: it is refilled by the table, or the unit ends in a denial.
+    /// What the buffer did not let go: the unit begins again where the table lets it, or it ends in a
+    /// denial.
     #[inline(never)]
     fn miss(&mut self, process: u32, access: Access) -> Step
         requires busy { IsBusy process self.old }
-        requires kernel { is_user self.old.core.system ≡ false }
+        requires served { is_served self.old.core ≡ true }
+        requires left { has_left_user self.old.core ≡ true }
         requires told { told self.old.core.system
             (page_state self.old.monitor.grants self.old.bus.memory) process ≡ cause.Access access }
         ensures does { Does result (held self.old) (held self.new) }
         ensures good { IsGood self.new }
     {
         self.look_at_unit(process);
-        self.look_at_random();
         let address = self.bad_address();
         match self.monitor.grants.table().decide(process, access, address) {
             Verdict::Allowed { .. } => {
-                self.refill(process);
+                self.go_back();
                 Step::Inside
             }
             Verdict::Denied { rule, code } => {
@@ -67,7 +61,8 @@ impl<L: Lookaside> Parts<L> {
     #[inline(never)]
     fn fault(&mut self, process: u32, code: u8) -> Step
         requires busy { IsBusy process self.old }
-        requires kernel { is_user self.old.core.system ≡ false }
+        requires served { is_served self.old.core ≡ true }
+        requires left { has_left_user self.old.core ≡ true }
         requires told { told self.old.core.system
             (page_state self.old.monitor.grants self.old.bus.memory) process ≡ cause.Fault code }
         ensures does { Does result (held self.old) (held self.new) }
@@ -81,7 +76,8 @@ impl<L: Lookaside> Parts<L> {
     #[inline(never)]
     fn call_in_slot(&mut self, process: u32) -> Step
         requires busy { IsBusy process self.old }
-        requires kernel { is_user self.old.core.system ≡ false }
+        requires served { is_served self.old.core ≡ true }
+        requires left { has_left_user self.old.core ≡ true }
         requires told { told self.old.core.system
             (page_state self.old.monitor.grants self.old.bus.memory) process ≡ cause.Call }
         requires slot { is_delayed self.old.core.system ≡ true }
@@ -92,11 +88,13 @@ impl<L: Lookaside> Parts<L> {
         self.stop(process, Denied::Exec, own, Rule::I, CALL_IN_A_SLOT)
     }
 
-    /// The unit is a call. It stands apart, so that a refill need not save the registers that it uses.
+    /// The unit is a call. It stands apart, so that other services need not save the registers that it
+    /// uses.
     #[inline(never)]
     fn call_outside_slot(&mut self, process: u32) -> Step
         requires busy { IsBusy process self.old }
-        requires kernel { is_user self.old.core.system ≡ false }
+        requires served { is_served self.old.core ≡ true }
+        requires left { has_left_user self.old.core ≡ true }
         requires told { told self.old.core.system
             (page_state self.old.monitor.grants self.old.bus.memory) process ≡ cause.Call }
         requires slot { is_delayed self.old.core.system ≡ false }
@@ -106,14 +104,19 @@ impl<L: Lookaside> Parts<L> {
         self.call(process)
     }
 
-    /// The exception that waits.
+    /// The exception that waits: a miss of the refill handler's own, or what ended the unit's
+    /// instruction.
     #[inline(never)]
     pub fn serve(&mut self, process: u32) -> Step
+        requires slots { L.SLOTS ≡ 64 }
         requires busy { IsBusy process self.old }
-        requires kernel { is_user self.old.core.system ≡ false }
+        requires served { is_served self.old.core ≡ true }
         ensures does { Does result (held self.old) (held self.new) }
         ensures good { IsGood self.new }
     {
+        if !self.has_left_user() {
+            return self.double_miss(process);
+        }
         self.look_at_unit(process);
         match self.cause(process) {
             Cause::Access { access } => self.miss(process, access),

@@ -1,7 +1,8 @@
-//! One step of a station: an instruction, a service, a boundary or an idle turn.
+//! One step of a station: an instruction of the program or of the refill handler, a service, a
+//! boundary or an idle turn.
 ghost use Rattle.std.specs.Prelude.{◌≡◌, ◌≢◌, ◌<◌, ◌^◌, IfOk, IfErr, OnOk, OnErr, IsErrOf, [], None, IsSome, true, false};
-ghost use Rattle.ds_cp0.specs.System.{is_user};
 ghost use Rattle.ds_pagemap.specs.Run.{is_over};
+ghost use Rattle.ds_refinement.specs.Units.{is_served};
 ghost use Rattle.ds_refinement.specs.Services.{with_failure, with_one_spent};
 ghost use Rattle.ds_monitor.specs.Kept.{kept_of};
 ghost use Rattle.ds_monitor.specs.Coming.{next_due};
@@ -17,7 +18,7 @@ use ds_refinement::Step;
 use ds_tlb::Lookaside;
 
 /// The most instructions of one unit.
-const MOST_SPENT: u32 = 64;
+pub(crate) const MOST_SPENT: u32 = 64;
 
 impl<L: Lookaside> Parts<L> {
     /// Makes room for what one unit and the commands that are due after it may write, if it can.
@@ -74,7 +75,7 @@ impl<L: Lookaside> Parts<L> {
         requires working { self.old.failed ≡ false }
         requires unowed { self.old.monitor.owed ≡ None }
         requires ready { self.old.monitor.ready ≢ [] }
-        requires user { is_user self.old.core.system ≡ true }
+        requires unserved { is_served self.old.core ≡ false }
         ensures ok { OnOk result (held self.new ≡ with_one_spent (held self.old)) }
         ensures few { OnOk result (self.old.spent < 64) }
         ensures room { OnOk result (HasTurnRoom self.new.monitor) }
@@ -97,13 +98,14 @@ impl<L: Lookaside> Parts<L> {
 
     /// The program stands at an address of 32 bits.
     #[inline(always)]
-    fn look_at_program(&self)
+    pub(crate) fn look_at_program(&self)
         ensures { self.now.core.pc < 2 ^ 32 }
     {
         let _here = self.core.pc;
     }
 
-    /// The next instruction of the process that runs, if it may be begun.
+    /// The next instruction of the process that runs, or the next word of the refill handler in its
+    /// unit, if it may be begun.
     #[inline(always)]
     fn attempt(&mut self) -> Result<Step, Halt>
         requires slots { L.SLOTS ≡ 64 }
@@ -112,7 +114,7 @@ impl<L: Lookaside> Parts<L> {
         requires working { self.old.failed ≡ false }
         requires unowed { self.old.monitor.owed ≡ None }
         requires ready { self.old.monitor.ready ≢ [] }
-        requires user { is_user self.old.core.system ≡ true }
+        requires unserved { is_served self.old.core ≡ false }
         requires early { self.old.monitor.time < 1000000000 }
         ensures good { IsGood self.new }
         ensures does { IfOk result (λ step. Does step (held self.old) (held self.new)) }
@@ -121,7 +123,13 @@ impl<L: Lookaside> Parts<L> {
     {
         self.look_at_program();
         self.begin()?;
-        Ok(self.execute())
+        if self.is_user() {
+            let step = self.execute();
+            self.look_at_processor();
+            Ok(step)
+        } else {
+            Ok(self.word())
+        }
     }
 
     /// The boundary that is owed.
@@ -184,8 +192,8 @@ impl<L: Lookaside> Parts<L> {
         self.idle()
     }
 
-    /// One machine instruction, one service, an idle turn with its boundary, or the boundary that
-    /// is owed. After a failure it answers that, and nothing changes.
+    /// One instruction of the processor, one service, an idle turn with its boundary, or the boundary
+    /// that is owed. After a failure it answers that, and nothing changes.
     #[inline(always)]
     pub fn step(&mut self) -> Result<Step, Halt>
         requires slots { L.SLOTS ≡ 64 }
@@ -207,7 +215,7 @@ impl<L: Lookaside> Parts<L> {
         }
         match self.monitor.first_ready() {
             None => self.rest(),
-            Some(process) if !self.core.cp0.user() => Ok(self.serve(process)),
+            Some(process) if self.is_served() => Ok(self.serve(process)),
             Some(_) => self.attempt(),
         }
     }

@@ -1,8 +1,8 @@
-//! One instruction of the process that runs.
+//! One instruction of the process that runs, or one word of the refill handler in its unit.
 ghost use Rattle.std.specs.Prelude.{◌≡◌, ◌<◌};
 ghost use Rattle.ds_core.specs.Core as core;
 ghost use Rattle.ds_core.specs.Effect.{step};
-ghost use Rattle.ds_refinement.specs.Services.{after_event, step_of, with_turn, with_none_spent};
+ghost use Rattle.ds_refinement.specs.Services.{after_event, step_of, with_turn, with_none_spent, with_step};
 ghost use Rattle.ds_monitor.specs.Kept.{kept_of, kept_after};
 ghost use Rattle.ds_kernel.specs.Parts.{held};
 
@@ -41,5 +41,19 @@ impl<L: Lookaside> Parts<L> {
             }
             Event::Branched | Event::Raised(_) => Step::Inside,
         }
+    }
+
+    /// One word of the refill handler, or the exception that it raises. It ends no unit.
+    #[inline(always)]
+    pub fn word(&mut self) -> Step
+        requires slots { L.SLOTS ≡ 64 }
+        requires wired { L.WIRED ≡ 8 }
+        ensures held { held self.new
+            ≡ with_step (held self.old) (step self.old.core self.old.bus) }
+        ensures inside { result ≡ Step.Inside }
+        ensures rest { self.new ≡ record self.old { core = self.new.core; bus = self.new.bus } }
+    {
+        self.core.step(&mut self.bus);
+        Step::Inside
     }
 }

@@ -2,6 +2,7 @@
 //! to what is kept, and who is first comes in.
 ghost use Rattle.std.specs.Prelude.{◌≡◌, ℕ, ◌+◌, ◌<◌, ◌≤◌, ◌^◌, length, Some, None, [], true, false};
 ghost use Rattle.ds_log.specs.Length.{IsShortRule};
+ghost use Rattle.ds_mem.specs.Memory.{frame_of};
 ghost use Rattle.ds_cp0.specs.System.{is_user};
 ghost use Rattle.ds_procs.specs.Calls.{call_of};
 ghost use Rattle.ds_grants.specs.Buffer.{one_space};
@@ -10,7 +11,8 @@ ghost use Rattle.ds_grants.specs.Sound.{NamesPages};
 ghost use Rattle.ds_pagemap.specs.Machine.{State, process_of, first};
 ghost use Rattle.ds_pagemap_laws.specs.Lawful.{IsLawful};
 ghost use Rattle.ds_refinement.specs.Held.{whole, space_of};
-ghost use Rattle.ds_refinement.specs.Stands.{ends_in_stop, ends_in_call};
+ghost use Rattle.ds_refinement.specs.Pairs.{HasNoNewPairs};
+ghost use Rattle.ds_refinement.specs.Units.{ends_in_stop, ends_in_call};
 ghost use Rattle.ds_refinement.specs.Services.{EntersBy, Serves};
 ghost use Rattle.ds_refinement.specs.Told.{own_in};
 ghost use Rattle.ds_monitor.specs.Kept.{kept_of};
@@ -82,6 +84,8 @@ impl<L: Lookaside> Parts<L> {
             → IsRepresented self.new.core.entries self.new.bus.memory
             self.new.monitor.tables (space_of (kept_of self.new.monitor))
             self.new.monitor.grants }
+        ensures pairs { HasNoNewPairs self.old.core.entries self.new.core.entries }
+        ensures context { self.new.core.system.context ≡ self.old.core.system.context }
         ensures pages { NamesPages self.old.monitor.grants }
         ensures random { self.new.core.random ≡ self.old.core.random }
         ensures rest { self.new ≡ record self.old {
@@ -139,6 +143,8 @@ impl<L: Lookaside> Parts<L> {
               memory = self.new.bus.memory;
             } }
         ensures size { length self.new.bus.memory ≡ length self.old.bus.memory }
+        ensures elsewhere { (f : ℕ) → f < 2
+            → frame_of self.new.bus.memory f ≡ frame_of self.old.bus.memory f }
         ensures orderly { monitor.IsOrderly (kept_of self.new.monitor) }
         ensures lines { self.new.monitor.lines ≤ self.old.monitor.lines + 1 }
         ensures log { (n : ℕ) → HasLogRoom (n + 1) self.old.monitor
@@ -148,6 +154,7 @@ impl<L: Lookaside> Parts<L> {
             self.old.monitor.grants
             self.new.core.entries self.new.bus.memory self.new.monitor.tables
             self.new.monitor.grants }
+        ensures pairs { HasNoNewPairs self.old.core.entries self.new.core.entries }
         ensures random { self.new.core.random ≡ self.old.core.random }
         ensures rest { self.new ≡ record self.old {
           core = record self.old.core { entries = self.new.core.entries };

@@ -11,7 +11,7 @@ use Rattle.ds_pagemap.specs.Machine.{State, process_of, lives}
 use Rattle.ds_pagemap.specs.Calls.{answered, queue_of, after_get, after_wait, or_number, or_denied, served}
 use Rattle.ds_pagemap.specs.Unit.{at_pc}
 use Rattle.ds_refinement.specs.Held.{Kept}
-use Rattle.ds_refinement.specs.Stands.{ends_in_call, owes_boundary}
+use Rattle.ds_refinement.specs.Units.{ends_in_call, owes_boundary}
 use Rattle.ds_refinement.specs.Services.{IsBare, Serves}
 use Rattle.ds_monitor.specs.Blind.{IsBlind}
 use Rattle.ds_monitor.specs.Kept.{kept_after}

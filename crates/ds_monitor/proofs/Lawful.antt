@@ -27,7 +27,7 @@ use Rattle.ds_pagemap_laws.proofs.Asleep.{put_asleep}
 use Rattle.ds_pagemap_laws.proofs.LawfulUnits.{parked_lawful, after_call_lawful}
 use Rattle.ds_pagemap_laws.proofs.LawfulCalls.{command_lawful}
 use Rattle.ds_refinement.specs.Held.{Kept, whole}
-use Rattle.ds_refinement.specs.Stands.{ends_in_stop, ends_in_call}
+use Rattle.ds_refinement.specs.Units.{ends_in_stop, ends_in_call}
 use Rattle.ds_refinement.specs.Services.{Serves}
 use Rattle.ds_monitor.specs.Kept.{kept_after}
 use Rattle.ds_monitor.specs.Ended.{IsAlive, marks_of, ended_behind}

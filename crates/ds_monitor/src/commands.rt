@@ -6,6 +6,7 @@ ghost use Rattle.ds_grants.specs.Represented.{IsLow, Keeps};
 ghost use Rattle.ds_grants.specs.State.{IsAsLarge};
 ghost use Rattle.ds_pagemap.specs.Machine.{State, lives};
 ghost use Rattle.ds_pagemap.specs.Calls.{after_command};
+ghost use Rattle.ds_refinement.specs.Pairs.{HasNoNewPairs};
 ghost use Rattle.ds_refinement.specs.Services.{Serves};
 ghost use Rattle.ds_monitor.specs.Kept.{kept_of};
 ghost use Rattle.ds_monitor.specs.Commands.{Obeys, commanded, commands_by, with_refusal};
@@ -76,6 +77,7 @@ impl Monitor {
         ensures keeps { Keeps one_space
             (L.entries tlb.old) memory.old self.old.tables self.old.grants
             (L.entries tlb.new) memory.new self.new.tables self.new.grants }
+        ensures pairs { HasNoNewPairs (L.entries tlb.old) (L.entries tlb.new) }
         ensures random { L.random_place tlb.new ≡ L.random_place tlb.old }
         ensures rest { self.new ≡ record self.old {
           grants = self.new.grants;
@@ -112,6 +114,7 @@ impl Monitor {
         ensures keeps { Keeps one_space
             (L.entries tlb.old) memory.old self.old.tables self.old.grants
             (L.entries tlb.new) memory.new self.new.tables self.new.grants }
+        ensures pairs { HasNoNewPairs (L.entries tlb.old) (L.entries tlb.new) }
         ensures random { L.random_place tlb.new ≡ L.random_place tlb.old }
         ensures rest { self.new ≡ record self.old {
           grants = self.new.grants;
@@ -184,6 +187,7 @@ impl Monitor {
         ensures keeps { Keeps one_space
             (L.entries tlb.old) memory.old self.old.tables self.old.grants
             (L.entries tlb.new) memory.new self.new.tables self.new.grants }
+        ensures pairs { HasNoNewPairs (L.entries tlb.old) (L.entries tlb.new) }
         ensures random { L.random_place tlb.new ≡ L.random_place tlb.old }
         ensures rest { self.new ≡ record self.old {
           grants = self.new.grants;
@@ -215,6 +219,7 @@ impl Monitor {
         ensures keeps { Keeps one_space
             (L.entries tlb.old) memory.old self.old.tables self.old.grants
             (L.entries tlb.new) memory.new self.new.tables self.new.grants }
+        ensures pairs { HasNoNewPairs (L.entries tlb.old) (L.entries tlb.new) }
         ensures random { L.random_place tlb.new ≡ L.random_place tlb.old }
         ensures rest { self.new ≡ record self.old {
           grants = self.new.grants;

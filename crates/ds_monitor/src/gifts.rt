@@ -1,5 +1,6 @@
 //! Calls about what is granted to a process: it gives it, takes back what it gave, and drops it.
 ghost use Rattle.std.specs.Prelude.{◌≡◌, ℕ, ◌+◌, ◌<◌, ◌≤◌, ◌^◌, List, length, OnOk, IfErr, Err};
+ghost use Rattle.ds_mem.specs.Memory.{frame_of};
 ghost use Rattle.ds_policy.specs.Pages.{entry_at, page_address};
 ghost use Rattle.ds_procs.specs.declared.call.Call.TheVariants as call;
 ghost use Rattle.ds_grants.specs.State.{IsAsLarge, number_of};
@@ -7,6 +8,7 @@ ghost use Rattle.ds_grants.specs.Buffer.{one_space};
 ghost use Rattle.ds_grants.specs.Represented.{IsLow, Keeps};
 ghost use Rattle.ds_pagemap.specs.Machine.{State};
 ghost use Rattle.ds_pagemap.specs.Calls.{rule_of, or_denied, served};
+ghost use Rattle.ds_refinement.specs.Pairs.{HasNoNewPairs};
 ghost use Rattle.ds_refinement.specs.Services.{Serves};
 ghost use Rattle.ds_monitor.specs.Kept.{kept_of};
 ghost use Rattle.ds_monitor.specs.Ended.{marks_of};
@@ -112,10 +114,12 @@ impl Monitor {
             (λ (m : State). served m process pc (call.Give address receiver to mode))
             (kept_of self.old) memory.old (kept_of self.new) memory.new }
         ensures size { length memory.new ≡ length memory.old }
+        ensures elsewhere { (f : ℕ) → f < 2 → frame_of memory.new f ≡ frame_of memory.old f }
         ensures same { IsAsLarge self.old.grants self.new.grants }
         ensures keeps { Keeps one_space
             (L.entries tlb.old) memory.old self.old.tables self.old.grants
             (L.entries tlb.new) memory.new self.new.tables self.new.grants }
+        ensures pairs { HasNoNewPairs (L.entries tlb.old) (L.entries tlb.new) }
         ensures random { L.random_place tlb.new ≡ L.random_place tlb.old }
         ensures ended { self.new.grants.ended ≡ self.old.grants.ended }
         ensures lines { self.new.lines ≤ self.old.lines + 1 }
@@ -166,6 +170,7 @@ impl Monitor {
         ensures keeps { Keeps one_space
             (L.entries tlb.old) memory.old self.old.tables self.old.grants
             (L.entries tlb.new) memory.new self.new.tables self.new.grants }
+        ensures pairs { HasNoNewPairs (L.entries tlb.old) (L.entries tlb.new) }
         ensures random { L.random_place tlb.new ≡ L.random_place tlb.old }
         ensures ended { self.new.grants.ended ≡ self.old.grants.ended }
         ensures rest { self.new ≡ record self.old {
@@ -199,6 +204,7 @@ impl Monitor {
         ensures keeps { Keeps one_space
             (L.entries tlb.old) memory.old self.old.tables self.old.grants
             (L.entries tlb.new) memory.new self.new.tables self.new.grants }
+        ensures pairs { HasNoNewPairs (L.entries tlb.old) (L.entries tlb.new) }
         ensures random { L.random_place tlb.new ≡ L.random_place tlb.old }
         ensures ended { self.new.grants.ended ≡ self.old.grants.ended }
         ensures rest { self.new ≡ record self.old {

@@ -1,5 +1,6 @@
 //! Services that end a unit.
 ghost use Rattle.std.specs.Prelude.{◌≡◌, ℕ, ◌+◌, ◌-◌, ◌<◌, ◌≤◌, ◌^◌, true, List, length, slice_set, None};
+ghost use Rattle.ds_mem.specs.Memory.{frame_of};
 ghost use Rattle.ds_procs.specs.Calls.{call_of};
 ghost use Rattle.ds_log.specs.Length.{IsShortRule};
 ghost use Rattle.ds_grants.specs.State.{IsAsLarge};
@@ -7,7 +8,8 @@ ghost use Rattle.ds_grants.specs.Buffer.{one_space};
 ghost use Rattle.ds_grants.specs.Represented.{Keeps};
 ghost use Rattle.ds_pagemap.specs.Machine.{State, process_of};
 ghost use Rattle.ds_pagemap.specs.Calls.{ended, served};
-ghost use Rattle.ds_refinement.specs.Stands.{ends_in_call, ends_in_stop};
+ghost use Rattle.ds_refinement.specs.Units.{ends_in_call, ends_in_stop};
+ghost use Rattle.ds_refinement.specs.Pairs.{HasNoNewPairs};
 ghost use Rattle.ds_refinement.specs.Services.{Serves};
 ghost use Rattle.ds_monitor.specs.Kept.{kept_of};
 ghost use Rattle.ds_monitor.specs.Room.{HasLogRoom, HasRoom};
@@ -96,6 +98,7 @@ impl Monitor {
         ensures keeps { Keeps one_space
             (L.entries tlb.old) memory.old self.old.tables self.old.grants
             (L.entries tlb.new) memory.new self.new.tables self.new.grants }
+        ensures pairs { HasNoNewPairs (L.entries tlb.old) (L.entries tlb.new) }
         ensures random { L.random_place tlb.new ≡ L.random_place tlb.old }
         ensures ended { self.new.grants.ended
             ≡ slice_set self.old.grants.ended (process - 1) true }
@@ -132,9 +135,12 @@ impl Monitor {
               memory = bus.new.memory;
             } }
         ensures size { length bus.new.memory ≡ length bus.old.memory }
+        ensures elsewhere { (f : ℕ) → f < 2
+            → frame_of bus.new.memory f ≡ frame_of bus.old.memory f }
         ensures keeps { Keeps one_space
             (L.entries tlb.old) bus.old.memory self.old.tables self.old.grants
             (L.entries tlb.new) bus.new.memory self.new.tables self.new.grants }
+        ensures pairs { HasNoNewPairs (L.entries tlb.old) (L.entries tlb.new) }
         ensures random { L.random_place tlb.new ≡ L.random_place tlb.old }
         ensures ended { self.new.grants.ended
             ≡ ended_behind call process self.old.grants.ended }
@@ -212,9 +218,12 @@ impl Monitor {
               memory = bus.new.memory;
             } }
         ensures size { length bus.new.memory ≡ length bus.old.memory }
+        ensures elsewhere { (f : ℕ) → f < 2
+            → frame_of bus.new.memory f ≡ frame_of bus.old.memory f }
         ensures keeps { Keeps one_space
             (L.entries tlb.old) bus.old.memory self.old.tables self.old.grants
             (L.entries tlb.new) bus.new.memory self.new.tables self.new.grants }
+        ensures pairs { HasNoNewPairs (L.entries tlb.old) (L.entries tlb.new) }
         ensures same { IsAsLarge self.old.grants self.new.grants }
         ensures random { L.random_place tlb.new ≡ L.random_place tlb.old }
         ensures lines { self.new.lines ≤ self.old.lines + 1 }

@@ -13,20 +13,21 @@ use Rattle.ds_pagemap.proofs.Processes.{with_process-process_of}
 use Rattle.ds_pagemap.proofs.Boundaries.{boundary_time, boundary_owed}
 use Rattle.ds_pagemap_laws.proofs.Boundaries.{boundary_settles}
 use Rattle.ds_refinement.specs.declared.step.Step.TheVariants.{Boundary}
-use Rattle.ds_refinement.specs.Held.{Held, Own, whole}
+use Rattle.ds_refinement.specs.Held.{Held, Kept, Own, whole}
+use Rattle.ds_refinement.specs.Units.{is_general, has_left_user}
 use Rattle.ds_refinement.specs.Stands.{Stands, KeptIs, IsKept, OnProcessor}
 use Rattle.ds_refinement.specs.Steps.{Follows, Moves}
 use Rattle.ds_refinement.specs.Services.{EndsBy, seated, with_first_seated, with_idle_turn, with_none_spent}
 use Rattle.ds_refinement.proofs.Seating.{off, leaves, enters, running_of}
 use Rattle.ds_refinement.proofs.Ending.{half_unit, serves_kept}
-use Rattle.ds_refinement.proofs.Boundaries.{some_turn, half_boundary, owed_is, over_too, unit_rests, waited, stands_waited}
+use Rattle.ds_refinement.proofs.Boundaries.{some_turn, half_boundary, kernel_owes, owed_is, over_too, unit_rests, waited, stands_waited}
 use Rattle.ds_refinement.proofs.Counting.{seated_time}
 
 -- where a boundary is owed, the processor has the process as its seat would
-on_seat : (user slot : Bool) (c : CoreState) (p : ℕ) (m : State) (turn : Turn) → is_user c.system ≡ user → m.owed ≡ Some turn → OnProcessor user slot c p m → off c (process_of m p) ≡ process_of m p
-on_seat false slot c p m turn user o a = let no : Some turn ≡ None = sym o ∙ a.owed in absurd (cc)
-on_seat true true c p m turn user o a = let no : Some turn ≡ None = sym o ∙ a.owed in absurd (cc)
-on_seat true false c p m turn user o a = elim a.registers [
+on_seat : (user slot : Bool) (c : CoreState) (k : Kept) (p : ℕ) (m : State) (turn : Turn) → is_user c.system ≡ user → m.owed ≡ Some turn → OnProcessor user slot c k p m → off c (process_of m p) ≡ process_of m p
+on_seat false slot c k p m turn user o a = let no : Some turn ≡ None = sym o ∙ kernel_owes (is_general c) (has_left_user c) c k p m a in absurd (cc)
+on_seat true true c k p m turn user o a = let no : Some turn ≡ None = sym o ∙ a.owed in absurd (cc)
+on_seat true false c k p m turn user o a = elim a.registers [
   | inl same ↦ ap₂ (λ (r : Registers) (n : ℕ). record (process_of m p) { registers = r; pc = n }) same (ap (λ (b : Bool). cond b c.pc c.system.epc) user ∙ a.pc)
   | inr again ↦ (let no : Some turn ≡ None = sym o ∙ again.0 in absurd (cc))
 ]
@@ -37,14 +38,14 @@ kept_by [] h m turn ready k o =
     let kept = subst (λ (queue : List ℕ). KeptIs queue h.kept h.bus.memory m) ready k.kept in
     record { state = kept.state ∙ ap (with_first_seated h.core h.kept.state) (sym ready); pages = kept.pages; log = kept.log; lines = kept.lines }
 kept_by (p ∷ rest) h m turn ready k o =
-    let same : off h.core (process_of m p) ≡ process_of m p = on_seat (is_user h.core.system) h.core.slot h.core p m turn refl o (running_of h m p rest k ready).on in
+    let same : off h.core (process_of m p) ≡ process_of m p = on_seat (is_user h.core.system) h.core.slot h.core h.kept p m turn refl o (running_of h m p rest k ready).on in
     subst (IsKept (seated h.core h.kept) h.bus.memory) (ap (with_process m p) same ∙ with_process-process_of m p) (leaves h m p rest k ready)
 
 -- after a boundary that was served
 served_behind : (h new : Held) (m : State) (turn : Turn) → Stands h m → m.owed ≡ Some turn → EndsBy boundary h new → Stands new (touched true (boundary m))
 served_behind h new m turn k o ends =
     enters new (boundary m) (serves_kept boundary (seated h.core h.kept) new.kept h.bus.memory new.bus.memory m boundary_settles ends.serves (kept_by h.kept.state.ready h m turn refl k o))
-    ends.represented ends.grants (ends.size ∙ k.size) ends.devices ends.enters
+    ends.represented ends.vectors ends.base ends.grants (ends.size ∙ k.size) ends.devices ends.enters
 
 pub boundary_served : (h new : Held) → IsSome h.kept.state.owed → EndsBy boundary h new → Follows Boundary h new
 boundary_served h new some ends = let turn = (some_turn h.kept.state.owed some).0 in let owed = (some_turn h.kept.state.owed some).1 in record {

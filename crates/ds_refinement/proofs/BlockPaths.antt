@@ -1,7 +1,7 @@
 -- A block of instructions is a path of real steps.
-use Rattle.std.proofs.Common.{◌≡◌, ◌≢◌, ℕ, zero, suc, ◌+◌, ◌-◌, ◌*◌, ◌<◌, ◌≤◌, ◌^◌, Bool, true, false, [], refl, sym, ap, ap₂, subst, ◌∙◌, inl, inr, arith}
-use Rattle.std.specs.Prelude.{◌==◌, ◌&&◌, ◌||◌, not, Option, Some, None}
-use Rattle.ds_word.specs.Word.{truth, bits}
+use Rattle.std.proofs.Common.{◌≡◌, ◌≢◌, ℕ, zero, suc, ◌+◌, ◌<◌, ◌≤◌, ◌^◌, Bool, true, false, [], refl, sym, ap, ap₂, subst, ◌∙◌, inl, inr, arith}
+use Rattle.std.specs.Prelude.{◌==◌, ◌&&◌, not, Option, Some, None}
+use Rattle.ds_word.specs.Word.{bits}
 use Rattle.ds_cp0.specs.declared.exception.ExceptionCode.{ExceptionCode}
 use Rattle.ds_cp0.specs.System.{System, is_user}
 use Rattle.ds_core.specs.declared.event.Event.{Event}
@@ -19,13 +19,16 @@ use Rattle.ds_refinement.specs.declared.step.Step.{Step}
 use Rattle.ds_refinement.specs.declared.step.Step.TheVariants.{Inside, Unit, Boundary}
 use Rattle.ds_refinement.specs.Told.{is_delayed}
 use Rattle.ds_refinement.specs.Held.{Held, Kept}
-use Rattle.ds_refinement.specs.Stands.{Stands, user_status}
-use Rattle.ds_refinement.specs.Steps.{Follows, Moves, ticks_of, is_in_kernel, steps_left}
+use Rattle.ds_refinement.specs.Units.{user_status, is_general, is_served}
+use Rattle.ds_refinement.specs.Handling.{IsWhole}
+use Rattle.ds_refinement.specs.Stands.{Stands}
+use Rattle.ds_refinement.specs.Steps.{Follows, Moves, ticks_of}
 use Rattle.ds_refinement.specs.Services.{after_event, step_of, with_one_spent, with_boundary}
-use Rattle.ds_refinement.specs.Real.{IsReal, RealPath, is_served}
+use Rattle.ds_refinement.specs.Real.{IsReal, RealPath}
 use Rattle.ds_refinement.specs.Quiet.{IsQuiet}
 use Rattle.ds_refinement.specs.Blocks.{moved, time_behind, with_block, with_exception, at_time, IsQuietUntil, MayRunAhead}
 use Rattle.ds_refinement.proofs.Boundaries.{quiet}
+use Rattle.ds_refinement.proofs.Counting.{word_moves}
 use Rattle.ds_refinement.proofs.Meets.{barred}
 use Rattle.ds_refinement.proofs.Raising.{slot_of_raised}
 use Rattle.ds_refinement.proofs.Stages.{step_follows}
@@ -38,10 +41,6 @@ use Rattle.ds_refinement.proofs.RunSteps.{BeginsBefore, within_before}
 owed_small : (slot : Bool) → owed_tick slot ≤ 1
 owed_small true = omega arith
 owed_small false = omega arith
-
-truth_small : (b : Bool) → truth b ≤ 1
-truth_small true = omega arith
-truth_small false = omega arith
 
 ticks_of_slot : (slot : Bool) → ticks_of slot ≡ 1 + owed_tick slot
 ticks_of_slot true = refl
@@ -56,24 +55,24 @@ told_as e s = record { event = e; core = s.core; bus = s.bus }
 
 -- the machine doesn't see that an instruction counts
 counts : (b : Held) (m : State) → Stands b m → Stands (with_one_spent b) m
-counts b m k = record { represented = k.represented; grants = k.grants; size = k.size; kept = k.kept; running = k.running; devices = k.devices }
+counts b m k = record { represented = k.represented; vectors = k.vectors; base = k.base; grants = k.grants; size = k.size; kept = k.kept; running = k.running; devices = k.devices }
 
 -- What is kept by each real step of a run, if it begins before the run's end.
 record Carries (end : ℕ) (P : Held → Type 0) : Type 0 where
   more : (b c : Held) (kind : Step) → P b → BeginsBefore end b → Follows kind b c → Moves kind b c → IsReal b c → P c
 
 -- One instruction of the process that runs, in user mode and with no boundary owed.
-module _ (b : Held) (s : core.Step) (is : s ≡ whole.step b.core b.bus) (owed : b.kept.state.owed ≡ None) (ready : b.kept.state.ready ≢ []) (user : is_user b.core.system ≡ true) (within : b.core.pc < 2 ^ 32) where
+module _ (b : Held) (s : core.Step) (is : s ≡ whole.step b.core b.bus) (owed : b.kept.state.owed ≡ None) (ready : b.kept.state.ready ≢ []) (user : is_user b.core.system ≡ true) (within : b.core.pc < 2 ^ 32) (complete : is_raised s.event ≡ true → IsWhole s.core) where
   -- the machine follows it
   follows : (e : Event) → s.event ≡ e → Follows (step_of e) b (after_event e (with_one_spent b) s)
   follows e at = record {
     follows = λ m k.
         (subst (λ (x : Event). Follows (step_of x) (with_one_spent b) (after_event x (with_one_spent b) s)) at
-        (step_follows (with_one_spent b) s is owed ready user within)).follows m (counts b m k);
+        (step_follows (with_one_spent b) s is owed ready user within complete)).follows m (counts b m k);
   }
 
   no_service : is_served b.core ≡ false
-  no_service = ap (λ (u : Bool). not u && ((b.core.pc == 0x80000000) || (b.core.pc == 0x80000080))) user
+  no_service = ap (λ (u : Bool). not u && is_general b.core) user
 
   -- and it is a real one
   real : (e : Event) → s.event ≡ e → IsReal b (after_event e (with_one_spent b) s)
@@ -88,6 +87,7 @@ module _ (b : Held) (s : core.Step) (is : s ≡ whole.step b.core b.bus) (owed :
     instruction = λ unit other. absurd (some_is_not_none _ unit.0);
     service = λ unit served. absurd (some_is_not_none _ unit.0);
     random = λ all. refl;
+    pairs = λ all. record { each = λ slot e is low. (slot, e, is, refl, refl) };
   }
 
   boundary_moves : Moves Boundary behind (with_boundary behind)
@@ -108,20 +108,8 @@ module _ (b : Held) (s : core.Step) (is : s ≡ whole.step b.core b.bus) (owed :
       new : Held
       new = record b { core = s.core; bus = s.bus; own = record b.own { spent = b.own.spent + 1 } }
 
-      one : truth (not (is_in_kernel b)) ≡ 1
-      one = ap (λ (u : Bool). truth (not (not u))) user
-
-      spent : new.own.spent ≡ b.own.spent + truth (not (is_in_kernel b))
-      spent = ap (λ (n : ℕ). b.own.spent + n) (sym one)
-
-      fewer : steps_left new < steps_left b
-      fewer =
-          let small : truth (is_in_kernel new) ≤ 1 = truth_small (is_in_kernel new) in
-          let left : 2 * (64 - (b.own.spent + 1)) + truth (is_in_kernel new) < 2 * (64 - b.own.spent) + truth (is_in_kernel b) = omega (arith, small, few) in
-          left
-
       moves : Moves Inside b new
-      moves = (owed, owed, refl, spent, omega (arith, few), fewer, refl)
+      moves = word_moves b s owed no_service (omega (arith, few))
 
       by : (e : Event) → s.event ≡ e → step_of e ≡ Inside → P new
       by Retired at other = absurd (cc)
@@ -185,6 +173,10 @@ module _ (h : Held) (owed : h.kept.state.owed ≡ None) (ready : h.kept.state.re
     user : is_user (at n).core.system ≡ true
     user = user_kept n (λ k below. calm k (omega (arith, below)))
 
+    -- it enters no exception
+    complete : is_raised s.event ≡ true → IsWhole s.core
+    complete raised = let no : false ≡ true = sym (calm n (omega arith)) ∙ raised in absurd (cc)
+
     before_end : time_behind n h < end
     before_end = begins n (λ k below. calm k (omega (arith, below))) soon
 
@@ -213,7 +205,7 @@ module _ (h : Held) (owed : h.kept.state.owed ≡ None) (ready : h.kept.state.re
         let turn : Option Turn = Some (record { began = h.kept.state.time + ticks n start; runner = first h.kept.state.ready }) in
         subst P
         (ap₂ (λ (t k : ℕ). moved h (left_by s) t None k) time_is (sym no_slot))
-        (unit_carries b s refl refl ready user words end P carries path before_end is since (quiet_owed (at_time time h.kept) turn q))
+        (unit_carries b s refl refl ready user words complete end P carries path before_end is since (quiet_owed (at_time time h.kept) turn q))
     by Branched is quiet_step =
         let more : ticks (suc n) start ≡ ticks n start + 0 = more_ticks Branched is in
         let time_is : h.kept.state.time + ticks n start ≡ h.kept.state.time + ticks (suc n) start = omega (arith, more) in
@@ -222,7 +214,7 @@ module _ (h : Held) (owed : h.kept.state.owed ≡ None) (ready : h.kept.state.re
         let count : owed_tick (at n).core.slot + 1 ≡ owed_tick s.core.slot = omega (arith, before, after) in
         subst P
         (ap₂ (λ (t k : ℕ). moved h (left_by s) t None k) time_is count)
-        (inside_carries b s refl refl ready user words end P Branched carries path before_end is refl (omega (arith, before)))
+        (inside_carries b s refl refl ready user words complete end P Branched carries path before_end is refl (omega (arith, before)))
     by (Raised code) is quiet_step = absurd (cc)
 
   -- steps that enter no exception
@@ -235,8 +227,8 @@ module _ (h : Held) (owed : h.kept.state.owed ≡ None) (ready : h.kept.state.re
 
   -- and after them one that does
   raised : (n : ℕ) (hw : Hardware) (code : ExceptionCode) → IsCalm n → ComesByWords n start → h.kept.state.time + n + 1 ≤ last → h.kept.state.time + suc n + owed_tick h.core.slot ≤ end
-      → record { event = Raised code; core = hw.core; bus = hw.bus } ≡ ahead.step_of (at n) → P (with_exception n h hw)
-  raised n hw code calm words early soon is =
+      → IsWhole hw.core → record { event = Raised code; core = hw.core; bus = hw.bus } ≡ ahead.step_of (at n) → P (with_exception n h hw)
+  raised n hw code calm words early soon all is =
       let s : core.Step = record { event = Raised code; core = hw.core; bus = hw.bus } in
       let user : is_user (at n).core.system ≡ true = user_kept n calm in
       let small : owed_tick (at n).core.slot ≤ 1 = owed_small (at n).core.slot in
@@ -244,7 +236,7 @@ module _ (h : Held) (owed : h.kept.state.owed ≡ None) (ready : h.kept.state.re
       let here : (at n).core.pc < 2 ^ 32 = words n (omega arith) in
       subst P
       (ap (λ (slot : Bool). moved h hw (time_behind n h) None (owed_tick slot + 1)) (sym told))
-      (inside_carries (with_block n h (at n)) s is refl ready user here end P (Raised code) carries
+      (inside_carries (with_block n h (at n)) s is refl ready user here (λ raised. all) end P (Raised code) carries
       (block n calm words early (omega (arith, soon))) (begins n calm soon) refl refl (omega (arith, small)))
 
 -- The laws.
@@ -257,9 +249,9 @@ module _ (n limit : ℕ) (h : Held) (hw : Hardware) (g : MayRunAhead limit h) (w
       (block h g.owed g.ready g.mode g.spent (h.kept.state.time + limit + 1) g.quiet end P carries begun n advances.calm words (omega (arith, within)) soon)
 
   -- such steps and one that enters an exception
-  raised_carries : (code : ExceptionCode) → AdvancesTo n (Some code) (hardware_of h.core h.bus) hw → h.kept.state.time + suc n + owed_tick h.core.slot ≤ end → P (with_exception n h hw)
-  raised_carries code leads soon =
-      raised h g.owed g.ready g.mode g.spent (h.kept.state.time + limit + 1) g.quiet end P carries begun n hw code leads.1.calm words (omega (arith, within)) soon
+  raised_carries : (code : ExceptionCode) → AdvancesTo n (Some code) (hardware_of h.core h.bus) hw → IsWhole hw.core → h.kept.state.time + suc n + owed_tick h.core.slot ≤ end → P (with_exception n h hw)
+  raised_carries code leads all soon =
+      raised h g.owed g.ready g.mode g.spent (h.kept.state.time + limit + 1) g.quiet end P carries begun n hw code leads.1.calm words (omega (arith, within)) soon all
       (leads.2 ∙ ap ahead.step_of leads.1.state)
 
 -- They are paths.
@@ -277,10 +269,10 @@ block_is_path n limit h hw within g advances words =
     block_carries n limit h hw g words within end (RealPath h) (paths_carry end h) (no_path h) advances (omega arith)
 
 pub raised_is_path : (n limit : ℕ) (h : Held) (hw : Hardware) (code : ExceptionCode) → n ≤ limit → MayRunAhead limit h → AdvancesTo n (Some code) (hardware_of h.core h.bus) hw
-    → ComesByWords n (hardware_of h.core h.bus) → RealPath h (with_exception n h hw)
-raised_is_path n limit h hw code within g leads words =
+    → ComesByWords n (hardware_of h.core h.bus) → IsWhole hw.core → RealPath h (with_exception n h hw)
+raised_is_path n limit h hw code within g leads words all =
     let end : ℕ = h.kept.state.time + suc n + owed_tick h.core.slot in
-    raised_carries n limit h hw g words within end (RealPath h) (paths_carry end h) (no_path h) code leads (omega arith)
+    raised_carries n limit h hw g words within end (RealPath h) (paths_carry end h) (no_path h) code leads all (omega arith)
 
 -- And they are within a run whose end comes no earlier than theirs.
 
@@ -293,9 +285,9 @@ block_runs n limit end old h hw within g soon advances words begun =
     block_carries n limit h hw g words within end (RunsWithin end old) (runs_carry end old) begun advances soon
 
 pub raised_runs : (n limit end : ℕ) (old h : Held) (hw : Hardware) (code : ExceptionCode) → n ≤ limit → MayRunAhead limit h → h.kept.state.time + n + owed_tick h.core.slot < end
-    → AdvancesTo n (Some code) (hardware_of h.core h.bus) hw → ComesByWords n (hardware_of h.core h.bus) → RunsWithin end old h → RunsWithin end old (with_exception n h hw)
-raised_runs n limit end old h hw code within g soon leads words begun =
-    raised_carries n limit h hw g words within end (RunsWithin end old) (runs_carry end old) begun code leads (omega (arith, soon))
+    → AdvancesTo n (Some code) (hardware_of h.core h.bus) hw → ComesByWords n (hardware_of h.core h.bus) → IsWhole hw.core → RunsWithin end old h → RunsWithin end old (with_exception n h hw)
+raised_runs n limit end old h hw code within g soon leads words all begun =
+    raised_carries n limit h hw g words within end (RunsWithin end old) (runs_carry end old) begun code leads all (omega (arith, soon))
 
 -- the ticks of steps that an exception ended, by the slot that Cause tells
 pub raised_ticks : (n : ℕ) (code : ExceptionCode) (old new : Hardware) → AdvancesTo n (Some code) old new → ticks n old + owed_tick (is_delayed new.core.system) ≡ n + owed_tick old.core.slot

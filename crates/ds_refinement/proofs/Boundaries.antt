@@ -23,7 +23,8 @@ use Rattle.ds_pagemap_laws.proofs.Asleep.{still_asleep}
 use Rattle.ds_pagemap_laws.proofs.Boundaries.{quiet_boundary}
 use Rattle.ds_refinement.specs.declared.step.Step.TheVariants.{Boundary, Over}
 use Rattle.ds_refinement.specs.Held.{Held, Kept, bare, vacated, began_or, last_boundary}
-use Rattle.ds_refinement.specs.Stands.{Stands, RunningBy, OnProcessor}
+use Rattle.ds_refinement.specs.Units.{is_general, has_left_user}
+use Rattle.ds_refinement.specs.Stands.{Stands, RunningBy, InKernel, OnProcessor}
 use Rattle.ds_refinement.specs.Services.{with_boundary, with_idle_turn}
 use Rattle.ds_refinement.specs.Steps.{Follows}
 use Rattle.ds_refinement.specs.Quiet.{IsQuiet}
@@ -110,11 +111,17 @@ boundary_of h m turn k owed quiet =
     let o : m.owed ≡ Some turn = owed_is h m k ∙ owed in
     half_boundary m turn o ∙ quiet_boundary m turn o (nothing_to_do h m turn k owed quiet)
 
+-- in kernel mode no boundary is owed
+pub kernel_owes : (general left : Bool) (c : CoreState) (k : Kept) (p : ℕ) (m : State) → InKernel general left c k p m → m.owed ≡ None
+kernel_owes true true c k p m a = a.owed
+kernel_owes true false c k p m a = a.owed
+kernel_owes false left c k p m a = a.1.owed
+
 -- where a boundary is owed, the unit has not begun
-not_begun : (user slot : Bool) (c : CoreState) (p : ℕ) (m : State) (turn : Turn) → m.owed ≡ Some turn → OnProcessor user slot c p m → OnProcessor user slot c p (record m { owed = None })
-not_begun false slot c p m turn o a = let no : Some turn ≡ None = sym o ∙ a.owed in absurd (cc)
-not_begun true true c p m turn o a = let no : Some turn ≡ None = sym o ∙ a.owed in absurd (cc)
-not_begun true false c p m turn o a = record {
+not_begun : (user slot : Bool) (c : CoreState) (k k' : Kept) (p : ℕ) (m : State) (turn : Turn) → m.owed ≡ Some turn → OnProcessor user slot c k p m → OnProcessor user slot c k' p (record m { owed = None })
+not_begun false slot c k k' p m turn o a = let no : Some turn ≡ None = sym o ∙ kernel_owes (is_general c) (has_left_user c) c k p m a in absurd (cc)
+not_begun true true c k k' p m turn o a = let no : Some turn ≡ None = sym o ∙ a.owed in absurd (cc)
+not_begun true false c k k' p m turn o a = record {
   mode = a.mode;
   first = a.first;
   pc = a.pc;
@@ -130,14 +137,16 @@ still_running (p ∷ rest) c k m turn o a = record {
   standing = a.standing;
   kept = a.kept;
   line = a.line;
-  owner = a.owner;
-  space = a.space;
-  on = not_begun (is_user c.system) c.slot c p m turn o a.on;
+  number = a.number;
+  set = a.set;
+  on = not_begun (is_user c.system) c.slot c k (record k { state = record k.state { owed = None } }) p m turn o a.on;
 }
 
 stands_behind : (h : Held) (m : State) (turn : Turn) → Stands h m → h.kept.state.owed ≡ Some turn → h.kept.ticked ≤ h.kept.state.time → IsQuiet h.kept → Stands (with_boundary h) (record m { owed = None })
 stands_behind h m turn k owed ticked quiet = record {
   represented = k.represented;
+  vectors = k.vectors;
+  base = k.base;
   grants = k.grants;
   size = k.size;
   kept = record {
@@ -191,6 +200,8 @@ stands_waited h m k owed none =
     let last : last_boundary h.kept.state ≡ h.kept.state.time = ap (λ (o : Option Turn). began_or o h.kept.state.time) owed in
     record {
       represented = k.represented;
+      vectors = k.vectors;
+      base = k.base;
       grants = k.grants;
       size = k.size;
       kept = record {

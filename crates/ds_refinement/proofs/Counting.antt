@@ -1,23 +1,54 @@
--- How the counts and the clock move where a service ends its unit.
-use Rattle.std.proofs.Common.{◌≡◌, ℕ, ◌+◌, Bool, false, List, [], ◌∷◌, refl, sym, ap, subst, ◌∙◌}
-use Rattle.std.specs.Prelude.{Option, None, IsSome, Result, Ok, Err}
-use Rattle.ds_word.specs.Word.{word}
+-- How the counts and the clock move inside a unit, and where a service ends it.
+use Rattle.std.proofs.Common.{◌≡◌, ℕ, ◌+◌, ◌-◌, ◌*◌, ◌<◌, ◌≤◌, Bool, true, false, List, [], ◌∷◌, refl, sym, ap, subst, ◌∙◌, arith}
+use Rattle.std.specs.Prelude.{◌&&◌, not, Option, None, IsSome, Result, Ok, Err}
+use Rattle.ds_word.specs.Word.{word, truth}
 use Rattle.ds_procs.specs.declared.call.Call.{Call}
 use Rattle.ds_procs.specs.declared.call.Call.TheVariants as call
 use Rattle.ds_procs.specs.Calls.{call_of}
 use Rattle.ds_policy.specs.Grants.{PageState, give, take, drop_own}
+use Rattle.ds_cp0.specs.System.{is_user}
+use Rattle.ds_core.specs.Core as core
 use Rattle.ds_core.specs.Core.{CoreState}
 use Rattle.ds_pagemap.specs.declared.turn.Turn.{Turn}
 use Rattle.ds_pagemap.specs.Machine.{State, lives, process_of}
 use Rattle.ds_pagemap.specs.Calls.{answered, or_number, or_denied, queue_of, after_get, after_wait, served}
 use Rattle.ds_pagemap.specs.Unit.{Stop, at_pc, settle, after_call}
-use Rattle.ds_refinement.specs.declared.step.Step.TheVariants.{Unit}
-use Rattle.ds_refinement.specs.Held.{Held, Own, whole}
-use Rattle.ds_refinement.specs.Stands.{ends_in_stop, ends_in_call}
+use Rattle.ds_refinement.specs.declared.step.Step.TheVariants.{Inside, Unit}
+use Rattle.ds_refinement.specs.Held.{Held, Kept, Own, whole}
+use Rattle.ds_refinement.specs.Units.{is_general, is_served, ends_in_stop, ends_in_call}
 use Rattle.ds_refinement.specs.Told.{own_in}
 use Rattle.ds_refinement.specs.Steps.{Moves, ticks_of}
-use Rattle.ds_refinement.specs.Services.{EndsBy, seated, with_first_seated, with_none_spent}
+use Rattle.ds_refinement.specs.Services.{EndsBy, seated, with_first_seated, with_none_spent, with_one_spent, with_step}
 use Rattle.ds_refinement.specs.Ends.{EndsInStop, EndsInCall}
+
+-- Inside a unit.
+
+truth_small : (b : Bool) → truth b ≤ 1
+truth_small true = omega arith
+truth_small false = omega arith
+
+-- an instruction that ends no unit counts one
+pub word_moves : (h : Held) (s : core.Step) → h.kept.state.owed ≡ None → is_served h.core ≡ false → h.own.spent + 1 ≤ 64 → Moves Inside h (with_step (with_one_spent h) s)
+word_moves h s owed served few =
+    let new : Held = with_step (with_one_spent h) s in
+    let small : truth (is_served s.core) ≤ 1 = truth_small (is_served s.core) in
+    let counted : h.own.spent + 1 ≡ h.own.spent + truth (not (is_served h.core)) = ap (λ (b : Bool). h.own.spent + truth (not b)) (sym served) in
+    let left : 2 * (64 - (h.own.spent + 1)) + truth (is_served s.core) < 2 * (64 - h.own.spent) + truth (is_served h.core) = omega (arith, small, few) in
+    (owed, owed, refl, counted, few, left, refl)
+
+-- a service that goes back counts nothing
+pub back_moves : (h new : Held) → h.kept.state.owed ≡ None → is_served h.core ≡ true → h.own.spent ≤ 64 → new.kept ≡ h.kept → is_user new.core.system ≡ true
+    → new.own.spent ≡ h.own.spent → new.own.failed ≡ h.own.failed → Moves Inside h new
+back_moves h new owed served few kept user spent failed =
+    let none : truth (is_served new.core) ≡ 0 = ap (λ (u : Bool). truth (not u && is_general new.core)) user in
+    let one : truth (is_served h.core) ≡ 1 = ap truth served in
+    let nothing : truth (not (is_served h.core)) ≡ 0 = ap (λ (b : Bool). truth (not b)) served in
+    let counted : new.own.spent ≡ h.own.spent + truth (not (is_served h.core)) = omega (arith, spent, nothing) in
+    let small : new.own.spent ≤ 64 = omega (arith, spent, few) in
+    let left : 2 * (64 - new.own.spent) + truth (is_served new.core) < 2 * (64 - h.own.spent) + truth (is_served h.core) = omega (arith, spent, none, one) in
+    (owed, ap (λ (k : Kept). k.state.owed) kept ∙ owed, ap (λ (k : Kept). k.state.time) kept, counted, small, left, failed)
+
+-- Where a service ends its unit.
 
 -- the seat of the process that ran tells no time
 pub seated_time : (queue : List ℕ) (c : CoreState) (m : State) → (with_first_seated c m queue).time ≡ m.time

@@ -1,6 +1,6 @@
 -- Services that end the unit: the runner leaves, something is done to what is kept, and the first comes in.
-use Rattle.std.proofs.Common.{◌≡◌, ℕ, ◌+◌, ◌++◌, Bool, true, false, cond, List, [], ◌∷◌, length, sym, ap, ap₂, subst, ◌∙◌}
-use Rattle.std.specs.Prelude.{Option, Some, None, flat_map, is_some}
+use Rattle.std.proofs.Common.{◌≡◌, ℕ, ◌+◌, ◌++◌, Bool, true, false, cond, List, [], ◌∷◌, length, refl, sym, ap, ap₂, subst, ◌∙◌}
+use Rattle.std.specs.Prelude.{◌&&◌, not, Option, Some, None, flat_map, is_some}
 use Rattle.std.proofs.lemmas.Grind.{flat_map-append}
 use Rattle.std.proofs.lemmas.List.{length-append}
 use Rattle.ds_log.specs.declared.line.Line.{Line}
@@ -24,7 +24,8 @@ use Rattle.ds_refinement.specs.declared.cause.Cause.{Cause}
 use Rattle.ds_refinement.specs.declared.cause.Cause.TheVariants as cause
 use Rattle.ds_refinement.specs.declared.step.Step.TheVariants.{Unit}
 use Rattle.ds_refinement.specs.Held.{Held, Kept, no_memory, whole}
-use Rattle.ds_refinement.specs.Stands.{Stands, IsKept, InService, OnProcessor, Promise, own_of, ends_in_stop, ends_in_call}
+use Rattle.ds_refinement.specs.Units.{is_general, is_served, has_left_user, InService, Promise, own_of, ends_in_stop, ends_in_call}
+use Rattle.ds_refinement.specs.Stands.{Stands, IsKept, InKernel, OnProcessor}
 use Rattle.ds_refinement.specs.Told.{told, is_delayed, own_in}
 use Rattle.ds_refinement.specs.Steps.{Comes, Follows}
 use Rattle.ds_refinement.specs.Services.{Serves, EndsBy, seated}
@@ -69,13 +70,26 @@ service f h new m p rest settles k ready owed is ends =
     let some : m.ready ≡ [] → ⊥ = λ (e : m.ready ≡ []). (let no : p ∷ rest ≡ [] = sym (k.kept.ready ∙ ready) ∙ e in cc) in (
       touched true (unit m),
       (owed, some, (false, true, ap (touched true) (sym (half_unit m owed)))),
-      enters new (unit m) here ends.represented ends.grants (ends.size ∙ k.size) ends.devices ends.enters,
+      enters new (unit m) here ends.represented ends.vectors ends.base ends.grants (ends.size ∙ k.size) ends.devices ends.enters,
     )
 
 -- The service of what was told.
 
-in_service : (h : Held) (m : State) (p : ℕ) (rest : List ℕ) → Stands h m → h.kept.state.ready ≡ p ∷ rest → is_user h.core.system ≡ false → InService h.core p m
-in_service h m p rest k ready user = subst (λ (b : Bool). OnProcessor b h.core.slot h.core p m) user (running_of h m p rest k ready).on
+-- who is served is in kernel mode, at the general vector
+pub served_parts : (user general : Bool) → (not user && general) ≡ true → (user ≡ false) × (general ≡ true)
+served_parts true general served = absurd (cc)
+served_parts false general served = (refl, served)
+
+-- what waits there, by whether it came from user mode
+pub served_kernel : (h : Held) (m : State) (p : ℕ) (rest : List ℕ) → Stands h m → h.kept.state.ready ≡ p ∷ rest → is_served h.core ≡ true
+    → InKernel true (has_left_user h.core) h.core h.kept p m
+served_kernel h m p rest k ready served =
+    let parts = served_parts (is_user h.core.system) (is_general h.core) served in
+    subst (λ (general : Bool). InKernel general (has_left_user h.core) h.core h.kept p m) parts.1
+    (subst (λ (user : Bool). OnProcessor user h.core.slot h.core h.kept p m) parts.0 (running_of h m p rest k ready).on)
+
+in_service : (h : Held) (m : State) (p : ℕ) (rest : List ℕ) → Stands h m → h.kept.state.ready ≡ p ∷ rest → is_served h.core ≡ true → has_left_user h.core ≡ true → InService h.core p m
+in_service h m p rest k ready served left = subst (λ (up : Bool). InKernel true up h.core h.kept p m) left (served_kernel h m p rest k ready served)
 
 -- the process in its seat stands at the unit's address, and only its registers are the processor's
 seat_is : (c : CoreState) (m : State) (p : ℕ) → is_user c.system ≡ false → InService c p m → with_registers m p c.registers ≡ with_process m p (off c (process_of m p))
@@ -93,7 +107,7 @@ promised h m p why pages a is =
     (subst (λ (w : Cause). Promise w h.core.system.bad_vaddr (is_delayed h.core.system) (process_of m p).pc p m s)
     (ap (λ (x : PageState). told h.core.system x p) pages ∙ is) a.promise)
 
-module _ (h new : Held) (p : ℕ) (rest : List ℕ) (ready : h.kept.state.ready ≡ p ∷ rest) (user : is_user h.core.system ≡ false) where
+module _ (h new : Held) (p : ℕ) (rest : List ℕ) (ready : h.kept.state.ready ≡ p ∷ rest) (served : is_served h.core ≡ true) (left : has_left_user h.core ≡ true) where
   -- the service follows wherever the unit is what it does, as the promise has it
   by_promise : (f : State → State) (why : Cause) → ((s : State) → all_settled (f s) ≡ f (all_settled s))
       → told h.core.system (page_state h.kept.grants h.bus.memory) p ≡ why
@@ -101,7 +115,8 @@ module _ (h new : Held) (p : ℕ) (rest : List ℕ) (ready : h.kept.state.ready 
       → EndsBy f h new → Follows Unit h new
   by_promise f why settles is keeps ends = record {
     follows = λ m k.
-        let a : InService h.core p m = in_service h m p rest k ready user in
+        let a : InService h.core p m = in_service h m p rest k ready served left in
+        let user : is_user h.core.system ≡ false = (served_parts (is_user h.core.system) (is_general h.core) served).0 in
         let unit_is : unit m ≡ f (with_registers m p h.core.registers) = keeps m k.kept.pages (promised h m p why k.kept.pages a is) in
         service f h new m p rest settles k ready a.owed (unit_is ∙ ap f (seat_is h.core m p user a)) ends;
   }

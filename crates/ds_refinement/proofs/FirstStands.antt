@@ -20,6 +20,7 @@ use Rattle.ds_pagemap.specs.Boundary.{has_passed}
 use Rattle.ds_pagemap.specs.First.{first_state}
 use Rattle.ds_pagemap_laws.specs.Settled.{settled_process}
 use Rattle.ds_refinement.specs.Held.{Held, Kept, bare, vacated, space_of}
+use Rattle.ds_refinement.specs.Handling.{HasBase}
 use Rattle.ds_refinement.specs.Stands.{Stands, KeptIs, RunningBy, AreResting}
 use Rattle.ds_refinement.specs.First.{IsFirst, first_core, first_bus, first_kept}
 
@@ -57,8 +58,8 @@ module _ (policy : PolicyValue) (images : List (List ℕ)) (input : InputValue) 
     standing = refl;
     kept = refl;
     line = refl;
-    owner = refl;
-    space = refl;
+    number = (let one : 0 < 1 = omega arith in one);
+    set = (let small : 2 ^ 6 < 2 ^ 32 = omega arith in record { space = refl; small = small });
     on = record { mode = refl; first = refl; pc = refl; next = refl; registers = inl refl };
   })
 
@@ -78,6 +79,8 @@ first_stands policy images input start h some named f =
         places = f.tables.places;
         empty = f.tables.empty;
       };
+      vectors = f.vectors;
+      base = subst (λ (c : CoreState). HasBase c.system) (sym f.core) (record { tables = refl; whole = refl });
       grants = subst (λ (x : Kept). NamesPages x.grants) (sym f.kept) named;
       size = f.size;
       kept = subst (λ (x : Kept). KeptIs x.state.ready x memory (first_state policy images input)) (sym f.kept) (kept policy images input start memory t f.pages);

@@ -1,5 +1,6 @@
 -- Paths of steps that are real.
 use Rattle.std.proofs.Common.{◌≡◌, ◌⊎◌, ℕ, ◌++◌, true, false, List, [], ◌∷◌, inl, inr, refl, sym, subst, ◌∙◌}
+use Rattle.std.specs.Prelude.{IsSome}
 use Rattle.ds_core.specs.declared.event.Event.{Event}
 use Rattle.ds_core.specs.declared.event.Event.TheVariants.{Retired, Branched, Raised}
 use Rattle.ds_core.specs.Core as core
@@ -16,9 +17,11 @@ use Rattle.ds_refinement.specs.declared.step.Step.{Step}
 use Rattle.ds_refinement.specs.Held.{Held}
 use Rattle.ds_refinement.specs.Stands.{IsSound}
 use Rattle.ds_refinement.specs.Steps.{Follows, Moves}
-use Rattle.ds_refinement.specs.Services.{after_event, with_one_spent}
+use Rattle.ds_refinement.specs.Services.{after_event, with_one_spent, with_step}
 use Rattle.ds_refinement.specs.Told.{told}
-use Rattle.ds_refinement.specs.Real.{EndsUnit, GoesBack, GoesBackBy, HasUnit, IsReal, MayGoBack, RealPath, Through, is_served}
+use Rattle.ds_refinement.specs.Pairs.{HasNoNewPairs}
+use Rattle.ds_refinement.specs.Units.{has_left_user, is_served}
+use Rattle.ds_refinement.specs.Real.{EndsUnit, GoesBack, GoesBackBy, HasUnit, IsReal, MayGoBack, RealPath, StopsBy, Through}
 
 pub one_step : (kind : Step) (old new : Held) → Follows kind old new → Moves kind old new → IsReal old new → RealPath old new
 one_step kind old new f m r = record { path = old ∷ []; through = ((kind, f, m, r), refl) }
@@ -41,36 +44,63 @@ sound_through old new (last ∷ before) s t = after t.0.0 last new (sound_throug
 pub path_sound : (old new : Held) → IsSound old → RealPath old new → IsSound new
 path_sound old new s r = sound_through old new r.path s r.through
 
--- an instruction of a unit is a step of the processor, and nothing else is asked of it
+-- A step of the processor that serves nothing is asked only to be one.
+taken : (h new : Held) (event : Event) → HasUnit h → is_served h.core ≡ false → effect.step h.core h.bus ≡ (record { event = event; core = new.core; bus = new.bus }) → IsReal h new
+taken h new event has user is = record {
+  instruction = λ unit other. (event, is);
+  service = λ unit served. (let no : false ≡ true = sym user ∙ served in absurd (cc));
+  random = λ all. (let no : false ≡ true = sym user ∙ all has in absurd (cc));
+  pairs = λ all. (let no : false ≡ true = sym user ∙ all has in absurd (cc));
+}
+
+-- an instruction of a unit
 pub instruction_real : (e : Event) (h : Held) (s : core.Step) → HasUnit h → is_served h.core ≡ false → effect.step h.core h.bus ≡ (record { event = e; core = s.core; bus = s.bus }) → IsReal h (after_event e (with_one_spent h) s)
-instruction_real Retired h s has user is = record {
-  instruction = λ a b. (Retired, is);
-  service = λ a b. (let no : false ≡ true = sym user ∙ b in absurd (cc));
-  random = λ a. (let no : false ≡ true = sym user ∙ a has in absurd (cc));
-}
-instruction_real Branched h s has user is = record {
-  instruction = λ a b. (Branched, is);
-  service = λ a b. (let no : false ≡ true = sym user ∙ b in absurd (cc));
-  random = λ a. (let no : false ≡ true = sym user ∙ a has in absurd (cc));
-}
-instruction_real (Raised code) h s has user is = record {
-  instruction = λ a b. (Raised code, is);
-  service = λ a b. (let no : false ≡ true = sym user ∙ b in absurd (cc));
-  random = λ a. (let no : false ≡ true = sym user ∙ a has in absurd (cc));
+instruction_real Retired h s has user is = taken h (after_event Retired (with_one_spent h) s) Retired has user is
+instruction_real Branched h s has user is = taken h (after_event Branched (with_one_spent h) s) Branched has user is
+instruction_real (Raised code) h s has user is = taken h (after_event (Raised code) (with_one_spent h) s) (Raised code) has user is
+
+-- a word of the handler
+pub word_real : (h : Held) → HasUnit h → is_served h.core ≡ false → IsReal h (with_step (with_one_spent h) (effect.step h.core h.bus))
+word_real h has user = taken h (with_step (with_one_spent h) (effect.step h.core h.bus)) (effect.step h.core h.bus).event has user refl
+
+-- a service that ends its unit, where the exception came from user mode and what was told ends it
+pub end_real : (h new : Held) (p : ℕ) (rest : List ℕ) (why : Cause) → h.kept.state.ready ≡ p ∷ rest → is_served h.core ≡ true → has_left_user h.core ≡ true
+    → told h.core.system (page_state h.kept.grants h.bus.memory) p ≡ why → EndsUnit (page_state h.kept.grants h.bus.memory) p h.core.system.bad_vaddr why
+    → IsSome new.kept.state.owed → new.core.random ≡ h.core.random → HasNoNewPairs h.core.entries new.core.entries → IsReal h new
+end_real h new p rest why ready served left is ends owed random pairs = record {
+  instruction = λ has other. (let no : true ≡ false = sym served ∙ other in absurd (cc));
+  service = λ has at. inl (record {
+    owed = owed;
+    left = left;
+    stops = subst (λ (ps : List ℕ). StopsBy ps h) (sym ready)
+        (subst (λ (w : Cause). EndsUnit (page_state h.kept.grants h.bus.memory) p h.core.system.bad_vaddr w) (sym is) ends);
+  });
+  random = λ has. random;
+  pairs = λ has. pairs;
 }
 
 -- a service that goes back, where the table allows what was told
 pub back_real : (h new : Held) (p : ℕ) (rest : List ℕ) (access : Access) (page offset : ℕ) → h.kept.state.ready ≡ p ∷ rest → is_served h.core ≡ true
     → told h.core.system (page_state h.kept.grants h.bus.memory) p ≡ cause.Access access → decide h.kept.grants.table p access.kind access.size h.core.system.bad_vaddr ≡ Allowed page offset
-    → GoesBack h new → new.core.random ≡ h.core.random → IsReal h new
-back_real h new p rest access page offset ready served is allowed back random = record {
-  instruction = λ has user. (let no : true ≡ false = sym served ∙ user in absurd (cc));
-  service = λ has at. inr (
-    subst (λ (ps : List ℕ). GoesBackBy ps h) (sym ready)
-        (subst (λ (w : Cause). MayGoBack (page_state h.kept.grants h.bus.memory) p h.core.system.bad_vaddr w) (sym is) (page, offset, allowed)),
-    back,
-  );
+    → GoesBack h new → new.core.random ≡ h.core.random → HasNoNewPairs h.core.entries new.core.entries → IsReal h new
+back_real h new p rest access page offset ready served is allowed back random pairs = record {
+  instruction = λ has other. (let no : true ≡ false = sym served ∙ other in absurd (cc));
+  service = λ has at. inr (record {
+    may = inr (subst (λ (ps : List ℕ). GoesBackBy ps h) (sym ready)
+        (subst (λ (w : Cause). MayGoBack (page_state h.kept.grants h.bus.memory) p h.core.system.bad_vaddr w) (sym is) (page, offset, allowed)));
+    back = back;
+  });
   random = λ has. random;
+  pairs = λ has. pairs;
+}
+
+-- a service that goes back after a double miss
+pub double_real : (h new : Held) → is_served h.core ≡ true → has_left_user h.core ≡ false → GoesBack h new → new.core.random ≡ h.core.random → HasNoNewPairs h.core.entries new.core.entries → IsReal h new
+double_real h new served nested back random pairs = record {
+  instruction = λ has other. (let no : true ≡ false = sym served ∙ other in absurd (cc));
+  service = λ has at. inr (record { may = inl nested; back = back });
+  random = λ has. random;
+  pairs = λ has. pairs;
 }
 
 -- What was told ends a unit or lets it go on.

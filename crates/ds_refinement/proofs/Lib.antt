@@ -6,7 +6,6 @@ pub mod Spaces
 pub mod Lookups
 pub mod Registers
 pub mod Links
-pub mod Filling
 pub mod Leaving
 pub mod Meets
 pub mod Resting
@@ -22,3 +21,15 @@ pub mod RunSteps
 pub mod BlockPaths
 pub mod Quieter
 pub mod StationRows
+pub mod Fields
+pub mod Loads
+pub mod Standing
+pub mod Touches
+pub mod Words
+pub mod Doubles
+pub mod Entered
+pub mod FirstWord
+pub mod Nine
+pub mod Vectors
+pub mod NoNewPairs
+pub mod WaysBack

@@ -23,7 +23,7 @@ use Rattle.ds_policy.specs.Grants.{PageState}
 use Rattle.ds_pagemap.specs.Machine.{State, Process, process_of, with_process, touched_process}
 use Rattle.ds_pagemap.specs.Unit.{Went, Branched, instruction, done, where_allowed, with_registers}
 use Rattle.ds_refinement.specs.Services.{touched_registers}
-use Rattle.ds_refinement.specs.Stands.{IsLinked}
+use Rattle.ds_refinement.specs.Units.{IsLinked}
 use Rattle.ds_refinement.proofs.Registers.{HasSeat, registers_put, registers_again, process_put}
 
 -- What branches, and how.

@@ -2,7 +2,7 @@
 use Rattle.std.proofs.Common.{◌≡◌, ℕ, ◌+◌, ◌-◌, ◌*◌, ◌/◌, ◌%◌, ◌^◌, ◌<◌, Bool, true, false, cond, List, refl, sym, ap, subst, ◌∙◌, arith, get_or, Option, Some, None}
 use Rattle.std.specs.Prelude.{Result, Ok, Err, nat_le, nat_lt, not, ◌&&◌, ◌==◌, slice_get}
 use Rattle.std.proofs.lemmas.Bool.Decides.{nat_tests}
-use Rattle.std.proofs.lemmas.Option.{get_or_from_slice_get}
+use Rattle.std.proofs.lemmas.Option.{get_or_from_slice_get, slice_get-get_or}
 use Rattle.std.proofs.lemmas.List.Quantifiers.{position-Some}
 use Rattle.ds_word.specs.Word.{bits, bit}
 use Rattle.ds_isa.specs.declared.instr.Size.{Size}
@@ -10,13 +10,13 @@ use Rattle.ds_isa.specs.declared.instr.Kind.{Kind}
 use Rattle.ds_isa.specs.declared.instr.Kind.TheVariants.{Fetch, Load, Store}
 use Rattle.ds_isa.specs.Access.{is_store, is_aligned}
 use Rattle.ds_tlb.specs.declared.entry.Entry.{Entry}
-use Rattle.ds_tlb.specs.Entries.{matches, find}
+use Rattle.ds_tlb.specs.Entries.{matches, find, empty_entry}
 use Rattle.ds_tlb.specs.Words.{entry_of}
 use Rattle.ds_cp0.specs.System.{asid_of, is_user}
 use Rattle.ds_amap.specs.declared.map.Physical.{Physical}
 use Rattle.ds_amap.specs.declared.map.Fault.{Fault}
-use Rattle.ds_amap.specs.declared.map.Fault.TheVariants.{Address, Invalid, Modified}
-use Rattle.ds_amap.specs.Map.{through, through_slot, through_found, at_physical}
+use Rattle.ds_amap.specs.declared.map.Fault.TheVariants.{Address, Refill, Invalid, Modified}
+use Rattle.ds_amap.specs.Map.{through, through_slot, through_found, at_physical, place}
 use Rattle.ds_policy.specs.declared.access.Verdict.TheVariants.{Allowed}
 use Rattle.ds_policy.specs.declared.grant.Grant.{Grant}
 use Rattle.ds_policy.specs.declared.grant.Right.{Right}
@@ -34,7 +34,6 @@ use Rattle.ds_core.specs.Core.{CoreState}
 use Rattle.ds_core.specs.Access.{reached}
 use Rattle.ds_refinement.specs.Held.{Kept, space_of}
 use Rattle.ds_refinement.specs.Granted.{IsGranted}
-use Rattle.ds_refinement.proofs.Spaces.{owner_space}
 
 -- a page that an entry of the table names lives
 pub named_page_lives : (g : GrantsState) (p address page : ℕ) (grant : Grant) → entry_at g.table p address ≡ Some grant → grant.page ≡ Some page → is_live g page ≡ true
@@ -176,9 +175,39 @@ number_reaches : (c : CoreState) (g : GrantsState) (t : Places) (numbers : ℕ �
 number_reaches c g t numbers p user holds names some number space access size address place is =
     by_tests c g t numbers p holds names some number access size address place (is_aligned size address) (nat_le (2 ^ 31) address) refl refl (rw (user, space) at is)
 
--- so it is in the one address space
-pub user_reaches : (c : CoreState) (k : Kept) (p : ℕ) → is_user c.system ≡ true → BufferHolds c.entries (space_of k) k.grants k.tables → NamesPages k.grants → 0 < p → k.owner ≡ p → asid_of c.system ≡ space_of k p
+-- so it is by the numbers that are kept
+pub user_reaches : (c : CoreState) (k : Kept) (p : ℕ) → is_user c.system ≡ true → BufferHolds c.entries (space_of k) k.grants k.tables → NamesPages k.grants → 0 < p → 0 < space_of k p → asid_of c.system ≡ space_of k p
     → (access : Kind) (size : Size) (address : ℕ) (place : Physical) → reached c access size address ≡ Ok place → IsGranted k.grants p access size address place.0
-user_reaches c k p user holds names some owner space =
-    let one : space_of k p ≡ 1 = owner_space k p owner in
-    number_reaches c k.grants k.tables (space_of k) p user holds names some (omega (arith, one)) space
+user_reaches c k p user holds names some number space = number_reaches c k.grants k.tables (space_of k) p user holds names some number space
+
+-- A refill is asked for where nothing answers.
+
+missed_entry : (o : Option Entry) (access : Kind) (address : ℕ) → (e : Entry) → o ≡ Some e → through_slot o access address ≡ Err Refill → ⊥
+missed_entry None access address e at is = absurd cc
+missed_entry (Some x) access address e at is = by_flags x.v (is_store access && not x.d) is
+  where
+    by_flags : (v m : Bool) → cond (not v) (Err Invalid) (cond m (Err Modified) (Ok (at_physical (place x address)))) ≡ Err Refill → ⊥
+    by_flags false m e = cc
+    by_flags true true e = cc
+    by_flags true false e = cc
+
+found_none : (entries : List Entry) (vpn asid : ℕ) (found : Option ℕ) (access : Kind) (address : ℕ) → find entries vpn asid ≡ found → through_found entries found access address ≡ Err Refill → found ≡ None
+found_none entries vpn asid None access address at is = refl
+found_none entries vpn asid (Some slot) access address at is = absurd (by_entry (slice_get entries slot) refl)
+  where
+    by_entry : (o : Option Entry) → slice_get entries slot ≡ o → ⊥
+    by_entry None none = stands none
+      where
+        stands : slice_get entries slot ≡ None → ⊥
+        stands gone = let within = (position-Some (matches vpn asid) entries slot (empty_entry 0) at).0 in let there = slice_get-get_or entries slot (empty_entry 0) within in let wrong : ◌≡◌ {A = Option Entry} None (Some (get_or entries slot (empty_entry 0))) = sym gone ∙ there in cc
+    by_entry (Some e) some = missed_entry (slice_get entries slot) access address e some is
+
+missed_by : (c : CoreState) (access : Kind) (address : ℕ) (aligned high : Bool) → nat_le (2 ^ 31) address ≡ high
+    → cond (not aligned) (Err Address) (cond (not (not (high && true))) (Err Address) (cond (high && nat_lt address 0xC0000000) (Ok (at_physical (address % 2 ^ 29))) (through_found c.entries (find c.entries (address / 2 ^ 12) (asid_of c.system)) access address))) ≡ Err Refill
+    → (address < 2 ^ 31) × (find c.entries (address / 2 ^ 12) (asid_of c.system) ≡ None)
+missed_by c access address false high h is = absurd cc
+missed_by c access address true true h is = absurd cc
+missed_by c access address true false h is = (grind (arith, nat_tests), found_none c.entries (address / 2 ^ 12) (asid_of c.system) (find c.entries (address / 2 ^ 12) (asid_of c.system)) access address refl is)
+
+pub user_misses : (c : CoreState) (access : Kind) (size : Size) (address : ℕ) → is_user c.system ≡ true → reached c access size address ≡ Err Refill → (address < 2 ^ 31) × (find c.entries (address / 2 ^ 12) (asid_of c.system) ≡ None)
+user_misses c access size address user is = missed_by c access address (is_aligned size address) (nat_le (2 ^ 31) address) refl (rw user at is)

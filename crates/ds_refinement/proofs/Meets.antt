@@ -1,5 +1,5 @@
 -- One instruction of the processor is one of the machine.
-use Rattle.std.proofs.Common.{◌≡◌, ℕ, zero, suc, ◌+◌, ◌%◌, ◌<◌, ◌^◌, ◌⊎◌, Bool, true, false, List, length, refl, sym, ap, ap₂, subst, ◌∙◌, arith, inl, inr}
+use Rattle.std.proofs.Common.{◌≡◌, ℕ, zero, suc, ◌+◌, ◌%◌, ◌<◌, ◌^◌, ◌⊎◌, Bool, true, false, cond, List, length, refl, sym, ap, ap₂, subst, ◌∙◌, arith, inl, inr}
 use Rattle.std.proofs.lemmas.Bool.Decides.{nat_tests}
 use Rattle.std.specs.Prelude.{⊤, Option, Some, None, Result, Ok, Err, ◌==◌, ◌&&◌, ◌||◌, not, unwrap_or, slice_set}
 use Rattle.ds_word.specs.Word.{bits, sign_extended}
@@ -11,7 +11,7 @@ use Rattle.ds_isa.specs.declared.instr.Kind.{Kind}
 use Rattle.ds_isa.specs.declared.instr.Kind.TheVariants as kind
 use Rattle.ds_isa.specs.declared.instr.Instr.{Instr}
 use Rattle.ds_isa.specs.declared.instr.Instr.TheVariants as instr
-use Rattle.ds_isa.specs.Access.{access_size, size_asked}
+use Rattle.ds_isa.specs.Access.{access_size, size_asked, is_store}
 use Rattle.ds_isa.specs.Registers.{Registers, read, settled}
 use Rattle.ds_isa.specs.Instruction.{instruction_of}
 use Rattle.ds_isa.specs.Meaning.{Effect, Goes, Branches, Loads, Stores, Faults, Calls, Privileged, meaning, written_or_trap}
@@ -27,11 +27,12 @@ use Rattle.ds_grants.proofs.Kept.{high_stored}
 use Rattle.ds_grants.specs.Sound.{NamesPages}
 use Rattle.ds_amap.specs.declared.map.Physical.{Physical}
 use Rattle.ds_amap.specs.declared.map.Fault.{Fault}
+use Rattle.ds_amap.specs.declared.map.Fault.TheVariants.{Address, Refill, Invalid, Modified}
 use Rattle.ds_tlb.specs.Entries.{ticked}
 use Rattle.ds_cp0.specs.declared.exception.Exception.{Exception}
-use Rattle.ds_cp0.specs.declared.exception.ExceptionCode.TheVariants.{SystemCall, ReservedInstruction}
-use Rattle.ds_cp0.specs.Codes.{number_of}
-use Rattle.ds_cp0.specs.System.{entered, asid_of, is_user}
+use Rattle.ds_cp0.specs.declared.exception.ExceptionCode.TheVariants.{SystemCall, ReservedInstruction, Breakpoint, Overflow, LoadMiss, StoreMiss}
+use Rattle.ds_cp0.specs.Codes.{number_of, is_translation}
+use Rattle.ds_cp0.specs.System.{entered, asid_of, is_user, vector}
 use Rattle.ds_dev.specs.Bus.{BusState, is_memory}
 use Rattle.ds_core.specs.declared.event.Event.TheVariants as event
 use Rattle.ds_core.specs.Core as core
@@ -43,12 +44,14 @@ use Rattle.ds_core.specs.Effect as whole
 use Rattle.ds_pagemap.specs.Machine.{State, process_of}
 use Rattle.ds_pagemap.specs.Unit.{Outcome, Went, Branched, Called, Stopped, instruction, done, where_allowed, with_registers, stored, fault}
 use Rattle.ds_refinement.specs.Told.{own_in, kind_told, size_told, size_at, size_on, system_behind, told}
-use Rattle.ds_refinement.specs.Stands.{user_status}
+use Rattle.ds_refinement.specs.Units.{user_status}
+use Rattle.ds_refinement.specs.Handling.{IsMiss}
+use Rattle.ds_refinement.specs.Real.{IsNoBusError}
 use Rattle.ds_refinement.specs.Held.{Kept, space_of}
 use Rattle.ds_refinement.specs.Granted.{IsGranted}
 use Rattle.ds_refinement.specs.Leaves.{Leaves}
 use Rattle.ds_refinement.proofs.Frames.{word_of_page, state_stored, size_stored}
-use Rattle.ds_refinement.proofs.Lookups.{user_reaches}
+use Rattle.ds_refinement.proofs.Lookups.{user_reaches, user_misses}
 use Rattle.ds_refinement.proofs.Refusals.{load_kind, load_answer, store_kind, store_answer, fetch_kind, fetch_answer}
 use Rattle.ds_refinement.proofs.Leaving.{IsFaultCode, leaves_fault, leaves_branch, leaves_call, leaves_access, own_behind}
 
@@ -79,6 +82,9 @@ pub record Raises (c : CoreState) (b : BusState) (m : State) (p : ℕ) (o : Outc
   pub leaves : Leaves (told (entered c.system what) m.memory p) (entered c.system what).bad_vaddr c.slot c.pc p m.memory o
   pub pc : what.pc ≡ c.pc
   pub slot : what.slot ≡ c.slot
+  -- at the vector of misses a page of the user was missed, and nobody meets a bus error
+  pub missed : vector what ≡ 0x80000000 → IsMiss c what
+  pub bus : IsNoBusError (event.Raised what.code)
   pub step : s ≡ record { event = event.Raised what.code; core = core_at_vector (counted c) what; bus = b }
 
 -- an outcome and what the processor made of it
@@ -130,6 +136,44 @@ barred c unit mode =
     neither (unit % 4 == 0) (is_user c.system) (bits c.system.status (28 + unit % 4) 1 == 1)
     (ap (λ (w : ℕ). bits w 1 1 == 1) mode) (ap (λ (w : ℕ). bits w (28 + unit % 4) 1 == 1) mode ∙ no_bit (unit % 4) (low_bits unit))
 
+-- No exception but a miss comes to the vector of misses, and none tells a bus error.
+
+abbrev NoVector : Type 0
+NoVector = ◌≡◌ {A = ℕ} 0x80000080 0x80000000
+
+no_vector : {A : Type 0} → NoVector → A
+no_vector e = absurd (omega (arith, e))
+
+refusal_bus : (fault : Fault) (store : Bool) → IsNoBusError (event.Raised (reach.code_of fault store))
+refusal_bus Address true = tt
+refusal_bus Address false = tt
+refusal_bus Refill true = tt
+refusal_bus Refill false = tt
+refusal_bus Invalid true = tt
+refusal_bus Invalid false = tt
+refusal_bus Modified store = tt
+
+fault_by : (nine twelve : Bool) → IsNoBusError (event.Raised (cond nine Breakpoint (cond twelve Overflow ReservedInstruction)))
+fault_by true twelve = tt
+fault_by false true = tt
+fault_by false false = tt
+
+fault_bus : (code : ℕ) → IsNoBusError (event.Raised (whole.fault_code code))
+fault_bus code = fault_by (code == 9) (code == 12)
+
+miss_code : (store : Bool) → is_translation (cond store StoreMiss LoadMiss) ≡ true
+miss_code true = refl
+miss_code false = refl
+
+refusal_missed : (c : CoreState) (access : Kind) (size : Size) (address : ℕ) (fault : Fault) → is_user c.system ≡ true → reached c access size address ≡ Err fault
+    → vector (refusal c access address fault) ≡ 0x80000000 → IsMiss c (refusal c access address fault)
+refusal_missed c access size address Refill user is at =
+    let missed = user_misses c access size address user is in
+    record { address = address; user = missed.0; is = refl; code = miss_code (is_store access); miss = refl; missed = missed.1 }
+refusal_missed c access size address Address user is at = no_vector at
+refusal_missed c access size address Invalid user is at = no_vector at
+refusal_missed c access size address Modified user is at = no_vector at
+
 in_memory : (place : ℕ) → place < 2 ^ 23 → is_memory place ≡ true
 in_memory place small = grind (arith, nat_tests)
 
@@ -140,15 +184,23 @@ small_offset address = omega arith
 module _ (c : CoreState) (b : BusState) (k : Kept) (m : State) (p : ℕ)
     (same : c.registers ≡ (process_of m p).registers) (pages : m.memory ≡ page_state k.grants b.memory) (large : length b.memory ≡ 2 ^ 23)
     (mode : c.system.status ≡ user_status) (small : c.pc < 2 ^ 32)
-    (holds : BufferHolds c.entries (space_of k) k.grants k.tables) (names : NamesPages k.grants) (some : 0 < p) (owner : k.owner ≡ p) (space : asid_of c.system ≡ space_of k p) where
+    (holds : BufferHolds c.entries (space_of k) k.grants k.tables) (names : NamesPages k.grants) (some : 0 < p) (number : 0 < space_of k p) (space : asid_of c.system ≡ space_of k p) where
   -- what is reached is granted
   granted : (access : Kind) (size : Size) (address : ℕ) (place : Physical) → reached c access size address ≡ Ok place → IsGranted k.grants p access size address place.0
-  granted = user_reaches c k p (ap (λ (w : ℕ). bits w 1 1 == 1) mode) holds names some owner space
+  granted = user_reaches c k p (ap (λ (w : ℕ). bits w 1 1 == 1) mode) holds names some number space
 
   -- an exception that leaves the program as the machine leaves it
   left : (e : Exception) (o : Outcome) → e.pc ≡ c.pc → e.slot ≡ c.slot → Leaves (told (entered c.system e) m.memory p) (entered c.system e).bad_vaddr c.slot c.pc p m.memory o
+      → (vector e ≡ 0x80000000 → IsMiss c e) → IsNoBusError (event.Raised e.code)
       → Meets c b k.grants m p o (with_tick (core.at_vector c b e))
-  left e o pc slot leaves = inr (inr (record { what = e; leaves = leaves; pc = pc; slot = slot; step = refl }))
+  left e o pc slot leaves missed bus = inr (inr (record { what = e; leaves = leaves; pc = pc; slot = slot; missed = missed; bus = bus; step = refl }))
+
+  -- one that the buffer's refusal of an access raises
+  refused : (access : Kind) (size : Size) (address : ℕ) (fault : Fault) (o : Outcome) → reached c access size address ≡ Err fault
+      → Leaves (told (entered c.system (refusal c access address fault)) m.memory p) (entered c.system (refusal c access address fault)).bad_vaddr c.slot c.pc p m.memory o
+      → Meets c b k.grants m p o (with_tick (core.at_vector c b (refusal c access address fault)))
+  refused access size address fault o is leaves =
+      left (refusal c access address fault) o refl refl leaves (refusal_missed c access size address fault (ap (λ (w : ℕ). bits w 1 1 == 1) mode) is) (refusal_bus fault (is_store access))
 
   -- an instruction that leaves these registers and this memory
   puts : (o : Outcome) (after : Registers) (memory : List ℕ) → o ≡ Went (record (with_registers m p after) { memory = page_state k.grants memory }) → length memory ≡ 2 ^ 23 → IsHigh b.memory memory
@@ -165,7 +217,7 @@ module _ (c : CoreState) (b : BusState) (k : Kept) (m : State) (p : ℕ)
       let e = exception c ReservedInstruction in
       left e (Branched (with_registers m p after) target) refl refl
       (subst (λ (x : Bool). Leaves (told (entered c.system e) m.memory p) (entered c.system e).bad_vaddr x c.pc p m.memory (Branched (with_registers m p after) target)) (sym inside)
-      (leaves_branch c.system e c.pc p m.memory (with_registers m p after) target refl))
+      (leaves_branch c.system e c.pc p m.memory (with_registers m p after) target refl)) (no_vector) tt
 
   -- the table of the machine's state allows what is granted
   allowed_here : (access : Kind) (size : Size) (address place : ℕ) (a : IsGranted k.grants p access size address place) → decide m.memory.table p access size address ≡ Allowed a.page (address % 4096)
@@ -203,7 +255,7 @@ module _ (c : CoreState) (b : BusState) (k : Kept) (m : State) (p : ℕ)
     load_meets size address after asked (Err fault) is =
         let s = system_behind c kind.Load address fault in
         let own : size_at m.memory p (own_in s) ≡ size = ap (size_at m.memory p) (own_behind c kind.Load address fault small) ∙ asked in
-        left (refusal c kind.Load address fault) _ refl refl
+        refused kind.Load size address fault _ is
         (leaves_access c kind.Load size address fault p m.memory _ (load_kind c size address fault fetched small is fetches)
         (ap (λ (x : Size). decide m.memory.table p (kind_told s) (size_told s x) address) own ∙ load_answer c size address fault fetched m.memory.table p small is fetches))
     load_meets size address after asked (Ok place) is =
@@ -220,7 +272,7 @@ module _ (c : CoreState) (b : BusState) (k : Kept) (m : State) (p : ℕ)
     store_meets size address after asked (Err fault) is =
         let s = system_behind c kind.Store address fault in
         let own : size_at m.memory p (own_in s) ≡ size = ap (size_at m.memory p) (own_behind c kind.Store address fault small) ∙ asked in
-        left (refusal c kind.Store address fault) _ refl refl
+        refused kind.Store size address fault _ is
         (leaves_access c kind.Store size address fault p m.memory _ (store_kind c address fault)
         (ap (λ (x : Size). decide m.memory.table p (kind_told s) (size_told s x) address) own ∙ store_answer c size address fault m.memory.table p is))
     store_meets size address after asked (Ok place) is =
@@ -241,18 +293,18 @@ module _ (c : CoreState) (b : BusState) (k : Kept) (m : State) (p : ℕ)
     effect_meets i (Stores size address after) asks code_known sized = store_meets size address after (sized ∙ ap (λ (o : Option Size). unwrap_or o Word) (sym asks)) (reached c kind.Store size address) refl
     effect_meets i (Faults code) asks code_known sized =
         let e = exception c (whole.fault_code code) in
-        left e (Stopped (fault c.pc code)) refl refl (leaves_fault c.system e c.slot code c.pc p m.memory code_known.0 code_known.1)
-    effect_meets i Calls asks code_known sized = let e = exception c SystemCall in left e Called refl refl (leaves_call c.system e c.slot c.pc p m.memory refl)
+        left e (Stopped (fault c.pc code)) refl refl (leaves_fault c.system e c.slot code c.pc p m.memory code_known.0 code_known.1) no_vector (fault_bus code)
+    effect_meets i Calls asks code_known sized = let e = exception c SystemCall in left e Called refl refl (leaves_call c.system e c.slot c.pc p m.memory refl) no_vector tt
     effect_meets i Privileged asks code_known sized =
         let e = unusable_exception c (unit_of i) in
-        rw (barred c (unit_of i) mode) (left e (Stopped (fault c.pc 11)) refl refl (leaves_fault c.system e c.slot 11 c.pc p m.memory refl (refl, refl)))
+        rw (barred c (unit_of i) mode) (left e (Stopped (fault c.pc 11)) refl refl (leaves_fault c.system e c.slot 11 c.pc p m.memory refl (refl, refl)) no_vector tt)
 
   -- the instruction at pc, whether it is fetched or not
   fetch_meets : (r : Result Physical Fault) → reached c kind.Fetch Word c.pc ≡ r
       → Meets c b k.grants m p (where_allowed (decide m.memory.table p kind.Fetch Word c.pc) kind.Fetch c.pc (λ page offset. done m p c.pc (meaning (instruction_of (word_at (bytes_of m.memory.pages page) offset)) c.pc (process_of m p).registers)))
       (with_tick (whole.fetched_from c b r))
   fetch_meets (Err fault) is =
-      left (refusal c kind.Fetch c.pc fault) _ refl refl
+      refused kind.Fetch Word c.pc fault _ is
       (leaves_access c kind.Fetch Word c.pc fault p m.memory _ (fetch_kind c fault small is)
       (fetch_answer c (size_at m.memory p (own_in (system_behind c kind.Fetch c.pc fault))) fault m.memory.table p small is))
   fetch_meets (Ok place) is =

@@ -11,7 +11,8 @@ use Rattle.ds_pagemap.specs.declared.turn.Turn.{Turn}
 use Rattle.ds_pagemap.specs.Machine.{State}
 use Rattle.ds_pagemap.specs.Boundary.{has_passed}
 use Rattle.ds_refinement.specs.Held.{Held, Kept, began_or}
-use Rattle.ds_refinement.specs.Stands.{IsSound, OnProcessor, RunningBy, user_status}
+use Rattle.ds_refinement.specs.Units.{user_status}
+use Rattle.ds_refinement.specs.Stands.{IsSound, OnProcessor, RunningBy}
 use Rattle.ds_refinement.specs.Quiet.{IsQuiet}
 use Rattle.ds_refinement.specs.Blocks.{at_time, IsQuietUntil}
 
@@ -61,14 +62,14 @@ quiet_until last k ticked q = record {
 -- What is known of a station that stands for some state.
 
 -- in user mode Status is a user's
-user_by : (user slot : Bool) (c : CoreState) (p : ℕ) (m : State) → user ≡ true → OnProcessor user slot c p m → c.system.status ≡ user_status
-user_by false slot c p m is on = absurd (cc)
-user_by true true c p m is on = on.mode
-user_by true false c p m is on = on.mode
+user_by : (user slot : Bool) (c : CoreState) (k : Kept) (p : ℕ) (m : State) → user ≡ true → OnProcessor user slot c k p m → c.system.status ≡ user_status
+user_by false slot c k p m is on = absurd (cc)
+user_by true true c k p m is on = on.mode
+user_by true false c k p m is on = on.mode
 
 status_by : (queue : List ℕ) (c : CoreState) (k : Kept) (m : State) → is_user c.system ≡ true → RunningBy queue c k m → c.system.status ≡ user_status
 status_by [] c k m user running = running
-status_by (p ∷ rest) c k m user running = user_by (is_user c.system) c.slot c p m user running.on
+status_by (p ∷ rest) c k m user running = user_by (is_user c.system) c.slot c k p m user running.on
 
 pub user_status_of : (h : Held) → IsSound h → is_user h.core.system ≡ true → h.core.system.status ≡ user_status
 user_status_of h sound user = status_by h.kept.state.ready h.core h.kept sound.state user sound.stands.running

@@ -7,7 +7,8 @@ use Rattle.ds_dev.specs.Serial.{SerialState, serial_requests}
 use Rattle.ds_dev.specs.Clock.{clock_requests}
 use Rattle.ds_dev.specs.Bus.{BusState, lines, is_enabled}
 use Rattle.ds_refinement.specs.Held.{Kept}
-use Rattle.ds_refinement.specs.Stands.{AreResting, user_status}
+use Rattle.ds_refinement.specs.Units.{user_status}
+use Rattle.ds_refinement.specs.Stands.{AreResting}
 
 -- the software's requests are not let through
 no_request : (r : ℕ) → r < 4 → not (bit_and (bits user_status 8 8) (r + bit 2 false + bit 3 false) == 0) ≡ false

@@ -10,13 +10,16 @@ use Rattle.ds_policy.specs.Grants.{PageState}
 use Rattle.ds_grants.specs.State.{page_state}
 use Rattle.ds_grants.specs.Sound.{NamesPages}
 use Rattle.ds_grants.specs.Represented.{IsRepresented}
+use Rattle.ds_refill.specs.Handler.{HasWords}
 use Rattle.ds_core.specs.Core.{CoreState}
 use Rattle.ds_pagemap.specs.Machine.{State, Process, no_process, process_of, with_process, touched, touch_first, touched_process}
 use Rattle.ds_pagemap.proofs.Processes.{process_of-with_process}
 use Rattle.ds_pagemap_laws.specs.Settled.{settled_process, all_settled}
 use Rattle.ds_pagemap_laws.proofs.Processes.{of_settled}
 use Rattle.ds_refinement.specs.Held.{Held, Kept, bare, whole, space_of}
-use Rattle.ds_refinement.specs.Stands.{Stands, KeptIs, IsKept, RunningIs, RunningBy, AtStart, OnProcessor, AreResting, user_status}
+use Rattle.ds_refinement.specs.Units.{AtStart, user_status}
+use Rattle.ds_refinement.specs.Handling.{HasBase}
+use Rattle.ds_refinement.specs.Stands.{Stands, KeptIs, IsKept, RunningIs, RunningBy, OnProcessor, AreResting}
 use Rattle.ds_refinement.specs.Services.{Enters, EntersBy, seated, seated_process, with_first_seated, resume_address}
 
 -- The running process leaves.
@@ -70,10 +73,10 @@ abbrev pub StandsBy : List ℕ → CoreState → Kept → List ℕ → State →
 StandsBy queue c k memory m = KeptIs queue k memory m × RunningBy queue c k m
 
 -- in user mode and in no slot a unit begins
-on_start : (c : CoreState) (p : ℕ) (m : State) → c.system.status ≡ user_status → c.slot ≡ false → AtStart c p m → OnProcessor (is_user c.system) c.slot c p m
-on_start c p m mode first a =
-    subst (λ (b : Bool). OnProcessor (is_user c.system) b c p m) (sym first)
-    (subst (λ (b : Bool). OnProcessor b false c p m) (sym (ap (λ (n : ℕ). bits n 1 1 == 1) mode)) a)
+on_start : (c : CoreState) (k : Kept) (p : ℕ) (m : State) → c.system.status ≡ user_status → c.slot ≡ false → AtStart c p m → OnProcessor (is_user c.system) c.slot c k p m
+on_start c k p m mode first a =
+    subst (λ (b : Bool). OnProcessor (is_user c.system) b c k p m) (sym first)
+    (subst (λ (b : Bool). OnProcessor b false c k p m) (sym (ap (λ (n : ℕ). bits n 1 1 == 1) mode)) a)
 
 comes : (p : ℕ) (rest : List ℕ) (c : CoreState) (k : Kept) (memory : List ℕ) (m : State) → k.state.ready ≡ p ∷ rest → IsKept k memory m → Enters p (process_of k.state p) c k
     → StandsBy (p ∷ rest) c k memory (with_process m p (touched_process (process_of m p)))
@@ -96,9 +99,9 @@ comes p rest c k memory m ready a b =
         standing = ap (λ (x : Process). x.standing) is ∙ (ready_there ∙ b.standing);
         kept = b.standing;
         line = ap (λ (x : Process). x.line) is ∙ sym (ap (λ (x : Process). x.line) seat);
-        owner = b.owner;
-        space = b.space;
-        on = on_start c p (with_process m p q) b.mode b.first (record {
+        number = b.number;
+        set = b.set;
+        on = on_start c k p (with_process m p q) b.mode b.first (record {
           mode = b.mode;
           first = b.first;
           pc = b.pc ∙ (ap (λ (x : Process). x.pc) seat ∙ sym (ap (λ (x : Process). x.pc) is));
@@ -117,11 +120,11 @@ by_ready (p ∷ rest) c k memory m ready a b =
     subst (λ (s : State). StandsBy (p ∷ rest) c k memory s) (sym (ap (touch_first m) first)) (comes p rest c k memory m ready a b)
 
 -- all is kept, and who is first comes on the processor touched
-pub enters : (h : Held) (m : State) → IsKept h.kept h.bus.memory m → IsRepresented h.core.entries h.bus.memory h.kept.tables (space_of h.kept) h.kept.grants → NamesPages h.kept.grants
-    → length h.bus.memory ≡ 2 ^ 23 → AreResting h.bus h.kept → EntersBy h.kept.state.ready h.core h.kept → Stands h (touched true m)
-enters h m a represented grants size devices b =
+pub enters : (h : Held) (m : State) → IsKept h.kept h.bus.memory m → IsRepresented h.core.entries h.bus.memory h.kept.tables (space_of h.kept) h.kept.grants → HasWords h.bus.memory → HasBase h.core.system
+    → NamesPages h.kept.grants → length h.bus.memory ≡ 2 ^ 23 → AreResting h.bus h.kept → EntersBy h.kept.state.ready h.core h.kept → Stands h (touched true m)
+enters h m a represented vectors base grants size devices b =
     let s = by_ready h.kept.state.ready h.core h.kept h.bus.memory m refl a b in
-    record { represented = represented; grants = grants; size = size; kept = s.0; running = s.1; devices = devices }
+    record { represented = represented; vectors = vectors; base = base; grants = grants; size = size; kept = s.0; running = s.1; devices = devices }
 
 -- All is kept.
 

@@ -1,8 +1,8 @@
 -- One step of the processor in user mode keeps what the station stands for.
 use Rattle.std.proofs.Common.{◌≡◌, ◌≢◌, ℕ, ◌+◌, ◌-◌, ◌<◌, ◌≤◌, ◌^◌, ◌⊎◌, Bool, true, false, cond, List, [], ◌∷◌, length, refl, sym, ap, subst, ◌∙◌, arith, inl, inr}
 use Rattle.std.proofs.lemmas.List.{set-set}
-use Rattle.std.specs.Prelude.{Option, Some, None, is_some, ◌==◌, ◌&&◌}
-use Rattle.ds_word.specs.Word.{word, bits}
+use Rattle.std.specs.Prelude.{Option, Some, None, is_some}
+use Rattle.ds_word.specs.Word.{word}
 use Rattle.ds_isa.specs.Registers.{Registers, settled}
 use Rattle.ds_procs.specs.declared.process.Standing.TheVariants.{Parked}
 use Rattle.ds_policy.specs.Grants.{PageState}
@@ -13,13 +13,15 @@ use Rattle.ds_grants.specs.State.{page_state}
 use Rattle.ds_grants.specs.Represented.{IsRepresented, IsHigh}
 use Rattle.ds_grants.proofs.Kept.{high_kept}
 use Rattle.ds_cp0.specs.declared.exception.Exception.{Exception}
-use Rattle.ds_cp0.specs.System.{System, entered, asid_of, is_user, is_kuseg, pushed, vector, epc_of}
+use Rattle.ds_cp0.specs.System.{System, entered, is_user, vector, epc_of}
 use Rattle.ds_dev.specs.Bus.{BusState}
-use Rattle.ds_core.specs.declared.event.Event.{Event}
 use Rattle.ds_core.specs.declared.event.Event.TheVariants as event
 use Rattle.ds_core.specs.Core as core
 use Rattle.ds_core.specs.Core.{CoreState, core_at_next, core_at_vector, branched_core, with_tick, trapped}
 use Rattle.ds_core.specs.Effect as whole
+use Rattle.ds_core.specs.Ahead.{is_raised}
+use Rattle.ds_refinement.specs.Real.{IsNoBusError}
+use Rattle.ds_refinement.specs.Handling.{HasBase, IsSet, IsMiss, IsWhole, AreUnits}
 use Rattle.ds_cp0.specs.declared.exception.ExceptionCode.{ExceptionCode}
 use Rattle.ds_cp0.specs.declared.exception.ExceptionCode.TheVariants.{Interrupt}
 use Rattle.ds_pagemap.specs.declared.turn.Turn.{Turn}
@@ -34,15 +36,20 @@ use Rattle.ds_refinement.specs.declared.cause.Cause.TheVariants as cause
 use Rattle.ds_refinement.specs.declared.step.Step.TheVariants.{Inside, Unit}
 use Rattle.ds_refinement.specs.Told.{told}
 use Rattle.ds_refinement.specs.Held.{Held, Kept, space_of, bare, began_or, last_boundary}
-use Rattle.ds_refinement.specs.Stands.{user_status, owes_boundary, Promise, IsLinked, AtStart, InSlot, InService, IsVector, OnProcessor, RunningIs, RunningBy, KeptIs, AreResting, Stands}
+use Rattle.ds_refinement.specs.Units.{user_status, owes_boundary, Promise, AtStart, InSlot}
+use Rattle.ds_refinement.specs.Stands.{OnProcessor, RunningIs, RunningBy, KeptIs, AreResting, Stands, IsSound}
 use Rattle.ds_refinement.specs.Leaves.{Leaves}
 use Rattle.ds_refinement.specs.Services.{after_event, step_of, with_turn}
 use Rattle.ds_refinement.specs.Steps.{Comes, Follows, ticks_of}
-use Rattle.ds_refinement.proofs.Exceptions.{slot_told, space_told, status_told, epc_told}
+use Rattle.ds_refinement.proofs.Exceptions.{slot_told}
 use Rattle.ds_refinement.proofs.Registers.{HasSeat, seat_kept, process_put, registers_put, registers_again, registers_same}
 use Rattle.ds_refinement.proofs.Links.{branches_again, linked_settled}
 use Rattle.ds_refinement.proofs.Meets.{Retires, Turns, Raises, Meets, counted, instruction_meets}
 use Rattle.ds_refinement.proofs.Resting.{rests}
+use Rattle.ds_refinement.proofs.Fields.{space_set}
+use Rattle.ds_refinement.proofs.Vectors.{vectors_high}
+use Rattle.ds_refinement.proofs.Standing.{few}
+use Rattle.ds_refinement.proofs.Entered.{enters}
 
 -- Units.
 
@@ -142,17 +149,22 @@ slot_promise cause.Call bad m p pc r target o u l = u ∙ ap (λ (x : Outcome). 
 leaves_as : (why : Cause) (bad p : ℕ) (a b : Bool) (pc at : ℕ) (s : PageState) (o o' : Outcome) → a ≡ b → pc ≡ at → o ≡ o' → Leaves why bad a pc p s o → Leaves why bad b at p s o'
 leaves_as why bad p a b pc at s o o' e f g l = subst (λ (x : Outcome). Leaves why bad b at p s x) g (subst (λ (x : ℕ). Leaves why bad b x p s o) f (subst (λ (x : Bool). Leaves why bad x pc p s o) e l))
 
+-- a miss that Random's passing leaves
+counted_miss : (c : CoreState) (e : Exception) → IsMiss c e → IsMiss (counted c) e
+counted_miss c e miss = record { address = miss.address; user = miss.user; is = miss.is; code = miss.code; miss = miss.miss; missed = miss.missed }
+
 -- where the processor stands, by its mode and slot
-on_as : (c : CoreState) (p : ℕ) (m : State) (a b a' b' : Bool) → a ≡ a' → b ≡ b' → OnProcessor a' b' c p m → OnProcessor a b c p m
-on_as c p m a b a' b' e f k = rw (e, f) k
+on_as : (c : CoreState) (k : Kept) (p : ℕ) (m : State) (a b a' b' : Bool) → a ≡ a' → b ≡ b' → OnProcessor a' b' c k p m → OnProcessor a b c k p m
+on_as c k p m a b a' b' e f on = rw (e, f) on
 
-mode_on : (slot : Bool) (c : CoreState) (p : ℕ) (m : State) → OnProcessor true slot c p m → c.system.status ≡ user_status
-mode_on true c p m k = k.mode
-mode_on false c p m k = k.mode
+mode_on : (slot : Bool) (c : CoreState) (k : Kept) (p : ℕ) (m : State) → OnProcessor true slot c k p m → c.system.status ≡ user_status
+mode_on true c k p m on = on.mode
+mode_on false c k p m on = on.mode
 
--- where an exception goes on
-vector_is : (e : Exception) → IsVector (vector e)
-vector_is e = elim (e.miss && is_kuseg e.addr) as (λ b. IsVector (cond b 0x80000000 0x80000080)) [ true ↦ inl refl | false ↦ inr refl ]
+-- in user mode Random does not matter
+counted_on : (slot : Bool) (c : CoreState) (k : Kept) (p : ℕ) (m : State) → OnProcessor true slot c k p m → OnProcessor true slot (counted c) k p m
+counted_on true c k p m on = record { mode = on.mode; second = on.second; owed = on.owed; pc = on.pc; within = on.within; branched = on.branched }
+counted_on false c k p m on = record { mode = on.mode; first = on.first; pc = on.pc; next = on.next; registers = on.registers }
 
 back_4 : (a : ℕ) → a < 2 ^ 32 → word (word (a + 4) + (2 ^ 32 - 4)) ≡ a
 back_4 a small = omega (arith, small)
@@ -166,11 +178,11 @@ module _ (h : Held) (m : State) (p : ℕ) (rest : List ℕ) (k : Stands h m) (re
   running : RunningIs p h.core h.kept m
   running = subst (λ (rs : List ℕ). RunningBy rs h.core h.kept m) ready k.running
 
-  on : OnProcessor true h.core.slot h.core p m
-  on = on_as h.core p m true h.core.slot (is_user h.core.system) h.core.slot (sym user) refl running.on
+  on : OnProcessor true h.core.slot h.core h.kept p m
+  on = on_as h.core h.kept p m true h.core.slot (is_user h.core.system) h.core.slot (sym user) refl running.on
 
   mode : h.core.system.status ≡ user_status
-  mode = mode_on h.core.slot h.core p m on
+  mode = mode_on h.core.slot h.core h.kept p m on
 
   owes_none : m.owed ≡ None
   owes_none = ap (λ (s : State). s.owed) kept.state ∙ owed
@@ -219,9 +231,9 @@ module _ (h : Held) (m : State) (p : ℕ) (rest : List ℕ) (k : Stands h m) (re
         standing = ap (λ (x : Process). x.standing) is ∙ running.standing;
         kept = running.kept;
         line = ap (λ (x : Process). x.line) is ∙ running.line;
-        owner = running.owner;
-        space = running.space;
-        on = on_as c p s (is_user c.system) c.slot true false user refl a;
+        number = running.number;
+        set = running.set;
+        on = on_as c (record h.kept { state = with_turn ticks h.kept.state }) p s (is_user c.system) c.slot true false user refl a;
       }
 
   -- the devices are as they were, and the boundary that is owed began now
@@ -248,6 +260,8 @@ module _ (h : Held) (m : State) (p : ℕ) (rest : List ℕ) (k : Stands h m) (re
       let there : unit m ≡ s = is ∙ twice m p r (page_state h.kept.grants memory) ticks pc running.seat in
       let stands : Stands new s = record {
         represented = high_kept h.core.entries h.bus.memory memory h.kept.tables (space_of h.kept) h.kept.grants high k.represented;
+        vectors = vectors_high h.bus.memory memory high k.vectors;
+        base = k.base;
         grants = k.grants;
         size = size;
         kept = subst (λ (rs : List ℕ). KeptIs rs new.kept memory s) (sym ready)
@@ -261,10 +275,12 @@ module _ (h : Held) (m : State) (p : ℕ) (rest : List ℕ) (k : Stands h m) (re
   -- Inside the unit.
 
   -- the station goes on to stand for m, with the processor in another place
-  stays : (c : CoreState) (e : Event) → c.entries ≡ h.core.entries → asid_of c.system ≡ asid_of h.core.system → OnProcessor (is_user c.system) c.slot c p m
+  stays : (c : CoreState) → c.entries ≡ h.core.entries → HasBase c.system → IsSet c.system (space_of h.kept p) → OnProcessor (is_user c.system) c.slot c h.kept p m
       → Stands (record h { core = c }) m
-  stays c e entries space on = record {
+  stays c entries base set there = record {
     represented = subst (λ (es : List Entry). IsRepresented es h.bus.memory h.kept.tables (space_of h.kept) h.kept.grants) (sym entries) k.represented;
+    vectors = k.vectors;
+    base = base;
     grants = k.grants;
     size = k.size;
     kept = k.kept;
@@ -273,9 +289,9 @@ module _ (h : Held) (m : State) (p : ℕ) (rest : List ℕ) (k : Stands h m) (re
       standing = running.standing;
       kept = running.kept;
       line = running.line;
-      owner = running.owner;
-      space = space ∙ running.space;
-      on = on;
+      number = running.number;
+      set = set;
+      on = there;
     });
     devices = k.devices;
   }
@@ -287,30 +303,24 @@ module _ (h : Held) (m : State) (p : ℕ) (rest : List ℕ) (k : Stands h m) (re
   turns r target next within is =
       let c = branched_core (counted h.core) r target in
       let a : InSlot c p m = record { mode = mode; second = refl; owed = owes_none; pc = next; within = within; branched = is } in
-      (m, (some_ready, false, refl), stays c event.Branched refl refl (on_as c p m (is_user c.system) c.slot true true user refl a))
+      (m, (some_ready, false, refl), stays c refl k.base running.set (on_as c h.kept p m (is_user c.system) c.slot true true user refl a))
 
-  -- an exception comes
-  raises : (e : Exception) → e.slot ≡ h.core.slot → epc_of e ≡ (process_of m p).pc
-      → (settled h.core.registers ≡ settled (process_of m p).registers) ⊎ IsLinked (settled h.core.registers) p m
+  -- Random passes, and nothing else of the stage does
+  on_counted : OnProcessor true h.core.slot (counted h.core) h.kept p m
+  on_counted = counted_on h.core.slot h.core h.kept p m on
+
+  -- an exception comes to the handler, or waits to be served
+  raises : (e : Exception) → e.slot ≡ h.core.slot → epc_of e ≡ (process_of m p).pc → AreUnits (settled h.core.registers) p m
       → Promise (told (entered h.core.system e) m.memory p) (entered h.core.system e).bad_vaddr h.core.slot (process_of m p).pc p m (with_registers m p (settled h.core.registers))
+      → (vector e ≡ 0x80000000 → IsMiss h.core e) → IsWhole (core_at_vector (counted h.core) e)
       → Comes Inside (after_event (event.Raised e.code) h (record { event = event.Raised e.code; core = core_at_vector (counted h.core) e; bus = h.bus })) m
-  raises e slot at registers promise =
-      let s : System = entered h.core.system e in
-      let c = core_at_vector (counted h.core) e in
-      let status : s.status ≡ pushed user_status = status_told h.core.system e ∙ ap pushed mode in
-      let a : InService c p m = record {
-        mode = status;
-        first = refl;
-        vector = vector_is e;
-        owed = owes_none;
-        epc = epc_told h.core.system e ∙ at;
-        registers = registers;
-        promise = subst (λ (b : Bool). Promise (told s m.memory p) s.bad_vaddr b (process_of m p).pc p m (with_registers m p (settled h.core.registers))) (sym (slot_told h.core.system e ∙ slot)) promise;
-      } in (
+  raises e slot at units promise missed whole =
+      let t : System = entered h.core.system e in
+      let there : Stands (record h { core = counted h.core }) m = stays (counted h.core) refl k.base running.set (on_as (counted h.core) h.kept p m (is_user h.core.system) h.core.slot true h.core.slot user refl on_counted) in (
         m,
         (some_ready, false, refl),
-        stays c (event.Raised e.code) refl (space_told h.core.system e)
-            (on_as c p m (is_user c.system) c.slot false false (ap (λ (w : ℕ). bits w 1 1 == 1) status) refl a),
+        enters (record h { core = counted h.core }) m p rest e there ready whole mode owes_none at units (λ v. counted_miss h.core e (missed v))
+            (subst (λ (b : Bool). Promise (told t m.memory p) t.bad_vaddr b (process_of m p).pc p m (with_registers m p (settled h.core.registers))) (sym (slot_told h.core.system e ∙ slot)) promise),
       )
 
   -- The instruction of the machine, with the registers of the processor.
@@ -325,7 +335,7 @@ module _ (h : Held) (m : State) (p : ℕ) (rest : List ℕ) (k : Stands h m) (re
       let quiet : whole.step h.core h.bus ≡ with_tick (whole.instruction h.core h.bus) =
       ap (λ (b : Bool). cond b (trapped h.core h.bus Interrupt) (with_tick (whole.instruction h.core h.bus))) (rests h.bus h.kept h.core.system k.devices mode) in
       subst (Meets h.core h.bus h.kept.grants here p (instruction here p h.core.pc)) (sym (is ∙ quiet))
-      (instruction_meets h.core h.bus h.kept here p (sym (registers_put m p h.core.registers running.seat)) kept.pages k.size mode small k.represented.buffer k.grants running.seat.0 running.owner running.space)
+      (instruction_meets h.core h.bus h.kept here p (sym (registers_put m p h.core.registers running.seat)) kept.pages k.size mode small k.represented.buffer k.grants running.seat.0 running.number (space_set h.core.system.entry_hi (space_of h.kept p) running.set.space (few h m p rest k ready)))
 
   -- registers that are put here are put in m
   put_here : (r : Registers) → with_registers here p r ≡ with_registers m p r
@@ -334,6 +344,14 @@ module _ (h : Held) (m : State) (p : ℕ) (rest : List ℕ) (k : Stands h m) (re
   -- what a step makes of the station
   abbrev Goes : core.Step → Type 0
   Goes s = Comes (step_of s.event) (after_event s.event h s) m
+
+  -- after an exception the processor is whole
+  abbrev Whole : core.Step → Type 0
+  Whole s = is_raised s.event ≡ true → IsWhole s.core
+
+  -- so it is where the exception is known
+  whole_at : (e : Exception) (s : core.Step) → s ≡ record { event = event.Raised e.code; core = core_at_vector (counted h.core) e; bus = h.bus } → Whole s → IsWhole (core_at_vector (counted h.core) e)
+  whole_at e s is whole = subst Whole is whole refl
 
   -- at the unit's beginning
   module _ (small : h.core.pc < 2 ^ 32) (a : AtStart h.core p m) where
@@ -357,8 +375,8 @@ module _ (h : Held) (m : State) (p : ℕ) (rest : List ℕ) (k : Stands h m) (re
         subst Goes (sym w.step)
         (turns w.after w.target a.next (subst (λ (n : ℕ). n < 2 ^ 32) a.pc small) (sym first_alike ∙ (w.went ∙ ap (λ (t : State). Branched t w.target) (put_here w.after))))
 
-    first_raises : (s : core.Step) → Raises h.core h.bus here p (instruction here p h.core.pc) s → Goes s
-    first_raises s w =
+    first_raises : (s : core.Step) → Whole s → Raises h.core h.bus here p (instruction here p h.core.pc) s → Goes s
+    first_raises s whole w =
         let t : System = entered h.core.system w.what in
         let pc : ℕ = (process_of m p).pc in
         let leaves : Leaves (told t m.memory p) t.bad_vaddr false pc p m.memory (instruction m p pc) =
@@ -375,7 +393,7 @@ module _ (h : Held) (m : State) (p : ℕ) (rest : List ℕ) (k : Stands h m) (re
               let z : settled h.core.registers ≡ h.core.registers = linked_settled m p pc h.core.registers again.2.target running.seat again.2.branched in
               inr (record { target = again.2.target; branched = again.2.branched ∙ ap (λ (x : Registers). Branched (with_registers m p x) again.2.target) (sym z) })
         ])
-        (subst (λ (b : Bool). Promise (told t m.memory p) t.bad_vaddr b pc p m (with_registers m p (settled h.core.registers))) (sym a.first) promise))
+        (subst (λ (b : Bool). Promise (told t m.memory p) t.bad_vaddr b pc p m (with_registers m p (settled h.core.registers))) (sym a.first) promise) w.missed (whole_at w.what s w.step whole))
 
   -- in the slot
   module _ (a : InSlot h.core p m) where
@@ -397,8 +415,8 @@ module _ (h : Held) (m : State) (p : ℕ) (rest : List ℕ) (k : Stands h m) (re
     slot_turns : (s : core.Step) → Turns h.core h.bus here p (instruction here p h.core.pc) s → Goes s
     slot_turns s w = let no : true ≡ false = sym a.second ∙ w.outside in absurd cc
 
-    slot_raises : (s : core.Step) → Raises h.core h.bus here p (instruction here p h.core.pc) s → Goes s
-    slot_raises s w =
+    slot_raises : (s : core.Step) → Whole s → Raises h.core h.bus here p (instruction here p h.core.pc) s → Goes s
+    slot_raises s whole w =
         let t : System = entered h.core.system w.what in
         let pc : ℕ = (process_of m p).pc in
         let z : settled h.core.registers ≡ h.core.registers = linked_settled m p pc h.core.registers h.core.next running.seat a.branched in
@@ -411,20 +429,20 @@ module _ (h : Held) (m : State) (p : ℕ) (rest : List ℕ) (k : Stands h m) (re
         (raises w.what w.slot
         (ap (λ (b : Bool). cond b (word (w.what.pc + (2 ^ 32 - 4))) w.what.pc) (w.slot ∙ a.second) ∙ (ap (λ (n : ℕ). word (n + (2 ^ 32 - 4))) (w.pc ∙ a.pc) ∙ back_4 pc a.within))
         (inr (record { target = h.core.next; branched = a.branched ∙ ap (λ (x : Registers). Branched (with_registers m p x) h.core.next) (sym z) }))
-        (subst (λ (b : Bool). Promise (told t m.memory p) t.bad_vaddr b pc p m (with_registers m p (settled h.core.registers))) (sym a.second) promise))
+        (subst (λ (b : Bool). Promise (told t m.memory p) t.bad_vaddr b pc p m (with_registers m p (settled h.core.registers))) (sym a.second) promise) w.missed (whole_at w.what s w.step whole))
 
   -- by where the processor stands
-  by_slot : (slot : Bool) → OnProcessor true slot h.core p m → h.core.pc < 2 ^ 32 → (s : core.Step) → Meets h.core h.bus h.kept.grants here p (instruction here p h.core.pc) s → Goes s
-  by_slot false a small s (inl w) = first_retires small a s w
-  by_slot false a small s (inr (inl w)) = first_turns small a s w
-  by_slot false a small s (inr (inr w)) = first_raises small a s w
-  by_slot true a small s (inl w) = slot_retires a s w
-  by_slot true a small s (inr (inl w)) = slot_turns a s w
-  by_slot true a small s (inr (inr w)) = slot_raises a s w
+  by_slot : (slot : Bool) → OnProcessor true slot h.core h.kept p m → h.core.pc < 2 ^ 32 → (s : core.Step) → Whole s → Meets h.core h.bus h.kept.grants here p (instruction here p h.core.pc) s → Goes s
+  by_slot false a small s whole (inl w) = first_retires small a s w
+  by_slot false a small s whole (inr (inl w)) = first_turns small a s w
+  by_slot false a small s whole (inr (inr w)) = first_raises small a s whole w
+  by_slot true a small s whole (inl w) = slot_retires a s w
+  by_slot true a small s whole (inr (inl w)) = slot_turns a s w
+  by_slot true a small s whole (inr (inr w)) = slot_raises a s whole w
 
   -- one step of the processor
-  pub step_comes : h.core.pc < 2 ^ 32 → (s : core.Step) → s ≡ whole.step h.core h.bus → Goes s
-  step_comes small s is = by_slot h.core.slot on small s (both_meet small s is)
+  pub step_comes : h.core.pc < 2 ^ 32 → (s : core.Step) → s ≡ whole.step h.core h.bus → Whole s → Goes s
+  step_comes small s is raised = by_slot h.core.slot on small s raised (both_meet small s is)
 
 -- What is told of an exception is what the machine needs.
 
@@ -443,11 +461,27 @@ exception_leaves h m p rest s code k ready owed user small is raised =
 
 -- whoever is ready
 ready_comes : (rs : List ℕ) (h : Held) (m : State) (s : core.Step) → h.kept.state.ready ≡ rs → rs ≢ [] → Stands h m → h.kept.state.owed ≡ None → is_user h.core.system ≡ true → h.core.pc < 2 ^ 32 → s ≡ whole.step h.core h.bus
-    → Comes (step_of s.event) (after_event s.event h s) m
-ready_comes [] h m s ready some k owed user small is = absurd (some refl)
-ready_comes (p ∷ rest) h m s ready some k owed user small is = step_comes h m p rest k ready owed user small s is
+    → (is_raised s.event ≡ true → IsWhole s.core) → Comes (step_of s.event) (after_event s.event h s) m
+ready_comes [] h m s ready some k owed user small is raised = absurd (some refl)
+ready_comes (p ∷ rest) h m s ready some k owed user small is raised = step_comes h m p rest k ready owed user small s is raised
 
 -- one step of the processor in user mode is one instruction of the machine
 pub step_follows : (h : Held) (s : core.Step) → s ≡ whole.step h.core h.bus → h.kept.state.owed ≡ None → h.kept.state.ready ≢ [] → is_user h.core.system ≡ true → h.core.pc < 2 ^ 32
-    → Follows (step_of s.event) h (after_event s.event h s)
-step_follows h s is owed some user small = record { follows = λ m k. ready_comes h.kept.state.ready h m s refl some k owed user small is }
+    → (is_raised s.event ≡ true → IsWhole s.core) → Follows (step_of s.event) h (after_event s.event h s)
+step_follows h s is owed some user small raised = record { follows = λ m k. ready_comes h.kept.state.ready h m s refl some k owed user small is raised }
+
+-- Nobody meets a bus error.
+
+meets_no_error : (c : CoreState) (b : BusState) (k : Kept) (m : State) (p : ℕ) (o : Outcome) (s : core.Step) → Meets c b k.grants m p o s → IsNoBusError s.event
+meets_no_error c b k m p o s (inl w) = subst (λ (x : core.Step). IsNoBusError x.event) (sym w.step) tt
+meets_no_error c b k m p o s (inr (inl w)) = subst (λ (x : core.Step). IsNoBusError x.event) (sym w.step) tt
+meets_no_error c b k m p o s (inr (inr w)) = subst (λ (x : core.Step). IsNoBusError x.event) (sym w.step) w.bus
+
+ready_meets : (rs : List ℕ) (h : Held) (m : State) → h.kept.state.ready ≡ rs → rs ≢ [] → Stands h m → h.kept.state.owed ≡ None → is_user h.core.system ≡ true → h.core.pc < 2 ^ 32
+    → IsNoBusError (whole.step h.core h.bus).event
+ready_meets [] h m ready some k owed user small = absurd (some refl)
+ready_meets (p ∷ rest) h m ready some k owed user small =
+    meets_no_error h.core h.bus h.kept (with_registers m p h.core.registers) p (instruction (with_registers m p h.core.registers) p h.core.pc) (whole.step h.core h.bus) (both_meet h m p rest k ready owed user small (whole.step h.core h.bus) refl)
+
+pub no_bus_error : (h : Held) → IsSound h → h.kept.state.owed ≡ None → h.kept.state.ready ≢ [] → is_user h.core.system ≡ true → h.core.pc < 2 ^ 32 → IsNoBusError (whole.step h.core h.bus).event
+no_bus_error h sound owed some user small = ready_meets h.kept.state.ready h sound.state refl some sound.stands owed user small

@@ -1,11 +1,10 @@
 -- Stations and steps that are related, and some that are not: each row is a theorem about the definitions alone.
-use Rattle.std.proofs.Common.{◌≡◌, ℕ, ◌+◌, ◌*◌, ◌<◌, ◌≤◌, ◌^◌, inl, inr, true, false, List, [], ◌∷◌, refl, ap, arith}
-use Rattle.std.specs.Prelude.{Some, None, replicate, slice_index, slice_set}
-use Rattle.ds_word.specs.Bytes.{word_at}
+use Rattle.std.proofs.Common.{◌≡◌, ℕ, zero, suc, ◌+◌, ◌*◌, ◌<◌, ◌≤◌, ◌^◌, inl, inr, true, false, List, [], ◌∷◌, refl, ap, arith}
+use Rattle.std.specs.Prelude.{Some, None, replicate, slice_get, slice_index, slice_set}
 use Rattle.ds_isa.specs.Registers.{Registers, zero_registers}
 use Rattle.ds_isa.specs.declared.instr.Size.TheVariants.{Word}
 use Rattle.ds_isa.specs.declared.instr.Kind.TheVariants.{Load, Store}
-use Rattle.ds_tlb.specs.Words.{entry_of}
+use Rattle.ds_tlb.specs.declared.entry.Entry.{Entry}
 use Rattle.ds_procs.specs.declared.process.Standing.TheVariants.{Ended}
 use Rattle.ds_policy.specs.declared.grant.Right.TheVariants.{Read}
 use Rattle.ds_policy.specs.declared.grant.Grant.{Grant}
@@ -23,15 +22,16 @@ use Rattle.ds_refinement.specs.declared.step.Step.TheVariants.{Inside, Boundary,
 use Rattle.ds_refinement.specs.Held.{Held, Kept}
 use Rattle.ds_refinement.specs.Stands.{AreResting, Stands}
 use Rattle.ds_refinement.specs.Steps.{StepTo, Comes, Follows, Stays, Moves}
-use Rattle.ds_refinement.specs.Services.{EntersBy, asked_entry}
-use Rattle.ds_refinement.specs.Real.{HasUnit, EndsUnit, MayGoBack, GoesBack, IsReal, Through}
+use Rattle.ds_refinement.specs.Services.{EntersBy, with_table_page}
+use Rattle.ds_refinement.specs.Pairs.{HasNoNewPairs}
+use Rattle.ds_refinement.specs.Real.{HasUnit, EndsUnit, MayGoBack, GoesBack, EndsReally, IsReal, Through}
 use Rattle.ds_refinement.specs.Granted.{IsGranted}
 use Rattle.ds_refinement.specs.Quiet.{IsQuiet}
-use Rattle.ds_refinement.specs.StationRows.{two, kept, core_at, user, served, done}
+use Rattle.ds_refinement.specs.StationRows.{two, kept, page, other, core_at, user, served, done, table_page, doubled}
 
 -- a station that has begun so many instructions of a unit; it has no memory
 abbrev after : ℕ → Held
-after spent = record { core = user; bus = bus.at_start []; kept = kept; own = record { failed = false; spent = spent } }
+after spent = record { core = user; bus = bus.at_start []; kept = kept; own = record { failed = false; spent = spent; wired = 0 } }
 
 -- The first comes in.
 
@@ -51,10 +51,12 @@ pub process_2_comes_in_touched : EntersBy second.state.ready (begins touched) se
 process_2_comes_in_touched =
     let there : 0 < 2 = omega arith in
     let last : 2 ≤ 2 = omega arith in
+    let one : 0 < 1 = omega arith in
+    let small : 0x40 < 2 ^ 32 = omega arith in
     record {
       mode = refl;
-      owner = refl;
-      space = refl;
+      number = one;
+      set = record { space = refl; small = small };
       first = refl;
       pc = refl;
       next = refl;
@@ -180,30 +182,105 @@ a_breakpoint_does_not_go_back back = back
 abbrev called : Held
 called = record (after 1) { core = record served { system = record served.system { cause = 0x20; bad_vaddr = 0x00401004 } } }
 
--- it is back at its call; that page is in the buffer
+-- it is back at its call
 abbrev again : Held
 again = record called { core = record (core_at 0x00400008 0xC03) { system = record called.core.system { status = 0xC03 } } }
 
 pub all_but_the_cause_is_a_way_back : GoesBack called again
-all_but_the_cause_is_a_way_back = record { mode = refl; address = refl; bus = refl; slot = 1; entry = _; entries = refl; asked = refl }
+all_but_the_cause_is_a_way_back = record { mode = refl; address = refl; pages = refl; devices = refl; answered = λ up. (let no : true ≡ false = up in absurd cc) }
 
 pub a_call_does_not_go_back : IsReal called again → ⊥
 a_call_does_not_go_back real = elim (real.service (refl, λ none. absurd cc) refl) [
-  | inl ends ↦ let owed : false ≡ true = ends.0 in absurd cc
-  | inr back ↦ back.0
+  | inl ends ↦ let owed : false ≡ true = ends.owed in absurd cc
+  | inr on ↦ elim on.may [
+    | inl nested ↦ (let no : true ≡ false = nested in absurd cc)
+    | inr by ↦ by
+  ]
 ]
 
--- What a refill puts into the buffer.
+-- at the instruction after it
+abbrev elsewhere : Held
+elsewhere = record again { core = record again.core { pc = 0x0040000C } }
 
--- the same over a memory, where process 1 has the table of its second 4 MiB at its second place
-abbrev tabled : List ℕ → Held
-tabled memory = record called { bus = bus.at_start memory; kept = record kept { tables = (None ∷ Some 1 ∷ None ∷ None ∷ []) ∷ replicate 4 None ∷ [] } }
+pub no_way_back_leads_to_another_address : GoesBack called elsewhere → ⊥
+no_way_back_leads_to_another_address back = let same : 0x0040000C ≡ 0x00400008 = back.address in absurd (omega (arith, same))
 
-pub the_page_has_the_second_word_of_its_table : (memory : List ℕ) → asked_entry (tabled memory) 1 ≡ entry_of 0x00401040 (word_at memory 0x3004)
-the_page_has_the_second_word_of_its_table memory = refl
+-- After a double miss the page of the table is put into the buffer.
 
-pub process_2_has_the_word_of_the_empty_table : (memory : List ℕ) → asked_entry (tabled memory) 2 ≡ entry_of 0x00401040 (word_at memory 0x1004)
-process_2_has_the_word_of_the_empty_table memory = refl
+-- a user's page stood there: the slot of the other was left
+stood_there : (slot : ℕ) (e : Entry) → slice_get (table_page ∷ other ∷ []) slot ≡ Some e → e.vpn < 2 ^ 19
+    → (i : ℕ) × (f : Entry) × (slice_get (page ∷ other ∷ []) i ≡ Some f) × (f.vpn ≡ e.vpn) × (f.asid ≡ e.asid)
+stood_there zero e is low = let same : table_page ≡ e = cc in let high : 0xC0001 ≡ e.vpn = ap (λ (x : Entry). x.vpn) same in absurd (omega (arith, high, low))
+stood_there (suc slot) e is low = (suc slot, e, is, refl, refl)
+
+pub a_double_miss_goes_back : GoesBack (doubled 0) (with_table_page (doubled 0) 1)
+a_double_miss_goes_back = record { mode = refl; address = refl; pages = refl; devices = refl; answered = λ nested. (0, refl) }
+
+pub that_is_real : IsReal (doubled 0) (with_table_page (doubled 0) 1)
+that_is_real = record {
+  instruction = λ has other. (let no : true ≡ false = other in absurd cc);
+  service = λ has served. inr (record { may = inl refl; back = a_double_miss_goes_back });
+  random = λ has. refl;
+  pairs = λ has. record { each = stood_there };
+}
+
+pub no_double_miss_ends_a_unit : (new : Held) → EndsReally (doubled 0) new → ⊥
+no_double_miss_ends_a_unit new ends = let left : false ≡ true = ends.left in absurd cc
+
+-- the unit begins again, but nothing in the buffer answers for the page
+abbrev unanswered : Held
+unanswered = record (with_table_page (doubled 0) 1) { core = record (with_table_page (doubled 0) 1).core { entries = page ∷ other ∷ [] } }
+
+pub a_page_without_an_answer_is_no_way_back : GoesBack (doubled 0) unanswered → ⊥
+a_page_without_an_answer_is_no_way_back back = let answer = back.answered refl in let none : None ≡ Some answer.0 = answer.1 in absurd cc
+
+-- Which pairs are new.
+
+-- page 00402000
+abbrev third : Entry
+third = record page { vpn = 0x402; pfn = 404 }
+
+-- what stood there has neither
+not_there : (i : ℕ) (f : Entry) → slice_get (page ∷ other ∷ []) i ≡ Some f → f.vpn ≡ 0x402 → ⊥
+not_there zero f is vpn = let same : page ≡ f = cc in let low : 0x400 ≡ f.vpn = ap (λ (x : Entry). x.vpn) same in omega (arith, low, vpn)
+not_there (suc zero) f is vpn = let same : other ≡ f = cc in let low : 0x401 ≡ f.vpn = ap (λ (x : Entry). x.vpn) same in omega (arith, low, vpn)
+not_there (suc (suc i)) f is vpn = cc
+
+pub another_page_of_a_user_is_a_new_pair : HasNoNewPairs (page ∷ other ∷ []) (page ∷ third ∷ []) → ⊥
+another_page_of_a_user_is_a_new_pair none =
+    let low : 0x402 < 2 ^ 19 = omega arith in
+    let pair = none.each 1 third refl low in
+    not_there pair.0 pair.1 pair.2 pair.3
+
+-- page 00401000 in address space 2
+abbrev foreign : Entry
+foreign = record other { asid = 2 }
+
+-- what stood there is of address space 1
+of_space_1 : (i : ℕ) (f : Entry) → slice_get (page ∷ other ∷ []) i ≡ Some f → f.asid ≡ 2 → ⊥
+of_space_1 zero f is asid = let same : page ≡ f = cc in let one : 1 ≡ f.asid = ap (λ (x : Entry). x.asid) same in omega (arith, one, asid)
+of_space_1 (suc zero) f is asid = let same : other ≡ f = cc in let one : 1 ≡ f.asid = ap (λ (x : Entry). x.asid) same in omega (arith, one, asid)
+of_space_1 (suc (suc i)) f is asid = cc
+
+pub another_address_space_is_a_new_pair : HasNoNewPairs (page ∷ other ∷ []) (page ∷ foreign ∷ []) → ⊥
+another_address_space_is_a_new_pair none =
+    let low : 0x401 < 2 ^ 19 = omega arith in
+    let pair = none.each 1 foreign refl low in
+    of_space_1 pair.0 pair.1 pair.2 pair.4
+
+-- back at its call, with page 00402000 in the buffer
+abbrev crowded : Held
+crowded = record again { core = record again.core { entries = page ∷ third ∷ [] } }
+
+pub a_service_that_brings_a_pair_is_not_real : IsReal called crowded → ⊥
+a_service_that_brings_a_pair_is_not_real real = another_page_of_a_user_is_a_new_pair (real.pairs (λ has. refl))
+
+-- and with another Random
+abbrev diced : Held
+diced = record again { core = record again.core { random = 0 } }
+
+pub a_service_that_moves_random_is_not_real : IsReal called diced → ⊥
+a_service_that_moves_random_is_not_real real = let same : 0 ≡ 1 = real.random (λ has. refl) in absurd (omega (arith, same))
 
 -- Where a granted word lies.
 

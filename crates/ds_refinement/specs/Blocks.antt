@@ -3,7 +3,7 @@ use Rattle.std.specs.Prelude.{◌≡◌, ◌≢◌, ℕ, ◌+◌, ◌≤◌, [],
 use Rattle.ds_pagemap.specs.declared.turn.Turn.{Turn}
 use Rattle.ds_core.specs.Ahead.{Hardware, hardware_of, ticks, owed_tick}
 use Rattle.ds_refinement.specs.Held.{Held, Kept}
-use Rattle.ds_refinement.specs.Stands.{user_status}
+use Rattle.ds_refinement.specs.Units.{user_status}
 use Rattle.ds_refinement.specs.Told.{is_delayed}
 use Rattle.ds_refinement.specs.Quiet.{IsQuiet}
 

@@ -2,7 +2,7 @@
 use Rattle.std.specs.Prelude.{ℕ}
 use Rattle.ds_pagemap.specs.Unit.{Stop}
 use Rattle.ds_refinement.specs.Held.{Held}
-use Rattle.ds_refinement.specs.Stands.{ends_in_stop, ends_in_call}
+use Rattle.ds_refinement.specs.Units.{ends_in_stop, ends_in_call}
 use Rattle.ds_refinement.specs.Services.{EndsBy}
 use Rattle.ds_refinement.specs.Told.{own_in}
 

@@ -11,6 +11,7 @@ use Rattle.ds_dev.specs.Clock.{clock_at_start}
 use Rattle.ds_dev.specs.Bus.{BusState}
 use Rattle.ds_core.specs.Core.{CoreState}
 use Rattle.ds_policy.specs.Value.{PolicyValue, InputValue}
+use Rattle.ds_refill.specs.Handler as handler
 use Rattle.ds_tables.specs.Places.{Places}
 use Rattle.ds_grants.specs.State.{page_state}
 use Rattle.ds_grants.specs.Represented.{HasWords}
@@ -18,7 +19,7 @@ use Rattle.ds_grants.specs.First.{first_grants}
 use Rattle.ds_pagemap.specs.Machine.{process_of}
 use Rattle.ds_pagemap.specs.First.{first_state}
 use Rattle.ds_refinement.specs.Held.{Held, Kept, bare}
-use Rattle.ds_refinement.specs.Stands.{user_status}
+use Rattle.ds_refinement.specs.Units.{user_status}
 
 -- the coprocessor while a user runs in address space 1, with the page tables' base in Context
 abbrev pub first_system : System
@@ -65,4 +66,5 @@ pub record IsFirst (policy : PolicyValue) (images : List (List ℕ)) (input : In
   pub size : length h.bus.memory ≡ 2 ^ 23
   pub kept : h.kept ≡ first_kept policy images input h.kept.tables
   pub tables : HasWords h.bus.memory h.kept.tables (first_grants policy)
-  pub own : h.own ≡ record { failed = false; spent = 0 }
+  pub vectors : handler.HasWords h.bus.memory
+  pub own : h.own ≡ record { failed = false; spent = 0; wired = 0 }

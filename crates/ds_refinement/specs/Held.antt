@@ -30,6 +30,8 @@ pub record Own : Type 0 where
   pub failed : Bool
   -- how many instructions the unit has taken so far
   pub spent : ℕ
+  -- the next of the first eight slots of the buffer, which take the entries of tables' pages in turn
+  pub wired : ℕ
 
 -- all that a station holds
 pub record Held : Type 0 where

@@ -1,9 +1,13 @@
 pub mod Told
 pub mod Rows
+pub mod HandlerRows
 pub mod Held
+pub mod Units
+pub mod Handling
 pub mod Stands
 pub mod Leaves
 pub mod Steps
+pub mod Pairs
 pub mod Services
 pub mod Real
 pub mod Granted

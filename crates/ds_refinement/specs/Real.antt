@@ -1,6 +1,5 @@
 -- Which steps of the station are steps of the processor.
-use Rattle.std.specs.Prelude.{◌≡◌, ◌≢◌, ◌⊎◌, ⊤, ℕ, ◌/◌, ◌^◌, ◌==◌, ◌&&◌, ◌||◌, Bool, true, false, not, List, [], ◌∷◌, slice_set, Some, None, IsSome}
-use Rattle.ds_tlb.specs.declared.entry.Entry.{Entry}
+use Rattle.std.specs.Prelude.{◌≡◌, ◌≢◌, ◌⊎◌, ⊤, ℕ, ◌/◌, ◌^◌, true, false, if◌then◌else◌, List, [], ◌∷◌, slice_index, Some, None, IsSome}
 use Rattle.ds_tlb.specs.Entries.{find}
 use Rattle.ds_cp0.specs.System.{asid_of, is_user}
 use Rattle.ds_policy.specs.declared.access.Rule.{Rule}
@@ -8,7 +7,9 @@ use Rattle.ds_policy.specs.declared.access.Verdict.TheVariants.{Allowed, Denied}
 use Rattle.ds_policy.specs.Pages.{decide}
 use Rattle.ds_policy.specs.Grants.{PageState}
 use Rattle.ds_grants.specs.State.{page_state}
+use Rattle.ds_cp0.specs.declared.exception.ExceptionCode.TheVariants.{FetchBus, DataBus}
 use Rattle.ds_core.specs.declared.event.Event.{Event}
+use Rattle.ds_core.specs.declared.event.Event.TheVariants.{Raised}
 use Rattle.ds_core.specs.Core.{CoreState}
 use Rattle.ds_core.specs.Effect.{step}
 use Rattle.ds_refinement.specs.declared.cause.Cause.{Cause}
@@ -16,11 +17,9 @@ use Rattle.ds_refinement.specs.declared.cause.Cause.TheVariants as cause
 use Rattle.ds_refinement.specs.declared.step.Step.{Step}
 use Rattle.ds_refinement.specs.Held.{Held}
 use Rattle.ds_refinement.specs.Told.{told}
+use Rattle.ds_refinement.specs.Units.{has_left_user, is_served}
+use Rattle.ds_refinement.specs.Pairs.{HasNoNewPairs}
 use Rattle.ds_refinement.specs.Steps.{Follows, Moves}
-
--- the monitor is to serve: kernel mode at one of its two vectors
-abbrev pub is_served : CoreState → Bool
-is_served c = not (is_user c.system) && ((c.pc == 0x80000000) || (c.pc == 0x80000080))
 
 -- no boundary is owed, and a process is ready
 abbrev pub HasUnit : Held → Type 0
@@ -52,23 +51,46 @@ GoesBackBy (p ∷ rest) h =
     let s : PageState = page_state h.kept.grants h.bus.memory in
     MayGoBack s p h.core.system.bad_vaddr (told h.core.system s p)
 
--- The unit goes on: in user mode at its address, and one slot of the buffer has changed, which now matches the page that was asked for.
+-- the unit's address: it is in EPC where the exception came from user mode, and else the handler has it in register 27
+abbrev pub unit_address : CoreState → ℕ
+unit_address c = if has_left_user c then c.system.epc else slice_index c.registers.general 27
+
+-- The unit goes on in user mode at its address, and no byte of a page and no device has changed. After a double miss a
+-- slot of the buffer answers for the page that EntryHi names.
 pub record GoesBack (old new : Held) : Type 0 where
   pub mode : is_user new.core.system ≡ true
-  pub address : new.core.pc ≡ old.core.system.epc
-  pub bus : new.bus ≡ old.bus
-  pub slot : ℕ
-  pub entry : Entry
-  pub entries : new.core.entries ≡ slice_set old.core.entries slot entry
-  pub asked : find new.core.entries (old.core.system.bad_vaddr / 2 ^ 12) (asid_of new.core.system) ≡ Some slot
+  pub address : new.core.pc ≡ unit_address old.core
+  pub pages : page_state new.kept.grants new.bus.memory ≡ page_state old.kept.grants old.bus.memory
+  pub devices : record new.bus { memory = [] } ≡ record old.bus { memory = [] }
+  pub answered : has_left_user old.core ≡ false
+      → (slot : ℕ) × (find new.core.entries (old.core.system.entry_hi / 2 ^ 12) (asid_of new.core.system) ≡ Some slot)
 
--- A unit that goes on takes one instruction of the processor, or a service that ends it or lets it go on, as what was told asks; besides instructions nothing moves Random.
+-- The unit ends: the exception came from user mode, and what was told ends it.
+pub record EndsReally (old new : Held) : Type 0 where
+  pub owed : IsSome new.kept.state.owed
+  pub left : has_left_user old.core ≡ true
+  pub stops : StopsBy old.kept.state.ready old
+
+-- It goes on: after a double miss, or where what was told lets it.
+pub record GoesOnReally (old new : Held) : Type 0 where
+  pub may : (has_left_user old.core ≡ false) ⊎ GoesBackBy old.kept.state.ready old
+  pub back : GoesBack old new
+
+-- A unit that goes on takes one instruction of the processor, or a service that ends it or lets it go on, as what was told
+-- asks. Besides instructions nothing moves Random, or puts a pair of a user's page and an address space into the buffer.
 pub record IsReal (old new : Held) : Type 0 where
   pub instruction : HasUnit old → is_served old.core ≡ false
       → (event : Event) × (step old.core old.bus ≡ (record { event = event; core = new.core; bus = new.bus }))
   pub service : HasUnit old → is_served old.core ≡ true
-      → (IsSome new.kept.state.owed × StopsBy old.kept.state.ready old) ⊎ (GoesBackBy old.kept.state.ready old × GoesBack old new)
+      → EndsReally old new ⊎ GoesOnReally old new
   pub random : (HasUnit old → is_served old.core ≡ true) → new.core.random ≡ old.core.random
+  pub pairs : (HasUnit old → is_served old.core ≡ true) → HasNoNewPairs old.core.entries new.core.entries
+
+-- an event that tells no bus error
+abbrev pub IsNoBusError : Event → Type 0
+IsNoBusError (Raised FetchBus) = ⊥
+IsNoBusError (Raised DataBus) = ⊥
+IsNoBusError other = ⊤
 
 -- by these steps, the newest first, each of which is real and is followed by the machine with its counts
 abbrev pub Through : Held → List Held → Held → Type 0

@@ -1,16 +1,16 @@
 -- What instructions, services and boundaries make of what is held.
-use Rattle.std.specs.Prelude.{◌≡◌, ℕ, ◌+◌, ◌/◌, ◌^◌, ◌<◌, ◌≤◌, ◌++◌, true, false, if◌then◌else◌, List, [], ◌∷◌, length, flat_map, slice_set, Some, None, unwrap_or}
-use Rattle.ds_word.specs.Word.{word}
+use Rattle.std.specs.Prelude.{◌≡◌, ℕ, ◌+◌, ◌-◌, ◌%◌, ◌<◌, ◌≤◌, ◌++◌, true, false, if◌then◌else◌, List, [], ◌∷◌, length, flat_map, slice_index, slice_set, Some, None}
+use Rattle.ds_word.specs.Word.{word, bits}
 use Rattle.ds_isa.specs.Registers.{Registers, settled}
 use Rattle.ds_procs.specs.declared.process.Standing.TheVariants.{Ready}
 use Rattle.ds_log.specs.declared.line.Line.{Line}
 use Rattle.ds_log.specs.Text.{line_text}
 use Rattle.ds_tlb.specs.declared.entry.Entry.{Entry}
-use Rattle.ds_tlb.specs.Entries.{find}
 use Rattle.ds_tlb.specs.Words.{entry_of}
-use Rattle.ds_cp0.specs.System.{is_user, asid_of}
-use Rattle.ds_tables.specs.Tables.{entry_word}
-use Rattle.ds_grants.specs.Buffer.{hi_of}
+use Rattle.ds_cp0.specs.System.{is_user}
+use Rattle.ds_refill.specs.Handler.{HasWords}
+use Rattle.ds_tables.specs.Places.{page_of_table}
+use Rattle.ds_grants.specs.Buffer.{read_only}
 use Rattle.ds_grants.specs.Represented.{IsRepresented}
 use Rattle.ds_grants.specs.Sound.{NamesPages}
 use Rattle.ds_core.specs.declared.event.Event.{Event}
@@ -21,7 +21,9 @@ use Rattle.ds_pagemap.specs.Machine.{State, Process, process_of, with_process, f
 use Rattle.ds_refinement.specs.declared.step.Step.{Step}
 use Rattle.ds_refinement.specs.declared.step.Step.TheVariants.{Inside, Unit}
 use Rattle.ds_refinement.specs.Held.{Held, Kept, Own, no_memory, whole, space_of}
-use Rattle.ds_refinement.specs.Stands.{AreResting, user_status}
+use Rattle.ds_refinement.specs.Units.{user_status}
+use Rattle.ds_refinement.specs.Handling.{HasBase, IsSet}
+use Rattle.ds_refinement.specs.Stands.{AreResting}
 use Rattle.ds_refinement.specs.Steps.{ticks_of}
 
 -- a turn of so many ticks is done, and its boundary is owed
@@ -72,8 +74,8 @@ seated c k = record k { state = with_first_seated c k.state k.state.ready }
 -- the processor has the process, touched, at the beginning of its unit
 pub record Enters (p : ℕ) (q : Process) (c : CoreState) (k : Kept) : Type 0 where
   pub mode : c.system.status ≡ user_status
-  pub owner : k.owner ≡ p
-  pub space : asid_of c.system ≡ space_of k p
+  pub number : 0 < space_of k p
+  pub set : IsSet c.system (space_of k p)
   pub first : c.slot ≡ false
   pub pc : c.pc ≡ q.pc
   pub next : c.next ≡ word (q.pc + 4)
@@ -106,11 +108,17 @@ pub record EndsBy (f : State → State) (old new : Held) : Type 0 where
   pub serves : Serves f (seated old.core old.kept) old.bus.memory new.kept new.bus.memory
   pub enters : EntersBy new.kept.state.ready new.core new.kept
   pub represented : IsRepresented new.core.entries new.bus.memory new.kept.tables (space_of new.kept) new.kept.grants
+  pub vectors : HasWords new.bus.memory
+  pub base : HasBase new.core.system
   pub grants : NamesPages new.kept.grants
   pub size : length new.bus.memory ≡ length old.bus.memory
   pub devices : AreResting new.bus new.kept
 
--- A service that lets the unit go on: the buffer is refilled, and the unit begins again.
+-- A word of the handler, and services that let the unit go on.
+
+-- what is held after a step of the processor that ends no unit
+abbrev pub with_step : Held → core.Step → Held
+with_step h s = record h { core = s.core; bus = s.bus }
 
 -- the processor back in user mode, at an address
 abbrev pub at_unit : CoreState → ℕ → CoreState
@@ -120,23 +128,32 @@ at_unit c pc = record c { pc = pc; next = word (pc + 4); slot = false; system = 
 abbrev pub touched_registers : Registers → ℕ → Registers
 touched_registers r pc = record (settled r) { general = slice_set (slice_set r.general 26 0) 27 pc }
 
--- the buffer with an entry in the place of what its address space has for its page, or where Random tells
-abbrev pub refilled : CoreState → Entry → List Entry
-refilled c e = slice_set c.entries (unwrap_or (find c.entries e.vpn e.asid) c.random) e
-
--- the entry of the page that was refused: it has the page-table word of a process as it stands in memory
-abbrev pub asked_entry : Held → ℕ → Entry
-asked_entry h p =
-    entry_of (hi_of (h.core.system.bad_vaddr / 2 ^ 12) 1) (entry_word h.bus.memory h.kept.tables p h.core.system.bad_vaddr)
-
--- the buffer is refilled, and the unit begins again with registers 26 and 27 lost
-abbrev pub with_refill : Held → Entry → Held
-with_refill h e = record h {
-  core = record (at_unit h.core h.core.system.epc) {
-    registers = touched_registers h.core.registers h.core.system.epc;
-    entries = refilled h.core e;
-  };
+-- the unit begins again, with registers 26 and 27 lost
+abbrev pub gone_back : Held → Held
+gone_back h = record h {
+  core = record (at_unit h.core h.core.system.epc) { registers = touched_registers h.core.registers h.core.system.epc };
 }
+
+-- the entry of the page that EntryHi names, which is a page of the page table of a process
+abbrev pub table_entry : Held → ℕ → Entry
+table_entry h p =
+    let hi = h.core.system.entry_hi in
+    entry_of hi (read_only (page_of_table h.kept.tables p (bits hi 12 20 - 0xC0000)))
+
+-- After a double miss that entry goes into the next of the first eight slots, and the unit begins again at the address that
+-- the handler has in register 27; register 26 is 0.
+abbrev pub with_table_page : Held → ℕ → Held
+with_table_page h p = record h {
+  core = record (at_unit h.core (slice_index h.core.registers.general 27)) {
+    registers = record h.core.registers { general = slice_set h.core.registers.general 26 0 };
+    entries = slice_set h.core.entries (h.own.wired % 8) (table_entry h p);
+  };
+  own = record h.own { wired = (h.own.wired + 1) % 8 };
+}
+
+-- so many instructions of the unit are done, which end at this processor
+abbrev pub with_words : Held → CoreState → ℕ → Held
+with_words h c n = record h { core = c; own = record h.own { spent = h.own.spent + n } }
 
 -- Boundaries.
 

@@ -1,5 +1,5 @@
 -- What a small station holds and what is made of it: each row is a theorem about the definitions alone.
-use Rattle.std.specs.Prelude.{◌≡◌, refl, ℕ, ◌+◌, true, false, List, [], ◌∷◌, map, replicate, slice_index, Some, None}
+use Rattle.std.specs.Prelude.{◌≡◌, refl, ℕ, ◌+◌, true, false, List, [], ◌∷◌, map, replicate, slice_index, slice_set, Some, None}
 use Rattle.ds_word.specs.Word.{word}
 use Rattle.ds_isa.specs.declared.instr.Size.TheVariants.{Byte, Word}
 use Rattle.ds_isa.specs.Registers.{Registers}
@@ -10,17 +10,18 @@ use Rattle.ds_policy.specs.declared.access.Verdict.TheVariants.{Allowed}
 use Rattle.ds_log.specs.declared.line.Denied.TheVariants as denied
 use Rattle.ds_log.specs.declared.line.Line.TheVariants.{Denial}
 use Rattle.ds_grants.specs.First.{no_grants}
+use Rattle.ds_tables.specs.Places.{Places}
+use Rattle.ds_dev.specs.Bus as bus
 use Rattle.ds_core.specs.Core.{CoreState}
 use Rattle.ds_pagemap.specs.Machine.{State, no_process}
 use Rattle.ds_pagemap.specs.Unit.{fault}
 use Rattle.ds_pagemap_laws.specs.Rows.{resting, loading, state_of}
 use Rattle.ds_refinement.specs.declared.cause.Cause.TheVariants as cause
 use Rattle.ds_refinement.specs.Told.{told, size_on}
-use Rattle.ds_refinement.specs.Held.{Kept, no_memory, bare, vacated, space_of}
-use Rattle.ds_refinement.specs.Stands.{ends_in_stop, own_of}
+use Rattle.ds_refinement.specs.Held.{Held, Kept, no_memory, bare, vacated, space_of}
+use Rattle.ds_refinement.specs.Units.{ends_in_stop, own_of, has_left_user, is_served}
 use Rattle.ds_refinement.specs.Steps.{ticks_of}
-use Rattle.ds_refinement.specs.Services.{with_turn, resume_address, seated_process, touched_registers, refilled}
-use Rattle.ds_refinement.specs.Real.{is_served}
+use Rattle.ds_refinement.specs.Services.{with_turn, resume_address, seated_process, touched_registers, gone_back, table_entry, with_table_page}
 use Rattle.ds_refinement.specs.First.{first_system, first_bus}
 
 -- two processes, both of which are ready, at time 5; the first has loaded 65 into register 8, where 7 stood
@@ -156,7 +157,7 @@ a_load_is_finished_in_the_seat = refl
 pub what_was_loaded_is_in_the_seat : slice_index (seated_process user resting).registers.general 8 ≡ 65
 what_was_loaded_is_in_the_seat = refl
 
--- The buffer is refilled.
+-- The unit goes on after an exception.
 
 -- its registers after that, where it goes on at 00400008
 abbrev pub lost : Registers
@@ -171,35 +172,89 @@ register_27_has_the_address = refl
 pub register_8_is_left : slice_index lost.general 8 ≡ 65
 register_8_is_left = refl
 
--- page 00400000 again, which may be written now
-abbrev pub writable : Entry
-writable = record page { d = true }
+-- a station with a processor, which has done one instruction of its unit and filled so many slots with pages of tables; it has no memory
+abbrev pub station : CoreState → ℕ → Held
+station c wired = record { core = c; bus = bus.at_start []; kept = kept; own = record { failed = false; spent = 1; wired = wired } }
 
-pub a_page_is_replaced_where_it_is : refilled served writable ≡ writable ∷ other ∷ []
-a_page_is_replaced_where_it_is = refl
+-- the unit after that
+abbrev pub back : Held
+back = gone_back (station served 0)
 
--- page 00402000 in frame 404
-abbrev pub third : Entry
-third = record page { vpn = 0x402; pfn = 404 }
+pub the_unit_begins_again_at_its_address : back.core.pc ≡ 0x00400008
+the_unit_begins_again_at_its_address = refl
 
-pub a_new_page_comes_where_random_tells : refilled served third ≡ page ∷ third ∷ []
-a_new_page_comes_where_random_tells = refl
+pub user_mode_is_back : back.core.system.status ≡ 0xC03
+user_mode_is_back = refl
+
+pub a_way_back_loses_registers_26_and_27 : back.core.registers ≡ lost
+a_way_back_loses_registers_26_and_27 = refl
+
+pub a_way_back_leaves_the_buffer : back.core.entries ≡ page ∷ other ∷ []
+a_way_back_leaves_the_buffer = refl
+
+-- The unit goes on after a double miss.
+
+-- process 1 has the table of its second 4 MiB at its second place, and process 2 has none
+abbrev pub tables : Places
+tables = (None ∷ Some 1 ∷ None ∷ None ∷ []) ∷ replicate 4 None ∷ []
+
+-- the handler missed the page of that table; it has the unit's address in register 27
+abbrev pub nested : CoreState
+nested = record (core_at 0x80000080 0xC30) {
+  registers = record loading.registers { general = slice_set loading.registers.general 27 0x00400008 };
+  system = record (core_at 0x80000080 0xC30).system { entry_hi = 0xC0001040; epc = 0x80000008 };
+}
+
+-- the station before its service, with so many slots filled
+abbrev pub doubled : ℕ → Held
+doubled wired = record (station nested wired) { kept = record kept { tables = tables } }
+
+-- the page of that table, in frame 3; it may be read
+abbrev pub table_page : Entry
+table_page = record { vpn = 0xC0001; asid = 1; pfn = 3; n = false; d = false; v = true; g = false }
+
+pub the_page_of_a_table_lies_at_its_place : table_entry (doubled 0) 1 ≡ table_page
+the_page_of_a_table_lies_at_its_place = refl
+
+pub process_2_has_the_page_of_the_empty_table : table_entry (doubled 0) 2 ≡ record table_page { pfn = 1 }
+process_2_has_the_page_of_the_empty_table = refl
+
+pub the_page_of_a_table_comes_into_the_next_slot : (with_table_page (doubled 0) 1).core.entries ≡ table_page ∷ other ∷ []
+the_page_of_a_table_comes_into_the_next_slot = refl
+
+pub the_slot_after_it_is_next : (with_table_page (doubled 0) 1).own.wired ≡ 1
+the_slot_after_it_is_next = refl
+
+pub the_first_comes_after_the_eighth : (with_table_page (doubled 7) 1).own.wired ≡ 0
+the_first_comes_after_the_eighth = refl
 
 -- Who is served.
 
 pub an_exception_is_served : is_served served ≡ true
 an_exception_is_served = refl
 
-pub a_missing_page_is_served : is_served (core_at 0x80000000 0xC0C) ≡ true
-a_missing_page_is_served = refl
+pub a_double_miss_is_served : is_served nested ≡ true
+a_double_miss_is_served = refl
+
+pub a_word_of_the_handler_is_not_served : is_served (core_at 0x80000000 0xC0C) ≡ false
+a_word_of_the_handler_is_not_served = refl
 
 pub a_user_that_jumps_to_a_vector_is_not_served : is_served (core_at 0x80000080 0xC03) ≡ false
 a_user_that_jumps_to_a_vector_is_not_served = refl
+
+pub an_exception_has_left_user_mode : has_left_user (core_at 0x80000080 0xC0C) ≡ true
+an_exception_has_left_user_mode = refl
+
+pub a_double_miss_has_left_kernel_mode : has_left_user (core_at 0x80000080 0xC30) ≡ false
+a_double_miss_has_left_kernel_mode = refl
 
 -- The beginning of a run.
 
 pub the_first_to_run_has_address_space_1 : asid_of first_system ≡ 1
 the_first_to_run_has_address_space_1 = refl
+
+pub context_has_the_place_of_the_page_tables : first_system.context ≡ 0xC0000000
+context_has_the_place_of_the_page_tables = refl
 
 pub the_clock_counts_periods_of_the_rate : (first_bus [] 6).clock ≡ record { rate = 6; enabled = true; flagged = false; time = 0 }
 the_clock_counts_periods_of_the_rate = refl

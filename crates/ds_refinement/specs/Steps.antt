@@ -1,12 +1,12 @@
 -- What a step of the station does to the machine states that it stands for.
 use Rattle.std.specs.Prelude.{◌≡◌, ◌≢◌, ℕ, ◌+◌, ◌-◌, ◌*◌, ◌<◌, ◌≤◌, ◌⊎◌, Bool, true, false, not, if◌then◌else◌, [], None, is_some, IsSome}
 use Rattle.ds_word.specs.Word.{truth}
-use Rattle.ds_cp0.specs.System.{is_user}
 use Rattle.ds_pagemap.specs.Machine.{State, touched}
 use Rattle.ds_pagemap.specs.Run.{half_turn, is_over}
 use Rattle.ds_refinement.specs.declared.step.Step.{Step}
 use Rattle.ds_refinement.specs.declared.step.Step.TheVariants.{Inside, Unit, Boundary, Over}
 use Rattle.ds_refinement.specs.Held.{Held}
+use Rattle.ds_refinement.specs.Units.{is_served}
 use Rattle.ds_refinement.specs.Stands.{Stands}
 
 -- half a turn, with a touch before and after or without
@@ -37,18 +37,14 @@ pub record Stays (old new : Held) : Type 0 where
 abbrev pub ticks_of : Bool → ℕ
 ticks_of slot = if slot then 2 else 1
 
--- the processor serves an exception
-abbrev pub is_in_kernel : Held → Bool
-is_in_kernel h = not (is_user h.core.system)
-
 -- how many steps a unit may still take
 abbrev pub steps_left : Held → ℕ
-steps_left h = 2 * (64 - h.own.spent) + truth (is_in_kernel h)
+steps_left h = 2 * (64 - h.own.spent) + truth (is_served h.core)
 
 -- how the counts and the clock move in a step
 abbrev pub Moves : Step → Held → Held → Type 0
 Moves Inside old new = (old.kept.state.owed ≡ None) × (new.kept.state.owed ≡ None) × (new.kept.state.time ≡ old.kept.state.time)
-    × (new.own.spent ≡ old.own.spent + truth (not (is_in_kernel old))) × (new.own.spent ≤ 64) × (steps_left new < steps_left old) × (new.own.failed ≡ old.own.failed)
+    × (new.own.spent ≡ old.own.spent + truth (not (is_served old.core))) × (new.own.spent ≤ 64) × (steps_left new < steps_left old) × (new.own.failed ≡ old.own.failed)
 Moves Unit old new = (old.kept.state.owed ≡ None) × IsSome new.kept.state.owed × (new.kept.state.time ≡ old.kept.state.time + ticks_of old.core.slot)
     × (new.own.spent ≡ 0) × (new.own.failed ≡ old.own.failed)
 Moves Boundary old new = (new.kept.state.owed ≡ None) × (new.own.spent ≡ 0)

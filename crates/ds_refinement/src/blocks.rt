@@ -14,7 +14,9 @@ ghost use Rattle.ds_core.specs.Ahead.{
 };
 ghost use Rattle.ds_refinement.specs.Told.{is_delayed};
 ghost use Rattle.ds_refinement.specs.Held.{Held, Kept};
-ghost use Rattle.ds_refinement.specs.Stands.{IsSound, user_status};
+ghost use Rattle.ds_refinement.specs.Units.{user_status};
+ghost use Rattle.ds_refinement.specs.Stands.{IsSound};
+ghost use Rattle.ds_refinement.specs.Handling.{IsWhole};
 ghost use Rattle.ds_refinement.specs.Real.{RealPath};
 ghost use Rattle.ds_refinement.specs.Quiet.{IsQuiet};
 ghost use Rattle.ds_refinement.specs.Blocks.{
@@ -37,7 +39,8 @@ pub fn an_exception_ends_a_block()
     ensures path { (n limit : ℕ) (h : Held) (hw : Hardware) (code : ExceptionCode)
         → n ≤ limit → MayRunAhead limit h
         → AdvancesTo n (Some code) (hardware_of h.core h.bus) hw
-        → ComesByWords n (hardware_of h.core h.bus) → RealPath h (with_exception n h hw) }
+        → ComesByWords n (hardware_of h.core h.bus) → IsWhole hw.core
+        → RealPath h (with_exception n h hw) }
     ensures ticks { (n : ℕ) (code : ExceptionCode) (old new : Hardware)
         → AdvancesTo n (Some code) old new
         → ticks n old + owed_tick (is_delayed new.core.system) ≡ n + owed_tick old.core.slot }

@@ -1,13 +1,14 @@
 //! How the counts and the clock move in a step.
 ghost use Rattle.std.specs.Prelude.{◌≡◌, ℕ, ◌+◌, ◌≤◌, true, false, None, IsSome};
-ghost use Rattle.ds_tlb.specs.declared.entry.Entry.{Entry};
 ghost use Rattle.ds_core.specs.declared.event.Event.{Event};
 ghost use Rattle.ds_core.specs.Core.{Step as CoreStep};
 ghost use Rattle.ds_pagemap.specs.Unit.{Stop};
 ghost use Rattle.ds_pagemap.specs.Boundary.{boundary};
 ghost use Rattle.ds_refinement.specs.declared.step.Step.TheVariants.{Inside, Unit, Boundary};
+ghost use Rattle.ds_cp0.specs.System.{is_user};
 ghost use Rattle.ds_refinement.specs.Held.{Held};
-ghost use Rattle.ds_refinement.specs.Steps.{Moves, is_in_kernel};
+ghost use Rattle.ds_refinement.specs.Units.{is_served};
+ghost use Rattle.ds_refinement.specs.Steps.{Moves};
 ghost use Rattle.ds_refinement.specs.Services.{
   EndsBy,
   after_event,
@@ -16,21 +17,29 @@ ghost use Rattle.ds_refinement.specs.Services.{
   with_idle_turn,
   with_none_spent,
   with_one_spent,
-  with_refill,
+  with_step,
 };
 ghost use Rattle.ds_refinement.specs.Ends.{EndsInStop, EndsInCall};
 
 /// An instruction of the program counts, up to 64 in a unit.
 pub fn an_instruction_is_counted()
     ensures { (e : Event) (h : Held) (s : CoreStep) → h.kept.state.owed ≡ None
-        → is_in_kernel h ≡ false → h.own.spent + 1 ≤ 64
+        → is_served h.core ≡ false → h.own.spent + 1 ≤ 64
         → Moves (step_of e) h (after_event e (with_one_spent h) s) }
 {}
 
-/// A refill of the buffer counts nothing, and leaves the kernel.
-pub fn a_refill_is_counted()
-    ensures { (h : Held) (e : Entry) → h.kept.state.owed ≡ None → is_in_kernel h ≡ true
-        → h.own.spent ≤ 64 → Moves Inside h (with_refill h e) }
+/// So does a word of the handler, which ends no unit.
+pub fn a_word_is_counted()
+    ensures { (h : Held) (s : CoreStep) → h.kept.state.owed ≡ None
+        → is_served h.core ≡ false → h.own.spent + 1 ≤ 64
+        → Moves Inside h (with_step (with_one_spent h) s) }
+{}
+
+/// A service that goes back counts nothing, and leaves the kernel.
+pub fn a_way_back_is_counted()
+    ensures { (h new : Held) → h.kept.state.owed ≡ None → is_served h.core ≡ true
+        → h.own.spent ≤ 64 → new.kept ≡ h.kept → is_user new.core.system ≡ true
+        → new.own.spent ≡ h.own.spent → new.own.failed ≡ h.own.failed → Moves Inside h new }
 {}
 
 /// A service that ends its unit takes one tick, and the count begins again.

@@ -6,11 +6,14 @@ ghost use Rattle.ds_cp0.specs.System.{is_user};
 ghost use Rattle.ds_core.specs.declared.event.Event.TheVariants.{Raised};
 ghost use Rattle.ds_core.specs.Core as core;
 ghost use Rattle.ds_core.specs.Effect.{step};
+ghost use Rattle.ds_core.specs.Ahead.{is_raised};
+ghost use Rattle.ds_refinement.specs.Handling.{IsWhole};
 ghost use Rattle.ds_pagemap.specs.Machine.{State};
 ghost use Rattle.ds_pagemap.specs.Unit.{instruction, with_registers};
 ghost use Rattle.ds_refinement.specs.Told.{told};
 ghost use Rattle.ds_refinement.specs.Held.{Held};
-ghost use Rattle.ds_refinement.specs.Stands.{Stands};
+ghost use Rattle.ds_refinement.specs.Stands.{Stands, IsSound};
+ghost use Rattle.ds_refinement.specs.Real.{IsNoBusError};
 ghost use Rattle.ds_refinement.specs.Leaves.{Leaves};
 ghost use Rattle.ds_refinement.specs.Services.{after_event, step_of};
 ghost use Rattle.ds_refinement.specs.Steps.{Follows};
@@ -27,9 +30,18 @@ pub fn an_exception_tells_what_was_refused()
 {}
 
 /// One step of the processor in user mode is one instruction of the machine: whatever state the
-/// station stood for, after it it stands for a state that follows.
+/// station stood for, after it it stands for a state that follows. After an exception the processor
+/// is asked to have all its registers and slots, which every processor has.
 pub fn an_instruction_is_one_of_the_machine()
     ensures { (h : Held) (s : core.Step) → s ≡ step h.core h.bus → h.kept.state.owed ≡ None
         → h.kept.state.ready ≢ [] → is_user h.core.system ≡ true → h.core.pc < 2 ^ 32
+        → (is_raised s.event ≡ true → IsWhole s.core)
         → Follows (step_of s.event) h (after_event s.event h s) }
+{}
+
+/// No instruction of a user meets a bus error.
+pub fn a_user_meets_no_bus_error()
+    ensures { (h : Held) → IsSound h → h.kept.state.owed ≡ None → h.kept.state.ready ≢ []
+        → is_user h.core.system ≡ true → h.core.pc < 2 ^ 32
+        → IsNoBusError (step h.core h.bus).event }
 {}

@@ -3,15 +3,17 @@
 //! instruction, service and boundary of the one is a step of the other.
 #![tactic(auto)]
 
+mod backs;
 mod blocks;
 mod branches;
 mod cause;
 mod counts;
 mod first;
+mod handler;
 mod instructions;
 mod pages;
+mod pairs;
 mod paths;
-mod refills;
 mod runs;
 mod seats;
 mod services;
@@ -19,6 +21,7 @@ mod step;
 mod told;
 mod turns;
 
+pub use backs::{a_double_miss_goes_back, a_way_back_begins_the_unit_again};
 pub use blocks::{
     a_block_is_a_path, a_sound_station_is_ready, an_exception_ends_a_block,
     the_last_boundary_decides,
@@ -26,19 +29,26 @@ pub use blocks::{
 pub use branches::{a_branch_done_again_does_the_same, a_touch_leaves_a_link_or_takes_it_away};
 pub use cause::Cause;
 pub use counts::{
-    a_boundary_is_counted, a_refill_is_counted, a_served_boundary_is_counted,
+    a_boundary_is_counted, a_served_boundary_is_counted, a_way_back_is_counted, a_word_is_counted,
     an_ended_unit_is_counted, an_instruction_is_counted,
 };
 pub use first::a_new_station_stands_for_the_first_state;
-pub use instructions::{an_exception_tells_what_was_refused, an_instruction_is_one_of_the_machine};
+pub use handler::{
+    a_handler_does_not_see_a_touch, a_miss_enters_the_handler, a_refill_is_a_path, a_word_follows,
+    a_word_of_the_handler_is_a_part_of_the_unit, an_exception_enters, the_handler_begins,
+};
+pub use instructions::{
+    a_user_meets_no_bus_error, an_exception_tells_what_was_refused,
+    an_instruction_is_one_of_the_machine,
+};
 pub use pages::{
     a_named_page_lives, a_word_of_a_page_lies_in_its_frame, what_a_user_reaches_is_granted,
 };
+pub use pairs::no_pair_is_new;
 pub use paths::{
     a_boundary_is_real, a_way_back_is_real, an_end_is_real, an_instruction_is_real, paths_join,
     paths_stay_sound, what_was_told_decides,
 };
-pub use refills::{a_refill_begins_the_unit_again, a_refill_lets_the_unit_go_on};
 pub use runs::{a_block_is_within_a_run, a_run_goes_on};
 pub use seats::{the_first_comes_in, the_runner_leaves, what_is_kept_is_the_whole_state};
 pub use services::{a_call_ends_its_unit, a_service_ends_its_unit, a_stop_ends_its_unit};

@@ -49,7 +49,7 @@ pub fn a_named_page_lives()
 pub fn what_a_user_reaches_is_granted()
     ensures { (c : CoreState) (k : Kept) (p : ℕ) → is_user c.system ≡ true
         → BufferHolds c.entries (space_of k) k.grants k.tables → NamesPages k.grants → 0 < p
-        → k.owner ≡ p
+        → 0 < space_of k p
         → asid_of c.system ≡ space_of k p
         → (access : Kind) (size : Size) (address : ℕ) (place : Physical)
         → reached c access size address ≡ Ok place

@@ -17,8 +17,11 @@ ghost use Rattle.ds_refinement.specs.Steps.{Follows, Moves};
 ghost use Rattle.ds_refinement.specs.Services.{
   after_event,
   with_one_spent,
+  with_step,
 };
 ghost use Rattle.ds_refinement.specs.Told.{told};
+ghost use Rattle.ds_refinement.specs.Pairs.{HasNoNewPairs};
+ghost use Rattle.ds_refinement.specs.Units.{has_left_user, is_served};
 ghost use Rattle.ds_refinement.specs.Real.{
   EndsUnit,
   GoesBack,
@@ -27,7 +30,6 @@ ghost use Rattle.ds_refinement.specs.Real.{
   MayGoBack,
   RealPath,
   Through,
-  is_served,
 };
 
 /// No step, one step, and one path after another are paths; and the later path comes first in
@@ -48,31 +50,39 @@ pub fn paths_stay_sound()
     ensures { (old new : Held) → IsSound old → RealPath old new → IsSound new }
 {}
 
-/// An instruction of a unit is a step of the processor.
+/// An instruction of a unit is a step of the processor, and so is a word of the handler.
 pub fn an_instruction_is_real()
-    ensures { (e : Event) (h : Held) (s : CoreStep) → HasUnit h → is_served h.core ≡ false
+    ensures user { (e : Event) (h : Held) (s : CoreStep) → HasUnit h → is_served h.core ≡ false
         → core_step h.core h.bus ≡ (record { event = e; core = s.core; bus = s.bus })
         → IsReal h (after_event e (with_one_spent h) s) }
+    ensures word { (h : Held) → HasUnit h → is_served h.core ≡ false
+        → IsReal h (with_step (with_one_spent h) (core_step h.core h.bus)) }
 {}
 
-/// A service that ends its unit is real where what was told ends it.
+/// A service that ends its unit is real where the exception came from user mode and what was told
+/// ends it.
 pub fn an_end_is_real()
     ensures { (h new : Held) (p : ℕ) (rest : List ℕ) (why : Cause) → h.kept.state.ready ≡ p ∷ rest
-        → is_served h.core ≡ true
+        → is_served h.core ≡ true → has_left_user h.core ≡ true
         → told h.core.system (page_state h.kept.grants h.bus.memory) p ≡ why
         → EndsUnit (page_state h.kept.grants h.bus.memory) p h.core.system.bad_vaddr why
-        → IsSome new.kept.state.owed → new.core.random ≡ h.core.random → IsReal h new }
+        → IsSome new.kept.state.owed → new.core.random ≡ h.core.random
+        → HasNoNewPairs h.core.entries new.core.entries → IsReal h new }
 {}
 
-/// A service that goes back to its unit is real where what was told is an access that the table
-/// allows.
+/// A service that goes back to its unit is real after a double miss, and where what was told is an
+/// access that the table allows.
 pub fn a_way_back_is_real()
-    ensures { (h new : Held) (p : ℕ) (rest : List ℕ) (access : Access) (page offset : ℕ)
+    ensures allowed { (h new : Held) (p : ℕ) (rest : List ℕ) (access : Access) (page offset : ℕ)
         → h.kept.state.ready ≡ p ∷ rest → is_served h.core ≡ true
         → told h.core.system (page_state h.kept.grants h.bus.memory) p ≡ cause.Access access
         → decide h.kept.grants.table p access.kind access.size h.core.system.bad_vaddr
         ≡ Allowed page offset
-        → GoesBack h new → new.core.random ≡ h.core.random → IsReal h new }
+        → GoesBack h new → new.core.random ≡ h.core.random
+        → HasNoNewPairs h.core.entries new.core.entries → IsReal h new }
+    ensures double { (h new : Held) → is_served h.core ≡ true → has_left_user h.core ≡ false
+        → GoesBack h new → new.core.random ≡ h.core.random
+        → HasNoNewPairs h.core.entries new.core.entries → IsReal h new }
 {}
 
 /// What was told ends a unit or lets it go on, and never both.
@@ -86,7 +96,7 @@ pub fn what_was_told_decides()
 /// Where a boundary is owed, or nobody is ready, the processor takes no step.
 pub fn a_boundary_is_real()
     ensures owed { (h new : Held) → IsSome h.kept.state.owed → new.core.random ≡ h.core.random
-        → IsReal h new }
+        → HasNoNewPairs h.core.entries new.core.entries → IsReal h new }
     ensures idle { (h new : Held) → h.kept.state.ready ≡ [] → new.core.random ≡ h.core.random
-        → IsReal h new }
+        → HasNoNewPairs h.core.entries new.core.entries → IsReal h new }
 {}

@@ -11,6 +11,7 @@ ghost use Rattle.ds_core.specs.Ahead.{
 };
 ghost use Rattle.ds_refinement.specs.declared.step.Step.{Step};
 ghost use Rattle.ds_refinement.specs.Held.{Held};
+ghost use Rattle.ds_refinement.specs.Handling.{IsWhole};
 ghost use Rattle.ds_refinement.specs.Stands.{IsSound};
 ghost use Rattle.ds_refinement.specs.Steps.{Follows, Stays};
 ghost use Rattle.ds_refinement.specs.Blocks.{MayRunAhead, with_block, with_exception};
@@ -39,6 +40,6 @@ pub fn a_block_is_within_a_run()
     ensures raised { (n limit end : ℕ) (old h : Held) (hw : Hardware) (code : ExceptionCode)
         → n ≤ limit → MayRunAhead limit h → h.kept.state.time + n + owed_tick h.core.slot < end
         → AdvancesTo n (Some code) (hardware_of h.core h.bus) hw
-        → ComesByWords n (hardware_of h.core h.bus)
+        → ComesByWords n (hardware_of h.core h.bus) → IsWhole hw.core
         → RunsWithin end old h → RunsWithin end old (with_exception n h hw) }
 {}

@@ -2,9 +2,11 @@
 ghost use Rattle.std.specs.Prelude.{◌≡◌, ℕ, ◌^◌, ◌∷◌, true, List, length};
 ghost use Rattle.ds_grants.specs.Sound.{NamesPages};
 ghost use Rattle.ds_grants.specs.Represented.{IsRepresented};
+ghost use Rattle.ds_refill.specs.Handler.{HasWords};
 ghost use Rattle.ds_pagemap.specs.Machine.{State, process_of, with_process, touched};
 ghost use Rattle.ds_pagemap_laws.specs.Settled.{all_settled};
 ghost use Rattle.ds_refinement.specs.Held.{Held, Kept, whole, space_of};
+ghost use Rattle.ds_refinement.specs.Handling.{HasBase};
 ghost use Rattle.ds_refinement.specs.Stands.{Stands, IsKept, AreResting};
 ghost use Rattle.ds_refinement.specs.Services.{EntersBy, seated, resume_address};
 
@@ -23,7 +25,7 @@ pub fn the_runner_leaves()
 pub fn the_first_comes_in()
     ensures { (h : Held) (m : State) → IsKept h.kept h.bus.memory m
         → IsRepresented h.core.entries h.bus.memory h.kept.tables (space_of h.kept) h.kept.grants
-        → NamesPages h.kept.grants
+        → HasWords h.bus.memory → HasBase h.core.system → NamesPages h.kept.grants
         → length h.bus.memory ≡ 2 ^ 23 → AreResting h.bus h.kept
         → EntersBy h.kept.state.ready h.core h.kept → Stands h (touched true m) }
 {}

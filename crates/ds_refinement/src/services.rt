@@ -5,7 +5,6 @@ ghost use Rattle.ds_policy.specs.declared.access.Rule.{Rule};
 ghost use Rattle.ds_policy.specs.declared.access.Verdict.TheVariants.{Denied};
 ghost use Rattle.ds_policy.specs.Pages.{decide};
 ghost use Rattle.ds_grants.specs.State.{page_state};
-ghost use Rattle.ds_cp0.specs.System.{is_user};
 ghost use Rattle.ds_pagemap.specs.Machine.{State, process_of, with_process};
 ghost use Rattle.ds_pagemap.specs.Unit.{unit, fault, denied_as};
 ghost use Rattle.ds_pagemap_laws.specs.Settled.{all_settled};
@@ -13,6 +12,7 @@ ghost use Rattle.ds_refinement.specs.declared.cause.Cause.TheVariants as cause;
 ghost use Rattle.ds_refinement.specs.declared.step.Step.TheVariants.{Unit};
 ghost use Rattle.ds_refinement.specs.Told.{told, is_delayed, own_in};
 ghost use Rattle.ds_refinement.specs.Held.{Held};
+ghost use Rattle.ds_refinement.specs.Units.{is_served, has_left_user};
 ghost use Rattle.ds_refinement.specs.Stands.{Stands};
 ghost use Rattle.ds_refinement.specs.Steps.{Comes, Follows};
 ghost use Rattle.ds_refinement.specs.Services.{EndsBy, resume_address};
@@ -35,7 +35,8 @@ pub fn a_service_ends_its_unit()
 /// from the slot of a branch.
 pub fn a_stop_ends_its_unit()
     ensures access { (h new : Held) (p : ℕ) (rest : List ℕ) (access : Access) (rule : Rule)
-        (code : ℕ) → h.kept.state.ready ≡ p ∷ rest → is_user h.core.system ≡ false
+        (code : ℕ) → h.kept.state.ready ≡ p ∷ rest → is_served h.core ≡ true
+        → has_left_user h.core ≡ true
         → told h.core.system (page_state h.kept.grants h.bus.memory) p ≡ cause.Access access
         → decide h.kept.grants.table p access.kind access.size h.core.system.bad_vaddr
         ≡ Denied rule code
@@ -46,11 +47,13 @@ pub fn a_stop_ends_its_unit()
           code = code;
         }) h new → Follows Unit h new }
     ensures fault { (h new : Held) (p : ℕ) (rest : List ℕ) (code : ℕ)
-        → h.kept.state.ready ≡ p ∷ rest → is_user h.core.system ≡ false
+        → h.kept.state.ready ≡ p ∷ rest → is_served h.core ≡ true
+        → has_left_user h.core ≡ true
         → told h.core.system (page_state h.kept.grants h.bus.memory) p ≡ cause.Fault code
         → EndsInStop p (fault (own_in h.core.system) code) h new → Follows Unit h new }
     ensures slot { (h new : Held) (p : ℕ) (rest : List ℕ)
-        → h.kept.state.ready ≡ p ∷ rest → is_user h.core.system ≡ false
+        → h.kept.state.ready ≡ p ∷ rest → is_served h.core ≡ true
+        → has_left_user h.core ≡ true
         → told h.core.system (page_state h.kept.grants h.bus.memory) p ≡ cause.Call
         → is_delayed h.core.system ≡ true
         → EndsInStop p (fault (own_in h.core.system) 8) h new → Follows Unit h new }
@@ -59,7 +62,8 @@ pub fn a_stop_ends_its_unit()
 /// The unit is a call where what was told is one, outside of slots.
 pub fn a_call_ends_its_unit()
     ensures { (h new : Held) (p : ℕ) (rest : List ℕ)
-        → h.kept.state.ready ≡ p ∷ rest → is_user h.core.system ≡ false
+        → h.kept.state.ready ≡ p ∷ rest → is_served h.core ≡ true
+        → has_left_user h.core ≡ true
         → told h.core.system (page_state h.kept.grants h.bus.memory) p ≡ cause.Call
         → is_delayed h.core.system ≡ false
         → EndsInCall p h new → Follows Unit h new }

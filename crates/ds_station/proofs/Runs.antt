@@ -1,14 +1,17 @@
 -- Steps and runs that are not done.
-use Rattle.std.proofs.Common.{◌≡◌, ℕ, false, Bool, List, [], ◌∷◌, refl, sym, ap, subst, ◌∙◌}
+use Rattle.std.proofs.Common.{◌≡◌, ◌≢◌, ℕ, ◌<◌, ◌^◌, None, true, false, Bool, List, [], ◌∷◌, refl, sym, ap, subst, ◌∙◌}
 use Rattle.ds_refinement.specs.declared.step.Step.{Step}
 use Rattle.ds_refinement.specs.declared.step.Step.TheVariants.{Inside, Unit, Boundary, Over}
 use Rattle.ds_tlb.specs.Singles.{IsSingle}
+use Rattle.ds_cp0.specs.System.{is_user}
+use Rattle.ds_core.specs.Effect.{step}
 use Rattle.ds_refinement.specs.Held.{Held}
 use Rattle.ds_refinement.specs.Stands.{IsSound}
 use Rattle.ds_refinement.specs.Steps.{Moves, Stays}
 use Rattle.ds_refinement.specs.Services.{with_failure}
-use Rattle.ds_refinement.specs.Real.{Through}
+use Rattle.ds_refinement.specs.Real.{IsNoBusError, Through}
 use Rattle.ds_refinement.specs.Runs.{RunsTo, RunsWithin, held_goes_on}
+use Rattle.ds_refinement.proofs.Stages.{no_bus_error}
 use Rattle.ds_refinement.proofs.RunSteps.{within_stays, to_end}
 use Rattle.ds_kernel.specs.declared.halt.Halt.{Halt}
 use Rattle.ds_kernel.specs.declared.halt.Halt.TheVariants as halt
@@ -19,6 +22,10 @@ use Rattle.ds_station.specs.Faults.{IsFaultAfter, of_halt}
 -- a station that is sound has a buffer in which no two entries match
 pub sound_single : (h : Held) → IsSound h → IsSingle h.core.entries
 sound_single h s = s.stands.represented.buffer.single
+
+-- no instruction of a user of a station that is sound meets a bus error
+pub no_error : (h : Held) → IsSound h → h.kept.state.owed ≡ None → h.kept.state.ready ≢ [] → is_user h.core.system ≡ true → h.core.pc < 2 ^ 32 → IsNoBusError (step h.core h.bus).event
+no_error = no_bus_error
 
 -- where none stands, the fault of a step that is not done is a new one
 pub comes_after : (h : Halt) (s : Held) → Halts h s → IsFaultAfter s.own.failed (of_halt h)
@@ -47,7 +54,7 @@ ran_to n old new r over = to_end n old new r.within over
 -- each state that the station stood for, it stands for as one that has failed
 pub stands_still : (h : Held) → Stays h (with_failure h)
 stands_still h = record {
-  stays = λ m k. record { represented = k.represented; grants = k.grants; size = k.size; kept = k.kept; running = k.running; devices = k.devices };
+  stays = λ m k. record { represented = k.represented; vectors = k.vectors; base = k.base; grants = k.grants; size = k.size; kept = k.kept; running = k.running; devices = k.devices };
 }
 
 module _ (n : ℕ) (h : Halt) (old new : Held) (w : WasCut n h old new) where

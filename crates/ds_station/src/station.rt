@@ -1,9 +1,11 @@
 //! A station: a machine and its monitor.
 ghost use Rattle.std.specs.Prelude.{
   ◌≡◌,
+  ◌≢◌,
   ◌⊎◌,
   ◌<◌,
   ◌≤◌,
+  ◌^◌,
   length,
   [],
   slice_index_or,
@@ -18,6 +20,8 @@ ghost use Rattle.std.specs.Prelude.{
   false,
 };
 ghost use Rattle.ds_log.specs.Text.{line_text};
+ghost use Rattle.ds_cp0.specs.System.{is_user};
+ghost use Rattle.ds_core.specs.Effect.{step};
 ghost use Rattle.ds_tlb.specs.Singles.{IsSingle};
 ghost use Rattle.ds_policy.specs.PolicyParts.{sources_of};
 ghost use Rattle.ds_policy.specs.InputFacts.{AreGoodCommands};
@@ -26,7 +30,7 @@ ghost use Rattle.ds_pagemap.specs.First.{first_state};
 ghost use Rattle.ds_refinement.specs.First.{IsFirst};
 ghost use Rattle.ds_refinement.specs.Stands.{Stands, IsSound};
 ghost use Rattle.ds_refinement.specs.Steps.{Follows, Stays, Moves};
-ghost use Rattle.ds_refinement.specs.Real.{IsReal, RealPath};
+ghost use Rattle.ds_refinement.specs.Real.{IsNoBusError, IsReal, RealPath};
 ghost use Rattle.ds_refinement.specs.Services.{with_failure};
 ghost use Rattle.ds_refinement.specs.Runs.{RunsTo, RunsWithin, held_goes_on};
 ghost use Rattle.ds_station.specs.Faults.{IsFaultAfter, IsStartFault, RefusesStep};
@@ -92,10 +96,18 @@ impl<L: Lookaside> Station<L> {
         Ok(Station { parts })
     }
 
+    /// The program stands at an address of 32 bits.
+    #[inline(always)]
+    fn look_at_program(&self)
+        ensures { self.now.core.pc < 2 ^ 32 }
+    {
+        let _here = self.parts.core.pc;
+    }
+
     /// One machine instruction, one service, an idle turn with its boundary, or the boundary that is
     /// owed. After a failure it answers `Failed`, and nothing changes. No two entries of the buffer
-    /// match the same page.
-    #[tactic(auto, using(crate::proofs::Runs::sound_single))]
+    /// match the same page, and no instruction of a user meets a bus error.
+    #[tactic(auto, using(crate::proofs::Runs::sound_single, crate::proofs::Runs::no_error))]
     pub fn step(&mut self) -> Result<Step, Fault>
         requires { self.old.kept.state.owed ≡ None → self.old.kept.state.time < 1000000000 }
         ensures ok { IfOk result (λ step. Follows step self.old self.new) }
@@ -103,6 +115,9 @@ impl<L: Lookaside> Station<L> {
         ensures real { OnOk result (IsReal self.old self.new) }
         ensures sound { IsSound self.new }
         ensures single { IsSingle self.new.core.entries }
+        ensures bus { self.old.kept.state.owed ≡ None → self.old.kept.state.ready ≢ []
+            → is_user self.old.core.system ≡ true
+            → IsNoBusError (step self.old.core self.old.bus).event }
         ensures err { OnErr result (Stays self.old self.new) }
         ensures still { OnErr result (self.new ≡ with_failure self.old) }
         ensures refused { IfErr result (λ f. RefusesStep f self.old) }
@@ -112,6 +127,7 @@ impl<L: Lookaside> Station<L> {
         ensures again { self.old.own.failed ≡ true
             → IsErrOf result Fault.Failed × (self.new ≡ self.old) }
     {
+        self.look_at_program();
         Ok(self.parts.step()?)
     }
 

@@ -47,37 +47,84 @@ fn kinds(
     Ok(kinds)
 }
 
-/// The page is filled in the first unit, and each call is an instruction and a service.
-const KINDS: [Step; 15] = [
-    Step::Inside,
-    Step::Inside,
-    Step::Unit,
-    Step::Boundary,
-    Step::Unit,
-    Step::Boundary,
-    Step::Inside,
-    Step::Unit,
-    Step::Boundary,
-    Step::Unit,
-    Step::Boundary,
-    Step::Inside,
-    Step::Unit,
-    Step::Boundary,
-    Step::Over,
+/// The kinds of the steps up to `Over`, and how many of each follow. The first unit takes 15 steps
+/// before its instruction: see `STAGES`. No other unit misses a page, and each call is an
+/// instruction and a service.
+const KINDS: [(u32, Step); 14] = [
+    (15, Step::Inside),
+    (1, Step::Unit),
+    (1, Step::Boundary),
+    (1, Step::Unit),
+    (1, Step::Boundary),
+    (1, Step::Inside),
+    (1, Step::Unit),
+    (1, Step::Boundary),
+    (1, Step::Unit),
+    (1, Step::Boundary),
+    (1, Step::Inside),
+    (1, Step::Unit),
+    (1, Step::Boundary),
+    (1, Step::Over),
 ];
+
+/// So many steps of each kind, one after the other.
+fn repeated(alloc: Global, kinds: &[(u32, Step)]) -> Result<Vec<Step>, Fail> {
+    let mut all = Vec::new(alloc);
+    for (count, kind) in kinds {
+        for _ in 0..*count {
+            all.push(*kind)?;
+        }
+    }
+    Ok(all)
+}
 
 #[test]
 fn a_step_is_an_instruction_or_a_service_or_a_boundary(rt: HostRuntime) -> Result<(), Fail> {
     let mut station = station_of(rt.alloc(), POLICY, PUT_A)?;
     assert_eq!(rt;
         kinds(&rt, rt.alloc(), &mut station)?.as_slice(),
-        KINDS.as_slice()
+        repeated(rt.alloc(), &KINDS)?.as_slice()
     );
     assert_eq!(rt;
         kinds(&rt, rt.alloc(), &mut station)?.as_slice(),
         [Step::Over].as_slice()
     );
     has_put_a(&rt, &station);
+    Ok(())
+}
+
+/// The stages of the first unit, whose page and whose page of the page table no slot of the buffer
+/// has: how many steps each takes, and how many instructions of the unit are counted at its end. A
+/// service counts none. The last stage is the unit's end, after which none is counted.
+const STAGES: [(&str, u32, u32); 6] = [
+    // The fetch misses, and the processor enters the handler.
+    ("a miss", 1, 1),
+    // Two words, and the load of the page-table word, which misses the page of the table.
+    ("a double miss", 3, 4),
+    // An entry for the page of the table goes into slot 0, and the unit begins again.
+    ("its service", 1, 4),
+    // The fetch misses as before.
+    ("the miss again", 1, 5),
+    // The load finds its word, and the jump goes back to the unit.
+    ("the nine words", 9, 14),
+    // The fetch finds its page.
+    ("the instruction", 1, 0),
+];
+
+#[test]
+fn a_first_miss_goes_through_its_stages(rt: HostRuntime) -> Result<(), Fail> {
+    let mut station = station_of(rt.alloc(), POLICY, PUT_A)?;
+    for (stage, steps, spent) in STAGES {
+        assert_eq!(rt; station.time(), 0, "before {stage}");
+        for _ in 0..steps {
+            assert!(rt; station.time() < MOST_TICKS);
+            let last = station.step()?;
+            let wanted = if spent == 0 { Step::Unit } else { Step::Inside };
+            assert_eq!(rt; last, wanted, "{stage}");
+        }
+        assert_eq!(rt; station.spent(), spent, "after {stage}");
+    }
+    assert_eq!(rt; station.time(), 1);
     Ok(())
 }
 
@@ -124,18 +171,24 @@ right = \"read\"
 page = \"data\"
 ";
 
-/// A policy and a source with the counts of a station's steps: instructions count from where a unit
-/// begins, a slot is a step of its branch's unit, and a branch whose slot is not in the buffer runs
-/// again when it is.
+/// The counts of the steps that a first miss takes before its instruction: see `STAGES`.
+const FIRST_MISS: &str = "0 1, 0 2, 0 3, 0 4, 0 4, 0 5, \
+    0 6, 0 7, 0 8, 0 9, 0 10, 0 11, 0 12, 0 13, 0 14, ";
+
+/// A policy and a source with the counts of a station's steps after its first miss: instructions
+/// count from where a unit begins, and a slot is a step of its branch's unit. A branch whose slot
+/// is on a page that no slot of the buffer has takes 12 instructions more: the branch and the fetch
+/// of its slot, which misses, the nine words, which find the page of the table in the buffer, and
+/// the branch once more.
 const COUNTS: [(&str, &str, u32, &str); 3] = [
-    (POLICY, PUT_A, 8, "0 1, 0 1, 1 0, 1 0, 2 0, 2 0, 2 1, 3 0, "),
+    (POLICY, PUT_A, 6, "1 0, 1 0, 2 0, 2 0, 2 1, 3 0, "),
+    (POLICY, BRANCH, 7, "0 15, 2 0, 2 0, 3 0, 3 0, 3 1, 4 0, "),
     (
-        POLICY,
-        BRANCH,
-        9,
-        "0 1, 0 1, 0 2, 2 0, 2 0, 3 0, 3 0, 3 1, 4 0, ",
+        LAST_WORD,
+        JUMP,
+        13,
+        "0 15, 0 16, 0 17, 0 18, 0 19, 0 20, 0 21, 0 22, 0 23, 0 24, 0 25, 0 26, 2 0, ",
     ),
-    (LAST_WORD, JUMP, 7, "0 1, 0 1, 0 2, 0 3, 0 3, 0 4, 2 0, "),
 ];
 
 #[test]
@@ -143,6 +196,8 @@ fn instructions_are_counted_from_where_a_unit_begins(rt: HostRuntime) -> Result<
     for (policy, source, steps, wanted) in COUNTS {
         let mut station = station_of(rt.alloc(), policy, source)?;
         assert_eq!(rt; (station.time(), station.spent()), (0, 0));
+        let first = counted(rt.alloc(), &mut station, 15)?;
+        assert_eq!(rt; first.as_str(), FIRST_MISS);
         let counts = counted(rt.alloc(), &mut station, steps)?;
         assert_eq!(rt; counts.as_str(), wanted);
     }
@@ -152,7 +207,8 @@ fn instructions_are_counted_from_where_a_unit_begins(rt: HostRuntime) -> Result<
 #[test]
 fn a_run_begins_with_the_boundary_that_is_owed(rt: HostRuntime) -> Result<(), Fail> {
     let mut station = station_of(rt.alloc(), POLICY, PUT_A)?;
-    counted(rt.alloc(), &mut station, 3)?;
+    // The first unit: 15 steps of its miss, and the instruction.
+    counted(rt.alloc(), &mut station, 16)?;
     station.run(1)?;
     assert_eq!(rt; station.time(), 1);
     assert_eq!(rt; station.step()?, Step::Unit);

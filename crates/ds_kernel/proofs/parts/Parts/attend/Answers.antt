@@ -61,5 +61,5 @@ returns g c =
     let old = c.args.self.now in
     let turn = some_turn old.monitor.owed c.requires.owed in
     has_attended old c.arrive.new.self c.serve_turn.new.self c.end_unit.new.self c.look_ahead.new.self turn.0 c.requires.good.sound turn.1 c.requires.good.orderly.ticked
-    c.requires.high c.requires.low c.look_at_order.ensures.lines c.arrive.ensures.state c.serve_turn.ensures.serves c.serve_turn.ensures.orderly c.serve_turn.ensures.count c.serve_turn.ensures.bus c.serve_turn.ensures.low c.serve_turn.ensures.keeps c.serve_turn.ensures.random c.serve_turn.ensures.rest
-    c.look_ahead.ensures c.end_unit.ensures.enters c.end_unit.ensures.represented c.end_unit.ensures.pages c.end_unit.ensures.random c.end_unit.ensures.rest
+    c.requires.high c.requires.low c.look_at_order.ensures.lines c.arrive.ensures.state c.serve_turn.ensures.serves c.serve_turn.ensures.orderly c.serve_turn.ensures.count c.serve_turn.ensures.bus c.serve_turn.ensures.low c.serve_turn.ensures.keeps c.serve_turn.ensures.pairs c.serve_turn.ensures.random c.serve_turn.ensures.rest
+    c.look_ahead.ensures c.end_unit.ensures.enters c.end_unit.ensures.represented c.end_unit.ensures.pairs c.end_unit.ensures.context c.end_unit.ensures.pages c.end_unit.ensures.random c.end_unit.ensures.rest

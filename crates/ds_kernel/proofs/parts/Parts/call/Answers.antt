@@ -9,7 +9,8 @@ use Rattle.ds_kernel.proofs.Finishing.{has_ended, rest_alike, memory_rests, call
 use Rattle.ds_kernel.specs.Seats.{AreAnswered}
 use Rattle.ds_refinement.specs.Services.{seated_process}
 use Rattle.ds_refinement.specs.Held.{Kept}
-use Rattle.ds_refinement.specs.Stands.{AreResting, ends_in_call}
+use Rattle.ds_refinement.specs.Units.{ends_in_call}
+use Rattle.ds_refinement.specs.Stands.{AreResting}
 use Rattle.ds_monitor.specs.Kept.{kept_of}
 use Rattle.ds_monitor.specs.Sending.{bus_behind}
 use Rattle.ds_kernel.proofs.parts.Parts.call.Goals as goal
@@ -63,7 +64,9 @@ returns-clause-ends g c =
     has_ended f old new mid.monitor mid.core.entries memory p c.requires.busy.good.sound c.look_at_unit.ensures.unowed
     (call_served old left new mid.monitor mid.core.entries memory p unit c.unit_address-unit.ensures
     c.look_at_unit.ensures.above (subst (λ (n : ℕ). p ≤ n) (sym c.leave.ensures.as_many) c.look_at_unit.ensures.within) c.leave.ensures.kept c.leave.ensures.rest
-    c.serve_call.ensures.orderly c.serve_call.ensures.lines c.serve_call.ensures.log c.serve_call.ensures.serves c.serve_call.ensures.size
-    c.serve_call.ensures.keeps (ap (λ (x : Parts g.row.L.Denot). x.monitor) served))
+    c.serve_call.ensures.orderly c.serve_call.ensures.lines c.serve_call.ensures.log c.serve_call.ensures.serves c.serve_call.ensures.size c.serve_call.ensures.elsewhere
+    c.serve_call.ensures.keeps c.serve_call.ensures.pairs (ap (λ (x : Parts g.row.L.Denot). x.monitor) served))
     (comes_in f old left new mid.monitor mid.core.entries memory p c.leave.ensures.rest c.end_unit.ensures.enters c.end_unit.ensures.represented c.end_unit.ensures.pages (c.end_unit.ensures.random ∙ c.serve_call.ensures.random)
-    (ap (λ (x : Parts g.row.L.Denot). x.bus.memory) rest) rests (ap (λ (x : Parts g.row.L.Denot). x.monitor) rest) (ap (λ (x : Parts g.row.L.Denot). x.failed) rest ∙ ap (λ (x : Parts g.row.L.Denot). x.failed) served) (ap (λ (x : Parts g.row.L.Denot). x.spent) rest))
+    (ap (λ (x : Parts g.row.L.Denot). x.bus.memory) rest) rests (ap (λ (x : Parts g.row.L.Denot). x.monitor) rest) (ap (λ (x : Parts g.row.L.Denot). x.failed) rest ∙ ap (λ (x : Parts g.row.L.Denot). x.failed) served) (ap (λ (x : Parts g.row.L.Denot). x.spent) rest)
+    (ap (λ (x : Parts g.row.L.Denot). x.wired) rest ∙ ap (λ (x : Parts g.row.L.Denot). x.wired) served)
+    (c.end_unit.ensures.context ∙ ap (λ (x : Parts g.row.L.Denot). x.core.system.context) served) c.end_unit.ensures.pairs)

@@ -7,6 +7,8 @@ use Rattle.ds_monitor.specs.declared.monitor.Monitor.{Monitor}
 use Rattle.ds_kernel.specs.declared.parts.Parts.{Parts}
 use Rattle.ds_kernel.proofs.Keeping.{ready_first}
 use Rattle.ds_kernel.proofs.Entering.{entering}
+use Rattle.ds_refinement.specs.Pairs.{HasNoNewPairs}
+use Rattle.ds_refinement.proofs.NoNewPairs.{same_pairs}
 use Rattle.ds_kernel.proofs.parts.Parts.enter.Goals as goal
 
 pub put_on-requires-clause-above : goal.put_on-requires-clause-above
@@ -31,3 +33,6 @@ returns-in-Some-clause-enters g c =
     (ap (λ (m : Monitor). m.owner) monitor)
     (ap (λ (x : Parts g.row.L.Denot). x.core) c.put_on.ensures
     ∙ ap (λ (m : Monitor). on_processor between.core (process_of (kept_of m).state p)) (sym (ap (λ (x : Parts g.row.L.Denot). x.monitor) c.put_on.ensures)))
+
+pub returns-in-None-clause-pairs : goal.returns-in-None-clause-pairs
+returns-in-None-clause-pairs g c = subst (λ (p : Parts g.row.L.Denot). HasNoNewPairs c.args.self.now.core.entries p.core.entries) (sym c.self.view_is) (same_pairs c.args.self.now.core.entries)

@@ -32,4 +32,4 @@ returns g c =
     (ap (λ (x : Parts g.row.L.Denot). kept_of x.monitor) go ∙ ap (λ (z : Kept). record z { state = record z.state { time = z.state.time + 1 } }) c.take_answer-answer.ensures.kept)
     (ap (λ (m : Monitor). m.quiet_until) monitor)
     (λ room. subst (HasLogRoom 1) (sym monitor) room)
-    (ap (λ (x : Parts g.row.L.Denot). x.failed) go) (ap (λ (x : Parts g.row.L.Denot). x.spent) go)
+    (ap (λ (x : Parts g.row.L.Denot). x.failed) go) (ap (λ (x : Parts g.row.L.Denot). x.spent) go) (ap (λ (x : Parts g.row.L.Denot). x.wired) go)

@@ -8,6 +8,6 @@ returns-then-self-end g c = λ room.
     let early : p.monitor.time + 1 < c.args.end = c.if-self-end.true in
     let quiet : c.args.end + 2 ≤ p.monitor.quiet_until = c.requires.quiet in record {
       early = early;
-      ahead = may_run_ahead p (c.args.end - p.monitor.time - 1) c.requires.good c.look_at_order.ensures.commands c.look_at_order.ensures.order c.requires.unowed c.requires.ready c.requires.begins (omega (arith, early, quiet));
+      ahead = may_run_ahead p (c.args.end - p.monitor.time - 1) c.requires.good c.look_at_order.ensures.commands c.look_at_order.ensures.order c.requires.unowed c.requires.ready c.requires.user c.requires.begins (omega (arith, early, quiet));
       room = record { consoles = c.have_room.ensures room; log = c.requires.log };
     }

@@ -1,7 +1,12 @@
-use Rattle.std.proofs.Common.{◌-◌, ℕ, ap, sym, ◌∙◌, arith}
+use Rattle.std.proofs.Common.{◌≡◌, ◌-◌, ◌==◌, ℕ, true, false, ap, sym, ◌∙◌, arith}
 use Rattle.std.specs.Prelude.{Option, is_some, min}
+use Rattle.ds_word.specs.Word.{bits}
 use Rattle.ds_kernel.proofs.Ahead.{may_run_ahead, goes_two, within_quiet, no_end, none_owed, some_ready}
 use Rattle.ds_kernel.proofs.parts.Parts.may_run_ahead.Goals as goal
+
+pub returns-then-not-is_user-clause-any : goal.returns-then-not-is_user-clause-any
+returns-then-not-is_user-clause-any g c = λ soon goes.
+    let no : true ≡ false = sym (ap (λ (n : ℕ). bits n 1 1 == 1) goes.mode) ∙ (sym c.is_user.ensures ∙ c.if-not-is_user.true) in absurd (cc)
 
 pub returns-then-end-self-clause-any : goal.returns-then-end-self-clause-any
 returns-then-end-self-clause-any g c = λ soon goes.
@@ -15,5 +20,6 @@ returns-then-is_some-2-clause-ahead g c =
     may_run_ahead c.args.self.now (c.min-end.result - m.time - 1) c.requires.good c.look_at_order.ensures.commands c.look_at_order.ensures.order
     (none_owed m.owed (sym c.is_some.ensures ∙ c.if-is_some.false))
     (some_ready m.ready (sym (c.is_some-then-whole.ensures ∙ ap (λ (o : Option ℕ). is_some o) c.first_ready.ensures) ∙ c.if-is_some-2.true))
+    (sym c.is_user.ensures ∙ c.if-not-is_user.false)
     (c.if-whole.true ∙ c.slot_tick.ensures)
     (within_quiet m.time c.args.n m.quiet_until c.min-end.result (c.min-end.ensures ∙ ap (λ (q : ℕ). min c.args.n q) c.saturating_sub.ensures) (omega (arith, later)))

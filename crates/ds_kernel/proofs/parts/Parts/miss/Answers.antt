@@ -1,13 +1,14 @@
 use Rattle.std.proofs.Common.{◌≡◌, sym, ap, subst, arith}
+use Rattle.ds_cp0.specs.System.{is_user}
 use Rattle.ds_policy.specs.declared.access.Verdict.TheVariants.{Allowed, Denied}
 use Rattle.ds_policy.specs.Pages.{decide}
 use Rattle.ds_pagemap.specs.Unit.{denied_as}
 use Rattle.ds_refinement.specs.declared.step.Step.{Step}
-use Rattle.ds_refinement.specs.Services.{asked_entry}
+use Rattle.ds_refinement.specs.Held.{Held}
 use Rattle.ds_kernel.specs.declared.parts.Parts.{Parts}
 use Rattle.ds_kernel.specs.Parts.{held}
 use Rattle.ds_kernel.specs.Ended.{Does}
-use Rattle.ds_kernel.proofs.Doing.{verdict_is, denied_small, stopped_as, denied_step, refill_step, refill_good, ended_good}
+use Rattle.ds_kernel.proofs.Doing.{kernel_of, verdict_is, denied_small, stopped_as, denied_step, back_step, back_good, ended_good}
 use Rattle.ds_kernel.proofs.parts.Parts.miss.Goals as goal
 
 pub stop-requires-clause-code : goal.stop-requires-clause-code
@@ -17,19 +18,23 @@ stop-requires-clause-code g c =
     (verdict_is _ old.monitor.grants.table c.args.process c.args.access _ old.core.system.bad_vaddr _ (Denied c.in-Denied.rule c.in-Denied.code) c.decide.ensures.exact c.table.ensures.value c.bad_address-address.ensures c.in-Denied.is) in
     omega (arith, few)
 
+pub stop-requires-clause-kernel : goal.stop-requires-clause-kernel
+stop-requires-clause-kernel g c = kernel_of c.args.self.now.core c.requires.served
+
 pub returns-in-Allowed-clause-does : goal.returns-in-Allowed-clause-does
 returns-in-Allowed-clause-does g c =
     let old = c.args.self.now in
-    let new = c.refill.new.self in
+    let new = c.go_back.new.self in
     let decides : decide old.monitor.grants.table c.args.process c.args.access.kind c.args.access.size old.core.system.bad_vaddr ≡ Allowed c.in-Allowed.page c.in-Allowed.offset =
     verdict_is _ old.monitor.grants.table c.args.process c.args.access _ old.core.system.bad_vaddr _ (Allowed c.in-Allowed.page c.in-Allowed.offset) c.decide.ensures.exact c.table.ensures.value c.bad_address-address.ensures c.in-Allowed.is in
-    refill_step c.args.process old new c.requires.busy c.requires.kernel c.args.access c.in-Allowed.page c.in-Allowed.offset c.look_at_random.ensures c.requires.told decides c.refill.ensures.held
+    back_step c.args.process old new c.requires.busy c.requires.served c.requires.left c.args.access c.in-Allowed.page c.in-Allowed.offset c.requires.told decides c.go_back.ensures.held
 
 pub returns-in-Allowed-clause-good : goal.returns-in-Allowed-clause-good
 returns-in-Allowed-clause-good g c =
     let old = c.args.self.now in
-    refill_good c.args.process old c.refill.new.self c.requires.busy c.requires.kernel (asked_entry (held old) c.args.process) c.refill.ensures.held
-    (ap (λ (x : Parts g.row.L.Denot). x.monitor) c.refill.ensures.rest) (returns-in-Allowed-clause-does g c)
+    let rest = c.go_back.ensures.rest in
+    back_good c.args.process old c.go_back.new.self c.requires.busy (ap (λ (x : Parts g.row.L.Denot). x.monitor) rest) (ap (λ (x : Parts g.row.L.Denot). x.spent) rest)
+    (ap (λ (x : Parts g.row.L.Denot). x.failed) rest) (ap (λ (x : Held). is_user x.core.system) c.go_back.ensures.held) (returns-in-Allowed-clause-does g c)
 
 pub returns-in-Denied-clause-does : goal.returns-in-Denied-clause-does
 returns-in-Denied-clause-does g c =
@@ -38,7 +43,7 @@ returns-in-Denied-clause-does g c =
     let denied : decide old.monitor.grants.table c.args.process c.args.access.kind c.args.access.size old.core.system.bad_vaddr ≡ Denied c.in-Denied.rule c.in-Denied.code =
     verdict_is _ old.monitor.grants.table c.args.process c.args.access _ old.core.system.bad_vaddr _ (Denied c.in-Denied.rule c.in-Denied.code) c.decide.ensures.exact c.table.ensures.value c.bad_address-address.ensures c.in-Denied.is in
     subst (λ (s : Step). Does s (held old) (held new)) (sym c.stop.ensures.step)
-    (denied_step c.args.process old new c.requires.busy c.requires.kernel c.args.access c.in-Denied.rule c.in-Denied.code c.requires.told denied
+    (denied_step c.args.process old new c.requires.busy c.requires.served c.requires.left c.args.access c.in-Denied.rule c.in-Denied.code c.requires.told denied
     (stopped_as c.args.process old new c.denied_as.result (denied_as c.args.access.kind) c.bad_address-address.result old.core.system.bad_vaddr c.in-Denied.rule c.in-Denied.code c.denied_as.ensures c.bad_address-address.ensures c.stop.ensures.ends))
 
 pub returns-in-Denied-clause-good : goal.returns-in-Denied-clause-good

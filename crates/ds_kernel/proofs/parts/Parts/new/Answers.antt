@@ -5,6 +5,7 @@ use Rattle.ds_tlb.specs.Entries.{empty_entries}
 use Rattle.ds_dev.specs.Bus.{BusState}
 use Rattle.ds_policy.specs.declared.policy.PolicyProcess.{PolicyProcess}
 use Rattle.ds_mem.proofs.Zeros.{frame_of-zeros}
+use Rattle.ds_refill.specs.Handler as handler
 use Rattle.ds_tables.specs.Tables.{HasEmptyTable}
 use Rattle.ds_grants.specs.State.{GrantsState, page_state}
 use Rattle.ds_grants.specs.Buffer.{one_space}
@@ -16,6 +17,7 @@ use Rattle.ds_pagemap.specs.First.{first_process}
 use Rattle.ds_refinement.specs.Held.{Kept}
 use Rattle.ds_refinement.specs.First.{first_core, first_bus}
 use Rattle.ds_refinement.proofs.FirstStands.{first_stands}
+use Rattle.ds_refinement.proofs.Vectors.{vectors_first}
 use Rattle.ds_kernel.proofs.Beginning.{first_good}
 use Rattle.ds_kernel.proofs.parts.Parts.new.Goals as goal
 
@@ -34,7 +36,8 @@ returns-clause-first g c =
     let entries = c.in_ok-monitor.ensures.entries ∙ ap empty_entries c.requires.slots in
     let memory = ap (λ (b : BusState). b.memory) c.first_bus.ensures in
     let grants = ap (λ (k : Kept). k.grants) c.in_ok-monitor.ensures.first in
-    let empty : HasEmptyTable c.in_ok-memory.memory = subst (λ (m : List ℕ). HasEmptyTable m) (sym c.in_ok-memory.ensures) (frame_of-zeros (2 ^ 23) 1 (omega arith)) in
+    let zero : HasEmptyTable c.in_ok-memory.memory = subst (λ (m : List ℕ). HasEmptyTable m) (sym c.in_ok-memory.ensures) (frame_of-zeros (2 ^ 23) 1 (omega arith)) in
+    let empty : HasEmptyTable c.install.new.memory = c.install.ensures.frames 1 (omega arith) ∙ zero in
     let represented = c.in_ok-monitor.ensures.represented (omega (arith, c.requires.slots)) empty one_space in
     record {
       core =
@@ -48,6 +51,8 @@ returns-clause-first g c =
       tables = subst (λ (m : List ℕ). HasWords m c.in_ok-monitor.monitor.tables (first_grants policy)) (sym memory)
           (subst (λ (x : GrantsState). HasWords c.new-2.new.memory c.in_ok-monitor.monitor.tables x) grants
           (record { words = represented.words; places = represented.places; empty = represented.empty }));
+      vectors = subst (λ (m : List ℕ). handler.HasWords m) (sym memory)
+          (vectors_first c.install.new.memory c.new-2.new.memory (c.in_ok-monitor.ensures.elsewhere 0 (omega arith)) c.install.ensures.words);
       own = refl;
     }
 

@@ -10,7 +10,7 @@ serve_raised-requires-clause-begun g c =
     let end : c.args.self.now.monitor.time + c.args.limit + 1 ≡ c.args.end = c.requires.end in
     let within : c.args.end ≤ c.args.n = c.requires.within in
     let small : owed_tick c.args.self.now.core.slot ≤ 1 = owed_small c.args.self.now.core.slot in
-    let gone : GoesOn c.args.n (held c.args.self.now) (held c.run_block.new.self) = c.run_block.ensures.goes c.args.n (omega (arith, end, within, small)) in
+    let gone : GoesOn c.args.n (held c.args.self.now) (held c.run_block-called.new.self) = c.run_block-called.ensures.goes c.args.n (omega (arith, end, within, small)) in
     gone.begun
 
 pub returns-clause-goes : goal.returns-clause-goes
@@ -18,4 +18,4 @@ returns-clause-goes g c =
     let end : c.args.self.now.monitor.time + c.args.limit + 1 ≡ c.args.end = c.requires.end in
     let within : c.args.end ≤ c.args.n = c.requires.within in
     let small : owed_tick c.args.self.now.core.slot ≤ 1 = owed_small c.args.self.now.core.slot in
-    c.serve_raised.ensures.goes (held c.args.self.now) (c.run_block.ensures.goes c.args.n (omega (arith, end, within, small)))
+    c.serve_raised.ensures.goes (held c.args.self.now) (c.run_block-called.ensures.goes c.args.n (omega (arith, end, within, small)))

@@ -1,6 +1,8 @@
 use Rattle.std.proofs.Common.{subst}
 use Rattle.ds_refinement.specs.Held.{Held}
+use Rattle.ds_kernel.specs.declared.parts.Parts.{Parts}
 use Rattle.ds_kernel.specs.Parts.{held}
+use Rattle.ds_kernel.specs.Ended.{Does}
 use Rattle.ds_kernel.specs.Going.{GoesOn}
 use Rattle.ds_kernel.proofs.Running.{step_goes}
 use Rattle.ds_kernel.proofs.parts.Parts.run_blocks_or_step.Goals as goal
@@ -11,4 +13,7 @@ returns-in_ok-begin_block-in-Some-clause-goes g c =
 
 pub returns-in_ok-step-in-None-clause-goes : goal.returns-in_ok-step-in-None-clause-goes
 returns-in_ok-step-in-None-clause-goes g c =
-    step_goes c.in_ok-step-in-None.field-0 c.args.n (held c.args.self.now) (held c.step.new.self) c.requires.going c.requires.good.sound c.in_ok-step-in-None.ensures.does
+    let old = c.args.self.now in
+    let same = c.go_at_once.ensures.still c.if-not-go_at_once.true in
+    step_goes c.in_ok-step-in-None.field-0 c.args.n (held old) (held c.step.new.self) c.requires.going c.requires.good.sound
+    (subst (λ (p : Parts g.row.L.Denot). Does c.in_ok-step-in-None.field-0 (held p) (held c.step.new.self)) same c.in_ok-step-in-None.ensures.does)

@@ -4,7 +4,7 @@ use Rattle.ds_refinement.specs.Held.{space_of}
 use Rattle.ds_kernel.specs.declared.parts.Parts.{Parts}
 use Rattle.ds_kernel.proofs.Keeping.{left_alive}
 use Rattle.ds_kernel.proofs.Finishing.{has_ended, rest_alike, comes_in, stop_served}
-use Rattle.ds_refinement.specs.Stands.{ends_in_stop}
+use Rattle.ds_refinement.specs.Units.{ends_in_stop}
 use Rattle.ds_refinement.specs.Told.{own_in}
 use Rattle.ds_pagemap.specs.Unit.{Stop}
 use Rattle.ds_monitor.specs.Kept.{kept_of}
@@ -33,4 +33,5 @@ returns-clause-ends g c =
     (comes_in f old left new between left.core.entries old.bus.memory c.args.process c.leave.ensures.rest c.end_unit.ensures.enters
     (subst (λ (m : List ℕ). IsRepresented left.core.entries m between.tables (space_of (kept_of between)) between.grants → IsRepresented new.core.entries new.bus.memory new.monitor.tables (space_of (kept_of new.monitor)) new.monitor.grants)
     (ap (λ (x : Parts g.row.L.Denot). x.bus.memory) c.leave.ensures.rest) c.end_unit.ensures.represented) c.end_unit.ensures.pages c.end_unit.ensures.random
-    (ap (λ (x : Parts g.row.L.Denot). x.bus.memory) rest ∙ ap (λ (x : Parts g.row.L.Denot). x.bus.memory) c.leave.ensures.rest) (rest_alike left.bus new.bus (ap (λ (x : Parts g.row.L.Denot). x.bus) rest)) (ap (λ (x : Parts g.row.L.Denot). x.monitor) rest) (ap (λ (x : Parts g.row.L.Denot). x.failed) rest) (ap (λ (x : Parts g.row.L.Denot). x.spent) rest))
+    (ap (λ (x : Parts g.row.L.Denot). x.bus.memory) rest ∙ ap (λ (x : Parts g.row.L.Denot). x.bus.memory) c.leave.ensures.rest) (rest_alike left.bus new.bus (ap (λ (x : Parts g.row.L.Denot). x.bus) rest)) (ap (λ (x : Parts g.row.L.Denot). x.monitor) rest) (ap (λ (x : Parts g.row.L.Denot). x.failed) rest) (ap (λ (x : Parts g.row.L.Denot). x.spent) rest) (ap (λ (x : Parts g.row.L.Denot). x.wired) rest)
+    c.end_unit.ensures.context c.end_unit.ensures.pairs)

@@ -11,7 +11,7 @@ use Rattle.ds_monitor.specs.Room.{HasLogRoom}
 use Rattle.ds_pagemap.specs.Unit.{at_pc}
 use Rattle.ds_pagemap.specs.Calls.{served}
 use Rattle.ds_refinement.specs.Held.{Kept, whole}
-use Rattle.ds_refinement.specs.Stands.{ends_in_call}
+use Rattle.ds_refinement.specs.Units.{ends_in_call}
 use Rattle.ds_monitor.specs.Kept.{kept_of, kept_after}
 use Rattle.ds_monitor.specs.declared.monitor.Monitor.{Monitor}
 use Rattle.ds_monitor.proofs.Serving.{serves_then, serves_as}

@@ -7,6 +7,7 @@ use Rattle.ds_pagemap.specs.Calls.{after_command}
 use Rattle.ds_monitor.specs.Orderly.{IsOrderly}
 use Rattle.ds_refinement.specs.Held.{Kept}
 use Rattle.ds_refinement.specs.Services.{Serves}
+use Rattle.ds_refinement.proofs.NoNewPairs.{same_pairs, joined_pairs}
 use Rattle.ds_monitor.specs.declared.monitor.Monitor.{Monitor}
 use Rattle.ds_monitor.specs.Kept.{kept_of}
 use Rattle.ds_monitor.specs.Room.{HasLogRoom}
@@ -28,6 +29,7 @@ loop-order-init g c = record {
   count = omega arith;
   low = low_same c.args.memory.now;
   keeps = λ numbers apart are holds. holds;
+  pairs = same_pairs (g.L.Lookaside.entries c.args.tlb.now);
   random = refl;
   room = c.requires.room;
   rest = refl;
@@ -79,6 +81,7 @@ loop-order-preserved g c =
       count = (let all = i.count in let one = c.command.ensures.lines in omega (arith, all, one, longer, same));
       low = low_then c.args.memory.now c.loop-order.memory c.command.new.memory i.low c.command.ensures.low;
       keeps = λ numbers apart are holds. c.command.ensures.keeps numbers apart are (i.keeps numbers apart are holds);
+      pairs = joined_pairs (g.L.Lookaside.entries c.args.tlb.now) (g.L.Lookaside.entries c.loop-order.tlb) (g.L.Lookaside.entries c.command.new.tlb) i.pairs c.command.ensures.pairs;
       random = c.command.ensures.random ∙ i.random;
       room = subst (λ (d : InputValue). HasLogRoom (commands_by now d.commands) next) (sym still)
           (c.command.ensures.room (commands_by now left.commands) (fewer_lines (commands_by now left.commands + 1) (commands_by now last.due.commands) (record last { due = left }) (omega (arith, more)) i.room));

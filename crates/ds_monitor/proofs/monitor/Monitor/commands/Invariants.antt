@@ -2,6 +2,7 @@ use Rattle.std.proofs.Common.{◌≡◌, ◌+◌, ◌≤◌, ℕ, List, length}
 use Rattle.ds_grants.specs.Buffer.{one_space}
 use Rattle.ds_grants.specs.Represented.{IsLow, Keeps}
 use Rattle.ds_refinement.specs.Held.{Kept}
+use Rattle.ds_refinement.specs.Pairs.{HasNoNewPairs}
 use Rattle.ds_refinement.specs.Services.{Serves}
 use Rattle.ds_monitor.specs.Kept.{kept_of}
 use Rattle.ds_monitor.specs.Commands.{commanded, commands_by}
@@ -17,6 +18,7 @@ invariant-loop-order g l = record {
   count : l.self.lines + length l.self.due.commands ≤ l.fn.self.lines + length l.fn.self.due.commands;
   low : IsLow l.fn.memory l.memory;
   keeps : Keeps one_space (g.L.Lookaside.entries l.fn.tlb) l.fn.memory l.fn.self.tables l.fn.self.grants (g.L.Lookaside.entries l.tlb) l.memory l.self.tables l.self.grants;
+  pairs : HasNoNewPairs (g.L.Lookaside.entries l.fn.tlb) (g.L.Lookaside.entries l.tlb);
   random : g.L.Lookaside.random_place l.tlb ≡ g.L.Lookaside.random_place l.fn.tlb;
   room : HasLogRoom (commands_by l.fn.self.time l.self.due.commands) l.self;
   rest : l.self ≡ record l.fn.self {

@@ -8,6 +8,7 @@ use Rattle.ds_refinement.specs.Held.{Kept}
 use Rattle.ds_refinement.specs.Services.{Serves}
 use Rattle.ds_monitor.specs.Kept.{kept_of}
 use Rattle.ds_monitor.proofs.Granting.{number_serves}
+use Rattle.ds_monitor.proofs.Forgetting.{answered_pairs}
 use Rattle.ds_monitor.proofs.monitor.Monitor.drop_own.Goals as goal
 
 pub returns-clause-serves : goal.returns-clause-serves
@@ -20,3 +21,7 @@ returns-clause-serves g c = λ pc.
     (number_serves (λ (m : State). drop_own m.memory p c.args.address) k x y c.drop_page-dropped.new.self c.drop_page-dropped.new.tables p c.answer_of.result c.drop_page-dropped.result
     (drop_own (page_state k.grants x) p c.args.address) (record { memory = refl; log = refl })
     (λ log. refl) c.drop_page-dropped.ensures.does c.answer_of.ensures.done c.answer_of.ensures.refused)
+
+pub returns-clause-pairs : goal.returns-clause-pairs
+returns-clause-pairs g c =
+    answered_pairs _ _ _ c.drop_page-dropped.result (g.L.Lookaside.entries c.args.tlb.now) (g.L.Lookaside.entries c.drop_page-dropped.new.tlb) c.args.address 1 c.drop_page-dropped.ensures.entries c.drop_page-dropped.ensures.refused

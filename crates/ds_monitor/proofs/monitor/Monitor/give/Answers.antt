@@ -10,6 +10,7 @@ use Rattle.ds_monitor.specs.declared.monitor.Monitor.{Monitor}
 use Rattle.ds_monitor.specs.Kept.{kept_of}
 use Rattle.ds_monitor.proofs.Serving.{serves_as}
 use Rattle.ds_monitor.proofs.Granting.{gives, answered_serves, serves_before}
+use Rattle.ds_monitor.proofs.Forgetting.{answered_pairs}
 use Rattle.ds_monitor.proofs.monitor.Monitor.give.Goals as goal
 
 pub returns-in-Ok-clause-serves : goal.returns-in-Ok-clause-serves
@@ -40,3 +41,11 @@ returns-in-Err-clause-serves g c =
     serves_as denies (λ (m : State). served m a.process a.pc (call.Give a.address a.receiver a.to a.mode)) k n x y
     (λ log. ap (or_denied (whole k x log) a.process a.pc a.address) (gives k x log a.process a.address a.receiver a.to a.mode c.requires.marks ∙ (refused.0 ∙ ap Err (sym c.number.ensures))))
     (serves_before denies k n x y y c.give-done.new.self c.give-done.new.tables refused.1 (c.refuse_give.ensures.serves y))
+
+pub returns-in-Ok-clause-pairs : goal.returns-in-Ok-clause-pairs
+returns-in-Ok-clause-pairs g c =
+    answered_pairs _ _ _ c.give-done.result (g.L.Lookaside.entries c.args.tlb.now) (g.L.Lookaside.entries c.give-done.new.tlb) c.args.to 1 c.give-done.ensures.entries c.give-done.ensures.refused
+
+pub returns-in-Err-clause-pairs : goal.returns-in-Err-clause-pairs
+returns-in-Err-clause-pairs g c =
+    answered_pairs _ _ _ c.give-done.result (g.L.Lookaside.entries c.args.tlb.now) (g.L.Lookaside.entries c.give-done.new.tlb) c.args.to 1 c.give-done.ensures.entries c.give-done.ensures.refused

@@ -10,6 +10,7 @@ use Rattle.ds_refinement.specs.Held.{whole}
 use Rattle.ds_monitor.specs.Kept.{kept_of}
 use Rattle.ds_monitor.specs.Commands.{Obeys}
 use Rattle.ds_monitor.proofs.Commanding.{grants_obey}
+use Rattle.ds_monitor.proofs.Forgetting.{answered_pairs}
 use Rattle.ds_monitor.proofs.Living.{lives_as, grant_as, narrow_as, revoke_as, drop_as}
 use Rattle.ds_monitor.proofs.monitor.Monitor.obey.Goals as goal
 
@@ -68,3 +69,19 @@ returns-in-Resume-clause-obeys g c =
 pub returns-in-Stop-clause-obeys : goal.returns-in-Stop-clause-obeys
 returns-in-Stop-clause-obeys g c =
     subst (λ (z : Command). Obeys c.args.number z (kept_of c.args.self.now) c.args.memory.now (kept_of c.stop.new.self) c.stop.new.memory c.stop.result) (sym c.in-Stop.is) (c.stop.ensures.obeys c.args.number)
+
+pub returns-in-Grant-clause-pairs : goal.returns-in-Grant-clause-pairs
+returns-in-Grant-clause-pairs g c =
+    answered_pairs _ _ _ c.grant.result (g.L.Lookaside.entries c.args.tlb.now) (g.L.Lookaside.entries c.grant.new.tlb) c.in-Grant.address 1 c.grant.ensures.entries c.grant.ensures.refused
+
+pub returns-in-Narrow-clause-pairs : goal.returns-in-Narrow-clause-pairs
+returns-in-Narrow-clause-pairs g c =
+    answered_pairs _ _ _ c.narrow.result (g.L.Lookaside.entries c.args.tlb.now) (g.L.Lookaside.entries c.narrow.new.tlb) c.in-Narrow.address 1 c.narrow.ensures.entries c.narrow.ensures.refused
+
+pub returns-in-Revoke-clause-pairs : goal.returns-in-Revoke-clause-pairs
+returns-in-Revoke-clause-pairs g c =
+    answered_pairs _ _ _ c.revoke.result (g.L.Lookaside.entries c.args.tlb.now) (g.L.Lookaside.entries c.revoke.new.tlb) c.in-Revoke.address 1 c.revoke.ensures.entries c.revoke.ensures.refused
+
+pub returns-in-Drop-clause-pairs : goal.returns-in-Drop-clause-pairs
+returns-in-Drop-clause-pairs g c =
+    answered_pairs _ _ _ c.drop_page.result (g.L.Lookaside.entries c.args.tlb.now) (g.L.Lookaside.entries c.drop_page.new.tlb) c.in-Drop.address 1 c.drop_page.ensures.entries c.drop_page.ensures.refused

@@ -5,7 +5,7 @@ use Rattle.ds_log.specs.Text.{line_text}
 use Rattle.ds_pagemap.specs.Machine.{State}
 use Rattle.ds_pagemap.specs.Unit.{Stop, at_pc}
 use Rattle.ds_refinement.specs.Held.{Kept}
-use Rattle.ds_refinement.specs.Stands.{ends_in_stop}
+use Rattle.ds_refinement.specs.Units.{ends_in_stop}
 use Rattle.ds_refinement.specs.Services.{Serves}
 use Rattle.ds_monitor.specs.Kept.{kept_of, kept_after}
 use Rattle.ds_monitor.specs.Room.{HasLogRoom}

@@ -8,6 +8,7 @@ use Rattle.ds_refinement.specs.Held.{Kept}
 use Rattle.ds_refinement.specs.Services.{Serves}
 use Rattle.ds_monitor.specs.Kept.{kept_of}
 use Rattle.ds_monitor.proofs.Granting.{takes, number_serves}
+use Rattle.ds_monitor.proofs.Forgetting.{answered_pairs}
 use Rattle.ds_monitor.proofs.monitor.Monitor.take_back.Goals as goal
 
 pub returns-clause-serves : goal.returns-clause-serves
@@ -20,3 +21,7 @@ returns-clause-serves g c = λ pc.
     (number_serves (λ (m : State). take (lives m) m.memory p c.args.holder c.args.address) k x y c.take-done.new.self c.take-done.new.tables p c.answer_of.result c.take-done.result
     (take (lives_in k.grants) (page_state k.grants x) p c.args.holder c.args.address) (record { memory = refl; log = refl })
     (λ log. takes k x log p c.args.holder c.args.address c.requires.marks) c.take-done.ensures.does c.answer_of.ensures.done c.answer_of.ensures.refused)
+
+pub returns-clause-pairs : goal.returns-clause-pairs
+returns-clause-pairs g c =
+    answered_pairs _ _ _ c.take-done.result (g.L.Lookaside.entries c.args.tlb.now) (g.L.Lookaside.entries c.take-done.new.tlb) c.args.address 1 c.take-done.ensures.entries c.take-done.ensures.refused

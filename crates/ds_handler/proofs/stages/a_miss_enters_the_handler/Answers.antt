@@ -1,5 +1,0 @@
-use Rattle.ds_handler.proofs.Entered.{miss_enters, none_owed, user_mode}
-use Rattle.ds_handler.proofs.stages.a_miss_enters_the_handler.Goals as goal
-
-pub returns : goal.returns
-returns c = λ h m p rest e k ready owed user at units miss whole. miss_enters h m p rest e k ready whole (user_mode h m p rest k ready user) (none_owed h m p rest k ready owed) at units miss

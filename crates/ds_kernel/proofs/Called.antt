@@ -1,0 +1,115 @@
+-- What the processor tells where a call left the program.
+use Rattle.std.proofs.Common.{◌≡◌, ℕ, Bool, true, false, refl, cond}
+use Rattle.std.specs.Prelude.{Result, Ok, Err, ◌==◌}
+use Rattle.ds_isa.specs.declared.instr.Instr.{Instr}
+use Rattle.ds_isa.specs.declared.instr.Instr.TheVariants as instr
+use Rattle.ds_isa.specs.declared.instr.Kind.{Kind}
+use Rattle.ds_isa.specs.declared.instr.Kind.TheVariants.{Fetch, Load, Store}
+use Rattle.ds_isa.specs.declared.instr.Size.{Size}
+use Rattle.ds_isa.specs.declared.instr.Size.TheVariants.{Word}
+use Rattle.ds_isa.specs.Registers.{Registers}
+use Rattle.ds_isa.specs.Meaning.{Effect, Branches, Loads, Stores, Faults, Calls, Privileged, meaning}
+use Rattle.ds_isa.specs.Meaning as effects
+use Rattle.ds_isa.specs.Instruction.{instruction_of}
+use Rattle.ds_amap.specs.declared.map.Physical.{Physical}
+use Rattle.ds_amap.specs.declared.map.Fault.{Fault}
+use Rattle.ds_amap.specs.declared.map.Fault.TheVariants as fault
+use Rattle.ds_cp0.specs.declared.exception.Exception.{Exception}
+use Rattle.ds_cp0.specs.declared.exception.ExceptionCode.{ExceptionCode}
+use Rattle.ds_cp0.specs.declared.exception.ExceptionCode.TheVariants.{Interrupt, FetchBus, DataBus, SystemCall, Breakpoint, ReservedInstruction, Overflow}
+use Rattle.ds_cp0.specs.System.{entered, is_pending}
+use Rattle.ds_dev.specs.declared.fault.BusError.{BusError}
+use Rattle.ds_dev.specs.Bus.{BusState, lines}
+use Rattle.ds_core.specs.declared.event.Event.TheVariants.{Raised}
+use Rattle.ds_core.specs.Core.{CoreState, Step, branched, exception, with_tick, trapped, at_vector}
+use Rattle.ds_core.specs.Access.{refusal, code_of, reached, aligned_load, aligned_store, kept, load_answered, loaded_from, store_answered, stored_to}
+use Rattle.ds_core.specs.Coprocessor.{is_usable, unusable_exception, unusable, usable, unit_of}
+use Rattle.ds_core.specs.Effect.{fault_code, effect, fetch_answered, fetched_from, instruction, step}
+use Rattle.ds_core.specs.Ahead.{is_raised}
+
+-- a step that enters the exception of a call has its registers, and is at the general vector
+abbrev Tells : CoreState → Step → Type 0
+Tells c s = s.event ≡ Raised SystemCall → (s.core.system ≡ entered c.system (exception c SystemCall)) × (s.core.pc ≡ 0x80000080)
+
+same_code : (x y : ExceptionCode) → Raised x ≡ Raised y → x ≡ y
+same_code x y is = cc
+
+-- one of another code enters none
+other : (c : CoreState) (b : BusState) (e : Exception) → (e.code ≡ SystemCall → ⊥) → Tells c (at_vector c b e)
+other c b e none = λ raised. absurd (none (same_code e.code SystemCall raised))
+
+calm : (c : CoreState) (s : Step) → is_raised s.event ≡ false → Tells c s
+calm c s none = λ raised. absurd (cc)
+
+no_refusal : (f : Fault) (store : Bool) → code_of f store ≡ SystemCall → ⊥
+no_refusal fault.Address true is = absurd (cc)
+no_refusal fault.Address false is = absurd (cc)
+no_refusal fault.Refill true is = absurd (cc)
+no_refusal fault.Refill false is = absurd (cc)
+no_refusal fault.Invalid true is = absurd (cc)
+no_refusal fault.Invalid false is = absurd (cc)
+no_refusal fault.Modified store is = absurd (cc)
+
+no_fault : (a b : Bool) → cond a Breakpoint (cond b Overflow ReservedInstruction) ≡ SystemCall → ⊥
+no_fault true b is = absurd (cc)
+no_fault false true is = absurd (cc)
+no_fault false false is = absurd (cc)
+
+by_branch : (slot : Bool) (c : CoreState) (b : BusState) (r : Registers) (target : ℕ) → Tells c (branched slot c b r target)
+by_branch true c b r target = other c b (exception c ReservedInstruction) (λ is. absurd (cc))
+by_branch false c b r target = calm c (branched false c b r target) refl
+
+by_load : (c : CoreState) (b : BusState) (after : ℕ → Registers) (r : Result ℕ BusError) → Tells c (load_answered c b after r)
+by_load c b after (Err e) = other c b (exception c DataBus) (λ is. absurd (cc))
+by_load c b after (Ok w) = calm c (load_answered c b after (Ok w)) refl
+
+by_loaded : (c : CoreState) (b : BusState) (size : Size) (addr : ℕ) (after : ℕ → Registers) (r : Result Physical Fault) → Tells c (loaded_from c b size addr after r)
+by_loaded c b size addr after (Err e) = other c b (refusal c Load addr e) (λ is. no_refusal e false is)
+by_loaded c b size addr after (Ok place) = by_load c (aligned_load b place.0 size).1 after (aligned_load b place.0 size).0
+
+by_store : (c : CoreState) (b : BusState) (r : Result (Unit {0}) BusError) → Tells c (store_answered c b r)
+by_store c b (Err e) = other c b (exception c DataBus) (λ is. absurd (cc))
+by_store c b (Ok u) = calm c (store_answered c b (Ok u)) refl
+
+by_stored : (c : CoreState) (b : BusState) (size : Size) (addr : ℕ) (after : ℕ → ℕ) (r : Result Physical Fault) → Tells c (stored_to c b size addr after r)
+by_stored c b size addr after (Err e) = other c b (refusal c Store addr e) (λ is. no_refusal e true is)
+by_stored c b size addr after (Ok place) = by_store c (aligned_store b place.0 size (after (kept b place.0))).1 (aligned_store b place.0 size (after (kept b place.0))).0
+
+by_usable : (c : CoreState) (b : BusState) (i : Instr) → Tells c (usable c b i)
+by_usable c b (instr.Mfc0 rt rd) = calm c (usable c b (instr.Mfc0 rt rd)) refl
+by_usable c b (instr.Mtc0 rt rd) = calm c (usable c b (instr.Mtc0 rt rd)) refl
+by_usable c b instr.Tlbr = calm c (usable c b instr.Tlbr) refl
+by_usable c b instr.Tlbwi = calm c (usable c b instr.Tlbwi) refl
+by_usable c b instr.Tlbwr = calm c (usable c b instr.Tlbwr) refl
+by_usable c b instr.Tlbp = calm c (usable c b instr.Tlbp) refl
+by_usable c b instr.Rfe = calm c (usable c b instr.Rfe) refl
+by_usable c b i = other c b (exception c ReservedInstruction) (λ is. absurd (cc))
+
+by_use : (c : CoreState) (b : BusState) (i : Instr) (can : Bool) → Tells c (cond can (usable c b i) (unusable c b (unit_of i)))
+by_use c b i true = by_usable c b i
+by_use c b i false = other c b (unusable_exception c (unit_of i)) (λ is. absurd (cc))
+
+by_effect : (c : CoreState) (b : BusState) (i : Instr) (e : Effect) → Tells c (effect c b i e)
+by_effect c b i (effects.Goes after) = calm c (effect c b i (effects.Goes after)) refl
+by_effect c b i (Branches after target) = by_branch c.slot c b after target
+by_effect c b i (Loads size addr after) = by_loaded c b size addr after (reached c Load size addr)
+by_effect c b i (Stores size addr after) = by_stored c b size addr after (reached c Store size addr)
+by_effect c b i (Faults code) = other c b (exception c (fault_code code)) (λ is. no_fault (code == 9) (code == 12) is)
+by_effect c b i Calls = λ raised. (refl, refl)
+by_effect c b i Privileged = by_use c b i (is_usable c (unit_of i))
+
+by_answer : (c : CoreState) (b : BusState) (r : Result ℕ BusError) → Tells c (fetch_answered c b r)
+by_answer c b (Err e) = other c b (exception c FetchBus) (λ is. absurd (cc))
+by_answer c b (Ok w) = by_effect c b (instruction_of w) (meaning (instruction_of w) c.pc c.registers)
+
+by_fetch : (c : CoreState) (b : BusState) (r : Result Physical Fault) → Tells c (fetched_from c b r)
+by_fetch c b (Err e) = other c b (refusal c Fetch c.pc e) (λ is. no_refusal e false is)
+by_fetch c b (Ok place) = by_answer c (aligned_load b place.0 Word).1 (aligned_load b place.0 Word).0
+
+by_interrupt : (c : CoreState) (b : BusState) (asked : Bool) → Tells c (cond asked (trapped c b Interrupt) (with_tick (instruction c b)))
+by_interrupt c b true = other c b (exception c Interrupt) (λ is. absurd (cc))
+by_interrupt c b false = by_fetch c b (reached c Fetch Word c.pc)
+
+-- where a step enters the exception of a call, the coprocessor tells that and no more
+pub call_told : (c : CoreState) (b : BusState) → (step c b).event ≡ Raised SystemCall → ((step c b).core.system ≡ entered c.system (exception c SystemCall)) × ((step c b).core.pc ≡ 0x80000080)
+call_told c b = by_interrupt c b (is_pending c.system (lines b).0 (lines b).1)

@@ -1,0 +1,105 @@
+//! The refill handler in the unit: each law is the contract of a function with an empty body. A
+//! station stands for a state of the machine; the laws say for which it stands after an exception
+//! or a word of the handler, and that a whole refill at once is a path.
+ghost use Rattle.std.specs.Prelude.{◌≡◌, ◌≢◌, ◌+◌, ◌≤◌, ℕ, true, false, None, List, [], ◌∷◌};
+ghost use Rattle.ds_isa.specs.Registers.{settled};
+ghost use Rattle.ds_cp0.specs.declared.exception.Exception.{Exception};
+ghost use Rattle.ds_cp0.specs.System.{is_user, epc_of, entered, vector};
+ghost use Rattle.ds_refill.specs.Handler.{HasWords};
+ghost use Rattle.ds_refill_laws.specs.Refill.{IsKernel, handler_events};
+ghost use Rattle.ds_handler.specs.Refills.{RunsInside, is_general};
+ghost use Rattle.ds_core.specs.Core.{CoreState, core_at_vector};
+ghost use Rattle.ds_core.specs.Effect.{step};
+ghost use Rattle.ds_pagemap.specs.Machine.{State, process_of, touched};
+ghost use Rattle.ds_pagemap.specs.Unit.{with_registers};
+ghost use Rattle.ds_refinement.specs.declared.step.Step.TheVariants.{Inside};
+ghost use Rattle.ds_refinement.specs.Told.{told, is_delayed};
+ghost use Rattle.ds_refinement.specs.Units.{Promise, is_served};
+ghost use Rattle.ds_refinement.specs.Held.{Held};
+ghost use Rattle.ds_refinement.specs.Handling.{AreUnits, IsMiss, IsWhole, touches};
+ghost use Rattle.ds_refinement.specs.Stands.{Stands, IsSound};
+ghost use Rattle.ds_refinement.specs.Steps.{Follows};
+ghost use Rattle.ds_refinement.specs.Services.{with_step, with_words};
+ghost use Rattle.ds_refinement.specs.Real.{RealPath};
+ghost use Rattle.ds_refinement.specs.Runs.{RunsWithin, held_goes_on};
+
+/// Where a page of the user is missed in a unit, the processor comes to the handler's first word,
+/// and the station stands for the same state.
+pub fn a_miss_enters_the_handler()
+    ensures { (h : Held) (m : State) (p : ℕ) (rest : List ℕ) (e : Exception) → Stands h m
+        → h.kept.state.ready ≡ p ∷ rest → h.kept.state.owed ≡ None
+        → is_user h.core.system ≡ true → epc_of e ≡ (process_of m p).pc
+        → AreUnits (settled h.core.registers) p m → IsMiss h.core e
+        → IsWhole (core_at_vector h.core e)
+        → Stands (record h { core = core_at_vector h.core e }) m }
+{}
+
+/// After a word of the handler the station stands for the same state, or after the seventh word,
+/// which writes the TLB, for that state with the process touched. The third word may miss the page
+/// of a table, and the ninth goes back to the unit.
+pub fn a_word_of_the_handler_is_a_part_of_the_unit()
+    ensures { (h : Held) (m : State) (p : ℕ) (rest : List ℕ) → Stands h m
+        → h.kept.state.ready ≡ p ∷ rest
+        → is_user h.core.system ≡ false → is_general h.core ≡ false
+        → Stands (with_step h (step h.core h.bus)) (touched (touches h.core) m) }
+{}
+
+/// While the handler runs nobody sees whether the process was touched: the station stands for the
+/// state with the process touched, too.
+pub fn a_handler_does_not_see_a_touch()
+    ensures { (h : Held) (m : State) (p : ℕ) (rest : List ℕ) → Stands h m
+        → h.kept.state.ready ≡ p ∷ rest
+        → is_user h.core.system ≡ false → is_general h.core ≡ false
+        → Stands h (touched true m) }
+{}
+
+/// An exception in a unit comes to the handler's first word, or it waits at the general vector for
+/// the service, which is told what the machine does there. The station stands for the same state.
+pub fn an_exception_enters()
+    ensures { (h : Held) (m : State) (p : ℕ) (rest : List ℕ) (e : Exception) → Stands h m
+        → h.kept.state.ready ≡ p ∷ rest → h.kept.state.owed ≡ None
+        → is_user h.core.system ≡ true → epc_of e ≡ (process_of m p).pc
+        → AreUnits (settled h.core.registers) p m
+        → Promise (told (entered h.core.system e) m.memory p) (entered h.core.system e).bad_vaddr
+        (is_delayed (entered h.core.system e)) (process_of m p).pc p m
+        (with_registers m p (settled h.core.registers))
+        → (vector e ≡ 0x80000000 → IsMiss h.core e) → IsWhole (core_at_vector h.core e)
+        → Stands (record h { core = core_at_vector h.core e }) m }
+{}
+
+/// Each word of the handler is a part of the unit.
+pub fn a_word_follows()
+    ensures { (h : Held) → h.kept.state.ready ≢ [] → is_user h.core.system ≡ false
+        → is_served h.core ≡ false
+        → Follows Inside h (with_step h (step h.core h.bus)) }
+{}
+
+/// In kernel mode at the vector of misses the processor is before the handler's first word, which
+/// stands there in memory, and no load is late.
+pub fn the_handler_begins()
+    ensures kernel { (h : Held) → IsSound h → h.kept.state.ready ≢ []
+        → is_user h.core.system ≡ false → h.core.pc ≡ 0x80000000 → IsKernel h.core.system }
+    ensures next { (h : Held) → IsSound h → h.kept.state.ready ≢ []
+        → is_user h.core.system ≡ false → h.core.pc ≡ 0x80000000 → h.core.next ≡ 0x80000004 }
+    ensures slot { (h : Held) → IsSound h → h.kept.state.ready ≢ []
+        → is_user h.core.system ≡ false → h.core.pc ≡ 0x80000000 → h.core.slot ≡ false }
+    ensures late { (h : Held) → IsSound h → h.kept.state.ready ≢ []
+        → is_user h.core.system ≡ false → h.core.pc ≡ 0x80000000
+        → h.core.registers.late ≡ None }
+    ensures words { (h : Held) → IsSound h → HasWords h.bus.memory }
+{}
+
+/// A whole refill at once is a path of nine steps, each an instruction of the processor that counts
+/// and ends no unit, and each followed by the machine: it is touched with the seventh. In user mode
+/// the unit begins again.
+pub fn a_refill_is_a_path()
+    ensures path { (h : Held) (c : CoreState) → h.kept.state.ready ≢ []
+        → h.kept.state.owed ≡ None → h.own.spent + 9 ≤ 64
+        → RunsInside handler_events h.core h.bus c → RealPath h (with_words h c 9) }
+    ensures within { (n : ℕ) (old h : Held) (c : CoreState) → h.kept.state.ready ≢ []
+        → held_goes_on n h ≡ true → RunsInside handler_events h.core h.bus c
+        → RunsWithin n old h → RunsWithin n old (with_words h c 9) }
+    ensures user { (h : Held) (t : CoreState) → IsSound h → h.kept.state.ready ≢ []
+        → is_user h.core.system ≡ false → h.core.pc ≡ 0x80000000
+        → RunsInside handler_events h.core h.bus t → is_user t.system ≡ true }
+{}
