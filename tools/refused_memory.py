@@ -34,6 +34,9 @@ frames = 16
 [[process]]
 start = 0x00400000
 line = 0
+[[process]]
+start = 0x00400000
+line = 1
 [[page]]
 name = "code"
 source = "guest.s"
@@ -43,8 +46,14 @@ process = 1
 address = 0x00400000
 right = "read"
 page = "code"
+[[rule]]
+process = 2
+address = 0x00400000
+right = "read"
+page = "code"
 """
-# Puts so many bytes that its console grows twice, and is denied a store, so that the log grows.
+# Puts so many bytes that its console grows twice, and is denied a store, so that the log grows before the other process
+# begins: turns in which nobody is ready ask for no room.
 GUEST = "addiu $a0, $zero, 46\n" + BYTES * "addiu $v0, $zero, 1\nsyscall\n" + "sw $zero, 0($zero)\n"
 
 
