@@ -18,7 +18,7 @@ from pathlib import Path
 from typing import NamedTuple, Optional
 
 PROGRAM = Path(__file__).resolve().parent.parent / "crates" / "dsmon"
-GROWTH = 175
+GROWTH = 194
 STEP = 4  # so far it is moved where it does not fit
 MOST_BUILDS = 6
 # (of the comments, each one growth more than the one before; a longer one takes as long to read as the whole run)
