@@ -1,13 +1,5 @@
-pub mod Keyed
-pub mod Nothings
-pub mod LabelsAlone
 pub mod WrittenForms
-pub mod NameKeys
-pub mod LabelSlots
-pub mod SlotEntries
-pub mod HeldLabels
 pub mod Pages
 pub mod SourceLines
 pub mod ImageSizes
 pub mod AllFaults
-pub mod WholeImages

@@ -1,5 +1,5 @@
 -- What the calls of the assembler return, beside what a source says.
-use Rattle.std.specs.Prelude.{◌≡◌, ◌≤◌, ℕ, List, Option, Result, Ok, Err, codes, length, map}
+use Rattle.std.specs.Prelude.{◌≡◌, ℕ, List, Option, Result, Ok, Err, codes}
 use Rattle.std.specs.Ordering.{nat_cmp}
 use Rattle.std.specs.Cmp.Lexicographic.{slice_cmp}
 use Rattle.std.specs.BTreeMap.{get_by}
@@ -10,8 +10,6 @@ use Rattle.ds_asm.specs.declared.fault.SourceFault.TheVariants.{Syntax, UnknownL
 use Rattle.ds_asm.specs.declared.labels.Labels as code
 use Rattle.ds_asm.specs.declared.layout.Layout as held
 use Rattle.ds_asm.specs.Assembly.{Labels, address_of, Layout}
-use Rattle.ds_asm.specs.Slots.{Entry, address_or, entry_of, has_name, is_open, window_of}
-use Rattle.std.specs.List.{All, find}
 
 -- the text has this fault; want of memory says nothing of the text
 abbrev pub Fails : {A : Type 0} → AsmFault → Result A SourceFault → Type 0
@@ -57,32 +55,13 @@ abbrev pub fault_number : AsmFault → ℕ
 fault_number (asm.Source fault) = source_fault_number fault
 fault_number asm.Memory = 25
 
--- the address that the tree has for a name
-abbrev pub other_address : code.Labels → List ℕ → Option ℕ
-other_address m name = get_by (λ k. slice_cmp nat_cmp name k.now) m.others
-
--- the long names in its slots
-abbrev pub names_in : code.Labels → List (List ℕ)
-names_in m = map (λ n. n.now) m.names.items
-
--- its slots, each with the label that it has
-abbrev pub entries_in : code.Labels → List (Option Entry)
-entries_in m = map (entry_of (names_in m)) m.slots.items
-
--- the address that is held for a name: in its slots, of which the first free one ends the search, or
--- where all are taken by others, in the tree
+-- the address that is held for a name
 abbrev pub held_address : code.Labels → List ℕ → Option ℕ
-held_address m name = address_or (other_address m name) (find (is_open m.factor name) (window_of m.factor (entries_in m) name))
+held_address m name = get_by (λ k. slice_cmp nat_cmp name k.now) m.addresses
 
--- the address that stands anywhere in a name's slots, or in the tree
-abbrev pub kept_address : code.Labels → List ℕ → Option ℕ
-kept_address m name = address_or (other_address m name) (find (has_name m.factor name) (window_of m.factor (entries_in m) name))
-
--- the labels are held, each with its address, none stands after a free slot, and each slot's name is there
-pub record Holds (m : code.Labels) (labels : Labels) : Type 0 where
-  pub each : (name : List ℕ) → held_address m name ≡ address_of labels name
-  pub found : (name : List ℕ) → kept_address m name ≡ held_address m name
-  pub named : All (λ s. s.number ≤ length (names_in m)) m.slots.items
+-- the labels are held, each with its address
+abbrev pub Holds : code.Labels → Labels → Type 0
+Holds m labels = (name : List ℕ) → held_address m name ≡ address_of labels name
 
 -- what was laid out is held
 pub record IsLaid (m : held.Layout) (l : Layout) : Type 0 where

@@ -2,13 +2,10 @@ pub mod Characters
 pub mod Numbers
 pub mod RegisterNames
 pub mod Forms
-pub mod Keys
 pub mod Operands
 pub mod Lines
 pub mod Plain
 pub mod Assembly
-pub mod NameKeys
-pub mod Slots
 pub mod Assembling
 pub mod Faults
 pub mod Images

@@ -1,5 +1,5 @@
 -- What a line says: a label, a statement, both or nothing.
-use Rattle.std.specs.Prelude.{codes, ℕ, Bool, true, ◌==◌, bytes_eq, if◌then◌else◌, List, [], ◌∷◌, drop, Option, Some, None, option_map}
+use Rattle.std.specs.Prelude.{codes, ℕ, bytes_eq, if◌then◌else◌, List, [], ◌∷◌, drop, Option, Some, None, option_map}
 use Rattle.std.specs.List.{position_or_len, before_first}
 use Rattle.ds_word.specs.OptionBinding.{◌>>=◌}
 use Rattle.ds_asm.specs.declared.number.Number.{Number}
@@ -77,18 +77,9 @@ with_label text (Some rest) = if is_name (until 58 text) then with_statement (So
 abbrev pub line_parts : List ℕ → Option Line
 line_parts text = with_label text (behind 58 text)
 
--- a text is empty, or a comment
-abbrev pub is_comment : List ℕ → Bool
-is_comment [] = true
-is_comment (c ∷ cs) = c == 35
-
 -- a line that says nothing
 abbrev pub nothing : Line
 nothing = record { label = None; statement = None }
-
--- a line that says a label alone
-abbrev pub only_label : List ℕ → Line
-only_label name = record { label = Some name; statement = None }
 
 -- what a line says, up to its comment
 unfoldable pub line_of : List ℕ → Option Line

@@ -15,7 +15,7 @@ pub fn assemble(alloc: Global, text: &[u8]) -> Result<Image, AsmFault>
     ensures { Assembles (λ i. i) result (assembled text.now) }
 {
     match layout_of(alloc, text) {
-        Ok(layout) => match bytes_of(alloc, text, &layout) {
+        Ok(layout) => match bytes_of(alloc, text, &layout.labels) {
             Ok(bytes) => Ok(Image::of(bytes)),
             Err(fault) => Err(fault),
         },

@@ -7,27 +7,28 @@ ghost use Rattle.ds_asm.specs.Characters.{is_blank, is_letter, is_digit, is_name
 const MOST_NAME: usize = 32;
 
 /// Whether a character is a space, a tab or a carriage return.
-pub(crate) fn is_blank(c: u8) -> bool
+pub fn is_blank(c: u8) -> bool
     ensures { result ≡ is_blank c }
 {
     c == b' ' || c == b'\t' || c == b'\r'
 }
 
-fn is_letter(c: u8) -> bool
+/// Whether a character is a letter or the underscore.
+pub fn is_letter(c: u8) -> bool
     ensures { result ≡ is_letter c }
 {
     (b'a' <= c && c <= b'z') || (b'A' <= c && c <= b'Z') || c == b'_'
 }
 
 /// Whether a character is a decimal digit.
-pub(crate) fn is_digit(c: u8) -> bool
+pub fn is_digit(c: u8) -> bool
     ensures { result ≡ is_digit c }
 {
     b'0' <= c && c <= b'9'
 }
 
 /// Whether a text is a letter and then at most 31 letters and digits.
-pub(crate) fn is_name(text: &[u8]) -> bool
+pub fn is_name(text: &[u8]) -> bool
     ensures { result ≡ is_name text.now }
 {
     match text {
@@ -52,7 +53,7 @@ fn count_front_blanks(text: &[u8]) -> usize
 }
 
 /// A text without the blanks at its front.
-pub(crate) fn without_front_blanks(text: &[u8]) -> &[u8]
+pub fn without_front_blanks(text: &[u8]) -> &[u8]
     ensures { result.now ≡ without_front_blanks text.now }
 {
     let count = count_front_blanks(text);
@@ -66,13 +67,19 @@ fn count_back_blanks(text: &[u8]) -> usize
     text.iter().rev().take_while(|c| is_blank(**c)).count()
 }
 
-/// A text without the blanks at its ends.
-pub(crate) fn trimmed(text: &[u8]) -> &[u8]
-    ensures { result.now ≡ trimmed text.now }
+/// A text without the blanks at its end.
+pub fn without_back_blanks(text: &[u8]) -> &[u8]
+    ensures { result.now ≡ without_back_blanks text.now }
 {
-    let text = without_front_blanks(text);
     let count = count_back_blanks(text);
     &text[..text.len() - count]
+}
+
+/// A text without the blanks at its ends.
+pub fn trimmed(text: &[u8]) -> &[u8]
+    ensures { result.now ≡ trimmed text.now }
+{
+    without_back_blanks(without_front_blanks(text))
 }
 
 /// Where the first character `c` stands, or the text's length.
@@ -84,7 +91,7 @@ pub(crate) fn place_of(c: u8, text: &[u8]) -> usize
 }
 
 /// What stands before the first character `c`, or the whole text.
-pub(crate) fn until(c: u8, text: &[u8]) -> &[u8]
+pub fn until(c: u8, text: &[u8]) -> &[u8]
     ensures { result.now ≡ until c text.now }
 {
     let place = place_of(c, text);
@@ -92,7 +99,7 @@ pub(crate) fn until(c: u8, text: &[u8]) -> &[u8]
 }
 
 /// What stands before the first character `c`, and after it if there is one.
-pub(crate) fn split_at_first(c: u8, text: &[u8]) -> (&[u8], Option<&[u8]>)
+pub fn split_at_first(c: u8, text: &[u8]) -> (&[u8], Option<&[u8]>)
     ensures front { result.0.now ≡ until c text.now }
     ensures back { option_map (λ t. t.now) result.1 ≡ behind c text.now }
 {

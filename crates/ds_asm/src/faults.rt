@@ -55,7 +55,7 @@ pub fn assemble_or_faults(alloc: Global, text: &[u8]) -> Result<Assembled, Alloc
     if !faults.is_empty() {
         return Ok(Assembled::Faults(faults));
     }
-    match bytes_of(alloc, text, &layout) {
+    match bytes_of(alloc, text, &layout.labels) {
         Ok(bytes) => Ok(Assembled::Image(Image::of(bytes))),
         Err(AsmFault::Source(_)) => {
             let faults = second_faults(alloc, text, &layout.labels)?;
@@ -74,7 +74,7 @@ fn first_pass(alloc: Global, text: &[u8]) -> Result<FirstPass<'_>, AllocError>
         → Lays p.layout (with_lines 1 empty_layout (lines_of text.now))) }
 {
     let mut faults = Vec::new(alloc);
-    let mut layout = Layout::new(alloc, text)?;
+    let mut layout = Layout::new(alloc);
     let mut number = 0u64;
     let mut rest = text;
     while !rest.is_empty() {

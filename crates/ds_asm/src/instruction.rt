@@ -15,7 +15,7 @@ const LINK_REGISTER: u32 = 31;
 
 /// The label that an instruction goes to, if it does.
 #[derive(Clone, Copy)]
-pub(crate) enum Target<'a> {
+pub enum Target<'a> {
     Nowhere,
     Branch(&'a [u8]),
     Jump(&'a [u8]),
@@ -23,16 +23,16 @@ pub(crate) enum Target<'a> {
 
 /// What the text of an instruction says.
 #[derive(Clone, Copy)]
-pub(crate) struct Instruction<'a> {
+pub struct Instruction<'a> {
     /// Its word, with 0 in the place of a label.
-    pub(crate) word: u32,
+    pub word: u32,
     /// Whether its numbers are in range.
-    pub(crate) in_range: bool,
-    pub(crate) target: Target<'a>,
+    pub in_range: bool,
+    pub target: Target<'a>,
 }
 
 /// The instruction of a word, its operands and their text.
-pub(crate) fn instruction_of<'a>(
+pub fn instruction_of<'a>(
     word: u32,
     operands: &[Operand],
     text: Option<&'a [u8]>,
@@ -195,7 +195,7 @@ impl<'a> Instruction<'a> {
     }
 
     /// With a value added in its place.
-    pub(crate) fn with_value(self, place: Place, value: u32) -> Instruction<'a>
+    pub fn with_value(self, place: Place, value: u32) -> Instruction<'a>
         ensures { plain_instruction result
             ≡ with_value (field_of place) value (plain_instruction self.entry) }
     {
@@ -213,7 +213,8 @@ impl<'a> Instruction<'a> {
     }
 }
 
-fn has_comma(text: &[u8]) -> bool
+/// Whether a text has a comma.
+pub fn has_comma(text: &[u8]) -> bool
     ensures { result ≡ has_comma text.now }
 {
     let (_, behind) = split_at_first(b',', text);
@@ -221,7 +222,7 @@ fn has_comma(text: &[u8]) -> bool
 }
 
 /// What stands before the parenthesis at the end.
-fn before_close(text: &[u8]) -> Option<&[u8]>
+pub fn before_close(text: &[u8]) -> Option<&[u8]>
     ensures { option_map (λ t. t.now) result ≡ before_close text.now }
 {
     match text {

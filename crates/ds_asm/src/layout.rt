@@ -9,9 +9,9 @@ ghost use Rattle.ds_asm.specs.Plain.{plain_statement};
 
 use crate::fault::{AsmFault, SourceFault};
 use crate::labels::Labels;
-use crate::line::{MOST_BYTES, Statement, label_alone, line_of, says_nothing};
+use crate::line::{MOST_BYTES, Statement, line_of};
 use crate::source::first_line;
-use std::alloc::{AllocError, Global};
+use std::alloc::Global;
 
 /// Where the image begins.
 pub const ORIGIN: u32 = 0x40_0000;
@@ -27,7 +27,7 @@ pub(crate) struct Layout<'a> {
 pub(crate) fn layout_of(alloc: Global, text: &[u8]) -> Result<Layout<'_>, AsmFault>
     ensures { Comes (λ m l. IsLaid m l) result (with_lines 1 empty_layout (lines_of text.now)) }
 {
-    let mut layout = Layout::new(alloc, text)?;
+    let mut layout = Layout::new(alloc);
     let mut number = 0u64;
     let mut rest = text;
     while !rest.is_empty() {
@@ -43,11 +43,13 @@ pub(crate) fn layout_of(alloc: Global, text: &[u8]) -> Result<Layout<'_>, AsmFau
 
 impl<'a> Layout<'a> {
     /// No lines of a source were taken.
-    pub(crate) fn new(alloc: Global, text: &[u8]) -> Result<Layout<'a>, AllocError>
-        ensures { IfOk result (λ layout. IsLaid layout empty_layout) }
+    pub(crate) fn new(alloc: Global) -> Layout<'a>
+        ensures { IsLaid result empty_layout }
     {
-        let labels = Labels::new(alloc, text)?;
-        Ok(Layout { labels, size: 0 })
+        Layout {
+            labels: Labels::new(alloc),
+            size: 0,
+        }
     }
 
     /// Takes line `number`.
@@ -59,13 +61,6 @@ impl<'a> Layout<'a> {
         ensures left { IfErr result (λ fault. fault ≢ AsmFault.Memory → (l : assembly.Layout)
             → IsLaid self.old l → Holds self.new.labels (labels_past number (line_of line.now) l)) }
     {
-        if let Some(name) = label_alone(line) {
-            self.add_label(number, Some(name))?;
-            return Ok(());
-        }
-        if says_nothing(line) {
-            return Ok(());
-        }
         let line = match line_of(line) {
             Some(line) => line,
             None => return Err(AsmFault::Source(SourceFault::Syntax(number))),

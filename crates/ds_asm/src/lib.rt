@@ -12,15 +12,23 @@ mod instruction;
 mod labels;
 mod layout;
 mod line;
-mod name_key;
 mod number;
 mod register;
 mod second_pass;
 mod source;
 
 pub use assembler::assemble;
+pub use characters::{
+    is_blank, is_digit, is_letter, is_name, split_at_first, trimmed, until, without_back_blanks,
+    without_front_blanks,
+};
 pub use fault::{AsmFault, SourceFault};
 pub use faults::{Assembled, all_faults, assemble_or_faults};
+pub use form::{Form, Operand, Place, form_named};
 pub use image::Image;
+pub use instruction::{Instruction, Target, before_close, has_comma, instruction_of};
 pub use layout::ORIGIN;
+pub use line::{instruction_named, is_reserved_word};
+pub use number::{Number, number_of};
+pub use register::{register_of, system_register_of};
 pub use source::{SourceLine, first_line, source_line};

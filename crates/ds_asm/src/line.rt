@@ -1,9 +1,9 @@
 //! What a line says: a label, a statement, both or nothing.
-ghost use Rattle.std.specs.Prelude.{◌≡◌, ◌≤◌, IsTrue, IfSome, Some, option_map, length};
+ghost use Rattle.std.specs.Prelude.{◌≡◌, ◌≤◌, option_map, length};
 ghost use Rattle.std.specs.List.{position_or_len};
 ghost use Rattle.ds_asm.specs.Characters.{is_blank};
 ghost use Rattle.ds_asm.specs.Numbers.{number_of};
-ghost use Rattle.ds_asm.specs.Lines.{mnemonic_of, behind_mnemonic, number_word, instruction_named, statement_named, statement_of, statement_in, with_statement, line_parts, line_of, is_comment, nothing, only_label};
+ghost use Rattle.ds_asm.specs.Lines.{mnemonic_of, behind_mnemonic, number_word, instruction_named, statement_named, statement_of, statement_in, with_statement, line_parts, line_of};
 ghost use Rattle.ds_asm.specs.Assembly.{is_reserved_word, is_in_range, is_aligned, size_of};
 ghost use Rattle.ds_asm.specs.Plain.{plain_instruction, plain_statement, plain_line};
 
@@ -73,7 +73,7 @@ impl<'a> Statement<'a> {
 
 /// Whether a word is no instruction.
 #[tactic(auto, unfolding(crate::specs::Assembly::is_reserved_word))]
-fn is_reserved_word(word: u32) -> bool
+pub fn is_reserved_word(word: u32) -> bool
     ensures { result ≡ is_reserved_word word }
 {
     matches!(decode(word), Instr::Reserved(_))
@@ -93,35 +93,6 @@ pub(crate) fn line_of(line: &[u8]) -> Option<Line<'_>>
         });
     }
     line_parts(said)
-}
-
-/// The label of a line that has nothing else.
-#[inline(always)]
-pub(crate) fn label_alone(line: &[u8]) -> Option<&[u8]>
-    ensures { IfSome result (λ name. line_of line.now ≡ Some (only_label name.now)) }
-{
-    match line {
-        [name @ .., b':'] => { if is_name(name) { Some(name) } else { None } }
-        _ => None,
-    }
-}
-
-/// Whether a line has nothing but blanks before its comment or its end.
-#[inline(always)]
-pub(crate) fn says_nothing(line: &[u8]) -> bool
-    ensures { IsTrue result → line_of line.now ≡ Some nothing }
-{
-    is_comment(without_front_blanks(line))
-}
-
-/// Whether a text is empty or a comment.
-fn is_comment(text: &[u8]) -> bool
-    ensures { result ≡ is_comment text.now }
-{
-    match text {
-        [] => true,
-        [first, ..] => *first == b'#',
-    }
 }
 
 fn line_parts(text: &[u8]) -> Option<Line<'_>>
@@ -218,7 +189,8 @@ fn word_statement(text: &[u8]) -> Option<Statement<'_>>
     }
 }
 
-fn instruction_named<'a>(name: &[u8], left: Option<&'a [u8]>) -> Option<Instruction<'a>>
+/// The instruction of a mnemonic and of what stands after it.
+pub fn instruction_named<'a>(name: &[u8], left: Option<&'a [u8]>) -> Option<Instruction<'a>>
     ensures { option_map plain_instruction result
         ≡ instruction_named name.now (option_map (λ t. t.now) left.entry) }
 {

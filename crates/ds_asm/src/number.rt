@@ -6,9 +6,9 @@ use ds_word::number_of_digits;
 
 /// A number as it is written: a sign and a magnitude.
 #[derive(Clone, Copy, Debug, PartialEq, Eq)]
-pub(crate) struct Number {
-    pub(crate) negative: bool,
-    pub(crate) magnitude: u64,
+pub struct Number {
+    pub negative: bool,
+    pub magnitude: u64,
 }
 
 /// The most that ten decimal digits say.
@@ -16,7 +16,7 @@ const MOST_DECIMAL: u64 = 9_999_999_999;
 
 /// The number of a text: one to ten decimal digits, with or without `-` before them, or `0x` and
 /// one to eight hexadecimal digits.
-pub(crate) fn number_of(text: &[u8]) -> Option<Number>
+pub fn number_of(text: &[u8]) -> Option<Number>
     ensures { result ≡ number_of text.now }
 {
     match text {
@@ -69,7 +69,7 @@ fn hexadecimal_of(text: &[u8]) -> Option<u64>
 
 impl Number {
     /// Whether it is neither below `-least` nor above `most`.
-    pub(crate) fn is_within(&self, least: u64, most: u64) -> bool
+    pub fn is_within(&self, least: u64, most: u64) -> bool
         ensures { result ≡ is_within least most self.now }
     {
         if self.negative {
@@ -80,7 +80,7 @@ impl Number {
     }
 
     /// The number as a word, in two's complement.
-    pub(crate) fn as_word(&self) -> u32
+    pub fn as_word(&self) -> u32
         ensures { result ≡ as_word self.now }
     {
         let low = self.magnitude % 0x1_0000_0000;

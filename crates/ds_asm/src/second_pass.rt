@@ -1,8 +1,8 @@
 //! The second pass: the bytes of the lines, where the labels are known.
 ghost use Rattle.std.specs.Prelude.{◌≡◌, ◌++◌, ◌∷◌, [], OnOk, Ok, Some, None, length, replicate};
 ghost use Rattle.ds_word.specs.Bytes.{bytes_of_word};
-ghost use Rattle.ds_asm.specs.Assembling.{Assembles, Comes, Lays, held_address};
-ghost use Rattle.ds_asm.specs.Assembly.{branch_field, jump_field, known, resolved, statement_bytes, line_bytes, bytes_from, empty_layout, lines_of, with_lines};
+ghost use Rattle.ds_asm.specs.Assembling.{Assembles, Comes, held_address};
+ghost use Rattle.ds_asm.specs.Assembly.{branch_field, jump_field, known, resolved, statement_bytes, line_bytes, bytes_from, lines_of};
 ghost use Rattle.ds_asm.specs.Lines.{line_of};
 ghost use Rattle.ds_asm.specs.Plain.{plain_target, plain_instruction, plain_statement};
 
@@ -10,32 +10,28 @@ use crate::fault::{AsmFault, SourceFault};
 use crate::form::Place;
 use crate::instruction::{Instruction, Target};
 use crate::labels::Labels;
-use crate::layout::{Layout, ORIGIN};
-use crate::line::{Statement, line_of, says_nothing};
+use crate::layout::ORIGIN;
+use crate::line::{Statement, line_of};
 use crate::source::first_line;
 use std::alloc::{AllocError, Global};
 
-/// The bytes of a source that the first pass has laid out, or its first fault of the second pass. It
-/// ends where the image is whole: later lines have no bytes.
+/// The bytes of a source whose labels the first pass has found, or its first fault of the second
+/// pass.
 pub(crate) fn bytes_of<'a>(
     alloc: Global,
     text: &'a [u8],
-    layout: &Layout<'a>,
+    labels: &Labels<'a>,
 ) -> Result<Vec<u8>, AsmFault>
-    requires { Lays layout.now (with_lines 1 empty_layout (lines_of text.now)) }
     ensures { Assembles (λ v. v.items) result
-        (bytes_from 1 (held_address layout.now.labels) [] (lines_of text.now)) }
+        (bytes_from 1 (held_address labels.now) [] (lines_of text.now)) }
 {
     let mut bytes = Vec::new(alloc);
     let mut number = 0u64;
     let mut rest = text;
     while !rest.is_empty() {
-        if bytes.len() == layout.size as usize {
-            return Ok(bytes);
-        }
         let (line, behind) = first_line(rest);
         number += 1;
-        match add_line(&mut bytes, number, &layout.labels, line) {
+        match add_line(&mut bytes, number, labels, line) {
             Ok(()) => rest = behind,
             Err(fault) => return Err(fault),
         }
@@ -53,9 +49,6 @@ fn add_line<'a>(
     ensures { Comes (λ _ more. bytes.new.items ≡ bytes.old.items ++ more) result
         (line_bytes number (held_address labels.now) (length bytes.old.items) (line_of line.now)) }
 {
-    if says_nothing(line) {
-        return Ok(());
-    }
     match line_of(line) {
         None => Ok(()),
         Some(line) => match line.statement {

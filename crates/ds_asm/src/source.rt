@@ -6,7 +6,7 @@ ghost use Rattle.ds_asm.specs.Lines.{line_of};
 ghost use Rattle.ds_asm.specs.Plain.{plain_statement};
 
 use crate::characters::place_of;
-use crate::line::{Statement, label_alone, line_of, says_nothing};
+use crate::line::{Statement, line_of};
 
 /// What a line adds to a source.
 #[derive(Clone, Copy, Debug, PartialEq, Eq)]
@@ -22,18 +22,6 @@ pub fn source_line(line: &[u8]) -> SourceLine<'_>
     ensures label { option_map (λ t. t.now) result.label ≡ label_in (line_of line.now) }
     ensures size { result.size ≡ size_in (line_of line.now) }
 {
-    if let Some(name) = label_alone(line) {
-        return SourceLine {
-            label: Some(name),
-            size: 0,
-        };
-    }
-    if says_nothing(line) {
-        return SourceLine {
-            label: None,
-            size: 0,
-        };
-    }
     match line_of(line) {
         Some(line) => SourceLine {
             label: line.label,

@@ -10,7 +10,6 @@ use Rattle.ds_word.specs.ResultBinding.{◌>>=◌}
 use Rattle.ds_asm.specs.Numbers.{number_of}
 use Rattle.ds_asm.specs.Lines.{Byte, nothing, statement_named, statement_of, line_of}
 use Rattle.ds_asm.specs.Assembly.{empty_layout, most_bytes, with_line, with_lines, line_bytes, bytes_from, lines_of, address_of, assembled}
-use Rattle.ds_asm.proofs.Nothings.{nothing_said}
 use Rattle.ds_asm.proofs.SourceLines.{lines_of-first}
 use Rattle.ds_listing.specs.Laws.{alone, AreSaid}
 use Rattle.ds_listing.specs.Texts.{hex2, hex_digit, text_of}
@@ -138,9 +137,14 @@ commented_read line bytes one none said few =
     ∙ (ap (λ x. line_bytes 1 (address_of []) 0 x >>= (λ more. bytes_from 2 (address_of []) ([] ++ more) (lines_in bytes))) none
     ∙ source_added 2 (address_of []) [] bytes said)))
 
+-- the comment says nothing
+elf_line : line_of (codes "# this file begins as an ELF file does") ≡ Some nothing
+unfolding line_of
+elf_line = refl
+
 -- the text of a file says its bytes
 file_read_by : (elf : Bool) (bytes : List ℕ) → starts_with (λ a b. a == b) bytes elf_magic ≡ elf → AreSaid bytes → length bytes ≤ 65536 → assembled (source_of_file bytes) ≡ Ok bytes
-file_read_by true bytes is said few = rw is (commented_read (codes "# this file begins as an ELF file does") bytes refl (nothing_said (codes "# this file begins as an ELF file does") refl) said few)
+file_read_by true bytes is said few = rw is (commented_read (codes "# this file begins as an ELF file does") bytes refl elf_line said few)
 file_read_by false bytes is said few = rw is (bytes_read bytes said few)
 
 pub file_read : (bytes : List ℕ) → AreSaid bytes → length bytes ≤ 65536 → assembled (source_of_file bytes) ≡ Ok bytes

@@ -1,7 +1,5 @@
 //! The listing of a source.
-ghost use Rattle.std.specs.Prelude.{◌≡◌, ◌≤◌, ◌++◌, ℕ, List, IfOk, Ok, length, take, drop, option_map};
-ghost use Rattle.ds_asm.specs.Faults.{label_in, size_in};
-ghost use Rattle.ds_asm.specs.Lines.{line_of};
+ghost use Rattle.std.specs.Prelude.{◌≡◌, ◌≤◌, ◌++◌, ℕ, List, IfOk, Ok, length, take, drop};
 ghost use Rattle.std.specs.List.{flat_map};
 ghost use Rattle.ds_asm.specs.Assembling.{Assembles};
 ghost use Rattle.ds_asm.specs.Assembly.{Layout, assembled, empty_layout, lines_of, with_lines};
@@ -10,8 +8,7 @@ ghost use Rattle.ds_listing.specs.Listing.{EndsWithLabels, Shows, listing_of, ro
 
 use crate::sheet::Row;
 use ds_asm::{
-    AsmFault, Assembled, SourceFault, SourceLine, assemble, assemble_or_faults, first_line,
-    source_line,
+    AsmFault, Assembled, SourceFault, assemble, assemble_or_faults, first_line, source_line,
 };
 use itoa::Buffer;
 use std::alloc::{AllocError, Global};
@@ -71,7 +68,7 @@ fn sheet_of(alloc: Global, text: &[u8], image: &[u8]) -> Result<Vec<u8>, AllocEr
     let mut left = image;
     while !rest.is_empty() {
         let (line, behind) = first_line(rest);
-        let said = said_by(line);
+        let said = source_line(line);
         let (bytes, further) = cut(left, said.size);
         number += 1;
         let row = Row {
@@ -90,22 +87,6 @@ fn sheet_of(alloc: Global, text: &[u8], image: &[u8]) -> Result<Vec<u8>, AllocEr
     lines.extend_from_slice(b"labels\n")?;
     lines.extend_from_slice(&labels)?;
     Ok(lines)
-}
-
-/// What a line adds to its source; an empty one is known without a look at it.
-#[inline(always)]
-#[tactic(auto, unfolding(ds_asm::specs::Lines::line_of))]
-fn said_by(line: &[u8]) -> SourceLine<'_>
-    ensures label { option_map (λ t. t.now) result.label ≡ label_in (line_of line.now) }
-    ensures size { result.size ≡ size_in (line_of line.now) }
-{
-    if line.is_empty() {
-        return SourceLine {
-            label: None,
-            size: 0,
-        };
-    }
-    source_line(line)
 }
 
 /// So many bytes, or all where they are fewer, and what stands after them.

@@ -13,12 +13,12 @@ of-requires c =
 pub returns-in-Ok-bytes_of : goal.returns-in-Ok-bytes_of
 returns-in-Ok-bytes_of c =
     let (l, said, laid) = c.in-Ok.ensures in
-    assembled_by c.args.text.now l (held_address c.in-Ok.layout.labels) said laid.labels.each ∙ (c.in-Ok-bytes_of.ensures ∙ ap (λ bytes. Ok bytes) (sym c.of.ensures))
+    assembled_by c.args.text.now l (held_address c.in-Ok.layout.labels) said laid.labels ∙ (c.in-Ok-bytes_of.ensures ∙ ap (λ bytes. Ok bytes) (sym c.of.ensures))
 
 pub returns-in-Ok : goal.returns-in-Ok
 returns-in-Ok c =
     let (l, said, laid) = c.in-Ok.ensures in
-    subst (Fails c.in-Err-bytes_of.fault) (sym (assembled_by c.args.text.now l (held_address c.in-Ok.layout.labels) said laid.labels.each)) c.in-Err-bytes_of.ensures
+    subst (Fails c.in-Err-bytes_of.fault) (sym (assembled_by c.args.text.now l (held_address c.in-Ok.layout.labels) said laid.labels)) c.in-Err-bytes_of.ensures
 
 pub returns : goal.returns
 returns c = fails_bind c.in-Err.first (with_lines 1 empty_layout (lines_of c.args.text.now)) (λ layout. bytes_from 1 (address_of layout.labels) [] (lines_of c.args.text.now)) c.in-Err.ensures

@@ -21,7 +21,7 @@ pub returns-in-Ok : goal.returns-in-Ok
 returns-in-Ok c =
     let none : c.in_ok-layout.field-0.faults.items ≡ [] = no_fault c.in_ok-layout.field-0.faults.items (search rules) in
     let (l, said, laid) = c.in_ok-layout.ensures.laid none in
-    assembled_by c.args.text.now l (held_address c.in_ok-layout.field-0.layout.labels) said laid.labels.each ∙ (c.in-Ok.ensures ∙ ap (λ bytes. Ok bytes) (sym c.of.ensures))
+    assembled_by c.args.text.now l (held_address c.in_ok-layout.field-0.layout.labels) said laid.labels ∙ (c.in-Ok.ensures ∙ ap (λ bytes. Ok bytes) (sym c.of.ensures))
 
 pub returns-in-Err-Source : goal.returns-in-Err-Source
 returns-in-Err-Source c =
@@ -29,8 +29,8 @@ returns-in-Err-Source c =
     let (l, said, laid) = c.in_ok-layout.ensures.laid none in
     let find = held_address c.in_ok-layout.field-0.layout.labels in (
       c.in-Err-Source.field-0-0,
-      assembled_by c.args.text.now l find said laid.labels.each ∙ (rw c.in-Err-Source.field-0-is at c.in-Err-Source.ensures),
+      assembled_by c.args.text.now l find said laid.labels ∙ (rw c.in-Err-Source.field-0-is at c.in-Err-Source.ensures),
       c.in_ok-faults-in-Err-Source.ensures
-          ∙ (second_alike find (address_of l.labels) (line_alike find (address_of l.labels) laid.labels.each) 1 0 (lines_of c.args.text.now)
+          ∙ (second_alike find (address_of l.labels) (line_alike find (address_of l.labels) laid.labels) 1 0 (lines_of c.args.text.now)
           ∙ ap (λ r. faults_by r (lines_of c.args.text.now)) (sym said)),
     )
