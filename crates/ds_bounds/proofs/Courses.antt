@@ -73,9 +73,10 @@ misses_table c met t none (inl a) =
     let r = a.1 in
     let free = room met r.ask r.unmet in
     let few = r.few in
+    let begun = r.begun in
     let no_table = table_unmet c.work met r.ask t (subst (λ (page : ℕ). find c.work.entries (table_page page) c.work.asid ≡ None) r.page_is none) in
     tallied AtDoubleMiss (table_page c.page) (counted c.work) met (ticks c.work met (omega arith) t)
-    (record { ask = r.ask; unmet = r.unmet; no_table = no_table; page_is = ap table_page r.page_is; few = omega arith })
+    (record { ask = r.ask; unmet = r.unmet; no_table = no_table; page_is = ap table_page r.page_is; begun = omega arith; few = omega arith })
 misses_table c met t none (inr a) = let low : 7 ≤ 2 = a.0 in absurd (omega arith)
 
 -- the seventh word
@@ -326,6 +327,27 @@ refill_room c i place =
     let d : Course = record { place = AtWord 7; page = c.page; work = wrote e w } in
     let few = (short d (goes_on c d i (Writes e place refl refl refl))).written in
     omega arith
+
+-- so is it before any word up to the seventh
+pub refill_from : (n : ℕ) (c : Course) (word : ℕ) → word + n ≡ 6 → IsTallied c → c.place ≡ AtWord word → length c.work.written ≤ 3
+refill_from zero c word at i place = let is : word ≡ 6 = omega (arith, at) in refill_room c i (place ∙ ap AtWord is)
+refill_from (suc n) c word at i place =
+    let d : Course = record { place = AtWord (word + 1); page = c.page; work = counted c.work } in
+    refill_from n d (word + 1) (omega (arith, at)) (goes_on c d i (Passes word place (omega (arith, at)) (λ (e : ◌≡◌ {A = ℕ} word 6). omega (arith, at, e)) refl)) refl
+
+pub refill_before : (c : Course) (word : ℕ) → IsTallied c → c.place ≡ AtWord word → word ≤ 6 → length c.work.written ≤ 3
+refill_before c word i place low = refill_from (6 - word) c word (omega (arith, low)) i place
+
+-- as many words and an instruction were taken
+pub refill_begun : (c : Course) (word : ℕ) → IsTallied c → c.place ≡ AtWord word → word ≤ 6 → word + 1 ≤ c.work.spent
+refill_begun c word i place low = elim (there c i.met (AtWord word) place i.at) [
+  | inl a ↦ a.1.begun
+  | inr a ↦ absurd (let high = a.0 in omega (arith, high, low))
+]
+
+-- a double miss comes after an instruction and three words
+pub table_begun : (c : Course) → IsTallied c → c.place ≡ AtDoubleMiss → 4 ≤ c.work.spent
+table_begun c i place = (there c i.met AtDoubleMiss place i.at).begun
 
 pub table_room : (c : Course) → IsTallied c → c.place ≡ AtDoubleMiss → (c.work.tables ≤ 3) × (c.work.services ≤ 5)
 unfolding any_entry

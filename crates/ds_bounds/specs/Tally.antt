@@ -97,6 +97,7 @@ pub record IsTabling (page : ℕ) (w : Work) (met : Met) : Type 0 where
   pub unmet : has_page met ask ≡ false
   pub no_table : has_table met ask ≡ false
   pub page_is : page ≡ table_page (asked w.pages ask)
+  pub begun : 4 ≤ w.spent
   pub few : w.spent ≤ cost met + wasted ask + 3
 
 -- in the monitor for the data's page, which was not copied

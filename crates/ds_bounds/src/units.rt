@@ -1,5 +1,5 @@
 //! The course of a unit: it is short, and what it writes into the buffer stays.
-ghost use Rattle.std.specs.Prelude.{◌≡◌, ◌≢◌, ℕ, ◌<◌, ◌≤◌, List, length, slice_get, slice_set, Some};
+ghost use Rattle.std.specs.Prelude.{◌≡◌, ◌≢◌, ℕ, ◌+◌, ◌<◌, ◌≤◌, List, length, slice_get, slice_set, Some};
 ghost use Rattle.ds_tlb.specs.declared.entry.Entry.{Entry};
 ghost use Rattle.ds_bounds.specs.Course.{Course, AtWord, AtDoubleMiss, AtModification};
 ghost use Rattle.ds_bounds.specs.Steps.{After, Begins, HasKeys, Next};
@@ -38,11 +38,17 @@ pub fn keys_stay()
         → HasKeys old new }
 {}
 
-/// Before a refill writes, at most three slots were written. Before a service after which the unit
+/// Before a refill writes, at most three slots were written. The unit has taken an instruction
+/// before the handler's first word, and one with each of its words; so it has taken four at a
+/// double miss. Before a service after which the unit
 /// goes on there were at most five services, and at a double miss at most three entries of page
 /// tables' pages.
 pub fn there_is_room_to_count()
-    ensures refill { (c : Course) → IsTallied c → c.place ≡ AtWord 6 → length c.work.written ≤ 3 }
+    ensures refill { (c : Course) (word : ℕ) → IsTallied c → c.place ≡ AtWord word → word ≤ 6
+        → length c.work.written ≤ 3 }
+    ensures words { (c : Course) (word : ℕ) → IsTallied c → c.place ≡ AtWord word → word ≤ 6
+        → word + 1 ≤ c.work.spent }
+    ensures begun { (c : Course) → IsTallied c → c.place ≡ AtDoubleMiss → 4 ≤ c.work.spent }
     ensures table { (c : Course) → IsTallied c → c.place ≡ AtDoubleMiss
         → (c.work.tables ≤ 3) × (c.work.services ≤ 5) }
     ensures copy { (c : Course) → IsTallied c → c.place ≡ AtModification → c.work.services ≤ 5 }

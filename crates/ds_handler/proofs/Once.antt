@@ -23,69 +23,87 @@ use Rattle.ds_handler.proofs.Lent.{lent_itself, is_at_word}
 none_late : (r : Registers) → r.late ≡ None → r ≡ lent r (slice_index r.general 26) (slice_index r.general 27) None
 none_late r late = ap (λ (l : Option Late). record r { late = l }) late ∙ lent_itself r
 
--- the nine words, each of which begins in kernel mode away from the general vector
+-- the nine words, each of which begins in kernel mode at its address
 whole_inside : (r : Registers) (x y : ℕ) (s : System) (es : List Entry) (random place w : ℕ) (b : BusState)
     → HasWords b.memory → IsKernel s → length r.general ≡ 32 → slice_index r.general 0 ≡ 0
     → s.context < 2 ^ 32 → s.context % 4 ≡ 0 → translate es (asid_of s) Kernel Load s.context ≡ Ok (at_physical place) → is_memory place ≡ true
     → word_at b.memory place ≡ w → w < 2 ^ 32 → w % 256 ≡ 0
-    → RunsInside handler_events (at_word 0x80000000 0x80000004 false (lent r x y None) s es random) b
+    → RunsInside 0 handler_events (at_word 0x80000000 0x80000004 false (lent r x y None) s es random) b
     (at_word s.epc (word (s.epc + 4)) false (lent r 0 s.epc None) (returned (record s { entry_lo = w })) (slice_set es (later 6 random) (entry_of s.entry_hi w)) (later 9 random))
 whole_inside r x y s es random place w b h k size zero within aligned reach here is small low =
     let t : System = record s { entry_lo = w } in
     let kt : IsKernel t = record { mode = k.mode; off = k.off } in (
       k.mode,
       refl,
+      refl,
       (
         _,
         word_0 r x y s es random b h k size,
+        refl,
         (
           k.mode,
+          refl,
           refl,
           (
             _,
             word_1 r s.context y _ s es _ b h k size,
+            refl,
             (
               k.mode,
+              refl,
               refl,
               (
                 _,
                 word_2 r s.context s.epc y s es _ place w b h k size within aligned reach here is,
+                refl,
                 (
                   k.mode,
+                  refl,
                   refl,
                   (
                     _,
                     word_3 r w s.epc _ s es _ b h k,
+                    refl,
                     (
                       k.mode,
+                      refl,
                       refl,
                       (
                         _,
                         word_4 r w s.epc s es _ b h k size small low,
+                        refl,
                         (
                           k.mode,
+                          refl,
                           refl,
                           (
                             _,
                             word_5 r w s.epc t es _ b h kt zero,
+                            refl,
                             (
                               k.mode,
+                              refl,
                               refl,
                               (
                                 _,
                                 word_6 r 0 s.epc t es _ b h kt,
+                                refl,
                                 (
                                   k.mode,
+                                  refl,
                                   refl,
                                   (
                                     _,
                                     word_7 r 0 s.epc t _ _ b h kt size,
+                                    refl,
                                     (
                                       k.mode,
+                                      refl,
                                       refl,
                                       (
                                         _,
                                         word_8 r 0 s.epc s.epc t _ _ b h kt,
+                                        refl,
                                         refl,
                                       ),
                                     ),
@@ -107,11 +125,11 @@ whole_inside r x y s es random place w b h k size zero within aligned reach here
     )
 
 pub at_once_runs : (c : CoreState) (b : BusState) (w : ℕ) → HasWords b.memory → IsKernel c.system → c.pc ≡ 0x80000000 → c.next ≡ 0x80000004 → c.slot ≡ false → c.registers.late ≡ None
-    → length c.registers.general ≡ 32 → slice_index c.registers.general 0 ≡ 0 → CanLoad c b w → RunsInside handler_events c b (after_refill c w)
+    → length c.registers.general ≡ 32 → slice_index c.registers.general 0 ≡ 0 → CanLoad c b w → RunsInside 0 handler_events c b (after_refill c w)
 at_once_runs c b w words kernel pc next slot late size nought can =
     let x : ℕ = slice_index c.registers.general 26 in
     let y : ℕ = slice_index c.registers.general 27 in
     let is : c ≡ at_word 0x80000000 0x80000004 false (lent c.registers x y None) c.system c.entries c.random =
     is_at_word c 0x80000000 0x80000004 false (lent c.registers x y None) pc next slot (none_late c.registers late) in
-    subst (λ (d : CoreState). RunsInside handler_events d b (after_refill c w)) (sym is)
+    subst (λ (d : CoreState). RunsInside 0 handler_events d b (after_refill c w)) (sym is)
     (whole_inside c.registers x y c.system c.entries c.random can.place w b words kernel size nought can.small can.whole can.reached can.memory can.read can.word can.low)

@@ -1,14 +1,15 @@
 -- A whole refill at once, and the nine steps of the processor that it stands for.
-use Rattle.std.specs.Prelude.{◌≡◌, ℕ, ◌+◌, ◌%◌, ◌^◌, ◌<◌, ◌==◌, Bool, true, false, List, [], ◌∷◌, slice_set, None, Ok}
+use Rattle.std.specs.Prelude.{◌≡◌, ℕ, suc, ◌+◌, ◌%◌, ◌^◌, ◌<◌, ◌==◌, Bool, true, false, List, [], ◌∷◌, slice_set, None, Ok}
 use Rattle.ds_word.specs.Word.{word}
 use Rattle.ds_word.specs.Bytes.{word_at}
 use Rattle.ds_isa.specs.declared.instr.Kind.TheVariants.{Load}
-use Rattle.ds_tlb.specs.Entries.{passed}
+use Rattle.ds_tlb.specs.Entries.{passed, ticked}
 use Rattle.ds_tlb.specs.Words.{entry_of}
 use Rattle.ds_cp0.specs.System.{asid_of, is_user, returned}
 use Rattle.ds_amap.specs.declared.map.Mode.TheVariants.{Kernel}
 use Rattle.ds_amap.specs.Map.{translate, at_physical}
 use Rattle.ds_dev.specs.Bus.{BusState, is_memory}
+use Rattle.ds_refill.specs.Handler.{address_of}
 use Rattle.ds_core.specs.declared.event.Event.{Event}
 use Rattle.ds_core.specs.Core.{CoreState}
 use Rattle.ds_core.specs.Effect.{step}
@@ -40,8 +41,10 @@ pub record CanLoad (c : CoreState) (b : BusState) (w : ℕ) : Type 0 where
 abbrev pub is_general : CoreState → Bool
 is_general c = c.pc == 0x80000080
 
--- steps with these events lead from one processor to the other and leave the bus as it is, and each begins in kernel mode
--- away from the general vector
-abbrev pub RunsInside : List Event → CoreState → BusState → CoreState → Type 0
-RunsInside [] c b t = t ≡ c
-RunsInside (e ∷ es) c b t = (is_user c.system ≡ false) × (is_general c ≡ false) × ((s : CoreState) × (step c b ≡ record { event = e; core = s; bus = b }) × RunsInside es s b t)
+-- steps with these events lead from one processor to the other and leave the bus as it is; each begins in kernel mode at the next
+-- word of the handler, from word n on, away from the general vector, and Random goes down by one with it
+abbrev pub RunsInside : ℕ → List Event → CoreState → BusState → CoreState → Type 0
+RunsInside n [] c b t = t ≡ c
+RunsInside n (e ∷ es) c b t =
+    (is_user c.system ≡ false) × (is_general c ≡ false) × (c.pc ≡ address_of n)
+    × ((s : CoreState) × (step c b ≡ record { event = e; core = s; bus = b }) × (s.random ≡ ticked 64 8 c.random) × RunsInside (suc n) es s b t)

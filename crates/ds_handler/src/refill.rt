@@ -1,5 +1,6 @@
 //! A whole refill at once: what the nine words of the handler make of the processor.
-ghost use Rattle.std.specs.Prelude.{◌≡◌, ◌%◌, true, false, None, IfSome, length, slice_index};
+ghost use Rattle.std.specs.Prelude.{◌≡◌, ◌%◌, ◌<◌, false, None, IfSome, IsSome, IsNone, length, slice_index};
+ghost use Rattle.ds_tlb.specs.Entries.{passed};
 ghost use Rattle.ds_refill.specs.Handler.{HasWords};
 ghost use Rattle.ds_refill_laws.specs.Refill.{IsKernel, handler_events};
 ghost use Rattle.ds_handler.specs.Refills.{after_refill, CanLoad, RunsInside};
@@ -18,10 +19,10 @@ const BEFORE_WRITE: u32 = 6;
 /// That word, and the two after it.
 const FROM_WRITE: u32 = 3;
 
-/// Does the whole refill where the processor stands at the handler's first word, and answers whether
-/// it did: the processor is as the nine words leave it. Where the page-table word can't be loaded, or
-/// isn't one, nothing is done.
-pub fn refill_at_once<L: Lookaside>(core: &mut Core<L>, bus: &Bus) -> bool
+/// Does the whole refill where the processor stands at the handler's first word, and answers the
+/// slot that it wrote: the processor is as the nine words leave it. Where the page-table word can't
+/// be loaded, or isn't one, nothing is done.
+pub fn refill_at_once<L: Lookaside>(core: &mut Core<L>, bus: &Bus) -> Option<usize>
     requires slots { L.SLOTS ≡ 64 }
     requires wired { L.WIRED ≡ 8 }
     requires words { HasWords bus.now.memory }
@@ -30,17 +31,14 @@ pub fn refill_at_once<L: Lookaside>(core: &mut Core<L>, bus: &Bus) -> bool
     requires next { core.old.next ≡ 0x80000004 }
     requires slot { core.old.slot ≡ false }
     requires late { core.old.registers.late ≡ None }
-    ensures done { result ≡ true → RunsInside handler_events core.old bus.now core.new }
-    ensures still { result ≡ false → core.new ≡ core.old }
+    ensures done { IsSome result → RunsInside 0 handler_events core.old bus.now core.new }
+    ensures slot { IfSome result (λ slot. slot ≡ passed 64 8 6 core.old.random) }
+    ensures high { IfSome result (λ slot. slot < 64) }
+    ensures still { IsNone result → core.new ≡ core.old }
 {
     look_at_registers(core);
-    match table_word(core, bus) {
-        Some(word) => {
-            put(core, word);
-            true
-        }
-        None => false,
-    }
+    let word = table_word(core, bus)?;
+    Some(put(core, word))
 }
 
 /// There are 32 registers, of which the first is 0.
@@ -82,18 +80,21 @@ fn table_word<L: Lookaside>(core: &mut Core<L>, bus: &Bus) -> Option<u32>
     }
 }
 
-/// The processor as the nine words leave it, with the entry of a page-table word.
-fn put<L: Lookaside>(core: &mut Core<L>, word: u32)
+/// The processor as the nine words leave it, with the entry of a page-table word in the slot that is
+/// answered.
+fn put<L: Lookaside>(core: &mut Core<L>, word: u32) -> usize
     requires slots { L.SLOTS ≡ 64 }
     requires wired { L.WIRED ≡ 8 }
     requires low { word % 256 ≡ 0 }
-    ensures { core.new ≡ after_refill core.old word }
+    ensures core { core.new ≡ after_refill core.old word }
+    ensures slot { result ≡ passed 64 8 6 core.old.random }
+    ensures high { result < 64 }
 {
     let epc = core.cp0.read(register::EPC);
     core.cp0.write(register::ENTRY_LO, word);
     let entry = Entry::of_words(core.cp0.read(register::ENTRY_HI), word);
     core.tlb.pass(BEFORE_WRITE);
-    core.tlb.write_random(entry);
+    let slot = core.tlb.write_random(entry);
     core.tlb.pass(FROM_WRITE);
     core.registers[26] = 0;
     core.registers[27] = epc;
@@ -102,4 +103,5 @@ fn put<L: Lookaside>(core: &mut Core<L>, word: u32)
     core.next = wrapping_sum(epc, 4);
     core.slot = false;
     core.cp0.rfe();
+    slot
 }

@@ -30,9 +30,9 @@ use Rattle.ds_pagemap_laws.proofs.Asleep.{taken_asleep}
 use Rattle.ds_refinement.specs.declared.step.Step.TheVariants.{Unit, Boundary}
 use Rattle.ds_refinement.specs.declared.cause.Cause.TheVariants as cause
 use Rattle.ds_refinement.specs.Told.{told, code_in, is_delayed}
-use Rattle.ds_refinement.specs.Held.{Held, Kept, vacated, whole, space_of}
+use Rattle.ds_refinement.specs.Held.{Held, Kept, Own, vacated, whole, space_of}
 use Rattle.ds_refinement.specs.Units.{ends_in_call, is_served, has_left_user}
-use Rattle.ds_refinement.specs.Stands.{Stands, IsSound, AreResting, RunningIs, RunningBy}
+use Rattle.ds_refinement.specs.Stands.{Agrees, CountedBy, Stands, IsSound, AreResting, RunningIs, RunningBy}
 use Rattle.ds_refinement.specs.Services.{IsBare, Serves, seated, with_first_seated, with_boundary, with_none_spent}
 use Rattle.ds_refinement.specs.Ends.{EndsInCall}
 use Rattle.ds_refinement.specs.Quiet.{IsQuiet}
@@ -54,7 +54,8 @@ use Rattle.ds_monitor.proofs.Called.{with_end, called, call_ends, puts, gets}
 use Rattle.ds_kernel.specs.Seats.{behind_call, on_processor}
 use Rattle.ds_kernel.specs.AtOnce.{IsQuietCall, IsAnswered}
 use Rattle.ds_kernel.specs.declared.parts.Parts.{Parts}
-use Rattle.ds_kernel.specs.Parts.{held}
+use Rattle.ds_kernel.specs.Parts.{held, own_of}
+use Rattle.ds_refinement.proofs.Tallied.{ranges_of}
 use Rattle.ds_kernel.specs.Good.{IsOrderly, IsGood}
 use Rattle.ds_kernel.specs.Ended.{Does}
 use Rattle.ds_kernel.specs.Going.{GoesOn}
@@ -79,8 +80,8 @@ owner_of k p some = by p k.owner (p == k.owner) refl some
     by p owner false is some = (let no : 0 < 0 = some in absurd (omega (arith, no)))
 
 -- what is held, by its parts
-abbrev held_by : CoreState → BusState → Kept → Bool → ℕ → ℕ → Held
-held_by c b k failed spent wired = record { core = c; bus = b; kept = k; own = record { failed = failed; spent = spent; wired = wired } }
+abbrev held_by : CoreState → BusState → Kept → Own → Held
+held_by c b k own = record { core = c; bus = b; kept = k; own = own }
 
 -- a state with other queues and consoles
 abbrev pub with_texts : State → List (List ℕ) → List (List ℕ) → State
@@ -191,7 +192,7 @@ module _ (h : Held) (p : ℕ) (rest : List ℕ) (asked : Call) (answer : ℕ) (q
       (subst (λ (m : State). Serves (ends_in_call p pc) k h.bus.memory (record h.kept { state = m }) h.bus.memory) calls_is by_end))
 
   runs : RunningIs p h.core h.kept sound.state
-  runs = subst (λ (ps : List ℕ). RunningBy ps h.core h.kept sound.state) ready sound.stands.running
+  runs = subst (λ (ps : List ℕ). RunningBy ps h.core h.kept sound.state) ready sound.stands.agrees.running
 
   there : process_of (with_process later p behind) p ≡ behind
   there = process_put later p behind seat
@@ -200,12 +201,14 @@ module _ (h : Held) (p : ℕ) (rest : List ℕ) (asked : Call) (answer : ℕ) (q
   ends = record {
     serves = serves;
     enters = entering s.ready p h.core in_seat.core in_seat.kept (ap first ready) (seat.0, (seat_kept later p behind seat).1, ap (λ (x : Process). x.standing) there ∙ standing) (owner_of h.kept p runs.number) (ap (on_processor h.core) (sym there));
-    represented = subst (λ (x : List ℕ). IsRepresented h.core.entries x h.kept.tables (space_of h.kept) h.kept.grants) (sym by.memory) sound.stands.represented;
-    vectors = subst HasWords (sym by.memory) sound.stands.vectors;
-    base = record { tables = sound.stands.base.tables; whole = sound.stands.base.whole };
-    grants = sound.stands.grants;
+    represented = subst (λ (x : List ℕ). IsRepresented h.core.entries x h.kept.tables (space_of h.kept) h.kept.grants) (sym by.memory) sound.stands.agrees.represented;
+    vectors = subst HasWords (sym by.memory) sound.stands.agrees.vectors;
+    base = record { tables = sound.stands.agrees.base.tables; whole = sound.stands.agrees.base.whole };
+    grants = sound.stands.agrees.grants;
     size = ap (λ (x : List ℕ). length x) by.memory;
-    devices = by.rests in_seat.kept (resting h.bus h.kept in_seat.kept (Some p) unowed refl refl refl sound.stands.devices);
+    devices = by.rests in_seat.kept (resting h.bus h.kept in_seat.kept (Some p) unowed refl refl refl sound.stands.agrees.devices);
+    none = refl;
+    ranges = (let r = ranges_of h sound.state sound.stands in record { size = r.size; low = r.low; high = r.high; turn = r.turn });
   }
 
   seated_does : Does Unit h in_seat
@@ -227,8 +230,8 @@ module _ (h : Held) (p : ℕ) (rest : List ℕ) (asked : Call) (answer : ℕ) (q
     on = r.on;
   }
 
-  unseated : (m : State) → Stands in_seat m → Stands owing m
-  unseated m k = record {
+  agrees_unseated : (m : State) → Agrees in_seat m → Agrees owing m
+  agrees_unseated m k = record {
     represented = k.represented;
     vectors = k.vectors;
     base = k.base;
@@ -237,6 +240,12 @@ module _ (h : Held) (p : ℕ) (rest : List ℕ) (asked : Call) (answer : ℕ) (q
     kept = record { ready = k.kept.ready; state = k.kept.state ∙ vacant; pages = k.kept.pages; log = k.kept.log; lines = k.kept.lines };
     running = subst (λ (ps : List ℕ). RunningBy ps owing.core owing.kept m) (sym ready) (running_still m (subst (λ (ps : List ℕ). RunningBy ps in_seat.core in_seat.kept m) ready k.running));
     devices = record { serial = k.devices.serial; clock = k.devices.clock; system = k.devices.system; ticked = k.devices.ticked; period = k.devices.period };
+  }
+
+  unseated : (m : State) → Stands in_seat m → Stands owing m
+  unseated m k = record {
+    agrees = agrees_unseated m k.agrees;
+    counted = subst (λ (ps : List ℕ). CountedBy ps owing.core owing.own owing.kept m) (sym ready) (subst (λ (ps : List ℕ). CountedBy ps in_seat.core in_seat.own in_seat.kept m) ready k.counted);
   }
 
   still_back : GoesBack h in_seat → GoesBack h owing
@@ -259,8 +268,8 @@ module _ (h : Held) (p : ℕ) (rest : List ℕ) (asked : Call) (answer : ℕ) (q
   boundary_does : h.kept.ticked ≤ s.time → IsQuiet owing.kept → Does Boundary owing closed
   boundary_does ticked none =
       let same : s.time + 1 ≡ s.time + 1 + 0 = omega arith in record {
-        follows = quiet owing refl (omega (arith, ticked)) none;
-        moves = (refl, refl, same, refl);
+        follows = quiet owing refl refl (omega (arith, ticked)) none;
+        moves = (refl, refl, same, refl, refl);
         real = record {
           instruction = λ unit other. (let no : Some (record { began = s.time; runner = Some p }) ≡ None = unit.0 in absurd (cc));
           service = λ unit other. (let no : Some (record { began = s.time; runner = Some p }) ≡ None = unit.0 in absurd (cc));
@@ -289,6 +298,7 @@ module _ (h : Held) (p : ℕ) (rest : List ℕ) (asked : Call) (answer : ℕ) (q
         raised = λ is. (let no : true ≡ false = is in absurd (cc));
         running = λ some. (let no : 0 < 0 = some in absurd (omega (arith, no)));
         spent = omega arith;
+        fresh = λ few. refl;
         lines = omega (arith, lines);
         ticked = omega (arith, ticked);
         early = omega (arith, soon);
@@ -309,7 +319,7 @@ module _ {L : Type 0} (p answer : ℕ) (asked : Call) (queues consoles : List (L
     (commands : IsNonDecreasingBy has_time old.monitor.due.commands) (order : IsNonDecreasingBy comes_at old.monitor.due.characters)
     (core : new.core ≡ on_processor old.core (behind_call old.core answer (process_of (kept_of old.monitor).state p)))
     (kept : kept_of new.monitor ≡ record (kept_of old.monitor) { state = record (with_texts (kept_of old.monitor).state queues consoles) { time = old.monitor.time + 1 } })
-    (until : new.monitor.quiet_until ≡ old.monitor.quiet_until) (log : HasLogRoom 1 old.monitor → HasLogRoom 1 new.monitor) (failed : new.failed ≡ old.failed) (spent : new.spent ≡ 0) (wired : new.wired ≡ old.wired) where
+    (until : new.monitor.quiet_until ≡ old.monitor.quiet_until) (log : HasLogRoom 1 old.monitor → HasLogRoom 1 new.monitor) (own : own_of new ≡ with_none_spent (own_of old)) where
   abbrev h : Held
   h = held old
 
@@ -327,11 +337,13 @@ module _ {L : Type 0} (p answer : ℕ) (asked : Call) (queues consoles : List (L
 
   is : held new ≡ closed_held
   is =
-      ap (λ (c : CoreState). held_by c new.bus (kept_of new.monitor) new.failed new.spent new.wired) core
-      ∙ (ap (λ (k : Kept). held_by closed_held.core new.bus k new.failed new.spent new.wired) kept
-      ∙ (ap (λ (o : Option Turn). held_by closed_held.core new.bus (record (kept_of old.monitor) { state = record state_then { owed = o } }) new.failed new.spent new.wired) unowed
-      ∙ (ap₂ (λ (f : Bool) (n : ℕ). held_by closed_held.core new.bus closed_held.kept f n new.wired) failed spent
-      ∙ ap (λ (w : ℕ). held_by closed_held.core new.bus closed_held.kept old.failed 0 w) wired)))
+      ap (λ (c : CoreState). held_by c new.bus (kept_of new.monitor) (own_of new)) core
+      ∙ (ap (λ (k : Kept). held_by closed_held.core new.bus k (own_of new)) kept
+      ∙ (ap (λ (o : Option Turn). held_by closed_held.core new.bus (record (kept_of old.monitor) { state = record state_then { owed = o } }) (own_of new)) unowed
+      ∙ ap (λ (o : Own). held_by closed_held.core new.bus closed_held.kept o) own))
+
+  spent : new.spent ≡ 0
+  spent = ap (λ (o : Own). o.spent) own
 
   none : IsQuiet (owing_of h p answer queues consoles new.bus).kept
   none =

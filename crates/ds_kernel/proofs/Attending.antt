@@ -45,7 +45,7 @@ rests_by [] c k m turn o a = (a, tt)
 rests_by (p ∷ rest) c k m turn o a = begins_by (is_user c.system) c.slot c k p m turn o a.on
 
 pub at_boundary : (h : Held) (turn : Turn) → IsSound h → h.kept.state.owed ≡ Some turn → (h.core.system.status ≡ user_status) × FirstBy h.kept.state.ready h.core
-at_boundary h turn sound owed = rests_by h.kept.state.ready h.core h.kept sound.state turn (owed_is h sound.state sound.stands ∙ owed) sound.stands.running
+at_boundary h turn sound owed = rests_by h.kept.state.ready h.core h.kept sound.state turn (owed_is h sound.state sound.stands.agrees ∙ owed) sound.stands.agrees.running
 
 -- The seat after an interrupt.
 

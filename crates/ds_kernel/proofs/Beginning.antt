@@ -1,5 +1,5 @@
 -- The beginning of a run leaves the station as it should be.
-use Rattle.std.proofs.Common.{◌≡◌, ℕ, ◌≤◌, List, length, true, false, None, sym, ap, subst, ◌∙◌, arith}
+use Rattle.std.proofs.Common.{◌≡◌, ℕ, ◌≤◌, List, length, true, false, None, refl, sym, ap, subst, ◌∙◌, arith}
 use Rattle.ds_cp0.specs.System.{is_user}
 use Rattle.ds_core.specs.Core.{CoreState}
 use Rattle.ds_policy.specs.Value.{PolicyValue, InputValue}
@@ -7,10 +7,12 @@ use Rattle.ds_pagemap.specs.First.{first_state}
 use Rattle.ds_refinement.specs.Held.{Kept, Own}
 use Rattle.ds_refinement.specs.Stands.{Stands}
 use Rattle.ds_refinement.specs.First.{IsFirst}
+use Rattle.ds_refinement.specs.Counts.{HasNone}
 use Rattle.ds_monitor.specs.Kept.{kept_of}
 use Rattle.ds_monitor.specs.Orderly as monitor
 use Rattle.ds_kernel.specs.declared.parts.Parts.{Parts}
-use Rattle.ds_kernel.specs.Parts.{held}
+use Rattle.ds_kernel.specs.Parts.{held, own_of}
+use Rattle.ds_kernel.proofs.Doing.{fresh_of_none}
 use Rattle.ds_monitor.specs.Coming.{next_due}
 use Rattle.ds_kernel.specs.Good.{IsRate, IsGood}
 use Rattle.ds_kernel.proofs.Stepping.{none_is_not_some}
@@ -33,6 +35,7 @@ first_good p policy images input start first stands orderly is_rate next few =
         raised = λ kernel. (let no : true ≡ false = sym user ∙ kernel in absurd (cc));
         running = λ some. absurd (omega (arith, spent, some));
         spent = omega (arith, spent);
+        fresh = λ few. fresh_of_none (own_of p) (subst HasNone (sym first.own) refl);
         lines = omega (arith, lines, few);
         ticked = omega (arith, ticked);
         kept = orderly;

@@ -15,7 +15,7 @@ use Rattle.ds_core.specs.Core.{CoreState, Step, exception}
 use Rattle.ds_core.proofs.Users.{keeps_system}
 use Rattle.ds_pagemap.specs.declared.turn.Turn.{Turn}
 use Rattle.ds_refinement.specs.Told.{code_in, is_delayed}
-use Rattle.ds_refinement.specs.Held.{Held}
+use Rattle.ds_refinement.specs.Held.{Held, Own}
 use Rattle.ds_refinement.specs.Units.{user_status, is_served}
 use Rattle.ds_refinement.specs.Handling.{IsWhole}
 use Rattle.ds_refinement.specs.Stands.{IsSound}
@@ -29,7 +29,8 @@ use Rattle.ds_monitor.specs.declared.monitor.Monitor.{Monitor}
 use Rattle.ds_monitor.specs.Room.{HasRoom}
 use Rattle.ds_monitor.specs.Kept.{kept_of}
 use Rattle.ds_kernel.specs.declared.parts.Parts.{Parts}
-use Rattle.ds_kernel.specs.Parts.{held}
+use Rattle.ds_kernel.specs.Parts.{held, own_of}
+use Rattle.ds_refinement.specs.Counts.{Counts, IsFresh, with_counts}
 use Rattle.ds_monitor.specs.Coming.{next_due}
 use Rattle.ds_kernel.specs.Good.{IsRate, IsGood}
 use Rattle.ds_kernel.specs.AtOnce.{IsCalled}
@@ -84,8 +85,8 @@ module _ (n steps ticks : ℕ) (old new : Held) (unowed : old.kept.state.owed �
 
 -- the station is as it should be at a later time
 later_good : {L : Type 0} (old new : Parts L) → IsGood old → IsSound (held new) → old.monitor.owed ≡ None → old.monitor.ready ≢ [] → new.monitor ≡ record old.monitor { time = new.monitor.time } → new.failed ≡ old.failed
-    → old.monitor.time ≤ new.monitor.time → (is_user new.core.system ≡ false → 0 < new.spent) → new.spent ≤ 64 → HasRoom 1 old.monitor → (0 < new.spent → new.monitor.time + 2 < old.monitor.quiet_until) → new.monitor.time ≤ 1000000001 → IsGood new
-later_good old new good sound unowed ready monitor failed later raised few room quiet early =
+    → old.monitor.time ≤ new.monitor.time → (is_user new.core.system ≡ false → 0 < new.spent) → new.spent ≤ 64 → IsFresh (own_of new) → HasRoom 1 old.monitor → (0 < new.spent → new.monitor.time + 2 < old.monitor.quiet_until) → new.monitor.time ≤ 1000000001 → IsGood new
+later_good old new good sound unowed ready monitor failed later raised few fresh room quiet early =
     let owed : new.monitor.owed ≡ None = ap (λ (m : Monitor). m.owed) monitor ∙ unowed in
     let lines : new.monitor.lines ≡ old.monitor.lines = ap (λ (m : Monitor). m.lines) monitor in
     let ticked : new.monitor.ticked ≡ old.monitor.ticked = ap (λ (m : Monitor). m.ticked) monitor in
@@ -102,6 +103,7 @@ later_good old new good sound unowed ready monitor failed later raised few room 
         raised = raised;
         running = λ some. subst (λ (m : Monitor). m.ready ≢ []) (sym monitor) ready;
         spent = few;
+        fresh = λ first. fresh;
         lines = omega (arith, lines, few_lines, later, commands);
         ticked = omega (arith, ticked, before, later);
         early = early;
@@ -132,8 +134,15 @@ pub counted_is : {L : Type 0} (old mid new : Parts L) (passed spent : ℕ) → m
     → new ≡ record mid { monitor = record mid.monitor { time = mid.monitor.time + passed }; spent = spent } → new ≡ counted old mid.core mid.bus passed spent
 counted_is {L = L} old mid new passed spent rest by = by ∙ ap (λ (x : Parts L). record x { monitor = record x.monitor { time = x.monitor.time + passed }; spent = spent }) rest
 
-moved_alike : (h : Held) (hw : Hardware) (t t' s s' : ℕ) (o : Option Turn) → t ≡ t' → o ≡ None → s ≡ s' → moved h hw t o s ≡ moved h hw t' None s'
-moved_alike h hw t t' s s' o e f g = ap₂ (λ (x y : ℕ). moved h hw x o y) e g ∙ ap (λ (x : Option Turn). moved h hw t' x s') f
+moved_alike : (h : Held) (hw : Hardware) (t t' s s' : ℕ) (o : Option Turn) → IsFresh h.own → t ≡ t' → o ≡ None → s ≡ s'
+    → record h { core = hw.core; bus = hw.bus; kept = record h.kept { state = record h.kept.state { time = t; owed = o } }; own = record h.own { spent = s } } ≡ moved h hw t' None s'
+moved_alike h hw t t' s s' o fresh e f g =
+    ap (λ (n : Counts). record h { core = hw.core; bus = hw.bus; kept = record h.kept { state = record h.kept.state { time = t; owed = o } }; own = with_counts h.own (record n { spent = s }) }) fresh
+    ∙ (ap₂ (λ (x y : ℕ). moved h hw x o y) e g ∙ ap (λ (x : Option Turn). moved h hw t' x s') f)
+
+-- so many instructions are counted and nothing else
+counted_fresh : (own : Own) (s : ℕ) → IsFresh own → IsFresh (record own { spent = s })
+counted_fresh own s f = ap (λ (n : Counts). record n { spent = s }) f
 
 -- A block of at most so many instructions from the old parts.
 module _ {L : Type 0} (limit n : ℕ) (old : Parts L) (c : CoreState) (b : BusState) (passed spent : ℕ) (good : IsGood old) (goes : MayRunAhead limit (held old)) (room : HasRoom 1 old.monitor) (in_time : old.monitor.time + limit + 1 ≤ 1000000000) (soon : old.monitor.time + limit + 3 ≤ old.monitor.quiet_until)
@@ -155,7 +164,7 @@ module _ {L : Type 0} (limit n : ℕ) (old : Parts L) (c : CoreState) (b : BusSt
     calm_is : held new ≡ with_block n (held old) hw
     calm_is =
         let later : old.monitor.time + passed ≡ old.monitor.time + ticks n start = omega (arith, passed_is) in
-        moved_alike (held old) hw (old.monitor.time + passed) (time_behind n (held old)) spent (owed_tick c.slot) old.monitor.owed later goes.owed left
+        moved_alike (held old) hw (old.monitor.time + passed) (time_behind n (held old)) spent (owed_tick c.slot) old.monitor.owed goes.fresh later goes.owed left
 
     user : is_user c.system ≡ true
     user =
@@ -167,7 +176,7 @@ module _ {L : Type 0} (limit n : ℕ) (old : Parts L) (c : CoreState) (b : BusSt
         let small : owed_tick c.slot ≤ 1 = owed_small c.slot in
         later_good old new good
         (subst IsSound (sym calm_is) (path_sound (held old) (with_block n (held old) hw) good.sound (block_is_path n limit (held old) hw within goes advances words)))
-        goes.owed goes.ready refl refl (omega arith) (λ is. (let no : true ≡ false = sym user ∙ is in absurd (cc))) (omega (arith, left, small)) room
+        goes.owed goes.ready refl refl (omega arith) (λ is. (let no : true ≡ false = sym user ∙ is in absurd (cc))) (omega (arith, left, small)) (counted_fresh (own_of old) spent goes.fresh) room
         (λ some. (let one : owed_tick old.core.slot ≤ 1 = owed_small old.core.slot in omega (arith, soon, within, time, one, left, some)))
         (let one : owed_tick old.core.slot ≤ 1 = owed_small old.core.slot in omega (arith, in_time, within, time, one))
 
@@ -194,7 +203,7 @@ module _ {L : Type 0} (limit n : ℕ) (old : Parts L) (c : CoreState) (b : BusSt
     raised_is : held new ≡ with_exception n (held old) hw
     raised_is =
         let later : old.monitor.time + passed ≡ old.monitor.time + ticks n start = omega (arith, all, time) in
-        moved_alike (held old) hw (old.monitor.time + passed) (time_behind n (held old)) spent (owed_tick (is_delayed c.system) + 1) old.monitor.owed later goes.owed left
+        moved_alike (held old) hw (old.monitor.time + passed) (time_behind n (held old)) spent (owed_tick (is_delayed c.system) + 1) old.monitor.owed goes.fresh later goes.owed left
 
     pub raised_good : IsGood new
     raised_good =
@@ -202,7 +211,7 @@ module _ {L : Type 0} (limit n : ℕ) (old : Parts L) (c : CoreState) (b : BusSt
         let within : n ≤ limit = omega (arith, fewer) in
         later_good old new good
         (subst IsSound (sym raised_is) (path_sound (held old) (with_exception n (held old) hw) good.sound (raised_is_path n limit (held old) hw code within goes leads words whole)))
-        goes.owed goes.ready refl refl (omega arith) (λ is. omega (arith, left)) (omega (arith, left, small)) room
+        goes.owed goes.ready refl refl (omega arith) (λ is. omega (arith, left)) (omega (arith, left, small)) (counted_fresh (own_of old) spent goes.fresh) room
         (λ some. (let one : owed_tick old.core.slot ≤ 1 = owed_small old.core.slot in omega (arith, soon, fewer, time, one)))
         (let one : owed_tick old.core.slot ≤ 1 = owed_small old.core.slot in omega (arith, in_time, within, time, one))
 

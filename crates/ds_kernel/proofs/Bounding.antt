@@ -17,22 +17,24 @@ use Rattle.ds_cp0.specs.System.{is_user}
 use Rattle.ds_refinement.specs.Pairs.{HasNoNewPairs}
 use Rattle.ds_refinement.specs.Quiet.{IsQuiet}
 use Rattle.ds_refinement.specs.Real.{IsReal}
-use Rattle.ds_refinement.proofs.Boundaries.{quiet, idle, stands_waited}
+use Rattle.ds_refinement.proofs.Boundaries.{quiet, idle, waited_stands}
 use Rattle.ds_refinement.proofs.NoNewPairs.{same_pairs}
+use Rattle.ds_refinement.specs.Counts.{HasNone}
+use Rattle.ds_refinement.proofs.Counting.{boundary_moves, idle_moves}
 use Rattle.ds_refinement.proofs.Attended.{boundary_served, idle_served, served_moves, idle_served_moves}
 use Rattle.ds_monitor.specs.Coming.{first_time, first_event, period_end, next_due}
 use Rattle.ds_monitor.specs.Kept.{kept_of}
 use Rattle.ds_monitor.specs.Room.{HasBoundaryRoom, HasTurnRoom}
 use Rattle.ds_monitor.specs.declared.monitor.Monitor.{Monitor}
 use Rattle.ds_kernel.specs.declared.parts.Parts.{Parts}
-use Rattle.ds_kernel.specs.Parts.{held}
+use Rattle.ds_kernel.specs.Parts.{held, own_of}
 use Rattle.ds_kernel.specs.Good.{IsRate, IsOrderly, IsGood}
 use Rattle.ds_kernel.specs.Ended.{Does}
 use Rattle.ds_kernel.specs.Attended.{HasAttended, IsBounded}
 use Rattle.ds_monitor.proofs.Coming.{none_due}
 use Rattle.ds_monitor.proofs.Lawful.{turn_orderly}
 use Rattle.ds_kernel.proofs.Waiting.{none_passed}
-use Rattle.ds_kernel.proofs.Doing.{enters_user}
+use Rattle.ds_kernel.proofs.Doing.{enters_user, fresh_of_none, none_of_fresh}
 use Rattle.ds_kernel.proofs.Rooms.{turn_room_still, boundary_room}
 use Rattle.ds_kernel.proofs.Stepping.{none_is_not_some, sound_behind}
 
@@ -69,12 +71,14 @@ module _ {L : Type 0} (old : Parts L) (good : IsGood old) (owed : IsSome old.mon
     pairs = λ all. pairs;
   }
 
+  none_counted : HasNone (own_of old)
+  none_counted = none_of_fresh (own_of old) (none_spent old.spent good.orderly.begun) good.orderly.fresh
+
   quiet_does : IsQuiet h.kept → Does Boundary h (with_boundary h)
   quiet_does q =
-      let same : h.kept.state.time ≡ h.kept.state.time + 0 = omega arith in
-      let time : h.kept.state.time ≡ h.kept.state.time + truth (not (is_some h.kept.state.owed)) = same ∙ ap (λ (b : Bool). h.kept.state.time + truth (not b)) (sym owed) in record {
-        follows = quiet h owed good.orderly.ticked q;
-        moves = (refl, none_spent old.spent good.orderly.begun, time, refl);
+      record {
+        follows = quiet h owed none_counted good.orderly.ticked q;
+        moves = boundary_moves h owed none_counted;
         real = real (with_boundary h) refl (same_pairs h.core.entries);
       }
 
@@ -94,6 +98,7 @@ module _ {L : Type 0} (old : Parts L) (good : IsGood old) (owed : IsSome old.mon
           raised = o.raised;
           running = o.running;
           spent = o.spent;
+          fresh = o.fresh;
           lines = o.lines;
           ticked = o.ticked;
           early = o.early;
@@ -123,6 +128,7 @@ module _ {L : Type 0} (old : Parts L) (good : IsGood old) (owed : IsSome old.mon
           raised = λ is. (let no : true ≡ false = sym user ∙ is in absurd (cc));
           running = λ some. absurd (omega (arith, none, some));
           spent = omega (arith, none);
+          fresh = λ few. fresh_of_none (own_of new) a.ends.none;
           lines = omega (arith, lines, time, few);
           ticked = omega (arith, ticked, time);
           early = omega (arith, time, early);
@@ -158,9 +164,9 @@ module _ {L : Type 0} (old between waiting : Parts L) (good : IsGood old) (unowe
 
   quiet_idle : IsQuiet (with_idle_turn (held old)).kept → Does Boundary (held old) (with_boundary (with_idle_turn (held old)))
   quiet_idle q =
-      let time : old.monitor.time + 1 ≡ old.monitor.time + truth (not (is_some old.monitor.owed)) = ap (λ (o : Option Turn). old.monitor.time + truth (not (is_some o))) (sym unowed) in record {
+      record {
         follows = idle (held old) unowed nobody going q;
-        moves = (refl, none_begun, time, refl);
+        moves = idle_moves (held old) unowed (none_of_fresh (own_of old) none_begun good.orderly.fresh);
         real = real_idle (with_boundary (with_idle_turn (held old))) refl (same_pairs old.core.entries);
       }
 
@@ -188,13 +194,14 @@ module _ {L : Type 0} (old between waiting : Parts L) (good : IsGood old) (unowe
         raised = o.raised;
         running = o.running;
         spent = o.spent;
+        fresh = o.fresh;
         lines = omega (arith, lines);
         ticked = omega (arith, ticked);
         early = omega (arith, soon);
         rate = o.rate;
         kept = turn_orderly (held old).kept (old.monitor.time + 1) (with_idle_turn (held old)).kept.state.owed o.kept;
       } in record {
-        sound = subst IsSound (sym waiting_is) (record { state = _; stands = stands_waited (held old) good.sound.state good.sound.stands unowed nobody });
+        sound = subst IsSound (sym waiting_is) (record { state = _; stands = waited_stands (held old) good.sound.state good.sound.stands unowed nobody });
         orderly = subst IsOrderly (sym waiting_is) marks;
         room = λ some. absurd (omega (arith, spent, begun, some));
         owed = λ some. subst (λ (x : Parts L). HasBoundaryRoom x.monitor) (sym rest) (boundary_room between.monitor waiting.monitor.time waiting.monitor.owed (omega (arith, time, later)) room);

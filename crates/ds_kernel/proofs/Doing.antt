@@ -24,26 +24,27 @@ use Rattle.ds_pagemap.specs.Unit.{Stop, denied_as, fault}
 use Rattle.ds_refinement.specs.declared.cause.Cause.{Cause}
 use Rattle.ds_refinement.specs.declared.cause.Cause.TheVariants as cause
 use Rattle.ds_refinement.specs.declared.step.Step.TheVariants.{Inside, Unit}
-use Rattle.ds_refinement.specs.Held.{Held, Kept}
+use Rattle.ds_refinement.specs.Held.{Held, Kept, Own}
+use Rattle.ds_refinement.specs.Counts.{Counts, HasNone, IsFresh, fresh}
 use Rattle.ds_refinement.specs.Told.{told, is_delayed, own_in}
-use Rattle.ds_refinement.specs.Units.{InService, ends_in_stop, ends_in_call, user_status, is_general, is_served, has_left_user}
+use Rattle.ds_refinement.specs.Units.{InService, ends_in_stop, ends_in_call, user_status, is_general, is_served, has_left_user, EndsUnit}
 use Rattle.ds_refinement.specs.Stands.{IsSound, InKernel}
 use Rattle.ds_refinement.specs.Ends.{EndsInStop, EndsInCall}
 use Rattle.ds_refinement.specs.Pairs.{HasNoNewPairs}
-use Rattle.ds_refinement.specs.Services.{EntersBy, gone_back, table_entry, with_table_page, with_none_spent}
+use Rattle.ds_refinement.specs.Services.{EntersBy, table_entry, with_table_page, with_none_spent}
 use Rattle.ds_refinement.specs.Steps.{Follows, Moves, ticks_of}
-use Rattle.ds_refinement.specs.Real.{EndsUnit}
-use Rattle.ds_refinement.proofs.Ending.{served_parts, served_kernel, denied_ends, fault_ends, slot_ends, call_ends}
+use Rattle.ds_refinement.proofs.Ending.{served_parts, served_kernel, waiting_ends, denied_ends, fault_ends, slot_ends, call_ends}
 use Rattle.ds_refinement.proofs.Counting.{stop_moves, call_moves, back_moves}
-use Rattle.ds_refinement.proofs.NoNewPairs.{same_pairs, written_pairs}
-use Rattle.ds_refinement.proofs.WaysBack.{gone_back_follows, gone_back_goes, double_page, double_follows, double_goes}
-use Rattle.ds_refinement.proofs.Joined.{end_real, back_real, double_real}
+use Rattle.ds_refinement.proofs.NoNewPairs.{written_pairs}
+use Rattle.ds_refinement.proofs.WordTallies.{double_begun}
+use Rattle.ds_refinement.proofs.WaysBack.{double_page, double_follows, double_goes}
+use Rattle.ds_refinement.proofs.Joined.{end_real, double_real, never_both}
 use Rattle.ds_policy.specs.Value.{InputValue}
 use Rattle.ds_monitor.specs.Room.{HasBoundaryRoom, HasTurnRoom}
 use Rattle.ds_kernel.proofs.Rooms.{boundary_room_behind}
 use Rattle.ds_monitor.specs.declared.monitor.Monitor.{Monitor}
 use Rattle.ds_kernel.specs.declared.parts.Parts.{Parts}
-use Rattle.ds_kernel.specs.Parts.{held}
+use Rattle.ds_kernel.specs.Parts.{held, own_of}
 use Rattle.ds_monitor.specs.Coming.{next_due}
 use Rattle.ds_monitor.specs.Kept.{kept_of}
 use Rattle.ds_kernel.specs.Good.{IsRate, IsOrderly, IsGood, IsBusy}
@@ -82,15 +83,12 @@ module _ (h : Held) (p : ℕ) (rest : List ℕ) (sound : IsSound h) (ready : h.k
       let moves : Moves Unit h new = call_moves p h new owed (outside_slot left) own by in
       record { follows = call_ends h new p rest ready served left is outside by; moves = moves; real = end_real h new p rest cause.Call ready served left is tt moves.1 random pairs }
 
-  pub back_does : has_left_user h.core ≡ true → (access : Access) (page offset : ℕ) → h.kept.state.owed ≡ None → h.own.spent ≤ 64
-      → told h.core.system kept_pages p ≡ cause.Access access
-      → decide h.kept.grants.table p access.kind access.size h.core.system.bad_vaddr ≡ Allowed page offset
-      → Does Inside h (gone_back h)
-  back_does left access page offset owed few is decides = record {
-    follows = gone_back_follows h (some_ready h.kept.state.ready p rest ready) served left;
-    moves = back_moves h (gone_back h) owed served few refl refl refl refl;
-    real = back_real h (gone_back h) p rest access page offset ready served is decides (gone_back_goes h left) refl (same_pairs h.core.entries);
-  }
+  -- no access that the table allows waits there
+  pub none_allowed : has_left_user h.core ≡ true → (access : Access) (page offset : ℕ) → told h.core.system kept_pages p ≡ cause.Access access
+      → decide h.kept.grants.table p access.kind access.size h.core.system.bad_vaddr ≡ Allowed page offset → ⊥
+  none_allowed left access page offset is allowed =
+      never_both kept_pages p h.core.system.bad_vaddr (cause.Access access)
+      (subst (EndsUnit kept_pages p h.core.system.bad_vaddr) is (waiting_ends h sound.state p rest sound.stands ready served left)) (page, offset, allowed)
 
   -- the page that EntryHi names is none of a user's
   pub page_above : has_left_user h.core ≡ false → 0xC0000 ≤ bits h.core.system.entry_hi 12 20
@@ -103,10 +101,17 @@ module _ (h : Held) (p : ℕ) (rest : List ℕ) (sound : IsSound h) (ready : h.k
         follows = double_follows h p rest ready served left;
         moves = back_moves h new owed served few refl refl refl refl;
         real = double_real h new served left (double_goes h p rest sound ready served left) refl
-            (written_pairs h.core.entries (h.own.wired % 8) (table_entry h p) (omega (arith, above)));
+            (written_pairs h.core.entries h.own.wired (table_entry h p) (omega (arith, above)));
       }
 
 -- The marks after a service.
+
+pub none_of_fresh : (own : Own) → own.spent ≡ 0 → (own.spent ≤ 3 → IsFresh own) → HasNone own
+none_of_fresh own zero f = f (omega (arith, zero)) ∙ ap (λ (n : ℕ). record (fresh own.wired) { spent = n }) zero
+
+-- where no unit has begun, nothing but instructions is counted
+pub fresh_of_none : (own : Own) → HasNone own → IsFresh own
+fresh_of_none own none = none ∙ ap (λ (n : Counts). record (fresh own.wired) { spent = n.spent }) (sym none)
 
 pub enters_user : (queue : List ℕ) (c : CoreState) (k : Kept) → EntersBy queue c k → c.system.status ≡ user_status
 enters_user [] c k b = b
@@ -145,6 +150,7 @@ ended_good f p old new busy ended does =
         raised = λ is. (let no : true ≡ false = sym user ∙ is in absurd (cc));
         running = λ some. absurd (omega (arith, none, some));
         spent = omega (arith, none);
+        fresh = λ few. fresh_of_none (own_of new) (ended.ends.none);
         lines = omega (arith, time, tick, few, lines, same_due);
         ticked = omega (arith, time, tick, late, ticked);
         kept = ended.kept;
@@ -194,22 +200,24 @@ module _ {L : Type 0} (p : ℕ) (old new : Parts L) (busy : IsBusy p old) (serve
       let r = first_rest old.monitor.ready p busy.first in
       call_does (held old) p r.0 busy.good.sound r.1 served left (held new) unowed is outside ended.own ended.random ended.pairs ended.ends
 
-  -- the unit begins again where the table lets it
-  pub back_step : has_left_user old.core ≡ true → (access : Access) (page offset : ℕ) → tells (cause.Access access)
-      → decide old.monitor.grants.table p access.kind access.size old.core.system.bad_vaddr ≡ Allowed page offset
-      → held new ≡ gone_back (held old)
-      → Does Inside (held old) (held new)
-  back_step left access page offset asked decides is =
+  -- no access that the table allows waits
+  pub never_allowed : has_left_user old.core ≡ true → (access : Access) (page offset : ℕ) → tells (cause.Access access)
+      → decide old.monitor.grants.table p access.kind access.size old.core.system.bad_vaddr ≡ Allowed page offset → ⊥
+  never_allowed left access page offset asked decides =
       let r = first_rest old.monitor.ready p busy.first in
-      subst (λ (x : Held). Does Inside (held old) x) (sym is)
-      (back_does (held old) p r.0 busy.good.sound r.1 served left access page offset unowed busy.good.orderly.spent asked decides)
+      none_allowed (held old) p r.0 busy.good.sound r.1 served left access page offset asked decides
 
-  -- and after a double miss
+  -- the unit begins again after a double miss
   pub double_step : has_left_user old.core ≡ false → held new ≡ with_table_page (held old) p → Does Inside (held old) (held new)
   double_step left is =
       let r = first_rest old.monitor.ready p busy.first in
       subst (λ (x : Held). Does Inside (held old) x) (sym is)
       (double_does (held old) p r.0 busy.good.sound r.1 served left unowed busy.good.orderly.spent)
+
+  pub late_enough : has_left_user old.core ≡ false → 4 ≤ old.spent
+  late_enough left =
+      let r = first_rest old.monitor.ready p busy.first in
+      double_begun (held old) busy.good.sound (some_ready old.monitor.ready p r.0 r.1) served left
 
   pub table_page_above : has_left_user old.core ≡ false → 0xC0000 ≤ bits old.core.system.entry_hi 12 20
   table_page_above left =
@@ -217,9 +225,9 @@ module _ {L : Type 0} (p : ℕ) (old new : Parts L) (busy : IsBusy p old) (serve
       page_above (held old) p r.0 busy.good.sound r.1 served left
 
 -- the station is as it should be where the unit goes on in user mode
-pub back_good : {L : Type 0} (p : ℕ) (old new : Parts L) → IsBusy p old → new.monitor ≡ old.monitor → new.spent ≡ old.spent → new.failed ≡ old.failed
+pub back_good : {L : Type 0} (p : ℕ) (old new : Parts L) → IsBusy p old → 4 ≤ old.spent → new.monitor ≡ old.monitor → new.spent ≡ old.spent → new.failed ≡ old.failed
     → is_user new.core.system ≡ true → Does Inside (held old) (held new) → IsGood new
-back_good p old new busy monitor spent failed user does =
+back_good p old new busy late monitor spent failed user does =
     let o = busy.good.orderly in
     let marks : IsOrderly (record (held new) { kept = kept_of old.monitor }) = record {
       begun = λ some. o.begun (subst (λ (n : ℕ). 0 < n) spent some);
@@ -227,6 +235,7 @@ back_good p old new busy monitor spent failed user does =
       raised = λ kernel. (let no : true ≡ false = sym user ∙ kernel in absurd (cc));
       running = λ some. o.running (subst (λ (n : ℕ). 0 < n) spent some);
       spent = subst (λ (n : ℕ). n ≤ 64) (sym spent) o.spent;
+      fresh = λ few. absurd (omega (arith, few, late, spent));
       lines = o.lines;
       ticked = o.ticked;
       kept = o.kept;

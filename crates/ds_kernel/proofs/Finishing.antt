@@ -13,14 +13,14 @@ use Rattle.ds_grants.specs.Sound.{NamesPages}
 use Rattle.ds_pagemap.specs.declared.turn.Turn.{Turn}
 use Rattle.ds_pagemap.specs.Boundary.{has_passed}
 use Rattle.ds_pagemap.specs.Machine.{State}
-use Rattle.ds_refinement.specs.Held.{Kept, Own, space_of, began_or, last_boundary}
+use Rattle.ds_refinement.specs.Held.{Held, Kept, Own, space_of, began_or, last_boundary}
 use Rattle.ds_pagemap.specs.Unit.{Stop}
 use Rattle.ds_refinement.specs.Told.{own_in}
 use Rattle.ds_refinement.specs.Units.{ends_in_stop, ends_in_call}
 use Rattle.ds_refinement.specs.Handling.{HasBase}
 use Rattle.ds_refinement.specs.Pairs.{HasNoNewPairs}
 use Rattle.ds_refinement.specs.Stands.{AreResting, IsSound}
-use Rattle.ds_refinement.specs.Services.{Serves, EntersBy, seated}
+use Rattle.ds_refinement.specs.Services.{Serves, EntersBy, seated, with_none_spent}
 use Rattle.ds_monitor.specs.declared.monitor.Monitor.{Monitor}
 use Rattle.ds_monitor.specs.Coming.{next_due}
 use Rattle.ds_monitor.specs.Kept.{kept_of}
@@ -30,7 +30,11 @@ use Rattle.ds_monitor.specs.Sending.{with_sent, bus_behind}
 use Rattle.ds_procs.specs.declared.call.Call.{Call}
 use Rattle.ds_procs.specs.declared.call.Call.TheVariants as call
 use Rattle.ds_kernel.specs.declared.parts.Parts.{Parts}
-use Rattle.ds_kernel.specs.Parts.{held}
+use Rattle.ds_kernel.specs.Parts.{held, own_of}
+use Rattle.ds_refinement.specs.Handling.{IsWhole}
+use Rattle.ds_core.specs.Core.{CoreState}
+use Rattle.ds_refinement.specs.Counts.{HasNone, HasRanges, counts_of}
+use Rattle.ds_refinement.proofs.Tallied.{ranges_of}
 use Rattle.ds_kernel.specs.Ended.{HasEnded}
 use Rattle.ds_refinement.proofs.Spaces.{space_apart, space_known}
 use Rattle.ds_refinement.proofs.NoNewPairs.{same_pairs, joined_pairs}
@@ -49,9 +53,15 @@ owner_orderly k owner it = record { lawful = lawful_elsewhere k [] [] [] [] it.l
 abbrev turn_of : ℕ → ℕ → Option Turn
 turn_of began p = Some (record { began = began; runner = Some p })
 
--- the station's own marks
-abbrev own_of_marks : Bool → ℕ → ℕ → Own
-own_of_marks failed spent wired = record { failed = failed; spent = spent; wired = wired }
+-- nothing is counted where the counts begin again
+pub none_counted : (old new : Own) → new ≡ with_none_spent old → HasNone new
+none_counted old new is = subst HasNone (sym is) refl
+
+-- and the buffer has its ranges
+pub ranges_behind : (h : Held) (c : CoreState) (own : Own) → IsSound h → IsWhole c → own ≡ with_none_spent h.own → HasRanges c (counts_of own)
+ranges_behind h c own sound whole is =
+    subst (λ (o : Own). HasRanges c (counts_of o)) (sym is)
+    (record { size = whole.slots; low = whole.low; high = whole.high; turn = (ranges_of h sound.state sound.stands).turn })
 
 abbrev resting_clock : ℕ → ℕ → ClockState
 resting_clock x y = record { rate = x; enabled = true; flagged = false; time = y % 2 ^ 17 }
@@ -121,9 +131,8 @@ module _ {L : Type 0} (f : State → State) (old new : Parts L) (between : Monit
     pub memory : new.bus.memory ≡ last
     pub rests : (k : Kept) → AreResting old.bus k → AreResting new.bus k
     pub monitor : new.monitor ≡ record between { owner = new.monitor.owner }
-    pub failed : new.failed ≡ old.failed
-    pub spent : new.spent ≡ 0
-    pub wired : new.wired ≡ old.wired
+    pub own : own_of new ≡ with_none_spent (own_of old)
+    pub whole : IsWhole new.core
     pub context : new.core.system.context ≡ old.core.system.context
     pub pairs : HasNoNewPairs entries new.core.entries
 
@@ -159,9 +168,9 @@ module _ {L : Type 0} (f : State → State) (old new : Parts L) (between : Monit
           (owner_unseen f (seated old.core (kept_of old.monitor)) (kept_of between) old.bus.memory last new.monitor.owner a.serves));
       enters = b.enters;
       represented = b.represented (subst (λ (s : ℕ → ℕ). IsRepresented entries last between.tables s between.grants) (same_space a)
-          (a.keeps (space_of (kept_of old.monitor)) (space_apart (kept_of old.monitor)) (space_known (kept_of old.monitor)) sound.stands.represented));
-      vectors = subst HasWords (sym b.memory) (vectors_first old.bus.memory last a.first sound.stands.vectors);
-      base = base_as old.core.system new.core.system b.context sound.stands.base;
+          (a.keeps (space_of (kept_of old.monitor)) (space_apart (kept_of old.monitor)) (space_known (kept_of old.monitor)) sound.stands.agrees.represented));
+      vectors = subst HasWords (sym b.memory) (vectors_first old.bus.memory last a.first sound.stands.agrees.vectors);
+      base = base_as old.core.system new.core.system b.context sound.stands.agrees.base;
       grants = subst NamesPages (sym (ap (λ (k : Kept). k.grants) (kept_is b))) b.pages;
       size = ap (λ (x : List ℕ). length x) b.memory ∙ a.size;
       devices = b.rests (kept_of new.monitor)
@@ -169,9 +178,11 @@ module _ {L : Type 0} (f : State → State) (old new : Parts L) (between : Monit
           (ap (λ (m : Monitor). m.rate) b.monitor ∙ a.rate)
           (ap (λ (m : Monitor). m.ticked) b.monitor ∙ a.ticked)
           (ap (λ (m : Monitor). m.owed) b.monitor ∙ a.owed)
-          sound.stands.devices);
+          sound.stands.agrees.devices);
+      none = none_counted (own_of old) (own_of new) b.own;
+      ranges = ranges_behind (held old) new.core (own_of new) sound b.whole b.own;
     };
-    own = ap₂ (λ (x : Bool) (y : ℕ). own_of_marks x y new.wired) b.failed b.spent ∙ ap (own_of_marks old.failed 0) b.wired;
+    own = b.own;
     random = b.random;
     pairs = joined_pairs old.core.entries entries new.core.entries a.pairs b.pairs;
     lines = subst (λ (n : ℕ). n ≤ old.monitor.lines + 1) (sym (ap (λ (m : Monitor). m.lines) b.monitor)) a.lines;
@@ -191,10 +202,10 @@ pub comes_in : {L : Type 0} (f : State → State) (old left new : Parts L) (betw
     → (IsRepresented entries memory between.tables (space_of (kept_of between)) between.grants
     → IsRepresented new.core.entries new.bus.memory new.monitor.tables (space_of (kept_of new.monitor)) new.monitor.grants)
     → NamesPages between.grants → new.core.random ≡ left.core.random → new.bus.memory ≡ memory → ((k : Kept) → AreResting left.bus k → AreResting new.bus k)
-    → new.monitor ≡ record between { owner = new.monitor.owner } → new.failed ≡ left.failed → new.spent ≡ 0 → new.wired ≡ left.wired
+    → new.monitor ≡ record between { owner = new.monitor.owner } → own_of new ≡ with_none_spent (own_of left) → IsWhole new.core
     → new.core.system.context ≡ left.core.system.context → HasNoNewPairs entries new.core.entries
     → Comes f old new between entries memory p
-comes_in {L} f old left new between entries memory p leaves enters represented pages random same rests monitor failed spent wired context pairs = record {
+comes_in {L} f old left new between entries memory p leaves enters represented pages random same rests monitor own whole context pairs = record {
   enters = enters;
   represented = represented;
   pages = pages;
@@ -202,9 +213,8 @@ comes_in {L} f old left new between entries memory p leaves enters represented p
   memory = same;
   rests = λ k resting. rests k (subst (λ (b : BusState). AreResting b k) (sym (ap (λ (x : Parts L). x.bus) leaves)) resting);
   monitor = monitor;
-  failed = failed ∙ ap (λ (x : Parts L). x.failed) leaves;
-  spent = spent;
-  wired = wired ∙ ap (λ (x : Parts L). x.wired) leaves;
+  own = own ∙ ap (λ (x : Parts L). with_none_spent (own_of x)) leaves;
+  whole = whole;
   context = context ∙ ap (λ (x : Parts L). x.core.system.context) leaves;
   pairs = pairs;
 }

@@ -20,12 +20,12 @@ use Rattle.ds_pagemap_laws.proofs.Processes.{wakes_settles}
 use Rattle.ds_pagemap_laws.proofs.Boundaries.{quiet_boundary}
 use Rattle.ds_refinement.specs.declared.step.Step.TheVariants.{Boundary}
 use Rattle.ds_refinement.specs.Held.{Held, Kept, bare, vacated, began_or, last_boundary}
-use Rattle.ds_refinement.specs.Stands.{RunningBy, Stands, IsSound}
+use Rattle.ds_refinement.specs.Stands.{RunningBy, Agrees, CountedBy, Stands, IsSound}
 use Rattle.ds_refinement.specs.Steps.{Comes}
 use Rattle.ds_refinement.specs.Real.{IsReal}
 use Rattle.ds_refinement.specs.Runs.{held_goes_on}
 use Rattle.ds_refinement.proofs.Ending.{half_unit}
-use Rattle.ds_refinement.proofs.Boundaries.{beside, kept_later, half_boundary, owed_is, unit_rests, over_too, waited}
+use Rattle.ds_refinement.proofs.Boundaries.{beside, kept_later, half_boundary, owed_is, unit_rests, over_too, waited, resting_tallied}
 use Rattle.ds_refinement.proofs.NoNewPairs.{same_pairs}
 use Rattle.ds_monitor.specs.Coming.{first_time, first_event, next_due}
 use Rattle.ds_monitor.specs.Kept.{kept_of}
@@ -33,7 +33,9 @@ use Rattle.ds_monitor.specs.Orderly as monitor
 use Rattle.ds_monitor.proofs.Coming.{none_due}
 use Rattle.ds_monitor.proofs.Lawful.{turn_orderly}
 use Rattle.ds_kernel.specs.declared.parts.Parts.{Parts}
-use Rattle.ds_kernel.specs.Parts.{held}
+use Rattle.ds_kernel.specs.Parts.{held, own_of}
+use Rattle.ds_refinement.specs.Counts.{Counts, HasNone}
+use Rattle.ds_kernel.proofs.Doing.{none_of_fresh}
 use Rattle.ds_kernel.specs.Good.{IsOrderly, IsGood}
 use Rattle.ds_kernel.specs.Ended.{Does}
 use Rattle.ds_kernel.specs.Going.{GoesOn}
@@ -107,7 +109,10 @@ module _ (h : Held) (may : MayIdle (h.kept.state.time + 1) h) where
   last : last_boundary (record h.kept.state { time = later }) ≡ later
   last = ap (λ (o : Option Turn). began_or o later) may.owed
 
-  module _ (m : State) (k : Stands h m) where
+  module _ (m : State) (all : Stands h m) where
+    abbrev k : Agrees h m
+    k = all.agrees
+
     abbrev there : State
     there = record (waited m) { owed = None }
 
@@ -134,29 +139,32 @@ module _ (h : Held) (may : MayIdle (h.kept.state.time + 1) h) where
 
     stands_there : Stands (idled later h) there
     stands_there = record {
-      represented = k.represented;
-      vectors = k.vectors;
-      base = k.base;
-      grants = k.grants;
-      size = k.size;
-      kept = record {
-        ready = k.kept.ready;
-        state =
-            kept_later h.kept.state.ready m h.kept.state (m.time + 1) None k.kept.state
-            ∙ (ap (λ (s : State). vacated h.kept.state.ready (record h.kept.state { time = s.time + 1; owed = None })) beside_is
-            ∙ ap (λ (o : Option Turn). vacated h.kept.state.ready (record h.kept.state { time = later; owed = o })) (sym may.owed));
-        pages = k.kept.pages;
-        log = k.kept.log;
-        lines = k.kept.lines;
+      agrees = record {
+        represented = k.represented;
+        vectors = k.vectors;
+        base = k.base;
+        grants = k.grants;
+        size = k.size;
+        kept = record {
+          ready = k.kept.ready;
+          state =
+              kept_later h.kept.state.ready m h.kept.state (m.time + 1) None k.kept.state
+              ∙ (ap (λ (s : State). vacated h.kept.state.ready (record h.kept.state { time = s.time + 1; owed = None })) beside_is
+              ∙ ap (λ (o : Option Turn). vacated h.kept.state.ready (record h.kept.state { time = later; owed = o })) (sym may.owed));
+          pages = k.kept.pages;
+          log = k.kept.log;
+          lines = k.kept.lines;
+        };
+        running = at_rest h.kept.state.ready h.core h.kept (idled later h).kept m there may.ready k.running;
+        devices = record {
+          serial = k.devices.serial;
+          clock = ap (λ (c : ClockState). record c { flagged = false; time = later % 2 ^ 17 }) k.devices.clock;
+          system = k.devices.system;
+          ticked = subst (λ (n : ℕ). later ≤ n) (sym last) (omega arith);
+          period = ap (has_passed h.kept.state.rate later) last ∙ none_since h.kept.state.rate later;
+        };
       };
-      running = at_rest h.kept.state.ready h.core h.kept (idled later h).kept m there may.ready k.running;
-      devices = record {
-        serial = k.devices.serial;
-        clock = ap (λ (c : ClockState). record c { flagged = false; time = later % 2 ^ 17 }) k.devices.clock;
-        system = k.devices.system;
-        ticked = subst (λ (n : ℕ). later ≤ n) (sym last) (omega arith);
-        period = ap (has_passed h.kept.state.rate later) last ∙ none_since h.kept.state.rate later;
-      };
+      counted = resting_tallied h.kept.state.ready h.core h.own h.kept (idled later h).kept m there may.ready all.counted;
     }
 
     comes : Comes Boundary (idled later h) m
@@ -174,11 +182,11 @@ module _ (h : Held) (may : MayIdle (h.kept.state.time + 1) h) where
     pairs = λ all. same_pairs h.core.entries;
   }
 
-  turn_does : h.own.spent ≡ 0 → Does Boundary h (idled later h)
+  turn_does : HasNone h.own → Does Boundary h (idled later h)
   turn_does none =
       let time : later ≡ h.kept.state.time + truth (not (is_some h.kept.state.owed)) = ap (λ (o : Option Turn). h.kept.state.time + truth (not (is_some o))) (sym may.owed) in record {
         follows = record { follows = comes };
-        moves = (may.owed, none, time, refl);
+        moves = (may.owed, ap (λ (n : Counts). n.spent) none, time, refl, none);
         real = real;
       }
 
@@ -223,7 +231,7 @@ record Reached (n time : ℕ) (h : Held) : Type 0 where
   goes : GoesOn n h (idled time h)
   sound : IsSound (idled time h)
 
-turns_reach : (k n : ℕ) (h : Held) → IsSound h → h.own.spent ≡ 0 → MayIdle (h.kept.state.time + suc k) h → h.kept.state.time + suc k ≤ n → Reached n (h.kept.state.time + suc k) h
+turns_reach : (k n : ℕ) (h : Held) → IsSound h → HasNone h.own → MayIdle (h.kept.state.time + suc k) h → h.kept.state.time + suc k ≤ n → Reached n (h.kept.state.time + suc k) h
 turns_reach zero n h sound none may within =
     let does = turn_does h may none in
     record {
@@ -240,9 +248,13 @@ turns_reach (suc k) n h sound none may within =
 next_of : (k : ℕ) → suc k ≡ k + 1
 next_of k = omega arith
 
-pub turns_go : (k n : ℕ) (h : Held) → IsSound h → h.own.spent ≡ 0 → MayIdle (h.kept.state.time + (k + 1)) h → h.kept.state.time + (k + 1) ≤ n → GoesOn n h (idled (h.kept.state.time + (k + 1)) h)
+pub turns_go : (k n : ℕ) (h : Held) → IsSound h → HasNone h.own → MayIdle (h.kept.state.time + (k + 1)) h → h.kept.state.time + (k + 1) ≤ n → GoesOn n h (idled (h.kept.state.time + (k + 1)) h)
 turns_go k n h sound none = subst (λ (j : ℕ). MayIdle (h.kept.state.time + j) h → h.kept.state.time + j ≤ n → GoesOn n h (idled (h.kept.state.time + j) h)) (next_of k)
     (λ may within. (turns_reach k n h sound none may within).goes)
+
+-- where nobody is ready nothing is counted
+pub none_of_nobody : (h : Held) → IsSound h → h.kept.state.ready ≡ [] → HasNone h.own
+none_of_nobody h sound nobody = (subst (λ (ps : List ℕ). CountedBy ps h.core h.own h.kept sound.state) nobody sound.stands.counted).0
 
 -- Where they may be done.
 
@@ -294,7 +306,7 @@ module _ {L : Type 0} (n end : ℕ) (old new : Parts L) (good : IsGood old) (may
       let k : ℕ = end - old.monitor.time - 1 in
       let to : old.monitor.time + suc k ≡ end = some_turns old.monitor.time end soon in
       subst (λ (t : ℕ). Reached n t (held old)) to
-      (turns_reach k n (held old) good.sound spent (subst (λ (t : ℕ). MayIdle t (held old)) (sym to) may) (subst (λ (t : ℕ). t ≤ n) (sym to) within))
+      (turns_reach k n (held old) good.sound (none_of_fresh (own_of old) spent good.orderly.fresh) (subst (λ (t : ℕ). MayIdle t (held old)) (sym to) may) (subst (λ (t : ℕ). t ≤ n) (sym to) within))
 
   pub idle_goes : GoesOn n (held old) (held new)
   idle_goes = subst (GoesOn n (held old)) (sym is) reached.goes
@@ -313,6 +325,7 @@ module _ {L : Type 0} (n end : ℕ) (old new : Parts L) (good : IsGood old) (may
         raised = o.raised;
         running = o.running;
         spent = o.spent;
+        fresh = o.fresh;
         lines = omega (arith, lines, soon);
         ticked = omega arith;
         early = omega (arith, within, few);

@@ -1,5 +1,5 @@
 -- A whole refill at once goes on in a run.
-use Rattle.std.proofs.Common.{◌≡◌, ◌≢◌, ℕ, ◌+◌, ◌-◌, ◌*◌, ◌<◌, ◌≤◌, Bool, true, false, [], None, refl, sym, subst, arith, inr}
+use Rattle.std.proofs.Common.{◌≡◌, ◌≢◌, ℕ, ◌+◌, ◌-◌, ◌*◌, ◌<◌, ◌≤◌, Bool, true, false, [], None, refl, sym, ap, subst, ◌∙◌, arith, inr}
 use Rattle.std.specs.Prelude.{◌==◌, ◌&&◌, not}
 use Rattle.std.proofs.lemmas.Bool.Decides.{nat_tests}
 use Rattle.ds_word.specs.Word.{truth}
@@ -7,16 +7,26 @@ use Rattle.ds_cp0.specs.System.{is_user}
 use Rattle.ds_core.specs.Core.{CoreState}
 use Rattle.ds_refill_laws.specs.Refill.{handler_events}
 use Rattle.ds_handler.specs.Refills.{RunsInside}
-use Rattle.ds_refinement.specs.Held.{Held}
+use Rattle.ds_refinement.specs.Held.{Held, Own}
 use Rattle.ds_refinement.specs.Units.{is_served}
 use Rattle.ds_refinement.specs.Real.{RealPath}
+use Rattle.ds_refinement.specs.Services.{with_refill}
+use Rattle.ds_refinement.specs.Stands.{IsSound}
 use Rattle.ds_refinement.specs.Runs.{held_goes_on}
 use Rattle.ds_refinement.proofs.Joined.{path_join, path_sound}
 use Rattle.ds_refinement.proofs.RunSteps.{begins_goes}
-use Rattle.ds_refinement.proofs.Nine.{words_path, words_within}
+use Rattle.ds_refinement.proofs.Nine.{refill_path, refill_within}
+use Rattle.ds_refinement.proofs.Tallied.{few_of}
 use Rattle.ds_kernel.specs.declared.parts.Parts.{Parts}
-use Rattle.ds_kernel.specs.Parts.{held}
-use Rattle.ds_kernel.specs.Good.{IsGood}
+use Rattle.ds_kernel.specs.Parts.{held, own_of, with_counts_of}
+use Rattle.ds_tlb.specs.Entries.{passed}
+use Rattle.ds_refinement.specs.Counts.{counts_of, with_counts, one_refilled}
+use Rattle.ds_kernel.specs.Good.{IsGood, IsOrderly}
+use Rattle.ds_monitor.specs.declared.monitor.Monitor.{Monitor}
+use Rattle.ds_monitor.specs.Coming.{next_due}
+use Rattle.ds_monitor.specs.Kept.{kept_of}
+use Rattle.ds_monitor.specs.Room.{HasTurnRoom}
+use Rattle.ds_kernel.proofs.Stepping.{none_is_not_some}
 use Rattle.ds_kernel.specs.Going.{GoesOn}
 use Rattle.ds_kernel.specs.Refilled.{has_missed}
 use Rattle.ds_kernel.proofs.Blocking.{rank_of, truth_small}
@@ -42,12 +52,18 @@ missed_at c is = by (is_user c.system) c.pc is
 nine_fewer : (a s k l : ℕ) → s + 9 ≤ 64 → l ≤ 1 → a + (2 * (64 - (s + 9)) + l) < a + (2 * (64 - s) + k)
 nine_fewer a s k l few small = omega (arith, few, small)
 
--- Nine instructions of the unit of old parts lead to another processor.
-module _ {L : Type 0} (old : Parts L) (c : CoreState) (good : IsGood old) (ready : old.monitor.ready ≢ []) (kernel : is_user old.core.system ≡ false) (few : old.spent + 9 ≤ 64)
-    (runs : RunsInside handler_events old.core old.bus c) where
-  abbrev new : Parts L
-  new = record old { core = c; spent = old.spent + 9 }
+-- what is held once a refill at once is done and counted
+pub refilled_is : {L : Type 0} (old new : Parts L) (c : CoreState) (slot : ℕ) → slot ≡ passed 64 8 6 old.core.random → own_of new ≡ with_counts (own_of old) (one_refilled slot (counts_of (own_of old)))
+    → new ≡ with_counts_of new (record old { core = c }) → held new ≡ with_refill (held old) new.core
+refilled_is {L = L} old new c slot at own rest =
+    ap (λ (x : Parts L). record { core = x.core; bus = x.bus; kept = kept_of x.monitor; own = own_of new }) rest
+    ∙ (ap (λ (o : Own). record { core = c; bus = old.bus; kept = kept_of old.monitor; own = o }) own
+    ∙ (ap (λ (i : ℕ). record { core = c; bus = old.bus; kept = kept_of old.monitor; own = with_counts (own_of old) (one_refilled i (counts_of (own_of old))) }) at
+    ∙ ap (with_refill (held old)) (sym (ap (λ (x : Parts L). x.core) rest))))
 
+-- Nine instructions of the unit of old parts lead to other parts, with another processor and other counts.
+module _ {L : Type 0} (old new : Parts L) (good : IsGood old) (ready : old.monitor.ready ≢ []) (kernel : is_user old.core.system ≡ false) (is : held new ≡ with_refill (held old) new.core)
+    (same : new.monitor ≡ old.monitor) (runs : RunsInside 0 handler_events old.core old.bus new.core) where
   begun : 0 < old.spent
   begun = good.orderly.raised kernel
 
@@ -55,40 +71,60 @@ module _ {L : Type 0} (old : Parts L) (c : CoreState) (good : IsGood old) (ready
   unowed = good.orderly.begun begun
 
   path : RealPath (held old) (held new)
-  path = words_path handler_events (held old) c ready unowed few runs
+  path = subst (RealPath (held old)) (sym is) (refill_path (held old) new.core good.sound ready unowed runs)
+
+  sound : IsSound (held new)
+  sound = path_sound (held old) (held new) good.sound path
+
+  count : new.spent ≡ old.spent + 9
+  count = ap (λ (x : Held). x.own.spent) is
+
+  pub refill_few : new.spent ≤ 61
+  refill_few = (few_of (held new) sound.state sound.stands).spent
+
+  pub refill_begun : 0 < new.spent
+  refill_begun = let nine = count in omega (arith, nine)
 
   pub refill_good : IsGood new
-  refill_good = record {
-    sound = path_sound (held old) (held new) good.sound path;
-    orderly = record {
-      begun = λ some. unowed;
-      failed = λ is. unowed;
-      raised = λ is. omega arith;
-      running = λ some. ready;
-      spent = few;
-      lines = good.orderly.lines;
-      ticked = good.orderly.ticked;
-      early = good.orderly.early;
-      rate = good.orderly.rate;
-      kept = good.orderly.kept;
-    };
-    room = λ some. good.room begun;
-    owed = good.owed;
-    next = good.next;
-  }
+  refill_good =
+      let nine = count in
+      let few = refill_few in
+      let marks : IsOrderly (with_refill (held old) new.core) = record {
+        begun = λ some. unowed;
+        failed = λ is. unowed;
+        raised = λ is. omega arith;
+        running = λ some. ready;
+        spent = omega (arith, nine, few);
+        fresh = λ first. absurd (omega (arith, first));
+        lines = good.orderly.lines;
+        ticked = good.orderly.ticked;
+        early = good.orderly.early;
+        rate = good.orderly.rate;
+        kept = good.orderly.kept;
+      } in record {
+        sound = sound;
+        orderly = subst IsOrderly (sym is) marks;
+        room = λ some. subst HasTurnRoom (sym same) (good.room begun);
+        owed = λ some. absurd (none_is_not_some new.monitor.owed (ap (λ (m : Monitor). m.owed) same ∙ unowed) some);
+        next = ap (λ (m : Monitor). m.quiet_until) same ∙ (good.next ∙ sym (ap (λ (m : Monitor). next_due (kept_of m)) same));
+      }
 
   pub refill_goes : (n : ℕ) → old.monitor.time < n → GoesOn n (held old) (held new)
   refill_goes n soon =
       let going : held_goes_on n (held old) ≡ true = begins_goes n (held old) good.sound.state good.sound.stands (inr (ready, soon)) in
-      let fewer = nine_fewer (131 * (n - old.monitor.time)) old.spent (truth (is_served old.core)) (truth (is_served c)) few (truth_small (is_served c)) in record {
+      let nine = count in
+      let few = refill_few in
+      let fewer = nine_fewer (131 * (n - old.monitor.time)) old.spent (truth (is_served old.core)) (truth (is_served new.core)) (omega (arith, nine, few)) (truth_small (is_served new.core)) in
+      let refilled : Held = with_refill (held old) new.core in
+      subst (GoesOn n (held old)) (sym is) (record {
         runs = λ start h. record {
-          path = path_join start (held old) (held new) h.path path;
-          within = words_within handler_events n start (held old) c ready going runs h.within;
+          path = path_join start (held old) refilled h.path (refill_path (held old) new.core good.sound ready unowed runs);
+          within = refill_within n start (held old) new.core ready going runs h.within;
         };
-        nearer = rw (rank_of n (held old) unowed, rank_of n (held new) unowed) fewer;
+        nearer = rw (rank_of n (held old) unowed, rank_of n refilled unowed) fewer;
         working = refl;
         begun = λ some. soon;
-      }
+      })
 
 -- A refill that was done or not goes on from where a run began.
 pub refilled_goes : {L : Type 0} (n : ℕ) (start : Held) (old later : Parts L) (done : Bool) → IsGood old → has_missed old.core ≡ true → (done ≡ true → (n : ℕ) → old.monitor.time < n → GoesOn n (held old) (held later))

@@ -15,11 +15,11 @@ use Rattle.ds_pagemap.specs.Machine.{State}
 use Rattle.ds_pagemap.specs.Boundary.{all_queued, has_passed, boundary}
 use Rattle.ds_pagemap_laws.specs.Due.{come}
 use Rattle.ds_pagemap_laws.proofs.Formed.{formed_with}
-use Rattle.ds_refinement.specs.Held.{Kept, Own, whole, space_of}
+use Rattle.ds_refinement.specs.Held.{Kept, whole, space_of}
 use Rattle.ds_refill.specs.Handler.{HasWords}
 use Rattle.ds_refinement.specs.Pairs.{HasNoNewPairs}
 use Rattle.ds_refinement.specs.Stands.{IsSound, AreResting}
-use Rattle.ds_refinement.specs.Services.{Serves, EntersBy, EndsBy, seated}
+use Rattle.ds_refinement.specs.Services.{Serves, EntersBy, EndsBy, seated, with_none_spent}
 use Rattle.ds_pagemap.proofs.Boundaries.{boundary_owed}
 use Rattle.ds_monitor.specs.declared.monitor.Monitor.{Monitor}
 use Rattle.ds_monitor.specs.Coming.{next_due}
@@ -27,22 +27,19 @@ use Rattle.ds_monitor.specs.Kept.{kept_of}
 use Rattle.ds_monitor.specs.Orderly as monitor
 use Rattle.ds_monitor.proofs.Serving.{serves_as}
 use Rattle.ds_kernel.specs.declared.parts.Parts.{Parts}
-use Rattle.ds_kernel.specs.Parts.{held}
+use Rattle.ds_kernel.specs.Parts.{held, own_of, with_counts_of}
+use Rattle.ds_refinement.specs.Handling.{IsWhole}
 use Rattle.ds_kernel.specs.Devices.{IsOfLine, typed, interrupted}
 use Rattle.ds_kernel.specs.Attended.{to_come, bus_at, read_out, runner_of, unowed, ruled, HasAttended}
 use Rattle.ds_kernel.proofs.Attending.{at_boundary, quiet_kept, arrived_kept, seated_between, seat_beside, boundary_serves, unseen, ruled_alike, queued_alike, flag_is, rest_again}
 use Rattle.ds_refinement.proofs.Spaces.{space_apart, space_known}
 use Rattle.ds_refinement.proofs.NoNewPairs.{joined_pairs}
 use Rattle.ds_refinement.proofs.Vectors.{vectors_first}
-use Rattle.ds_kernel.proofs.Finishing.{owner_orderly, memory_rests, base_as}
+use Rattle.ds_kernel.proofs.Finishing.{owner_orderly, memory_rests, base_as, none_counted, ranges_behind}
 
 -- nothing was received yet, so each that was is of a line
 pub none_received : (silo : List Received) → silo ≡ [] → All IsOfLine silo
 none_received silo e = subst (λ (xs : List Received). All IsOfLine xs) (sym e) (λ k d below. absurd (omega (arith, below)))
-
--- the station's own marks
-abbrev own_of : Bool → ℕ → ℕ → Own
-own_of failed spent wired = record { failed = failed; spent = spent; wired = wired }
 
 same_entries : (asked : Bool) (c : CoreState) → (interrupted asked c).entries ≡ c.entries
 same_entries true c = refl
@@ -99,7 +96,8 @@ module _ {L : Type 0} (old came served new : Parts L) (ahead : Monitor) (turn : 
     → IsRepresented new.core.entries new.bus.memory new.monitor.tables (space_of (kept_of new.monitor)) new.monitor.grants)
     (brings : HasNoNewPairs served.core.entries new.core.entries) (context : new.core.system.context ≡ served.core.system.context)
     (pages : NamesPages ahead.grants) (random : new.core.random ≡ served.core.random)
-    (ends : new ≡ record (record served { monitor = ahead }) { core = new.core; monitor = record ahead { owner = new.monitor.owner }; spent = 0 }) where
+    (counts : own_of new ≡ with_none_spent (own_of served)) (complete : IsWhole new.core)
+    (ends : new ≡ record (with_counts_of new (record served { monitor = ahead })) { core = new.core; monitor = record ahead { owner = new.monitor.owner } }) where
   abbrev k : Kept
   k = kept_of old.monitor
 
@@ -107,7 +105,7 @@ module _ {L : Type 0} (old came served new : Parts L) (ahead : Monitor) (turn : 
   b = old.bus
 
   resting : AreResting b k
-  resting = sound.stands.devices
+  resting = sound.stands.agrees.devices
 
   abbrev k0 : Kept
   k0 = seated old.core k
@@ -235,16 +233,13 @@ module _ {L : Type 0} (old came served new : Parts L) (ahead : Monitor) (turn : 
   held_between =
       keeps (space_of k) (space_apart k) (space_known k)
       (subst (λ (es : List Entry). IsRepresented es came.bus.memory came.monitor.tables (space_of k) came.monitor.grants) (sym entries)
-      (subst (λ (p : Parts L). IsRepresented old.core.entries p.bus.memory p.monitor.tables (space_of k) p.monitor.grants) (sym comes) sound.stands.represented))
+      (subst (λ (p : Parts L). IsRepresented old.core.entries p.bus.memory p.monitor.tables (space_of k) p.monitor.grants) (sym comes) sound.stands.agrees.represented))
 
   random_is : new.core.random ≡ old.core.random
   random_is = random ∙ (still ∙ (ap (λ (p : Parts L). p.core.random) comes ∙ same_random (asks (bus_at b k)) old.core))
 
-  failed_is : new.failed ≡ old.failed
-  failed_is = ap (λ (p : Parts L). p.failed) ends ∙ (ap (λ (p : Parts L). p.failed) rest ∙ ap (λ (p : Parts L). p.failed) comes)
-
-  wired_is : new.wired ≡ old.wired
-  wired_is = ap (λ (p : Parts L). p.wired) ends ∙ (ap (λ (p : Parts L). p.wired) rest ∙ ap (λ (p : Parts L). p.wired) comes)
+  own_is : own_of new ≡ with_none_spent (own_of old)
+  own_is = counts ∙ ap with_none_spent (ap (λ (p : Parts L). own_of p) rest ∙ ap (λ (p : Parts L). own_of p) comes)
 
   context_is : new.core.system.context ≡ old.core.system.context
   context_is = context ∙ (ap (λ (p : Parts L). p.core.system.context) rest ∙ (ap (λ (p : Parts L). p.core.system.context) comes ∙ same_context (asks (bus_at b k)) old.core))
@@ -252,7 +247,7 @@ module _ {L : Type 0} (old came served new : Parts L) (ahead : Monitor) (turn : 
   vectors_are : HasWords new.bus.memory
   vectors_are =
       subst (λ (x : BusState). HasWords x.memory) (sym bus_then)
-      (vectors_first came.bus.memory served.bus.memory (below.1 0 (inl (omega arith))) (subst HasWords (sym memory) sound.stands.vectors))
+      (vectors_first came.bus.memory served.bus.memory (below.1 0 (inl (omega arith))) (subst HasWords (sym memory) sound.stands.agrees.vectors))
 
   pairs_are : HasNoNewPairs old.core.entries new.core.entries
   pairs_are =
@@ -268,12 +263,14 @@ module _ {L : Type 0} (old came served new : Parts L) (ahead : Monitor) (turn : 
     enters = enters;
     represented = represented (subst (λ (m : Monitor). IsRepresented served.core.entries served.bus.memory m.tables (space_of (kept_of m)) m.grants) (sym ahead_is) held_between);
     vectors = vectors_are;
-    base = base_as old.core.system new.core.system context_is sound.stands.base;
+    base = base_as old.core.system new.core.system context_is sound.stands.agrees.base;
     grants = subst NamesPages (sym (ap (λ (m : Monitor). m.grants) monitor_is)) pages;
     size = ap (λ (x : BusState). length x.memory) bus_then ∙ (below.0 ∙ ap (λ (x : List ℕ). length x) memory);
     devices = subst (λ (x : BusState). AreResting x (kept_of new.monitor)) (sym bus)
         (memory_rests (read_out (bus_at b k)) served.bus.memory (kept_of new.monitor)
         (rest_again b k resting (kept_of new.monitor) (ap (λ (m : Monitor). m.rate) all) (ap (λ (m : Monitor). m.ticked) all) (ap (λ (m : Monitor). m.time) all) none_owed before));
+    none = none_counted (own_of old) (own_of new) own_is;
+    ranges = ranges_behind (held old) new.core (own_of new) sound complete own_is;
   }
 
   few : new.monitor.lines + length new.monitor.due.commands ≤ old.monitor.lines + length old.monitor.due.commands
@@ -285,7 +282,7 @@ module _ {L : Type 0} (old came served new : Parts L) (ahead : Monitor) (turn : 
   pub has_attended : HasAttended old new
   has_attended = record {
     ends = ends_by;
-    own = ap₂ (λ (x : Bool) (y : ℕ). own_of x y new.wired) failed_is (ap (λ (p : Parts L). p.spent) ends) ∙ ap (own_of old.failed 0) wired_is;
+    own = own_is;
     random = random_is;
     pairs = pairs_are;
     lines = few;

@@ -1,6 +1,7 @@
 -- What single steps of a station do: an instruction, a boundary, an idle turn; and a failure.
 use Rattle.std.proofs.Common.{◌≡◌, ◌≢◌, ℕ, ◌+◌, ◌-◌, ◌*◌, ◌^◌, ◌<◌, ◌≤◌, Bool, true, false, not, [], length, Option, None, refl, sym, ap, ap₂, subst, ◌∙◌, arith}
-use Rattle.std.specs.Prelude.{IsSome, is_some, ◌&&◌}
+use Rattle.std.proofs.lemmas.Bool.Decides.{nat_tests}
+use Rattle.std.specs.Prelude.{IsSome, is_some, ◌&&◌, ◌==◌}
 use Rattle.ds_word.specs.Word.{truth}
 use Rattle.ds_cp0.specs.System.{is_user}
 use Rattle.ds_core.specs.declared.event.Event.{Event}
@@ -16,14 +17,19 @@ use Rattle.ds_pagemap.specs.Machine.{State}
 use Rattle.ds_pagemap.specs.Run.{is_over}
 use Rattle.ds_refinement.specs.declared.step.Step.{Step}
 use Rattle.ds_refinement.specs.declared.step.Step.TheVariants.{Inside, Over}
-use Rattle.ds_refinement.specs.Held.{Held}
-use Rattle.ds_refinement.specs.Stands.{Stands, IsSound}
-use Rattle.ds_refinement.specs.Handling.{IsWhole}
-use Rattle.ds_refinement.specs.Services.{after_event, step_of, with_failure, with_one_spent, with_step}
+use Rattle.ds_refinement.specs.Held.{Held, Own}
+use Rattle.ds_refinement.specs.Counts.{IsFresh, counts_of, with_counts, one_more, one_word}
+use Rattle.ds_refinement.specs.Stands.{IsSound}
+use Rattle.ds_refill.specs.Handler.{address_of}
+use Rattle.ds_refinement.specs.Handling.{IsWhole, touches}
+use Rattle.ds_refinement.specs.Services.{after_event, after_word, step_of, with_failure, with_one_spent}
 use Rattle.ds_refinement.specs.Steps.{Follows, Moves, ticks_of}
 use Rattle.ds_refinement.specs.Units.{is_general, is_served}
 use Rattle.ds_refinement.proofs.Boundaries.{rests}
 use Rattle.ds_refinement.proofs.Joined.{instruction_real, word_real}
+use Rattle.ds_refinement.proofs.Counting.{event_moves, word_moves, word_spent}
+use Rattle.ds_refinement.proofs.Tallied.{failure_stands}
+use Rattle.ds_refinement.proofs.WordTallies.{word_room}
 use Rattle.ds_refinement.proofs.Meets.{barred}
 use Rattle.ds_refinement.proofs.NoNewPairs.{same_pairs}
 use Rattle.ds_refinement.proofs.Words.{word_follows}
@@ -36,7 +42,7 @@ use Rattle.ds_monitor.specs.Room.{HasBoundaryRoom, HasTurnRoom}
 use Rattle.ds_monitor.proofs.Lawful.{turn_orderly}
 use Rattle.ds_kernel.proofs.Rooms.{turn_room_still, boundary_room}
 use Rattle.ds_kernel.specs.declared.parts.Parts.{Parts}
-use Rattle.ds_kernel.specs.Parts.{held}
+use Rattle.ds_kernel.specs.Parts.{held, own_of, with_counts_of}
 use Rattle.ds_kernel.specs.Good.{IsOrderly, IsGood}
 use Rattle.ds_kernel.specs.Ended.{Does}
 
@@ -45,14 +51,6 @@ none_is_not_some o none some = let no : false ≡ true = sym (ap is_some none) �
 
 pub sound_behind : (kind : Step) (h new : Held) → IsSound h → Follows kind h new → IsSound new
 sound_behind kind h new s f = let t = f.follows s.state s.stands in record { state = t.0; stands = t.2 }
-
--- The marks are not seen by the machine.
-
-counted : (h : Held) (m : State) → Stands h m → Stands (with_one_spent h) m
-counted h m k = record { represented = k.represented; vectors = k.vectors; base = k.base; grants = k.grants; size = k.size; kept = k.kept; running = k.running; devices = k.devices }
-
-pub failure_unseen : (h : Held) (m : State) → Stands h m → Stands (with_failure h) m
-failure_unseen h m k = record { represented = k.represented; vectors = k.vectors; base = k.base; grants = k.grants; size = k.size; kept = k.kept; running = k.running; devices = k.devices }
 
 -- a failure leaves the station as it should be
 pub failed_good : {L : Type 0} (old new : Parts L) → IsGood old → old.monitor.owed ≡ None → held new ≡ with_failure (held old)
@@ -65,48 +63,46 @@ failed_good old new good unowed is until room =
       raised = o.raised;
       running = o.running;
       spent = o.spent;
+      fresh = o.fresh;
       lines = o.lines;
       ticked = o.ticked;
       kept = o.kept;
       early = o.early;
       rate = o.rate;
     } in record {
-      sound = subst IsSound (sym is) (record { state = good.sound.state; stands = failure_unseen (held old) good.sound.state good.sound.stands });
+      sound = subst IsSound (sym is) (record { state = good.sound.state; stands = failure_stands (held old) good.sound.state good.sound.stands });
       orderly = subst IsOrderly (sym is) marks;
       room = room;
       owed = λ some. absurd (none_is_not_some new.monitor.owed (ap (λ (h : Held). h.kept.state.owed) is ∙ unowed) some);
       next = until ∙ (good.next ∙ sym (ap (λ (h : Held). next_due h.kept) is));
     }
 
--- A step of the processor in a unit, with no boundary owed and no service to be done.
-module _ (h : Held) (orderly : IsOrderly h) (unowed : h.kept.state.owed ≡ None) (ready : h.kept.state.ready ≢ []) (unserved : is_served h.core ≡ false) (few : h.own.spent < 64) where
-  truth_small : (b : Bool) → truth b ≤ 1
-  truth_small true = omega arith
-  truth_small false = omega arith
+-- where nothing but instructions is counted, so it is after one more
+pub fresh_more : (own : Own) → IsFresh own → IsFresh (with_one_spent own)
+fresh_more own f = ap one_more f
 
-  -- it counts, where it ends no unit
-  inside_moves : (c : CoreState) (b : BusState) → Moves Inside h (record h { core = c; bus = b; own = record h.own { spent = h.own.spent + 1 } })
-  inside_moves c b =
-      let new : Held = record h { core = c; bus = b; own = record h.own { spent = h.own.spent + 1 } } in
-      let outside : truth (is_served h.core) ≡ 0 = ap truth unserved in
-      let count : h.own.spent + 1 ≡ h.own.spent + truth (not (is_served h.core)) = ap (λ (u : Bool). h.own.spent + truth (not u)) (sym unserved) in
-      let small : truth (is_served c) ≤ 1 = truth_small (is_served c) in
-      let fewer : 2 * (64 - (h.own.spent + 1)) + truth (is_served c) < 2 * (64 - h.own.spent) + truth (is_served h.core) = omega (arith, small, few, outside) in
-      (unowed, unowed, refl, count, omega (arith, few), fewer, refl)
+-- after a word of the handler, of which the seventh is not among the first instructions of its unit
+pub fresh_word : (seventh : Bool) (random : ℕ) (own : Own) → (seventh ≡ true → 7 ≤ own.spent) → (own.spent ≤ 3 → IsFresh own) → (with_counts own (one_word seventh random (counts_of own))).spent ≤ 3
+    → IsFresh (with_counts own (one_word seventh random (counts_of own)))
+fresh_word true random own late f few = absurd (let many = late refl in omega (arith, many, few))
+fresh_word false random own late f few = fresh_more own (f (omega (arith, few)))
 
-  inside_orderly : (c : CoreState) (b : BusState) → IsOrderly (record h { core = c; bus = b; own = record h.own { spent = h.own.spent + 1 } })
-  inside_orderly c b = record {
-    begun = λ some. unowed;
-    failed = λ failed. unowed;
-    raised = λ kernel. omega arith;
-    running = λ some. ready;
-    spent = omega (arith, few);
-    lines = orderly.lines;
-    ticked = orderly.ticked;
-    kept = orderly.kept;
-    early = orderly.early;
-    rate = orderly.rate;
-  }
+-- A step of the processor in a unit, with no boundary owed, after which an instruction more is counted.
+pub inside_orderly : (h : Held) (c : CoreState) (b : BusState) (own : Own) → IsOrderly h → h.kept.state.owed ≡ None → h.kept.state.ready ≢ [] → h.own.spent < 64 → own.spent ≡ h.own.spent + 1 → (own.spent ≤ 3 → IsFresh own)
+    → IsOrderly (record h { core = c; bus = b; own = own })
+inside_orderly h c b own orderly unowed ready few one fresh = record {
+  begun = λ some. unowed;
+  failed = λ failed. unowed;
+  raised = λ kernel. omega (arith, one);
+  running = λ some. ready;
+  spent = omega (arith, few, one);
+  fresh = fresh;
+  lines = orderly.lines;
+  ticked = orderly.ticked;
+  kept = orderly.kept;
+  early = orderly.early;
+  rate = orderly.rate;
+}
 
 -- in user mode no service is to be done
 pub user_unserved : (c : CoreState) → is_user c.system ≡ true → is_served c ≡ false
@@ -120,10 +116,10 @@ module _ (h : Held) (sound : IsSound h) (orderly : IsOrderly h) (working : h.own
   s = step h.core h.bus
 
   abbrev behind : Event → Held
-  behind e = after_event e (with_one_spent h) s
+  behind e = after_event e h s
 
   follows : Follows (step_of s.event) h (behind s.event)
-  follows = record { follows = λ m k. (step_follows (with_one_spent h) s refl unowed ready user word whole).follows m (counted h m k) }
+  follows = step_follows h s refl unowed ready user word whole
 
   two_ticks : (b : Bool) → ticks_of b ≤ 2
   two_ticks true = omega arith
@@ -136,16 +132,11 @@ module _ (h : Held) (sound : IsSound h) (orderly : IsOrderly h) (working : h.own
   unserved : is_served h.core ≡ false
   unserved = user_unserved h.core user
 
-  moves : (e : Event) → Moves (step_of e) h (behind e)
-  moves Retired = (unowed, refl, refl, refl, refl)
-  moves Branched = inside_moves h orderly unowed ready unserved few s.core s.bus
-  moves (Raised code) = inside_moves h orderly unowed ready unserved few s.core s.bus
-
   -- the machine follows, and it is real
   pub instruction_does : Does (step_of s.event) h (behind s.event)
   instruction_does = record {
     follows = follows;
-    moves = moves s.event;
+    moves = event_moves s.event h s unowed user (omega (arith, few));
     real = instruction_real s.event h s (unowed, ready) unserved refl;
   }
 
@@ -165,14 +156,15 @@ module _ (h : Held) (sound : IsSound h) (orderly : IsOrderly h) (working : h.own
         raised = λ kernel. (let no : true ≡ false = sym (stays_user at) ∙ kernel in absurd (cc));
         running = λ some. (let no : 0 < 0 = some in absurd (omega (arith, no)));
         spent = omega arith;
+        fresh = λ few. refl;
         lines = omega (arith, lines, tick);
         ticked = omega (arith, ticked, tick);
         kept = turn_orderly h.kept (behind Retired).kept.state.time (behind Retired).kept.state.owed orderly.kept;
         early = (let most : ticks_of h.core.slot ≤ 2 = two_ticks h.core.slot in omega (arith, soon, most));
         rate = orderly.rate;
       }
-  marks Branched at = inside_orderly h orderly unowed ready unserved few s.core s.bus
-  marks (Raised code) at = inside_orderly h orderly unowed ready unserved few s.core s.bus
+  marks Branched at = inside_orderly h s.core s.bus (with_one_spent h.own) orderly unowed ready few refl (λ first. fresh_more h.own (orderly.fresh (omega (arith, first))))
+  marks (Raised code) at = inside_orderly h s.core s.bus (with_one_spent h.own) orderly unowed ready few refl (λ first. fresh_more h.own (orderly.fresh (omega (arith, first))))
 
   pub instruction_orderly : IsOrderly (behind s.event)
   instruction_orderly = marks s.event refl
@@ -210,21 +202,21 @@ event_time (Raised code) h s = omega arith
 
 -- An instruction of the process that runs, counted and done.
 module _ {L : Type 0} (old between new : Parts L) (kind : Step) (good : IsGood old) (working : old.failed ≡ false) (unowed : old.monitor.owed ≡ None) (ready : old.monitor.ready ≢ [])
-    (user : is_user old.core.system ≡ true) (word : old.core.pc < 2 ^ 32) (few : old.spent < 64) (soon : old.monitor.time < 1000000000) (begun : held between ≡ with_one_spent (held old)) (until : between.monitor.quiet_until ≡ old.monitor.quiet_until) (room : HasTurnRoom between.monitor)
+    (user : is_user old.core.system ≡ true) (word : old.core.pc < 2 ^ 32) (few : old.spent < 64) (soon : old.monitor.time < 1000000000) (begun : held between ≡ held old) (until : between.monitor.quiet_until ≡ old.monitor.quiet_until) (room : HasTurnRoom between.monitor)
     (done : (s : core.Step) → s ≡ step between.core between.bus → (held new ≡ after_event s.event (held between) s) × (kind ≡ step_of s.event))
-    (rest : new ≡ record between { core = new.core; bus = new.bus; monitor = record between.monitor { time = new.monitor.time; owed = new.monitor.owed }; spent = new.spent })
+    (rest : new ≡ record (with_counts_of new between) { core = new.core; bus = new.bus; monitor = record between.monitor { time = new.monitor.time; owed = new.monitor.owed } })
     (all : IsWhole new.core) where
   abbrev stepped : core.Step
   stepped = step old.core old.bus
 
-  -- what is done by the processor as it was before the count
+  -- what is done by the processor as it was before
   same_step : stepped ≡ step between.core between.bus
   same_step = ap₂ step (sym (ap (λ (x : Held). x.core) begun)) (sym (ap (λ (x : Held). x.bus) begun))
 
-  new_is : held new ≡ after_event stepped.event (with_one_spent (held old)) stepped
+  new_is : held new ≡ after_event stepped.event (held old) stepped
   new_is = (done stepped same_step).0 ∙ ap (λ (x : Held). after_event stepped.event x stepped) begun
 
-  core_after : (e : Event) → (after_event e (with_one_spent (held old)) stepped).core ≡ stepped.core
+  core_after : (e : Event) → (after_event e (held old) stepped).core ≡ stepped.core
   core_after Retired = refl
   core_after Branched = refl
   core_after (Raised code) = refl
@@ -245,18 +237,18 @@ module _ {L : Type 0} (old between new : Parts L) (kind : Step) (good : IsGood o
   between_time : between.monitor.time ≡ old.monitor.time
   between_time = ap (λ (x : Held). x.kept.state.time) begun
 
-  time_behind : new.monitor.time ≡ (after_event stepped.event (with_one_spent (held old)) stepped).kept.state.time
+  time_behind : new.monitor.time ≡ (after_event stepped.event (held old) stepped).kept.state.time
   time_behind = ap (λ (x : Held). x.kept.state.time) new_is
 
   -- where a unit goes on no tick is over
   unit_room_behind : 0 < new.spent → HasTurnRoom new.monitor
   unit_room_behind some =
-      let same : new.monitor.time ≡ between.monitor.time = time_behind ∙ (inside_time stepped.event (with_one_spent (held old)) stepped (subst (λ (n : ℕ). 0 < n) (ap (λ (x : Held). x.own.spent) new_is) some) ∙ sym between_time) in
+      let same : new.monitor.time ≡ between.monitor.time = time_behind ∙ (inside_time stepped.event (held old) stepped (subst (λ (n : ℕ). 0 < n) (ap (λ (x : Held). x.own.spent) new_is) some) ∙ sym between_time) in
       subst HasTurnRoom (sym monitor_behind) (turn_room_still between.monitor new.monitor.time new.monitor.owed same room)
 
   boundary_room_then : HasBoundaryRoom new.monitor
   boundary_room_then =
-      let most : (after_event stepped.event (with_one_spent (held old)) stepped).kept.state.time ≤ old.monitor.time + 2 = event_time stepped.event (with_one_spent (held old)) stepped in
+      let most : (after_event stepped.event (held old) stepped).kept.state.time ≤ old.monitor.time + 2 = event_time stepped.event (held old) stepped in
       let time = time_behind in
       let before = between_time in
       subst HasBoundaryRoom (sym monitor_behind) (boundary_room between.monitor new.monitor.time new.monitor.owed (omega (arith, most, time, before)) room)
@@ -272,24 +264,30 @@ module _ {L : Type 0} (old between new : Parts L) (kind : Step) (good : IsGood o
         ∙ (until ∙ (good.next ∙ sym (ap (λ (x : Parts L). next_due (kept_of x.monitor)) rest ∙ ap (λ (x : Held). next_due x.kept) begun)));
   }
 
+pub at_seventh : (pc : ℕ) → (pc == address_of 6) ≡ true → pc ≡ address_of 6
+at_seventh pc is = grind (arith, nat_tests)
+
 -- A word of the refill handler, counted and done.
 module _ {L : Type 0} (old between new : Parts L) (good : IsGood old) (unowed : old.monitor.owed ≡ None) (ready : old.monitor.ready ≢ [])
-    (kernel : is_user old.core.system ≡ false) (unserved : is_served old.core ≡ false) (few : old.spent < 64) (begun : held between ≡ with_one_spent (held old)) (until : between.monitor.quiet_until ≡ old.monitor.quiet_until) (room : HasTurnRoom between.monitor)
-    (done : held new ≡ with_step (held between) (step between.core between.bus))
-    (rest : new ≡ record between { core = new.core; bus = new.bus }) where
+    (kernel : is_user old.core.system ≡ false) (unserved : is_served old.core ≡ false) (few : old.spent < 64) (begun : held between ≡ held old) (until : between.monitor.quiet_until ≡ old.monitor.quiet_until) (room : HasTurnRoom between.monitor)
+    (done : held new ≡ after_word (held between) (step between.core between.bus))
+    (rest : new ≡ record (with_counts_of new between) { core = new.core; bus = new.bus }) where
   abbrev worded : core.Step
   worded = step old.core old.bus
 
-  after_word : held new ≡ with_step (with_one_spent (held old)) worded
-  after_word = done ∙ ap (λ (x : Held). with_step x (step x.core x.bus)) begun
+  word_is : held new ≡ after_word (held old) worded
+  word_is = done ∙ ap (λ (x : Held). after_word x (step x.core x.bus)) begun
 
-  word_joins : Follows Inside (held old) (with_step (with_one_spent (held old)) worded)
-  word_joins = record { follows = λ m k. (word_follows (with_one_spent (held old)) ready kernel unserved).follows m (counted (held old) m k) }
+  word_joins : Follows Inside (held old) (after_word (held old) worded)
+  word_joins = word_follows (held old) ready kernel unserved
+
+  seventh : touches old.core ≡ true → 7 ≤ old.spent
+  seventh is = (word_room (held old) good.sound ready 6 (omega arith) kernel (at_seventh old.core.pc is)).1
 
   pub word_does : Does Inside (held old) (held new)
-  word_does = subst (Does Inside (held old)) (sym after_word) (record {
+  word_does = subst (Does Inside (held old)) (sym word_is) (record {
     follows = word_joins;
-    moves = inside_moves (held old) good.orderly unowed ready unserved few worded.core worded.bus;
+    moves = word_moves (held old) worded unowed kernel unserved (omega (arith, few));
     real = word_real (held old) (unowed, ready) unserved;
   })
 
@@ -297,13 +295,14 @@ module _ {L : Type 0} (old between new : Parts L) (good : IsGood old) (unowed : 
   monitor_then = ap (λ (x : Parts L). x.monitor) rest
 
   none_owed : new.monitor.owed ≡ None
-  none_owed = ap (λ (x : Held). x.kept.state.owed) after_word ∙ unowed
+  none_owed = ap (λ (x : Held). x.kept.state.owed) word_is ∙ unowed
 
   pub word_good : IsGood new
   word_good = record {
-    sound = subst IsSound (sym after_word) (sound_behind Inside (held old) (with_step (with_one_spent (held old)) worded) good.sound word_joins);
-    orderly = subst IsOrderly (sym after_word) (inside_orderly (held old) good.orderly unowed ready unserved few worded.core worded.bus);
+    sound = subst IsSound (sym word_is) (sound_behind Inside (held old) (after_word (held old) worded) good.sound word_joins);
+    orderly = subst IsOrderly (sym word_is) (inside_orderly (held old) worded.core worded.bus (after_word (held old) worded).own good.orderly unowed ready few (word_spent (touches old.core) old.core.random (counts_of (own_of old)))
+        (fresh_word (touches old.core) old.core.random (own_of old) seventh good.orderly.fresh));
     room = λ some. subst HasTurnRoom (sym monitor_then) room;
     owed = λ some. absurd (none_is_not_some new.monitor.owed none_owed some);
-    next = ap (λ (m : Monitor). m.quiet_until) monitor_then ∙ (until ∙ (good.next ∙ sym (ap (λ (x : Held). next_due x.kept) after_word)));
+    next = ap (λ (m : Monitor). m.quiet_until) monitor_then ∙ (until ∙ (good.next ∙ sym (ap (λ (x : Held). next_due x.kept) word_is)));
   }

@@ -5,6 +5,7 @@ use Rattle.ds_monitor.specs.Coming.{next_due}
 use Rattle.ds_monitor.specs.Kept.{kept_of}
 use Rattle.ds_pagemap.specs.Machine.{first}
 use Rattle.ds_refinement.specs.Held.{Held}
+use Rattle.ds_refinement.specs.Counts.{IsFresh}
 use Rattle.ds_refinement.specs.Stands.{IsSound}
 use Rattle.ds_monitor.specs.Room.{HasBoundaryRoom, HasTurnRoom}
 use Rattle.ds_monitor.specs.Orderly as monitor
@@ -25,6 +26,8 @@ pub record IsOrderly (h : Held) : Type 0 where
   pub raised : is_user h.core.system ≡ false → 0 < h.own.spent
   pub running : 0 < h.own.spent → h.kept.state.ready ≢ []
   pub spent : h.own.spent ≤ 64
+  -- no refill and no double miss is over before the fourth instruction
+  pub fresh : h.own.spent ≤ 3 → IsFresh h.own
   -- a unit writes a line of the log at most, and so does a command
   pub lines : h.kept.lines + length h.kept.state.commands ≤ h.kept.state.time + 4096
   pub ticked : h.kept.ticked ≤ h.kept.state.time

@@ -1,7 +1,6 @@
 //! The unit goes on: the processor is back in user mode at the unit's address.
 ghost use Rattle.std.specs.Prelude.{◌≡◌};
-ghost use Rattle.ds_refinement.specs.Services.{at_unit, gone_back};
-ghost use Rattle.ds_kernel.specs.Parts.{held};
+ghost use Rattle.ds_refinement.specs.Services.{at_unit};
 
 use crate::parts::Parts;
 use crate::seats::USER_STATUS;
@@ -18,17 +17,5 @@ impl<L: Lookaside> Parts<L> {
         self.core.next = wrapping_sum(unit, 4);
         self.core.slot = false;
         self.core.cp0.write(register::STATUS, USER_STATUS);
-    }
-
-    /// The unit begins again; registers 26 and 27 are lost to the refill.
-    pub(crate) fn go_back(&mut self)
-        ensures held { held self.new ≡ gone_back (held self.old) }
-        ensures rest { self.new ≡ record self.old { core = self.new.core } }
-    {
-        let unit = self.unit_address();
-        self.core.registers[26] = 0;
-        self.core.registers[27] = unit;
-        self.core.late = None;
-        self.return_to(unit);
     }
 }

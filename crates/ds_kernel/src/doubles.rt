@@ -1,10 +1,11 @@
 //! The service of a double miss: the refill handler's own load missed a page of a page table. That
 //! page's entry goes into a wired slot of the buffer, and the unit begins again.
-ghost use Rattle.std.specs.Prelude.{◌≡◌, ◌≤◌, ◌+◌, ◌%◌, true, false, slice_set};
+ghost use Rattle.std.specs.Prelude.{◌≡◌, ◌≤◌, true, false, slice_set};
 ghost use Rattle.ds_word.specs.Word.{bits};
 ghost use Rattle.ds_refinement.specs.Units.{is_served, has_left_user};
 ghost use Rattle.ds_refinement.specs.Services.{table_entry, with_table_page};
-ghost use Rattle.ds_kernel.specs.Parts.{held};
+ghost use Rattle.ds_refinement.specs.Counts.{IsFew, counts_of, with_counts, one_tabled};
+ghost use Rattle.ds_kernel.specs.Parts.{held, own_of, with_counts_of};
 ghost use Rattle.ds_kernel.specs.Good.{IsBusy, IsGood};
 ghost use Rattle.ds_kernel.specs.Ended.{Does};
 
@@ -18,9 +19,6 @@ const FIRST_TABLE_PAGE: u32 = 0xc_0000;
 
 /// EntryLo of a page that is valid and is not to be written, but for its frame.
 const READ_ONLY: u32 = 0x200;
-
-/// The slots that take the entries of tables' pages in turn.
-const WIRED: u32 = 8;
 
 impl<L: Lookaside> Parts<L> {
     /// The entry of the page that EntryHi names, which is a page of the page table of a process.
@@ -38,18 +36,19 @@ impl<L: Lookaside> Parts<L> {
     fn put_table_entry(&mut self, process: u32)
         requires slots { L.SLOTS ≡ 64 }
         requires page { 0xC0000 ≤ bits self.old.core.system.entry_hi 12 20 }
-        ensures { self.new ≡ record self.old {
+        requires few { IsFew (own_of self.old) }
+        ensures own { own_of self.new
+            ≡ with_counts (own_of self.old) (one_tabled (counts_of (own_of self.old))) }
+        ensures rest { self.new ≡ record (with_counts_of self.new self.old) {
           core = record self.old.core {
-            entries = slice_set self.old.core.entries (self.old.wired % 8)
+            entries = slice_set self.old.core.entries self.old.wired
                 (table_entry (held self.old) process);
           };
-          wired = (self.old.wired + 1) % 8;
         } }
     {
         let entry = self.table_entry(process);
-        let slot = self.wired % WIRED;
-        self.core.tlb.write(slot as usize, entry);
-        self.wired = (slot + 1) % WIRED;
+        self.core.tlb.write(self.wired as usize, entry);
+        self.count_table();
     }
 
     /// The entry of the table's page that was missed goes into the buffer, and the unit begins again
@@ -61,9 +60,8 @@ impl<L: Lookaside> Parts<L> {
         requires served { is_served self.old.core ≡ true }
         requires left { has_left_user self.old.core ≡ false }
         ensures held { held self.new ≡ with_table_page (held self.old) process }
-        ensures rest { self.new ≡ record self.old {
+        ensures rest { self.new ≡ record (with_counts_of self.new self.old) {
           core = self.new.core;
-          wired = self.new.wired;
         } }
         ensures does { Does result (held self.old) (held self.new) }
         ensures good { IsGood self.new }

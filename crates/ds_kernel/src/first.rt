@@ -104,6 +104,7 @@ impl<L: Lookaside> Parts<L> {
         mut tlb: L,
     ) -> Result<Parts<L>, OutOfMemory>
         requires slots { L.SLOTS ≡ 64 }
+        requires wired { L.WIRED ≡ 8 }
         requires commands { AreGoodCommands (length policy.now.pages) events.commands }
         requires images { length images.now ≡ length (sources_of policy.now.pages) }
         requires empty { L.entries tlb ≡ empty_entries L.SLOTS }
@@ -119,13 +120,20 @@ impl<L: Lookaside> Parts<L> {
         // All of memory is there, and each page that the table names lies in it.
         let _ = memory.word(0);
         let _ = monitor.grants.table();
-        Ok(Parts {
+        let parts = Parts {
             core: first_core(tlb, policy.processes()[0].start),
             bus: first_bus(memory, policy.rate()),
             monitor,
             failed: false,
             spent: 0,
             wired: 0,
-        })
+            written: [0; 4],
+            refills: 0,
+            since: 0,
+            tables: 0,
+            services: 0,
+        };
+        parts.look_at_processor();
+        Ok(parts)
     }
 }

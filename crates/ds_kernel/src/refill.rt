@@ -5,21 +5,17 @@ ghost use Rattle.ds_cp0.specs.System.{is_user};
 ghost use Rattle.ds_refill_laws.specs.Refill.{handler_events};
 ghost use Rattle.ds_handler.specs.Refills.{RunsInside};
 ghost use Rattle.ds_refinement.specs.Held.{Held};
-ghost use Rattle.ds_kernel.specs.Parts.{held};
+ghost use Rattle.ds_kernel.specs.Parts.{held, with_counts_of};
 ghost use Rattle.ds_kernel.specs.Good.{IsGood};
 ghost use Rattle.ds_kernel.specs.Going.{GoesOn};
 ghost use Rattle.ds_kernel.specs.Refilled.{has_missed};
 
 use crate::parts::Parts;
-use crate::steps::MOST_SPENT;
 use ds_handler::refill_at_once;
 use ds_tlb::Lookaside;
 
 /// Where the processor goes on after the miss of a user's page: at the handler's first word.
 const MISS_VECTOR: u32 = 0x80000000;
-
-/// The instructions of the handler, each of which counts in the unit.
-const HANDLER_WORDS: u32 = 9;
 
 impl<L: Lookaside> Parts<L> {
     /// Whether the processor is before the handler's first word: a page of the process that runs
@@ -43,25 +39,23 @@ impl<L: Lookaside> Parts<L> {
         requires missed { has_missed self.old.core ≡ true }
         ensures good { IsGood self.new }
         ensures words { result ≡ true
-            → RunsInside handler_events self.old.core self.old.bus self.new.core }
+            → RunsInside 0 handler_events self.old.core self.old.bus self.new.core }
         ensures nearer { result ≡ true → (n : ℕ) → self.old.monitor.time < n
             → GoesOn n (held self.old) (held self.new) }
-        ensures spent { result ≡ true → self.new.spent ≡ self.old.spent + 9 }
+        ensures begun { result ≡ true → 0 < self.new.spent }
         ensures few { result ≡ true → self.new.spent < 64 }
         ensures still { result ≡ false → self.new ≡ self.old }
-        ensures rest { self.new ≡ record self.old {
+        ensures rest { self.new ≡ record (with_counts_of self.new self.old) {
           core = self.new.core;
-          spent = self.new.spent;
         } }
     {
-        if self.spent + HANDLER_WORDS >= MOST_SPENT {
-            return false;
+        match refill_at_once(&mut self.core, &self.bus) {
+            Some(slot) => {
+                self.count_refill(slot);
+                true
+            }
+            None => false,
         }
-        if !refill_at_once(&mut self.core, &self.bus) {
-            return false;
-        }
-        self.spent += HANDLER_WORDS;
-        true
     }
 
     /// The instruction whose page was missed, once more, and the boundary after it, where it ends
@@ -82,7 +76,6 @@ impl<L: Lookaside> Parts<L> {
             → GoesOn n (held self.old) (held self.new) }
     {
         self.look_at_program();
-        self.spent += 1;
         self.execute();
         self.look_at_processor();
         self.do_owed();

@@ -6,7 +6,8 @@ ghost use Rattle.ds_grants.specs.Represented.{IsRepresented};
 ghost use Rattle.ds_refinement.specs.Held.{space_of};
 ghost use Rattle.ds_refinement.specs.Handling.{IsWhole};
 ghost use Rattle.ds_refinement.specs.Pairs.{HasNoNewPairs};
-ghost use Rattle.ds_refinement.specs.Services.{resume_address, seated, EntersBy};
+ghost use Rattle.ds_refinement.specs.Services.{resume_address, seated, EntersBy, with_none_spent};
+ghost use Rattle.ds_kernel.specs.Parts.{own_of, with_counts_of};
 ghost use Rattle.ds_monitor.specs.Kept.{kept_of};
 ghost use Rattle.ds_monitor.specs.Orderly as monitor;
 ghost use Rattle.ds_kernel.specs.Seats.{begun_at, behind_call, on_processor, AreAnswered};
@@ -159,15 +160,16 @@ impl<L: Lookaside> Parts<L> {
     #[inline(always)]
     pub(crate) fn go_on_behind_call(&mut self, answer: u32)
         requires early { self.old.monitor.time ≤ 1000000000 }
-        ensures { (q : Process) → self.new ≡ record self.old {
+        ensures own { own_of self.new ≡ with_none_spent (own_of self.old) }
+        ensures rest { (q : Process) → self.new ≡ record (with_counts_of self.new self.old) {
           core = on_processor self.old.core (behind_call self.old.core answer q);
           monitor = record self.old.monitor { time = self.old.monitor.time + 1 };
-          spent = 0;
         } }
     {
         let behind = wrapping_sum(self.unit_address(), 4);
         self.core.registers[2] = answer;
         self.begin_at(behind);
+        self.count_none();
         self.count(1, 0);
     }
 

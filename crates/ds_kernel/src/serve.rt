@@ -1,5 +1,5 @@
 //! The exception that waits is served: the page of a table that the refill handler missed goes into
-//! the buffer, the unit begins again, or it ends in a denial, a fault or a call.
+//! the buffer, and the unit begins again; or it ends in a denial, a fault or a call.
 ghost use Rattle.std.specs.Prelude.{◌≡◌, true, false};
 ghost use Rattle.ds_grants.specs.State.{page_state};
 ghost use Rattle.ds_pagemap.specs.Unit.{denied_as};
@@ -32,10 +32,11 @@ fn denied_as(kind: Kind) -> Denied
 }
 
 impl<L: Lookaside> Parts<L> {
-    /// What the buffer did not let go: the unit begins again where the table lets it, or it ends in a
-    /// denial.
+    /// What the buffer did not let go: the unit ends in a denial.
     #[inline(never)]
     fn miss(&mut self, process: u32, access: Access) -> Step
+        requires slots { L.SLOTS ≡ 64 }
+        requires wired { L.WIRED ≡ 8 }
         requires busy { IsBusy process self.old }
         requires served { is_served self.old.core ≡ true }
         requires left { has_left_user self.old.core ≡ true }
@@ -47,10 +48,8 @@ impl<L: Lookaside> Parts<L> {
         self.look_at_unit(process);
         let address = self.bad_address();
         match self.monitor.grants.table().decide(process, access, address) {
-            Verdict::Allowed { .. } => {
-                self.go_back();
-                Step::Inside
-            }
+            // What waits for its service is an access that the table denies.
+            Verdict::Allowed { .. } => unreachable!(),
             Verdict::Denied { rule, code } => {
                 self.stop(process, denied_as(access.kind), address, rule, code)
             }
@@ -60,6 +59,8 @@ impl<L: Lookaside> Parts<L> {
     /// The unit ends in a fault of its instruction.
     #[inline(never)]
     fn fault(&mut self, process: u32, code: u8) -> Step
+        requires slots { L.SLOTS ≡ 64 }
+        requires wired { L.WIRED ≡ 8 }
         requires busy { IsBusy process self.old }
         requires served { is_served self.old.core ≡ true }
         requires left { has_left_user self.old.core ≡ true }
@@ -75,6 +76,8 @@ impl<L: Lookaside> Parts<L> {
     /// The unit ends in the fault of a call in the slot of a branch.
     #[inline(never)]
     fn call_in_slot(&mut self, process: u32) -> Step
+        requires slots { L.SLOTS ≡ 64 }
+        requires wired { L.WIRED ≡ 8 }
         requires busy { IsBusy process self.old }
         requires served { is_served self.old.core ≡ true }
         requires left { has_left_user self.old.core ≡ true }
@@ -92,6 +95,8 @@ impl<L: Lookaside> Parts<L> {
     /// uses.
     #[inline(never)]
     fn call_outside_slot(&mut self, process: u32) -> Step
+        requires slots { L.SLOTS ≡ 64 }
+        requires wired { L.WIRED ≡ 8 }
         requires busy { IsBusy process self.old }
         requires served { is_served self.old.core ≡ true }
         requires left { has_left_user self.old.core ≡ true }
@@ -109,6 +114,7 @@ impl<L: Lookaside> Parts<L> {
     #[inline(never)]
     pub fn serve(&mut self, process: u32) -> Step
         requires slots { L.SLOTS ≡ 64 }
+        requires wired { L.WIRED ≡ 8 }
         requires busy { IsBusy process self.old }
         requires served { is_served self.old.core ≡ true }
         ensures does { Does result (held self.old) (held self.new) }

@@ -3,7 +3,7 @@
 ghost use Rattle.std.specs.Prelude.{◌≡◌, ◌≢◌, ◌<◌, ◌^◌, IfOk, IfErr, OnOk, OnErr, IsErrOf, [], None, IsSome, true, false};
 ghost use Rattle.ds_pagemap.specs.Run.{is_over};
 ghost use Rattle.ds_refinement.specs.Units.{is_served};
-ghost use Rattle.ds_refinement.specs.Services.{with_failure, with_one_spent};
+ghost use Rattle.ds_refinement.specs.Services.{with_failure};
 ghost use Rattle.ds_monitor.specs.Kept.{kept_of};
 ghost use Rattle.ds_monitor.specs.Coming.{next_due};
 ghost use Rattle.ds_monitor.specs.Room.{HasRoom, HasTurnRoom};
@@ -66,8 +66,8 @@ impl<L: Lookaside> Parts<L> {
         self.reserve()
     }
 
-    /// Counts the instruction that comes next; where it begins a unit, there is room for the unit,
-    /// or it is made.
+    /// An instruction may come next; where it begins a unit, there is room for the unit, or it is
+    /// made.
     #[inline(always)]
     #[tactic(auto, using(crate::proofs::Running::ready_not_over))]
     fn begin(&mut self) -> Result<(), Halt>
@@ -76,7 +76,7 @@ impl<L: Lookaside> Parts<L> {
         requires unowed { self.old.monitor.owed ≡ None }
         requires ready { self.old.monitor.ready ≢ [] }
         requires unserved { is_served self.old.core ≡ false }
-        ensures ok { OnOk result (held self.new ≡ with_one_spent (held self.old)) }
+        ensures ok { OnOk result (held self.new ≡ held self.old) }
         ensures few { OnOk result (self.old.spent < 64) }
         ensures room { OnOk result (HasTurnRoom self.new.monitor) }
         ensures still { OnErr result (0 < self.old.spent → HasTurnRoom self.new.monitor) }
@@ -92,7 +92,6 @@ impl<L: Lookaside> Parts<L> {
             self.failed = true;
             return Err(Halt::Memory);
         }
-        self.spent += 1;
         Ok(())
     }
 

@@ -13,7 +13,9 @@ ghost use Rattle.ds_pagemap_laws.specs.Lawful.{IsLawful};
 ghost use Rattle.ds_refinement.specs.Held.{whole, space_of};
 ghost use Rattle.ds_refinement.specs.Pairs.{HasNoNewPairs};
 ghost use Rattle.ds_refinement.specs.Units.{ends_in_stop, ends_in_call};
-ghost use Rattle.ds_refinement.specs.Services.{EntersBy, Serves};
+ghost use Rattle.ds_refinement.specs.Handling.{IsWhole};
+ghost use Rattle.ds_refinement.specs.Services.{EntersBy, Serves, with_none_spent};
+ghost use Rattle.ds_kernel.specs.Parts.{own_of, with_counts_of};
 ghost use Rattle.ds_refinement.specs.Told.{own_in};
 ghost use Rattle.ds_monitor.specs.Kept.{kept_of};
 ghost use Rattle.ds_monitor.specs.Ended.{IsAlive};
@@ -71,10 +73,12 @@ impl<L: Lookaside> Parts<L> {
         let _spent = self.spent;
     }
 
-    /// Who is first comes in, with nothing spent. Of a caller nothing but register 2 differs from what
+    /// Who is first comes in, with nothing counted. Of a caller nothing but register 2 differs from what
     /// the processor has.
     #[inline(always)]
     pub(crate) fn end_unit(&mut self, caller: Option<u32>)
+        requires slots { L.SLOTS ≡ 64 }
+        requires wired { L.WIRED ≡ 8 }
         requires lawful { IsLawful (whole (kept_of self.old.monitor) [] []) }
         requires answered { (p : ℕ) → caller ≡ Some p → AreAnswered self.old.core.registers
             (process_of (kept_of self.old.monitor).state p).registers }
@@ -88,21 +92,25 @@ impl<L: Lookaside> Parts<L> {
         ensures context { self.new.core.system.context ≡ self.old.core.system.context }
         ensures pages { NamesPages self.old.monitor.grants }
         ensures random { self.new.core.random ≡ self.old.core.random }
-        ensures rest { self.new ≡ record self.old {
+        ensures own { own_of self.new ≡ with_none_spent (own_of self.old) }
+        ensures whole { IsWhole self.new.core }
+        ensures rest { self.new ≡ record (with_counts_of self.new self.old) {
           core = self.new.core;
           monitor = record self.old.monitor { owner = self.new.monitor.owner };
-          spent = 0;
         } }
     {
         let _table = self.monitor.grants.table();
-        self.spent = 0;
+        self.count_none();
         self.enter(caller);
+        self.look_at_processor();
     }
 
     /// The unit ends in a denial or a fault of its instruction: the process is parked where its unit
     /// began, and the log tells why.
     #[inline(never)]
     pub fn stop(&mut self, process: u32, kind: Denied, address: u32, rule: Rule, code: u32) -> Step
+        requires slots { L.SLOTS ≡ 64 }
+        requires wired { L.WIRED ≡ 8 }
         requires busy { IsBusy process self.old }
         requires kernel { is_user self.old.core.system ≡ false }
         requires rule { IsShortRule rule }
@@ -181,6 +189,8 @@ impl<L: Lookaside> Parts<L> {
     /// The unit is a call, and is done: the process goes on after it.
     #[inline(always)]
     pub fn call(&mut self, process: u32) -> Step
+        requires slots { L.SLOTS ≡ 64 }
+        requires wired { L.WIRED ≡ 8 }
         requires busy { IsBusy process self.old }
         requires kernel { is_user self.old.core.system ≡ false }
         ensures step { result ≡ Step.Unit }

@@ -15,8 +15,9 @@ use Rattle.ds_pagemap_laws.proofs.Boundaries.{boundary_settles}
 use Rattle.ds_refinement.specs.declared.step.Step.TheVariants.{Boundary}
 use Rattle.ds_refinement.specs.Held.{Held, Kept, Own, whole}
 use Rattle.ds_refinement.specs.Units.{is_general, has_left_user}
-use Rattle.ds_refinement.specs.Stands.{Stands, KeptIs, IsKept, OnProcessor}
+use Rattle.ds_refinement.specs.Stands.{Agrees, Stands, KeptIs, IsKept, OnProcessor}
 use Rattle.ds_refinement.specs.Steps.{Follows, Moves}
+use Rattle.ds_refinement.specs.Counts.{counts_of}
 use Rattle.ds_refinement.specs.Services.{EndsBy, seated, with_first_seated, with_idle_turn, with_none_spent}
 use Rattle.ds_refinement.proofs.Seating.{off, leaves, enters, running_of}
 use Rattle.ds_refinement.proofs.Ending.{half_unit, serves_kept}
@@ -33,7 +34,7 @@ on_seat true false c k p m turn user o a = elim a.registers [
 ]
 
 -- so with whoever runs in its seat all is kept
-kept_by : (queue : List ℕ) (h : Held) (m : State) (turn : Turn) → h.kept.state.ready ≡ queue → Stands h m → m.owed ≡ Some turn → IsKept (seated h.core h.kept) h.bus.memory m
+kept_by : (queue : List ℕ) (h : Held) (m : State) (turn : Turn) → h.kept.state.ready ≡ queue → Agrees h m → m.owed ≡ Some turn → IsKept (seated h.core h.kept) h.bus.memory m
 kept_by [] h m turn ready k o =
     let kept = subst (λ (queue : List ℕ). KeptIs queue h.kept h.bus.memory m) ready k.kept in
     record { state = kept.state ∙ ap (with_first_seated h.core h.kept.state) (sym ready); pages = kept.pages; log = kept.log; lines = kept.lines }
@@ -42,32 +43,32 @@ kept_by (p ∷ rest) h m turn ready k o =
     subst (IsKept (seated h.core h.kept) h.bus.memory) (ap (with_process m p) same ∙ with_process-process_of m p) (leaves h m p rest k ready)
 
 -- after a boundary that was served
-served_behind : (h new : Held) (m : State) (turn : Turn) → Stands h m → m.owed ≡ Some turn → EndsBy boundary h new → Stands new (touched true (boundary m))
+served_behind : (h new : Held) (m : State) (turn : Turn) → Agrees h m → m.owed ≡ Some turn → EndsBy boundary h new → Stands new (touched true (boundary m))
 served_behind h new m turn k o ends =
     enters new (boundary m) (serves_kept boundary (seated h.core h.kept) new.kept h.bus.memory new.bus.memory m boundary_settles ends.serves (kept_by h.kept.state.ready h m turn refl k o))
-    ends.represented ends.vectors ends.base ends.grants (ends.size ∙ k.size) ends.devices ends.enters
+    ends.represented ends.vectors ends.base ends.grants (ends.size ∙ k.size) ends.devices ends.none ends.ranges ends.enters
 
 pub boundary_served : (h new : Held) → IsSome h.kept.state.owed → EndsBy boundary h new → Follows Boundary h new
 boundary_served h new some ends = let turn = (some_turn h.kept.state.owed some).0 in let owed = (some_turn h.kept.state.owed some).1 in record {
   follows = λ m k.
-      let o : m.owed ≡ Some turn = owed_is h m k ∙ owed in (
+      let o : m.owed ≡ Some turn = owed_is h m k.agrees ∙ owed in (
         touched true (boundary m),
         inl (λ (e : m.owed ≡ None). (let no : Some turn ≡ None = sym o ∙ e in cc), (false, true, ap (touched true) (sym (half_boundary m turn o)))),
-        served_behind h new m turn k o ends,
+        served_behind h new m turn k.agrees o ends,
       );
 }
 
 pub idle_served : (h new : Held) → h.kept.state.owed ≡ None → h.kept.state.ready ≡ [] → is_over h.kept.state ≡ false → EndsBy boundary (with_idle_turn h) new → Follows Boundary h new
 idle_served h new owed none left ends = record {
   follows = λ m k.
-      let o : m.owed ≡ None = owed_is h m k ∙ owed in
-      let nobody : m.ready ≡ [] = k.kept.ready ∙ none in
-      let going : is_over m ≡ false = over_too h.kept.state.ready m h.kept.state none k.kept.state ∙ left in
+      let o : m.owed ≡ None = owed_is h m k.agrees ∙ owed in
+      let nobody : m.ready ≡ [] = k.agrees.kept.ready ∙ none in
+      let going : is_over m ≡ false = over_too h.kept.state.ready m h.kept.state none k.agrees.kept.state ∙ left in
       let turn : Turn = record { began = m.time; runner = None } in
       let first_half : half_turn false m ≡ waited m = half_unit m o ∙ unit_rests m nobody in (
         touched true (boundary (waited m)),
         inr (o, nobody, going, (false, true, ap (touched true) (sym (ap (half_turn false) first_half ∙ half_boundary (waited m) turn refl)))),
-        served_behind (with_idle_turn h) new (waited m) turn (stands_waited h m k owed none) refl ends,
+        served_behind (with_idle_turn h) new (waited m) turn (stands_waited h m k.agrees owed none) refl ends,
       );
 }
 
@@ -88,6 +89,7 @@ served_moves h new some own ends = (
   ap (λ (o : Own). o.spent) own,
   time_behind h new ends ∙ (sym (add-zero h.kept.state.time) ∙ ap (λ (b : Bool). h.kept.state.time + truth (not b)) (sym some)),
   ap (λ (o : Own). o.failed) own,
+  ap counts_of own,
 )
 
 pub idle_served_moves : (h new : Held) → h.kept.state.owed ≡ None → new.own ≡ with_none_spent h.own → EndsBy boundary (with_idle_turn h) new → Moves Boundary h new
@@ -96,4 +98,5 @@ idle_served_moves h new owed own ends = (
   ap (λ (o : Own). o.spent) own,
   time_behind (with_idle_turn h) new ends ∙ ap (λ (x : Option Turn). h.kept.state.time + truth (not (is_some x))) (sym owed),
   ap (λ (o : Own). o.failed) own,
+  ap counts_of own,
 )

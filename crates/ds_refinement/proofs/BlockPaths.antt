@@ -21,14 +21,14 @@ use Rattle.ds_refinement.specs.Told.{is_delayed}
 use Rattle.ds_refinement.specs.Held.{Held, Kept}
 use Rattle.ds_refinement.specs.Units.{user_status, is_general, is_served}
 use Rattle.ds_refinement.specs.Handling.{IsWhole}
-use Rattle.ds_refinement.specs.Stands.{Stands}
+use Rattle.ds_refinement.specs.Counts.{Counts, with_counts, IsFresh}
 use Rattle.ds_refinement.specs.Steps.{Follows, Moves, ticks_of}
 use Rattle.ds_refinement.specs.Services.{after_event, step_of, with_one_spent, with_boundary}
 use Rattle.ds_refinement.specs.Real.{IsReal, RealPath}
 use Rattle.ds_refinement.specs.Quiet.{IsQuiet}
 use Rattle.ds_refinement.specs.Blocks.{moved, time_behind, with_block, with_exception, at_time, IsQuietUntil, MayRunAhead}
 use Rattle.ds_refinement.proofs.Boundaries.{quiet}
-use Rattle.ds_refinement.proofs.Counting.{word_moves}
+use Rattle.ds_refinement.proofs.Counting.{user_moves}
 use Rattle.ds_refinement.proofs.Meets.{barred}
 use Rattle.ds_refinement.proofs.Raising.{slot_of_raised}
 use Rattle.ds_refinement.proofs.Stages.{step_follows}
@@ -53,10 +53,6 @@ some_is_not_none turn e = cc
 abbrev told_as : Event → core.Step → core.Step
 told_as e s = record { event = e; core = s.core; bus = s.bus }
 
--- the machine doesn't see that an instruction counts
-counts : (b : Held) (m : State) → Stands b m → Stands (with_one_spent b) m
-counts b m k = record { represented = k.represented; vectors = k.vectors; base = k.base; grants = k.grants; size = k.size; kept = k.kept; running = k.running; devices = k.devices }
-
 -- What is kept by each real step of a run, if it begins before the run's end.
 record Carries (end : ℕ) (P : Held → Type 0) : Type 0 where
   more : (b c : Held) (kind : Step) → P b → BeginsBefore end b → Follows kind b c → Moves kind b c → IsReal b c → P c
@@ -64,23 +60,19 @@ record Carries (end : ℕ) (P : Held → Type 0) : Type 0 where
 -- One instruction of the process that runs, in user mode and with no boundary owed.
 module _ (b : Held) (s : core.Step) (is : s ≡ whole.step b.core b.bus) (owed : b.kept.state.owed ≡ None) (ready : b.kept.state.ready ≢ []) (user : is_user b.core.system ≡ true) (within : b.core.pc < 2 ^ 32) (complete : is_raised s.event ≡ true → IsWhole s.core) where
   -- the machine follows it
-  follows : (e : Event) → s.event ≡ e → Follows (step_of e) b (after_event e (with_one_spent b) s)
-  follows e at = record {
-    follows = λ m k.
-        (subst (λ (x : Event). Follows (step_of x) (with_one_spent b) (after_event x (with_one_spent b) s)) at
-        (step_follows (with_one_spent b) s is owed ready user within complete)).follows m (counts b m k);
-  }
+  follows : (e : Event) → s.event ≡ e → Follows (step_of e) b (after_event e b s)
+  follows e at = subst (λ (x : Event). Follows (step_of x) b (after_event x b s)) at (step_follows b s is owed ready user within complete)
 
   no_service : is_served b.core ≡ false
   no_service = ap (λ (u : Bool). not u && is_general b.core) user
 
   -- and it is a real one
-  real : (e : Event) → s.event ≡ e → IsReal b (after_event e (with_one_spent b) s)
+  real : (e : Event) → s.event ≡ e → IsReal b (after_event e b s)
   real e at = instruction_real e b s (owed, ready) no_service (sym is ∙ ap (λ (x : Event). told_as x s) at)
 
   -- after the instruction that ends the unit
   abbrev behind : Held
-  behind = after_event Retired (with_one_spent b) s
+  behind = after_event Retired b s
 
   boundary_real : IsReal behind (with_boundary behind)
   boundary_real = record {
@@ -91,25 +83,25 @@ module _ (b : Held) (s : core.Step) (is : s ≡ whole.step b.core b.bus) (owed :
   }
 
   boundary_moves : Moves Boundary behind (with_boundary behind)
-  boundary_moves = let e : behind.kept.state.time ≡ behind.kept.state.time + 0 = omega arith in (refl, refl, e, refl)
+  boundary_moves = let e : behind.kept.state.time ≡ behind.kept.state.time + 0 = omega arith in (refl, refl, e, refl, refl)
 
   -- with its boundary, which has nothing to do
   unit_carries : (end : ℕ) (P : Held → Type 0) → Carries end P → P b → b.kept.state.time < end → s.event ≡ Retired → b.kept.ticked ≤ behind.kept.state.time → IsQuiet behind.kept → P (with_boundary behind)
   unit_carries end P carries p before at ticked q =
       carries.more behind (with_boundary behind) Boundary
-      (carries.more b behind Unit p (inr (ready, before)) (follows Retired at) (owed, refl, refl, refl, refl) (real Retired at))
-      (inl refl) (quiet behind refl ticked q) boundary_moves boundary_real
+      (carries.more b behind Unit p (inr (ready, before)) (follows Retired at) (owed, refl, refl, refl, refl, refl) (real Retired at))
+      (inl refl) (quiet behind refl refl ticked q) boundary_moves boundary_real
 
   -- a branch, or an exception: the unit isn't at its end
   inside_carries : (end : ℕ) (P : Held → Type 0) (e : Event) → Carries end P → P b → b.kept.state.time < end → s.event ≡ e → step_of e ≡ Inside → b.own.spent ≤ 63
-      → P (record b { core = s.core; bus = s.bus; own = record b.own { spent = b.own.spent + 1 } })
+      → P (record b { core = s.core; bus = s.bus; own = with_one_spent b.own })
   inside_carries end P e carries p before at inside few = by e at inside
     where
       new : Held
-      new = record b { core = s.core; bus = s.bus; own = record b.own { spent = b.own.spent + 1 } }
+      new = record b { core = s.core; bus = s.bus; own = with_one_spent b.own }
 
       moves : Moves Inside b new
-      moves = word_moves b s owed no_service (omega (arith, few))
+      moves = user_moves b s owed user (omega (arith, few))
 
       by : (e : Event) → s.event ≡ e → step_of e ≡ Inside → P new
       by Retired at other = absurd (cc)
@@ -126,7 +118,7 @@ quiet_owed : (k : Kept) (owed : Option Turn) → IsQuiet k → IsQuiet (record k
 quiet_owed k owed q = record { commands = q.commands; characters = q.characters; asleep = q.asleep; period = q.period }
 
 -- Many instructions, from h on.
-module _ (h : Held) (owed : h.kept.state.owed ≡ None) (ready : h.kept.state.ready ≢ []) (mode : h.core.system.status ≡ user_status) (spent : h.own.spent ≡ owed_tick h.core.slot) (last : ℕ) (calm_until : IsQuietUntil last h.kept) (end : ℕ) (P : Held → Type 0) (carries : Carries end P) (begun : P h) where
+module _ (h : Held) (owed : h.kept.state.owed ≡ None) (ready : h.kept.state.ready ≢ []) (mode : h.core.system.status ≡ user_status) (spent : h.own.spent ≡ owed_tick h.core.slot) (unmet : IsFresh h.own) (last : ℕ) (calm_until : IsQuietUntil last h.kept) (end : ℕ) (P : Held → Type 0) (carries : Carries end P) (begun : P h) where
   abbrev start : Hardware
   start = hardware_of h.core h.bus
 
@@ -150,7 +142,8 @@ module _ (h : Held) (owed : h.kept.state.owed ≡ None) (ready : h.kept.state.re
   none : P (with_block 0 h start)
   none = subst P
       (let same : h.kept.state.time ≡ h.kept.state.time + 0 = omega arith in
-      ap (λ (n : ℕ). moved h start h.kept.state.time h.kept.state.owed n) spent
+      ap (λ (n : Counts). record h { own = with_counts h.own n }) unmet
+      ∙ ap (λ (n : ℕ). moved h start h.kept.state.time h.kept.state.owed n) spent
       ∙ (ap (λ (o : Option Turn). moved h start h.kept.state.time o (owed_tick h.core.slot)) owed
       ∙ ap (λ (t : ℕ). moved h start t None (owed_tick h.core.slot)) same))
       begun
@@ -246,12 +239,12 @@ module _ (n limit : ℕ) (h : Held) (hw : Hardware) (g : MayRunAhead limit h) (w
   block_carries : Advances n (hardware_of h.core h.bus) hw → h.kept.state.time + n + owed_tick h.core.slot ≤ end → P (with_block n h hw)
   block_carries advances soon =
       subst (λ (x : Hardware). P (with_block n h x)) (sym advances.state)
-      (block h g.owed g.ready g.mode g.spent (h.kept.state.time + limit + 1) g.quiet end P carries begun n advances.calm words (omega (arith, within)) soon)
+      (block h g.owed g.ready g.mode g.spent g.fresh (h.kept.state.time + limit + 1) g.quiet end P carries begun n advances.calm words (omega (arith, within)) soon)
 
   -- such steps and one that enters an exception
   raised_carries : (code : ExceptionCode) → AdvancesTo n (Some code) (hardware_of h.core h.bus) hw → IsWhole hw.core → h.kept.state.time + suc n + owed_tick h.core.slot ≤ end → P (with_exception n h hw)
   raised_carries code leads all soon =
-      raised h g.owed g.ready g.mode g.spent (h.kept.state.time + limit + 1) g.quiet end P carries begun n hw code leads.1.calm words (omega (arith, within)) soon all
+      raised h g.owed g.ready g.mode g.spent g.fresh (h.kept.state.time + limit + 1) g.quiet end P carries begun n hw code leads.1.calm words (omega (arith, within)) soon all
       (leads.2 ∙ ap ahead.step_of leads.1.state)
 
 -- They are paths.

@@ -22,9 +22,12 @@ use Rattle.ds_pagemap_laws.proofs.Processes.{wakes_settles}
 use Rattle.ds_pagemap_laws.proofs.Asleep.{still_asleep}
 use Rattle.ds_pagemap_laws.proofs.Boundaries.{quiet_boundary}
 use Rattle.ds_refinement.specs.declared.step.Step.TheVariants.{Boundary, Over}
-use Rattle.ds_refinement.specs.Held.{Held, Kept, bare, vacated, began_or, last_boundary}
+use Rattle.ds_refinement.specs.Held.{Held, Kept, Own, bare, vacated, began_or, last_boundary}
 use Rattle.ds_refinement.specs.Units.{is_general, has_left_user}
-use Rattle.ds_refinement.specs.Stands.{Stands, RunningBy, InKernel, OnProcessor}
+use Rattle.ds_refinement.specs.Stands.{Stands, Agrees, CountedBy, RunningBy, InKernel, OnProcessor}
+use Rattle.ds_refinement.specs.Needs.{pages_of}
+use Rattle.ds_refinement.specs.Counts.{counts_of, may_write, HasNone, HasRanges}
+use Rattle.ds_refinement.proofs.Tallied.{none_tallied, ranges_of}
 use Rattle.ds_refinement.specs.Services.{with_boundary, with_idle_turn}
 use Rattle.ds_refinement.specs.Steps.{Follows}
 use Rattle.ds_refinement.specs.Quiet.{IsQuiet}
@@ -91,10 +94,10 @@ unfolding half_turn
 half_boundary m turn o = ap (λ (x : Option Turn). cond (is_some x) (boundary m) (unit m)) o
 
 -- what is owed is as it is kept
-pub owed_is : (h : Held) (m : State) → Stands h m → m.owed ≡ h.kept.state.owed
+pub owed_is : (h : Held) (m : State) → Agrees h m → m.owed ≡ h.kept.state.owed
 owed_is h m k = ap (λ (s : State). s.owed) (beside h.kept.state.ready m h.kept.state k.kept.state)
 
-nothing_to_do : (h : Held) (m : State) (turn : Turn) → Stands h m → h.kept.state.owed ≡ Some turn → IsQuiet h.kept → HasNothingToDo turn m
+nothing_to_do : (h : Held) (m : State) (turn : Turn) → Agrees h m → h.kept.state.owed ≡ Some turn → IsQuiet h.kept → HasNothingToDo turn m
 nothing_to_do h m turn k owed quiet =
     let b = beside h.kept.state.ready m h.kept.state k.kept.state in
     let began : last_boundary h.kept.state ≡ turn.began = ap (λ (o : Option Turn). began_or o h.kept.state.time) owed in
@@ -106,7 +109,7 @@ nothing_to_do h m turn k owed quiet =
       period = ap (λ (s : State). has_passed s.rate turn.began s.time) b ∙ passed_later h.kept.state.rate h.kept.ticked turn.began h.kept.state.time since quiet.period;
     }
 
-boundary_of : (h : Held) (m : State) (turn : Turn) → Stands h m → h.kept.state.owed ≡ Some turn → IsQuiet h.kept → half_turn false m ≡ record m { owed = None }
+boundary_of : (h : Held) (m : State) (turn : Turn) → Agrees h m → h.kept.state.owed ≡ Some turn → IsQuiet h.kept → half_turn false m ≡ record m { owed = None }
 boundary_of h m turn k owed quiet =
     let o : m.owed ≡ Some turn = owed_is h m k ∙ owed in
     half_boundary m turn o ∙ quiet_boundary m turn o (nothing_to_do h m turn k owed quiet)
@@ -142,7 +145,7 @@ still_running (p ∷ rest) c k m turn o a = record {
   on = not_begun (is_user c.system) c.slot c k (record k { state = record k.state { owed = None } }) p m turn o a.on;
 }
 
-stands_behind : (h : Held) (m : State) (turn : Turn) → Stands h m → h.kept.state.owed ≡ Some turn → h.kept.ticked ≤ h.kept.state.time → IsQuiet h.kept → Stands (with_boundary h) (record m { owed = None })
+stands_behind : (h : Held) (m : State) (turn : Turn) → Agrees h m → h.kept.state.owed ≡ Some turn → h.kept.ticked ≤ h.kept.state.time → IsQuiet h.kept → Agrees (with_boundary h) (record m { owed = None })
 stands_behind h m turn k owed ticked quiet = record {
   represented = k.represented;
   vectors = k.vectors;
@@ -162,13 +165,30 @@ stands_behind h m turn k owed ticked quiet = record {
   devices = record { serial = k.devices.serial; clock = k.devices.clock; system = k.devices.system; ticked = ticked; period = quiet.period };
 }
 
-pub quiet : (h : Held) → IsSome h.kept.state.owed → h.kept.ticked ≤ h.kept.state.time → IsQuiet h.kept → Follows Boundary h (with_boundary h)
-quiet h some ticked q = let turn = (some_turn h.kept.state.owed some).0 in let owed = (some_turn h.kept.state.owed some).1 in record {
+-- where a boundary is owed the processor is at the beginning of a unit
+begun_outside : (user slot : Bool) (c : CoreState) (k : Kept) (p : ℕ) (m : State) (turn : Turn) → m.owed ≡ Some turn → OnProcessor user slot c k p m → (user ≡ true) × (slot ≡ false)
+begun_outside false slot c k p m turn o a = let no : Some turn ≡ None = sym o ∙ kernel_owes (is_general c) (has_left_user c) c k p m a in absurd (cc)
+begun_outside true true c k p m turn o a = let no : Some turn ≡ None = sym o ∙ a.owed in absurd (cc)
+begun_outside true false c k p m turn o a = (refl, refl)
+
+-- nothing is counted of it, so it is tallied whatever it asks for
+still_tallied : (queue : List ℕ) (c : CoreState) (own : Own) (k k' : Kept) (m m' : State) (turn : Turn) → m.owed ≡ Some turn → RunningBy queue c k m → HasNone own → HasRanges c (counts_of own)
+    → CountedBy queue c own k' m'
+still_tallied [] c own k k' m m' turn o a none ranges = (none, ranges)
+still_tallied (p ∷ rest) c own k k' m m' turn o a none ranges =
+    let at = begun_outside (is_user c.system) c.slot c k p m turn o a.on in
+    none_tallied c own (may_write k' p) (pages_of m' p) at.0 at.1 none ranges
+
+pub quiet : (h : Held) → IsSome h.kept.state.owed → HasNone h.own → h.kept.ticked ≤ h.kept.state.time → IsQuiet h.kept → Follows Boundary h (with_boundary h)
+quiet h some nothing ticked q = let turn = (some_turn h.kept.state.owed some).0 in let owed = (some_turn h.kept.state.owed some).1 in record {
   follows = λ m k.
-      let o : m.owed ≡ Some turn = owed_is h m k ∙ owed in (
+      let o : m.owed ≡ Some turn = owed_is h m k.agrees ∙ owed in (
         record m { owed = None },
-        inl (λ (e : m.owed ≡ None). (let no : Some turn ≡ None = sym o ∙ e in cc), (false, false, sym (boundary_of h m turn k owed q))),
-        stands_behind h m turn k owed ticked q,
+        inl (λ (e : m.owed ≡ None). (let no : Some turn ≡ None = sym o ∙ e in cc), (false, false, sym (boundary_of h m turn k.agrees owed q))),
+        record {
+          agrees = stands_behind h m turn k.agrees owed ticked q;
+          counted = still_tallied h.kept.state.ready h.core h.own h.kept (with_boundary h).kept m (record m { owed = None }) turn o k.agrees.running nothing (ranges_of h m k);
+        },
       );
 }
 
@@ -195,7 +215,7 @@ at_rest : (queue : List ℕ) (c : CoreState) (k k' : Kept) (m m' : State) → qu
 at_rest [] c k k' m m' none a = a
 at_rest (p ∷ rest) c k k' m m' none a = absurd (cc)
 
-pub stands_waited : (h : Held) (m : State) → Stands h m → h.kept.state.owed ≡ None → h.kept.state.ready ≡ [] → Stands (with_idle_turn h) (waited m)
+pub stands_waited : (h : Held) (m : State) → Agrees h m → h.kept.state.owed ≡ None → h.kept.state.ready ≡ [] → Agrees (with_idle_turn h) (waited m)
 stands_waited h m k owed none =
     let last : last_boundary h.kept.state ≡ h.kept.state.time = ap (λ (o : Option Turn). began_or o h.kept.state.time) owed in
     record {
@@ -224,20 +244,35 @@ stands_waited h m k owed none =
       };
     }
 
+-- where nobody is ready the counts rest
+pub resting_tallied : (queue : List ℕ) (c : CoreState) (own : Own) (k k' : Kept) (m m' : State) → queue ≡ [] → CountedBy queue c own k m → CountedBy queue c own k' m'
+resting_tallied [] c own k k' m m' none i = i
+resting_tallied (p ∷ rest) c own k k' m m' none i = absurd (cc)
+
+-- where nobody is ready a tick may pass
+pub waited_stands : (h : Held) (m : State) → Stands h m → h.kept.state.owed ≡ None → h.kept.state.ready ≡ [] → Stands (with_idle_turn h) (waited m)
+waited_stands h m k owed none = record {
+  agrees = stands_waited h m k.agrees owed none;
+  counted = resting_tallied h.kept.state.ready h.core h.own h.kept (with_idle_turn h).kept m (waited m) none k.counted;
+}
+
 pub idle : (h : Held) → h.kept.state.owed ≡ None → h.kept.state.ready ≡ [] → is_over h.kept.state ≡ false → IsQuiet (with_idle_turn h).kept → Follows Boundary h (with_boundary (with_idle_turn h))
 idle h owed none left q = record {
   follows = λ m k.
-      let o : m.owed ≡ None = owed_is h m k ∙ owed in
-      let nobody : m.ready ≡ [] = k.kept.ready ∙ none in
-      let going : is_over m ≡ false = over_too h.kept.state.ready m h.kept.state none k.kept.state ∙ left in
+      let o : m.owed ≡ None = owed_is h m k.agrees ∙ owed in
+      let nobody : m.ready ≡ [] = k.agrees.kept.ready ∙ none in
+      let going : is_over m ≡ false = over_too h.kept.state.ready m h.kept.state none k.agrees.kept.state ∙ left in
       let turn : Turn = record { began = h.kept.state.time; runner = first h.kept.state.ready } in
       let first_half : half_turn false m ≡ waited m = half_unit m o ∙ unit_rests m nobody in
-      let k' : Stands (with_idle_turn h) (waited m) = stands_waited h m k owed none in
+      let k' : Agrees (with_idle_turn h) (waited m) = stands_waited h m k.agrees owed none in
       let last : last_boundary h.kept.state ≡ h.kept.state.time = ap (λ (x : Option Turn). began_or x h.kept.state.time) owed in
-      let since : h.kept.ticked ≤ h.kept.state.time = subst (λ (n : ℕ). h.kept.ticked ≤ n) last k.devices.ticked in (
+      let since : h.kept.ticked ≤ h.kept.state.time = subst (λ (n : ℕ). h.kept.ticked ≤ n) last k.agrees.devices.ticked in (
         record (waited m) { owed = None },
         inr (o, nobody, going, (false, false, sym (ap (half_turn false) first_half ∙ boundary_of (with_idle_turn h) (waited m) turn k' refl q))),
-        stands_behind (with_idle_turn h) (waited m) turn k' refl (omega (arith, since)) q,
+        record {
+          agrees = stands_behind (with_idle_turn h) (waited m) turn k' refl (omega (arith, since)) q;
+          counted = resting_tallied h.kept.state.ready h.core h.own h.kept (with_boundary (with_idle_turn h)).kept m (record (waited m) { owed = None }) none k.counted;
+        },
       );
 }
 
@@ -259,6 +294,6 @@ nobody_runs (p ∷ rest) c k m over a =
 pub rests : (h : Held) → h.kept.state.owed ≡ None → is_over h.kept.state ≡ true → Follows Over h h
 rests h owed over = record {
   follows = λ m k.
-      let none : h.kept.state.ready ≡ [] = nobody_runs h.kept.state.ready h.core h.kept m over k.running in
-      (m, (owed_is h m k ∙ owed, over_too h.kept.state.ready m h.kept.state none k.kept.state ∙ over, refl), k);
+      let none : h.kept.state.ready ≡ [] = nobody_runs h.kept.state.ready h.core h.kept m over k.agrees.running in
+      (m, (owed_is h m k.agrees ∙ owed, over_too h.kept.state.ready m h.kept.state none k.agrees.kept.state ∙ over, refl), k);
 }

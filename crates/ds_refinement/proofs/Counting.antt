@@ -1,6 +1,6 @@
 -- How the counts and the clock move inside a unit, and where a service ends it.
-use Rattle.std.proofs.Common.{◌≡◌, ℕ, ◌+◌, ◌-◌, ◌*◌, ◌<◌, ◌≤◌, Bool, true, false, List, [], ◌∷◌, refl, sym, ap, subst, ◌∙◌, arith}
-use Rattle.std.specs.Prelude.{◌&&◌, not, Option, None, IsSome, Result, Ok, Err}
+use Rattle.std.proofs.Common.{◌≡◌, ℕ, ◌+◌, ◌-◌, ◌*◌, ◌<◌, ◌≤◌, Bool, true, false, cond, List, [], ◌∷◌, refl, sym, ap, ap₂, subst, ◌∙◌, arith}
+use Rattle.std.specs.Prelude.{◌&&◌, not, Option, None, IsSome, is_some, Result, Ok, Err}
 use Rattle.ds_word.specs.Word.{word, truth}
 use Rattle.ds_procs.specs.declared.call.Call.{Call}
 use Rattle.ds_procs.specs.declared.call.Call.TheVariants as call
@@ -13,12 +13,17 @@ use Rattle.ds_pagemap.specs.declared.turn.Turn.{Turn}
 use Rattle.ds_pagemap.specs.Machine.{State, lives, process_of}
 use Rattle.ds_pagemap.specs.Calls.{answered, or_number, or_denied, queue_of, after_get, after_wait, served}
 use Rattle.ds_pagemap.specs.Unit.{Stop, at_pc, settle, after_call}
-use Rattle.ds_refinement.specs.declared.step.Step.TheVariants.{Inside, Unit}
+use Rattle.ds_core.specs.declared.event.Event.{Event}
+use Rattle.ds_core.specs.declared.event.Event.TheVariants.{Retired, Branched, Raised}
+use Rattle.ds_refinement.specs.declared.step.Step.TheVariants.{Inside, Unit, Boundary}
 use Rattle.ds_refinement.specs.Held.{Held, Kept, Own, whole}
 use Rattle.ds_refinement.specs.Units.{is_general, is_served, ends_in_stop, ends_in_call}
 use Rattle.ds_refinement.specs.Told.{own_in}
-use Rattle.ds_refinement.specs.Steps.{Moves, ticks_of}
-use Rattle.ds_refinement.specs.Services.{EndsBy, seated, with_first_seated, with_none_spent, with_one_spent, with_step}
+use Rattle.ds_dev.specs.Bus.{BusState}
+use Rattle.ds_refinement.specs.Handling.{touches}
+use Rattle.ds_refinement.specs.Counts.{Counts, HasNone, counts_of, with_counts, one_more, one_word, one_tabled}
+use Rattle.ds_refinement.specs.Steps.{Moves, counts_after, ticks_of}
+use Rattle.ds_refinement.specs.Services.{EndsBy, seated, with_first_seated, with_none_spent, with_one_spent, after_event, after_word, step_of, with_boundary, with_idle_turn}
 use Rattle.ds_refinement.specs.Ends.{EndsInStop, EndsInCall}
 
 -- Inside a unit.
@@ -27,26 +32,53 @@ truth_small : (b : Bool) → truth b ≤ 1
 truth_small true = omega arith
 truth_small false = omega arith
 
--- an instruction that ends no unit counts one
-pub word_moves : (h : Held) (s : core.Step) → h.kept.state.owed ≡ None → is_served h.core ≡ false → h.own.spent + 1 ≤ 64 → Moves Inside h (with_step (with_one_spent h) s)
-word_moves h s owed served few =
-    let new : Held = with_step (with_one_spent h) s in
-    let small : truth (is_served s.core) ≤ 1 = truth_small (is_served s.core) in
-    let counted : h.own.spent + 1 ≡ h.own.spent + truth (not (is_served h.core)) = ap (λ (b : Bool). h.own.spent + truth (not b)) (sym served) in
-    let left : 2 * (64 - (h.own.spent + 1)) + truth (is_served s.core) < 2 * (64 - h.own.spent) + truth (is_served h.core) = omega (arith, small, few) in
-    (owed, owed, refl, counted, few, left, refl)
+-- a step that ends no unit and serves nothing counts one instruction
+pub inside_moves : (h : Held) (c : CoreState) (b : BusState) (n : Counts) → h.kept.state.owed ≡ None → is_served h.core ≡ false → h.own.spent + 1 ≤ 64 → n.spent ≡ h.own.spent + 1 → n ≡ counts_after h
+    → Moves Inside h (record h { core = c; bus = b; own = with_counts h.own n })
+inside_moves h c b n owed served few one is =
+    let small : truth (is_served c) ≤ 1 = truth_small (is_served c) in
+    let counted : n.spent ≡ h.own.spent + truth (not (is_served h.core)) = one ∙ ap (λ (b : Bool). h.own.spent + truth (not b)) (sym served) in
+    let most : n.spent ≤ 64 = omega (arith, one, few) in
+    let left : 2 * (64 - n.spent) + truth (is_served c) < 2 * (64 - h.own.spent) + truth (is_served h.core) = omega (arith, one, small, few) in
+    (owed, owed, refl, counted, most, left, refl, is)
 
--- a service that goes back counts nothing
+-- an instruction of the program
+pub user_moves : (h : Held) (s : core.Step) → h.kept.state.owed ≡ None → is_user h.core.system ≡ true → h.own.spent + 1 ≤ 64 → Moves Inside h (record h { core = s.core; bus = s.bus; own = with_one_spent h.own })
+user_moves h s owed user few =
+    let served : is_served h.core ≡ false = ap (λ (u : Bool). not u && is_general h.core) user in
+    inside_moves h s.core s.bus (one_more (counts_of h.own)) owed served few refl
+    (sym (ap₂ (λ (a b : Bool). cond a (one_tabled (counts_of h.own)) (cond b (one_more (counts_of h.own)) (one_word (touches h.core) h.core.random (counts_of h.own)))) served user))
+
+-- by what the processor told of it
+pub event_moves : (e : Event) (h : Held) (s : core.Step) → h.kept.state.owed ≡ None → is_user h.core.system ≡ true → h.own.spent + 1 ≤ 64 → Moves (step_of e) h (after_event e h s)
+event_moves Retired h s owed user few = (owed, refl, refl, refl, refl, refl)
+event_moves Branched h s owed user few = user_moves h s owed user few
+event_moves (Raised code) h s owed user few = user_moves h s owed user few
+
+-- a word of the handler
+pub word_spent : (b : Bool) (random : ℕ) (n : Counts) → (one_word b random n).spent ≡ n.spent + 1
+word_spent true random n = refl
+word_spent false random n = refl
+
+pub word_moves : (h : Held) (s : core.Step) → h.kept.state.owed ≡ None → is_user h.core.system ≡ false → is_served h.core ≡ false → h.own.spent + 1 ≤ 64 → Moves Inside h (after_word h s)
+word_moves h s owed user served few =
+    inside_moves h s.core s.bus (one_word (touches h.core) h.core.random (counts_of h.own)) owed served few (word_spent (touches h.core) h.core.random (counts_of h.own))
+    (sym (ap₂ (λ (a b : Bool). cond a (one_tabled (counts_of h.own)) (cond b (one_more (counts_of h.own)) (one_word (touches h.core) h.core.random (counts_of h.own)))) served user))
+
+-- the service of a double miss counts no instruction
 pub back_moves : (h new : Held) → h.kept.state.owed ≡ None → is_served h.core ≡ true → h.own.spent ≤ 64 → new.kept ≡ h.kept → is_user new.core.system ≡ true
-    → new.own.spent ≡ h.own.spent → new.own.failed ≡ h.own.failed → Moves Inside h new
-back_moves h new owed served few kept user spent failed =
+    → counts_of new.own ≡ one_tabled (counts_of h.own) → new.own.failed ≡ h.own.failed → Moves Inside h new
+back_moves h new owed served few kept user counts failed =
+    let spent : new.own.spent ≡ h.own.spent = ap (λ (n : Counts). n.spent) counts in
     let none : truth (is_served new.core) ≡ 0 = ap (λ (u : Bool). truth (not u && is_general new.core)) user in
     let one : truth (is_served h.core) ≡ 1 = ap truth served in
     let nothing : truth (not (is_served h.core)) ≡ 0 = ap (λ (b : Bool). truth (not b)) served in
     let counted : new.own.spent ≡ h.own.spent + truth (not (is_served h.core)) = omega (arith, spent, nothing) in
     let small : new.own.spent ≤ 64 = omega (arith, spent, few) in
     let left : 2 * (64 - new.own.spent) + truth (is_served new.core) < 2 * (64 - h.own.spent) + truth (is_served h.core) = omega (arith, spent, none, one) in
-    (owed, ap (λ (k : Kept). k.state.owed) kept ∙ owed, ap (λ (k : Kept). k.state.time) kept, counted, small, left, failed)
+    let is : counts_of new.own ≡ counts_after h =
+    counts ∙ sym (ap (λ (a : Bool). cond a (one_tabled (counts_of h.own)) (cond (is_user h.core.system) (one_more (counts_of h.own)) (one_word (touches h.core) h.core.random (counts_of h.own)))) served) in
+    (owed, ap (λ (k : Kept). k.state.owed) kept ∙ owed, ap (λ (k : Kept). k.state.time) kept, counted, small, left, failed, is)
 
 -- Where a service ends its unit.
 
@@ -74,6 +106,7 @@ ended_moves f h new t owed first own ends =
       time,
       ap (λ (o : Own). o.spent) own,
       ap (λ (o : Own). o.failed) own,
+      ap counts_of own,
     )
 
 pub stop_moves : (p : ℕ) (stop : Stop) (h new : Held) → h.kept.state.owed ≡ None → h.core.slot ≡ false → new.own ≡ with_none_spent h.own → EndsInStop p stop h new → Moves Unit h new
@@ -116,3 +149,13 @@ call_time m p pc =
 
 pub call_moves : (p : ℕ) (h new : Held) → h.kept.state.owed ≡ None → h.core.slot ≡ false → new.own ≡ with_none_spent h.own → EndsInCall p h new → Moves Unit h new
 call_moves p h new = ended_moves (ends_in_call p h.core.system.epc) h new (record { time = λ s. call_time s p h.core.system.epc; owed = λ s. refl })
+
+-- Boundaries, before which nothing is counted.
+
+pub boundary_moves : (h : Held) → IsSome h.kept.state.owed → HasNone h.own → Moves Boundary h (with_boundary h)
+boundary_moves h some none =
+    let same : h.kept.state.time ≡ h.kept.state.time + 0 = omega arith in
+    (refl, ap (λ (n : Counts). n.spent) none, same ∙ ap (λ (b : Bool). h.kept.state.time + truth (not b)) (sym some), refl, none)
+
+pub idle_moves : (h : Held) → h.kept.state.owed ≡ None → HasNone h.own → Moves Boundary h (with_boundary (with_idle_turn h))
+idle_moves h owed none = (refl, ap (λ (n : Counts). n.spent) none, ap (λ (o : Option Turn). h.kept.state.time + truth (not (is_some o))) (sym owed), refl, none)

@@ -16,7 +16,7 @@ use Rattle.ds_pagemap.specs.Machine.{State, process_of, touched}
 use Rattle.ds_refinement.specs.Held.{Held, Own, space_of}
 use Rattle.ds_refinement.proofs.Spaces.{space_apart}
 use Rattle.ds_refinement.specs.Handling.{InDouble}
-use Rattle.ds_refinement.specs.Stands.{Stands}
+use Rattle.ds_refinement.specs.Stands.{Agrees}
 use Rattle.ds_refinement.specs.Services.{at_unit, table_entry}
 use Rattle.ds_refinement.proofs.Fields.{space_in, page_of_hi, table_of_hi, region_of_hi}
 use Rattle.ds_handler.proofs.Lent.{lend_26, in_27, base_size}
@@ -29,7 +29,7 @@ with_page_in h p slot = record (at_unit h.core (slice_index h.core.registers.gen
   entries = slice_set h.core.entries slot (table_entry h p);
 }
 
-module _ (h : Held) (m : State) (p : ℕ) (rest : List ℕ) (k : Stands h m) (ready : h.kept.state.ready ≡ p ∷ rest) where
+module _ (h : Held) (m : State) (p : ℕ) (rest : List ℕ) (k : Agrees h m) (ready : h.kept.state.ready ≡ p ∷ rest) where
   abbrev asid : ℕ
   asid = space_of h.kept p
 
@@ -66,7 +66,7 @@ module _ (h : Held) (m : State) (p : ℕ) (rest : List ℕ) (k : Stands h m) (re
       ap₂ (λ (v a : ℕ). find (slice_set h.core.entries slot (table_entry h p)) v a) page space
       ∙ find_written h.core.entries vpn asid slot (table_entry h p) z.missed (omega (arith, slots, within)) passes
 
-  pub double_returns : (slot : ℕ) (own : Own) → InDouble h.core h.kept p m → Stands (record h { core = with_page_in h p slot; own = own }) (touched true m)
+  pub double_returns : (slot : ℕ) (own : Own) → InDouble h.core h.kept p m → Agrees (record h { core = with_page_in h p slot; own = own }) (touched true m)
   double_returns slot own z =
       let r = runs h m p rest k ready in
       let few_regions : z.region < 512 = z.few in

@@ -24,7 +24,7 @@ use Rattle.ds_refinement.specs.declared.cause.Cause.{Cause}
 use Rattle.ds_refinement.specs.declared.cause.Cause.TheVariants as cause
 use Rattle.ds_refinement.specs.declared.step.Step.TheVariants.{Unit}
 use Rattle.ds_refinement.specs.Held.{Held, Kept, no_memory, whole}
-use Rattle.ds_refinement.specs.Units.{is_general, is_served, has_left_user, InService, Promise, own_of, ends_in_stop, ends_in_call}
+use Rattle.ds_refinement.specs.Units.{is_general, is_served, has_left_user, EndsUnit, InService, Promise, own_of, ends_in_stop, ends_in_call}
 use Rattle.ds_refinement.specs.Stands.{Stands, IsKept, InKernel, OnProcessor}
 use Rattle.ds_refinement.specs.Told.{told, is_delayed, own_in}
 use Rattle.ds_refinement.specs.Steps.{Comes, Follows}
@@ -65,12 +65,12 @@ pub service : (f : State → State) (h new : Held) (m : State) (p : ℕ) (rest :
     → EndsBy f h new → Comes Unit new m
 service f h new m p rest settles k ready owed is ends =
     let all : IsKept new.kept new.bus.memory (f (with_process m p (off h.core (process_of m p)))) =
-    serves_kept f (seated h.core h.kept) new.kept h.bus.memory new.bus.memory _ settles ends.serves (leaves h m p rest k ready) in
+    serves_kept f (seated h.core h.kept) new.kept h.bus.memory new.bus.memory _ settles ends.serves (leaves h m p rest k.agrees ready) in
     let here : IsKept new.kept new.bus.memory (unit m) = subst (IsKept new.kept new.bus.memory) (sym is) all in
-    let some : m.ready ≡ [] → ⊥ = λ (e : m.ready ≡ []). (let no : p ∷ rest ≡ [] = sym (k.kept.ready ∙ ready) ∙ e in cc) in (
+    let some : m.ready ≡ [] → ⊥ = λ (e : m.ready ≡ []). (let no : p ∷ rest ≡ [] = sym (k.agrees.kept.ready ∙ ready) ∙ e in cc) in (
       touched true (unit m),
       (owed, some, (false, true, ap (touched true) (sym (half_unit m owed)))),
-      enters new (unit m) here ends.represented ends.vectors ends.base ends.grants (ends.size ∙ k.size) ends.devices ends.enters,
+      enters new (unit m) here ends.represented ends.vectors ends.base ends.grants (ends.size ∙ k.agrees.size) ends.devices ends.none ends.ranges ends.enters,
     )
 
 -- The service of what was told.
@@ -86,10 +86,16 @@ pub served_kernel : (h : Held) (m : State) (p : ℕ) (rest : List ℕ) → Stand
 served_kernel h m p rest k ready served =
     let parts = served_parts (is_user h.core.system) (is_general h.core) served in
     subst (λ (general : Bool). InKernel general (has_left_user h.core) h.core h.kept p m) parts.1
-    (subst (λ (user : Bool). OnProcessor user h.core.slot h.core h.kept p m) parts.0 (running_of h m p rest k ready).on)
+    (subst (λ (user : Bool). OnProcessor user h.core.slot h.core h.kept p m) parts.0 (running_of h m p rest k.agrees ready).on)
 
 in_service : (h : Held) (m : State) (p : ℕ) (rest : List ℕ) → Stands h m → h.kept.state.ready ≡ p ∷ rest → is_served h.core ≡ true → has_left_user h.core ≡ true → InService h.core p m
 in_service h m p rest k ready served left = subst (λ (up : Bool). InKernel true up h.core h.kept p m) left (served_kernel h m p rest k ready served)
+
+-- it ends its unit, as it is told over the pages that are held
+pub waiting_ends : (h : Held) (m : State) (p : ℕ) (rest : List ℕ) → Stands h m → h.kept.state.ready ≡ p ∷ rest → is_served h.core ≡ true → has_left_user h.core ≡ true
+    → EndsUnit (page_state h.kept.grants h.bus.memory) p h.core.system.bad_vaddr (told h.core.system (page_state h.kept.grants h.bus.memory) p)
+waiting_ends h m p rest k ready served left =
+    subst (λ (s : PageState). EndsUnit s p h.core.system.bad_vaddr (told h.core.system s p)) k.agrees.kept.pages (in_service h m p rest k ready served left).ends
 
 -- the process in its seat stands at the unit's address, and only its registers are the processor's
 seat_is : (c : CoreState) (m : State) (p : ℕ) → is_user c.system ≡ false → InService c p m → with_registers m p c.registers ≡ with_process m p (off c (process_of m p))
@@ -117,7 +123,7 @@ module _ (h new : Held) (p : ℕ) (rest : List ℕ) (ready : h.kept.state.ready 
     follows = λ m k.
         let a : InService h.core p m = in_service h m p rest k ready served left in
         let user : is_user h.core.system ≡ false = (served_parts (is_user h.core.system) (is_general h.core) served).0 in
-        let unit_is : unit m ≡ f (with_registers m p h.core.registers) = keeps m k.kept.pages (promised h m p why k.kept.pages a is) in
+        let unit_is : unit m ≡ f (with_registers m p h.core.registers) = keeps m k.agrees.kept.pages (promised h m p why k.agrees.kept.pages a is) in
         service f h new m p rest settles k ready a.owed (unit_is ∙ ap f (seat_is h.core m p user a)) ends;
   }
 

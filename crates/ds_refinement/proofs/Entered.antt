@@ -14,10 +14,10 @@ use Rattle.ds_pagemap.specs.Machine.{State, process_of}
 use Rattle.ds_pagemap.specs.Unit.{with_registers}
 use Rattle.ds_refinement.specs.Told.{told, is_delayed}
 use Rattle.ds_refinement.specs.Held.{Held, space_of}
-use Rattle.ds_refinement.specs.Units.{user_status, Promise, InService}
+use Rattle.ds_refinement.specs.Units.{user_status, EndsUnit, Promise, InService}
 use Rattle.ds_refinement.proofs.Exceptions.{status_told, epc_told}
 use Rattle.ds_refinement.specs.Handling.{AtContext, HasBase, IsSet, IsWhole, AreUnits, InHandler, IsMiss}
-use Rattle.ds_refinement.specs.Stands.{OnProcessor, Stands}
+use Rattle.ds_refinement.specs.Stands.{OnProcessor, Agrees}
 use Rattle.ds_refinement.proofs.Fields.{space_set, hi_entered, context_entered, hi_low, hi_small, context_high, context_low}
 use Rattle.ds_handler.proofs.Lent.{lent_itself}
 use Rattle.ds_refinement.proofs.Standing.{runs, kept, few, same_state, in_handler, in_service, mode_of_user}
@@ -52,7 +52,7 @@ base_entered s e k = address_base _ e e.addr (record { tables = k.tables; whole 
 abbrev with_page : System → Exception → ℕ → System
 with_page s e a = record s { status = pushed s.status; cause = cause_of s.cause e; epc = epc_of e; bad_vaddr = a; context = with_field s.context 2 19 (bits a 12 19); entry_hi = with_field s.entry_hi 12 20 (bits a 12 20) }
 
-module _ (h : Held) (m : State) (p : ℕ) (rest : List ℕ) (e : Exception) (k : Stands h m) (ready : h.kept.state.ready ≡ p ∷ rest) (whole : IsWhole (core_at_vector h.core e))
+module _ (h : Held) (m : State) (p : ℕ) (rest : List ℕ) (e : Exception) (k : Agrees h m) (ready : h.kept.state.ready ≡ p ∷ rest) (whole : IsWhole (core_at_vector h.core e))
     (mode : h.core.system.status ≡ user_status) (owed : m.owed ≡ None) (at : epc_of e ≡ (process_of m p).pc) (units : AreUnits (settled h.core.registers) p m) where
   abbrev asid : ℕ
   asid = space_of h.kept p
@@ -97,15 +97,16 @@ module _ (h : Held) (m : State) (p : ℕ) (rest : List ℕ) (e : Exception) (k :
         touch = λ none. absurd cc;
       }
 
-  pub miss_enters : IsMiss h.core e → Stands (record h { core = core_at_vector h.core e }) m
+  pub miss_enters : IsMiss h.core e → Agrees (record h { core = core_at_vector h.core e }) m
   miss_enters miss =
       same_state h m p rest k ready (core_at_vector h.core e) k.represented.buffer (base_entered h.core.system e k.base) (set_entered h.core.system e asid set)
       (in_handler AtContext (core_at_vector h.core e) h.kept p m (at_first_word miss))
 
   general_enters : (e.miss && is_kuseg e.addr) ≡ false
+      → (vector e ≡ 0x80000080 → EndsUnit m.memory p (entered h.core.system e).bad_vaddr (told (entered h.core.system e) m.memory p))
       → Promise (told (entered h.core.system e) m.memory p) (entered h.core.system e).bad_vaddr (is_delayed (entered h.core.system e)) (process_of m p).pc p m (with_registers m p (settled h.core.registers))
-      → Stands (record h { core = core_at_vector h.core e }) m
-  general_enters general promise =
+      → Agrees (record h { core = core_at_vector h.core e }) m
+  general_enters general ends promise =
       let pc : (core_at_vector h.core e).pc ≡ 0x80000080 = ap (λ (b : Bool). cond b 0x80000000 0x80000080) general in
       let a : InService (core_at_vector h.core e) p m = record {
         mode = status_told h.core.system e ∙ ap pushed mode;
@@ -113,21 +114,23 @@ module _ (h : Held) (m : State) (p : ℕ) (rest : List ℕ) (e : Exception) (k :
         owed = owed;
         epc = epc_told h.core.system e ∙ at;
         registers = units;
+        ends = ends pc;
         promise = promise;
       } in
       same_state h m p rest k ready (core_at_vector h.core e) k.represented.buffer (base_entered h.core.system e k.base) (set_entered h.core.system e asid set)
       (in_service (core_at_vector h.core e) h.kept p m pc a)
 
   pub enters : (vector e ≡ 0x80000000 → IsMiss h.core e)
+      → (vector e ≡ 0x80000080 → EndsUnit m.memory p (entered h.core.system e).bad_vaddr (told (entered h.core.system e) m.memory p))
       → Promise (told (entered h.core.system e) m.memory p) (entered h.core.system e).bad_vaddr (is_delayed (entered h.core.system e)) (process_of m p).pc p m (with_registers m p (settled h.core.registers))
-      → Stands (record h { core = core_at_vector h.core e }) m
-  enters miss promise = elim (cases_Bool (e.miss && is_kuseg e.addr)) [
+      → Agrees (record h { core = core_at_vector h.core e }) m
+  enters miss ends promise = elim (cases_Bool (e.miss && is_kuseg e.addr)) [
     | inl refill ↦ miss_enters (miss (ap (λ (b : Bool). cond b 0x80000000 0x80000080) refill))
-    | inr general ↦ general_enters general promise
+    | inr general ↦ general_enters general ends promise
   ]
 
 -- in a unit the machine owes no boundary where the station's state owes none, and Status is a user's
-module _ (h : Held) (m : State) (p : ℕ) (rest : List ℕ) (k : Stands h m) (ready : h.kept.state.ready ≡ p ∷ rest) where
+module _ (h : Held) (m : State) (p : ℕ) (rest : List ℕ) (k : Agrees h m) (ready : h.kept.state.ready ≡ p ∷ rest) where
   pub none_owed : h.kept.state.owed ≡ None → m.owed ≡ None
   none_owed owed = ap (λ (s : State). s.owed) (kept h m p rest k ready).state ∙ owed
 

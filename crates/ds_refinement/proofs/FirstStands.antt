@@ -1,5 +1,5 @@
 -- At the beginning of a run the station stands for the first state.
-use Rattle.std.proofs.Common.{◌≡◌, ℕ, ◌+◌, ◌-◌, ◌/◌, ◌<◌, ◌^◌, Bool, true, false, List, [], ◌∷◌, length, refl, sym, ap, subst, arith, inl}
+use Rattle.std.proofs.Common.{◌≡◌, ℕ, ◌+◌, ◌-◌, ◌/◌, ◌<◌, ◌≤◌, ◌^◌, Bool, true, false, List, [], ◌∷◌, length, refl, sym, ap, subst, arith, inl}
 use Rattle.std.specs.Prelude.{nat_lt, ◌==◌, ◌&&◌, not}
 use Rattle.std.proofs.lemmas.Bool.Decides.{nat_tests}
 use Rattle.std.proofs.lemmas.List.{map-set}
@@ -19,9 +19,13 @@ use Rattle.ds_pagemap.specs.Machine.{State, Process, no_process, process_of}
 use Rattle.ds_pagemap.specs.Boundary.{has_passed}
 use Rattle.ds_pagemap.specs.First.{first_state}
 use Rattle.ds_pagemap_laws.specs.Settled.{settled_process}
-use Rattle.ds_refinement.specs.Held.{Held, Kept, bare, vacated, space_of}
+use Rattle.ds_refinement.specs.Held.{Held, Kept, Own, bare, vacated, space_of}
 use Rattle.ds_refinement.specs.Handling.{HasBase}
-use Rattle.ds_refinement.specs.Stands.{Stands, KeptIs, RunningBy, AreResting}
+use Rattle.ds_refinement.specs.Stands.{Stands, CountedBy, KeptIs, RunningBy, AreResting}
+use Rattle.ds_cp0.specs.System.{is_user}
+use Rattle.ds_refinement.specs.Needs.{pages_of}
+use Rattle.ds_refinement.specs.Counts.{counts_of, may_write, fresh, HasNone, HasRanges}
+use Rattle.ds_refinement.proofs.Tallied.{none_tallied}
 use Rattle.ds_refinement.specs.First.{IsFirst, first_core, first_bus, first_kept}
 
 -- a state without who runs is kept as the bare state without it
@@ -39,6 +43,11 @@ none_passed rate now = by (not (rate == 0))
     by : (b : Bool) → (b && nat_lt (now / 2 ^ (rate + 2)) (now / 2 ^ (rate + 2))) ≡ false
     by true = same (now / 2 ^ (rate + 2))
     by false = refl
+
+-- nothing is counted, whoever is ready
+first_tallied : (queue : List ℕ) (c : CoreState) (own : Own) (k : Kept) (m : State) → is_user c.system ≡ true → c.slot ≡ false → HasNone own → HasRanges c (counts_of own) → CountedBy queue c own k m
+first_tallied [] c own k m user outside none ranges = (none, ranges)
+first_tallied (p ∷ rest) c own k m user outside none ranges = none_tallied c own (may_write k p) (pages_of m p) user outside none ranges
 
 module _ (policy : PolicyValue) (images : List (List ℕ)) (input : InputValue) (start : ℕ) (memory : List ℕ) (tables : Places) where
   abbrev m : State
@@ -66,25 +75,31 @@ module _ (policy : PolicyValue) (images : List (List ℕ)) (input : InputValue) 
   resting : AreResting (first_bus memory policy.rate) k
   resting = record { serial = refl; clock = refl; system = refl; ticked = omega arith; period = none_passed policy.rate 0 }
 
-pub first_stands : (policy : PolicyValue) (images : List (List ℕ)) (input : InputValue) (start : ℕ) (h : Held) → 0 < length policy.processes → NamesPages (first_grants policy) → IsFirst policy images input start h → Stands h (first_state policy images input)
-first_stands policy images input start h some named f =
+pub first_stands : (policy : PolicyValue) (images : List (List ℕ)) (input : InputValue) (start : ℕ) (h : Held) → 0 < length policy.processes → NamesPages (first_grants policy) → 8 ≤ start → start < 64 → IsFirst policy images input start h → Stands h (first_state policy images input)
+first_stands policy images input start h some named low high f =
     let memory : List ℕ = h.bus.memory in
     let t : Places = h.kept.tables in
     let core : CoreState = first_core (empty_entries 64) start (process_of (first_state policy images input) 1).pc in
     let k : Kept = first_kept policy images input t in
     record {
-      represented = record {
-        buffer = subst (λ (c : CoreState). BufferHolds c.entries (space_of h.kept) h.kept.grants t) (sym f.core) (empty_buffer 64 (space_of h.kept) h.kept.grants t (omega arith));
-        words = subst (λ (x : Kept). WordsHold memory t x.grants) (sym f.kept) f.tables.words;
-        places = f.tables.places;
-        empty = f.tables.empty;
+      agrees = record {
+        represented = record {
+          buffer = subst (λ (c : CoreState). BufferHolds c.entries (space_of h.kept) h.kept.grants t) (sym f.core) (empty_buffer 64 (space_of h.kept) h.kept.grants t (omega arith));
+          words = subst (λ (x : Kept). WordsHold memory t x.grants) (sym f.kept) f.tables.words;
+          places = f.tables.places;
+          empty = f.tables.empty;
+        };
+        vectors = f.vectors;
+        base = subst (λ (c : CoreState). HasBase c.system) (sym f.core) (record { tables = refl; whole = refl });
+        grants = subst (λ (x : Kept). NamesPages x.grants) (sym f.kept) named;
+        size = f.size;
+        kept = subst (λ (x : Kept). KeptIs x.state.ready x memory (first_state policy images input)) (sym f.kept) (kept policy images input start memory t f.pages);
+        running = subst (λ (x : Kept). RunningBy x.state.ready h.core x (first_state policy images input)) (sym f.kept)
+            (subst (λ (c : CoreState). RunningBy k.state.ready c k (first_state policy images input)) (sym f.core) (running policy images input start memory t policy.processes some refl));
+        devices = subst (λ (x : Kept). AreResting h.bus x) (sym f.kept) (subst (λ (b : BusState). AreResting b k) (sym f.bus) (resting policy images input start memory t));
       };
-      vectors = f.vectors;
-      base = subst (λ (c : CoreState). HasBase c.system) (sym f.core) (record { tables = refl; whole = refl });
-      grants = subst (λ (x : Kept). NamesPages x.grants) (sym f.kept) named;
-      size = f.size;
-      kept = subst (λ (x : Kept). KeptIs x.state.ready x memory (first_state policy images input)) (sym f.kept) (kept policy images input start memory t f.pages);
-      running = subst (λ (x : Kept). RunningBy x.state.ready h.core x (first_state policy images input)) (sym f.kept)
-          (subst (λ (c : CoreState). RunningBy k.state.ready c k (first_state policy images input)) (sym f.core) (running policy images input start memory t policy.processes some refl));
-      devices = subst (λ (x : Kept). AreResting h.bus x) (sym f.kept) (subst (λ (b : BusState). AreResting b k) (sym f.bus) (resting policy images input start memory t));
+      counted = first_tallied h.kept.state.ready h.core h.own h.kept (first_state policy images input)
+          (ap (λ (c : CoreState). is_user c.system) f.core) (ap (λ (c : CoreState). c.slot) f.core) (subst HasNone (sym f.own) refl)
+          (subst (λ (o : Own). HasRanges h.core (counts_of o)) (sym f.own)
+          (subst (λ (c : CoreState). HasRanges c (fresh 0)) (sym f.core) (record { size = refl; low = low; high = high; turn = omega arith })));
     }

@@ -1,5 +1,5 @@
 -- In kernel mode at the vector of misses the processor is before the handler's first word, and nine words lead back to the unit.
-use Rattle.std.proofs.Common.{◌≡◌, ◌≢◌, ℕ, ◌+◌, ◌*◌, ◌/◌, ◌%◌, ◌^◌, ◌<◌, ◌≤◌, ◌==◌, true, false, List, [], ◌∷◌, Option, Some, None, refl, sym, ap, ap₂, subst, ◌∙◌, arith}
+use Rattle.std.proofs.Common.{◌≡◌, ◌≢◌, ℕ, suc, ◌+◌, ◌*◌, ◌/◌, ◌%◌, ◌^◌, ◌<◌, ◌≤◌, ◌==◌, true, false, List, [], ◌∷◌, Option, Some, None, refl, sym, ap, ap₂, subst, ◌∙◌, arith}
 use Rattle.std.proofs.lemmas.Bool.Decides.{nat_tests}
 use Rattle.std.specs.Prelude.{nat_lt, Err}
 use Rattle.ds_word.specs.Word.{word, bits}
@@ -28,7 +28,7 @@ use Rattle.ds_grants.specs.Words.{granted_word}
 use Rattle.ds_pagemap.specs.Machine.{State}
 use Rattle.ds_refinement.specs.Held.{Held, Kept, space_of}
 use Rattle.ds_refinement.specs.Handling.{Phase, AtContext, AtAddress, AtLoad, AtPause, AtMove, AtClear, AtWrite, AtJump, AtReturn, InHandler}
-use Rattle.ds_refinement.specs.Stands.{RunningIs, Stands, IsSound}
+use Rattle.ds_refinement.specs.Stands.{RunningIs, Agrees, IsSound}
 use Rattle.ds_refinement.proofs.Fields.{space_in, IsWord, word_is_word}
 use Rattle.ds_refinement.proofs.Loads.{table_hit, table_miss_is, table_below}
 use Rattle.ds_refinement.proofs.Standing.{first_ready, runs, few}
@@ -51,14 +51,14 @@ is_high : (n : ℕ) → 2 ^ 31 ≤ n → nat_lt n (2 ^ 31) ≡ false
 is_high n above = grind (arith, nat_tests)
 
 -- steps with the same events from one processor lead to one
-same_end : (es : List Event) (c : CoreState) (b : BusState) (t u : CoreState) → RunsInside es c b t → RunsInside es c b u → t ≡ u
-same_end [] c b t u x y = x ∙ sym y
-same_end (e ∷ es) c b t u x y =
-    let next : x.2.0 ≡ y.2.0 = ap (λ (s : Step). s.core) (sym x.2.1 ∙ y.2.1) in
-    same_end es y.2.0 b t u (subst (λ (s : CoreState). RunsInside es s b t) next x.2.2) y.2.2
+same_end : (n : ℕ) (es : List Event) (c : CoreState) (b : BusState) (t u : CoreState) → RunsInside n es c b t → RunsInside n es c b u → t ≡ u
+same_end n [] c b t u x y = x ∙ sym y
+same_end n (e ∷ es) c b t u x y =
+    let next : x.3.0 ≡ y.3.0 = ap (λ (s : Step). s.core) (sym x.3.1 ∙ y.3.1) in
+    same_end (suc n) es y.3.0 b t u (subst (λ (s : CoreState). RunsInside (suc n) es s b t) next x.3.3) y.3.3
 
 -- A station that stands for m, whose first ready process is p, and whose processor is in kernel mode at the vector of misses.
-module _ (h : Held) (m : State) (p : ℕ) (rest : List ℕ) (k : Stands h m) (ready : h.kept.state.ready ≡ p ∷ rest) (user : is_user h.core.system ≡ false) (at : h.core.pc ≡ 0x80000000) where
+module _ (h : Held) (m : State) (p : ℕ) (rest : List ℕ) (k : Agrees h m) (ready : h.kept.state.ready ≡ p ∷ rest) (user : is_user h.core.system ≡ false) (at : h.core.pc ≡ 0x80000000) where
   abbrev c : CoreState
   c = h.core
 
@@ -106,7 +106,7 @@ module _ (h : Held) (m : State) (p : ℕ) (rest : List ℕ) (k : Stands h m) (re
       }
 
   -- where it isn't, the third word is not done
-  misses : (t : CoreState) → find h.core.entries (0xC0000 + before.vpn / 1024) (space_of h.kept p) ≡ None → RunsInside handler_events h.core h.bus t → ⊥
+  misses : (t : CoreState) → find h.core.entries (0xC0000 + before.vpn / 1024) (space_of h.kept p) ≡ None → RunsInside 0 handler_events h.core h.bus t → ⊥
   misses t found run =
       let s : System = h.core.system in
       let r : Registers = before.base in
@@ -119,22 +119,22 @@ module _ (h : Held) (m : State) (p : ℕ) (rest : List ℕ) (k : Stands h m) (re
       let v : CoreState = at_word 0x80000008 0x8000000C false (lent r s.context s.epc (late_of 27 y)) s h.core.entries (ticked 64 8 (ticked 64 8 h.core.random)) in
       let first : step h.core h.bus ≡ record { event = Retired; core = u; bus = h.bus } =
       ap (λ (d : CoreState). step d h.bus) is ∙ word_0 r x y s h.core.entries h.core.random h.bus k.vectors in_kernel long in
-      let to_u : run.2.0 ≡ u = ap (λ (d : Step). d.core) (sym run.2.1 ∙ first) in
-      let second : step run.2.0 h.bus ≡ record { event = Retired; core = v; bus = h.bus } =
+      let to_u : run.3.0 ≡ u = ap (λ (d : Step). d.core) (sym run.3.1 ∙ first) in
+      let second : step run.3.0 h.bus ≡ record { event = Retired; core = v; bus = h.bus } =
       ap (λ (d : CoreState). step d h.bus) to_u ∙ word_1 r s.context y (late_of 26 x) s h.core.entries (ticked 64 8 h.core.random) h.bus k.vectors in_kernel long in
-      let next = run.2.2 in
-      let to_v : next.2.0 ≡ v = ap (λ (d : Step). d.core) (sym next.2.1 ∙ second) in
-      let last = next.2.2 in
+      let next = run.3.3 in
+      let to_v : next.3.0 ≡ v = ap (λ (d : Step). d.core) (sym next.3.1 ∙ second) in
+      let last = next.3.3 in
       let high : nat_lt h.core.system.context (2 ^ 31) ≡ false = is_high h.core.system.context (let where_is = before.context in omega (arith, where_is)) in
       let reach : translate h.core.entries (asid_of h.core.system) Kernel Load h.core.system.context ≡ Err Refill =
       ap₂ (λ (a n : ℕ). translate h.core.entries a Kernel Load n) space before.context ∙ table_miss_is h.core.entries (space_of h.kept p) before.vpn before.user found in
-      let third : step next.2.0 h.bus ≡ record { event = Raised LoadMiss; core = at_word 0x80000080 0x80000084 false (lent r s.context s.epc None) (entered s (table_miss s.context)) h.core.entries (ticked 64 8 (ticked 64 8 (ticked 64 8 h.core.random))); bus = h.bus } =
+      let third : step next.3.0 h.bus ≡ record { event = Raised LoadMiss; core = at_word 0x80000080 0x80000084 false (lent r s.context s.epc None) (entered s (table_miss s.context)) h.core.entries (ticked 64 8 (ticked 64 8 (ticked 64 8 h.core.random))); bus = h.bus } =
       ap (λ (d : CoreState). step d h.bus) to_v ∙ word_2_misses r s.context s.epc y s h.core.entries (ticked 64 8 (ticked 64 8 h.core.random)) h.bus k.vectors in_kernel long small aligned high reach in
-      let no : Retired ≡ Raised LoadMiss = ap (λ (d : Step). d.event) (sym last.2.1 ∙ third) in
+      let no : Retired ≡ Raised LoadMiss = ap (λ (d : Step). d.event) (sym last.3.1 ∙ third) in
       absurd cc
 
   -- after nine words that are all done the mode is a user's
-  pub comes_back : (t : CoreState) → RunsInside handler_events h.core h.bus t → is_user t.system ≡ true
+  pub comes_back : (t : CoreState) → RunsInside 0 handler_events h.core h.bus t → is_user t.system ≡ true
   comes_back t run = by (find h.core.entries (0xC0000 + before.vpn / 1024) (space_of h.kept p)) refl
     where
       by : (found : Option ℕ) → find h.core.entries (0xC0000 + before.vpn / 1024) (space_of h.kept p) ≡ found → is_user t.system ≡ true
@@ -142,7 +142,7 @@ module _ (h : Held) (m : State) (p : ℕ) (rest : List ℕ) (k : Stands h m) (re
       by (Some slot) found =
           let w : ℕ = granted_word h.kept.grants p before.vpn in
           let whole = at_once_runs h.core h.bus w k.vectors in_kernel at next_is before.slot none_late before.whole.size before.whole.nought (loads slot found) in
-          ap (λ (d : CoreState). is_user d.system) (same_end handler_events h.core h.bus t (after_refill h.core w) run whole)
+          ap (λ (d : CoreState). is_user d.system) (same_end 0 handler_events h.core h.bus t (after_refill h.core w) run whole)
           ∙ ap (λ (n : ℕ). is_user (returned (record h.core.system { status = n }))) before.status
 
 -- The same of a station that stands for some state.
@@ -151,25 +151,25 @@ module _ (h : Held) (sound : IsSound h) (some : h.kept.state.ready ≢ []) (user
   first = first_ready h.kept.state.ready some
 
   stage : InHandler AtContext h.core h.kept first.0 sound.state
-  stage = before h sound.state first.0 first.1 sound.stands first.2 user at
+  stage = before h sound.state first.0 first.1 sound.stands.agrees first.2 user at
 
   pub first_kernel : IsKernel h.core.system
   first_kernel = kernel h.core.system stage.status
 
   pub first_next : h.core.next ≡ 0x80000004
-  first_next = next_is h sound.state first.0 first.1 sound.stands first.2 user at
+  first_next = next_is h sound.state first.0 first.1 sound.stands.agrees first.2 user at
 
   pub first_slot : h.core.slot ≡ false
   first_slot = stage.slot
 
   pub first_late : h.core.registers.late ≡ None
-  first_late = none_late h sound.state first.0 first.1 sound.stands first.2 user at
+  first_late = none_late h sound.state first.0 first.1 sound.stands.agrees first.2 user at
 
-  pub back_to_user : (t : CoreState) → RunsInside handler_events h.core h.bus t → is_user t.system ≡ true
-  back_to_user t run = comes_back h sound.state first.0 first.1 sound.stands first.2 user at t run
+  pub back_to_user : (t : CoreState) → RunsInside 0 handler_events h.core h.bus t → is_user t.system ≡ true
+  back_to_user t run = comes_back h sound.state first.0 first.1 sound.stands.agrees first.2 user at t run
 
 pub first_words : (h : Held) → IsSound h → HasWords h.bus.memory
-first_words h sound = sound.stands.vectors
+first_words h sound = sound.stands.agrees.vectors
 
-pub refill_user : (h : Held) (t : CoreState) → IsSound h → h.kept.state.ready ≢ [] → is_user h.core.system ≡ false → h.core.pc ≡ 0x80000000 → RunsInside handler_events h.core h.bus t → is_user t.system ≡ true
+pub refill_user : (h : Held) (t : CoreState) → IsSound h → h.kept.state.ready ≢ [] → is_user h.core.system ≡ false → h.core.pc ≡ 0x80000000 → RunsInside 0 handler_events h.core h.bus t → is_user t.system ≡ true
 refill_user h t sound some user at run = back_to_user h sound some user at t run

@@ -17,11 +17,11 @@ use Rattle.ds_refinement.specs.declared.step.Step.{Step}
 use Rattle.ds_refinement.specs.Held.{Held}
 use Rattle.ds_refinement.specs.Stands.{IsSound}
 use Rattle.ds_refinement.specs.Steps.{Follows, Moves}
-use Rattle.ds_refinement.specs.Services.{after_event, with_one_spent, with_step}
+use Rattle.ds_refinement.specs.Services.{after_event, after_word}
 use Rattle.ds_refinement.specs.Told.{told}
 use Rattle.ds_refinement.specs.Pairs.{HasNoNewPairs}
-use Rattle.ds_refinement.specs.Units.{has_left_user, is_served}
-use Rattle.ds_refinement.specs.Real.{EndsUnit, GoesBack, GoesBackBy, HasUnit, IsReal, MayGoBack, RealPath, StopsBy, Through}
+use Rattle.ds_refinement.specs.Units.{EndsUnit, has_left_user, is_served}
+use Rattle.ds_refinement.specs.Real.{GoesBack, GoesBackBy, HasUnit, IsReal, MayGoBack, RealPath, StopsBy, Through}
 
 pub one_step : (kind : Step) (old new : Held) → Follows kind old new → Moves kind old new → IsReal old new → RealPath old new
 one_step kind old new f m r = record { path = old ∷ []; through = ((kind, f, m, r), refl) }
@@ -34,7 +34,7 @@ pub path_join : (old between new : Held) → RealPath old between → RealPath b
 path_join old between new a b = record { path = b.path ++ a.path; through = through_both old between new a.path b.path a.through b.through }
 
 -- a state is left that the station stands for
-after : (step : Step) (old new : Held) → IsSound old → Follows step old new → IsSound new
+pub after : (step : Step) (old new : Held) → IsSound old → Follows step old new → IsSound new
 after step old new s f = let t = f.follows s.state s.stands in record { state = t.0; stands = t.2 }
 
 sound_through : (old new : Held) (path : List Held) → IsSound old → Through old path new → IsSound new
@@ -54,14 +54,14 @@ taken h new event has user is = record {
 }
 
 -- an instruction of a unit
-pub instruction_real : (e : Event) (h : Held) (s : core.Step) → HasUnit h → is_served h.core ≡ false → effect.step h.core h.bus ≡ (record { event = e; core = s.core; bus = s.bus }) → IsReal h (after_event e (with_one_spent h) s)
-instruction_real Retired h s has user is = taken h (after_event Retired (with_one_spent h) s) Retired has user is
-instruction_real Branched h s has user is = taken h (after_event Branched (with_one_spent h) s) Branched has user is
-instruction_real (Raised code) h s has user is = taken h (after_event (Raised code) (with_one_spent h) s) (Raised code) has user is
+pub instruction_real : (e : Event) (h : Held) (s : core.Step) → HasUnit h → is_served h.core ≡ false → effect.step h.core h.bus ≡ (record { event = e; core = s.core; bus = s.bus }) → IsReal h (after_event e h s)
+instruction_real Retired h s has user is = taken h (after_event Retired h s) Retired has user is
+instruction_real Branched h s has user is = taken h (after_event Branched h s) Branched has user is
+instruction_real (Raised code) h s has user is = taken h (after_event (Raised code) h s) (Raised code) has user is
 
 -- a word of the handler
-pub word_real : (h : Held) → HasUnit h → is_served h.core ≡ false → IsReal h (with_step (with_one_spent h) (effect.step h.core h.bus))
-word_real h has user = taken h (with_step (with_one_spent h) (effect.step h.core h.bus)) (effect.step h.core h.bus).event has user refl
+pub word_real : (h : Held) → HasUnit h → is_served h.core ≡ false → IsReal h (after_word h (effect.step h.core h.bus))
+word_real h has user = taken h (after_word h (effect.step h.core h.bus)) (effect.step h.core h.bus).event has user refl
 
 -- a service that ends its unit, where the exception came from user mode and what was told ends it
 pub end_real : (h new : Held) (p : ℕ) (rest : List ℕ) (why : Cause) → h.kept.state.ready ≡ p ∷ rest → is_served h.core ≡ true → has_left_user h.core ≡ true

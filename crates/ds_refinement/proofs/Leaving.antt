@@ -5,6 +5,7 @@ use Rattle.std.specs.Prelude.{nat_le, ◌==◌, ◌&&◌}
 use Rattle.ds_isa.specs.declared.instr.Size.{Size}
 use Rattle.ds_isa.specs.declared.instr.Kind.{Kind}
 use Rattle.ds_policy.specs.declared.access.Verdict.{Verdict}
+use Rattle.ds_policy.specs.declared.access.Verdict.TheVariants.{Allowed, Denied}
 use Rattle.ds_policy.specs.Pages.{decide}
 use Rattle.ds_policy.specs.Grants.{PageState}
 use Rattle.ds_amap.specs.declared.map.Fault.{Fault}
@@ -19,6 +20,7 @@ use Rattle.ds_refinement.specs.declared.cause.Cause.{Cause}
 use Rattle.ds_refinement.specs.declared.cause.Cause.TheVariants as cause
 use Rattle.ds_refinement.specs.Told.{code_in, own_in, kind_told, size_told, size_at, system_behind, told}
 use Rattle.ds_refinement.specs.Leaves.{Leaves}
+use Rattle.ds_refinement.specs.Units.{EndsUnit}
 use Rattle.ds_refinement.proofs.Exceptions.{code_told, own_told, address_told}
 use Rattle.ds_refinement.proofs.Refusals.{least_code, most_code}
 
@@ -98,6 +100,33 @@ leaves_access c k size address fault p pages f kind answer =
     ∙ ap (λ (x : Kind). Stopped (record { kind = denied_as x; address = address; rule = rule; code = code })) (sym kind) in
     subst (λ (why : Cause). Leaves why s.bad_vaddr c.slot c.pc p pages o) (sym is)
     (subst (λ (a : ℕ). Leaves (cause.Access (record { kind = kind_told s; size = size_told s (size_at pages p (own_in s)) })) a c.slot c.pc p pages o) (sym bad) at)
+
+-- What was told ends the unit.
+
+pub ends_fault : (s : System) (e : Exception) (code p : ℕ) (pages : PageState) → number_of e.code ≡ code → IsFaultCode code → EndsUnit pages p (entered s e).bad_vaddr (told (entered s e) pages p)
+ends_fault s e code p pages is tests = subst (EndsUnit pages p (entered s e).bad_vaddr) (sym (fault_told s e pages p code is tests)) tt
+
+pub ends_call : (s : System) (e : Exception) (p : ℕ) (pages : PageState) → number_of e.code ≡ 8 → EndsUnit pages p (entered s e).bad_vaddr (told (entered s e) pages p)
+ends_call s e p pages is = subst (EndsUnit pages p (entered s e).bad_vaddr) (sym (call_told s e pages p is)) tt
+
+-- a refused access, which the table doesn't allow, and of which it answers what is told alike
+pub ends_access : (c : CoreState) (k : Kind) (size : Size) (address : ℕ) (fault : Fault) (p : ℕ) (pages : PageState)
+    → let s = system_behind c k address fault in
+    decide pages.table p (kind_told s) (size_told s (size_at pages p (own_in s))) address ≡ decide pages.table p k size address
+    → ((page offset : ℕ) → decide pages.table p k size address ≡ Allowed page offset → ⊥) → EndsUnit pages p s.bad_vaddr (told s pages p)
+ends_access c k size address fault p pages answer never =
+    let s = system_behind c k address fault in
+    let is : told s pages p ≡ cause.Access (record { kind = kind_told s; size = size_told s (size_at pages p (own_in s)) }) = access_told s pages p (least_code c k address fault) (most_code c k address fault) in
+    let bad : s.bad_vaddr ≡ address = address_told c.system (refusal c k address fault) address refl in
+    subst (EndsUnit pages p s.bad_vaddr) (sym is)
+    (subst (λ (a : ℕ). EndsUnit pages p a (cause.Access (record { kind = kind_told s; size = size_told s (size_at pages p (own_in s)) }))) (sym bad)
+    (by (decide pages.table p k size address) refl answer))
+  where
+    by : (v : Verdict) → decide pages.table p k size address ≡ v
+        → decide pages.table p (kind_told (system_behind c k address fault)) (size_told (system_behind c k address fault) (size_at pages p (own_in (system_behind c k address fault)))) address ≡ decide pages.table p k size address
+        → EndsUnit pages p address (cause.Access (record { kind = kind_told (system_behind c k address fault); size = size_told (system_behind c k address fault) (size_at pages p (own_in (system_behind c k address fault))) }))
+    by (Allowed page offset) is answer = absurd (never page offset is)
+    by (Denied rule code) is answer = (rule, code, answer ∙ is)
 
 -- the instruction itself stands at pc
 pub own_behind : (c : CoreState) (k : Kind) (address : ℕ) (fault : Fault) → c.pc < 2 ^ 32 → own_in (system_behind c k address fault) ≡ c.pc

@@ -6,6 +6,7 @@ pub mod Spaces
 pub mod Lookups
 pub mod Registers
 pub mod Links
+pub mod Denials
 pub mod Leaving
 pub mod Meets
 pub mod Resting
@@ -25,6 +26,13 @@ pub mod Fields
 pub mod Loads
 pub mod Standing
 pub mod Touches
+pub mod Walk
+pub mod Needed
+pub mod AskedFor
+pub mod CourseWords
+pub mod NineWords
+pub mod Tallied
+pub mod WordTallies
 pub mod Words
 pub mod Doubles
 pub mod Entered

@@ -33,7 +33,7 @@ table_below t p r a = frame_by t p r (place_of t p r) a refl
 abbrev pub page_entry : ℕ → ℕ → ℕ → Entry
 page_entry vpn asid frame = entry_of (hi_of vpn asid) (read_only frame)
 
-is_valid : (vpn asid frame : ℕ) → (page_entry vpn asid frame).v ≡ true
+pub is_valid : (vpn asid frame : ℕ) → (page_entry vpn asid frame).v ≡ true
 is_valid vpn asid frame = let e : bits (read_only frame) 9 1 ≡ 1 = omega arith in ap (λ (n : ℕ). n == 1) e
 
 in_frame : (vpn asid frame addr : ℕ) → frame < 402 → place (page_entry vpn asid frame) addr ≡ frame * 2 ^ 12 + addr % 2 ^ 12
@@ -48,7 +48,7 @@ keys : (vpn asid : ℕ) (e : Entry) → e.g ≡ false → matches vpn asid e ≡
 keys vpn asid e g m = (grind (arith, nat_tests), grind (arith, nat_tests))
 
 -- what is found is the process's page of a table
-found_entry : (entries : List Entry) (numbers : ℕ → ℕ) (g : GrantsState) (t : Places) (p r slot : ℕ) → BufferHolds entries numbers g t → 0 < p → 0 < numbers p
+pub found_entry : (entries : List Entry) (numbers : ℕ → ℕ) (g : GrantsState) (t : Places) (p r slot : ℕ) → BufferHolds entries numbers g t → 0 < p → 0 < numbers p
     → find entries (0xC0000 + r) (numbers p) ≡ Some slot → slice_get entries slot ≡ Some (page_entry (0xC0000 + r) (numbers p) (page_of_table t p r))
 found_entry entries numbers g t p r slot k running some found =
     let asid : ℕ = numbers p in

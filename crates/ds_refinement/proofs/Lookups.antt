@@ -46,7 +46,7 @@ both true b e = (refl, e)
 both false b e = absurd cc
 
 -- what is found is of the page and of the address space
-found_of : (entries : List Entry) (vpn asid slot : ℕ) (e : Entry) → find entries vpn asid ≡ Some slot → slice_get entries slot ≡ Some e → e.g ≡ false → (e.vpn ≡ vpn) × (e.asid ≡ asid)
+pub found_of : (entries : List Entry) (vpn asid slot : ℕ) (e : Entry) → find entries vpn asid ≡ Some slot → slice_get entries slot ≡ Some e → e.g ≡ false → (e.vpn ≡ vpn) × (e.asid ≡ asid)
 found_of entries vpn asid slot e found at own =
     let read = get_or_from_slice_get entries slot e e at in
     let m : matches vpn asid (get_or entries slot e) ≡ true = (position-Some (matches vpn asid) entries slot e found).1 in
@@ -83,7 +83,7 @@ pub record LetsGo (g : GrantsState) (o : Option Grant) (access : Kind) (address 
   pub lies : place ≡ frame_of_page g page % 2 ^ 20 * 2 ^ 12 + address % 2 ^ 12
 
 -- the frame and the flags of a page's word
-frame_flags : (frame : ℕ) (d : Bool) → let w = frame * 2 ^ 12 + bit 10 d + bit 9 true in (bits w 12 20 ≡ frame % 2 ^ 20) × ((bits w 10 1 == 1) ≡ d) × ((bits w 9 1 == 1) ≡ true)
+pub frame_flags : (frame : ℕ) (d : Bool) → let w = frame * 2 ^ 12 + bit 10 d + bit 9 true in (bits w 12 20 ≡ frame % 2 ^ 20) × ((bits w 10 1 == 1) ≡ d) × ((bits w 9 1 == 1) ≡ true)
 frame_flags frame true = (omega arith, grind (arith, nat_tests), grind (arith, nat_tests))
 frame_flags frame false = (omega arith, grind (arith, nat_tests), grind (arith, nat_tests))
 
@@ -125,7 +125,7 @@ module _ (g : GrantsState) (hi address : ℕ) (access : Kind) (there : Physical)
   word_goes None is = absurd (none_goes 0 refl is)
   word_goes (Some grant) is = named_goes grant grant.page (Some grant) refl refl is
 
-page_of_number : (address vpn : ℕ) → vpn ≡ address / 2 ^ 12 → address - address % 4096 ≡ vpn * 2 ^ 12
+pub page_of_number : (address vpn : ℕ) → vpn ≡ address / 2 ^ 12 → address - address % 4096 ≡ vpn * 2 ^ 12
 page_of_number address vpn is = omega arith
 
 -- An access of a user, whose process has this address space.

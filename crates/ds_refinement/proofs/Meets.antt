@@ -44,7 +44,7 @@ use Rattle.ds_core.specs.Effect as whole
 use Rattle.ds_pagemap.specs.Machine.{State, process_of}
 use Rattle.ds_pagemap.specs.Unit.{Outcome, Went, Branched, Called, Stopped, instruction, done, where_allowed, with_registers, stored, fault}
 use Rattle.ds_refinement.specs.Told.{own_in, kind_told, size_told, size_at, size_on, system_behind, told}
-use Rattle.ds_refinement.specs.Units.{user_status}
+use Rattle.ds_refinement.specs.Units.{user_status, EndsUnit}
 use Rattle.ds_refinement.specs.Handling.{IsMiss}
 use Rattle.ds_refinement.specs.Real.{IsNoBusError}
 use Rattle.ds_refinement.specs.Held.{Kept, space_of}
@@ -53,7 +53,8 @@ use Rattle.ds_refinement.specs.Leaves.{Leaves}
 use Rattle.ds_refinement.proofs.Frames.{word_of_page, state_stored, size_stored}
 use Rattle.ds_refinement.proofs.Lookups.{user_reaches, user_misses}
 use Rattle.ds_refinement.proofs.Refusals.{load_kind, load_answer, store_kind, store_answer, fetch_kind, fetch_answer}
-use Rattle.ds_refinement.proofs.Leaving.{IsFaultCode, leaves_fault, leaves_branch, leaves_call, leaves_access, own_behind}
+use Rattle.ds_refinement.proofs.Denials.{refused_denied}
+use Rattle.ds_refinement.proofs.Leaving.{IsFaultCode, leaves_fault, leaves_branch, leaves_call, leaves_access, ends_fault, ends_call, ends_access, own_behind}
 
 -- the processor with Random counted down
 abbrev pub counted : CoreState → CoreState
@@ -80,6 +81,8 @@ pub record Turns (c : CoreState) (b : BusState) (m : State) (p : ℕ) (o : Outco
 pub record Raises (c : CoreState) (b : BusState) (m : State) (p : ℕ) (o : Outcome) (s : core.Step) : Type 0 where
   pub what : Exception
   pub leaves : Leaves (told (entered c.system what) m.memory p) (entered c.system what).bad_vaddr c.slot c.pc p m.memory o
+  -- at the general vector what was told ends the unit
+  pub ends : vector what ≡ 0x80000080 → EndsUnit m.memory p (entered c.system what).bad_vaddr (told (entered c.system what) m.memory p)
   pub pc : what.pc ≡ c.pc
   pub slot : what.slot ≡ c.slot
   -- at the vector of misses a page of the user was missed, and nobody meets a bus error
@@ -191,16 +194,24 @@ module _ (c : CoreState) (b : BusState) (k : Kept) (m : State) (p : ℕ)
 
   -- an exception that leaves the program as the machine leaves it
   left : (e : Exception) (o : Outcome) → e.pc ≡ c.pc → e.slot ≡ c.slot → Leaves (told (entered c.system e) m.memory p) (entered c.system e).bad_vaddr c.slot c.pc p m.memory o
+      → (vector e ≡ 0x80000080 → EndsUnit m.memory p (entered c.system e).bad_vaddr (told (entered c.system e) m.memory p))
       → (vector e ≡ 0x80000000 → IsMiss c e) → IsNoBusError (event.Raised e.code)
       → Meets c b k.grants m p o (with_tick (core.at_vector c b e))
-  left e o pc slot leaves missed bus = inr (inr (record { what = e; leaves = leaves; pc = pc; slot = slot; missed = missed; bus = bus; step = refl }))
+  left e o pc slot leaves ends missed bus = inr (inr (record { what = e; leaves = leaves; ends = ends; pc = pc; slot = slot; missed = missed; bus = bus; step = refl }))
 
   -- one that the buffer's refusal of an access raises
-  refused : (access : Kind) (size : Size) (address : ℕ) (fault : Fault) (o : Outcome) → reached c access size address ≡ Err fault
-      → Leaves (told (entered c.system (refusal c access address fault)) m.memory p) (entered c.system (refusal c access address fault)).bad_vaddr c.slot c.pc p m.memory o
-      → Meets c b k.grants m p o (with_tick (core.at_vector c b (refusal c access address fault)))
-  refused access size address fault o is leaves =
-      left (refusal c access address fault) o refl refl leaves (refusal_missed c access size address fault (ap (λ (w : ℕ). bits w 1 1 == 1) mode) is) (refusal_bus fault (is_store access))
+  refused : (access : Kind) (size : Size) (address : ℕ) (fault : Fault) (f : ℕ → ℕ → Outcome) → reached c access size address ≡ Err fault
+      → let s = system_behind c access address fault in
+      kind_told s ≡ access
+      → decide m.memory.table p (kind_told s) (size_told s (size_at m.memory p (own_in s))) address ≡ decide m.memory.table p access size address
+      → Meets c b k.grants m p (where_allowed (decide m.memory.table p access size address) access address f) (with_tick (core.at_vector c b (refusal c access address fault)))
+  refused access size address fault f is kind answer =
+      left (refusal c access address fault) (where_allowed (decide m.memory.table p access size address) access address f) refl refl
+      (leaves_access c access size address fault p m.memory f kind answer)
+      (λ general. ends_access c access size address fault p m.memory answer
+      (λ page offset allowed. refused_denied c k p (ap (λ (w : ℕ). bits w 1 1 == 1) mode) holds some number space access size address fault is general page offset
+      (sym (ap (λ (s : PageState). decide s.table p access size address) pages) ∙ allowed)))
+      (refusal_missed c access size address fault (ap (λ (w : ℕ). bits w 1 1 == 1) mode) is) (refusal_bus fault (is_store access))
 
   -- an instruction that leaves these registers and this memory
   puts : (o : Outcome) (after : Registers) (memory : List ℕ) → o ≡ Went (record (with_registers m p after) { memory = page_state k.grants memory }) → length memory ≡ 2 ^ 23 → IsHigh b.memory memory
@@ -217,7 +228,7 @@ module _ (c : CoreState) (b : BusState) (k : Kept) (m : State) (p : ℕ)
       let e = exception c ReservedInstruction in
       left e (Branched (with_registers m p after) target) refl refl
       (subst (λ (x : Bool). Leaves (told (entered c.system e) m.memory p) (entered c.system e).bad_vaddr x c.pc p m.memory (Branched (with_registers m p after) target)) (sym inside)
-      (leaves_branch c.system e c.pc p m.memory (with_registers m p after) target refl)) (no_vector) tt
+      (leaves_branch c.system e c.pc p m.memory (with_registers m p after) target refl)) (λ general. ends_fault c.system e 10 p m.memory refl (refl, refl)) (no_vector) tt
 
   -- the table of the machine's state allows what is granted
   allowed_here : (access : Kind) (size : Size) (address place : ℕ) (a : IsGranted k.grants p access size address place) → decide m.memory.table p access size address ≡ Allowed a.page (address % 4096)
@@ -255,9 +266,8 @@ module _ (c : CoreState) (b : BusState) (k : Kept) (m : State) (p : ℕ)
     load_meets size address after asked (Err fault) is =
         let s = system_behind c kind.Load address fault in
         let own : size_at m.memory p (own_in s) ≡ size = ap (size_at m.memory p) (own_behind c kind.Load address fault small) ∙ asked in
-        refused kind.Load size address fault _ is
-        (leaves_access c kind.Load size address fault p m.memory _ (load_kind c size address fault fetched small is fetches)
-        (ap (λ (x : Size). decide m.memory.table p (kind_told s) (size_told s x) address) own ∙ load_answer c size address fault fetched m.memory.table p small is fetches))
+        refused kind.Load size address fault _ is (load_kind c size address fault fetched small is fetches)
+        (ap (λ (x : Size). decide m.memory.table p (kind_told s) (size_told s x) address) own ∙ load_answer c size address fault fetched m.memory.table p small is fetches)
     load_meets size address after asked (Ok place) is =
         let a = granted kind.Load size address place is in
         let o : where_allowed (decide m.memory.table p kind.Load size address) kind.Load address (λ page offset. Went (with_registers m p (after (word_at (bytes_of m.memory.pages page) offset)))) ≡ Went (with_registers m p (after (word_at b.memory place.0))) =
@@ -272,9 +282,8 @@ module _ (c : CoreState) (b : BusState) (k : Kept) (m : State) (p : ℕ)
     store_meets size address after asked (Err fault) is =
         let s = system_behind c kind.Store address fault in
         let own : size_at m.memory p (own_in s) ≡ size = ap (size_at m.memory p) (own_behind c kind.Store address fault small) ∙ asked in
-        refused kind.Store size address fault _ is
-        (leaves_access c kind.Store size address fault p m.memory _ (store_kind c address fault)
-        (ap (λ (x : Size). decide m.memory.table p (kind_told s) (size_told s x) address) own ∙ store_answer c size address fault m.memory.table p is))
+        refused kind.Store size address fault _ is (store_kind c address fault)
+        (ap (λ (x : Size). decide m.memory.table p (kind_told s) (size_told s x) address) own ∙ store_answer c size address fault m.memory.table p is)
     store_meets size address after asked (Ok place) is =
         let a = granted kind.Store size address place is in
         let memory : List ℕ = with_word b.memory place.0 (after (word_at b.memory place.0)) in
@@ -293,20 +302,20 @@ module _ (c : CoreState) (b : BusState) (k : Kept) (m : State) (p : ℕ)
     effect_meets i (Stores size address after) asks code_known sized = store_meets size address after (sized ∙ ap (λ (o : Option Size). unwrap_or o Word) (sym asks)) (reached c kind.Store size address) refl
     effect_meets i (Faults code) asks code_known sized =
         let e = exception c (whole.fault_code code) in
-        left e (Stopped (fault c.pc code)) refl refl (leaves_fault c.system e c.slot code c.pc p m.memory code_known.0 code_known.1) no_vector (fault_bus code)
-    effect_meets i Calls asks code_known sized = let e = exception c SystemCall in left e Called refl refl (leaves_call c.system e c.slot c.pc p m.memory refl) no_vector tt
+        left e (Stopped (fault c.pc code)) refl refl (leaves_fault c.system e c.slot code c.pc p m.memory code_known.0 code_known.1)
+        (λ general. ends_fault c.system e code p m.memory code_known.0 code_known.1) no_vector (fault_bus code)
+    effect_meets i Calls asks code_known sized = let e = exception c SystemCall in left e Called refl refl (leaves_call c.system e c.slot c.pc p m.memory refl) (λ general. ends_call c.system e p m.memory refl) no_vector tt
     effect_meets i Privileged asks code_known sized =
         let e = unusable_exception c (unit_of i) in
-        rw (barred c (unit_of i) mode) (left e (Stopped (fault c.pc 11)) refl refl (leaves_fault c.system e c.slot 11 c.pc p m.memory refl (refl, refl)) no_vector tt)
+        rw (barred c (unit_of i) mode) (left e (Stopped (fault c.pc 11)) refl refl (leaves_fault c.system e c.slot 11 c.pc p m.memory refl (refl, refl)) (λ general. ends_fault c.system e 11 p m.memory refl (refl, refl)) no_vector tt)
 
   -- the instruction at pc, whether it is fetched or not
   fetch_meets : (r : Result Physical Fault) → reached c kind.Fetch Word c.pc ≡ r
       → Meets c b k.grants m p (where_allowed (decide m.memory.table p kind.Fetch Word c.pc) kind.Fetch c.pc (λ page offset. done m p c.pc (meaning (instruction_of (word_at (bytes_of m.memory.pages page) offset)) c.pc (process_of m p).registers)))
       (with_tick (whole.fetched_from c b r))
   fetch_meets (Err fault) is =
-      refused kind.Fetch Word c.pc fault _ is
-      (leaves_access c kind.Fetch Word c.pc fault p m.memory _ (fetch_kind c fault small is)
-      (fetch_answer c (size_at m.memory p (own_in (system_behind c kind.Fetch c.pc fault))) fault m.memory.table p small is))
+      refused kind.Fetch Word c.pc fault _ is (fetch_kind c fault small is)
+      (fetch_answer c (size_at m.memory p (own_in (system_behind c kind.Fetch c.pc fault))) fault m.memory.table p small is)
   fetch_meets (Ok place) is =
       let a = granted kind.Fetch Word c.pc place is in
       let d = allowed_here kind.Fetch Word c.pc place.0 a in

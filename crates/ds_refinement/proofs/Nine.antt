@@ -1,72 +1,124 @@
 -- A refill at once is a path of nine steps.
-use Rattle.std.proofs.Common.{◌≡◌, ◌≢◌, ℕ, suc, ◌+◌, ◌≤◌, Bool, true, false, List, [], ◌∷◌, length, None, sym, ap, ap₂, subst, arith}
-use Rattle.std.specs.Prelude.{not, ◌&&◌}
+use Rattle.std.proofs.Common.{◌≡◌, ◌≢◌, ℕ, suc, ◌+◌, ◌≤◌, Bool, true, false, List, [], ◌∷◌, None, refl, sym, ap, ap₂, subst, ◌∙◌, arith}
+use Rattle.std.specs.Prelude.{not, ◌&&◌, ◌==◌}
+use Rattle.ds_tlb.specs.Entries.{ticked, passed}
 use Rattle.ds_cp0.specs.System.{is_user}
 use Rattle.ds_core.specs.declared.event.Event.{Event}
 use Rattle.ds_core.specs.Core.{CoreState, Step}
 use Rattle.ds_core.specs.Effect.{step}
+use Rattle.ds_refill.specs.Handler.{address_of}
+use Rattle.ds_refill_laws.specs.Refill.{handler_events}
 use Rattle.ds_handler.specs.Refills.{RunsInside}
 use Rattle.ds_refinement.specs.declared.step.Step.TheVariants.{Inside}
 use Rattle.ds_refinement.specs.Held.{Held}
+use Rattle.ds_refinement.specs.Counts.{Counts, counts_of, with_counts, one_more, one_written, one_word, one_refilled}
 use Rattle.ds_refinement.specs.Units.{is_general, is_served}
-use Rattle.ds_refinement.specs.Stands.{Stands}
+use Rattle.ds_refinement.specs.Stands.{IsSound}
 use Rattle.ds_refinement.specs.Steps.{Follows, Moves}
-use Rattle.ds_refinement.specs.Services.{with_step, with_words}
+use Rattle.ds_refinement.specs.Services.{after_word, with_refill}
 use Rattle.ds_refinement.specs.Real.{IsReal, RealPath}
 use Rattle.ds_refinement.specs.Runs.{RunsWithin, held_goes_on}
-use Rattle.ds_refinement.proofs.Standing.{own_unseen}
+use Rattle.ds_refinement.proofs.Tallied.{few_of}
 use Rattle.ds_refinement.proofs.Words.{word_follows}
 use Rattle.ds_refinement.proofs.Counting.{word_moves}
-use Rattle.ds_refinement.proofs.Joined.{one_step, path_join, word_real}
+use Rattle.ds_refinement.proofs.Joined.{one_step, path_join, word_real, after}
 use Rattle.ds_refinement.proofs.RunSteps.{within_step}
 
+-- what is counted after these words, the first of which is word n, before which Random names a slot
+abbrev counted : ℕ → List Event → ℕ → Counts → Counts
+counted n [] random k = k
+counted n (e ∷ es) random k = counted (suc n) es (ticked 64 8 random) (one_word (address_of n == address_of 6) random k)
+
+-- and what is held
+abbrev reached : ℕ → List Event → Held → CoreState → Held
+reached n es h c = record h { core = c; own = with_counts h.own (counted n es h.core.random (counts_of h.own)) }
+
 -- One word, which counts.
-module _ (e : Event) (h : Held) (s : CoreState) (some : h.kept.state.ready ≢ []) (user : is_user h.core.system ≡ false) (general : is_general h.core ≡ false) (is : step h.core h.bus ≡ record { event = e; core = s; bus = h.bus }) where
-  abbrev after : Step
-  after = record { event = e; core = s; bus = h.bus }
+module _ (n : ℕ) (e : Event) (h : Held) (s : CoreState) (some : h.kept.state.ready ≢ []) (user : is_user h.core.system ≡ false) (general : is_general h.core ≡ false) (at : h.core.pc ≡ address_of n)
+    (is : step h.core h.bus ≡ record { event = e; core = s; bus = h.bus }) where
+  abbrev next : Held
+  next = record h { core = s; own = with_counts h.own (one_word (address_of n == address_of 6) h.core.random (counts_of h.own)) }
 
   unserved : is_served h.core ≡ false
   unserved = ap₂ (λ (u g : Bool). not u && g) user general
 
-  pub next_follows : Follows Inside h (with_words h s 1)
-  next_follows = record {
-    follows = λ m k.
-        let t = (word_follows h some user unserved).follows m k in
-        (t.0, t.1, own_unseen (record h { core = s }) (with_words h s 1).own t.0 (subst (λ (x : Step). Stands (with_step h x) t.0) is t.2));
-  }
+  next_is : after_word h (step h.core h.bus) ≡ next
+  next_is =
+      ap (after_word h) is
+      ∙ ap (λ (pc : ℕ). record h { core = s; own = with_counts h.own (one_word (pc == address_of 6) h.core.random (counts_of h.own)) }) at
 
-  pub next_moves : h.kept.state.owed ≡ None → h.own.spent + 1 ≤ 64 → Moves Inside h (with_words h s 1)
-  next_moves owed few = word_moves h after owed unserved few
+  pub next_follows : Follows Inside h next
+  next_follows = subst (Follows Inside h) next_is (word_follows h some user unserved)
 
-  pub next_real : h.kept.state.owed ≡ None → IsReal h (with_words h s 1)
-  next_real owed = subst (λ (x : Step). IsReal h (record h { core = x.core; bus = x.bus; own = (with_words h s 1).own })) is (word_real h (owed, some) unserved)
+  pub next_moves : IsSound h → h.kept.state.owed ≡ None → Moves Inside h next
+  next_moves sound owed =
+      let few = few_of h sound.state sound.stands in
+      let spent : h.own.spent ≤ 61 = few.spent in
+      subst (Moves Inside h) next_is (word_moves h (step h.core h.bus) owed user unserved (omega (arith, spent)))
 
--- Steps that are counted one by one are counted together.
+  pub next_real : h.kept.state.owed ≡ None → IsReal h next
+  next_real owed = subst (IsReal h) next_is (word_real h (owed, some) unserved)
 
-none_counted : (h : Held) (c : CoreState) → c ≡ h.core → with_words h c 0 ≡ h
-none_counted h c is =
-    let same : h.own.spent + 0 ≡ h.own.spent = omega arith in
-    ap₂ (λ (d : CoreState) (n : ℕ). record h { core = d; own = record h.own { spent = n } }) is same
+-- the words after the first, from where it leads
+rest_reached : (n : ℕ) (e : Event) (es : List Event) (h : Held) (s c : CoreState) → s.random ≡ ticked 64 8 h.core.random
+    → reached (suc n) es (record h { core = s; own = with_counts h.own (one_word (address_of n == address_of 6) h.core.random (counts_of h.own)) }) c ≡ reached n (e ∷ es) h c
+rest_reached n e es h s c tick =
+    ap (λ (r : ℕ). record h { core = c; own = with_counts h.own (counted (suc n) es r (one_word (address_of n == address_of 6) h.core.random (counts_of h.own))) }) tick
 
-all_counted : (h : Held) (s c : CoreState) (n : ℕ) → with_words (with_words h s 1) c n ≡ with_words h c (suc n)
-all_counted h s c n =
-    let count : h.own.spent + 1 + n ≡ h.own.spent + suc n = omega arith in
-    ap (λ (i : ℕ). record h { core = c; own = record h.own { spent = i } }) count
+none_reached : (n : ℕ) (h : Held) (c : CoreState) → c ≡ h.core → reached n [] h c ≡ h
+none_reached n h c is = ap (λ (d : CoreState). record h { core = d }) is
 
-pub words_path : (es : List Event) (h : Held) (c : CoreState) → h.kept.state.ready ≢ [] → h.kept.state.owed ≡ None → h.own.spent + length es ≤ 64 → RunsInside es h.core h.bus c → RealPath h (with_words h c (length es))
-words_path [] h c some owed few run = record { path = []; through = none_counted h c run }
-words_path (e ∷ es) h c some owed few run =
-    let s : CoreState = run.2.0 in
-    let next : Held = with_words h s 1 in
-    let one : RealPath h next =
-    one_step Inside h next (next_follows e h s some run.0 run.1 run.2.1) (next_moves e h s some run.0 run.1 run.2.1 owed (omega arith)) (next_real e h s some run.0 run.1 run.2.1 owed) in
-    subst (RealPath h) (all_counted h s c (length es))
-    (path_join h next (with_words next c (length es)) one (words_path es next c some owed (omega arith) run.2.2))
+pub words_path : (n : ℕ) (es : List Event) (h : Held) (c : CoreState) → IsSound h → h.kept.state.ready ≢ [] → h.kept.state.owed ≡ None → RunsInside n es h.core h.bus c → RealPath h (reached n es h c)
+words_path n [] h c sound some owed run = record { path = []; through = none_reached n h c run }
+words_path n (e ∷ es) h c sound some owed run =
+    let s : CoreState = run.3.0 in
+    let then : Held = next n e h s some run.0 run.1 run.2 run.3.1 in
+    let goes : Follows Inside h then = next_follows n e h s some run.0 run.1 run.2 run.3.1 in
+    let one : RealPath h then = one_step Inside h then goes (next_moves n e h s some run.0 run.1 run.2 run.3.1 sound owed) (next_real n e h s some run.0 run.1 run.2 run.3.1 owed) in
+    subst (RealPath h) (rest_reached n e es h s c run.3.2)
+    (path_join h then (reached (suc n) es then c) one (words_path (suc n) es then c (after Inside h then sound goes) some owed run.3.3))
 
-pub words_within : (es : List Event) (n : ℕ) (old h : Held) (c : CoreState) → h.kept.state.ready ≢ [] → held_goes_on n h ≡ true → RunsInside es h.core h.bus c → RunsWithin n old h → RunsWithin n old (with_words h c (length es))
-words_within [] n old h c some goes run within = subst (RunsWithin n old) (sym (none_counted h c run)) within
-words_within (e ∷ es) n old h c some goes run within =
-    let s : CoreState = run.2.0 in
-    let next : Held = with_words h s 1 in
-    subst (RunsWithin n old) (all_counted h s c (length es))
-    (words_within es n old next c some goes run.2.2 (within_step Inside n old h next within goes (next_follows e h s some run.0 run.1 run.2.1)))
+pub words_within : (i : ℕ) (es : List Event) (n : ℕ) (old h : Held) (c : CoreState) → h.kept.state.ready ≢ [] → held_goes_on n h ≡ true → RunsInside i es h.core h.bus c → RunsWithin n old h → RunsWithin n old (reached i es h c)
+words_within i [] n old h c some goes run within = subst (RunsWithin n old) (sym (none_reached i h c run)) within
+words_within i (e ∷ es) n old h c some goes run within =
+    let s : CoreState = run.3.0 in
+    let then : Held = next i e h s some run.0 run.1 run.2 run.3.1 in
+    subst (RunsWithin n old) (rest_reached i e es h s c run.3.2)
+    (words_within (suc i) es n old then c some goes run.3.3 (within_step Inside n old h then within goes (next_follows i e h s some run.0 run.1 run.2 run.3.1)))
+
+-- The nine words.
+
+-- what they count
+nine_counted : (k : Counts) (random : ℕ) → counted 0 handler_events random k ≡ one_refilled (passed 64 8 6 random) k
+nine_counted k random = by k.written refl
+  where
+    nine : k.spent + 1 + 1 + 1 + 1 + 1 + 1 + 1 + 1 + 1 ≡ k.spent + 9
+    nine = omega arith
+
+    three : (since : ℕ) → since + 1 + 1 + 1 ≡ since + 3
+    three since = omega arith
+
+    ninth : (since : ℕ) → since + 1 + 1 + 1 + 1 + 1 + 1 + 1 + 1 + 1 ≡ since + 9
+    ninth since = omega arith
+
+    with_both : ℕ → ℕ → List ℕ → Counts
+    with_both spent since written = record k { spent = spent; since = since; written = written }
+
+    by : (w : List ℕ) → k.written ≡ w → counted 0 handler_events random k ≡ one_refilled (passed 64 8 6 random) k
+    by [] is =
+        ap (λ (w : List ℕ). counted 0 handler_events random (record k { written = w })) is
+        ∙ (ap₂ (λ (x y : ℕ). with_both x y (passed 64 8 6 random ∷ [])) nine (three k.since)
+        ∙ ap (λ (w : List ℕ). one_refilled (passed 64 8 6 random) (record k { written = w })) (sym is))
+    by (slot ∷ more) is =
+        ap (λ (w : List ℕ). counted 0 handler_events random (record k { written = w })) is
+        ∙ (ap₂ (λ (x y : ℕ). with_both x y (passed 64 8 6 random ∷ slot ∷ more)) nine (ninth k.since)
+        ∙ ap (λ (w : List ℕ). one_refilled (passed 64 8 6 random) (record k { written = w })) (sym is))
+
+refilled_is : (h : Held) (c : CoreState) → reached 0 handler_events h c ≡ with_refill h c
+refilled_is h c = ap (λ (n : Counts). record h { core = c; own = with_counts h.own n }) (nine_counted (counts_of h.own) h.core.random)
+
+pub refill_path : (h : Held) (c : CoreState) → IsSound h → h.kept.state.ready ≢ [] → h.kept.state.owed ≡ None → RunsInside 0 handler_events h.core h.bus c → RealPath h (with_refill h c)
+refill_path h c sound some owed run = subst (RealPath h) (refilled_is h c) (words_path 0 handler_events h c sound some owed run)
+
+pub refill_within : (n : ℕ) (old h : Held) (c : CoreState) → h.kept.state.ready ≢ [] → held_goes_on n h ≡ true → RunsInside 0 handler_events h.core h.bus c → RunsWithin n old h → RunsWithin n old (with_refill h c)
+refill_within n old h c some goes run within = subst (RunsWithin n old) (refilled_is h c) (words_within 0 handler_events n old h c some goes run within)

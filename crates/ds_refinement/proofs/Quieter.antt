@@ -72,8 +72,8 @@ status_by [] c k m user running = running
 status_by (p ∷ rest) c k m user running = user_by (is_user c.system) c.slot c k p m user running.on
 
 pub user_status_of : (h : Held) → IsSound h → is_user h.core.system ≡ true → h.core.system.status ≡ user_status
-user_status_of h sound user = status_by h.kept.state.ready h.core h.kept sound.state user sound.stands.running
+user_status_of h sound user = status_by h.kept.state.ready h.core h.kept sound.state user sound.stands.agrees.running
 
 -- the clock was ticked no later than now
 pub ticked_before : (h : Held) → IsSound h → h.kept.state.owed ≡ None → h.kept.ticked ≤ h.kept.state.time
-ticked_before h sound owed = subst (λ (n : ℕ). h.kept.ticked ≤ n) (ap (λ (o : Option Turn). began_or o h.kept.state.time) owed) sound.stands.devices.ticked
+ticked_before h sound owed = subst (λ (n : ℕ). h.kept.ticked ≤ n) (ap (λ (o : Option Turn). began_or o h.kept.state.time) owed) sound.stands.agrees.devices.ticked

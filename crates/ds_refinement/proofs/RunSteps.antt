@@ -35,9 +35,9 @@ over_alike (p ∷ rest) c k m running e = not_over m p running.standing ∙ sym 
 -- the run of the machine goes on just where that of the station does
 pub goes_alike : (n : ℕ) (h : Held) (m : State) → Stands h m → goes_on n m ≡ held_goes_on n h
 goes_alike n h m k =
-    let b = beside h.kept.state.ready m h.kept.state k.kept.state in
+    let b = beside h.kept.state.ready m h.kept.state k.agrees.kept.state in
     ap (λ (s : State). is_some s.owed || (nat_lt s.time n && not (is_over m))) b
-    ∙ ap (λ (over : Bool). is_some h.kept.state.owed || (nat_lt h.kept.state.time n && not over)) (over_alike h.kept.state.ready h.core h.kept m k.running k.kept.state)
+    ∙ ap (λ (over : Bool). is_some h.kept.state.owed || (nat_lt h.kept.state.time n && not over)) (over_alike h.kept.state.ready h.core h.kept m k.agrees.running k.agrees.kept.state)
 
 -- before a step of a run: a boundary is owed, or somebody is ready before the end
 abbrev pub BeginsBefore : ℕ → Held → Type 0
@@ -57,7 +57,7 @@ ready_goes (p ∷ rest) n h m some running early =
 
 pub begins_goes : (n : ℕ) (h : Held) (m : State) → Stands h m → BeginsBefore n h → held_goes_on n h ≡ true
 begins_goes n h m k (inl owed) = ap (λ (b : Bool). b || (nat_lt h.kept.state.time n && not (is_over h.kept.state))) owed
-begins_goes n h m k (inr ready) = ready_goes h.kept.state.ready n h m ready.0 k.running ready.1
+begins_goes n h m k (inr ready) = ready_goes h.kept.state.ready n h m ready.0 k.agrees.running ready.1
 
 -- The steps of a run.
 

@@ -16,10 +16,13 @@ use Rattle.ds_pagemap.specs.Machine.{State, Process, no_process, process_of, wit
 use Rattle.ds_pagemap.proofs.Processes.{process_of-with_process}
 use Rattle.ds_pagemap_laws.specs.Settled.{settled_process, all_settled}
 use Rattle.ds_pagemap_laws.proofs.Processes.{of_settled}
-use Rattle.ds_refinement.specs.Held.{Held, Kept, bare, whole, space_of}
+use Rattle.ds_refinement.specs.Held.{Held, Kept, Own, bare, whole, space_of}
 use Rattle.ds_refinement.specs.Units.{AtStart, user_status}
 use Rattle.ds_refinement.specs.Handling.{HasBase}
-use Rattle.ds_refinement.specs.Stands.{Stands, KeptIs, IsKept, RunningIs, RunningBy, OnProcessor, AreResting}
+use Rattle.ds_refinement.specs.Stands.{Agrees, CountedBy, Stands, KeptIs, IsKept, RunningIs, RunningBy, OnProcessor, AreResting}
+use Rattle.ds_refinement.specs.Needs.{pages_of}
+use Rattle.ds_refinement.specs.Counts.{counts_of, may_write, HasNone, HasRanges}
+use Rattle.ds_refinement.proofs.Tallied.{none_tallied}
 use Rattle.ds_refinement.specs.Services.{Enters, EntersBy, seated, seated_process, with_first_seated, resume_address}
 
 -- The running process leaves.
@@ -37,13 +40,13 @@ abbrev pub off : CoreState → Process → Process
 off c q = record q { registers = c.registers; pc = resume_address c }
 
 -- what is kept beside the process that runs, and the process
-pub kept_of : (h : Held) (m : State) (p : ℕ) (rest : List ℕ) → Stands h m → h.kept.state.ready ≡ p ∷ rest → KeptIs (p ∷ rest) h.kept h.bus.memory m
+pub kept_of : (h : Held) (m : State) (p : ℕ) (rest : List ℕ) → Agrees h m → h.kept.state.ready ≡ p ∷ rest → KeptIs (p ∷ rest) h.kept h.bus.memory m
 kept_of h m p rest k ready = subst (λ (rs : List ℕ). KeptIs rs h.kept h.bus.memory m) ready k.kept
 
-pub running_of : (h : Held) (m : State) (p : ℕ) (rest : List ℕ) → Stands h m → h.kept.state.ready ≡ p ∷ rest → RunningIs p h.core h.kept m
+pub running_of : (h : Held) (m : State) (p : ℕ) (rest : List ℕ) → Agrees h m → h.kept.state.ready ≡ p ∷ rest → RunningIs p h.core h.kept m
 running_of h m p rest k ready = subst (λ (rs : List ℕ). RunningBy rs h.core h.kept m) ready k.running
 
-pub leaves : (h : Held) (m : State) (p : ℕ) (rest : List ℕ) → Stands h m → h.kept.state.ready ≡ p ∷ rest
+pub leaves : (h : Held) (m : State) (p : ℕ) (rest : List ℕ) → Agrees h m → h.kept.state.ready ≡ p ∷ rest
     → IsKept (seated h.core h.kept) h.bus.memory (with_process m p (off h.core (process_of m p)))
 leaves h m p rest k ready =
     let kept : KeptIs (p ∷ rest) h.kept h.bus.memory m = kept_of h m p rest k ready in
@@ -119,12 +122,19 @@ by_ready (p ∷ rest) c k memory m ready a b =
     let first : m.ready ≡ p ∷ rest = ap (λ (s : State). s.ready) a.state ∙ ready in
     subst (λ (s : State). StandsBy (p ∷ rest) c k memory s) (sym (ap (touch_first m) first)) (comes p rest c k memory m ready a b)
 
+-- who comes in is tallied
+entered_tallied : (queue : List ℕ) (c : CoreState) (own : Own) (k : Kept) (m : State) → EntersBy queue c k → HasNone own → HasRanges c (counts_of own) → CountedBy queue c own k m
+entered_tallied [] c own k m b none ranges = (none, ranges)
+entered_tallied (p ∷ rest) c own k m b none ranges = none_tallied c own (may_write k p) (pages_of m p) (ap (λ (w : ℕ). bits w 1 1 == 1) b.mode) b.first none ranges
+
 -- all is kept, and who is first comes on the processor touched
 pub enters : (h : Held) (m : State) → IsKept h.kept h.bus.memory m → IsRepresented h.core.entries h.bus.memory h.kept.tables (space_of h.kept) h.kept.grants → HasWords h.bus.memory → HasBase h.core.system
-    → NamesPages h.kept.grants → length h.bus.memory ≡ 2 ^ 23 → AreResting h.bus h.kept → EntersBy h.kept.state.ready h.core h.kept → Stands h (touched true m)
-enters h m a represented vectors base grants size devices b =
-    let s = by_ready h.kept.state.ready h.core h.kept h.bus.memory m refl a b in
-    record { represented = represented; vectors = vectors; base = base; grants = grants; size = size; kept = s.0; running = s.1; devices = devices }
+    → NamesPages h.kept.grants → length h.bus.memory ≡ 2 ^ 23 → AreResting h.bus h.kept → HasNone h.own → HasRanges h.core (counts_of h.own) → EntersBy h.kept.state.ready h.core h.kept → Stands h (touched true m)
+enters h m a represented vectors base grants size devices none ranges b =
+    let s = by_ready h.kept.state.ready h.core h.kept h.bus.memory m refl a b in record {
+      agrees = record { represented = represented; vectors = vectors; base = base; grants = grants; size = size; kept = s.0; running = s.1; devices = devices };
+      counted = entered_tallied h.kept.state.ready h.core h.own h.kept (touched true m) b none ranges;
+    }
 
 -- All is kept.
 

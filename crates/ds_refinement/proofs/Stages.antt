@@ -13,7 +13,7 @@ use Rattle.ds_grants.specs.State.{page_state}
 use Rattle.ds_grants.specs.Represented.{IsRepresented, IsHigh}
 use Rattle.ds_grants.proofs.Kept.{high_kept}
 use Rattle.ds_cp0.specs.declared.exception.Exception.{Exception}
-use Rattle.ds_cp0.specs.System.{System, entered, is_user, vector, epc_of}
+use Rattle.ds_cp0.specs.System.{System, asid_of, entered, is_user, vector, epc_of}
 use Rattle.ds_dev.specs.Bus.{BusState}
 use Rattle.ds_core.specs.declared.event.Event.TheVariants as event
 use Rattle.ds_core.specs.Core as core
@@ -36,10 +36,14 @@ use Rattle.ds_refinement.specs.declared.cause.Cause.TheVariants as cause
 use Rattle.ds_refinement.specs.declared.step.Step.TheVariants.{Inside, Unit}
 use Rattle.ds_refinement.specs.Told.{told}
 use Rattle.ds_refinement.specs.Held.{Held, Kept, space_of, bare, began_or, last_boundary}
-use Rattle.ds_refinement.specs.Units.{user_status, owes_boundary, Promise, AtStart, InSlot}
-use Rattle.ds_refinement.specs.Stands.{OnProcessor, RunningIs, RunningBy, KeptIs, AreResting, Stands, IsSound}
+use Rattle.ds_refinement.specs.Units.{user_status, owes_boundary, EndsUnit, Promise, AtStart, InSlot}
+use Rattle.ds_refinement.specs.Stands.{OnProcessor, RunningIs, RunningBy, KeptIs, AreResting, Agrees, CountedBy, Stands, IsSound}
 use Rattle.ds_refinement.specs.Leaves.{Leaves}
-use Rattle.ds_refinement.specs.Services.{after_event, step_of, with_turn}
+use Rattle.ds_core.specs.declared.event.Event.{Event}
+use Rattle.ds_bounds.specs.Tally.{IsTallied}
+use Rattle.ds_refinement.specs.Needs.{pages_of}
+use Rattle.ds_refinement.specs.Counts.{Counts, CountedAfter, HasRanges, counts_of, course_of, fresh, may_write, one_more}
+use Rattle.ds_refinement.specs.Services.{after_event, step_of, with_turn, with_one_spent}
 use Rattle.ds_refinement.specs.Steps.{Comes, Follows, ticks_of}
 use Rattle.ds_refinement.proofs.Exceptions.{slot_told}
 use Rattle.ds_refinement.proofs.Registers.{HasSeat, seat_kept, process_put, registers_put, registers_again, registers_same}
@@ -48,7 +52,8 @@ use Rattle.ds_refinement.proofs.Meets.{Retires, Turns, Raises, Meets, counted, i
 use Rattle.ds_refinement.proofs.Resting.{rests}
 use Rattle.ds_refinement.proofs.Fields.{space_set}
 use Rattle.ds_refinement.proofs.Vectors.{vectors_high}
-use Rattle.ds_refinement.proofs.Standing.{few}
+use Rattle.ds_refinement.proofs.Standing.{few, own_unseen}
+use Rattle.ds_refinement.proofs.Tallied.{begins, instruction_counted, tallied_of, tells_clean}
 use Rattle.ds_refinement.proofs.Entered.{enters}
 
 -- Units.
@@ -170,7 +175,21 @@ back_4 : (a : ℕ) → a < 2 ^ 32 → word (word (a + 4) + (2 ^ 32 - 4)) ≡ a
 back_4 a small = omega (arith, small)
 
 -- The station stands for m, and the first ready process is in its unit.
-module _ (h : Held) (m : State) (p : ℕ) (rest : List ℕ) (k : Stands h m) (ready : h.kept.state.ready ≡ p ∷ rest) (owed : h.kept.state.owed ≡ None) (user : is_user h.core.system ≡ true) where
+module _ (h : Held) (m : State) (p : ℕ) (rest : List ℕ) (all : Stands h m) (ready : h.kept.state.ready ≡ p ∷ rest) (owed : h.kept.state.owed ≡ None) (user : is_user h.core.system ≡ true) where
+  abbrev k : Agrees h m
+  k = all.agrees
+
+  -- what is counted, and which pages may be written
+  abbrev n : Counts
+  n = counts_of h.own
+
+  abbrev dirty : ℕ → Bool
+  dirty = may_write h.kept p
+
+  -- what is counted after a step
+  abbrev Counted : Event → CoreState → Type 0
+  Counted e c = CountedAfter e c n dirty (pages_of m p)
+
   -- what is kept, by who is ready
   kept : KeptIs (p ∷ rest) h.kept h.bus.memory m
   kept = subst (λ (rs : List ℕ). KeptIs rs h.kept h.bus.memory m) ready k.kept
@@ -251,14 +270,14 @@ module _ (h : Held) (m : State) (p : ℕ) (rest : List ℕ) (k : Stands h m) (re
   -- a unit of so many ticks ends, and the program goes on at pc
   retires : (r : Registers) (memory : List ℕ) (ticks pc : ℕ) → length memory ≡ 2 ^ 23 → IsHigh h.bus.memory memory
       → unit m ≡ owes_boundary m.time p (ticked ticks (at_pc (record (with_registers m p r) { memory = page_state h.kept.grants memory }) p pc))
-      → h.core.next ≡ pc → ticks_of h.core.slot ≡ ticks
+      → h.core.next ≡ pc → ticks_of h.core.slot ≡ ticks → HasRanges (core_at_next (counted h.core) r) (fresh h.own.wired)
       → Comes Unit (after_event event.Retired h (record { event = event.Retired; core = core_at_next (counted h.core) r; bus = record h.bus { memory = memory } })) m
-  retires r memory ticks pc size high is next long =
+  retires r memory ticks pc size high is next long ranges =
       let new = after_event event.Retired h (record { event = event.Retired; core = core_at_next (counted h.core) r; bus = record h.bus { memory = memory } }) in
       let q : Process = record (process_of m p) { registers = r; pc = pc } in
       let s = behind m p q (page_state h.kept.grants memory) ticks in
       let there : unit m ≡ s = is ∙ twice m p r (page_state h.kept.grants memory) ticks pc running.seat in
-      let stands : Stands new s = record {
+      let stands : Agrees new s = record {
         represented = high_kept h.core.entries h.bus.memory memory h.kept.tables (space_of h.kept) h.kept.grants high k.represented;
         vectors = vectors_high h.bus.memory memory high k.vectors;
         base = k.base;
@@ -270,13 +289,15 @@ module _ (h : Held) (m : State) (p : ℕ) (rest : List ℕ) (k : Stands h m) (re
             (subst (λ (n : ℕ). RunningIs p new.core (record h.kept { state = with_turn n h.kept.state }) s) (sym long) (running_behind r (page_state h.kept.grants memory) ticks pc next));
         devices = devices_behind memory (ticks_of h.core.slot);
       } in
-      (unit m, (owes_none, some_ready, (false, false, half_unit m owes_none)), subst (Stands new) (sym there) stands)
+      let tallied : CountedBy h.kept.state.ready new.core new.own new.kept s =
+      subst (λ (rs : List ℕ). CountedBy rs new.core new.own new.kept s) (sym ready) (begins new.core h.own.wired (may_write new.kept p) (pages_of s p) user refl ranges) in
+      (unit m, (owes_none, some_ready, (false, false, half_unit m owes_none)), subst (Stands new) (sym there) (record { agrees = stands; counted = tallied }))
 
   -- Inside the unit.
 
   -- the station goes on to stand for m, with the processor in another place
   stays : (c : CoreState) → c.entries ≡ h.core.entries → HasBase c.system → IsSet c.system (space_of h.kept p) → OnProcessor (is_user c.system) c.slot c h.kept p m
-      → Stands (record h { core = c }) m
+      → Agrees (record h { core = c }) m
   stays c entries base set there = record {
     represented = subst (λ (es : List Entry). IsRepresented es h.bus.memory h.kept.tables (space_of h.kept) h.kept.grants) (sym entries) k.represented;
     vectors = k.vectors;
@@ -296,14 +317,22 @@ module _ (h : Held) (m : State) (p : ℕ) (rest : List ℕ) (k : Stands h m) (re
     devices = k.devices;
   }
 
+  -- and its unit is tallied
+  goes_on : (c : CoreState) → Agrees (record h { core = c }) m → IsTallied (course_of c (one_more n) dirty (pages_of m p)) → Stands (record h { core = c; own = with_one_spent h.own }) m
+  goes_on c there tallied = record {
+    agrees = own_unseen (record h { core = c }) (with_one_spent h.own) m there;
+    counted = subst (λ (rs : List ℕ). CountedBy rs c (with_one_spent h.own) h.kept m) (sym ready) tallied;
+  }
+
   -- a branch goes on to its slot
   turns : (r : Registers) (target : ℕ) → h.core.next ≡ word ((process_of m p).pc + 4) → (process_of m p).pc < 2 ^ 32
       → instruction m p (process_of m p).pc ≡ Branched (with_registers m p r) target
+      → IsTallied (course_of (branched_core (counted h.core) r target) (one_more n) dirty (pages_of m p))
       → Comes Inside (after_event event.Branched h (record { event = event.Branched; core = branched_core (counted h.core) r target; bus = h.bus })) m
-  turns r target next within is =
+  turns r target next within is tallied =
       let c = branched_core (counted h.core) r target in
       let a : InSlot c p m = record { mode = mode; second = refl; owed = owes_none; pc = next; within = within; branched = is } in
-      (m, (some_ready, false, refl), stays c refl k.base running.set (on_as c h.kept p m (is_user c.system) c.slot true true user refl a))
+      (m, (some_ready, false, refl), goes_on c (stays c refl k.base running.set (on_as c h.kept p m (is_user c.system) c.slot true true user refl a)) tallied)
 
   -- Random passes, and nothing else of the stage does
   on_counted : OnProcessor true h.core.slot (counted h.core) h.kept p m
@@ -312,15 +341,17 @@ module _ (h : Held) (m : State) (p : ℕ) (rest : List ℕ) (k : Stands h m) (re
   -- an exception comes to the handler, or waits to be served
   raises : (e : Exception) → e.slot ≡ h.core.slot → epc_of e ≡ (process_of m p).pc → AreUnits (settled h.core.registers) p m
       → Promise (told (entered h.core.system e) m.memory p) (entered h.core.system e).bad_vaddr h.core.slot (process_of m p).pc p m (with_registers m p (settled h.core.registers))
+      → (vector e ≡ 0x80000080 → EndsUnit m.memory p (entered h.core.system e).bad_vaddr (told (entered h.core.system e) m.memory p))
       → (vector e ≡ 0x80000000 → IsMiss h.core e) → IsWhole (core_at_vector (counted h.core) e)
+      → IsTallied (course_of (core_at_vector (counted h.core) e) (one_more n) dirty (pages_of m p))
       → Comes Inside (after_event (event.Raised e.code) h (record { event = event.Raised e.code; core = core_at_vector (counted h.core) e; bus = h.bus })) m
-  raises e slot at units promise missed whole =
+  raises e slot at units promise ends missed whole tallied =
       let t : System = entered h.core.system e in
-      let there : Stands (record h { core = counted h.core }) m = stays (counted h.core) refl k.base running.set (on_as (counted h.core) h.kept p m (is_user h.core.system) h.core.slot true h.core.slot user refl on_counted) in (
+      let there : Agrees (record h { core = counted h.core }) m = stays (counted h.core) refl k.base running.set (on_as (counted h.core) h.kept p m (is_user h.core.system) h.core.slot true h.core.slot user refl on_counted) in (
         m,
         (some_ready, false, refl),
-        enters (record h { core = counted h.core }) m p rest e there ready whole mode owes_none at units (λ v. counted_miss h.core e (missed v))
-            (subst (λ (b : Bool). Promise (told t m.memory p) t.bad_vaddr b (process_of m p).pc p m (with_registers m p (settled h.core.registers))) (sym (slot_told h.core.system e ∙ slot)) promise),
+        goes_on (core_at_vector (counted h.core) e) (enters (record h { core = counted h.core }) m p rest e there ready whole mode owes_none at units (λ v. counted_miss h.core e (missed v)) ends
+            (subst (λ (b : Bool). Promise (told t m.memory p) t.bad_vaddr b (process_of m p).pc p m (with_registers m p (settled h.core.registers))) (sym (slot_told h.core.system e ∙ slot)) promise)) tallied,
       )
 
   -- The instruction of the machine, with the registers of the processor.
@@ -343,7 +374,7 @@ module _ (h : Held) (m : State) (p : ℕ) (rest : List ℕ) (k : Stands h m) (re
 
   -- what a step makes of the station
   abbrev Goes : core.Step → Type 0
-  Goes s = Comes (step_of s.event) (after_event s.event h s) m
+  Goes s = Counted s.event s.core → Comes (step_of s.event) (after_event s.event h s) m
 
   -- after an exception the processor is whole
   abbrev Whole : core.Step → Type 0
@@ -368,12 +399,12 @@ module _ (h : Held) (m : State) (p : ℕ) (rest : List ℕ) (k : Stands h m) (re
         let went : instruction m p (process_of m p).pc ≡ Went (record (with_registers m p w.after) { memory = pages }) =
         sym first_alike ∙ (w.went ∙ ap (λ (t : State). Went (record t { memory = pages })) (put_here w.after)) in
         subst Goes (sym w.step)
-        (retires w.after w.memory 1 (word ((process_of m p).pc + 4)) w.size w.high (is_unit ∙ ap (λ (x : Outcome). owes_boundary m.time p (after_instruction m p (process_of m p).pc x)) went) a.next (ap ticks_of a.first))
+        (λ ranges. retires w.after w.memory 1 (word ((process_of m p).pc + 4)) w.size w.high (is_unit ∙ ap (λ (x : Outcome). owes_boundary m.time p (after_instruction m p (process_of m p).pc x)) went) a.next (ap ticks_of a.first) ranges)
 
     first_turns : (s : core.Step) → Turns h.core h.bus here p (instruction here p h.core.pc) s → Goes s
     first_turns s w =
         subst Goes (sym w.step)
-        (turns w.after w.target a.next (subst (λ (n : ℕ). n < 2 ^ 32) a.pc small) (sym first_alike ∙ (w.went ∙ ap (λ (t : State). Branched t w.target) (put_here w.after))))
+        (λ tallied. turns w.after w.target a.next (subst (λ (n : ℕ). n < 2 ^ 32) a.pc small) (sym first_alike ∙ (w.went ∙ ap (λ (t : State). Branched t w.target) (put_here w.after))) tallied)
 
     first_raises : (s : core.Step) → Whole s → Raises h.core h.bus here p (instruction here p h.core.pc) s → Goes s
     first_raises s whole w =
@@ -386,14 +417,14 @@ module _ (h : Held) (m : State) (p : ℕ) (rest : List ℕ) (k : Stands h m) (re
         let promise : Promise (told t m.memory p) t.bad_vaddr false pc p m (with_registers m p (settled h.core.registers)) =
         first_promise (told t m.memory p) t.bad_vaddr m p pc h.core.registers (instruction m p pc) running.seat is_unit linked leaves in
         subst Goes (sym w.step)
-        (raises w.what w.slot (ap (λ (b : Bool). cond b (word (w.what.pc + (2 ^ 32 - 4))) w.what.pc) (w.slot ∙ a.first) ∙ (w.pc ∙ a.pc))
+        (λ tallied. raises w.what w.slot (ap (λ (b : Bool). cond b (word (w.what.pc + (2 ^ 32 - 4))) w.what.pc) (w.slot ∙ a.first) ∙ (w.pc ∙ a.pc))
         (elim a.registers [
           | inl same ↦ inl (ap settled same)
           | inr again ↦
               let z : settled h.core.registers ≡ h.core.registers = linked_settled m p pc h.core.registers again.2.target running.seat again.2.branched in
               inr (record { target = again.2.target; branched = again.2.branched ∙ ap (λ (x : Registers). Branched (with_registers m p x) again.2.target) (sym z) })
         ])
-        (subst (λ (b : Bool). Promise (told t m.memory p) t.bad_vaddr b pc p m (with_registers m p (settled h.core.registers))) (sym a.first) promise) w.missed (whole_at w.what s w.step whole))
+        (subst (λ (b : Bool). Promise (told t m.memory p) t.bad_vaddr b pc p m (with_registers m p (settled h.core.registers))) (sym a.first) promise) w.ends w.missed (whole_at w.what s w.step whole) tallied)
 
   -- in the slot
   module _ (a : InSlot h.core p m) where
@@ -409,8 +440,8 @@ module _ (h : Held) (m : State) (p : ℕ) (rest : List ℕ) (k : Stands h m) (re
         let went : instruction here p h.core.pc ≡ Went (record (with_registers m p w.after) { memory = pages }) =
         w.went ∙ ap (λ (t : State). Went (record t { memory = pages })) (put_here w.after) in
         subst Goes (sym w.step)
-        (retires w.after w.memory 2 h.core.next w.size w.high
-        (slot_unit ∙ ap (λ (x : Outcome). owes_boundary m.time p (after_slot here p (process_of m p).pc (word ((process_of m p).pc + 4)) h.core.next x)) went) refl (ap ticks_of a.second))
+        (λ ranges. retires w.after w.memory 2 h.core.next w.size w.high
+        (slot_unit ∙ ap (λ (x : Outcome). owes_boundary m.time p (after_slot here p (process_of m p).pc (word ((process_of m p).pc + 4)) h.core.next x)) went) refl (ap ticks_of a.second) ranges)
 
     slot_turns : (s : core.Step) → Turns h.core h.bus here p (instruction here p h.core.pc) s → Goes s
     slot_turns s w = let no : true ≡ false = sym a.second ∙ w.outside in absurd cc
@@ -426,10 +457,10 @@ module _ (h : Held) (m : State) (p : ℕ) (rest : List ℕ) (k : Stands h m) (re
         subst (λ (x : Registers). Promise (told t m.memory p) t.bad_vaddr true pc p m (with_registers m p x)) (sym z)
         (slot_promise (told t m.memory p) t.bad_vaddr m p pc h.core.registers h.core.next (instruction here p h.core.pc) slot_unit leaves) in
         subst Goes (sym w.step)
-        (raises w.what w.slot
+        (λ tallied. raises w.what w.slot
         (ap (λ (b : Bool). cond b (word (w.what.pc + (2 ^ 32 - 4))) w.what.pc) (w.slot ∙ a.second) ∙ (ap (λ (n : ℕ). word (n + (2 ^ 32 - 4))) (w.pc ∙ a.pc) ∙ back_4 pc a.within))
         (inr (record { target = h.core.next; branched = a.branched ∙ ap (λ (x : Registers). Branched (with_registers m p x) h.core.next) (sym z) }))
-        (subst (λ (b : Bool). Promise (told t m.memory p) t.bad_vaddr b pc p m (with_registers m p (settled h.core.registers))) (sym a.second) promise) w.missed (whole_at w.what s w.step whole))
+        (subst (λ (b : Bool). Promise (told t m.memory p) t.bad_vaddr b pc p m (with_registers m p (settled h.core.registers))) (sym a.second) promise) w.ends w.missed (whole_at w.what s w.step whole) tallied)
 
   -- by where the processor stands
   by_slot : (slot : Bool) → OnProcessor true slot h.core h.kept p m → h.core.pc < 2 ^ 32 → (s : core.Step) → Whole s → Meets h.core h.bus h.kept.grants here p (instruction here p h.core.pc) s → Goes s
@@ -440,9 +471,17 @@ module _ (h : Held) (m : State) (p : ℕ) (rest : List ℕ) (k : Stands h m) (re
   by_slot true a small s whole (inr (inl w)) = slot_turns a s w
   by_slot true a small s whole (inr (inr w)) = slot_raises a s whole w
 
+  -- what the step counts
+  counts : (s : core.Step) → s ≡ whole.step h.core h.bus → Counted s.event s.core
+  counts s is =
+      let space : asid_of h.core.system ≡ space_of h.kept p = space_set h.core.system.entry_hi (space_of h.kept p) running.set.space (few h m p rest k ready) in
+      instruction_counted h m p rest s n dirty k ready user is
+      (tells_clean h.core.entries h.kept p (pages_of m p).access (asid_of h.core.system) k.represented.buffer running.seat.0 running.number space)
+      (tallied_of h m p rest all ready)
+
   -- one step of the processor
-  pub step_comes : h.core.pc < 2 ^ 32 → (s : core.Step) → s ≡ whole.step h.core h.bus → Whole s → Goes s
-  step_comes small s is raised = by_slot h.core.slot on small s raised (both_meet small s is)
+  pub step_comes : h.core.pc < 2 ^ 32 → (s : core.Step) → s ≡ whole.step h.core h.bus → Whole s → Comes (step_of s.event) (after_event s.event h s) m
+  step_comes small s is raised = by_slot h.core.slot on small s raised (both_meet small s is) (counts s is)
 
 -- What is told of an exception is what the machine needs.
 

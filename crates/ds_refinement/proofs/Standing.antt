@@ -17,7 +17,7 @@ use Rattle.ds_refinement.proofs.Registers.{HasSeat, seat_kept, process_put}
 use Rattle.ds_refinement.proofs.Links.{touched_link}
 use Rattle.ds_refinement.proofs.Spaces.{space_apart}
 use Rattle.ds_refinement.specs.Handling.{Phase, AtContext, AtAddress, AtLoad, AtPause, AtMove, AtClear, AtWrite, AtJump, AtReturn, index_of, HasBase, IsSet, AreUnits, InHandler, InDouble}
-use Rattle.ds_refinement.specs.Stands.{InKernel, OnProcessor, RunningIs, RunningBy, KeptIs, Stands}
+use Rattle.ds_refinement.specs.Stands.{InKernel, OnProcessor, RunningIs, RunningBy, KeptIs, Agrees}
 
 -- Where the processor stands, by what it shows.
 
@@ -74,7 +74,7 @@ first_ready [] some = absurd (some refl)
 first_ready (p ∷ rest) some = (p, rest, refl)
 
 -- the machine doesn't see how the station counts
-pub own_unseen : (h : Held) (own : Own) (m : State) → Stands h m → Stands (record h { own = own }) m
+pub own_unseen : (h : Held) (own : Own) (m : State) → Agrees h m → Agrees (record h { own = own }) m
 own_unseen h own m k = record {
   represented = k.represented;
   vectors = k.vectors;
@@ -134,7 +134,7 @@ module _ (m : State) (p : ℕ) (c : CoreState) (base : Registers) (seat : HasSea
   }
 
 -- A station that stands for m, whose first ready process is p.
-module _ (h : Held) (m : State) (p : ℕ) (rest : List ℕ) (k : Stands h m) (ready : h.kept.state.ready ≡ p ∷ rest) where
+module _ (h : Held) (m : State) (p : ℕ) (rest : List ℕ) (k : Agrees h m) (ready : h.kept.state.ready ≡ p ∷ rest) where
   pub runs : RunningIs p h.core h.kept m
   runs = subst (λ (rs : List ℕ). RunningBy rs h.core h.kept m) ready k.running
 
@@ -158,7 +158,7 @@ module _ (h : Held) (m : State) (p : ℕ) (rest : List ℕ) (k : Stands h m) (re
 
   -- for the same state, with the processor in another place and other entries
   pub same_state : (c : CoreState) → BufferHolds c.entries (space_of h.kept) h.kept.grants h.kept.tables → HasBase c.system → IsSet c.system (space_of h.kept p)
-      → OnProcessor (is_user c.system) c.slot c h.kept p m → Stands (record h { core = c }) m
+      → OnProcessor (is_user c.system) c.slot c h.kept p m → Agrees (record h { core = c }) m
   same_state c buffer base set on = record {
     represented = record { buffer = buffer; words = k.represented.words; places = k.represented.places; empty = k.represented.empty };
     vectors = k.vectors;
@@ -172,7 +172,7 @@ module _ (h : Held) (m : State) (p : ℕ) (rest : List ℕ) (k : Stands h m) (re
 
   -- for the state with the process touched
   pub stands_after : (c : CoreState) → BufferHolds c.entries (space_of h.kept) h.kept.grants h.kept.tables → HasBase c.system → IsSet c.system (space_of h.kept p)
-      → OnProcessor (is_user c.system) c.slot c h.kept p (with_process m p (touched_process (process_of m p))) → Stands (record h { core = c }) (with_process m p (touched_process (process_of m p)))
+      → OnProcessor (is_user c.system) c.slot c h.kept p (with_process m p (touched_process (process_of m p))) → Agrees (record h { core = c }) (with_process m p (touched_process (process_of m p)))
   stands_after c buffer base set on =
       let q : Process = touched_process (process_of m p) in
       let s : State = with_process m p q in
@@ -196,8 +196,8 @@ module _ (h : Held) (m : State) (p : ℕ) (rest : List ℕ) (k : Stands h m) (re
         devices = k.devices;
       }
 
-  pub as_touched : (g : Held) → Stands g (with_process m p (touched_process (process_of m p))) → Stands g (touched true m)
-  as_touched g stands = subst (λ (x : State). Stands g x) (sym touched_is) stands
+  pub as_touched : (g : Held) → Agrees g (with_process m p (touched_process (process_of m p))) → Agrees g (touched true m)
+  as_touched g stands = subst (λ (x : State). Agrees g x) (sym touched_is) stands
 
   -- who is touched is not changed by a touch
   pub touched_already : process_of m p ≡ touched_process (process_of m p) → touched true m ≡ m
@@ -206,7 +206,7 @@ module _ (h : Held) (m : State) (p : ℕ) (rest : List ℕ) (k : Stands h m) (re
   -- for the state with the process touched, at the beginning of its unit
   pub touched_state : (c : CoreState) (base : Registers) → m.owed ≡ None → AreUnits base p m → BufferHolds c.entries (space_of h.kept) h.kept.grants h.kept.tables → HasBase c.system → IsSet c.system (space_of h.kept p)
       → c.system.status ≡ user_status → c.slot ≡ false → c.pc ≡ (process_of m p).pc → c.next ≡ word ((process_of m p).pc + 4) → c.registers ≡ lent base 0 (process_of m p).pc None
-      → Stands (record h { core = c }) (touched true m)
+      → Agrees (record h { core = c }) (touched true m)
   touched_state c base owed units buffer tables set mode first at next registers =
       as_touched (record h { core = c }) (stands_after c buffer tables set
       (at_start c h.kept p (with_process m p (touched_process (process_of m p))) (starts_touched m p c base runs.seat owed units mode first at next registers)))

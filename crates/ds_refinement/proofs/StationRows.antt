@@ -24,14 +24,15 @@ use Rattle.ds_refinement.specs.Stands.{AreResting, Stands}
 use Rattle.ds_refinement.specs.Steps.{StepTo, Comes, Follows, Stays, Moves}
 use Rattle.ds_refinement.specs.Services.{EntersBy, with_table_page}
 use Rattle.ds_refinement.specs.Pairs.{HasNoNewPairs}
-use Rattle.ds_refinement.specs.Real.{HasUnit, EndsUnit, MayGoBack, GoesBack, EndsReally, IsReal, Through}
+use Rattle.ds_refinement.specs.Units.{EndsUnit}
+use Rattle.ds_refinement.specs.Real.{HasUnit, MayGoBack, GoesBack, EndsReally, IsReal, Through}
 use Rattle.ds_refinement.specs.Granted.{IsGranted}
 use Rattle.ds_refinement.specs.Quiet.{IsQuiet}
 use Rattle.ds_refinement.specs.StationRows.{two, kept, page, other, core_at, user, served, done, table_page, doubled}
 
 -- a station that has begun so many instructions of a unit; it has no memory
 abbrev after : ℕ → Held
-after spent = record { core = user; bus = bus.at_start []; kept = kept; own = record { failed = false; spent = spent; wired = 0 } }
+after spent = record { core = user; bus = bus.at_start []; kept = kept; own = record { failed = false; spent = spent; written = []; since = 0; wired = 0; tables = 0; services = 0 } }
 
 -- The first comes in.
 
@@ -76,7 +77,7 @@ pub a_64th_instruction_counts : Moves Inside (after 63) (after 64)
 a_64th_instruction_counts =
     let few : 64 ≤ 64 = omega arith in
     let fewer : 0 < 2 = omega arith in
-    (refl, refl, refl, refl, few, fewer, refl)
+    (refl, refl, refl, refl, few, fewer, refl, refl)
 
 pub a_unit_has_no_65th_instruction : Moves Inside (after 64) (after 65) → ⊥
 a_unit_has_no_65th_instruction moves = let few : 65 ≤ 64 = moves.4 in absurd (omega arith)
@@ -97,7 +98,7 @@ no_tick_passes_behind_the_end t (inr turn) = let goes_on : true ≡ false = turn
 -- For what it stands.
 
 pub a_station_without_memory_stands_for_nothing : (m : State) → Stands (after 0) m → ⊥
-a_station_without_memory_stands_for_nothing m stands = let size : 0 ≡ 2 ^ 23 = stands.size in absurd (omega arith)
+a_station_without_memory_stands_for_nothing m stands = let size : 0 ≡ 2 ^ 23 = stands.agrees.size in absurd (omega arith)
 
 pub nothing_comes_to_a_station_without_memory : (step : Step) (m : State) → Comes step (after 0) m → ⊥
 nothing_comes_to_a_station_without_memory step m comes = a_station_without_memory_stands_for_nothing comes.0 comes.2
@@ -164,7 +165,7 @@ untabled memory = record (after 0) { bus = bus.at_start memory; kept = record ke
 pub a_station_without_page_tables_stands_for_nothing : (memory : List ℕ) (m : State) → Stands (untabled memory) m → ⊥
 a_station_without_page_tables_stands_for_nothing memory m stands =
     let process : 0 < 1 = omega arith in
-    let table : false ≡ true = stands.represented.words.regions 1 1 process in
+    let table : false ≡ true = stands.agrees.represented.words.regions 1 1 process in
     absurd cc
 
 -- What goes back.

@@ -11,7 +11,7 @@ use Rattle.ds_refinement.proofs.Registers.{HasSeat, process_put}
 use Rattle.ds_refinement.proofs.Links.{touched_link}
 use Rattle.ds_refinement.specs.Units.{has_left_user, is_general}
 use Rattle.ds_refinement.specs.Handling.{Phase, next_of, Lends, AreUnits, InHandler}
-use Rattle.ds_refinement.specs.Stands.{InKernel, OnProcessor, Stands}
+use Rattle.ds_refinement.specs.Stands.{InKernel, OnProcessor, Agrees}
 use Rattle.ds_handler.proofs.Lent.{lent_again}
 use Rattle.ds_refinement.proofs.Standing.{in_handler, runs, stands_after, as_touched}
 
@@ -71,7 +71,7 @@ module _ (phase : Phase) (c : CoreState) (k : Kept) (p : ℕ) (m : State) (seat 
     touch = λ written. is_touched;
   }
 
-module _ (h : Held) (m : State) (p : ℕ) (rest : List ℕ) (k : Stands h m) (ready : h.kept.state.ready ≡ p ∷ rest) (user : is_user h.core.system ≡ false) (general : is_general h.core ≡ false) where
+module _ (h : Held) (m : State) (p : ℕ) (rest : List ℕ) (k : Agrees h m) (ready : h.kept.state.ready ≡ p ∷ rest) (user : is_user h.core.system ≡ false) (general : is_general h.core ≡ false) where
   -- the word that the processor is at
   pub here : (phase : Phase) × InHandler phase h.core h.kept p m
   here =
@@ -79,11 +79,11 @@ module _ (h : Held) (m : State) (p : ℕ) (rest : List ℕ) (k : Stands h m) (re
       (subst (λ (x : Bool). OnProcessor x h.core.slot h.core h.kept p m) user (runs h m p rest k ready).on)
 
   -- the station stands for the state with the process touched
-  pub stands_after_touch : Stands h (with_process m p (touched_process (process_of m p)))
+  pub stands_after_touch : Agrees h (with_process m p (touched_process (process_of m p)))
   stands_after_touch =
       let r = runs h m p rest k ready in
       stands_after h m p rest k ready h.core k.represented.buffer k.base r.set
       (in_handler here.0 h.core h.kept p (with_process m p (touched_process (process_of m p))) (touched_handler here.0 h.core h.kept p m r.seat here.1))
 
-  pub unseen : Stands h (touched true m)
+  pub unseen : Agrees h (touched true m)
   unseen = as_touched h m p rest k ready h stands_after_touch

@@ -33,13 +33,15 @@ use Rattle.ds_refinement.proofs.Spaces.{space_apart}
 use Rattle.ds_refinement.specs.declared.step.Step.TheVariants.{Inside}
 use Rattle.ds_refinement.specs.Units.{is_general, is_served}
 use Rattle.ds_refinement.specs.Handling.{Phase, AtContext, AtAddress, AtLoad, AtPause, AtMove, AtClear, AtWrite, AtJump, AtReturn, handler_status, IsWhole, InHandler, InDouble, touches}
-use Rattle.ds_refinement.specs.Stands.{RunningIs, Stands}
+use Rattle.ds_refinement.specs.Stands.{RunningIs, Agrees, CountedBy}
 use Rattle.ds_refinement.specs.Steps as steps
-use Rattle.ds_refinement.specs.Services.{with_step}
+use Rattle.ds_refinement.specs.Services.{with_step, after_word}
 use Rattle.ds_refinement.proofs.Fields.{space_in, hi_low, hi_small, context_high, context_low, hi_nested, IsWord, word_is_word}
 use Rattle.ds_refinement.proofs.Loads.{table_hit, table_miss_is, table_below}
 use Rattle.ds_handler.proofs.Lent.{is_at_word, in_0, base_size, base_nought, ticked_low, ticked_high}
-use Rattle.ds_refinement.proofs.Standing.{away_is, first_ready, in_handler, in_double, runs, few, same_state, touched_state, touched_already, as_touched}
+use Rattle.ds_refinement.proofs.Standing.{away_is, first_ready, in_handler, in_double, runs, few, same_state, touched_state, touched_already, as_touched, own_unseen}
+use Rattle.ds_refinement.proofs.WordTallies.{word_tallied}
+use Rattle.ds_refinement.proofs.Tallied.{tallied_of}
 use Rattle.ds_refinement.proofs.Touches.{here, is_touched, touched_handler, stands_after_touch}
 
 pub kernel : (s : System) → s.status ≡ handler_status → IsKernel s
@@ -49,7 +51,7 @@ pub in_memory : (frame b : ℕ) → frame < 402 → is_memory (word_place frame 
 in_memory frame b small = let e : word_place frame b < 2 ^ 23 = omega arith in grind (arith, nat_tests)
 
 -- A station that stands for m, whose first ready process is p, which has the processor.
-module _ (h : Held) (m : State) (p : ℕ) (rest : List ℕ) (k : Stands h m) (ready : h.kept.state.ready ≡ p ∷ rest) where
+module _ (h : Held) (m : State) (p : ℕ) (rest : List ℕ) (k : Agrees h m) (ready : h.kept.state.ready ≡ p ∷ rest) where
   abbrev asid : ℕ
   asid = space_of h.kept p
 
@@ -61,15 +63,15 @@ module _ (h : Held) (m : State) (p : ℕ) (rest : List ℕ) (k : Stands h m) (re
 
   -- what a word of the handler is to do
   abbrev Follows : Type 0
-  Follows = Stands (with_step h (step h.core h.bus)) (touched (touches h.core) m)
+  Follows = Agrees (with_step h (step h.core h.bus)) (touched (touches h.core) m)
 
-  follows : (e : Event) (u : CoreState) → step h.core h.bus ≡ record { event = e; core = u; bus = h.bus } → Stands (record h { core = u }) m → Stands (with_step h (step h.core h.bus)) m
-  follows e u is stands = subst (λ (s : Step). Stands (with_step h s) m) (sym is) stands
+  follows : (e : Event) (u : CoreState) → step h.core h.bus ≡ record { event = e; core = u; bus = h.bus } → Agrees (record h { core = u }) m → Agrees (with_step h (step h.core h.bus)) m
+  follows e u is stands = subst (λ (s : Step). Agrees (with_step h s) m) (sym is) stands
 
-  goes : (touch : Bool) (e : Event) (u : CoreState) → touches h.core ≡ touch → step h.core h.bus ≡ record { event = e; core = u; bus = h.bus } → Stands (record h { core = u }) (touched touch m) → Follows
+  goes : (touch : Bool) (e : Event) (u : CoreState) → touches h.core ≡ touch → step h.core h.bus ≡ record { event = e; core = u; bus = h.bus } → Agrees (record h { core = u }) (touched touch m) → Follows
   goes touch e u which is stands =
-      subst (λ (b : Bool). Stands (with_step h (step h.core h.bus)) (touched b m)) (sym which)
-      (subst (λ (s : Step). Stands (with_step h s) (touched touch m)) (sym is) stands)
+      subst (λ (b : Bool). Agrees (with_step h (step h.core h.bus)) (touched b m)) (sym which)
+      (subst (λ (s : Step). Agrees (with_step h s) (touched touch m)) (sym is) stands)
 
   long : (phase : Phase) (z : InHandler phase h.core h.kept p m) → length z.base.general ≡ 32
   long phase z = base_size h.core.registers z.base z.first z.second z.late z.registers z.whole.size
@@ -354,7 +356,7 @@ module _ (h : Held) (m : State) (p : ℕ) (rest : List ℕ) (k : Stands h m) (re
       (same_state h m p rest k ready u k.represented.buffer k.base now.set (in_handler AtWrite u h.kept p m there))
 
   -- where the process is touched already
-  pub at_write : InHandler AtWrite h.core h.kept p m → process_of m p ≡ touched_process (process_of m p) → Stands (with_step h (step h.core h.bus)) m
+  pub at_write : InHandler AtWrite h.core h.kept p m → process_of m p ≡ touched_process (process_of m p) → Agrees (with_step h (step h.core h.bus)) m
   at_write z touch =
       let x = z.first in
       let y = z.second in
@@ -435,22 +437,22 @@ module _ (h : Held) (m : State) (p : ℕ) (rest : List ℕ) (k : Stands h m) (re
       let u : CoreState = at_word pc (word (pc + 4)) false (lent z.base x y None) (returned s) es later in
       goes false Retired u (ap (λ (n : ℕ). n == address_of 6) z.pc)
       (ap (λ (d : CoreState). step d b) is ∙ word_8 z.base x y pc s es h.core.random b k.vectors (kernel s z.status))
-      (subst (λ (n : State). Stands (record h { core = u }) n) (touched_already h m p rest k ready (z.touch refl))
+      (subst (λ (n : State). Agrees (record h { core = u }) n) (touched_already h m p rest k ready (z.touch refl))
       (touched_state h m p rest k ready u z.base z.owed z.units k.represented.buffer (record { tables = k.base.tables; whole = k.base.whole }) (record { space = now.set.space; small = now.set.small })
       (ap (λ (n : ℕ). (returned (record s { status = n })).status) z.status) refl refl refl
       (ap₂ (λ (a c : ℕ). lent z.base a c None) z.lends.0 z.lends.1)))
 
-module _ (h : Held) (m : State) (p : ℕ) (rest : List ℕ) (k : Stands h m) (ready : h.kept.state.ready ≡ p ∷ rest) (user : is_user h.core.system ≡ false) (general : is_general h.core ≡ false) where
+module _ (h : Held) (m : State) (p : ℕ) (rest : List ℕ) (k : Agrees h m) (ready : h.kept.state.ready ≡ p ∷ rest) (user : is_user h.core.system ≡ false) (general : is_general h.core ≡ false) where
   -- the seventh word, which nobody sees whether it finds the process touched
-  touching : InHandler AtWrite h.core h.kept p m → Stands (with_step h (step h.core h.bus)) (touched (touches h.core) m)
+  touching : InHandler AtWrite h.core h.kept p m → Agrees (with_step h (step h.core h.bus)) (touched (touches h.core) m)
   touching z =
       let after_touch : State = with_process m p (touched_process (process_of m p)) in
       let seat = (runs h m p rest k ready).seat in
-      subst (λ (b : Bool). Stands (with_step h (step h.core h.bus)) (touched b m)) (sym (ap (λ (n : ℕ). n == address_of 6) z.pc))
+      subst (λ (b : Bool). Agrees (with_step h (step h.core h.bus)) (touched b m)) (sym (ap (λ (n : ℕ). n == address_of 6) z.pc))
       (as_touched h m p rest k ready (with_step h (step h.core h.bus))
       (at_write h after_touch p rest (stands_after_touch h m p rest k ready user general) ready (touched_handler AtWrite h.core h.kept p m seat z) (is_touched AtWrite h.core h.kept p m seat z)))
 
-  by_phase : (phase : Phase) → InHandler phase h.core h.kept p m → Stands (with_step h (step h.core h.bus)) (touched (touches h.core) m)
+  by_phase : (phase : Phase) → InHandler phase h.core h.kept p m → Agrees (with_step h (step h.core h.bus)) (touched (touches h.core) m)
   by_phase AtContext z = at_context h m p rest k ready z
   by_phase AtAddress z = at_address h m p rest k ready z
   by_phase AtLoad z = at_load h m p rest k ready z
@@ -461,17 +463,23 @@ module _ (h : Held) (m : State) (p : ℕ) (rest : List ℕ) (k : Stands h m) (re
   by_phase AtJump z = at_jump h m p rest k ready z
   by_phase AtReturn z = at_return h m p rest k ready z
 
-  pub word_goes_on : Stands (with_step h (step h.core h.bus)) (touched (touches h.core) m)
+  pub word_goes_on : Agrees (with_step h (step h.core h.bus)) (touched (touches h.core) m)
   word_goes_on = let at = here h m p rest k ready user general in by_phase at.0 at.1
 
 -- each word is a part of the unit
-pub word_follows : (h : Held) → h.kept.state.ready ≢ [] → is_user h.core.system ≡ false → is_served h.core ≡ false → steps.Follows Inside h (with_step h (step h.core h.bus))
+pub word_follows : (h : Held) → h.kept.state.ready ≢ [] → is_user h.core.system ≡ false → is_served h.core ≡ false → steps.Follows Inside h (after_word h (step h.core h.bus))
 word_follows h some user unserved =
     let first = first_ready h.kept.state.ready some in
+    let general : is_general h.core ≡ false = away_is h.core user unserved in
+    let new : Held = after_word h (step h.core h.bus) in
     record {
       follows = λ m k. (
         touched (touches h.core) m,
-        ((λ none. some (sym k.kept.ready ∙ none)), touches h.core, refl),
-        word_goes_on h m first.0 first.1 k first.2 user (away_is h.core user unserved),
+        ((λ none. some (sym k.agrees.kept.ready ∙ none)), touches h.core, refl),
+        record {
+          agrees = own_unseen (with_step h (step h.core h.bus)) new.own (touched (touches h.core) m) (word_goes_on h m first.0 first.1 k.agrees first.2 user general);
+          counted = subst (λ (ps : List ℕ). CountedBy ps new.core new.own new.kept (touched (touches h.core) m)) (sym first.2)
+              (word_tallied h m first.0 first.1 k.agrees first.2 (tallied_of h m first.0 first.1 k first.2) user general);
+        },
       );
     }

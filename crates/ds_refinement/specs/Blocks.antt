@@ -3,17 +3,19 @@ use Rattle.std.specs.Prelude.{◌≡◌, ◌≢◌, ℕ, ◌+◌, ◌≤◌, [],
 use Rattle.ds_pagemap.specs.declared.turn.Turn.{Turn}
 use Rattle.ds_core.specs.Ahead.{Hardware, hardware_of, ticks, owed_tick}
 use Rattle.ds_refinement.specs.Held.{Held, Kept}
+use Rattle.ds_refinement.specs.Counts.{with_counts, fresh, IsFresh}
 use Rattle.ds_refinement.specs.Units.{user_status}
 use Rattle.ds_refinement.specs.Told.{is_delayed}
 use Rattle.ds_refinement.specs.Quiet.{IsQuiet}
 
--- what is held with another processor and bus, at another time and with another boundary owed, and with so many instructions of the unit taken
+-- what is held with another processor and bus, at another time and with another boundary owed, and with so many instructions of the unit taken, and
+-- nothing else
 abbrev pub moved : Held → Hardware → ℕ → Option Turn → ℕ → Held
 moved h hw time owed spent = record h {
   core = hw.core;
   bus = hw.bus;
   kept = record h.kept { state = record h.kept.state { time = time; owed = owed } };
-  own = record h.own { spent = spent };
+  own = with_counts h.own (record (fresh h.own.wired) { spent = spent });
 }
 
 -- the time after so many steps
@@ -43,4 +45,5 @@ pub record MayRunAhead (n : ℕ) (h : Held) : Type 0 where
   pub ready : h.kept.state.ready ≢ []
   pub mode : h.core.system.status ≡ user_status
   pub spent : h.own.spent ≡ owed_tick h.core.slot
+  pub fresh : IsFresh h.own
   pub quiet : IsQuietUntil (h.kept.state.time + n + 1) h.kept

@@ -67,4 +67,4 @@ pub record IsFirst (policy : PolicyValue) (images : List (List ℕ)) (input : In
   pub kept : h.kept ≡ first_kept policy images input h.kept.tables
   pub tables : HasWords h.bus.memory h.kept.tables (first_grants policy)
   pub vectors : handler.HasWords h.bus.memory
-  pub own : h.own ≡ record { failed = false; spent = 0; wired = 0 }
+  pub own : h.own ≡ record { failed = false; spent = 0; written = []; since = 0; wired = 0; tables = 0; services = 0 }

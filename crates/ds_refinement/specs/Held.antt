@@ -25,13 +25,21 @@ pub record Kept : Type 0 where
   -- the time to which the clock was brought
   pub ticked : ℕ
 
--- the station's own marks
+-- the station's own marks, and what it counts of the unit that goes on
 pub record Own : Type 0 where
   pub failed : Bool
   -- how many instructions the unit has taken so far
   pub spent : ℕ
+  -- the slots of the buffer that its refills have written, the newest first
+  pub written : List ℕ
+  -- the steps of Random since the first of these
+  pub since : ℕ
   -- the next of the first eight slots of the buffer, which take the entries of tables' pages in turn
   pub wired : ℕ
+  -- the entries of tables' pages that the unit has put there
+  pub tables : ℕ
+  -- the services after which it went on
+  pub services : ℕ
 
 -- all that a station holds
 pub record Held : Type 0 where

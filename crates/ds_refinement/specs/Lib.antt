@@ -2,6 +2,10 @@ pub mod Told
 pub mod Rows
 pub mod HandlerRows
 pub mod Held
+pub mod Needs
+pub mod Asks
+pub mod Counts
+pub mod CourseRows
 pub mod Units
 pub mod Handling
 pub mod Stands

@@ -2,8 +2,7 @@
 use Rattle.std.specs.Prelude.{◌≡◌, ◌≢◌, ◌⊎◌, ⊤, ℕ, ◌/◌, ◌^◌, true, false, if◌then◌else◌, List, [], ◌∷◌, slice_index, Some, None, IsSome}
 use Rattle.ds_tlb.specs.Entries.{find}
 use Rattle.ds_cp0.specs.System.{asid_of, is_user}
-use Rattle.ds_policy.specs.declared.access.Rule.{Rule}
-use Rattle.ds_policy.specs.declared.access.Verdict.TheVariants.{Allowed, Denied}
+use Rattle.ds_policy.specs.declared.access.Verdict.TheVariants.{Allowed}
 use Rattle.ds_policy.specs.Pages.{decide}
 use Rattle.ds_policy.specs.Grants.{PageState}
 use Rattle.ds_grants.specs.State.{page_state}
@@ -17,19 +16,13 @@ use Rattle.ds_refinement.specs.declared.cause.Cause.TheVariants as cause
 use Rattle.ds_refinement.specs.declared.step.Step.{Step}
 use Rattle.ds_refinement.specs.Held.{Held}
 use Rattle.ds_refinement.specs.Told.{told}
-use Rattle.ds_refinement.specs.Units.{has_left_user, is_served}
+use Rattle.ds_refinement.specs.Units.{EndsUnit, has_left_user, is_served}
 use Rattle.ds_refinement.specs.Pairs.{HasNoNewPairs}
 use Rattle.ds_refinement.specs.Steps.{Follows, Moves}
 
 -- no boundary is owed, and a process is ready
 abbrev pub HasUnit : Held → Type 0
 HasUnit h = (h.kept.state.owed ≡ None) × (h.kept.state.ready ≢ [])
-
--- what was told ends the unit of a process: a call, a fault, or an access that the table denies
-abbrev pub EndsUnit : PageState → ℕ → ℕ → Cause → Type 0
-EndsUnit s p bad (cause.Access access) = (rule : Rule) × (code : ℕ) × (decide s.table p access.kind access.size bad ≡ Denied rule code)
-EndsUnit s p bad (cause.Fault code) = ⊤
-EndsUnit s p bad cause.Call = ⊤
 
 -- what was told lets the unit of a process go on: an access that the table allows
 abbrev pub MayGoBack : PageState → ℕ → ℕ → Cause → Type 0

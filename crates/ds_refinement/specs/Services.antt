@@ -1,11 +1,12 @@
 -- What instructions, services and boundaries make of what is held.
-use Rattle.std.specs.Prelude.{◌≡◌, ℕ, ◌+◌, ◌-◌, ◌%◌, ◌<◌, ◌≤◌, ◌++◌, true, false, if◌then◌else◌, List, [], ◌∷◌, length, flat_map, slice_index, slice_set, Some, None}
+use Rattle.std.specs.Prelude.{◌≡◌, ℕ, ◌+◌, ◌-◌, ◌<◌, ◌≤◌, ◌++◌, true, false, if◌then◌else◌, List, [], ◌∷◌, length, flat_map, slice_index, slice_set, Some, None}
 use Rattle.ds_word.specs.Word.{word, bits}
 use Rattle.ds_isa.specs.Registers.{Registers, settled}
 use Rattle.ds_procs.specs.declared.process.Standing.TheVariants.{Ready}
 use Rattle.ds_log.specs.declared.line.Line.{Line}
 use Rattle.ds_log.specs.Text.{line_text}
 use Rattle.ds_tlb.specs.declared.entry.Entry.{Entry}
+use Rattle.ds_tlb.specs.Entries.{passed}
 use Rattle.ds_tlb.specs.Words.{entry_of}
 use Rattle.ds_cp0.specs.System.{is_user}
 use Rattle.ds_refill.specs.Handler.{HasWords}
@@ -22,7 +23,8 @@ use Rattle.ds_refinement.specs.declared.step.Step.{Step}
 use Rattle.ds_refinement.specs.declared.step.Step.TheVariants.{Inside, Unit}
 use Rattle.ds_refinement.specs.Held.{Held, Kept, Own, no_memory, whole, space_of}
 use Rattle.ds_refinement.specs.Units.{user_status}
-use Rattle.ds_refinement.specs.Handling.{HasBase, IsSet}
+use Rattle.ds_refinement.specs.Handling.{HasBase, IsSet, touches}
+use Rattle.ds_refinement.specs.Counts.{counts_of, with_counts, fresh, one_more, one_word, one_tabled, one_refilled, HasNone, HasRanges}
 use Rattle.ds_refinement.specs.Stands.{AreResting}
 use Rattle.ds_refinement.specs.Steps.{ticks_of}
 
@@ -30,19 +32,19 @@ use Rattle.ds_refinement.specs.Steps.{ticks_of}
 abbrev pub with_turn : ℕ → State → State
 with_turn ticks m = record m { time = m.time + ticks; owed = Some (record { began = m.time; runner = first m.ready }) }
 
--- no instruction of a unit has begun
+-- no unit has begun
 abbrev pub with_none_spent : Own → Own
-with_none_spent own = record own { spent = 0 }
+with_none_spent own = with_counts own (fresh own.wired)
 
--- an instruction begins, and counts
-abbrev pub with_one_spent : Held → Held
-with_one_spent h = record h { own = record h.own { spent = h.own.spent + 1 } }
+-- an instruction of the program counts
+abbrev pub with_one_spent : Own → Own
+with_one_spent own = with_counts own (one_more (counts_of own))
 
--- what is held after one step of the processor: where the instruction is done, so is its unit
+-- what is held after one step of the processor, which counts: where the instruction is done, so is its unit
 abbrev pub after_event : Event → Held → core.Step → Held
 after_event Retired h s = record h { core = s.core; bus = s.bus; kept = record h.kept { state = with_turn (ticks_of h.core.slot) h.kept.state }; own = with_none_spent h.own }
-after_event Branched h s = record h { core = s.core; bus = s.bus }
-after_event (Raised code) h s = record h { core = s.core; bus = s.bus }
+after_event Branched h s = record h { core = s.core; bus = s.bus; own = with_one_spent h.own }
+after_event (Raised code) h s = record h { core = s.core; bus = s.bus; own = with_one_spent h.own }
 
 -- the outcome of an instruction's step: the end of its unit where it is done, else it stays inside
 abbrev pub step_of : Event → Step
@@ -113,12 +115,18 @@ pub record EndsBy (f : State → State) (old new : Held) : Type 0 where
   pub grants : NamesPages new.kept.grants
   pub size : length new.bus.memory ≡ length old.bus.memory
   pub devices : AreResting new.bus new.kept
+  pub none : HasNone new.own
+  pub ranges : HasRanges new.core (counts_of new.own)
 
--- A word of the handler, and services that let the unit go on.
+-- A word of the handler, and the service that lets the unit go on.
 
 -- what is held after a step of the processor that ends no unit
 abbrev pub with_step : Held → core.Step → Held
 with_step h s = record h { core = s.core; bus = s.bus }
+
+-- what is held after a word of the handler, which counts
+abbrev pub after_word : Held → core.Step → Held
+after_word h s = record (with_step h s) { own = with_counts h.own (one_word (touches h.core) h.core.random (counts_of h.own)) }
 
 -- the processor back in user mode, at an address
 abbrev pub at_unit : CoreState → ℕ → CoreState
@@ -127,12 +135,6 @@ at_unit c pc = record c { pc = pc; next = word (pc + 4); slot = false; system = 
 -- registers 26 and 27 go to the refill
 abbrev pub touched_registers : Registers → ℕ → Registers
 touched_registers r pc = record (settled r) { general = slice_set (slice_set r.general 26 0) 27 pc }
-
--- the unit begins again, with registers 26 and 27 lost
-abbrev pub gone_back : Held → Held
-gone_back h = record h {
-  core = record (at_unit h.core h.core.system.epc) { registers = touched_registers h.core.registers h.core.system.epc };
-}
 
 -- the entry of the page that EntryHi names, which is a page of the page table of a process
 abbrev pub table_entry : Held → ℕ → Entry
@@ -146,14 +148,14 @@ abbrev pub with_table_page : Held → ℕ → Held
 with_table_page h p = record h {
   core = record (at_unit h.core (slice_index h.core.registers.general 27)) {
     registers = record h.core.registers { general = slice_set h.core.registers.general 26 0 };
-    entries = slice_set h.core.entries (h.own.wired % 8) (table_entry h p);
+    entries = slice_set h.core.entries h.own.wired (table_entry h p);
   };
-  own = record h.own { wired = (h.own.wired + 1) % 8 };
+  own = with_counts h.own (one_tabled (counts_of h.own));
 }
 
--- so many instructions of the unit are done, which end at this processor
-abbrev pub with_words : Held → CoreState → ℕ → Held
-with_words h c n = record h { core = c; own = record h.own { spent = h.own.spent + n } }
+-- a whole refill is done, which ends at this processor; it wrote the slot that Random named after six words
+abbrev pub with_refill : Held → CoreState → Held
+with_refill h c = record h { core = c; own = with_counts h.own (one_refilled (passed 64 8 6 h.core.random) (counts_of h.own)) }
 
 -- Boundaries.
 

@@ -1,4 +1,4 @@
--- The machine states that a station stands for.
+-- The machine states that a station stands for, and how few steps its unit takes.
 use Rattle.std.specs.Prelude.{◌≡◌, ℕ, ◌%◌, ◌<◌, ◌≤◌, ◌^◌, Bool, true, false, List, [], ◌∷◌, length, flat_map}
 use Rattle.ds_procs.specs.declared.process.Standing.TheVariants.{Ready}
 use Rattle.ds_log.specs.Text.{line_text}
@@ -12,8 +12,11 @@ use Rattle.ds_dev.specs.Bus.{BusState}
 use Rattle.ds_core.specs.Core.{CoreState}
 use Rattle.ds_pagemap.specs.Machine.{State, process_of}
 use Rattle.ds_pagemap.specs.Boundary.{has_passed}
-use Rattle.ds_refinement.specs.Held.{Held, Kept, bare, vacated, space_of, last_boundary}
+use Rattle.ds_bounds.specs.Tally.{IsTallied}
+use Rattle.ds_refinement.specs.Held.{Held, Kept, Own, bare, vacated, space_of, last_boundary}
 use Rattle.ds_refinement.specs.Units.{user_status, AtStart, InSlot, InService, is_general, has_left_user}
+use Rattle.ds_refinement.specs.Needs.{pages_of}
+use Rattle.ds_refinement.specs.Counts.{counts_of, course_of, may_write, HasNone, HasRanges}
 use Rattle.ds_refinement.specs.Handling.{HasBase, IsSet, Phase, InHandler, InDouble}
 
 -- in kernel mode, by whether it is at the general vector, and whether it came there from user mode
@@ -59,8 +62,8 @@ pub record AreResting (b : BusState) (k : Kept) : Type 0 where
   pub ticked : k.ticked ≤ last_boundary k.state
   pub period : has_passed k.state.rate k.ticked (last_boundary k.state) ≡ false
 
--- the station stands for the machine state m
-pub record Stands (h : Held) (m : State) : Type 0 where
+-- the station agrees with the machine state m, whatever it has counted
+pub record Agrees (h : Held) (m : State) : Type 0 where
   pub represented : IsRepresented h.core.entries h.bus.memory h.kept.tables (space_of h.kept) h.kept.grants
   -- the handler's words stand at the vector of misses
   pub vectors : HasWords h.bus.memory
@@ -70,6 +73,16 @@ pub record Stands (h : Held) (m : State) : Type 0 where
   pub kept : KeptIs h.kept.state.ready h.kept h.bus.memory m
   pub running : RunningBy h.kept.state.ready h.core h.kept m
   pub devices : AreResting h.bus h.kept
+
+-- the unit of the first ready process is tallied; where nobody is ready nothing is counted, and the buffer has its ranges
+abbrev pub CountedBy : List ℕ → CoreState → Own → Kept → State → Type 0
+CountedBy [] c own k m = HasNone own × HasRanges c (counts_of own)
+CountedBy (p ∷ rest) c own k m = IsTallied (course_of c (counts_of own) (may_write k p) (pages_of m p))
+
+-- the station stands for the machine state m
+pub record Stands (h : Held) (m : State) : Type 0 where
+  pub agrees : Agrees h m
+  pub counted : CountedBy h.kept.state.ready h.core h.own h.kept m
 
 -- there is a machine state that the station stands for
 pub record IsSound (h : Held) : Type 0 where

@@ -21,7 +21,7 @@ use Rattle.ds_refinement.specs.Told.{told, size_on}
 use Rattle.ds_refinement.specs.Held.{Held, Kept, no_memory, bare, vacated, space_of}
 use Rattle.ds_refinement.specs.Units.{ends_in_stop, own_of, has_left_user, is_served}
 use Rattle.ds_refinement.specs.Steps.{ticks_of}
-use Rattle.ds_refinement.specs.Services.{with_turn, resume_address, seated_process, touched_registers, gone_back, table_entry, with_table_page}
+use Rattle.ds_refinement.specs.Services.{with_turn, resume_address, seated_process, touched_registers, table_entry, with_table_page}
 use Rattle.ds_refinement.specs.First.{first_system, first_bus}
 
 -- two processes, both of which are ready, at time 5; the first has loaded 65 into register 8, where 7 stood
@@ -172,25 +172,9 @@ register_27_has_the_address = refl
 pub register_8_is_left : slice_index lost.general 8 ≡ 65
 register_8_is_left = refl
 
--- a station with a processor, which has done one instruction of its unit and filled so many slots with pages of tables; it has no memory
+-- a station with a processor, which has done four instructions of its unit and filled so many slots with pages of tables; it has no memory
 abbrev pub station : CoreState → ℕ → Held
-station c wired = record { core = c; bus = bus.at_start []; kept = kept; own = record { failed = false; spent = 1; wired = wired } }
-
--- the unit after that
-abbrev pub back : Held
-back = gone_back (station served 0)
-
-pub the_unit_begins_again_at_its_address : back.core.pc ≡ 0x00400008
-the_unit_begins_again_at_its_address = refl
-
-pub user_mode_is_back : back.core.system.status ≡ 0xC03
-user_mode_is_back = refl
-
-pub a_way_back_loses_registers_26_and_27 : back.core.registers ≡ lost
-a_way_back_loses_registers_26_and_27 = refl
-
-pub a_way_back_leaves_the_buffer : back.core.entries ≡ page ∷ other ∷ []
-a_way_back_leaves_the_buffer = refl
+station c wired = record { core = c; bus = bus.at_start []; kept = kept; own = record { failed = false; spent = 4; written = []; since = 0; wired = wired; tables = 0; services = 0 } }
 
 -- The unit goes on after a double miss.
 
@@ -218,6 +202,15 @@ the_page_of_a_table_lies_at_its_place = refl
 
 pub process_2_has_the_page_of_the_empty_table : table_entry (doubled 0) 2 ≡ record table_page { pfn = 1 }
 process_2_has_the_page_of_the_empty_table = refl
+
+pub the_unit_begins_again_at_its_address : (with_table_page (doubled 0) 1).core.pc ≡ 0x00400008
+the_unit_begins_again_at_its_address = refl
+
+pub user_mode_is_back : (with_table_page (doubled 0) 1).core.system.status ≡ 0xC03
+user_mode_is_back = refl
+
+pub a_way_back_loses_register_26 : slice_index (with_table_page (doubled 0) 1).core.registers.general 26 ≡ 0
+a_way_back_loses_register_26 = refl
 
 pub the_page_of_a_table_comes_into_the_next_slot : (with_table_page (doubled 0) 1).core.entries ≡ table_page ∷ other ∷ []
 the_page_of_a_table_comes_into_the_next_slot = refl

@@ -1,12 +1,15 @@
 -- What a step of the station does to the machine states that it stands for.
 use Rattle.std.specs.Prelude.{◌≡◌, ◌≢◌, ℕ, ◌+◌, ◌-◌, ◌*◌, ◌<◌, ◌≤◌, ◌⊎◌, Bool, true, false, not, if◌then◌else◌, [], None, is_some, IsSome}
 use Rattle.ds_word.specs.Word.{truth}
+use Rattle.ds_cp0.specs.System.{is_user}
 use Rattle.ds_pagemap.specs.Machine.{State, touched}
 use Rattle.ds_pagemap.specs.Run.{half_turn, is_over}
 use Rattle.ds_refinement.specs.declared.step.Step.{Step}
 use Rattle.ds_refinement.specs.declared.step.Step.TheVariants.{Inside, Unit, Boundary, Over}
 use Rattle.ds_refinement.specs.Held.{Held}
 use Rattle.ds_refinement.specs.Units.{is_served}
+use Rattle.ds_refinement.specs.Handling.{touches}
+use Rattle.ds_refinement.specs.Counts.{Counts, counts_of, fresh, one_more, one_word, one_tabled}
 use Rattle.ds_refinement.specs.Stands.{Stands}
 
 -- half a turn, with a touch before and after or without
@@ -41,12 +44,21 @@ ticks_of slot = if slot then 2 else 1
 abbrev pub steps_left : Held → ℕ
 steps_left h = 2 * (64 - h.own.spent) + truth (is_served h.core)
 
+-- what is counted after a step inside a unit: after a double miss an entry of a table's page, else an instruction or a word
+abbrev pub counts_after : Held → Counts
+counts_after h =
+    if is_served h.core then one_tabled (counts_of h.own)
+    else if is_user h.core.system then one_more (counts_of h.own)
+    else one_word (touches h.core) h.core.random (counts_of h.own)
+
 -- how the counts and the clock move in a step
 abbrev pub Moves : Step → Held → Held → Type 0
 Moves Inside old new = (old.kept.state.owed ≡ None) × (new.kept.state.owed ≡ None) × (new.kept.state.time ≡ old.kept.state.time)
     × (new.own.spent ≡ old.own.spent + truth (not (is_served old.core))) × (new.own.spent ≤ 64) × (steps_left new < steps_left old) × (new.own.failed ≡ old.own.failed)
+    × (counts_of new.own ≡ counts_after old)
 Moves Unit old new = (old.kept.state.owed ≡ None) × IsSome new.kept.state.owed × (new.kept.state.time ≡ old.kept.state.time + ticks_of old.core.slot)
-    × (new.own.spent ≡ 0) × (new.own.failed ≡ old.own.failed)
+    × (new.own.spent ≡ 0) × (new.own.failed ≡ old.own.failed) × (counts_of new.own ≡ fresh old.own.wired)
 Moves Boundary old new = (new.kept.state.owed ≡ None) × (new.own.spent ≡ 0)
     × (new.kept.state.time ≡ old.kept.state.time + truth (not (is_some old.kept.state.owed))) × (new.own.failed ≡ old.own.failed)
+    × (counts_of new.own ≡ fresh old.own.wired)
 Moves Over old new = new ≡ old

@@ -1,10 +1,11 @@
 -- Where the processor stands in the unit of the process that runs: at its beginning, in the slot of its branch, or in a service.
-use Rattle.std.specs.Prelude.{◌≡◌, ◌⊎◌, ℕ, ◌+◌, ◌<◌, ◌^◌, ◌==◌, ◌&&◌, Bool, true, false, not, if◌then◌else◌, Some, None}
+use Rattle.std.specs.Prelude.{◌≡◌, ◌⊎◌, ⊤, ℕ, ◌+◌, ◌<◌, ◌^◌, ◌==◌, ◌&&◌, Bool, true, false, not, if◌then◌else◌, Some, None}
 use Rattle.ds_word.specs.Word.{word, bits}
 use Rattle.ds_isa.specs.Registers.{Registers, settled}
 use Rattle.ds_policy.specs.declared.access.Rule.{Rule}
 use Rattle.ds_policy.specs.declared.access.Verdict.TheVariants.{Denied}
 use Rattle.ds_policy.specs.Pages.{decide}
+use Rattle.ds_policy.specs.Grants.{PageState}
 use Rattle.ds_cp0.specs.System.{is_user, pushed}
 use Rattle.ds_core.specs.Core.{CoreState}
 use Rattle.ds_pagemap.specs.Machine.{State, process_of}
@@ -45,6 +46,12 @@ ends_in_call p pc m = owes_boundary m.time p (after_call m p pc)
 abbrev pub own_of : Bool → ℕ → ℕ
 own_of delayed unit = if delayed then word (unit + 4) else unit
 
+-- what was told ends the unit of a process: a call, a fault, or an access that the table denies
+abbrev pub EndsUnit : PageState → ℕ → ℕ → Cause → Type 0
+EndsUnit s p bad (cause.Access access) = (rule : Rule) × (code : ℕ) × (decide s.table p access.kind access.size bad ≡ Denied rule code)
+EndsUnit s p bad (cause.Fault code) = ⊤
+EndsUnit s p bad cause.Call = ⊤
+
 -- What the unit from m is where the exception can't be mended; s is m with the processor's registers.
 abbrev pub Promise : Cause → ℕ → Bool → ℕ → ℕ → State → State → Type 0
 Promise (cause.Access access) bad delayed pc p m s =
@@ -77,11 +84,12 @@ pub record InSlot (c : CoreState) (p : ℕ) (m : State) : Type 0 where
   pub within : (process_of m p).pc < 2 ^ 32
   pub branched : instruction m p (process_of m p).pc ≡ Branched (with_registers m p c.registers) c.next
 
--- an exception waits to be served
+-- an exception waits to be served, which ends its unit
 pub record InService (c : CoreState) (p : ℕ) (m : State) : Type 0 where
   pub mode : c.system.status ≡ pushed user_status
   pub first : c.slot ≡ false
   pub owed : m.owed ≡ None
   pub epc : c.system.epc ≡ (process_of m p).pc
   pub registers : (c.registers ≡ settled (process_of m p).registers) ⊎ IsLinked c.registers p m
+  pub ends : EndsUnit m.memory p c.system.bad_vaddr (told c.system m.memory p)
   pub promise : Promise (told c.system m.memory p) c.system.bad_vaddr (is_delayed c.system) (process_of m p).pc p m (with_registers m p c.registers)

@@ -1,4 +1,5 @@
-//! Services that let the unit go on: each law is the contract of a function with an empty body.
+//! The service of a double miss, which lets the unit go on: a law is the contract of a function with
+//! an empty body.
 ghost use Rattle.std.specs.Prelude.{◌≡◌, ◌≢◌, ◌-◌, ◌<◌, ◌≤◌, ℕ, true, false, List, [], ◌∷◌};
 ghost use Rattle.ds_word.specs.Word.{bits};
 ghost use Rattle.ds_refinement.specs.declared.step.Step.TheVariants.{Inside};
@@ -6,15 +7,8 @@ ghost use Rattle.ds_refinement.specs.Held.{Held};
 ghost use Rattle.ds_refinement.specs.Units.{has_left_user, is_served};
 ghost use Rattle.ds_refinement.specs.Stands.{IsSound};
 ghost use Rattle.ds_refinement.specs.Steps.{Follows};
-ghost use Rattle.ds_refinement.specs.Services.{gone_back, with_table_page};
+ghost use Rattle.ds_refinement.specs.Services.{with_table_page};
 ghost use Rattle.ds_refinement.specs.Real.{GoesBack};
-
-/// A service that goes back to the unit begins it again: the machine's running process is touched.
-pub fn a_way_back_begins_the_unit_again()
-    ensures follows { (h : Held) → h.kept.state.ready ≢ [] → is_served h.core ≡ true
-        → has_left_user h.core ≡ true → Follows Inside h (gone_back h) }
-    ensures back { (h : Held) → has_left_user h.core ≡ true → GoesBack h (gone_back h) }
-{}
 
 /// After a double miss EntryHi names a page of a process's page table. Its entry is put into the
 /// buffer, where nothing answered for that page, and the unit begins again.

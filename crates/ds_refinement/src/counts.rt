@@ -8,6 +8,7 @@ ghost use Rattle.ds_refinement.specs.declared.step.Step.TheVariants.{Inside, Uni
 ghost use Rattle.ds_cp0.specs.System.{is_user};
 ghost use Rattle.ds_refinement.specs.Held.{Held};
 ghost use Rattle.ds_refinement.specs.Units.{is_served};
+ghost use Rattle.ds_refinement.specs.Counts.{HasNone, counts_of, one_tabled};
 ghost use Rattle.ds_refinement.specs.Steps.{Moves};
 ghost use Rattle.ds_refinement.specs.Services.{
   EndsBy,
@@ -15,31 +16,31 @@ ghost use Rattle.ds_refinement.specs.Services.{
   step_of,
   with_boundary,
   with_idle_turn,
+  after_word,
   with_none_spent,
-  with_one_spent,
-  with_step,
 };
 ghost use Rattle.ds_refinement.specs.Ends.{EndsInStop, EndsInCall};
 
 /// An instruction of the program counts, up to 64 in a unit.
 pub fn an_instruction_is_counted()
     ensures { (e : Event) (h : Held) (s : CoreStep) → h.kept.state.owed ≡ None
-        → is_served h.core ≡ false → h.own.spent + 1 ≤ 64
-        → Moves (step_of e) h (after_event e (with_one_spent h) s) }
+        → is_user h.core.system ≡ true → h.own.spent + 1 ≤ 64
+        → Moves (step_of e) h (after_event e h s) }
 {}
 
-/// So does a word of the handler, which ends no unit.
+/// So does a word of the handler, which ends no unit; the seventh writes a slot.
 pub fn a_word_is_counted()
     ensures { (h : Held) (s : CoreStep) → h.kept.state.owed ≡ None
-        → is_served h.core ≡ false → h.own.spent + 1 ≤ 64
-        → Moves Inside h (with_step (with_one_spent h) s) }
+        → is_user h.core.system ≡ false → is_served h.core ≡ false → h.own.spent + 1 ≤ 64
+        → Moves Inside h (after_word h s) }
 {}
 
-/// A service that goes back counts nothing, and leaves the kernel.
+/// The service of a double miss counts no instruction, and leaves the kernel.
 pub fn a_way_back_is_counted()
     ensures { (h new : Held) → h.kept.state.owed ≡ None → is_served h.core ≡ true
         → h.own.spent ≤ 64 → new.kept ≡ h.kept → is_user new.core.system ≡ true
-        → new.own.spent ≡ h.own.spent → new.own.failed ≡ h.own.failed → Moves Inside h new }
+        → counts_of new.own ≡ one_tabled (counts_of h.own) → new.own.failed ≡ h.own.failed
+        → Moves Inside h new }
 {}
 
 /// A service that ends its unit takes one tick, and the count begins again.
@@ -54,9 +55,9 @@ pub fn an_ended_unit_is_counted()
 
 /// A boundary takes no time, and an idle turn with its boundary takes a tick.
 pub fn a_boundary_is_counted()
-    ensures boundary { (h : Held) → IsSome h.kept.state.owed → h.own.spent ≡ 0
+    ensures boundary { (h : Held) → IsSome h.kept.state.owed → HasNone h.own
         → Moves Boundary h (with_boundary h) }
-    ensures idle { (h : Held) → h.kept.state.owed ≡ None → h.own.spent ≡ 0
+    ensures idle { (h : Held) → h.kept.state.owed ≡ None → HasNone h.own
         → Moves Boundary h (with_boundary (with_idle_turn h)) }
 {}
 

@@ -1,5 +1,5 @@
 //! The beginning of a run.
-ghost use Rattle.std.specs.Prelude.{◌≡◌, ℕ, ◌<◌, List, length};
+ghost use Rattle.std.specs.Prelude.{◌≡◌, ℕ, ◌<◌, ◌≤◌, List, length};
 ghost use Rattle.ds_policy.specs.Value.{PolicyValue, InputValue};
 ghost use Rattle.ds_grants.specs.Sound.{NamesPages};
 ghost use Rattle.ds_grants.specs.First.{first_grants};
@@ -13,5 +13,6 @@ ghost use Rattle.ds_refinement.specs.First.{IsFirst};
 pub fn a_new_station_stands_for_the_first_state()
     ensures { (policy : PolicyValue) (images : List (List ℕ)) (input : InputValue) (start : ℕ)
         (h : Held) → 0 < length policy.processes → NamesPages (first_grants policy)
+        → 8 ≤ start → start < 64
         → IsFirst policy images input start h → Stands h (first_state policy images input) }
 {}

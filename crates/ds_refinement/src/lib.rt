@@ -1,13 +1,16 @@
 //! The refinement between a station, which is a monitor on the whole processor, and the page-map
 //! machine that it runs: what the one holds, for which states of the other it stands, and that each
-//! instruction, service and boundary of the one is a step of the other.
+//! instruction, service and boundary of the one is a step of the other; and the course of a unit:
+//! what it asks for, how the processor takes it on, and that it is short.
 #![tactic(auto)]
 
+mod asked;
 mod backs;
 mod blocks;
 mod branches;
 mod cause;
 mod counts;
+mod courses;
 mod first;
 mod handler;
 mod instructions;
@@ -18,10 +21,14 @@ mod runs;
 mod seats;
 mod services;
 mod step;
+mod tallies;
 mod told;
 mod turns;
 
-pub use backs::{a_double_miss_goes_back, a_way_back_begins_the_unit_again};
+pub use asked::{
+    a_touch_leaves_what_is_asked_for, an_exception_is_asked_for, an_instruction_goes_on,
+};
+pub use backs::a_double_miss_goes_back;
 pub use blocks::{
     a_block_is_a_path, a_sound_station_is_ready, an_exception_ends_a_block,
     the_last_boundary_decides,
@@ -32,6 +39,7 @@ pub use counts::{
     a_boundary_is_counted, a_served_boundary_is_counted, a_way_back_is_counted, a_word_is_counted,
     an_ended_unit_is_counted, an_instruction_is_counted,
 };
+pub use courses::{a_service_goes_on, a_word_goes_on, the_handler_goes_on};
 pub use first::a_new_station_stands_for_the_first_state;
 pub use handler::{
     a_handler_does_not_see_a_touch, a_miss_enters_the_handler, a_refill_is_a_path, a_word_follows,
@@ -51,8 +59,11 @@ pub use paths::{
 };
 pub use runs::{a_block_is_within_a_run, a_run_goes_on};
 pub use seats::{the_first_comes_in, the_runner_leaves, what_is_kept_is_the_whole_state};
-pub use services::{a_call_ends_its_unit, a_service_ends_its_unit, a_stop_ends_its_unit};
+pub use services::{
+    a_call_ends_its_unit, a_service_ends_its_unit, a_stop_ends_its_unit, what_waits_ends_its_unit,
+};
 pub use step::Step;
+pub use tallies::{the_counts_are_few, the_counts_hold};
 pub use told::{
     a_refused_fetch_is_told, a_refused_load_is_told, a_refused_store_is_told, an_exception_is_told,
     the_buffer_refuses_aligned_addresses,

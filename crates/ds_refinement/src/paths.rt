@@ -16,14 +16,12 @@ ghost use Rattle.ds_refinement.specs.Stands.{IsSound};
 ghost use Rattle.ds_refinement.specs.Steps.{Follows, Moves};
 ghost use Rattle.ds_refinement.specs.Services.{
   after_event,
-  with_one_spent,
-  with_step,
+  after_word,
 };
 ghost use Rattle.ds_refinement.specs.Told.{told};
 ghost use Rattle.ds_refinement.specs.Pairs.{HasNoNewPairs};
-ghost use Rattle.ds_refinement.specs.Units.{has_left_user, is_served};
+ghost use Rattle.ds_refinement.specs.Units.{EndsUnit, has_left_user, is_served};
 ghost use Rattle.ds_refinement.specs.Real.{
-  EndsUnit,
   GoesBack,
   HasUnit,
   IsReal,
@@ -54,9 +52,9 @@ pub fn paths_stay_sound()
 pub fn an_instruction_is_real()
     ensures user { (e : Event) (h : Held) (s : CoreStep) → HasUnit h → is_served h.core ≡ false
         → core_step h.core h.bus ≡ (record { event = e; core = s.core; bus = s.bus })
-        → IsReal h (after_event e (with_one_spent h) s) }
+        → IsReal h (after_event e h s) }
     ensures word { (h : Held) → HasUnit h → is_served h.core ≡ false
-        → IsReal h (with_step (with_one_spent h) (core_step h.core h.bus)) }
+        → IsReal h (after_word h (core_step h.core h.bus)) }
 {}
 
 /// A service that ends its unit is real where the exception came from user mode and what was told

@@ -7,13 +7,14 @@ ghost use Rattle.ds_pagemap.specs.Machine.{State, process_of, with_process, touc
 ghost use Rattle.ds_pagemap_laws.specs.Settled.{all_settled};
 ghost use Rattle.ds_refinement.specs.Held.{Held, Kept, whole, space_of};
 ghost use Rattle.ds_refinement.specs.Handling.{HasBase};
-ghost use Rattle.ds_refinement.specs.Stands.{Stands, IsKept, AreResting};
+ghost use Rattle.ds_refinement.specs.Counts.{HasNone, HasRanges, counts_of};
+ghost use Rattle.ds_refinement.specs.Stands.{Agrees, Stands, IsKept, AreResting};
 ghost use Rattle.ds_refinement.specs.Services.{EntersBy, seated, resume_address};
 
 /// Once the running process is in its seat, with the registers of the processor and the address at
 /// which it goes on, all is kept.
 pub fn the_runner_leaves()
-    ensures { (h : Held) (m : State) (p : ℕ) (rest : List ℕ) → Stands h m
+    ensures { (h : Held) (m : State) (p : ℕ) (rest : List ℕ) → Agrees h m
         → h.kept.state.ready ≡ p ∷ rest
         → IsKept (seated h.core h.kept) h.bus.memory (with_process m p (record (process_of m p) {
           registers = h.core.registers;
@@ -21,12 +22,13 @@ pub fn the_runner_leaves()
         })) }
 {}
 
-/// Where all is kept, the first ready process comes on the processor, touched.
+/// Where all is kept and nothing is counted, the first ready process comes on the processor, touched.
 pub fn the_first_comes_in()
     ensures { (h : Held) (m : State) → IsKept h.kept h.bus.memory m
         → IsRepresented h.core.entries h.bus.memory h.kept.tables (space_of h.kept) h.kept.grants
         → HasWords h.bus.memory → HasBase h.core.system → NamesPages h.kept.grants
         → length h.bus.memory ≡ 2 ^ 23 → AreResting h.bus h.kept
+        → HasNone h.own → HasRanges h.core (counts_of h.own)
         → EntersBy h.kept.state.ready h.core h.kept → Stands h (touched true m) }
 {}
 

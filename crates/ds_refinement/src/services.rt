@@ -12,8 +12,8 @@ ghost use Rattle.ds_refinement.specs.declared.cause.Cause.TheVariants as cause;
 ghost use Rattle.ds_refinement.specs.declared.step.Step.TheVariants.{Unit};
 ghost use Rattle.ds_refinement.specs.Told.{told, is_delayed, own_in};
 ghost use Rattle.ds_refinement.specs.Held.{Held};
-ghost use Rattle.ds_refinement.specs.Units.{is_served, has_left_user};
-ghost use Rattle.ds_refinement.specs.Stands.{Stands};
+ghost use Rattle.ds_refinement.specs.Units.{EndsUnit, is_served, has_left_user};
+ghost use Rattle.ds_refinement.specs.Stands.{Stands, IsSound};
 ghost use Rattle.ds_refinement.specs.Steps.{Comes, Follows};
 ghost use Rattle.ds_refinement.specs.Services.{EndsBy, resume_address};
 ghost use Rattle.ds_refinement.specs.Ends.{EndsInStop, EndsInCall};
@@ -67,4 +67,13 @@ pub fn a_call_ends_its_unit()
         → told h.core.system (page_state h.kept.grants h.bus.memory) p ≡ cause.Call
         → is_delayed h.core.system ≡ false
         → EndsInCall p h new → Follows Unit h new }
+{}
+
+/// An exception of the program that waits for its service ends its unit: it is a call, a fault, or
+/// an access that the table denies.
+pub fn what_waits_ends_its_unit()
+    ensures { (h : Held) (p : ℕ) (rest : List ℕ) → IsSound h → h.kept.state.ready ≡ p ∷ rest
+        → is_served h.core ≡ true → has_left_user h.core ≡ true
+        → EndsUnit (page_state h.kept.grants h.bus.memory) p h.core.system.bad_vaddr
+        (told h.core.system (page_state h.kept.grants h.bus.memory) p) }
 {}

@@ -1,4 +1,4 @@
-//! Boundaries with nothing to do, turns in which no process runs, and the station's own marks.
+//! Boundaries with nothing to do, turns in which no process runs, and the mark of a failure.
 ghost use Rattle.std.specs.Prelude.{◌≡◌, ◌≤◌, true, false, [], None, IsSome};
 ghost use Rattle.ds_pagemap.specs.Boundary.{boundary};
 ghost use Rattle.ds_pagemap.specs.Run.{is_over};
@@ -6,20 +6,21 @@ ghost use Rattle.ds_refinement.specs.declared.step.Step.{Step};
 ghost use Rattle.ds_refinement.specs.declared.step.Step.TheVariants.{Boundary, Over};
 ghost use Rattle.ds_refinement.specs.Held.{Held};
 ghost use Rattle.ds_refinement.specs.Stands.{IsSound};
+ghost use Rattle.ds_refinement.specs.Counts.{HasNone};
 ghost use Rattle.ds_refinement.specs.Steps.{Follows, Stays};
 ghost use Rattle.ds_refinement.specs.Services.{
   EndsBy,
   with_boundary,
   with_idle_turn,
   with_failure,
-  with_one_spent,
 };
 ghost use Rattle.ds_refinement.specs.Quiet.{IsQuiet};
 
 /// A boundary that is owed and has nothing to do takes away only what is owed.
 pub fn a_quiet_boundary()
-    ensures { (h : Held) → IsSome h.kept.state.owed → h.kept.ticked ≤ h.kept.state.time
-        → IsQuiet h.kept → Follows Boundary h (with_boundary h) }
+    ensures { (h : Held) → IsSome h.kept.state.owed → HasNone h.own
+        → h.kept.ticked ≤ h.kept.state.time → IsQuiet h.kept
+        → Follows Boundary h (with_boundary h) }
 {}
 
 /// Any boundary that is owed is served: who runs leaves for its seat, the boundary is done to what
@@ -50,10 +51,9 @@ pub fn nothing_is_left_to_do()
         → Follows Over h h }
 {}
 
-/// The machine doesn't see that the station fails, nor how it counts.
+/// The machine doesn't see that the station fails.
 pub fn a_failure_is_not_seen()
-    ensures failure { (h : Held) → Stays h (with_failure h) }
-    ensures count { (h : Held) → Stays h (with_one_spent h) }
+    ensures { (h : Held) → Stays h (with_failure h) }
 {}
 
 /// A station that stands for some state stands for some state after each step; and before a step

@@ -25,7 +25,7 @@ use Rattle.ds_station.specs.declared.fault.Fault.TheVariants as fault
 -- what a station holds of a state that it stands for
 module _ (h : Held) (m : State) (k : Stands h m) where
   kept : record (bare m) { processes = [] } ≡ record h.kept.state { processes = [] }
-  kept = beside h.kept.state.ready m h.kept.state k.kept.state
+  kept = beside h.kept.state.ready m h.kept.state k.agrees.kept.state
 
   pub consoles_stand : m.consoles ≡ h.kept.state.consoles
   consoles_stand = ap (λ (s : State). s.consoles) kept
@@ -40,8 +40,8 @@ module _ (h : Held) (m : State) (k : Stands h m) where
   pub text_alike : held_text h ≡ text_of m
   text_alike =
       ap (λ (cs : List (List ℕ)). report_text cs h.kept.lines h.kept.log h.kept.state.time) (sym consoles_stand)
-      ∙ (ap (λ (n : ℕ). report_text m.consoles n h.kept.log h.kept.state.time) (sym k.kept.lines)
-      ∙ (ap (λ (l : List ℕ). report_text m.consoles (length m.log) l h.kept.state.time) (sym k.kept.log)
+      ∙ (ap (λ (n : ℕ). report_text m.consoles n h.kept.log h.kept.state.time) (sym k.agrees.kept.lines)
+      ∙ (ap (λ (l : List ℕ). report_text m.consoles (length m.log) l h.kept.state.time) (sym k.agrees.kept.log)
       ∙ ap (λ (t : ℕ). report_text m.consoles (length m.log) (flat_map line_text m.log) t) (sym time_stands)))
 
 -- the report of the four consoles, each read by itself

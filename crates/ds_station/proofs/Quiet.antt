@@ -102,8 +102,8 @@ shows n m t h r q e k =
       halves = length choices;
       over = goes_on_alike n (untouched_run n m choices) a twin ∙ (sym (goes_on_touched n e.reached.early a) ∙ (ap (goes_on n) (sym to) ∙ e.over));
       consoles = sym (consoles_stand h t k) ∙ (ap (λ (s : State). s.consoles) to ∙ (touched_consoles e.reached.early a ∙ ap (λ (s : State). s.consoles) twin.is));
-      lines = sym k.kept.lines ∙ ap (λ (ls : List Line). length ls) logs;
-      log = sym k.kept.log ∙ ap (λ (ls : List Line). flat_map line_text ls) logs;
+      lines = sym k.agrees.kept.lines ∙ ap (λ (ls : List Line). length ls) logs;
+      log = sym k.agrees.kept.log ∙ ap (λ (ls : List Line). flat_map line_text ls) logs;
       time = sym (time_stands h t k) ∙ (ap (λ (s : State). s.time) to ∙ (touched-time e.reached.early a ∙ ap (λ (s : State). s.time) twin.is));
     }
 

@@ -12,6 +12,8 @@ use Rattle.ds_refinement.specs.Services.{with_failure}
 use Rattle.ds_refinement.specs.Real.{IsNoBusError, Through}
 use Rattle.ds_refinement.specs.Runs.{RunsTo, RunsWithin, held_goes_on}
 use Rattle.ds_refinement.proofs.Stages.{no_bus_error}
+use Rattle.ds_refinement.specs.Counts.{IsFew}
+use Rattle.ds_refinement.proofs.Tallied.{failure_stands, few_of}
 use Rattle.ds_refinement.proofs.RunSteps.{within_stays, to_end}
 use Rattle.ds_kernel.specs.declared.halt.Halt.{Halt}
 use Rattle.ds_kernel.specs.declared.halt.Halt.TheVariants as halt
@@ -21,7 +23,11 @@ use Rattle.ds_station.specs.Faults.{IsFaultAfter, of_halt}
 
 -- a station that is sound has a buffer in which no two entries match
 pub sound_single : (h : Held) → IsSound h → IsSingle h.core.entries
-sound_single h s = s.stands.represented.buffer.single
+sound_single h s = s.stands.agrees.represented.buffer.single
+
+-- and the counts of its unit are few
+pub sound_few : (h : Held) → IsSound h → IsFew h.own
+sound_few h s = few_of h s.state s.stands
 
 -- no instruction of a user of a station that is sound meets a bus error
 pub no_error : (h : Held) → IsSound h → h.kept.state.owed ≡ None → h.kept.state.ready ≢ [] → is_user h.core.system ≡ true → h.core.pc < 2 ^ 32 → IsNoBusError (step h.core h.bus).event
@@ -53,9 +59,7 @@ ran_to n old new r over = to_end n old new r.within over
 
 -- each state that the station stood for, it stands for as one that has failed
 pub stands_still : (h : Held) → Stays h (with_failure h)
-stands_still h = record {
-  stays = λ m k. record { represented = k.represented; vectors = k.vectors; base = k.base; grants = k.grants; size = k.size; kept = k.kept; running = k.running; devices = k.devices };
-}
+stands_still h = record { stays = failure_stands h }
 
 module _ (n : ℕ) (h : Halt) (old new : Held) (w : WasCut n h old new) where
   pub cut_after : IsFaultAfter old.own.failed (of_halt h)

@@ -1,11 +1,39 @@
-use Rattle.std.proofs.Common.{◌≡◌, true, false, sym, ap, subst, ◌∙◌}
+use Rattle.std.proofs.Common.{◌≡◌, ◌<◌, ◌≤◌, true, false, length, sym, ap, subst, ◌∙◌, arith}
 use Rattle.ds_cp0.specs.System.{is_user}
 use Rattle.ds_refinement.specs.declared.step.Step.{Step}
 use Rattle.ds_refinement.specs.Held.{Held}
 use Rattle.ds_kernel.specs.Parts.{held}
+use Rattle.ds_refinement.specs.Handling.{touches}
+use Rattle.ds_refinement.proofs.Tallied.{few_of}
+use Rattle.ds_refinement.proofs.WordTallies.{word_room}
 use Rattle.ds_kernel.specs.Ended.{Does}
-use Rattle.ds_kernel.proofs.Stepping.{attempt_does, attempt_good, word_does, word_good}
+use Rattle.ds_kernel.proofs.Stepping.{at_seventh, attempt_does, attempt_good, word_does, word_good}
 use Rattle.ds_kernel.proofs.parts.Parts.attempt.Goals as goal
+
+-- What is counted before leaves room.
+
+pub execute-step-requires-clause-spent : goal.execute-step-requires-clause-spent
+execute-step-requires-clause-spent g c = subst (λ (x : Held). x.own.spent ≤ 64) (sym c.in_ok-begin.ensures.ok) c.requires.good.orderly.spent
+
+pub execute-step-requires-clause-since : goal.execute-step-requires-clause-since
+execute-step-requires-clause-since g c =
+    let good = c.requires.good in
+    subst (λ (x : Held). x.own.since < 56) (sym c.in_ok-begin.ensures.ok) (few_of (held c.args.self.now) good.sound.state good.sound.stands).since
+
+pub word-requires-clause-spent : goal.word-requires-clause-spent
+word-requires-clause-spent g c = subst (λ (x : Held). x.own.spent ≤ 64) (sym c.in_ok-begin.ensures.ok) c.requires.good.orderly.spent
+
+pub word-requires-clause-since : goal.word-requires-clause-since
+word-requires-clause-since g c =
+    let good = c.requires.good in
+    subst (λ (x : Held). x.own.since < 56) (sym c.in_ok-begin.ensures.ok) (few_of (held c.args.self.now) good.sound.state good.sound.stands).since
+
+pub word-requires-clause-few : goal.word-requires-clause-few
+word-requires-clause-few g c =
+    let begun = c.in_ok-begin.ensures.ok in
+    let kernel : is_user c.args.self.now.core.system ≡ false = sym (ap (λ (x : Held). is_user x.core.system) begun) ∙ (sym c.is_user.ensures ∙ c.if-is_user.false) in
+    subst (λ (x : Held). touches x.core ≡ true → length x.own.written ≤ 3) (sym begun)
+    (λ is. (word_room (held c.args.self.now) c.requires.good.sound c.requires.ready 6 (omega arith) kernel (at_seventh c.args.self.now.core.pc is)).0)
 
 -- An instruction of the program.
 

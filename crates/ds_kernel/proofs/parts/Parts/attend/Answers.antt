@@ -20,8 +20,8 @@ arrive-requires g c =
       wired = c.requires.wired;
       before = c.requires.good.orderly.ticked;
       early = c.requires.early;
-      on = is_scanned old.bus (kept_of old.monitor) sound.stands.devices;
-      lines = none_received old.bus.serial.silo (is_empty old.bus (kept_of old.monitor) sound.stands.devices);
+      on = is_scanned old.bus (kept_of old.monitor) sound.stands.agrees.devices;
+      lines = none_received old.bus.serial.silo (is_empty old.bus (kept_of old.monitor) sound.stands.agrees.devices);
       mode = (at_boundary (held old) turn.0 sound turn.1).0;
     }
 
@@ -52,6 +52,8 @@ look_ahead-requires g c =
 
 pub end_unit-requires : goal.end_unit-requires
 end_unit-requires g c = record {
+  slots = c.requires.slots;
+  wired = c.requires.wired;
   lawful = subst (λ (m : Monitor). IsLawful (whole (kept_of m) [] [])) (sym c.look_ahead.ensures) c.serve_turn.ensures.orderly.lawful;
   answered = λ q is. absurd cc;
 }
@@ -62,4 +64,4 @@ returns g c =
     let turn = some_turn old.monitor.owed c.requires.owed in
     has_attended old c.arrive.new.self c.serve_turn.new.self c.end_unit.new.self c.look_ahead.new.self turn.0 c.requires.good.sound turn.1 c.requires.good.orderly.ticked
     c.requires.high c.requires.low c.look_at_order.ensures.lines c.arrive.ensures.state c.serve_turn.ensures.serves c.serve_turn.ensures.orderly c.serve_turn.ensures.count c.serve_turn.ensures.bus c.serve_turn.ensures.low c.serve_turn.ensures.keeps c.serve_turn.ensures.pairs c.serve_turn.ensures.random c.serve_turn.ensures.rest
-    c.look_ahead.ensures c.end_unit.ensures.enters c.end_unit.ensures.represented c.end_unit.ensures.pairs c.end_unit.ensures.context c.end_unit.ensures.pages c.end_unit.ensures.random c.end_unit.ensures.rest
+    c.look_ahead.ensures c.end_unit.ensures.enters c.end_unit.ensures.represented c.end_unit.ensures.pairs c.end_unit.ensures.context c.end_unit.ensures.pages c.end_unit.ensures.random c.end_unit.ensures.own c.end_unit.ensures.whole c.end_unit.ensures.rest

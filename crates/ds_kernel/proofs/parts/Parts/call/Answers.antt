@@ -2,6 +2,8 @@ use Rattle.std.proofs.Common.{◌≡◌, ◌<◌, ◌≤◌, ℕ, length, arith,
 use Rattle.ds_isa.specs.Registers.{Registers, settled}
 use Rattle.ds_procs.specs.Calls.{call_of}
 use Rattle.ds_pagemap.specs.Machine.{Process, process_of}
+use Rattle.ds_refinement.specs.Services.{with_none_spent}
+use Rattle.ds_kernel.specs.Parts.{own_of}
 use Rattle.ds_kernel.specs.declared.parts.Parts.{Parts}
 use Rattle.ds_kernel.proofs.Keeping.{left_alive, first_left}
 use Rattle.ds_kernel.proofs.Answering.{caller_answered}
@@ -33,6 +35,8 @@ end_unit-requires g c =
     let as_long : length (process_of left.state p).registers.general ≡ length old.core.registers.general = ap (λ (r : Registers). length r.general) same in
     let long : 2 < length (process_of left.state p).registers.general = omega (arith, size, as_long) in
     record {
+      slots = c.requires.slots;
+      wired = c.requires.wired;
       lawful = c.serve_call.ensures.orderly.lawful;
       answered = λ q is.
           let e : p ≡ q = cc in
@@ -67,6 +71,5 @@ returns-clause-ends g c =
     c.serve_call.ensures.orderly c.serve_call.ensures.lines c.serve_call.ensures.log c.serve_call.ensures.serves c.serve_call.ensures.size c.serve_call.ensures.elsewhere
     c.serve_call.ensures.keeps c.serve_call.ensures.pairs (ap (λ (x : Parts g.row.L.Denot). x.monitor) served))
     (comes_in f old left new mid.monitor mid.core.entries memory p c.leave.ensures.rest c.end_unit.ensures.enters c.end_unit.ensures.represented c.end_unit.ensures.pages (c.end_unit.ensures.random ∙ c.serve_call.ensures.random)
-    (ap (λ (x : Parts g.row.L.Denot). x.bus.memory) rest) rests (ap (λ (x : Parts g.row.L.Denot). x.monitor) rest) (ap (λ (x : Parts g.row.L.Denot). x.failed) rest ∙ ap (λ (x : Parts g.row.L.Denot). x.failed) served) (ap (λ (x : Parts g.row.L.Denot). x.spent) rest)
-    (ap (λ (x : Parts g.row.L.Denot). x.wired) rest ∙ ap (λ (x : Parts g.row.L.Denot). x.wired) served)
+    (ap (λ (x : Parts g.row.L.Denot). x.bus.memory) rest) rests (ap (λ (x : Parts g.row.L.Denot). x.monitor) rest) (c.end_unit.ensures.own ∙ ap (λ (x : Parts g.row.L.Denot). with_none_spent (own_of x)) served) c.end_unit.ensures.whole
     (c.end_unit.ensures.context ∙ ap (λ (x : Parts g.row.L.Denot). x.core.system.context) served) c.end_unit.ensures.pairs)

@@ -19,7 +19,7 @@ returns g c =
     let p = c.args.process in
     let k = kept_of old.monitor in
     let q = process_of k.state p in
-    let go = c.go_on_behind_call.ensures q in
+    let go = c.go_on_behind_call.ensures.rest q in
     let monitor = ap (λ (x : Parts g.row.L.Denot). x.monitor) go ∙ ap (λ (m : Monitor). record m { time = m.time + 1 }) c.take_answer-answer.ensures.rest in
     let bus = ap (λ (x : Parts g.row.L.Denot). x.bus) go in
     is_answered p c.take_answer-answer.result Get (with_taken p k.state).queues k.state.consoles old new c.requires.waits (asks_get old.core.registers.general c.requires.number)
@@ -32,4 +32,4 @@ returns g c =
     (ap (λ (x : Parts g.row.L.Denot). kept_of x.monitor) go ∙ ap (λ (z : Kept). record z { state = record z.state { time = z.state.time + 1 } }) c.take_answer-answer.ensures.kept)
     (ap (λ (m : Monitor). m.quiet_until) monitor)
     (λ room. subst (HasLogRoom 1) (sym monitor) room)
-    (ap (λ (x : Parts g.row.L.Denot). x.failed) go) (ap (λ (x : Parts g.row.L.Denot). x.spent) go) (ap (λ (x : Parts g.row.L.Denot). x.wired) go)
+    c.go_on_behind_call.ensures.own

@@ -1,14 +1,11 @@
-use Rattle.std.proofs.Common.{◌≡◌, sym, ap, subst, arith}
-use Rattle.ds_cp0.specs.System.{is_user}
+use Rattle.std.proofs.Common.{◌≡◌, sym, subst, arith}
 use Rattle.ds_policy.specs.declared.access.Verdict.TheVariants.{Allowed, Denied}
 use Rattle.ds_policy.specs.Pages.{decide}
 use Rattle.ds_pagemap.specs.Unit.{denied_as}
 use Rattle.ds_refinement.specs.declared.step.Step.{Step}
-use Rattle.ds_refinement.specs.Held.{Held}
-use Rattle.ds_kernel.specs.declared.parts.Parts.{Parts}
 use Rattle.ds_kernel.specs.Parts.{held}
 use Rattle.ds_kernel.specs.Ended.{Does}
-use Rattle.ds_kernel.proofs.Doing.{kernel_of, verdict_is, denied_small, stopped_as, denied_step, back_step, back_good, ended_good}
+use Rattle.ds_kernel.proofs.Doing.{kernel_of, verdict_is, denied_small, stopped_as, denied_step, never_allowed, ended_good}
 use Rattle.ds_kernel.proofs.parts.Parts.miss.Goals as goal
 
 pub stop-requires-clause-code : goal.stop-requires-clause-code
@@ -21,23 +18,15 @@ stop-requires-clause-code g c =
 pub stop-requires-clause-kernel : goal.stop-requires-clause-kernel
 stop-requires-clause-kernel g c = kernel_of c.args.self.now.core c.requires.served
 
-pub returns-in-Allowed-clause-does : goal.returns-in-Allowed-clause-does
-returns-in-Allowed-clause-does g c =
+pub unreachable-requires : goal.unreachable-requires
+unreachable-requires g c =
     let old = c.args.self.now in
-    let new = c.go_back.new.self in
     let decides : decide old.monitor.grants.table c.args.process c.args.access.kind c.args.access.size old.core.system.bad_vaddr ≡ Allowed c.in-Allowed.page c.in-Allowed.offset =
     verdict_is _ old.monitor.grants.table c.args.process c.args.access _ old.core.system.bad_vaddr _ (Allowed c.in-Allowed.page c.in-Allowed.offset) c.decide.ensures.exact c.table.ensures.value c.bad_address-address.ensures c.in-Allowed.is in
-    back_step c.args.process old new c.requires.busy c.requires.served c.requires.left c.args.access c.in-Allowed.page c.in-Allowed.offset c.requires.told decides c.go_back.ensures.held
+    never_allowed c.args.process old old c.requires.busy c.requires.served c.requires.left c.args.access c.in-Allowed.page c.in-Allowed.offset c.requires.told decides
 
-pub returns-in-Allowed-clause-good : goal.returns-in-Allowed-clause-good
-returns-in-Allowed-clause-good g c =
-    let old = c.args.self.now in
-    let rest = c.go_back.ensures.rest in
-    back_good c.args.process old c.go_back.new.self c.requires.busy (ap (λ (x : Parts g.row.L.Denot). x.monitor) rest) (ap (λ (x : Parts g.row.L.Denot). x.spent) rest)
-    (ap (λ (x : Parts g.row.L.Denot). x.failed) rest) (ap (λ (x : Held). is_user x.core.system) c.go_back.ensures.held) (returns-in-Allowed-clause-does g c)
-
-pub returns-in-Denied-clause-does : goal.returns-in-Denied-clause-does
-returns-in-Denied-clause-does g c =
+pub returns-clause-does : goal.returns-clause-does
+returns-clause-does g c =
     let old = c.args.self.now in
     let new = c.stop.new.self in
     let denied : decide old.monitor.grants.table c.args.process c.args.access.kind c.args.access.size old.core.system.bad_vaddr ≡ Denied c.in-Denied.rule c.in-Denied.code =
@@ -46,9 +35,9 @@ returns-in-Denied-clause-does g c =
     (denied_step c.args.process old new c.requires.busy c.requires.served c.requires.left c.args.access c.in-Denied.rule c.in-Denied.code c.requires.told denied
     (stopped_as c.args.process old new c.denied_as.result (denied_as c.args.access.kind) c.bad_address-address.result old.core.system.bad_vaddr c.in-Denied.rule c.in-Denied.code c.denied_as.ensures c.bad_address-address.ensures c.stop.ensures.ends))
 
-pub returns-in-Denied-clause-good : goal.returns-in-Denied-clause-good
-returns-in-Denied-clause-good g c =
+pub returns-clause-good : goal.returns-clause-good
+returns-clause-good g c =
     let old = c.args.self.now in
     let new = c.stop.new.self in
     ended_good _ c.args.process old new c.requires.busy c.stop.ensures.ends
-    (subst (λ (s : Step). Does s (held old) (held new)) c.stop.ensures.step (returns-in-Denied-clause-does g c))
+    (subst (λ (s : Step). Does s (held old) (held new)) c.stop.ensures.step (returns-clause-does g c))

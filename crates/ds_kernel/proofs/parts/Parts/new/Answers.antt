@@ -3,6 +3,7 @@ use Rattle.std.specs.Prelude.{slice_index_or}
 use Rattle.ds_tlb.specs.declared.entry.Entry.{Entry}
 use Rattle.ds_tlb.specs.Entries.{empty_entries}
 use Rattle.ds_dev.specs.Bus.{BusState}
+use Rattle.ds_core.specs.Core.{CoreState}
 use Rattle.ds_policy.specs.declared.policy.PolicyProcess.{PolicyProcess}
 use Rattle.ds_mem.proofs.Zeros.{frame_of-zeros}
 use Rattle.ds_refill.specs.Handler as handler
@@ -59,8 +60,13 @@ returns-clause-first g c =
 pub returns-clause-stands : goal.returns-clause-stands
 returns-clause-stands g c =
     let some : 0 < length c.args.policy.now.processes = omega (arith, c.processes.ensures.some) in
+    let whole = c.look_at_processor.ensures.whole in
+    let first = returns-clause-first g c in
+    let random = ap (λ (x : CoreState). x.random) first.core in
+    let low = subst (λ (n : ℕ). 8 ≤ n) random whole.low in
+    let high = subst (λ (n : ℕ). n < 64) random whole.high in
     let named = subst NamesPages (ap (λ (k : Kept). k.grants) c.in_ok-monitor.ensures.first) c.table.ensures.pages in
-    first_stands c.args.policy.now c.args.images.now c.args.events _ _ some named (returns-clause-first g c)
+    first_stands c.args.policy.now c.args.images.now c.args.events _ _ some named low high first
 
 pub returns-clause-good : goal.returns-clause-good
 returns-clause-good g c = first_good _ c.args.policy.now c.args.images.now c.args.events _ (returns-clause-first g c) (returns-clause-stands g c) c.in_ok-monitor.ensures.orderly (record { high = c.rate.ensures.high; low = c.rate.ensures.low }) c.in_ok-monitor.ensures.next c.in_ok-monitor.ensures.few

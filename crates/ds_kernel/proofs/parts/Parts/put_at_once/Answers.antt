@@ -19,7 +19,7 @@ returns g c =
     let byte = c.first_argument-byte.result in
     let k = kept_of old.monitor in
     let q = process_of k.state p in
-    let go = c.go_on_behind_call.ensures q in
+    let go = c.go_on_behind_call.ensures.rest q in
     let monitor = ap (λ (x : Parts g.row.L.Denot). x.monitor) go ∙ ap (λ (m : Monitor). record m { time = m.time + 1 }) c.put.ensures.rest in
     let bus = ap (λ (x : Parts g.row.L.Denot). x.bus) go ∙ c.put.ensures.bus in
     is_answered p 0 (Put byte) k.state.queues (after_put k.state p byte).consoles old new c.requires.waits (asks_put old.core.registers.general c.requires.number ∙ ap Put (sym c.first_argument-byte.ensures))
@@ -31,4 +31,4 @@ returns g c =
     (ap (λ (x : Parts g.row.L.Denot). kept_of x.monitor) go ∙ ap (λ (z : Kept). record z { state = record z.state { time = z.state.time + 1 } }) c.put.ensures.kept)
     (ap (λ (m : Monitor). m.quiet_until) monitor)
     (λ room. subst (HasLogRoom 1) (sym monitor) room)
-    (ap (λ (x : Parts g.row.L.Denot). x.failed) go) (ap (λ (x : Parts g.row.L.Denot). x.spent) go) (ap (λ (x : Parts g.row.L.Denot). x.wired) go)
+    c.go_on_behind_call.ensures.own

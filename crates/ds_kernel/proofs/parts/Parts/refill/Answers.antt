@@ -1,15 +1,64 @@
-use Rattle.std.proofs.Common.{arith}
-use Rattle.ds_kernel.proofs.Refilling.{missed_kernel, refill_good, refill_goes}
+use Rattle.std.proofs.Common.{◌≡◌, ◌<◌, ◌≤◌, refl, ap, subst, sym, length, arith}
+use Rattle.std.specs.Prelude.{is_some}
+use Rattle.ds_core.specs.Core.{CoreState}
+use Rattle.ds_refill_laws.specs.Refill.{handler_events}
+use Rattle.ds_handler.specs.Refills.{RunsInside}
+use Rattle.ds_refinement.proofs.Tallied.{few_of}
+use Rattle.ds_refinement.proofs.WordTallies.{word_room}
+use Rattle.ds_kernel.specs.declared.parts.Parts.{Parts}
+use Rattle.ds_kernel.specs.Parts.{held}
+use Rattle.ds_kernel.proofs.Refilling.{missed_kernel, missed_at, refilled_is, refill_good, refill_few, refill_begun, refill_goes}
 use Rattle.ds_kernel.proofs.parts.Parts.refill.Goals as goal
 
-pub returns-clause-good : goal.returns-clause-good
-returns-clause-good g c =
-    let old = c.args.self.now in
-    let few = c.if-self-ge-MOST_SPENT.false in
-    refill_good old c.refill_at_once.new.core c.requires.good c.requires.ready (missed_kernel old.core c.requires.missed) (omega (arith, few)) (c.refill_at_once.ensures.done c.if-not-refill_at_once.false)
+-- What is counted before leaves room.
 
-pub returns-clause-nearer : goal.returns-clause-nearer
-returns-clause-nearer g c = λ _ n soon.
+pub count_refill-requires-clause-spent : goal.count_refill-requires-clause-spent
+count_refill-requires-clause-spent g c = c.requires.good.orderly.spent
+
+pub count_refill-requires-clause-since : goal.count_refill-requires-clause-since
+count_refill-requires-clause-since g c = let good = c.requires.good in (few_of (held c.args.self.now) good.sound.state good.sound.stands).since
+
+pub count_refill-requires-clause-few : goal.count_refill-requires-clause-few
+count_refill-requires-clause-few g c =
     let old = c.args.self.now in
-    let few = c.if-self-ge-MOST_SPENT.false in
-    refill_goes old c.refill_at_once.new.core c.requires.good c.requires.ready (missed_kernel old.core c.requires.missed) (omega (arith, few)) (c.refill_at_once.ensures.done c.if-not-refill_at_once.false) n soon
+    (word_room (held old) c.requires.good.sound c.requires.ready 0 (omega arith) (missed_kernel old.core c.requires.missed) (missed_at old.core c.requires.missed)).0
+
+-- The nine words are done and counted.
+
+pub returns-in-Some-clause-words : goal.returns-in-Some-clause-words
+returns-in-Some-clause-words g c = λ done.
+    let old = c.args.self.now in
+    subst (λ (d : CoreState). RunsInside 0 handler_events old.core old.bus d) (sym (ap (λ (x : Parts g.row.L.Denot). x.core) c.count_refill.ensures.rest)) (c.refill_at_once.ensures.done (ap is_some c.in-Some.is))
+
+pub returns-in-Some-clause-good : goal.returns-in-Some-clause-good
+returns-in-Some-clause-good g c =
+    let old = c.args.self.now in
+    let new = c.count_refill.new.self in
+    refill_good old new c.requires.good c.requires.ready (missed_kernel old.core c.requires.missed)
+    (refilled_is old new c.refill_at_once.new.core c.in-Some.slot c.in-Some.ensures.slot c.count_refill.ensures.own c.count_refill.ensures.rest)
+    (ap (λ (x : Parts g.row.L.Denot). x.monitor) c.count_refill.ensures.rest) (returns-in-Some-clause-words g c refl)
+
+pub returns-in-Some-clause-nearer : goal.returns-in-Some-clause-nearer
+returns-in-Some-clause-nearer g c = λ done n soon.
+    let old = c.args.self.now in
+    let new = c.count_refill.new.self in
+    refill_goes old new c.requires.good c.requires.ready (missed_kernel old.core c.requires.missed)
+    (refilled_is old new c.refill_at_once.new.core c.in-Some.slot c.in-Some.ensures.slot c.count_refill.ensures.own c.count_refill.ensures.rest)
+    (ap (λ (x : Parts g.row.L.Denot). x.monitor) c.count_refill.ensures.rest) (returns-in-Some-clause-words g c done) n soon
+
+pub returns-in-Some-clause-few : goal.returns-in-Some-clause-few
+returns-in-Some-clause-few g c = λ done.
+    let old = c.args.self.now in
+    let new = c.count_refill.new.self in
+    let few = refill_few old new c.requires.good c.requires.ready (missed_kernel old.core c.requires.missed)
+    (refilled_is old new c.refill_at_once.new.core c.in-Some.slot c.in-Some.ensures.slot c.count_refill.ensures.own c.count_refill.ensures.rest)
+    (ap (λ (x : Parts g.row.L.Denot). x.monitor) c.count_refill.ensures.rest) (returns-in-Some-clause-words g c done) in
+    omega (arith, few)
+
+pub returns-in-Some-clause-begun : goal.returns-in-Some-clause-begun
+returns-in-Some-clause-begun g c = λ done.
+    let old = c.args.self.now in
+    let new = c.count_refill.new.self in
+    refill_begun old new c.requires.good c.requires.ready (missed_kernel old.core c.requires.missed)
+    (refilled_is old new c.refill_at_once.new.core c.in-Some.slot c.in-Some.ensures.slot c.count_refill.ensures.own c.count_refill.ensures.rest)
+    (ap (λ (x : Parts g.row.L.Denot). x.monitor) c.count_refill.ensures.rest) (returns-in-Some-clause-words g c done)

@@ -12,6 +12,8 @@ use Rattle.ds_kernel.proofs.parts.Parts.stop.Goals as goal
 
 pub end_unit-requires : goal.end_unit-requires
 end_unit-requires g c = record {
+  slots = c.requires.slots;
+  wired = c.requires.wired;
   lawful = (c.stop_unit.ensures.orderly (c.leave.ensures.orderly c.look_at_unit.ensures.orderly)
       (left_alive c.args.self.now.core (kept_of c.args.self.now.monitor) (kept_of c.leave.new.self.monitor) c.args.process c.leave.ensures.kept c.look_at_unit.ensures.first c.look_at_unit.ensures.above c.look_at_unit.ensures.within c.look_at_unit.ensures.alive)).lawful;
   answered = λ q is. absurd cc;
@@ -33,5 +35,5 @@ returns-clause-ends g c =
     (comes_in f old left new between left.core.entries old.bus.memory c.args.process c.leave.ensures.rest c.end_unit.ensures.enters
     (subst (λ (m : List ℕ). IsRepresented left.core.entries m between.tables (space_of (kept_of between)) between.grants → IsRepresented new.core.entries new.bus.memory new.monitor.tables (space_of (kept_of new.monitor)) new.monitor.grants)
     (ap (λ (x : Parts g.row.L.Denot). x.bus.memory) c.leave.ensures.rest) c.end_unit.ensures.represented) c.end_unit.ensures.pages c.end_unit.ensures.random
-    (ap (λ (x : Parts g.row.L.Denot). x.bus.memory) rest ∙ ap (λ (x : Parts g.row.L.Denot). x.bus.memory) c.leave.ensures.rest) (rest_alike left.bus new.bus (ap (λ (x : Parts g.row.L.Denot). x.bus) rest)) (ap (λ (x : Parts g.row.L.Denot). x.monitor) rest) (ap (λ (x : Parts g.row.L.Denot). x.failed) rest) (ap (λ (x : Parts g.row.L.Denot). x.spent) rest) (ap (λ (x : Parts g.row.L.Denot). x.wired) rest)
+    (ap (λ (x : Parts g.row.L.Denot). x.bus.memory) rest ∙ ap (λ (x : Parts g.row.L.Denot). x.bus.memory) c.leave.ensures.rest) (rest_alike left.bus new.bus (ap (λ (x : Parts g.row.L.Denot). x.bus) rest)) (ap (λ (x : Parts g.row.L.Denot). x.monitor) rest) c.end_unit.ensures.own c.end_unit.ensures.whole
     c.end_unit.ensures.context c.end_unit.ensures.pairs)

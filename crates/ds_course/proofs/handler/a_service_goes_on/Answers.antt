@@ -1,8 +1,0 @@
-use Rattle.ds_course.proofs.Words.{tables, copies}
-use Rattle.ds_course.proofs.handler.a_service_goes_on.Goals as goal
-
-pub returns-clause-tables : goal.returns-clause-tables
-returns-clause-tables c = tables
-
-pub returns-clause-copies : goal.returns-clause-copies
-returns-clause-copies c = copies

@@ -1,4 +1,0 @@
-pub mod Needs
-pub mod Asks
-pub mod Counts
-pub mod Rows

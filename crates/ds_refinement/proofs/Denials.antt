@@ -1,0 +1,120 @@
+-- An access that the buffer refuses, and that comes to the general vector, is one that the table denies.
+use Rattle.std.proofs.Common.{◌≡◌, ℕ, ◌+◌, ◌*◌, ◌/◌, ◌%◌, ◌^◌, ◌<◌, Bool, true, false, cond, refl, sym, ap, subst, ◌∙◌, arith}
+use Rattle.std.proofs.lemmas.Bool.Decides.{nat_tests}
+use Rattle.std.specs.Prelude.{Option, Some, None, Ok, Err, nat_le, nat_lt, not, ◌&&◌, slice_get}
+use Rattle.ds_word.specs.Word.{bit}
+use Rattle.ds_isa.specs.declared.instr.Size.{Size}
+use Rattle.ds_isa.specs.declared.instr.Kind.{Kind}
+use Rattle.ds_isa.specs.declared.instr.Kind.TheVariants.{Fetch, Load, Store}
+use Rattle.ds_isa.specs.Access.{is_store, is_aligned}
+use Rattle.ds_tlb.specs.declared.entry.Entry.{Entry}
+use Rattle.ds_tlb.specs.Entries.{find}
+use Rattle.ds_tlb.specs.Words.{entry_of}
+use Rattle.ds_cp0.specs.System.{asid_of, is_user, vector}
+use Rattle.ds_amap.specs.declared.map.Physical.{Physical}
+use Rattle.ds_amap.specs.declared.map.Fault.{Fault}
+use Rattle.ds_amap.specs.declared.map.Fault.TheVariants.{Address, Refill, Invalid, Modified}
+use Rattle.ds_amap.specs.Map.{through, through_slot, through_found, at_physical}
+use Rattle.ds_policy.specs.declared.access.Rule.TheVariants.{K, A}
+use Rattle.ds_policy.specs.declared.access.Verdict.TheVariants.{Allowed, Denied}
+use Rattle.ds_policy.specs.declared.grant.Grant.{Grant}
+use Rattle.ds_policy.specs.declared.grant.Right.{Right}
+use Rattle.ds_policy.specs.declared.grant.Right.TheVariants.{Nothing, Read, Write}
+use Rattle.ds_policy.specs.Pages.{decide, allowed_on, by_right, by_entry, entry_at, page_address, address_code}
+use Rattle.ds_grants.specs.State.{GrantsState, frame_of_page}
+use Rattle.ds_grants.specs.Words.{word_of_right, word_of_grant, granted_word}
+use Rattle.ds_grants.specs.Buffer.{hi_of, BufferHolds}
+use Rattle.ds_grants.proofs.Fields.{user_lo}
+use Rattle.ds_tables.specs.Places.{Places}
+use Rattle.ds_core.specs.Core.{CoreState}
+use Rattle.ds_core.specs.Access.{reached, refusal}
+use Rattle.ds_refinement.specs.Held.{Kept, space_of}
+use Rattle.ds_refinement.proofs.Lookups.{frame_flags, found_of, page_of_number}
+
+-- What a valid entry refuses is a store, where it may not be written.
+by_flags : (v d store : Bool) (there : Physical) (fault : Fault) → v ≡ true → (store && not d) ≡ false → cond (not v) (Err Invalid) (cond (store && not d) (Err Modified) (Ok there)) ≡ Err fault → ⊥
+by_flags false d store there fault e f is = absurd cc
+by_flags true d store there fault e f is = by_store (store && not d) f is
+  where
+    by_store : (b : Bool) → b ≡ false → cond b (Err Modified) (Ok there) ≡ Err fault → ⊥
+    by_store true f is = absurd cc
+    by_store false f is = cc
+
+-- What an entry of a page-table word refuses, the table denies.
+module _ (g : GrantsState) (hi address offset : ℕ) (fault : Fault) (page at : ℕ) where
+  page_refuses : (q : ℕ) (d : Bool) (access : Kind) → (is_store access && not d) ≡ false → through (entry_of hi (frame_of_page g q * 2 ^ 12 + bit 10 d + bit 9 true)) access address ≡ Err fault → ⊥
+  page_refuses q d access may is =
+      let flags = frame_flags (frame_of_page g q) d in
+      let e : Entry = entry_of hi (frame_of_page g q * 2 ^ 12 + bit 10 d + bit 9 true) in
+      by_flags e.v e.d (is_store access) (at_physical (e.pfn % 2 ^ 20 * 2 ^ 12 + address % 2 ^ 12)) fault flags.2 (ap (λ (b : Bool). is_store access && not b) flags.1 ∙ may) is
+
+  no_page : (grant : Grant) → grant.page ≡ None → allowed_on grant.page offset ≡ Allowed page at → ⊥
+  no_page grant none allowed = let no : allowed_on None offset ≡ Allowed page at = sym (ap (λ (o : Option ℕ). allowed_on o offset) none) ∙ allowed in cc
+
+  right_refuses : (right : Right) (access : Kind) (named : Option ℕ) (grant : Grant) → grant.page ≡ named → through (entry_of hi (word_of_right g right named)) access address ≡ Err fault → by_right right access grant offset ≡ Allowed page at → ⊥
+  right_refuses Nothing access named grant is refused allowed = absurd cc
+  right_refuses Read Store named grant is refused allowed = absurd cc
+  right_refuses Read Load None grant is refused allowed = no_page grant is allowed
+  right_refuses Read Load (Some q) grant is refused allowed = page_refuses q false Load refl refused
+  right_refuses Read Fetch None grant is refused allowed = no_page grant is allowed
+  right_refuses Read Fetch (Some q) grant is refused allowed = page_refuses q false Fetch refl refused
+  right_refuses Write access None grant is refused allowed = no_page grant is allowed
+  right_refuses Write Store (Some q) grant is refused allowed = page_refuses q true Store refl refused
+  right_refuses Write Load (Some q) grant is refused allowed = page_refuses q true Load refl refused
+  right_refuses Write Fetch (Some q) grant is refused allowed = page_refuses q true Fetch refl refused
+
+  word_refuses : (o : Option Grant) (access : Kind) → through (entry_of hi (word_of_grant g o)) access address ≡ Err fault → by_entry o access offset ≡ Allowed page at → ⊥
+  word_refuses None access refused allowed = absurd cc
+  word_refuses (Some grant) access refused allowed = right_refuses grant.right access grant.page grant refl refused allowed
+
+-- no address of a user's page is refused at the general vector because nothing matches
+not_missed : (c : CoreState) (access : Kind) (address : ℕ) (fault : Fault) → nat_le (2 ^ 31) address ≡ false → ◌≡◌ {A = Fault} Refill fault → vector (refusal c access address fault) ≡ 0x80000080 → ⊥
+not_missed c access address fault low is at =
+    let below : nat_lt address (2 ^ 31) ≡ true = grind (arith, nat_tests) in
+    let misses : vector (refusal c access address Refill) ≡ 0x80000000 = ap (λ (b : Bool). cond b 0x80000000 0x80000080) below in
+    let both : ◌≡◌ {A = ℕ} 0x80000000 0x80000080 = sym misses ∙ (ap (λ (f : Fault). vector (refusal c access address f)) is ∙ at) in
+    omega (arith, both)
+
+-- An access of a user, whose process has this address space.
+module _ (c : CoreState) (g : GrantsState) (t : Places) (numbers : ℕ → ℕ) (p : ℕ) (holds : BufferHolds c.entries numbers g t) (some : 0 < p) (number : 0 < numbers p) (access : Kind) (size : Size) (address : ℕ) (fault : Fault)
+    (general : vector (refusal c access address fault) ≡ 0x80000080) (page at : ℕ) where
+  by_slot : (slot : ℕ) (e : Entry) → find c.entries (address / 2 ^ 12) (numbers p) ≡ Some slot → slice_get c.entries slot ≡ Some e → nat_le (2 ^ 31) address ≡ false → through e access address ≡ Err fault
+      → by_entry (entry_at g.table p (page_address address)) access (address % 4096) ≡ Allowed page at → ⊥
+  by_slot slot e found there low is allowed =
+      let of = found_of c.entries (address / 2 ^ 12) (numbers p) slot e found (there) (holds.own slot e there) in
+      let small : address < 2 ^ 31 = grind (arith, nat_tests) in
+      let same : e.vpn ≡ address / 2 ^ 12 = of.0 in
+      let user : e.vpn < 2 ^ 19 = omega (arith, small, same) in
+      let b = holds.backed slot e p there some (subst (λ (n : ℕ). 0 < n) (sym of.1) number) (sym of.1) in
+      let words : e ≡ entry_of (hi_of e.vpn e.asid) (granted_word g p e.vpn) = b.words ∙ ap (entry_of (hi_of e.vpn e.asid)) (user_lo g t p e.vpn user) in
+      word_refuses g (hi_of e.vpn e.asid) address (address % 4096) fault page at (entry_at g.table p (e.vpn * 2 ^ 12)) access
+      (subst (λ (x : Entry). through x access address ≡ Err fault) words is)
+      (ap (λ (n : ℕ). by_entry (entry_at g.table p n) access (address % 4096)) (sym (page_of_number address e.vpn of.0)) ∙ allowed)
+
+  by_entry_at : (slot : ℕ) (o : Option Entry) → find c.entries (address / 2 ^ 12) (numbers p) ≡ Some slot → slice_get c.entries slot ≡ o → nat_le (2 ^ 31) address ≡ false → through_slot o access address ≡ Err fault
+      → by_entry (entry_at g.table p (page_address address)) access (address % 4096) ≡ Allowed page at → ⊥
+  by_entry_at slot None found there low is allowed = not_missed c access address fault low (cc) general
+  by_entry_at slot (Some e) found there low is allowed = by_slot slot e found there low is allowed
+
+  by_found : (found : Option ℕ) → find c.entries (address / 2 ^ 12) (numbers p) ≡ found → nat_le (2 ^ 31) address ≡ false → through_found c.entries found access address ≡ Err fault
+      → by_entry (entry_at g.table p (page_address address)) access (address % 4096) ≡ Allowed page at → ⊥
+  by_found None found low is allowed = not_missed c access address fault low (cc) general
+  by_found (Some slot) found low is allowed = by_entry_at slot (slice_get c.entries slot) found refl low is allowed
+
+  -- alignment, the user's half, and the buffer
+  by_tests : (aligned high : Bool) → nat_le (2 ^ 31) address ≡ high
+      → cond (not aligned) (Err Address) (cond (not (not (high && true))) (Err Address) (cond (high && nat_lt address 0xC0000000) (Ok (at_physical (address % 2 ^ 29))) (through_found c.entries (find c.entries (address / 2 ^ 12) (numbers p)) access address))) ≡ Err fault
+      → cond (not aligned) (Denied A (address_code access)) (cond high (Denied K (address_code access)) (by_entry (entry_at g.table p (page_address address)) access (address % 4096))) ≡ Allowed page at → ⊥
+  by_tests false high h is allowed = absurd cc
+  by_tests true true h is allowed = absurd cc
+  by_tests true false h is allowed = by_found (find c.entries (address / 2 ^ 12) (numbers p)) refl h is allowed
+
+number_denied : (c : CoreState) (g : GrantsState) (t : Places) (numbers : ℕ → ℕ) (p : ℕ) → is_user c.system ≡ true → BufferHolds c.entries numbers g t → 0 < p → 0 < numbers p → asid_of c.system ≡ numbers p
+    → (access : Kind) (size : Size) (address : ℕ) (fault : Fault) → reached c access size address ≡ Err fault → vector (refusal c access address fault) ≡ 0x80000080 → (page at : ℕ) → decide g.table p access size address ≡ Allowed page at → ⊥
+number_denied c g t numbers p user holds some number space access size address fault is general page at allowed =
+    by_tests c g t numbers p holds some number access size address fault general page at (is_aligned size address) (nat_le (2 ^ 31) address) refl (rw (user, space) at is) allowed
+
+-- so it is by the numbers that are kept
+pub refused_denied : (c : CoreState) (k : Kept) (p : ℕ) → is_user c.system ≡ true → BufferHolds c.entries (space_of k) k.grants k.tables → 0 < p → 0 < space_of k p → asid_of c.system ≡ space_of k p
+    → (access : Kind) (size : Size) (address : ℕ) (fault : Fault) → reached c access size address ≡ Err fault → vector (refusal c access address fault) ≡ 0x80000080 → (page at : ℕ) → decide k.grants.table p access size address ≡ Allowed page at → ⊥
+refused_denied c k p user holds some number space = number_denied c k.grants k.tables (space_of k) p user holds some number space
