@@ -10,7 +10,7 @@ pub a_macro_is_told_with_what_is_written_instead : reason_text (Macro (codes "mo
 unfolding reason_text macro_instead
 a_macro_is_told_with_what_is_written_instead = refl
 
-pub a_directive_that_is_known_elsewhere : reason_text (NoSuchDirective (codes ".half")) ≡ codes "There is no directive `.half`. Instead write\nits two bytes, the lower first: `.byte 1`, `.byte 0`.\n"
+pub a_directive_that_is_known_elsewhere : reason_text (NoSuchDirective (codes ".half")) ≡ codes "There is no directive `.half`. Instead write its two bytes, the lower first: `.byte 1`, `.byte 0`.\n"
 unfolding reason_text directive_instead
 a_directive_that_is_known_elsewhere = refl
 

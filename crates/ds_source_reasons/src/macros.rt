@@ -8,36 +8,36 @@ ghost use Rattle.ds_source_reasons.specs.Texts.{at_place, directive_instead, mac
 macro_rules! macro_table {
     ($pass:ident) => {
         $pass! {
-            "abs" "` write `bgez $t1, x`, `addu $t0, $t1, $zero`,\n`subu $t0, $zero, $t1` and `x:`.\n";
+            "abs" "` write `bgez $t1, x`, `addu $t0, $t1, $zero`, `subu $t0, $zero, $t1` and `x:`.\n";
             "b" "` write `beq $zero, $zero, x`, and `nop` after it.\n";
             "bal" "` write `bgezal $zero, x`, and `nop` after it.\n";
             "beqz" "` write `beq $t0, $zero, x`.\n";
-            "bge" "` write `slt $at, $t0, $t1`\nand `beq $at, $zero, x`.\n";
-            "bgeu" "` write `sltu $at, $t0, $t1`\nand `beq $at, $zero, x`.\n";
-            "bgt" "` write `slt $at, $t1, $t0`\nand `bne $at, $zero, x`.\n";
-            "bgtu" "` write `sltu $at, $t1, $t0`\nand `bne $at, $zero, x`.\n";
-            "ble" "` write `slt $at, $t1, $t0`\nand `beq $at, $zero, x`.\n";
-            "bleu" "` write `sltu $at, $t1, $t0`\nand `beq $at, $zero, x`.\n";
-            "blt" "` write `slt $at, $t0, $t1`\nand `bne $at, $zero, x`.\n";
-            "bltu" "` write `sltu $at, $t0, $t1`\nand `bne $at, $zero, x`.\n";
+            "bge" "` write `slt $at, $t0, $t1` and `beq $at, $zero, x`.\n";
+            "bgeu" "` write `sltu $at, $t0, $t1` and `beq $at, $zero, x`.\n";
+            "bgt" "` write `slt $at, $t1, $t0` and `bne $at, $zero, x`.\n";
+            "bgtu" "` write `sltu $at, $t1, $t0` and `bne $at, $zero, x`.\n";
+            "ble" "` write `slt $at, $t1, $t0` and `beq $at, $zero, x`.\n";
+            "bleu" "` write `sltu $at, $t1, $t0` and `beq $at, $zero, x`.\n";
+            "blt" "` write `slt $at, $t0, $t1` and `bne $at, $zero, x`.\n";
+            "bltu" "` write `sltu $at, $t0, $t1` and `bne $at, $zero, x`.\n";
             "bnez" "` write `bne $t0, $zero, x`.\n";
-            "la" "` build the address that\n`dsmon list` shows for the label, by `lui` and `ori`.\n";
-            "li" "` write\n`addiu $t0, $zero, 5` from -32768 to 32767, `ori $t0, $zero, 40000` from 0\nto 65535, else `lui` and `ori`.\n";
+            "la" "` build the address that `dsmon list` shows for the label, by `lui` and `ori`.\n";
+            "li" "` write `addiu $t0, $zero, 5` from -32768 to 32767, `ori $t0, $zero, 40000` from 0 to 65535, else `lui` and `ori`.\n";
             "move" "` write `addu $t0, $t1, $zero`.\n";
-            "mul" "` write `mult $t1, $t2`\nand `mflo $t0`.\n";
-            "mulo" "` write `mult $t1, $t2`\nand `mflo $t0`.\n";
+            "mul" "` write `mult $t1, $t2` and `mflo $t0`.\n";
+            "mulo" "` write `mult $t1, $t2` and `mflo $t0`.\n";
             "neg" "` write `sub $t0, $zero, $t1`.\n";
             "negu" "` write `subu $t0, $zero, $t1`.\n";
             "not" "` write `nor $t0, $t1, $zero`.\n";
-            "rem" "` write `div $t1, $t2`\nand `mfhi $t0`.\n";
-            "remu" "` write `divu $t1, $t2`\nand `mfhi $t0`.\n";
+            "rem" "` write `div $t1, $t2` and `mfhi $t0`.\n";
+            "remu" "` write `divu $t1, $t2` and `mfhi $t0`.\n";
             "rol" "` write `sll`, `srl` and `or`.\n";
             "ror" "` write `srl`, `sll` and `or`.\n";
-            "seq" "` write `xor $t0, $t1, $t2`\nand `sltiu $t0, $t0, 1`.\n";
-            "sge" "` write `slt $t0, $t1, $t2`\nand `xori $t0, $t0, 1`.\n";
+            "seq" "` write `xor $t0, $t1, $t2` and `sltiu $t0, $t0, 1`.\n";
+            "sge" "` write `slt $t0, $t1, $t2` and `xori $t0, $t0, 1`.\n";
             "sgt" "` write `slt $t0, $t2, $t1`.\n";
-            "sle" "` write `slt $t0, $t2, $t1`\nand `xori $t0, $t0, 1`.\n";
-            "sne" "` write `xor $t0, $t1, $t2`\nand `sltu $t0, $zero, $t0`.\n";
+            "sle" "` write `slt $t0, $t2, $t1` and `xori $t0, $t0, 1`.\n";
+            "sne" "` write `xor $t0, $t1, $t2` and `sltu $t0, $zero, $t0`.\n";
         }
     };
 }
@@ -46,15 +46,15 @@ macro_rules! macro_table {
 macro_rules! directive_table {
     ($pass:ident) => {
         $pass! {
-            ".align" "`. Instead write `.space N`,\nwith as many bytes as lack to the next multiple.\n";
-            ".ascii" "`. Instead write\neach character as a number: `.byte 72`.\n";
-            ".asciiz" "`. Instead write\neach character as a number, and a 0 after them: `.byte 72`, `.byte 0`.\n";
-            ".data" "`. A source has one image:\ndata stand after the code, or in a page of their own.\n";
-            ".text" "`. A source has one image:\nleave it out.\n";
-            ".globl" "`. Leave it out: the\npolicy's `start` is the address at which a process begins.\n";
-            ".half" "`. Instead write\nits two bytes, the lower first: `.byte 1`, `.byte 0`.\n";
-            ".set" "`. Leave it out: nothing is\nreordered, and `$at` is a register like others.\n";
-            ".string" "`. Instead write\neach character as a number, and a 0 after them: `.byte 72`, `.byte 0`.\n";
+            ".align" "`. Instead write `.space N`, with as many bytes as lack to the next multiple.\n";
+            ".ascii" "`. Instead write each character as a number: `.byte 72`.\n";
+            ".asciiz" "`. Instead write each character as a number, and a 0 after them: `.byte 72`, `.byte 0`.\n";
+            ".data" "`. A source has one image: data stand after the code, or in a page of their own.\n";
+            ".text" "`. A source has one image: leave it out.\n";
+            ".globl" "`. Leave it out: the policy's `start` is the address at which a process begins.\n";
+            ".half" "`. Instead write its two bytes, the lower first: `.byte 1`, `.byte 0`.\n";
+            ".set" "`. Leave it out: nothing is reordered, and `$at` is a register like others.\n";
+            ".string" "`. Instead write each character as a number, and a 0 after them: `.byte 72`, `.byte 0`.\n";
         }
     };
 }

@@ -25,8 +25,8 @@ A label is a letter or `_`, and then at most 31 letters, digits and `_`.
 ";
 
 pub(crate) const SECOND_COLON: &str = "\
-A second colon stands in the line, which has at most one label. Write the
-second label in a line of its own.
+A second colon stands in the line, which has at most one label.
+Write the second label in a line of its own.
 ";
 
 pub(crate) const AFTER_UPPER_CASE: &str = "\
