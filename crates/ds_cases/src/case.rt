@@ -10,7 +10,7 @@ pub enum Expected {
     Done,
     /// Status 0, and this text on standard output.
     Writes(Vec<u8>),
-    /// Status 2, and this line on standard error, after `dsmon: `.
+    /// Status 2, and these lines on standard error, after `dsmon: `.
     Refused(String),
 }
 
@@ -58,7 +58,15 @@ impl Case {
     fn take_line(&mut self, alloc: Global, line: &str) -> Result<bool, AllocError> {
         match &mut self.expected {
             Some(Expected::Writes(text)) => push_line(text, line),
-            Some(_) => Ok(is_skipped(line)),
+            Some(Expected::Refused(refusal)) => match line.strip_prefix("| ") {
+                Some(more) => {
+                    refusal.push('\n')?;
+                    refusal.push_str(more)?;
+                    Ok(true)
+                }
+                None => Ok(is_skipped(line)),
+            },
+            Some(Expected::Done) => Ok(is_skipped(line)),
             None if line == "--" => {
                 self.expected = Some(Expected::Writes(Vec::new(alloc)));
                 Ok(true)
