@@ -1,6 +1,6 @@
 -- Why there is no run on the bare machine, and what it leaves.
 use Rattle.std.proofs.Common.{◌≡◌, inl, inr, ℕ, List, [], refl, sym, subst, Bor}
-use Rattle.std.specs.Prelude.{Option, Some, None, Ok, false, codes, flat_map}
+use Rattle.std.specs.Prelude.{Option, Some, None, Ok, false}
 use Rattle.std.specs.Io.KnownBytes.{Keeps}
 use Rattle.clap.specs.Words.{Text}
 use Rattle.ds_asm.specs.declared.fault.SourceFault.{SourceFault}
@@ -25,7 +25,7 @@ use Rattle.ds_drive.specs.Checked.{IsInput, IsUnreadInput}
 use Rattle.ds_drive.specs.Done.{IsCutShort, IsStopped, stream}
 use Rattle.ds_drive.specs.Failures.{IsUnread, failure_number}
 use Rattle.ds_drive.specs.Statuses.{fault_status}
-use Rattle.ds_drive.specs.Told.{failure_line, told_line}
+use Rattle.ds_drive.specs.Told.{failure_line, listed_faults}
 use Rattle.ds_words.specs.declared.words.BareRequest.{BareRequest}
 use Rattle.ds_words.specs.Words.{AsksForBare}
 
@@ -88,6 +88,6 @@ module _ (words : List Text) (holds : List ℕ → List ℕ → Type 0) (lacks :
       → AppendsPart err_old err_new (failure_line f) → IsStopped status words holds lacks (stream old new) (stream err_old err_new)
   bare_stopped request f has asks fails told = inr (inr (inr (inr (request, asks, inl (record { failure = f; has = has; so = fails; told = told })))))
 
-  pub bare_faulty : (request : BareRequest) (faults : List SourceFault) → status ≡ 2 → AsksForBare words request → HasBareFaults holds request faults → Keeps old new
-      → AppendsPart err_old err_new (flat_map (told_line (codes "dsmon: ") request.source.now None) faults) → IsStopped status words holds lacks (stream old new) (stream err_old err_new)
-  bare_faulty request faults has asks are kept told = inr (inr (inr (inr (request, asks, inr (record { has = has; faults = faults; are = are; kept = kept; told = told })))))
+  pub bare_faulty : (request : BareRequest) (text : List ℕ) (faults : List SourceFault) → status ≡ 2 → AsksForBare words request → HasBareFaults holds request text faults → Keeps old new
+      → AppendsPart err_old err_new (listed_faults request.source.now text faults) → IsStopped status words holds lacks (stream old new) (stream err_old err_new)
+  bare_faulty request text faults has asks are kept told = inr (inr (inr (inr (request, asks, inr (record { has = has; text = text; faults = faults; are = are; kept = kept; told = told })))))

@@ -1,6 +1,6 @@
 -- What is at fault where a check is refused.
 use Rattle.std.proofs.Common.{◌≡◌, ◌∙◌, ℕ, suc, zero, ◌<◌, List, [], ◌∷◌, ◌++◌, Bool, true, false, Option, None, Some, Result, Ok, Err, refl, sym, ap, subst, length, get_or, arith}
-use Rattle.std.specs.Prelude.{bytes_eq, codes, nat_le, nat_lt, position, slice_index_or, ◌&&◌}
+use Rattle.std.specs.Prelude.{bytes_eq, codes, nat_le, nat_lt, option_map, position, slice_index_or, is_some, ◌&&◌, IfSome}
 use Rattle.ds_asm.specs.Faults.{all_faults}
 use Rattle.std.proofs.lemmas.Bool.{true≢false}
 use Rattle.std.proofs.lemmas.List.Quantifiers.{position-Some}
@@ -9,6 +9,12 @@ use Rattle.ds_asm.specs.declared.fault.SourceFault.{SourceFault}
 use Rattle.ds_asm.specs.Assembly.{assembled}
 use Rattle.ds_policy.specs.Value.{PolicyValue, InputValue}
 use Rattle.ds_policy.specs.InputText.{input_of}
+use Rattle.ds_policy.specs.PolicyText.{policy_of}
+use Rattle.ds_policy.specs.declared.policy.PolicyPage.{PolicyPage}
+use Rattle.ds_policy_reasons.specs.Policies.{policy_reason, refusal_of, refused_by}
+use Rattle.ds_policy_reasons.specs.declared.input_cause.InputCause.{InputCause}
+use Rattle.ds_policy_reasons.specs.declared.reason.PolicyReason.{PolicyReason}
+use Rattle.ds_policy_reasons.proofs.PolicyLaws.{reason_refusal}
 use Rattle.ds_policy.specs.PolicyParts.{sources_of}
 use Rattle.ds_policy.specs.declared.fault.PolicyFault.{PolicyFault}
 use Rattle.ds_policy.specs.declared.fault.PolicyFault.TheVariants as policy_fault
@@ -24,15 +30,17 @@ use Rattle.ds_drive.specs.declared.refused.Refused.{Refused}
 use Rattle.ds_drive.specs.declared.refused.FaultyInput.{FaultyInput}
 use Rattle.ds_drive.specs.declared.refused.FaultySource.{FaultySource}
 use Rattle.ds_drive.specs.declared.run.SourceText.{SourceText}
-use Rattle.ds_drive.specs.AtFault.{IsAtFault, IsInputAt, IsPlaceAt, IsSourceAt, plain, texts_seen}
+use Rattle.ds_drive.specs.AtFault.{IsAtFault, IsCauseAt, IsCauseOf, IsInputAt, IsPlaceAt, IsReasonAt, IsSourceAt, cause_of, plain, texts_seen}
+use Rattle.ds_drive.proofs.HeldFiles.{same_value}
 
 -- a refusal of which nothing is told besides
-pub plain_is : (r : Refused) → r.source ≡ None → r.input ≡ None → r.line ≡ None → r.column ≡ None → r ≡ plain r.failure
-plain_is r a b c d =
-    ap (λ (s : Option FaultySource). record { failure = r.failure; source = s; input = r.input; line = r.line; column = r.column }) a
-    ∙ (ap (λ (i : Option FaultyInput). record { failure = r.failure; source = None; input = i; line = r.line; column = r.column }) b
-    ∙ (ap (λ (l : Option ℕ). record { failure = r.failure; source = None; input = None; line = l; column = r.column }) c
-    ∙ ap (λ (k : Option ℕ). record { failure = r.failure; source = None; input = None; line = None; column = k }) d))
+pub plain_is : (r : Refused) → r.source ≡ None → r.input ≡ None → r.reason ≡ None → r.line ≡ None → r.column ≡ None → r ≡ plain r.failure
+plain_is r a b e c d =
+    ap (λ (s : Option FaultySource). record { failure = r.failure; source = s; input = r.input; reason = r.reason; line = r.line; column = r.column }) a
+    ∙ (ap (λ (i : Option FaultyInput). record { failure = r.failure; source = None; input = i; reason = r.reason; line = r.line; column = r.column }) b
+    ∙ (ap (λ (w : Option PolicyReason). record { failure = r.failure; source = None; input = None; reason = w; line = r.line; column = r.column }) e
+    ∙ (ap (λ (l : Option ℕ). record { failure = r.failure; source = None; input = None; reason = None; line = l; column = r.column }) c
+    ∙ ap (λ (k : Option ℕ). record { failure = r.failure; source = None; input = None; reason = None; line = None; column = k }) d)))
 
 -- a refusal of the policy is none of the input
 no_input_at : (e : PolicyFault) (input : List ℕ) → IsInputAt (of_policy e) input None
@@ -42,13 +50,45 @@ no_input_at (policy_fault.Limit key) input = tt
 no_input_at policy_fault.Memory input = tt
 
 -- what is at fault where the policy is refused
-pub policy_at : (e : PolicyFault) (policy input : List ℕ) (r : Refused) → IsPlaceAt (of_policy e) policy r.line r.column → r.source ≡ None → r.input ≡ None
-    → IsAtFault (of_policy e) r policy [] input
-policy_at e policy input r place no_source no_input = record {
+pub policy_at : (e : PolicyFault) (policy input : List ℕ) (r : Refused) → IsPlaceAt (of_policy e) policy r.line r.column → IsReasonAt (of_policy e) policy r.reason
+    → r.source ≡ None → r.input ≡ None → IsAtFault (of_policy e) r policy [] input
+policy_at e policy input r place why no_source no_input = record {
   source_at = subst (IsSourceAt (of_policy e) []) (sym no_source) tt;
   input_at = subst (IsInputAt (of_policy e) input) (sym no_input) (no_input_at e input);
   place_at = place;
+  reason_at = why;
+  cause_at = λ value is. subst (IsCauseAt value.pages) (sym no_input) tt;
 }
+
+-- what is mapped to nothing is nothing
+nothing_mapped : {A B : Type 0} (f : A → B) (o : Option A) → option_map f o ≡ None → o ≡ None
+nothing_mapped f None is = refl
+nothing_mapped f (Some x) is = absurd (true≢false (ap is_some is))
+
+-- a good policy has no reason
+no_reason : (policy : List ℕ) (value : PolicyValue) → policy_of policy ≡ Ok value → None ≡ policy_reason policy
+no_reason policy value read = sym (nothing_mapped refusal_of (policy_reason policy) (reason_refusal policy ∙ ap refused_by read))
+
+-- so none is told where the policy is good
+no_reason_at : (f : Fault) (policy : List ℕ) (value : PolicyValue) → policy_of policy ≡ Ok value → IsReasonAt f policy None
+no_reason_at fault.BadToml policy value read = no_reason policy value read
+no_reason_at (fault.BadRule number) policy value read = no_reason policy value read
+no_reason_at (fault.Limit key) policy value read = no_reason policy value read
+no_reason_at fault.BadRandom policy value read = refl
+no_reason_at (fault.InSource name f) policy value read = refl
+no_reason_at (fault.InputFault line) policy value read = refl
+no_reason_at fault.Stuck policy value read = refl
+no_reason_at fault.Failed policy value read = refl
+no_reason_at fault.WriteFault policy value read = refl
+no_reason_at (fault.NoSource name) policy value read = refl
+no_reason_at fault.Memory policy value read = refl
+
+-- what is wrong with the line of the input that is told
+cause_told : (f : Fault) (pages : List PolicyPage) (input : List ℕ) (told : Option FaultyInput) (cause : Option InputCause)
+    → IsInputAt f input told → IfSome told (λ i. i.cause ≡ cause) → IsCauseOf f pages input cause → IsCauseAt pages told
+cause_told f pages input None cause at is so = tt
+cause_told (fault.InputFault line) pages input (Some i) cause at is so = is ∙ (so ∙ ap (cause_of pages) (sym at.0))
+cause_told f pages input (Some i) cause none is so = absurd none
 
 -- where no rule is refused, no place may be told
 nowhere : (f : Fault) (policy : List ℕ) → ((k : ℕ) → f ≡ fault.BadRule k → ⊥) → IsPlaceAt f policy None None
@@ -65,12 +105,16 @@ nowhere (fault.NoSource name) policy none = (refl, refl)
 nowhere fault.Memory policy none = (refl, refl)
 
 -- what is at fault where the run is refused
-pub texts_at : (f : Fault) (r : Refused) (policy input : List ℕ) (sources seen : Sources) → ((k : ℕ) → f ≡ fault.BadRule k → ⊥) → sources ≡ seen
-    → IsSourceAt f seen r.source → IsInputAt f input r.input → r.line ≡ None → r.column ≡ None → IsAtFault f r policy sources input
-texts_at f r policy input sources seen none same source_at input_at no_line no_column = record {
+pub texts_at : (f : Fault) (r : Refused) (policy input : List ℕ) (value : PolicyValue) (sources seen : Sources) (cause : Option InputCause)
+    → ((k : ℕ) → f ≡ fault.BadRule k → ⊥) → policy_of policy ≡ Ok value → sources ≡ seen
+    → IsSourceAt f seen r.source → IsInputAt f input r.input → IfSome r.input (λ i. i.cause ≡ cause) → IsCauseOf f value.pages input cause
+    → r.reason ≡ None → r.line ≡ None → r.column ≡ None → IsAtFault f r policy sources input
+texts_at f r policy input value sources seen cause none read same source_at input_at told so no_why no_line no_column = record {
   source_at = subst (λ (x : Sources). IsSourceAt f x r.source) (sym same) source_at;
   input_at = input_at;
   place_at = subst (λ (l : Option ℕ). IsPlaceAt f policy l r.column) (sym no_line) (subst (IsPlaceAt f policy None) (sym no_column) (nowhere f policy none));
+  reason_at = subst (IsReasonAt f policy) (sym no_why) (no_reason_at f policy value read);
+  cause_at = λ v is. subst (λ (x : PolicyValue). IsCauseAt x.pages r.input) (same_value (policy_of policy) value v read is) (cause_told f value.pages input r.input cause input_at told so);
 }
 
 -- No rule is refused where the policy was read.

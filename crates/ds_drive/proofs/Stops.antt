@@ -1,6 +1,6 @@
 -- Why a run or a check is stopped, and what the program says of it.
 use Rattle.std.proofs.Common.{◌≡◌, ◌∙◌, ◌⊎◌, inl, inr, ℕ, ◌<◌, List, [], refl, sym, ap, map, subst, Bor, length, get_or}
-use Rattle.std.specs.Prelude.{Option, Some, None, Result, Ok, Err, All, Contains, codes, flat_map, is_ok}
+use Rattle.std.specs.Prelude.{Option, Some, None, Result, Ok, Err, All, Contains, IfSome, is_ok}
 use Rattle.std.specs.Io.KnownBytes.{Keeps}
 use Rattle.std.proofs.lemmas.Bool.{true≢false}
 use Rattle.std.proofs.lemmas.List.{get_or_default}
@@ -12,6 +12,7 @@ use Rattle.ds_policy.specs.PolicyParts.{sources_of}
 use Rattle.ds_policy.specs.Value.{PolicyValue}
 use Rattle.ds_policy.specs.Refusal.{PolicyRefusal, Fails}
 use Rattle.ds_policy.specs.declared.fault.PolicyFault.{PolicyFault}
+use Rattle.ds_policy_reasons.specs.declared.input_cause.InputCause.{InputCause}
 use Rattle.ds_policy.specs.declared.fault.PolicyFault.TheVariants as policy_fault
 use Rattle.ds_pagemap.specs.Machine.{State}
 use Rattle.ds_pagemap.specs.Inputs.{Refusal, Sources, inputs, inputs_under}
@@ -32,8 +33,8 @@ use Rattle.ds_drive.proofs.HeldFiles.{all_held, names_held, of_texts, same_value
 use Rattle.ds_drive.specs.Checked.{ChecksBy, IsInput, IsNotRead, IsUnreadInput, RefusesCheck}
 use Rattle.ds_drive.specs.Demo.{demo_inputs}
 use Rattle.ds_drive.specs.Done.{IsStopped, WantsMemory, stream}
-use Rattle.ds_drive.specs.AtFault.{IsInputAt, IsPlaceAt, IsSourceAt, plain, texts_seen}
-use Rattle.ds_drive.specs.Told.{failure_line, refused_text, told_line}
+use Rattle.ds_drive.specs.AtFault.{IsCauseOf, IsInputAt, IsPlaceAt, IsReasonAt, IsSourceAt, plain, texts_seen}
+use Rattle.ds_drive.specs.Told.{failure_line, listed_faults, refused_text}
 use Rattle.ds_drive.specs.declared.refused.Refused.{Refused}
 use Rattle.ds_drive.proofs.Faulty.{no_rule_ends, plain_is, policy_at, texts_at}
 use Rattle.ds_log.specs.Sent.{AppendsPart}
@@ -127,16 +128,17 @@ module _ (holds : List ℕ → List ℕ → Type 0) (lacks : List ℕ → Type 0
 
   refuses_policy_by : (e : PolicyFault) (r : Refused) (request : CheckRequest) (policy input : List ℕ) → ((e ≡ policy_fault.Memory) ⊎ ((value : PolicyValue) → policy_of policy ≡ Ok value → ⊥))
       → holds request.policy.now policy → IsInput holds request.input input → Fails e (policy_of policy)
-      → r.failure ≡ failure.Fault (of_policy e) → IsPlaceAt (of_policy e) policy r.line r.column → r.source ≡ None → r.input ≡ None
+      → r.failure ≡ failure.Fault (of_policy e) → IsPlaceAt (of_policy e) policy r.line r.column → IsReasonAt (of_policy e) policy r.reason → r.source ≡ None → r.input ≡ None
       → RefusesCheck r holds lacks request
-  refuses_policy_by e r request policy input (inl memory) first second fails is place no_source no_input =
+  refuses_policy_by e r request policy input (inl memory) first second fails is place why no_source no_input =
       let f = ap of_policy memory in
       let nowhere = subst (λ (x : Fault). IsPlaceAt x policy r.line r.column) f place in
+      let no_why = subst (λ (x : Fault). IsReasonAt x policy r.reason) f why in
       inl (
-        plain_is r no_source no_input nowhere.0 nowhere.1,
+        plain_is r no_source no_input no_why nowhere.0 nowhere.1,
         subst (λ (x : Failure). IsNotRead x holds lacks request) (sym (is ∙ ap failure.Fault f)) tt,
       )
-  refuses_policy_by e r request policy input (inr none) first second fails is place no_source no_input = inr (record {
+  refuses_policy_by e r request policy input (inr none) first second fails is place why no_source no_input = inr (record {
     fault = of_policy e;
     is = is;
     so = record {
@@ -147,17 +149,17 @@ module _ (holds : List ℕ → List ℕ → Type 0) (lacks : List ℕ → Type 0
       input_held = second;
       sources_held = All-nil _;
       sources_named = λ value is. absurd (none value is);
-      so = (policy_ends e policy input None 0 63 fails, policy_at e policy input r place no_source no_input);
+      so = (policy_ends e policy input None 0 63 fails, policy_at e policy input r place why no_source no_input);
     };
   })
 
   -- the policy is refused by a check
   pub refuses_policy : (e : PolicyFault) (r : Refused) (request : CheckRequest) (policy input : List ℕ)
       → holds request.policy.now policy → IsInput holds request.input input → Fails e (policy_of policy)
-      → r.failure ≡ failure.Fault (of_policy e) → IsPlaceAt (of_policy e) policy r.line r.column → r.source ≡ None → r.input ≡ None
+      → r.failure ≡ failure.Fault (of_policy e) → IsPlaceAt (of_policy e) policy r.line r.column → IsReasonAt (of_policy e) policy r.reason → r.source ≡ None → r.input ≡ None
       → RefusesCheck r holds lacks request
-  refuses_policy e r request policy input first second fails is place no_source no_input =
-      refuses_policy_by e r request policy input (bad_or_memory e policy fails) first second fails is place no_source no_input
+  refuses_policy e r request policy input first second fails is place why no_source no_input =
+      refuses_policy_by e r request policy input (bad_or_memory e policy fails) first second fails is place why no_source no_input
 
   -- want of memory
   pub memory_refuses : (request : CheckRequest) → RefusesCheck (plain (failure.Fault fault.Memory)) holds lacks request
@@ -200,7 +202,7 @@ module _ (holds : List ℕ → List ℕ → Type 0) (lacks : List ℕ → Type 0
   check_source_unread later request policy value names f lacked held read are none = absurd none
 
   -- the run of what the files hold ended by that fault
-  pub run_refuses : (later : List ℕ → List ℕ → Type 0) (r : Refused) (request : CheckRequest) (policy input : List ℕ) (texts : List SourceText) (s t : Sources) (i : List ℕ) (value : PolicyValue) (f : Fault) (old new : Option (List ℕ))
+  pub run_refuses : (later : List ℕ → List ℕ → Type 0) (r : Refused) (request : CheckRequest) (policy input : List ℕ) (texts : List SourceText) (s t : Sources) (i : List ℕ) (value : PolicyValue) (f : Fault) (cause : Option InputCause) (old new : Option (List ℕ))
       → holds request.policy.now policy → IsInput holds request.input input
       → ((file bytes : List ℕ) → later file bytes → holds file bytes)
       → All (λ s. later s.name s.text.items) texts
@@ -209,9 +211,10 @@ module _ (holds : List ℕ → List ℕ → Type 0) (lacks : List ℕ → Type 0
       → t ≡ texts_seen texts
       → s ≡ t → i ≡ input
       → EndsBy f (inputs_under value s i 0 63) old new 0
-      → r.failure ≡ failure.Fault f → IsSourceAt f (texts_seen texts) r.source → IsInputAt f input r.input → r.line ≡ None → r.column ≡ None
+      → r.failure ≡ failure.Fault f → IsSourceAt f (texts_seen texts) r.source → IsInputAt f input r.input
+      → IfSome r.input (λ i. i.cause ≡ cause) → IsCauseOf f value.pages input cause → r.reason ≡ None → r.line ≡ None → r.column ≡ None
       → RefusesCheck r holds lacks request
-  run_refuses later r request policy input texts s t i value f old new first second kept found names read lent e e2 ends is source_at input_at no_line no_column = inr (record {
+  run_refuses later r request policy input texts s t i value f cause old new first second kept found names read lent e e2 ends is source_at input_at told so no_why no_line no_column = inr (record {
     fault = f;
     is = is;
     so = record {
@@ -224,7 +227,7 @@ module _ (holds : List ℕ → List ℕ → Type 0) (lacks : List ℕ → Type 0
       sources_named = λ v is. names_held texts t (sources_of v.pages) lent (names ∙ ap (λ (x : PolicyValue). sources_of x.pages) (same_value (policy_of policy) value v read is));
       so = (
         ends_anyhow f (inputs policy t input 0 63) old new 0 (of_texts (λ made. EndsBy f made old new 0) value policy s t i input 0 63 read e e2 ends),
-        texts_at f r policy input t (texts_seen texts) (λ k rule. no_rule_ends value s i 0 63 f old new k ends rule) lent source_at input_at no_line no_column,
+        texts_at f r policy input value t (texts_seen texts) cause (λ k rule. no_rule_ends value s i 0 63 f old new k ends rule) read lent source_at input_at told so no_why no_line no_column,
       );
     };
   })
@@ -243,9 +246,9 @@ module _ (words : List Text) (holds : List ℕ → List ℕ → Type 0) (lacks :
       → AppendsPart err_old err_new (failure_line f) → IsStopped status words holds lacks (stream old new) (stream err_old err_new)
   list_stopped request f has asks fails told = inr (inr (inl (request, asks, inl (record { failure = f; has = has; so = fails; told = told }))))
 
-  pub list_faulty : (request : ListRequest) (faults : List SourceFault) → status ≡ 2 → AsksForList words request → HasFaults holds request faults → Keeps old new
-      → AppendsPart err_old err_new (flat_map (told_line (codes "dsmon: ") request.file.now None) faults) → IsStopped status words holds lacks (stream old new) (stream err_old err_new)
-  list_faulty request faults has asks are kept told = inr (inr (inl (request, asks, inr (record { has = has; faults = faults; are = are; kept = kept; told = told }))))
+  pub list_faulty : (request : ListRequest) (text : List ℕ) (faults : List SourceFault) → status ≡ 2 → AsksForList words request → HasFaults holds request text faults → Keeps old new
+      → AppendsPart err_old err_new (listed_faults request.file.now text faults) → IsStopped status words holds lacks (stream old new) (stream err_old err_new)
+  list_faulty request text faults has asks are kept told = inr (inr (inl (request, asks, inr (record { has = has; text = text; faults = faults; are = are; kept = kept; told = told }))))
 
   pub check_stopped : (request : CheckRequest) (r : Refused) → fault_status (failure_number r.failure) ≡ status → AsksForCheck words request → ChecksBy r holds lacks request old new
       → AppendsPart err_old err_new (refused_text r) → IsStopped status words holds lacks (stream old new) (stream err_old err_new)

@@ -1,57 +1,120 @@
 -- Lines that go to a writer some at a time.
-use Rattle.std.proofs.Common.{◌≡◌, append-nil, append_assoc, ℕ, ◌+◌, ◌-◌, ◌≤◌, List, [], ◌∷◌, ◌++◌, length, take, drop, refl, sym, ◌∙◌, ap, subst, arith}
-use Rattle.std.proofs.lemmas.List.{take-append-drop, take_all}
-use Rattle.std.proofs.lemmas.Grind.{flat_map-append}
-use Rattle.std.proofs.Math.Seq.{take-add}
-use Rattle.std.specs.Prelude.{Option, Some, Result, Ok, Err, OnOk, OnErr, codes, flat_map, slice_index_or}
+use Rattle.std.proofs.Common.{◌≡◌, append-nil, append_assoc, ℕ, zero, suc, ◌+◌, ◌-◌, ◌<◌, ◌≤◌, List, [], ◌∷◌, ◌++◌, length, take, drop, get_or, refl, sym, ◌∙◌, ap, subst, arith}
+use Rattle.std.proofs.lemmas.List.{take_all}
+use Rattle.std.specs.Prelude.{Option, Some, Result, Ok, Err, OnOk, OnErr, codes, slice_index_or}
 use Rattle.std.specs.Io.KnownBytes.{Appends}
 use Rattle.ds_asm.specs.declared.fault.SourceFault.{SourceFault}
 use Rattle.ds_log.specs.Sent.{AppendsPart}
 use Rattle.ds_log.proofs.Sends.{appends_both, appends_none, part_behind, part_before}
 use Rattle.ds_asm.specs.Assembling.{source_fault_line}
-use Rattle.ds_check.specs.Lines.{shown_line}
-use Rattle.ds_drive.specs.Told.{faults_shown, told_line}
+use Rattle.ds_source_reasons.specs.declared.fault.FaultyLines.{FaultyLines}
+use Rattle.ds_source_reasons.specs.Told.{after_line, after_lines}
+use Rattle.ds_drive.specs.Told.{Passed, none_passed, others_told, pass, passed_in, reason_after, told_line, told_lines}
 
--- a text that stands after nothing
-pub after_nothing : (text held before piece : List ℕ) → text ≡ held → held ≡ before ++ piece → before ≡ [] → text ≡ piece
-after_nothing text held before piece same is none = same ∙ (is ∙ ap (λ (xs : List ℕ). xs ++ piece) none)
+-- of a whole text so much was sent, and this is still to come
+pub record SentOf (old new : Option (List ℕ)) (left whole : List ℕ) : Type 0 where
+  pub sent : List ℕ
+  pub appends : Appends old new sent
+  pub all : sent ++ left ≡ whole
 
--- faults that were told with the lines of one source were told with those of the same
-pub told_of : (front place : List ℕ) (faults : List SourceFault) (held before : List ℕ) (now old : Option (List ℕ)) → now ≡ old
-    → held ≡ before ++ flat_map (told_line front place now) faults → held ≡ before ++ flat_map (told_line front place old) faults
-told_of front place faults held before now old same is = subst (λ (s : Option (List ℕ)). held ≡ before ++ flat_map (told_line front place s) faults) same is
+-- nothing was sent yet
+pub none_sent : (known : Option (List ℕ)) (sheet whole : List ℕ) → sheet ≡ [] → SentOf known known (sheet ++ whole) whole
+none_sent known sheet whole empty = record { sent = []; appends = appends_none known; all = ap (λ (xs : List ℕ). xs ++ whole) empty }
 
-module _ {X : Type 0} (f : X → List ℕ) (xs : List X) where
-  -- those up to one place, and from there to another
-  lines_both : (a b : ℕ) → a ≤ b → flat_map f (take a xs) ++ flat_map f (take (b - a) (drop a xs)) ≡ flat_map f (take b xs)
-  lines_both a b h = let e : a + (b - a) ≡ b = omega (arith, h) in
-      sym (flat_map-append f (take a xs) (take (b - a) (drop a xs)))
-      ∙ ap (flat_map f) (sym (take-add a (b - a) xs) ∙ ap (λ (n : ℕ). take n xs) e)
+-- a line of what is to come stands on the sheet
+pub line_added : (old new : Option (List ℕ)) (sheet text line left more whole : List ℕ) → left ≡ line ++ more → text ≡ sheet ++ line
+    → SentOf old new (sheet ++ left) whole → SentOf old new (text ++ more) whole
+line_added old new sheet text line left more whole is grown before = record {
+  sent = before.sent;
+  appends = before.appends;
+  all = ap (λ (xs : List ℕ). before.sent ++ xs) (ap (λ (xs : List ℕ). xs ++ more) grown ∙ append_assoc sheet line more ∙ ap (λ (xs : List ℕ). sheet ++ xs) (sym is)) ∙ before.all;
+}
 
-  -- those up to a place, and all after it
-  lines_split : (n : ℕ) → flat_map f (take n xs) ++ flat_map f (drop n xs) ≡ flat_map f xs
-  lines_split n = sym (flat_map-append f (take n xs) (drop n xs)) ∙ ap (flat_map f) (take-append-drop n xs)
+-- the sheet was sent, and is empty
+pub sheet_sent : (old now new : Option (List ℕ)) (text held sheet more whole : List ℕ) → SentOf old now (text ++ more) whole → held ≡ text → Appends now new held → sheet ≡ []
+    → SentOf old new (sheet ++ more) whole
+sheet_sent old now new text held sheet more whole before same more_sent empty = record {
+  sent = before.sent ++ text;
+  appends = appends_both old now new before.sent text before.appends (subst (Appends now new) same more_sent);
+  all = ap (λ (xs : List ℕ). (before.sent ++ text) ++ (xs ++ more)) empty ∙ append_assoc before.sent text more ∙ before.all;
+}
 
-  -- of what stands after a place, those up to another and the rest
-  lines_split_after : (a m : ℕ) → flat_map f (take m (drop a xs)) ++ flat_map f (drop m (drop a xs)) ≡ flat_map f (drop a xs)
-  lines_split_after a m = sym (flat_map-append f (take m (drop a xs)) (drop m (drop a xs))) ∙ ap (flat_map f) (take-append-drop m (drop a xs))
+-- what was sent is a front
+pub sent_front : (old new : Option (List ℕ)) (left whole : List ℕ) → SentOf old new left whole → AppendsPart old new whole
+sent_front old new left whole before = record { part = before.sent; rest = left; whole = before.all; appends = before.appends }
 
-  -- what was told is a front of all
-  pub told_so_far : (old new : Option (List ℕ)) (n : ℕ) → Appends old new (flat_map f (take n xs)) → AppendsPart old new (flat_map f xs)
-  told_so_far old new n told = record { part = flat_map f (take n xs); rest = flat_map f (drop n xs); whole = lines_split n; appends = told }
+-- and so with a front of the sheet
+pub sent_part : (old now new : Option (List ℕ)) (text held more whole : List ℕ) → SentOf old now (text ++ more) whole → held ≡ text → AppendsPart now new held → AppendsPart old new whole
+sent_part old now new text held more whole before same part =
+    subst (AppendsPart old new) before.all (part_behind old now new before.sent (text ++ more) before.appends (part_before now new text more (subst (AppendsPart now new) same part)))
 
-  -- some more were told
-  pub told_more : (old now new : Option (List ℕ)) (a b : ℕ) (text : List ℕ) → a ≤ b → text ≡ flat_map f (take (b - a) (drop a xs))
-      → Appends old now (flat_map f (take a xs)) → Appends now new text → Appends old new (flat_map f (take b xs))
-  told_more old now new a b text h is told more =
-      subst (Appends old new) (lines_both a b h) (appends_both old now new _ _ told (subst (Appends now new) is more))
+-- with the sheet all was sent
+pub sent_all : (old now new : Option (List ℕ)) (text held more whole : List ℕ) → SentOf old now (text ++ more) whole → held ≡ text → more ≡ [] → Appends now new held → Appends old new whole
+sent_all old now new text held more whole before same none last =
+    subst (Appends old new) (ap (λ (xs : List ℕ). before.sent ++ xs) (sym (append-nil text) ∙ ap (λ (xs : List ℕ). text ++ xs) (sym none)) ∙ before.all)
+    (appends_both old now new before.sent text before.appends (subst (Appends now new) same last))
 
-  -- a front of some more was told
-  pub told_part : (old now new : Option (List ℕ)) (a b : ℕ) (text : List ℕ) → text ≡ flat_map f (take (b - a) (drop a xs))
-      → Appends old now (flat_map f (take a xs)) → AppendsPart now new text → AppendsPart old new (flat_map f xs)
-  told_part old now new a b text is told part =
-      subst (AppendsPart old new) (ap (λ (ys : List ℕ). flat_map f (take a xs) ++ ys) (lines_split_after a (b - a)) ∙ lines_split a)
-      (part_behind old now new (flat_map f (take a xs)) _ told (part_before now new _ (flat_map f (drop (b - a) (drop a xs))) (subst (AppendsPart now new) is part)))
+module _ (front place : List ℕ) (source : Option (List ℕ)) where
+  -- the lines of the faults from a place on: that of the fault there, and those after it
+  pub told_from : (p : Passed) (faults : List SourceFault) (i : ℕ) (d : SourceFault) → i < length faults
+      → told_lines front place source p (drop i faults)
+      ≡ told_line front place source (reason_after p (get_or faults i d)) (get_or faults i d) ++ told_lines front place source (pass p (get_or faults i d)) (drop (suc i) faults)
+  unfolding told_lines
+  told_from p [] i d h = absurd (omega (arith, h))
+  told_from p (f ∷ faults) zero d h = refl
+  told_from p (f ∷ faults) (suc i) d h = told_from p faults i d (omega (arith, h))
+
+  -- after the last there is none
+  pub none_left : (p : Passed) (faults : List SourceFault) (i : ℕ) → length faults ≤ i → told_lines front place source p (drop i faults) ≡ []
+  unfolding told_lines
+  none_left p [] zero h = refl
+  none_left p [] (suc i) h = refl
+  none_left p (f ∷ faults) zero h = absurd (omega (arith, h))
+  none_left p (f ∷ faults) (suc i) h = none_left p faults i (omega (arith, h))
+
+  -- the line of a fault as it was put on the sheet
+  line_told : (heads : List ℕ × List ℕ) (shown : Option (List ℕ)) (p : Passed) (fault : SourceFault) (text sheet : List ℕ) → heads ≡ (front, place) → shown ≡ source
+      → text ≡ sheet ++ told_line heads.0 heads.1 shown (reason_after p fault) fault → text ≡ sheet ++ told_line front place source (reason_after p fault) fault
+  line_told heads shown p fault text sheet is same told =
+      subst (λ (s : Option (List ℕ)). text ≡ sheet ++ told_line front place s (reason_after p fault) fault) same
+      (subst (λ (h : List ℕ × List ℕ). text ≡ sheet ++ told_line h.0 h.1 shown (reason_after p fault) fault) is told)
+
+  -- one fault more stands on the sheet
+  pub one_told : (old new : Option (List ℕ)) (faults : List SourceFault) (i : ℕ) (d : SourceFault) (heads : List ℕ × List ℕ) (shown : Option (List ℕ)) (p later : Passed) (text sheet whole : List ℕ)
+      → i < length faults → heads ≡ (front, place) → shown ≡ source
+      → text ≡ sheet ++ told_line heads.0 heads.1 shown (reason_after p (get_or faults i d)) (get_or faults i d)
+      → later ≡ pass p (get_or faults i d)
+      → SentOf old new (sheet ++ told_lines front place source p (drop i faults)) whole
+      → SentOf old new (text ++ told_lines front place source later (drop (i + 1) faults)) whole
+  one_told old new faults i d heads shown p later text sheet whole within is same told passed before =
+      let next : suc i ≡ i + 1 = omega arith in
+      subst (λ (n : ℕ). SentOf old new (text ++ told_lines front place source later (drop n faults)) whole) next
+      (subst (λ (q : Passed). SentOf old new (text ++ told_lines front place source q (drop (suc i) faults)) whole) (sym passed)
+      (line_added old new sheet text _ _ _ whole (told_from p faults i d within) (line_told heads shown p (get_or faults i d) text sheet is same told) before))
+
+-- all that stand after the first
+others_whole : (faults : List SourceFault) → take (length faults - 1) (drop 1 faults) ≡ drop 1 faults
+others_whole [] = refl
+others_whole (first ∷ others) = take_all (length (first ∷ others) - 1) others (omega arith)
+
+-- the lines up to that of a first fault were passed
+pub first_passed : (l old : FaultyLines) (text : List ℕ) (fault : SourceFault) → old.rest.now ≡ text → old.passed ≡ 0
+    → l.rest.now ≡ after_line (after_lines (source_fault_line fault - old.passed - 1) old.rest.now) → l.passed ≡ source_fault_line fault
+    → passed_in l ≡ pass (none_passed text) fault
+first_passed l old text fault all none rest passed =
+    ap (λ (n : ℕ). record { lines = n; rest = l.rest.now }) passed
+    ∙ (ap (λ (r : List ℕ). record { lines = source_fault_line fault; rest = r }) rest
+    ∙ (ap (λ (n : ℕ). record { lines = source_fault_line fault; rest = after_line (after_lines (source_fault_line fault - n - 1) old.rest.now) }) none
+    ∙ ap (λ (r : List ℕ). record { lines = source_fault_line fault; rest = after_line (after_lines (source_fault_line fault - 0 - 1) r) }) all))
+
+-- the lines of all that stand after the first
+pub others_same : (text held : List ℕ) (p : Passed) (faults : List SourceFault) (d : SourceFault) → 1 ≤ length faults → held ≡ text → p ≡ pass (none_passed text) (slice_index_or faults 0 d)
+    → told_lines (codes "and ") (codes "in line") (Some held) p (take (length faults - 1) (drop 1 faults)) ≡ others_told text faults
+others_same text held p [] d some same is = absurd (omega (arith, some))
+others_same text held p (first ∷ others) d some same is =
+    ap (λ (l : List SourceFault). told_lines (codes "and ") (codes "in line") (Some held) p l) (others_whole (first ∷ others))
+    ∙ (ap (λ (t : List ℕ). told_lines (codes "and ") (codes "in line") (Some t) p others) same
+    ∙ ap (λ (q : Passed). told_lines (codes "and ") (codes "in line") (Some text) q others) is)
 
 -- all was told, or a front of it: in either case a front
 pub told_either : {T E : Type 0} (r : Result T E) (old new : Option (List ℕ)) (text : List ℕ) → OnOk r (Appends old new text) → OnErr r (AppendsPart old new text) → AppendsPart old new text
@@ -61,30 +124,6 @@ told_either (Err e) old new text all part = part
 -- nothing was told, which is a front of any text
 pub nothing_told : (known : Option (List ℕ)) (text : List ℕ) → AppendsPart known known text
 nothing_told known text = record { part = []; rest = text; whole = refl; appends = appends_none known }
-
--- a front of the first fault's line of the source
-pub first_shown : (old new : Option (List ℕ)) (text : List ℕ) (faults : List SourceFault) (line : ℕ) (d : SourceFault) → 1 ≤ length faults
-    → line ≡ source_fault_line (slice_index_or faults 0 d) → AppendsPart old new (shown_line text line) → AppendsPart old new (faults_shown text faults)
-first_shown old new text [] line d some is part = absurd (omega (arith, some))
-first_shown old new text (first ∷ others) line d some is part =
-    part_before old new (shown_line text (source_fault_line first)) _ (subst (λ (l : ℕ). AppendsPart old new (shown_line text l)) is part)
-
--- all that stand after the first
-others_whole : (faults : List SourceFault) → take (length faults - 1) (drop 1 faults) ≡ drop 1 faults
-others_whole [] = refl
-others_whole (first ∷ others) = take_all (length (first ∷ others) - 1) others (omega arith)
-
--- that line, and a front of the other faults
-pub others_told : (old now new : Option (List ℕ)) (text held : List ℕ) (faults : List SourceFault) (line : ℕ) (d : SourceFault) → 1 ≤ length faults
-    → line ≡ source_fault_line (slice_index_or faults 0 d) → held ≡ text → Appends old now (shown_line text line)
-    → {T E : Type 0} (r : Result T E) → OnErr r (AppendsPart now new (flat_map (told_line (codes "and ") (codes "in line") (Some held)) (take (length faults - 1) (drop 1 faults))))
-    → OnErr r (AppendsPart old new (faults_shown text faults))
-others_told old now new text held faults line d some is same shown (Ok x) part = tt
-others_told old now new text held [] line d some is same shown (Err e) part = absurd (omega (arith, some))
-others_told old now new text held (first ∷ others) line d some is same shown (Err e) part =
-    part_behind old now new (shown_line text (source_fault_line first)) _ (subst (λ (l : ℕ). Appends old now (shown_line text l)) is shown)
-    (subst (λ (t : List ℕ). AppendsPart now new (flat_map (told_line (codes "and ") (codes "in line") (Some t)) others)) same
-    (subst (λ (l : List SourceFault). AppendsPart now new (flat_map (told_line (codes "and ") (codes "in line") (Some held)) l)) (others_whole (first ∷ others)) part))
 
 -- the line of words that carry a name
 pub line_carries : {T E : Type 0} (r : Result T E) (old new : Option (List ℕ)) (words name given : List ℕ) → given ≡ name

@@ -1,7 +1,14 @@
 -- Which source, which input and which place in a policy are told of a check that is refused.
-use Rattle.std.specs.Prelude.{◌≡◌, ◌≤◌, ℕ, List, Option, None, Some, length, map, ⊤}
+use Rattle.std.specs.Prelude.{◌≡◌, ◌≤◌, ℕ, List, Option, None, Some, Ok, length, map, option_map, ⊤}
 use Rattle.ds_asm.specs.Faults.{all_faults}
 use Rattle.ds_check.specs.Places.{place_at, rule_line}
+use Rattle.ds_policy.specs.PolicyText.{policy_of}
+use Rattle.ds_policy.specs.Value.{PolicyValue}
+use Rattle.ds_policy.specs.declared.policy.PolicyPage.{PolicyPage}
+use Rattle.ds_policy_reasons.specs.Inputs.{input_reason}
+use Rattle.ds_policy_reasons.specs.Policies.{policy_reason}
+use Rattle.ds_policy_reasons.specs.declared.input_cause.InputCause.{InputCause}
+use Rattle.ds_policy_reasons.specs.declared.reason.PolicyReason.{PolicyReason}
 use Rattle.ds_pagemap.specs.Inputs.{Sources, text_named}
 use Rattle.ds_station.specs.declared.fault.Fault.{Fault}
 use Rattle.ds_station.specs.declared.fault.Fault.TheVariants as fault
@@ -17,7 +24,7 @@ texts_seen texts = map (λ s. (s.name, s.text.items)) texts
 
 -- a failure of which nothing is told besides
 abbrev pub plain : Failure → Refused
-plain f = record { failure = f; source = None; input = None; line = None; column = None }
+plain f = record { failure = f; source = None; input = None; reason = None; line = None; column = None }
 
 -- the source that is told is the one that the fault names, with all its faults; where memory is wanting for them, none is told
 abbrev pub IsSourceAt : Fault → Sources → Option FaultySource → Type 0
@@ -38,8 +45,31 @@ IsPlaceAt (fault.BadRule number) policy line column = (line ≡ rule_line policy
 IsPlaceAt fault.BadToml policy (Some line) (Some column) = (n : ℕ) × (n ≤ length policy) × (record { line = line; column = column } ≡ place_at policy n)
 IsPlaceAt f policy line column = (line ≡ None) × (column ≡ None)
 
+-- where the fault is the policy's its reason is told, and nowhere else
+abbrev pub IsReasonAt : Fault → List ℕ → Option PolicyReason → Type 0
+IsReasonAt fault.BadToml policy why = why ≡ policy_reason policy
+IsReasonAt (fault.BadRule number) policy why = why ≡ policy_reason policy
+IsReasonAt (fault.Limit key) policy why = why ≡ policy_reason policy
+IsReasonAt f policy why = why ≡ None
+
+-- what is wrong with the line of an input, which the pages of a policy decide
+abbrev pub cause_of : List PolicyPage → List ℕ → Option InputCause
+cause_of pages input = option_map (λ why. why.cause) (input_reason pages input)
+
+-- this is what is wrong with the line, where the fault is the input's
+abbrev pub IsCauseOf : Fault → List PolicyPage → List ℕ → Option InputCause → Type 0
+IsCauseOf (fault.InputFault line) pages input cause = cause ≡ cause_of pages input
+IsCauseOf f pages input cause = ⊤
+
+-- where an input is told, what is wrong with the line is told with it
+abbrev pub IsCauseAt : List PolicyPage → Option FaultyInput → Type 0
+IsCauseAt pages None = ⊤
+IsCauseAt pages (Some i) = i.cause ≡ cause_of pages i.text.items
+
 -- what is told besides of a fault of these texts is this
 pub record IsAtFault (f : Fault) (r : Refused) (policy : List ℕ) (sources : Sources) (input : List ℕ) : Type 0 where
   pub source_at : IsSourceAt f sources r.source
   pub input_at : IsInputAt f input r.input
   pub place_at : IsPlaceAt f policy r.line r.column
+  pub reason_at : IsReasonAt f policy r.reason
+  pub cause_at : (value : PolicyValue) → policy_of policy ≡ Ok value → IsCauseAt value.pages r.input

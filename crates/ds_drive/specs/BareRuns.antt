@@ -51,9 +51,8 @@ RunsBare holds request old new = OfBareRun holds request (λ text. Appends old n
 abbrev pub CutsBare : (List ℕ → List ℕ → Type 0) → BareRequest → Option (List ℕ) → Option (List ℕ) → Type 0
 CutsBare holds request old new = OfBareRun holds request (λ text. AppendsPart old new text)
 
--- the source's file holds a source, and these are its faults
-pub record HasBareFaults (holds : List ℕ → List ℕ → Type 0) (request : BareRequest) (faults : List SourceFault) : Type 0 where
-  pub text : List ℕ
+-- the source's file holds this source, and these are its faults
+pub record HasBareFaults (holds : List ℕ → List ℕ → Type 0) (request : BareRequest) (text : List ℕ) (faults : List SourceFault) : Type 0 where
   pub held : holds request.source.now text
   pub first : SourceFault
   pub refused : assembled text ≡ Err first
@@ -68,7 +67,7 @@ pub record HasWrongLine (holds : List ℕ → List ℕ → Type 0) (request : Ba
 -- what comes of it: the run is told, or the faults are all that the source has, and nothing is written
 abbrev pub RunsOrIsFaulty : Listing → (List ℕ → List ℕ → Type 0) → BareRequest → Option (List ℕ) → Option (List ℕ) → Type 0
 RunsOrIsFaulty listing.Written holds request old new = RunsBare holds request old new
-RunsOrIsFaulty (listing.Faults faults) holds request old new = HasBareFaults holds request faults.items × Keeps old new
+RunsOrIsFaulty (listing.Faults source) holds request old new = HasBareFaults holds request source.text.items source.faults.items × Keeps old new
 
 -- this name is that of the source, or of the input where one is named
 abbrev pub IsNamedByBare : BareRequest → List ℕ → Type 0

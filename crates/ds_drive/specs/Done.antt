@@ -1,5 +1,5 @@
 -- What the program has done.
-use Rattle.std.specs.Prelude.{◌≡◌, ◌⊎◌, ℕ, List, Option, None, codes, flat_map}
+use Rattle.std.specs.Prelude.{◌≡◌, ◌⊎◌, ℕ, List, Option}
 use Rattle.std.specs.Io.KnownBytes.{Keeps}
 use Rattle.clap.specs.Words.{Text}
 use Rattle.ds_asm.specs.declared.fault.SourceFault.{SourceFault}
@@ -15,7 +15,7 @@ use Rattle.ds_drive.specs.Demo.{demo_inputs}
 use Rattle.ds_drive.specs.declared.failure.Failure.TheVariants as failure
 use Rattle.ds_drive.specs.declared.refused.Refused.{Refused}
 use Rattle.ds_drive.specs.Failures.{RunsFiles, CutsFiles, StopsBy, failure_number, memory_failure}
-use Rattle.ds_drive.specs.Told.{failure_line, refused_text, told_line}
+use Rattle.ds_drive.specs.Told.{failure_line, listed_faults, refused_text}
 use Rattle.ds_log.specs.Sent.{AppendsPart}
 use Rattle.ds_drive.specs.Statuses.{fault_status}
 use Rattle.ds_drive.specs.BareRuns.{RunsBare, CutsBare, BareFailsBy, HasBareFaults}
@@ -72,21 +72,23 @@ pub record FailsWith (status : ℕ) (err : Stream) (P : Failure → Type 0) : Ty
   pub so : P failure
   pub told : Tells err (failure_line failure)
 
--- the file is a source with faults, which have status 2: they were told, and nothing is written
+-- the file is a source with faults, which have status 2: they were told, each with its reason, and nothing is written
 pub record IsFaulty (status : ℕ) (holds : List ℕ → List ℕ → Type 0) (request : ListRequest) (out err : Stream) : Type 0 where
   pub has : status ≡ 2
+  pub text : List ℕ
   pub faults : List SourceFault
-  pub are : HasFaults holds request faults
+  pub are : HasFaults holds request text faults
   pub kept : Keeps out.old out.new
-  pub told : Tells err (flat_map (told_line (codes "dsmon: ") request.file.now None) faults)
+  pub told : Tells err (listed_faults request.file.now text faults)
 
 -- so where the source was to run on the bare machine
 pub record IsFaultyBare (status : ℕ) (holds : List ℕ → List ℕ → Type 0) (request : BareRequest) (out err : Stream) : Type 0 where
   pub has : status ≡ 2
+  pub text : List ℕ
   pub faults : List SourceFault
-  pub are : HasBareFaults holds request faults
+  pub are : HasBareFaults holds request text faults
   pub kept : Keeps out.old out.new
-  pub told : Tells err (flat_map (told_line (codes "dsmon: ") request.source.now None) faults)
+  pub told : Tells err (listed_faults request.source.now text faults)
 
 -- a refusal of this status, of which this holds, was told
 pub record RefusesWith (status : ℕ) (err : Stream) (P : Refused → Type 0) : Type 0 where

@@ -41,9 +41,8 @@ ListsFile holds request old new = OfListing holds request (λ text. Appends old 
 abbrev pub CutsListing : (List ℕ → List ℕ → Type 0) → ListRequest → Option (List ℕ) → Option (List ℕ) → Type 0
 CutsListing holds request old new = OfListing holds request (λ text. AppendsPart old new text)
 
--- the named file holds a source, and these are its faults
-pub record HasFaults (holds : List ℕ → List ℕ → Type 0) (request : ListRequest) (faults : List SourceFault) : Type 0 where
-  pub text : List ℕ
+-- the named file holds this source, and these are its faults
+pub record HasFaults (holds : List ℕ → List ℕ → Type 0) (request : ListRequest) (text : List ℕ) (faults : List SourceFault) : Type 0 where
   pub held : holds request.file.now text
   pub source : request.words ≡ false
   pub first : SourceFault
@@ -53,7 +52,7 @@ pub record HasFaults (holds : List ℕ → List ℕ → Type 0) (request : ListR
 -- what comes of a listing: it is written, or the faults are all that the source has, and nothing is
 abbrev pub Lists : Listing → (List ℕ → List ℕ → Type 0) → ListRequest → Option (List ℕ) → Option (List ℕ) → Type 0
 Lists listing.Written holds request old new = ListsFile holds request old new
-Lists (listing.Faults faults) holds request old new = HasFaults holds request faults.items × Keeps old new
+Lists (listing.Faults source) holds request old new = HasFaults holds request source.text.items source.faults.items × Keeps old new
 
 -- why each failure comes, and what it leaves
 abbrev pub FailsBy : Failure → (List ℕ → List ℕ → Type 0) → (List ℕ → Type 0) → ListRequest → Option (List ℕ) → Option (List ℕ) → Type 0

@@ -1,9 +1,15 @@
 -- What standard error is told: of a failure, of a fault of a source, and of a check that is refused.
-use Rattle.std.specs.Prelude.{ℕ, List, [], ◌∷◌, ◌++◌, Option, None, Some, codes, decimal, flat_map}
+use Rattle.std.specs.Prelude.{ℕ, ◌-◌, List, [], ◌∷◌, ◌++◌, Option, None, Some, codes, decimal, option_map, slice_get}
 use Rattle.ds_asm.specs.declared.fault.SourceFault.{SourceFault}
 use Rattle.ds_asm.specs.Assembling.{source_fault_line, source_fault_name, source_fault_number}
 use Rattle.ds_check.specs.Lines.{shown_line}
 use Rattle.ds_check.specs.Mending.{mended}
+use Rattle.ds_source_reasons.specs.declared.fault.FaultyLines.{FaultyLines}
+use Rattle.ds_policy_reasons.specs.Texts.{input_cause_text, policy_reason_text}
+use Rattle.ds_policy_reasons.specs.declared.reason.PolicyReason.{PolicyReason}
+use Rattle.ds_policy_reasons.specs.declared.reason.PolicyReason.TheVariants as reason
+use Rattle.ds_source_reasons.specs.Reasons.{or_next}
+use Rattle.ds_source_reasons.specs.Told.{FaultReason, after_line, after_lines, fault_text, line_in, reason_at}
 use Rattle.ds_station.specs.declared.fault.Fault.{Fault}
 use Rattle.ds_station.specs.declared.fault.Fault.TheVariants as fault
 use Rattle.ds_drive.specs.declared.failure.Failure.{Failure}
@@ -21,18 +27,54 @@ fault_name fault = decimal (source_fault_number fault) ++ (codes " " ++ (source_
 abbrev pub fault_head : List ℕ → List ℕ → SourceFault → List ℕ
 fault_head front place fault = front ++ (fault_name fault ++ (place ++ codes " "))
 
--- after that the number of the source's line
-abbrev pub fault_line : List ℕ → List ℕ → SourceFault → List ℕ
-fault_line front place fault = fault_head front place fault ++ (decimal (source_fault_line fault) ++ codes "\n")
+-- how many lines of a source were passed, and what stands after them
+pub record Passed : Type 0 where
+  pub lines : ℕ
+  pub rest : List ℕ
+
+-- all of a source, of which no line was passed
+abbrev pub none_passed : List ℕ → Passed
+none_passed text = record { lines = 0; rest = text }
+
+-- the same of the code's lines
+abbrev pub passed_in : FaultyLines → Passed
+passed_in l = record { lines = l.passed; rest = l.rest.now }
+
+-- how many lines stand between those that were passed and the line of a fault
+abbrev pub lines_between : Passed → SourceFault → ℕ
+lines_between p fault = source_fault_line fault - p.lines - 1
+
+-- the reason of a fault after those lines
+abbrev pub reason_after : Passed → SourceFault → Option FaultReason
+reason_after p fault = reason_at (lines_between p fault) fault p.rest
+
+-- the lines up to that of a fault were passed, too
+abbrev pub pass : Passed → SourceFault → Passed
+pass p fault = record { lines = source_fault_line fault; rest = after_line (after_lines (lines_between p fault) p.rest) }
+
+-- what stands at the end of a fault's line: the first line of its reason's words, where it has a reason
+abbrev pub at_end : Option FaultReason → List ℕ
+at_end None = []
+at_end (Some why) = codes ": " ++ line_in (fault_text why)
 
 -- the line of a source with this number, where the source is shown
 abbrev pub shown_in : Option (List ℕ) → ℕ → List ℕ
 shown_in None number = []
 shown_in (Some text) number = shown_line text number
 
--- the line that tells of a fault, and below it the source's line, where the source is shown
-abbrev pub told_line : List ℕ → List ℕ → Option (List ℕ) → SourceFault → List ℕ
-told_line front place source fault = fault_line front place fault ++ shown_in source (source_fault_line fault)
+-- the line that tells of a fault: what it begins with, the number of the source's line, and the reason; and below it the source's line, where the source is shown
+abbrev pub told_line : List ℕ → List ℕ → Option (List ℕ) → Option FaultReason → SourceFault → List ℕ
+told_line front place source why fault =
+    fault_head front place fault ++ (decimal (source_fault_line fault) ++ (at_end why ++ (codes "\n" ++ shown_in source (source_fault_line fault))))
+
+-- the lines that tell of faults after some lines, each with its reason
+unfoldable pub told_lines : List ℕ → List ℕ → Option (List ℕ) → Passed → List SourceFault → List ℕ
+told_lines front place source p [] = []
+told_lines front place source p (fault ∷ faults) = told_line front place source (reason_after p fault) fault ++ told_lines front place source (pass p fault) faults
+
+-- the faults of a file with this source, as a listing tells them
+abbrev pub listed_faults : List ℕ → List ℕ → List SourceFault → List ℕ
+listed_faults file text faults = told_lines (codes "dsmon: ") file None (none_passed text) faults
 
 -- the number and name of a source's fault, the source's name, and the line
 abbrev pub source_fault_words : List ℕ → SourceFault → List ℕ
@@ -68,27 +110,70 @@ place_line (Some line) (Some column) = codes "in line " ++ (decimal line ++ (cod
 place_line (Some line) None = codes "in line " ++ (decimal line ++ codes " of the policy\n")
 place_line None column = []
 
--- the source's line of its first fault, and each other fault with its line
-abbrev pub faults_shown : List ℕ → List SourceFault → List ℕ
-faults_shown text [] = []
-faults_shown text (first ∷ others) = shown_line text (source_fault_line first) ++ flat_map (told_line (codes "and ") (codes "in line") (Some text)) others
+-- the source's line of a fault, where there is one
+abbrev pub fault_shown : List ℕ → Option SourceFault → List ℕ
+fault_shown text None = []
+fault_shown text (Some fault) = shown_line text (source_fault_line fault)
 
--- of a source that is at fault, where one is
+-- the line of the first fault of a source that is at fault, where one is
 abbrev pub source_shown : Option FaultySource → List ℕ
 source_shown None = []
-source_shown (Some source) = faults_shown source.text.items source.faults.items
+source_shown (Some source) = fault_shown source.text.items (slice_get source.faults.items 0)
+
+-- the faults after the first, each with its reason and its line
+abbrev pub others_told : List ℕ → List SourceFault → List ℕ
+others_told text [] = []
+others_told text (first ∷ others) = told_lines (codes "and ") (codes "in line") (Some text) (pass (none_passed text) first) others
+
+-- of a source that is at fault, where one is
+abbrev pub others_shown : Option FaultySource → List ℕ
+others_shown None = []
+others_shown (Some source) = others_told source.text.items source.faults.items
 
 -- the line of an input that is at fault, where it is
 abbrev pub input_shown : Option FaultyInput → List ℕ
 input_shown None = []
 input_shown (Some input) = shown_line input.text.items input.line
 
+-- the reason of the first fault of a source, where there is one
+abbrev pub first_reason : List ℕ → Option SourceFault → Option FaultReason
+first_reason text None = None
+first_reason text (Some first) = reason_after (none_passed text) first
+
+-- why the first line of a source is at fault, where one is
+abbrev pub why_source : Option FaultySource → Option (List ℕ)
+why_source None = None
+why_source (Some source) = option_map fault_text (first_reason source.text.items (slice_get source.faults.items 0))
+
+-- which process or which page of a policy a reason is of; a rule's number stands in the line of the failure
+abbrev pub which_of : PolicyReason → List ℕ
+which_of (reason.Process number cause) = codes "in process " ++ (decimal number ++ codes " of the policy\n")
+which_of (reason.Page number cause) = codes "in page " ++ (decimal number ++ codes " of the policy\n")
+which_of other = []
+
+-- the words of a policy's reason, with what to write
+abbrev pub why_policy : PolicyReason → List ℕ
+why_policy why = which_of why ++ policy_reason_text why
+
+-- the words of what is wrong with a line of an input, where it is known
+abbrev pub why_input : Option FaultyInput → Option (List ℕ)
+why_input None = None
+why_input (Some input) = option_map input_cause_text input.cause
+
+-- why a check is refused, where a reason is known: of a source, of a policy, or of an input
+abbrev pub reason_told : Refused → Option (List ℕ)
+reason_told r = or_next (why_source r.source) (or_next (option_map why_policy r.reason) (why_input r.input))
+
 -- a text, where there is one
 abbrev pub text_or_none : Option (List ℕ) → List ℕ
 text_or_none None = []
 text_or_none (Some text) = text
 
--- what is told of a check that is refused: the failure's line, the place in the policy, the line of the source and its other faults, the line of the input, and how it is mended
+-- that reason with what to write; or how a refusal of this number is mended, where no reason is known
+abbrev pub why_told : Refused → List ℕ
+why_told r = text_or_none (or_next (reason_told r) (mended (failure_number r.failure)))
+
+-- what is told of a check that is refused: the failure's line, the place in the policy, the line of the source or of the input, the reason and how it is mended, and the other faults of the source
 abbrev pub refused_text : Refused → List ℕ
 refused_text r = failure_line r.failure
-    ++ (place_line r.line r.column ++ (source_shown r.source ++ (input_shown r.input ++ text_or_none (mended (failure_number r.failure)))))
+    ++ (place_line r.line r.column ++ (source_shown r.source ++ (input_shown r.input ++ (why_told r ++ others_shown r.source))))

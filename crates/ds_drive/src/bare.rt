@@ -6,6 +6,7 @@ use crate::check::input_of;
 use crate::failure::Failure;
 use crate::files::Files;
 use crate::list::Listing;
+use crate::refused::FaultySource;
 use crate::run::named_file;
 use ds_asm::{Assembled, assemble_or_faults};
 use ds_bare::{BareFault, keys_of, run_bare};
@@ -46,7 +47,12 @@ pub fn bare_file<'a, F: Files, W: Write>(
     let input = input_of(alloc, files, request.keys)?;
     let image = match assemble_or_faults(alloc, &source)? {
         Assembled::Image(image) => image,
-        Assembled::Faults(faults) => return Ok(Listing::Faults(faults)),
+        Assembled::Faults(faults) => {
+            return Ok(Listing::Faults(FaultySource {
+                text: source,
+                faults,
+            }));
+        }
     };
     let keys = match keys_of(alloc, &input) {
         Ok(keys) => keys,

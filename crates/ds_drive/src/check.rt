@@ -5,11 +5,12 @@ ghost use Rattle.ds_drive.specs.Checked.{AreGood, ChecksBy, Explains, IsInput, R
 
 use crate::failure::Failure;
 use crate::files::Files;
-use crate::refused::Refused;
+use crate::refused::{Refused, cause_of};
 use crate::run::{lent, named_file, source_texts};
 use ds_check::explain;
 use ds_log::send;
 use ds_policy::{Events, Policy};
+use ds_policy_reasons::policy_reason;
 use ds_station::{Fault, run_policy};
 use ds_words::CheckRequest;
 use std::alloc::Global;
@@ -61,7 +62,10 @@ fn read_good<'a, F: Files>(
     let input = input_of(alloc, files, request.input)?;
     let policy = match Policy::read(alloc, &text) {
         Ok(policy) => policy,
-        Err(fault) => return Err(Refused::of_policy(alloc, Fault::from(fault), &text)),
+        Err(fault) => {
+            let reason = policy_reason(alloc, &text)?;
+            return Err(Refused::of_policy(alloc, Fault::from(fault), &text, reason));
+        }
     };
     let texts = source_texts(alloc, files, policy.sources())?;
     let sources = lent(alloc, texts.as_slice())?;
@@ -77,7 +81,8 @@ fn read_good<'a, F: Files>(
         Ok(()) => {}
         Err(fault) => {
             drop(sources);
-            return Err(Refused::of_texts(alloc, fault, texts, input));
+            let cause = cause_of(alloc, &policy, &fault, &input)?;
+            return Err(Refused::of_texts(alloc, fault, texts, input, cause));
         }
     }
     match Events::read(alloc, input.as_slice(), &policy) {

@@ -1,20 +1,22 @@
 //! The faults of a source, told a line each.
-ghost use Rattle.std.specs.Prelude.{◌≡◌, ◌++◌, IfOk, OnOk, OnErr, flat_map};
+ghost use Rattle.std.specs.Prelude.{◌≡◌, ◌++◌, IfOk, OnOk, OnErr, option_map};
 ghost use Rattle.std.specs.Io.KnownBytes.{Appends};
 ghost use Rattle.ds_asm.specs.Assembling.{source_fault_line};
-ghost use Rattle.ds_drive.specs.Told.{fault_head, fault_line, fault_name, shown_in, told_line};
+ghost use Rattle.ds_drive.specs.Told.{at_end, fault_head, fault_name, pass, passed_in, reason_after, shown_in, told_line, told_lines};
 ghost use Rattle.ds_log.specs.Sent.{AppendsPart};
+ghost use Rattle.ds_source_reasons.specs.Told.{plain_fault};
 
-use ds_asm::SourceFault;
+use ds_asm::{SourceFault, first_line};
 use ds_check::Lines;
 use ds_log::{WriteFailed, send};
+use ds_source_reasons::{FaultReason, FaultyLines, push_reason};
 use itoa::Buffer;
 use std::alloc::{AllocError, Global};
 use std::io::Write;
 use std::marker::Model;
 
-/// How many lines go to the writer at once.
-const LINES_AT_ONCE: usize = 1024;
+/// From how many bytes on a text goes to the writer.
+const BYTES_AT_ONCE: usize = 32_768;
 
 /// The words of a line that tells of a fault: what it begins with, and what stands before the number
 /// of the source's line.
@@ -125,82 +127,98 @@ fn head_of<'a>(
     Ok(head)
 }
 
-/// Tells of faults, a line each, and shows the source's line below it where the source's lines are
-/// lent. Where the writer fails, or memory runs out, the rest is not told.
+/// Tells of faults, a line each with the reason at its end, and shows the source's line below it
+/// where the source's lines are lent. Where the writer fails, or memory runs out, the rest is not
+/// told.
 pub(crate) fn tell_lines<'a, 's, E: Write>(
     alloc: Global,
     err: &mut E,
     wording: Wording<'a>,
     lines: &mut Option<Lines<'s>>,
+    reasons: FaultyLines<'s>,
     faults: &[SourceFault],
 ) -> Result<(), Untold>
     ensures all { OnOk result (Appends (E.contents err.old) (E.contents err.new)
-        (flat_map (told_line wording.entry.front.now wording.entry.place.now lines.old) faults.now)) }
+        (told_lines wording.entry.front.now wording.entry.place.now lines.old
+        (passed_in reasons.entry) faults.now)) }
     ensures front { OnErr result (AppendsPart (E.contents err.old) (E.contents err.new)
-        (flat_map (told_line wording.entry.front.now wording.entry.place.now lines.old) faults.now)) }
+        (told_lines wording.entry.front.now wording.entry.place.now lines.old
+        (passed_in reasons.entry) faults.now)) }
 {
     let heads = Heads::of(alloc, wording)?;
-    let mut text = Vec::new(alloc);
-    let mut told = 0;
-    while told < faults.len() {
-        let end = faults.len().min(told + LINES_AT_ONCE);
-        text.clear();
-        push_lines(&mut text, &heads, lines, &faults[told..end])?;
-        send(err, &text)?;
-        told = end;
+    let mut sheet = Vec::new(alloc);
+    let mut words = Vec::new(alloc);
+    let mut reasons = reasons;
+    for fault in faults {
+        push_told(&mut sheet, &mut words, &heads, lines, &mut reasons, fault)?;
+        if sheet.len() >= BYTES_AT_ONCE {
+            send(err, &sheet)?;
+            sheet.clear();
+        }
     }
+    send(err, &sheet)?;
     Ok(())
 }
 
+/// Adds all that is told of a fault: its line with the reason, and the source's line where the
+/// source's lines are lent.
 #[inline(never)]
-fn push_lines<'a, 's>(
-    text: &mut Vec<u8>,
+fn push_told<'a, 's>(
+    sheet: &mut Vec<u8>,
+    words: &mut Vec<u8>,
     heads: &Heads<'a>,
     lines: &mut Option<Lines<'s>>,
-    faults: &[SourceFault],
-) -> Result<(), AllocError>
-    ensures text { OnOk result (text.new.items ≡ text.old.items
-        ++ flat_map (told_line heads.now.0 heads.now.1 lines.old) faults.now) }
-    ensures same { lines.new ≡ lines.old }
-{
-    let mut buffer = Buffer::new();
-    for fault in faults {
-        push_line(text, &mut buffer, heads, fault)?;
-        push_shown(text, lines, fault)?;
-    }
-    Ok(())
-}
-
-/// Adds the line of the source that is at fault, where the source's lines are lent.
-fn push_shown<'s>(
-    text: &mut Vec<u8>,
-    lines: &mut Option<Lines<'s>>,
+    reasons: &mut FaultyLines<'s>,
     fault: &SourceFault,
 ) -> Result<(), AllocError>
-    ensures text { OnOk result (text.new.items ≡ text.old.items
-        ++ shown_in lines.old (source_fault_line fault.now)) }
+    ensures text { OnOk result (sheet.new.items ≡ sheet.old.items
+        ++ told_line heads.now.0 heads.now.1 lines.old
+        (reason_after (passed_in reasons.old) fault.now) fault.now) }
     ensures same { lines.new ≡ lines.old }
+    ensures passed { passed_in reasons.new ≡ pass (passed_in reasons.old) fault.now }
 {
-    match lines {
-        Some(lines) => lines.push(text, fault.line()),
+    let reason = reasons.reason(*fault);
+    sheet.extend_from_slice(heads.head(fault))?;
+    sheet.extend_from_slice(Buffer::new().format(fault.line()).as_bytes())?;
+    push_reason_line(sheet, words, reason)?;
+    sheet.push(b'\n')?;
+    push_shown(sheet, lines, fault)
+}
+
+/// Adds what stands at the end of a fault's line: the first line of its reason, where it has one.
+fn push_reason_line<'s>(
+    sheet: &mut Vec<u8>,
+    words: &mut Vec<u8>,
+    reason: Option<FaultReason<'s>>,
+) -> Result<(), AllocError>
+    ensures { OnOk result (sheet.new.items ≡ sheet.old.items
+        ++ at_end (option_map plain_fault reason.entry)) }
+{
+    match reason {
+        Some(reason) => {
+            words.clear();
+            push_reason(words, reason)?;
+            sheet.extend_from_slice(b": ")?;
+            sheet.extend_from_slice(first_line(words).0)
+        }
         None => Ok(()),
     }
 }
 
-/// Adds the line of a fault: its head, and the number of the source's line.
-fn push_line<'a>(
-    text: &mut Vec<u8>,
-    buffer: &mut Buffer,
-    heads: &Heads<'a>,
+/// Adds the line of the source that is at fault, where the source's lines are lent.
+fn push_shown<'s>(
+    sheet: &mut Vec<u8>,
+    lines: &mut Option<Lines<'s>>,
     fault: &SourceFault,
 ) -> Result<(), AllocError>
-    ensures { OnOk result (text.new.items ≡ text.old.items
-        ++ fault_line heads.now.0 heads.now.1 fault.now) }
+    ensures text { OnOk result (sheet.new.items ≡ sheet.old.items
+        ++ shown_in lines.old (source_fault_line fault.now)) }
+    ensures same { lines.new ≡ lines.old }
 {
-    text.extend_from_slice(heads.head(fault))?;
-    text.extend_from_slice(buffer.format(fault.line()).as_bytes())?;
-    text.push(b'\n')?;
-    Ok(())
+    match lines {
+        Some(lines) => lines.push(sheet, fault.line()),
+        None => Ok(()),
+    }
 }
 
 /// Adds a fault's number and name.

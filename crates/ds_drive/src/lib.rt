@@ -13,6 +13,7 @@ mod refused;
 mod run;
 mod status;
 mod told;
+mod why;
 
 pub use bare::bare_file;
 pub use check::check_files;

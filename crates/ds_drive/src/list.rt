@@ -1,17 +1,18 @@
 //! A file listed: a source with its bytes, or the words of a file as a source.
-ghost use Rattle.std.specs.Prelude.{◌≡◌, ℕ, List, IfErr, IfOk, None, codes, flat_map};
+ghost use Rattle.std.specs.Prelude.{◌≡◌, ℕ, List, IfErr, IfOk};
 ghost use Rattle.ds_drive.specs.Listed.{IsListed, Lists, FailsBy};
-ghost use Rattle.ds_drive.specs.Told.{told_line};
+ghost use Rattle.ds_drive.specs.Told.{listed_faults};
 ghost use Rattle.ds_log.specs.Sent.{AppendsPart};
 
 use crate::failure::Failure;
 use crate::faults::{Wording, tell_lines};
 use crate::files::Files;
+use crate::refused::FaultySource;
 use crate::run::named_file;
 use crate::status::INPUT_REFUSED;
-use ds_asm::SourceFault;
 use ds_listing::{Listed, listing_or_faults, source_of_file};
 use ds_log::send;
+use ds_source_reasons::FaultyLines;
 use ds_station::Fault;
 use ds_words::ListRequest;
 use std::alloc::{AllocError, Global};
@@ -22,8 +23,8 @@ use std::io::Write;
 pub enum Listing {
     /// It was written.
     Written,
-    /// The source has these faults, and nothing was written.
-    Faults(Vec<SourceFault>),
+    /// The source has faults, and nothing was written.
+    Faults(FaultySource),
 }
 
 /// The source of a file's words, or the listing of a source or all its faults.
@@ -60,22 +61,26 @@ pub fn list_file<'a, F: Files, W: Write>(
             Ok(()) => Ok(Listing::Written),
             Err(_) => Err(Failure::Fault(Fault::WriteFault)),
         },
-        Listed::Faults(faults) => Ok(Listing::Faults(faults)),
+        Listed::Faults(faults) => Ok(Listing::Faults(FaultySource {
+            text: bytes,
+            faults,
+        })),
     }
 }
 
-/// Tells of the faults of a source, a line for each, and answers the status. Where the writer fails,
-/// or memory runs out, the rest is not told.
+/// Tells of the faults of a source, a line for each with the reason at its end, and answers the
+/// status. Where the writer fails, or memory runs out, the rest is not told.
 #[tactic(auto, using(crate::proofs::Tellings::told_either))]
-pub fn tell_faults<E: Write>(alloc: Global, err: &mut E, file: &str, faults: &[SourceFault]) -> u8
+pub fn tell_faults<E: Write>(alloc: Global, err: &mut E, file: &str, source: &FaultySource) -> u8
     ensures status { result ≡ 2 }
     ensures told { AppendsPart (E.contents err.old) (E.contents err.new)
-        (flat_map (told_line (codes "dsmon: ") file.now None) faults.now) }
+        (listed_faults file.now source.now.text.items source.now.faults.items) }
 {
     let wording = Wording {
         front: "dsmon: ",
         place: file,
     };
-    let _ = tell_lines(alloc, err, wording, &mut None, faults);
+    let reasons = FaultyLines::of(&source.text);
+    let _ = tell_lines(alloc, err, wording, &mut None, reasons, &source.faults);
     INPUT_REFUSED
 }

@@ -70,7 +70,7 @@ pub fn drive<F: Files, W: Write, E: Write>(
         },
         Ok(Some(Wish::List(request))) => match list_file(alloc, &request, files, out) {
             Ok(Listing::Written) => DONE,
-            Ok(Listing::Faults(faults)) => tell_faults(alloc, err, request.file, &faults),
+            Ok(Listing::Faults(source)) => tell_faults(alloc, err, request.file, &source),
             Err(unlisted) => tell(err, &unlisted),
         },
         Ok(Some(Wish::Check(request))) => match check_files(alloc, &request, files, out) {
@@ -79,7 +79,7 @@ pub fn drive<F: Files, W: Write, E: Write>(
         },
         Ok(Some(Wish::Bare(request))) => match bare_file(alloc, &request, files, out) {
             Ok(Listing::Written) => DONE,
-            Ok(Listing::Faults(faults)) => tell_faults(alloc, err, request.source, &faults),
+            Ok(Listing::Faults(source)) => tell_faults(alloc, err, request.source, &source),
             Err(failure) => tell(err, &failure),
         },
         Ok(None) => {

@@ -1,6 +1,7 @@
 //! What a check refuses, and what is at fault then.
-ghost use Rattle.std.specs.Prelude.{◌≡◌, ◌<◌, ◌≤◌, length, None, position, bytes_eq};
-ghost use Rattle.ds_drive.specs.AtFault.{IsInputAt, IsPlaceAt, IsSourceAt, plain, texts_seen};
+ghost use Rattle.std.specs.Prelude.{◌≡◌, ◌<◌, ◌≤◌, ℕ, List, length, None, IfOk, IfSome, position, bytes_eq};
+ghost use Rattle.ds_policy_reasons.specs.Policies.{policy_reason};
+ghost use Rattle.ds_drive.specs.AtFault.{IsCauseOf, IsInputAt, IsPlaceAt, IsReasonAt, IsSourceAt, plain, texts_seen};
 ghost use Rattle.ds_drive.specs.Failures.{memory_failure};
 ghost use Rattle.ds_drive.specs.declared.failure.Failure.TheVariants as failure;
 
@@ -8,6 +9,8 @@ use crate::failure::Failure;
 use crate::run::SourceText;
 use ds_asm::{SourceFault, all_faults};
 use ds_check::{rule_line, toml_place};
+use ds_policy::{OutOfMemory, Policy};
+use ds_policy_reasons::{InputCause, PolicyReason, input_reason};
 use ds_station::Fault;
 use std::alloc::{AllocError, Global};
 
@@ -27,6 +30,8 @@ pub struct FaultyInput {
     pub text: Vec<u8>,
     /// The number of the line that is at fault, from 1.
     pub line: u64,
+    /// What is wrong with that line.
+    pub cause: Option<InputCause>,
 }
 
 /// What a check refuses.
@@ -38,6 +43,8 @@ pub struct Refused<'a> {
     pub source: Option<FaultySource>,
     /// The input that is at fault, where it is.
     pub input: Option<FaultyInput>,
+    /// Why the policy is refused, where it is.
+    pub reason: Option<PolicyReason>,
     /// The line of the policy's text that is at fault, from 1, where it is known.
     pub line: Option<u64>,
     /// The column there, from 1, where it is known.
@@ -53,46 +60,60 @@ impl<'a> Refused<'a> {
             failure,
             source: None,
             input: None,
+            reason: None,
             line: None,
             column: None,
         }
     }
 
-    /// A refusal of the policy that has this text.
-    pub(crate) fn of_policy(alloc: Global, fault: Fault, text: &[u8]) -> Refused<'a>
+    /// A refusal of the policy that has this text, of which this is the reason.
+    pub(crate) fn of_policy(
+        alloc: Global,
+        fault: Fault,
+        text: &[u8],
+        reason: Option<PolicyReason>,
+    ) -> Refused<'a>
         requires { length text.now ≤ 16777216 }
         ensures failure { result.failure ≡ failure.Fault fault }
         ensures place { IsPlaceAt fault text.now result.line result.column }
+        ensures reason { (reason ≡ policy_reason text.now)
+            → IsReasonAt fault text.now result.reason }
         ensures others { (result.source ≡ None) × (result.input ≡ None) }
     {
         let (line, column) = place_in(alloc, &fault, text);
+        let reason = reason_for(&fault, reason);
         Refused {
             failure: Failure::Fault(fault),
             source: None,
             input: None,
+            reason,
             line,
             column,
         }
     }
 
-    /// A refusal of what is read after the policy: of one of these sources, or of the input.
+    /// A refusal of what is read after the policy: of one of these sources, or of the input, of
+    /// which this is what is wrong with the line.
     pub(crate) fn of_texts(
         alloc: Global,
         fault: Fault,
         texts: Vec<SourceText>,
         input: Vec<u8>,
+        cause: Option<InputCause>,
     ) -> Refused<'a>
         ensures failure { result.failure ≡ failure.Fault fault }
         ensures source { IsSourceAt fault (texts_seen texts.items) result.source }
         ensures input { IsInputAt fault input.items result.input }
-        ensures others { (result.line ≡ None) × (result.column ≡ None) }
+        ensures cause { IfSome result.input (λ i. i.cause ≡ cause) }
+        ensures others { (result.reason ≡ None) × (result.line ≡ None) × (result.column ≡ None) }
     {
         let source = faulty_source(alloc, &fault, texts);
-        let input = faulty_input(&fault, input);
+        let input = faulty_input(&fault, input, cause);
         Refused {
             failure: Failure::Fault(fault),
             source,
             input,
+            reason: None,
             line: None,
             column: None,
         }
@@ -114,12 +135,45 @@ fn place_in(alloc: Global, fault: &Fault, text: &[u8]) -> (Option<u64>, Option<u
     }
 }
 
-/// The input, if it is at fault.
-fn faulty_input(fault: &Fault, text: Vec<u8>) -> Option<FaultyInput>
-    ensures { IsInputAt fault.now text.items result }
+/// The reason of a fault, if it is the policy's.
+fn reason_for(fault: &Fault, reason: Option<PolicyReason>) -> Option<PolicyReason>
+    ensures { (text : List ℕ) → (reason ≡ policy_reason text) → IsReasonAt fault.now text result }
 {
     match fault {
-        Fault::InputFault(line) => Some(FaultyInput { text, line: *line }),
+        Fault::BadToml | Fault::BadRule(_) | Fault::Limit(_) => reason,
+        _ => None,
+    }
+}
+
+/// What is wrong with the line of an input where that is the fault.
+pub(crate) fn cause_of(
+    alloc: Global,
+    policy: &Policy,
+    fault: &Fault,
+    input: &[u8],
+) -> Result<Option<InputCause>, OutOfMemory>
+    ensures { IfOk result (λ cause. IsCauseOf fault.now policy.now.pages input.now cause) }
+{
+    match fault {
+        Fault::InputFault(_) => match input_reason(alloc, policy, input)? {
+            Some(reason) => Ok(Some(reason.cause)),
+            None => Ok(None),
+        },
+        _ => Ok(None),
+    }
+}
+
+/// The input with what is wrong in its line, if it is at fault.
+fn faulty_input(fault: &Fault, text: Vec<u8>, cause: Option<InputCause>) -> Option<FaultyInput>
+    ensures input { IsInputAt fault.now text.items result }
+    ensures cause { IfSome result (λ i. i.cause ≡ cause) }
+{
+    match fault {
+        Fault::InputFault(line) => Some(FaultyInput {
+            text,
+            line: *line,
+            cause,
+        }),
         _ => None,
     }
 }
@@ -149,6 +203,14 @@ impl<'a> From<Failure<'a>> for Refused<'a> {
 
     fn from(failure: Failure<'a>) -> Refused<'a> {
         Refused::plain(failure)
+    }
+}
+
+impl<'a> From<OutOfMemory> for Refused<'a> {
+    ghost from_gives = { λ _ r. r ≡ plain memory_failure };
+
+    fn from(_e: OutOfMemory) -> Refused<'a> {
+        Refused::plain(Failure::Fault(Fault::Memory))
     }
 }
 

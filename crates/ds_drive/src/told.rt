@@ -2,19 +2,20 @@
 ghost use Rattle.std.specs.Prelude.{◌≡◌, ◌++◌, OnErr, OnOk, codes, flat_map};
 ghost use Rattle.std.specs.Io.KnownBytes.{Appends};
 ghost use Rattle.ds_check.specs.Lines.{shown_line};
-ghost use Rattle.ds_check.specs.Mending.{mended};
 ghost use Rattle.ds_drive.specs.Failures.{failure_number};
 ghost use Rattle.ds_drive.specs.Statuses.{fault_status};
-ghost use Rattle.ds_drive.specs.Told.{failure_line, fault_words, faults_shown, input_shown, place_line, refused_text, source_fault_words, source_shown, text_or_none};
+ghost use Rattle.ds_drive.specs.Told.{failure_line, fault_words, input_shown, none_passed, others_shown, others_told, pass, passed_in, place_line, refused_text, source_fault_words, source_shown, why_told};
 ghost use Rattle.ds_log.specs.Sent.{AppendsPart};
 
 use crate::failure::Failure;
 use crate::faults::{Untold, Wording, tell_lines};
 use crate::refused::{FaultyInput, FaultySource, Refused};
 use crate::status::status_of;
+use crate::why::{push_mending, push_reason_told};
 use ds_asm::SourceFault;
-use ds_check::{Lines, mend_text};
+use ds_check::Lines;
 use ds_log::{WriteFailed, send};
+use ds_source_reasons::FaultyLines;
 use ds_station::Fault;
 use itoa::Buffer;
 use std::alloc::Global;
@@ -32,9 +33,9 @@ pub fn tell<'a, E: Write>(err: &mut E, failure: &Failure<'a>) -> u8
     status_of(failure.number())
 }
 
-/// Tells of a refusal as a run does, and below it where it is, the source's line with the other faults
-/// of the source and their lines, and how it is mended; and answers the status. Where the writer
-/// fails, or memory runs out, the rest is not told.
+/// Tells of a refusal as a run does, and below it where it is, the line of the source or of the
+/// input, the reason and how it is mended, and the other faults of the source; and answers the
+/// status. Where the writer fails, or memory runs out, the rest is not told.
 #[tactic(auto, using(crate::proofs::Tellings::told_either))]
 pub fn tell_refused<'a, E: Write>(alloc: Global, err: &mut E, refused: &Refused<'a>) -> u8
     ensures status { result ≡ fault_status (failure_number refused.now.failure) }
@@ -60,7 +61,8 @@ fn send_refused<'a, E: Write>(
     send_place(err, refused.line, refused.column)?;
     send_source(alloc, err, &refused.source)?;
     send_input(alloc, err, &refused.input)?;
-    send_mending(err, refused.failure.number())
+    send_why(alloc, err, refused)?;
+    send_others(alloc, err, &refused.source)
 }
 
 /// Hands the line of a failure to the writer.
@@ -194,7 +196,7 @@ fn send_place<E: Write>(err: &mut E, line: Option<u64>, column: Option<u64>) -> 
     }
 }
 
-/// Shows a source that is at fault, where one is.
+/// Shows the line of the first fault of a source that is at fault, where one is.
 fn send_source<E: Write>(
     alloc: Global,
     err: &mut E,
@@ -206,12 +208,32 @@ fn send_source<E: Write>(
         (source_shown source.now)) }
 {
     match source {
+        Some(source) => match source.faults.first() {
+            Some(first) => show_line(alloc, err, &source.text, first.line()),
+            None => Ok(()),
+        },
+        None => Ok(()),
+    }
+}
+
+/// Tells of the faults after the first of a source that is at fault, where one is.
+fn send_others<E: Write>(
+    alloc: Global,
+    err: &mut E,
+    source: &Option<FaultySource>,
+) -> Result<(), Untold>
+    ensures all { OnOk result (Appends (E.contents err.old) (E.contents err.new)
+        (others_shown source.now)) }
+    ensures front { OnErr result (AppendsPart (E.contents err.old) (E.contents err.new)
+        (others_shown source.now)) }
+{
+    match source {
         Some(source) => send_faults(alloc, err, &source.text, &source.faults),
         None => Ok(()),
     }
 }
 
-/// Shows the line of a source's first fault, and tells of the other faults, each with its line.
+/// Tells of the faults after the first, each with its reason and its line.
 fn send_faults<E: Write>(
     alloc: Global,
     err: &mut E,
@@ -219,9 +241,9 @@ fn send_faults<E: Write>(
     faults: &[SourceFault],
 ) -> Result<(), Untold>
     ensures all { OnOk result (Appends (E.contents err.old) (E.contents err.new)
-        (faults_shown text.now faults.now)) }
+        (others_told text.now faults.now)) }
     ensures front { OnErr result (AppendsPart (E.contents err.old) (E.contents err.new)
-        (faults_shown text.now faults.now)) }
+        (others_told text.now faults.now)) }
 {
     let wording = Wording {
         front: "and ",
@@ -229,12 +251,22 @@ fn send_faults<E: Write>(
     };
     match faults {
         [first, others @ ..] => {
-            show_line(alloc, err, text, first.line())?;
+            let reasons = after_first(text, first);
             let mut lines = Some(Lines::of(text));
-            tell_lines(alloc, err, wording, &mut lines, others)
+            tell_lines(alloc, err, wording, &mut lines, reasons, others)
         }
         [] => Ok(()),
     }
+}
+
+/// The lines of a source after that of its first fault.
+#[tactic(auto, using(crate::proofs::Tellings::first_passed))]
+fn after_first<'s>(text: &'s [u8], first: &SourceFault) -> FaultyLines<'s>
+    ensures { passed_in result ≡ pass (none_passed text.now) first.now }
+{
+    let mut reasons = FaultyLines::of(text);
+    let _ = reasons.reason(*first);
+    reasons
 }
 
 /// Shows the line of an input that is at fault, where it is.
@@ -268,15 +300,17 @@ fn show_line<E: Write>(alloc: Global, err: &mut E, text: &[u8], number: u64) -> 
     Ok(())
 }
 
-/// Tells how a refusal of this number is mended, where that is known.
-fn send_mending<E: Write>(err: &mut E, number: u32) -> Result<(), Untold>
+/// Tells why a check is refused with what to write; where no reason is known, how it is mended.
+fn send_why<'a, E: Write>(alloc: Global, err: &mut E, refused: &Refused<'a>) -> Result<(), Untold>
     ensures all { OnOk result (Appends (E.contents err.old) (E.contents err.new)
-        (text_or_none (mended number))) }
+        (why_told refused.now)) }
     ensures front { OnErr result (AppendsPart (E.contents err.old) (E.contents err.new)
-        (text_or_none (mended number))) }
+        (why_told refused.now)) }
 {
-    match mend_text(number) {
-        Some(words) => Ok(send(err, words.as_bytes())?),
-        None => Ok(()),
+    let mut sheet = Vec::new(alloc);
+    if !push_reason_told(&mut sheet, refused)? {
+        push_mending(&mut sheet, refused.failure.number())?;
     }
+    send(err, &sheet)?;
+    Ok(())
 }

@@ -101,7 +101,8 @@ const CHECK_HELP: &str =
     "POLICY, its sources and INPUT are read as a run reads them. Where all is good, the permission table
 at the start is written, process by process; then what is near a limit; then what comes when. Where
 something is refused, standard error tells the refusal as a run does, where it is as far as that is
-known, all faults of the source with their lines, and how it is mended. The status is 2 then.
+known, the reason with what to write, and the other faults of the source with their reasons. The
+status is 2 then.
 
 Examples:
   dsmon check policy.toml input.txt
@@ -116,16 +117,16 @@ Examples:
   dsmon check policy.toml
     dsmon: 3 Syntax guest.s 2
         addiu $v0, 1
-    The line cannot be read. `addiu $v0, 1` lacks a register: write
-    ..";
+    The statement wants 3 operands, and has 2.
+    Each operand is written, with commas between them: `addiu $v0, $zero, 1`.";
 
 /// What stands at the end of the help of `list`.
 const LIST_HELP: &str =
     "A source is listed line by line: its number, the address and the bytes that it has there, and the
-line; behind the lines each label with its value. Where lines are at fault, a line on standard error
-tells the number, the name and the place of each fault, and the status is 2. With --words FILE holds
-words, four bytes to each with the lowest first; each is written as the assembler takes it, and a
-byte that is left at the end as .byte.
+line; after the lines each label with its value. Where lines are at fault, a line on standard error
+tells the number, the name, the place and the reason of each fault, and the status is 2. With --words
+FILE holds words, four bytes to each with the lowest first; each is written as the assembler takes
+it, and a byte that is left at the end as .byte.
 
 Examples:
   dsmon list guest.s

@@ -1,7 +1,8 @@
-use Rattle.std.proofs.Common.{◌∙◌, map, ap, subst, rules, ℕ, List}
+use Rattle.std.proofs.Common.{◌∙◌, map, ap, subst, sym, rules, ℕ, List}
+use Rattle.ds_policy_reasons.specs.Policies.{policy_reason}
 use Rattle.ds_station.specs.Headline.{sources_seen}
 use Rattle.ds_drive.specs.declared.run.SourceText.{SourceText}
-use Rattle.ds_drive.specs.AtFault.{IsPlaceAt}
+use Rattle.ds_drive.specs.AtFault.{IsPlaceAt, IsReasonAt}
 use Rattle.ds_station.specs.declared.fault.Fault.{Fault}
 use Rattle.ds_drive.specs.declared.failure.Failure.TheVariants as failure
 use Rattle.ds_drive.proofs.HeldFiles.{all_held, names_held, input_kept, begins_over}
@@ -37,7 +38,10 @@ returns-in-Err-clause-refused g c =
     (search rules)
     (c.of_policy.ensures.failure ∙ ap failure.Fault c.from.ensures)
     (subst (λ (f : Fault). IsPlaceAt f c.in_ok-text.text.items told.line told.column) c.from.ensures
-    (subst (λ (t : List ℕ). IsPlaceAt c.from.result t told.line told.column) c.deref-in-Err.ensures.value c.of_policy.ensures.place))
+    (subst (λ (t : List ℕ). IsPlaceAt c.from.result t told.line told.column) c.deref-in-Err-2.ensures.value c.of_policy.ensures.place))
+    (subst (λ (f : Fault). IsReasonAt f c.in_ok-text.text.items told.reason) c.from.ensures
+    (subst (λ (t : List ℕ). IsReasonAt c.from.result t told.reason) c.deref-in-Err-2.ensures.value
+    (c.of_policy.ensures.reason (c.in_ok-reason-in-Err.ensures ∙ ap policy_reason (c.deref-in-Err.ensures.value ∙ sym c.deref-in-Err-2.ensures.value)))))
     c.of_policy.ensures.others.0 c.of_policy.ensures.others.1
 
 pub returns-in-Err-run_policy-clause-refused : goal.returns-in-Err-run_policy-clause-refused
@@ -45,11 +49,11 @@ returns-in-Err-run_policy-clause-refused g c =
     let holds = g.F.Files.holds c.args.files.now in
     let lacks = g.F.Files.lacks c.args.files.now in
     let lent = c.in_ok-sources.ensures ∙ ap (map (λ (s : SourceText). (s.name, s.text.items))) c.as_slice.ensures.value in
-    run_refuses holds lacks (g.F.Files.holds c.input_of.new.files) c.of_texts.result c.args.request.now c.in_ok-text.text.items c.in_ok-input.input.items c.in_ok-texts.texts.items _ _ _ c.in-Ok.policy c.in-Err-run_policy.fault _ _
+    run_refuses holds lacks (g.F.Files.holds c.input_of.new.files) c.of_texts.result c.args.request.now c.in_ok-text.text.items c.in_ok-input.input.items c.in_ok-texts.texts.items _ _ _ c.in-Ok.policy c.in-Err-run_policy.fault c.in_ok-cause-in-Err-run_policy.cause _ _
     c.in_ok-text.ensures.found
     (input_kept holds (g.F.Files.holds c.named_file.new.files) c.args.request.now.input c.in_ok-input.input.items c.in_ok-text.ensures.kept c.in_ok-input.ensures.found)
     (λ file bytes h. c.in_ok-text.ensures.kept file bytes (c.in_ok-input.ensures.kept file bytes h))
     c.in_ok-texts.ensures.found
     (c.in_ok-texts.ensures.names ∙ c.sources.ensures.all)
     (search rules) lent (ap sources_seen c.as_slice-2.ensures.value) c.as_slice-3.ensures.value c.in-Err-run_policy.ensures.err
-    c.of_texts.ensures.failure c.of_texts.ensures.source c.of_texts.ensures.input c.of_texts.ensures.others.0 c.of_texts.ensures.others.1
+    c.of_texts.ensures.failure c.of_texts.ensures.source c.of_texts.ensures.input c.of_texts.ensures.cause (search rules) c.of_texts.ensures.others.0 c.of_texts.ensures.others.1 c.of_texts.ensures.others.2

@@ -1,23 +1,32 @@
 use Rattle.std.proofs.Common.{◌∙◌, arith}
 use Rattle.ds_log.proofs.Sends.{at_err}
-use Rattle.ds_drive.specs.Told.{told_line}
-use Rattle.ds_drive.proofs.Tellings.{after_nothing, told_so_far, told_more, told_part, told_of}
+use Rattle.ds_drive.proofs.Tellings.{none_left, one_told, sent_all, sent_part, sheet_sent}
 use Rattle.ds_drive.proofs.faults.tell_lines.Goals as goal
-
-pub returns-in_err-push_lines-clause-front : goal.returns-in_err-push_lines-clause-front
-returns-in_err-push_lines-clause-front g c = at_err c.from_residual-in_err-push_lines.result
-    (told_so_far (told_line c.args.wording.front.now c.args.wording.place.now c.args.lines.now) c.args.faults.now _ _ c.loop-told.told c.loop-told.invariant.written)
+use Rattle.ds_drive.proofs.faults.tell_lines.Goals.{then-len-ge-BYTES_AT_ONCE+in_ok-send, else-len-ge-BYTES_AT_ONCE}
 
 pub returns-in_err-send-clause-front : goal.returns-in_err-send-clause-front
 returns-in_err-send-clause-front g c = at_err c.from_residual-in_err-send.result
-    (told_part (told_line c.args.wording.front.now c.args.wording.place.now c.args.lines.now) c.args.faults.now _ _ _ c.loop-told.told c.min-end.result _
-    (after_nothing _ _ _ _ c.deref.ensures.value (told_of c.args.wording.front.now c.args.wording.place.now _ _ _ _ _ c.loop-told.invariant.same (rw c.in_ok-heads.ensures at c.in_ok-push_lines.ensures.text)) c.clear.ensures.items) c.loop-told.invariant.written c.in_err-send.ensures.err)
+    (sent_part _ _ _ _ _ _ _
+    (one_told c.args.wording.front.now c.args.wording.place.now c.args.lines.now _ _ c.args.faults.now c.loop-fault.fault-index _ _ _ _ _ _ _ _ c.loop-fault-test.true c.in_ok-heads.ensures c.loop-fault.invariant.same c.in_ok-push_told.ensures.text c.push_told.ensures.passed c.loop-fault.invariant.told)
+    c.deref.ensures.value c.in_err-send.ensures.err)
 
-pub loop-told-preserved : goal.loop-told-preserved
-loop-told-preserved g c = record {
-  within = omega (arith, c.min-end.ensures);
-  written = told_more (told_line c.args.wording.front.now c.args.wording.place.now c.args.lines.now) c.args.faults.now _ _ _ c.loop-told.told c.min-end.result _
-      (omega (arith, c.min-end.ensures, c.loop-told-test.true))
-      (after_nothing _ _ _ _ c.deref.ensures.value (told_of c.args.wording.front.now c.args.wording.place.now _ _ _ _ _ c.loop-told.invariant.same (rw c.in_ok-heads.ensures at c.in_ok-push_lines.ensures.text)) c.clear.ensures.items) c.loop-told.invariant.written c.in_ok-send.ensures.ok;
-  same = c.push_lines.ensures.same ∙ c.loop-told.invariant.same;
-}
+pub loop-fault-preserved : goal.loop-fault-preserved
+loop-fault-preserved g c =
+    let told = one_told c.args.wording.front.now c.args.wording.place.now c.args.lines.now _ _ c.args.faults.now c.loop-fault.fault-index _ _ _ _ _ _ _ _ c.loop-fault-test.true c.in_ok-heads.ensures c.loop-fault.invariant.same c.in_ok-push_told.ensures.text c.push_told.ensures.passed c.loop-fault.invariant.told in
+    record {
+      same = c.push_told.ensures.same ∙ c.loop-fault.invariant.same;
+      told = elim c.if-len-ge-BYTES_AT_ONCE.branch [
+        | then-len-ge-BYTES_AT_ONCE+in_ok-send w ↦ rw (w.err-is, w.sheet-is) (sheet_sent _ _ _ _ _ _ _ _ told w.deref.ensures.value w.in_ok-send.ensures.ok w.clear.ensures.items)
+        | else-len-ge-BYTES_AT_ONCE w ↦ rw (w.err-is, w.sheet-is) told
+      ];
+    }
+
+pub returns-in_err-send-2-clause-front : goal.returns-in_err-send-2-clause-front
+returns-in_err-send-2-clause-front g c = at_err c.from_residual-in_err-send-2.result
+    (sent_part _ _ _ _ _ _ _ c.loop-fault.invariant.told c.deref-2.ensures.value c.in_err-send-2.ensures.err)
+
+pub returns-clause-all : goal.returns-clause-all
+returns-clause-all g c =
+    sent_all _ _ _ _ _ _ _ c.loop-fault.invariant.told c.deref-2.ensures.value
+    (none_left c.args.wording.front.now c.args.wording.place.now c.args.lines.now _ c.args.faults.now c.loop-fault.fault-index (omega (arith, c.loop-fault-test.false)))
+    c.in_ok-send-2.ensures.ok

@@ -44,7 +44,7 @@ returns-in-Ok-Faults-clause-stopped g c two =
     let old = g.W.Write.contents c.args.out.now in
     let new = g.W.Write.contents c.list_file.new.out in
     let lists = subst (λ (came : Listing). Lists came holds c.in-Ok-Some-List.request old new) c.in-Ok-Faults.field-0-is c.in-Ok-Faults.ensures.ok in
-    list_faulty (map string_bytes c.args.words.now) holds (g.F.Files.lacks c.args.files.now) 2 old new (g.E.Write.contents c.args.err.now) (g.E.Write.contents c.tell_faults.new.err) c.in-Ok-Some-List.request c.in-Ok-Faults.faults.items refl (search rules) lists.0 lists.1 (search rules)
+    list_faulty (map string_bytes c.args.words.now) holds (g.F.Files.lacks c.args.files.now) 2 old new (g.E.Write.contents c.args.err.now) (g.E.Write.contents c.tell_faults.new.err) c.in-Ok-Some-List.request c.in-Ok-Faults.source.text.items c.in-Ok-Faults.source.faults.items refl (search rules) lists.0 lists.1 (search rules)
 
 pub returns-in-Ok-Faults-bare_file-clause-stopped : goal.returns-in-Ok-Faults-bare_file-clause-stopped
 returns-in-Ok-Faults-bare_file-clause-stopped g c two =
@@ -52,4 +52,4 @@ returns-in-Ok-Faults-bare_file-clause-stopped g c two =
     let old = g.W.Write.contents c.args.out.now in
     let new = g.W.Write.contents c.bare_file.new.out in
     let runs = subst (λ (came : Listing). RunsOrIsFaulty came holds c.in-Ok-Some-Bare.request old new) c.in-Ok-Faults-bare_file.field-0-is c.in-Ok-Faults-bare_file.ensures.ok in
-    bare_faulty (map string_bytes c.args.words.now) holds (g.F.Files.lacks c.args.files.now) 2 old new (g.E.Write.contents c.args.err.now) (g.E.Write.contents c.tell_faults-in-Ok-Faults-bare_file.new.err) c.in-Ok-Some-Bare.request c.in-Ok-Faults-bare_file.faults.items refl (search rules) runs.0 runs.1 (search rules)
+    bare_faulty (map string_bytes c.args.words.now) holds (g.F.Files.lacks c.args.files.now) 2 old new (g.E.Write.contents c.args.err.now) (g.E.Write.contents c.tell_faults-in-Ok-Faults-bare_file.new.err) c.in-Ok-Some-Bare.request c.in-Ok-Faults-bare_file.source.text.items c.in-Ok-Faults-bare_file.source.faults.items refl (search rules) runs.0 runs.1 (search rules)

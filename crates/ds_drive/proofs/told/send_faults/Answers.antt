@@ -1,11 +1,18 @@
-use Rattle.ds_log.proofs.Sends.{at_err}
-use Rattle.ds_drive.proofs.Tellings.{first_shown, others_told}
+use Rattle.std.proofs.Common.{List, ℕ, subst}
+use Rattle.std.specs.Io.KnownBytes.{Appends}
+use Rattle.std.specs.Prelude.{OnOk, OnErr}
+use Rattle.ds_log.specs.Sent.{AppendsPart}
+use Rattle.ds_drive.proofs.Tellings.{others_same}
 use Rattle.ds_drive.proofs.told.send_faults.Goals as goal
 
-pub returns-in_err-show_line-in-len1-up-clause-front : goal.returns-in_err-show_line-in-len1-up-clause-front
-returns-in_err-show_line-in-len1-up-clause-front g c = at_err c.from_residual.result
-    (first_shown _ _ c.args.text.now c.args.faults.now _ _ c.in-len1-up.len_at_least c.line.ensures c.in_err-show_line-in-len1-up.ensures.front)
+pub returns-in-len1-up-clause-all : goal.returns-in-len1-up-clause-all
+returns-in-len1-up-clause-all g c =
+    subst (λ (l : List ℕ). OnOk c.tell_lines.result (Appends (g.E.Write.contents c.args.err.now) (g.E.Write.contents c.tell_lines.new.err) l))
+    (others_same c.args.text.now _ _ c.args.faults.now _ c.in-len1-up.len_at_least c.of.ensures c.after_first-reasons.ensures)
+    c.tell_lines.ensures.all
 
-pub returns-in_ok-show_line-in-len1-up-clause-front : goal.returns-in_ok-show_line-in-len1-up-clause-front
-returns-in_ok-show_line-in-len1-up-clause-front g c =
-    others_told _ _ _ c.args.text.now _ c.args.faults.now _ _ c.in-len1-up.len_at_least c.line.ensures c.of.ensures c.in_ok-show_line-in-len1-up.ensures.all c.tell_lines.result c.tell_lines.ensures.front
+pub returns-in-len1-up-clause-front : goal.returns-in-len1-up-clause-front
+returns-in-len1-up-clause-front g c =
+    subst (λ (l : List ℕ). OnErr c.tell_lines.result (AppendsPart (g.E.Write.contents c.args.err.now) (g.E.Write.contents c.tell_lines.new.err) l))
+    (others_same c.args.text.now _ _ c.args.faults.now _ c.in-len1-up.len_at_least c.of.ensures c.after_first-reasons.ensures)
+    c.tell_lines.ensures.front

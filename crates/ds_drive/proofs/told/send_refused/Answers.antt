@@ -1,9 +1,5 @@
-use Rattle.std.proofs.Common.{subst, ℕ}
-use Rattle.std.specs.Io.KnownBytes.{Appends}
-use Rattle.ds_check.specs.Mending.{mended}
-use Rattle.ds_log.specs.Sent.{AppendsPart}
 use Rattle.ds_log.proofs.Sends.{at_err, ok_gives, err_gives, appends_both, part_behind, part_before}
-use Rattle.ds_drive.specs.Told.{failure_line, place_line, source_shown, input_shown, text_or_none}
+use Rattle.ds_drive.specs.Told.{failure_line, place_line, source_shown, input_shown, why_told}
 use Rattle.ds_drive.proofs.told.send_refused.Goals as goal
 
 pub returns-in_err-send_failure-clause-front : goal.returns-in_err-send_failure-clause-front
@@ -27,20 +23,28 @@ returns-in_err-send_input-clause-front g c = at_err c.from_residual-in_err-send_
     (part_behind _ _ _ (source_shown c.args.refused.now.source) _ c.in_ok-send_source.ensures.all
     (part_before _ _ _ _ c.in_err-send_input.ensures.front))))
 
+pub returns-in_err-send_why-clause-front : goal.returns-in_err-send_why-clause-front
+returns-in_err-send_why-clause-front g c = at_err c.from_residual-in_err-send_why.result
+    (part_behind _ _ _ (failure_line c.args.refused.now.failure) _ c.in_ok-send_failure.ensures.all
+    (part_behind _ _ _ (place_line c.args.refused.now.line c.args.refused.now.column) _ c.in_ok-send_place.ensures.all
+    (part_behind _ _ _ (source_shown c.args.refused.now.source) _ c.in_ok-send_source.ensures.all
+    (part_behind _ _ _ (input_shown c.args.refused.now.input) _ c.in_ok-send_input.ensures.all
+    (part_before _ _ _ _ c.in_err-send_why.ensures.front)))))
+
 pub returns-clause-all : goal.returns-clause-all
-returns-clause-all g c = ok_gives c.send_mending.result
+returns-clause-all g c = ok_gives c.send_others.result
     (λ p. appends_both _ _ _ (failure_line c.args.refused.now.failure) _ c.in_ok-send_failure.ensures.all
     (appends_both _ _ _ (place_line c.args.refused.now.line c.args.refused.now.column) _ c.in_ok-send_place.ensures.all
     (appends_both _ _ _ (source_shown c.args.refused.now.source) _ c.in_ok-send_source.ensures.all
     (appends_both _ _ _ (input_shown c.args.refused.now.input) _ c.in_ok-send_input.ensures.all
-    (subst (λ (n : ℕ). Appends (g.E.Write.contents c.send_input.new.err) (g.E.Write.contents c.send_mending.new.err) (text_or_none (mended n))) c.number.ensures p)))))
-    c.send_mending.ensures.all
+    (appends_both _ _ _ (why_told c.args.refused.now) _ c.in_ok-send_why.ensures.all p)))))
+    c.send_others.ensures.all
 
 pub returns-clause-front : goal.returns-clause-front
-returns-clause-front g c = err_gives c.send_mending.result
+returns-clause-front g c = err_gives c.send_others.result
     (λ p. part_behind _ _ _ (failure_line c.args.refused.now.failure) _ c.in_ok-send_failure.ensures.all
     (part_behind _ _ _ (place_line c.args.refused.now.line c.args.refused.now.column) _ c.in_ok-send_place.ensures.all
     (part_behind _ _ _ (source_shown c.args.refused.now.source) _ c.in_ok-send_source.ensures.all
     (part_behind _ _ _ (input_shown c.args.refused.now.input) _ c.in_ok-send_input.ensures.all
-    (subst (λ (n : ℕ). AppendsPart (g.E.Write.contents c.send_input.new.err) (g.E.Write.contents c.send_mending.new.err) (text_or_none (mended n))) c.number.ensures p)))))
-    c.send_mending.ensures.front
+    (part_behind _ _ _ (why_told c.args.refused.now) _ c.in_ok-send_why.ensures.all p)))))
+    c.send_others.ensures.front
