@@ -13,7 +13,6 @@ use ds_source_reasons::{FaultReason, FaultyLines, push_reason};
 use itoa::Buffer;
 use std::alloc::{AllocError, Global};
 use std::io::Write;
-use std::marker::Model;
 
 /// From how many bytes on a text goes to the writer.
 const BYTES_AT_ONCE: usize = 32_768;
@@ -42,89 +41,19 @@ impl From<WriteFailed> for Untold {
     }
 }
 
-/// What the lines that tell of faults begin with, up to the number of the source's line, for each
-/// kind of fault.
-#[derive(Drop)]
-struct Heads<'a> {
-    wording: Wording<'a>,
-    syntax: Vec<u8>,
-    unknown_label: Vec<u8>,
-    double_label: Vec<u8>,
-    range: Vec<u8>,
-    too_long: Vec<u8>,
-}
-
-impl<'a> Model for Heads<'a> {
-    ghost use Rattle.std.specs.Prelude.{◌≡◌, ℕ, List};
-    ghost use Rattle.ds_drive.specs.Told.{fault_head};
-    ghost use Rattle.ds_asm.specs.declared.fault.SourceFault.TheVariants as fault;
-
-    ghost Value = { List ℕ × List ℕ };
-
-    ghost view = { λ h. (h.wording.front.now, h.wording.place.now) };
-
-    ghost invariant = { λ h.
-        (h.syntax.items
-        ≡ fault_head h.wording.front.now h.wording.place.now (fault.Syntax 0))
-        × ((h.unknown_label.items
-        ≡ fault_head h.wording.front.now h.wording.place.now (fault.UnknownLabel 0))
-        × ((h.double_label.items
-        ≡ fault_head h.wording.front.now h.wording.place.now (fault.DoubleLabel 0))
-        × ((h.range.items
-        ≡ fault_head h.wording.front.now h.wording.place.now (fault.Range 0))
-        × (h.too_long.items
-        ≡ fault_head h.wording.front.now h.wording.place.now (fault.TooLong 0))))) };
-}
-
-impl<'a> Heads<'a> {
-    fn of(alloc: Global, wording: Wording<'a>) -> Result<Heads<'a>, AllocError>
-        ensures { IfOk result (λ heads.
-            heads ≡ (wording.entry.front.now, wording.entry.place.now)) }
-    {
-        let syntax = head_of(alloc, wording, &SourceFault::Syntax(0))?;
-        let unknown_label = head_of(alloc, wording, &SourceFault::UnknownLabel(0))?;
-        let double_label = head_of(alloc, wording, &SourceFault::DoubleLabel(0))?;
-        let range = head_of(alloc, wording, &SourceFault::Range(0))?;
-        let too_long = head_of(alloc, wording, &SourceFault::TooLong(0))?;
-        Ok(Heads {
-            wording,
-            syntax,
-            unknown_label,
-            double_label,
-            range,
-            too_long,
-        })
-    }
-
-    /// The head of a fault's line.
-    fn head(&self, fault: &SourceFault) -> &[u8]
-        ensures { result.now ≡ fault_head self.now.0 self.now.1 fault.now }
-    {
-        match fault {
-            SourceFault::Syntax(_) => self.syntax.as_slice(),
-            SourceFault::UnknownLabel(_) => self.unknown_label.as_slice(),
-            SourceFault::DoubleLabel(_) => self.double_label.as_slice(),
-            SourceFault::Range(_) => self.range.as_slice(),
-            SourceFault::TooLong(_) => self.too_long.as_slice(),
-        }
-    }
-}
-
-/// What the line of a fault begins with: its number and name, and where it is.
-fn head_of<'a>(
-    alloc: Global,
+/// Adds what the line of a fault begins with: its number and name, and where it is.
+fn push_head<'a>(
+    text: &mut Vec<u8>,
     wording: Wording<'a>,
     fault: &SourceFault,
-) -> Result<Vec<u8>, AllocError>
-    ensures { IfOk result (λ head.
-        head.items ≡ fault_head wording.entry.front.now wording.entry.place.now fault.now) }
+) -> Result<(), AllocError>
+    ensures { OnOk result (text.new.items ≡ text.old.items
+        ++ fault_head wording.entry.front.now wording.entry.place.now fault.now) }
 {
-    let mut head = Vec::new(alloc);
-    head.extend_from_slice(wording.front.as_bytes())?;
-    push_name(&mut head, fault)?;
-    head.extend_from_slice(wording.place.as_bytes())?;
-    head.extend_from_slice(b" ")?;
-    Ok(head)
+    text.extend_from_slice(wording.front.as_bytes())?;
+    push_name(text, fault)?;
+    text.extend_from_slice(wording.place.as_bytes())?;
+    text.extend_from_slice(b" ")
 }
 
 /// Tells of faults, a line each with the reason at its end, and shows the source's line below it
@@ -145,12 +74,11 @@ pub(crate) fn tell_lines<'a, 's, E: Write>(
         (told_lines wording.entry.front.now wording.entry.place.now lines.old
         (passed_in reasons.entry) faults.now)) }
 {
-    let heads = Heads::of(alloc, wording)?;
     let mut sheet = Vec::new(alloc);
     let mut words = Vec::new(alloc);
     let mut reasons = reasons;
     for fault in faults {
-        push_told(&mut sheet, &mut words, &heads, lines, &mut reasons, fault)?;
+        push_told(&mut sheet, &mut words, wording, lines, &mut reasons, fault)?;
         if sheet.len() >= BYTES_AT_ONCE {
             send(err, &sheet)?;
             sheet.clear();
@@ -166,19 +94,19 @@ pub(crate) fn tell_lines<'a, 's, E: Write>(
 fn push_told<'a, 's>(
     sheet: &mut Vec<u8>,
     words: &mut Vec<u8>,
-    heads: &Heads<'a>,
+    wording: Wording<'a>,
     lines: &mut Option<Lines<'s>>,
     reasons: &mut FaultyLines<'s>,
     fault: &SourceFault,
 ) -> Result<(), AllocError>
     ensures text { OnOk result (sheet.new.items ≡ sheet.old.items
-        ++ told_line heads.now.0 heads.now.1 lines.old
+        ++ told_line wording.entry.front.now wording.entry.place.now lines.old
         (reason_after (passed_in reasons.old) fault.now) fault.now) }
     ensures same { lines.new ≡ lines.old }
     ensures passed { passed_in reasons.new ≡ pass (passed_in reasons.old) fault.now }
 {
     let reason = reasons.reason(*fault);
-    sheet.extend_from_slice(heads.head(fault))?;
+    push_head(sheet, wording, fault)?;
     sheet.extend_from_slice(Buffer::new().format(fault.line()).as_bytes())?;
     push_reason_line(sheet, words, reason)?;
     sheet.push(b'\n')?;
