@@ -1,5 +1,5 @@
 -- Numbers stay apart when one is handed out or given up.
-use Rattle.std.proofs.Common.{◌≡◌, ◌≢◌, ◌⊎◌, ℕ, Bool, cond, ◌<◌, ◌≤◌, List, length, length-set, inl, inr, sym, ap, subst, ◌∙◌, arith, refl}
+use Rattle.std.proofs.Common.{◌≡◌, ◌≢◌, ◌⊎◌, ℕ, Bool, false, cond, ◌<◌, ◌≤◌, List, length, length-set, inl, inr, sym, ap, subst, ◌∙◌, arith, refl}
 use Rattle.std.specs.Prelude.{slice_index, slice_set, replicate, nat_lt, ◌==◌, if◌then◌else◌, Option, Some, None}
 use Rattle.std.proofs.lemmas.Bool.{cases_eq, cases_Bool}
 use Rattle.std.proofs.lemmas.Bool.Decides.{nat_tests}
@@ -29,53 +29,60 @@ start_apart = record {
   apart = λ p q some same. let none = none_at_start p in absurd (omega arith);
 }
 
+-- who takes a number has that, and each other keeps its own
+pub taken_there : (s : Spaces) (p : ℕ) → AreApart s → p < 101 → number_of (taken s p) p ≡ s.next
+taken_there s p k there = let size = k.places in get_or-set_same s.numbers p s.next 0 (omega arith)
+
+pub taken_elsewhere : (s : Spaces) (p q : ℕ) → q ≢ p → number_of (taken s p) q ≡ number_of s q
+taken_elsewhere s p q other = get_or-set_other s.numbers p q s.next 0 other
+
 pub taken_apart : (s : Spaces) (p : ℕ) → AreApart s → p < 101 → s.next < 64 → AreApart (taken s p)
 taken_apart s p k there free = record {
   places = length-set s.numbers p s.next ∙ k.places;
   low = omega arith;
   high = omega arith;
   used = λ q. elim (cases_eq q p) [
-    | inl same ↦ let is : number_of (taken s p) q ≡ s.next = rw same (here s p k there) in omega arith
-    | inr other ↦ let is : number_of (taken s p) q ≡ number_of s q = elsewhere s p q other in let old = k.used q in omega arith
+    | inl same ↦ let is : number_of (taken s p) q ≡ s.next = rw same (taken_there s p k there) in omega arith
+    | inr other ↦ let is : number_of (taken s p) q ≡ number_of s q = taken_elsewhere s p q other in let old = k.used q in omega arith
   ];
   apart = λ q r some same. elim (cases_eq q p) [
     | inl first ↦ elim (cases_eq r p) [
       | inl second ↦ first ∙ sym second
       | inr other ↦
-          let new : number_of (taken s p) q ≡ s.next = rw first (here s p k there) in
-          let old : number_of (taken s p) r ≡ number_of s r = elsewhere s p r other in
+          let new : number_of (taken s p) q ≡ s.next = rw first (taken_there s p k there) in
+          let old : number_of (taken s p) r ≡ number_of s r = taken_elsewhere s p r other in
           let low = k.used r in
           absurd (omega arith)
     ]
     | inr other ↦ elim (cases_eq r p) [
       | inl second ↦
-          let new : number_of (taken s p) r ≡ s.next = rw second (here s p k there) in
-          let old : number_of (taken s p) q ≡ number_of s q = elsewhere s p q other in
+          let new : number_of (taken s p) r ≡ s.next = rw second (taken_there s p k there) in
+          let old : number_of (taken s p) q ≡ number_of s q = taken_elsewhere s p q other in
           let low = k.used q in
           absurd (omega arith)
-      | inr another ↦ k.apart q r (subst (λ n. 0 < n) (elsewhere s p q other) some) (sym (elsewhere s p q other) ∙ (same ∙ elsewhere s p r another))
+      | inr another ↦ k.apart q r (subst (λ n. 0 < n) (taken_elsewhere s p q other) some) (sym (taken_elsewhere s p q other) ∙ (same ∙ taken_elsewhere s p r another))
     ]
   ];
 }
-  where
-    here : (s : Spaces) (p : ℕ) → AreApart s → p < 101 → number_of (taken s p) p ≡ s.next
-    here s p k there = let size = k.places in get_or-set_same s.numbers p s.next 0 (omega arith)
 
-    elsewhere : (s : Spaces) (p q : ℕ) → q ≢ p → number_of (taken s p) q ≡ number_of s q
-    elsewhere s p q other = get_or-set_other s.numbers p q s.next 0 other
-
--- a number that is given up is 0, and each other stays
-cleared : (s : Spaces) (p q : ℕ) → (number_of (given_up s p) q ≡ 0) ⊎ (number_of (given_up s p) q ≡ number_of s q)
-cleared s p q = elim (cases_eq q p) [
-  | inl same ↦ inl (rw same (zero_there s.numbers p))
-  | inr other ↦ inr (get_or-set_other s.numbers p q 0 0 other)
-]
+-- who gave a number up has none, and each other keeps its own
+pub gone_there : (s : Spaces) (p : ℕ) → number_of (given_up s p) p ≡ 0
+gone_there s p = zero_there s.numbers p
   where
     zero_there : (xs : List ℕ) (p : ℕ) → slice_index (slice_set xs p 0) p ≡ 0
     zero_there xs p = elim (cases_Bool (nat_lt p (length xs))) [
       | inl within ↦ get_or-set_same xs p 0 0 (let below : p < length xs = grind (arith, nat_tests) in below)
       | inr past ↦ let above : length xs ≤ p = grind (arith, nat_tests) in grind (arith, common_steps)
     ]
+
+pub others_stay : (s : Spaces) (p q : ℕ) → q ≢ p → number_of (given_up s p) q ≡ number_of s q
+others_stay s p q other = get_or-set_other s.numbers p q 0 0 other
+
+cleared : (s : Spaces) (p q : ℕ) → (number_of (given_up s p) q ≡ 0) ⊎ (number_of (given_up s p) q ≡ number_of s q)
+cleared s p q = elim (cases_eq q p) [
+  | inl same ↦ inl (rw same (gone_there s p))
+  | inr other ↦ inr (others_stay s p q other)
+]
 
 kept : (s : Spaces) (p q : ℕ) → 0 < number_of (given_up s p) q → number_of (given_up s p) q ≡ number_of s q
 kept s p q some = elim (cleared s p q) [ inl none ↦ absurd (omega arith) | inr same ↦ same ]
@@ -93,10 +100,34 @@ given_up_apart s p k = record {
 }
 
 -- whose number is 0 has none, and every other one is some
-none_held : (s : Spaces) (p : ℕ) → number_held s p ≡ None → number_of s p ≡ 0
+pub none_held : (s : Spaces) (p : ℕ) → number_held s p ≡ None → number_of s p ≡ 0
 none_held s p none = elim (cases_Bool (number_of s p == 0)) [
   | inl zero_there ↦ let is : number_of s p ≡ 0 = grind (arith, nat_tests) in is
   | inr other ↦ absurd (none_some (number_of s p) (sym none ∙ ap (λ (b : Bool). cond b None (Some (number_of s p))) other))
+]
+  where
+    none_some : (n : ℕ) → ◌≡◌ {A = Option ℕ} None (Some n) → ⊥
+    none_some n e = absurd cc
+
+-- who has one has that
+pub some_held : (s : Spaces) (p n : ℕ) → number_held s p ≡ Some n → number_of s p ≡ n
+some_held s p n held = elim (cases_Bool (number_of s p == 0)) [
+  | inl zero_there ↦ absurd (none_some n (sym (ap (λ (b : Bool). cond b None (Some (number_of s p))) zero_there) ∙ held))
+  | inr other ↦ (let same : Some (number_of s p) ≡ Some n = sym (ap (λ (b : Bool). cond b None (Some (number_of s p))) other) ∙ held in cc)
+]
+  where
+    none_some : (n : ℕ) → ◌≡◌ {A = Option ℕ} None (Some n) → ⊥
+    none_some n e = absurd cc
+
+-- and it is none that no process has
+pub held_some : (s : Spaces) (p n : ℕ) → number_held s p ≡ Some n → 0 < n
+held_some s p n held = elim (cases_Bool (number_of s p == 0)) [
+  | inl zero_there ↦ absurd (none_some n (sym (ap (λ (b : Bool). cond b None (Some (number_of s p))) zero_there) ∙ held))
+  | inr other ↦ (
+      let is = some_held s p n held in
+      let some : (n == 0) ≡ false = subst (λ (m : ℕ). (m == 0) ≡ false) is other in
+      grind (arith, nat_tests)
+      )
 ]
   where
     none_some : (n : ℕ) → ◌≡◌ {A = Option ℕ} None (Some n) → ⊥

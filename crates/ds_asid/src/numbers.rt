@@ -53,6 +53,17 @@ impl Asids {
         }
     }
 
+    /// Every process loses its number, and the whole buffer is flushed: slot i then holds page
+    /// 80000 + i (hexadecimal), and all else of it is zero. Random stays where it is.
+    pub fn flush<L: Lookaside>(&mut self, tlb: &mut L)
+        ensures value { self.new ≡ at_start }
+        ensures entries { L.entries tlb.new ≡ empty_entries L.SLOTS }
+        ensures random { L.random_place tlb.new ≡ L.random_place tlb.old }
+    {
+        *self = Asids::new();
+        empty(tlb);
+    }
+
     /// Hands out the next number to a process that has none. Where all are used up, every process
     /// loses its number first, and the buffer is flushed: slot i then holds page 80000 + i
     /// (hexadecimal), and all else of it is zero.
@@ -70,8 +81,7 @@ impl Asids {
         ensures fresh { self.old.next < 64 → (q : ℕ) → number_of self.old q ≢ result }
     {
         if self.next == SPACES {
-            *self = Asids::new();
-            flush(tlb);
+            self.flush(tlb);
         }
         self.hand_out(process)
     }
@@ -107,8 +117,9 @@ impl Asids {
     }
 }
 
-/// Makes the whole buffer what it is at the start. Random stays where it is.
-fn flush<L: Lookaside>(tlb: &mut L)
+/// Makes the whole buffer what it is at the start.
+#[inline(never)]
+fn empty<L: Lookaside>(tlb: &mut L)
     ensures entries { L.entries tlb.new ≡ empty_entries L.SLOTS }
     ensures random { L.random_place tlb.new ≡ L.random_place tlb.old }
 {

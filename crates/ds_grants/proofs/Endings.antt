@@ -1,32 +1,31 @@
--- All entries of a process go: their regions have no tables, and the buffer forgets their pages.
-use Rattle.std.proofs.Common.{◌≡◌, ◌≢◌, ◌⊎◌, ◌∙◌, refl, sym, ap, subst, ℕ, ◌+◌, ◌-◌, ◌*◌, ◌/◌, ◌^◌, ◌<◌, ◌≤◌, ◌==◌, Bool, true, false, cond, List, [], ◌∷◌, length, length-set, get_or, drop, map, replicate, Option, Some, None, inl, inr, arith}
-use Rattle.std.specs.List.{list_any}
-use Rattle.std.specs.Prelude.{slice_get, slice_set, ◌||◌, is_some}
+-- All entries of a process go: their regions have no tables, and what the buffer has of it is nobody's.
+use Rattle.std.proofs.Common.{◌≡◌, ◌≢◌, ◌∙◌, refl, sym, ap, subst, ℕ, ◌+◌, ◌-◌, ◌*◌, ◌^◌, ◌<◌, ◌≤◌, ◌==◌, Bool, true, false, List, [], ◌∷◌, length, length-set, get_or, drop, map, replicate, None, inl, inr, arith}
+use Rattle.std.specs.Prelude.{slice_set, ◌||◌, is_some}
 use Rattle.std.proofs.lemmas.Bool.{cases_Bool, cases_eq}
 use Rattle.std.proofs.lemmas.List.{at_drop_more, drop_all, get_or-set_same}
 use Rattle.ds_word.specs.Bytes.{word_at}
 use Rattle.ds_tlb.specs.declared.entry.Entry.{Entry}
-use Rattle.ds_tlb.specs.Entries.{empty_entry}
 use Rattle.ds_tlb.specs.Words.{entry_of}
 use Rattle.ds_policy.specs.declared.grant.Entry as granted
 use Rattle.ds_policy.specs.Pages.{found, entries_of, entry_at}
 use Rattle.ds_policy.specs.Grants.{end_process, count_distinct}
 use Rattle.ds_pagemap.proofs.Entries.{entry_at-set_other}
+use Rattle.ds_asid.specs.Spaces.{Spaces, number_of, given_up}
+use Rattle.ds_asid.proofs.Apart.{given_up_apart, gone_there, others_stay}
 use Rattle.ds_tables.specs.Places.{Places, ArePlaces, freed, region_of, places_of, place_of, frame_of_place, page_of_table, closed}
 use Rattle.ds_tables.specs.Tables.{HasEmptyTable, entry_word, word_place}
 use Rattle.ds_tables.proofs.PlaceLemmas.{closed_row, place_of-closed, place_of-kept}
 use Rattle.ds_tables.proofs.Map.{none_words}
 use Rattle.ds_grants.specs.State.{GrantsState, page_state}
 use Rattle.ds_grants.specs.Words.{word_of_grant, granted_word, regions_taken, WordsHold}
-use Rattle.ds_grants.specs.Buffer.{hi_of, lo_of, read_only, IsMapped, BufferHolds, one_space}
-use Rattle.ds_grants.specs.Changes.{forgotten, both_forgotten, all_forgotten, all_closed, AreKnown}
+use Rattle.ds_grants.specs.Buffer.{hi_of, lo_of, read_only, IsMapped, BufferHolds}
+use Rattle.ds_grants.specs.Changes.{all_closed}
 use Rattle.ds_grants.specs.Represented.{IsRepresented}
 use Rattle.ds_grants.proofs.HolderCounts.{holders_fewer}
 use Rattle.ds_grants.proofs.Living.{fewer_state}
 use Rattle.ds_grants.proofs.FifthRegion.{same_number, itself, either}
 use Rattle.ds_grants.proofs.Puts.{used, none_is, foreign_row, closed_distinct, same_word}
 use Rattle.ds_grants.proofs.Fields.{user_lo, table_lo}
-use Rattle.ds_grants.proofs.Forgets.{IsPlain, plain_of, forgets, none_of_start, numbered}
 use Rattle.ds_grants.proofs.Kept.{closed_places}
 
 -- the grants after the end of a process
@@ -36,15 +35,7 @@ without_process g p = record g { table = slice_set g.table (p - 1) []; ended = s
 pub ended_state : (g : GrantsState) (p : ℕ) (memory : List ℕ) → 0 < p → p ≤ length g.table → page_state (without_process g p) memory ≡ end_process (page_state g memory) p
 ended_state g p memory low high = fewer_state g (slice_set g.table (p - 1) []) memory (λ q. holders_fewer g.table p q low high)
 
--- the pages from a place on are forgotten one after another
-pub forget_step : (entries : List Entry) (es : List granted.Entry) (i : ℕ) (d : granted.Entry) → i < length es
-    → all_forgotten entries (drop i es) 1 ≡ all_forgotten (both_forgotten entries (get_or es i d).address 1) (drop (i + 1) es) 1
-forget_step entries es i d within = at_drop_more (λ (xs : List granted.Entry). all_forgotten entries xs 1) es i d within
-
-pub forget_end : (entries : List Entry) (es : List granted.Entry) (i : ℕ) → length es ≤ i → all_forgotten entries (drop i es) 1 ≡ entries
-forget_end entries es i past = ap (λ (xs : List granted.Entry). all_forgotten entries xs 1) (drop_all i es past)
-
--- and their regions are closed
+-- the regions of the entries from a place on are closed one after another
 pub close_step : (t : Places) (p : ℕ) (es : List granted.Entry) (i : ℕ) (d : granted.Entry) → i < length es
     → all_closed t p (drop i es) ≡ all_closed (closed t p (region_of (get_or es i d).address)) p (drop (i + 1) es)
 close_step t p es i d within = at_drop_more (all_closed t p) es i d within
@@ -102,50 +93,6 @@ all_closed_distinct [] t p low high distinct = distinct
 all_closed_distinct (x ∷ es) t p low high distinct =
     all_closed_distinct es (closed t p (region_of x.address)) p low (subst (λ (n : ℕ). p ≤ n) (sym (closed_long t p (region_of x.address) low)) high) (closed_distinct t p (region_of x.address) low high distinct)
 
--- Entries of the buffer once it forgot.
-
--- each entry is that of its slot at the start, or stood there before, and is of none of the keys
-record IsOut (old new : List Entry) (es : List granted.Entry) (asid : ℕ) : Type 0 where
-  pub each : (slot : ℕ) (e : Entry) → slice_get new slot ≡ Some e → (e ≡ empty_entry slot) ⊎ ((slice_get old slot ≡ Some e)
-      × (e.asid ≡ asid → (list_any (λ (x : granted.Entry). x.address / 2 ^ 12 == e.vpn) es ≡ false) × ((r : ℕ) → e.vpn ≡ 0xC0000 + r → used r es ≡ false)))
-
-all_forgets : (es : List granted.Entry) (entries : List Entry) (asid : ℕ) → IsPlain entries → IsPlain (all_forgotten entries es asid) × IsOut entries (all_forgotten entries es asid) es asid
-all_forgets [] entries asid k = (k, record { each = λ slot e at. inr (at, λ own. (refl, λ r is. refl)) })
-all_forgets (x ∷ es) entries asid k =
-    let first = forgets entries (x.address / 2 ^ 12) asid k in
-    let second = forgets (forgotten entries (x.address / 2 ^ 12) asid) (0xC0000 + region_of x.address) asid first.0 in
-    let rest = all_forgets es (both_forgotten entries x.address asid) asid second.0 in (
-      rest.0,
-      record {
-        each = λ slot e at. elim (rest.1.each slot e at) [
-          | inl start ↦ inl start
-          | inr stays ↦ elim (second.1.each slot e stays.0) [
-            | inl start ↦ inl start
-            | inr was ↦ elim (first.1.each slot e was.0) [
-              | inl start ↦ inl start
-              | inr there ↦ inr (
-                there.0,
-                λ own. (
-                  neither (x.address / 2 ^ 12 == e.vpn) (list_any (λ (y : granted.Entry). y.address / 2 ^ 12 == e.vpn) es) (differs (x.address / 2 ^ 12) e.vpn (λ page. there.1 page own)) (stays.1 own).0,
-                  λ r is. neither (region_of x.address == r) (used r es) (differs (region_of x.address) r (λ region. was.1 (is ∙ ap (λ (n : ℕ). 0xC0000 + n) region) own)) ((stays.1 own).1 r is),
-                ),
-              )
-            ]
-          ]
-        ];
-      },
-    )
-
-no_such_page : (es : List granted.Entry) (vpn : ℕ) → list_any (λ (x : granted.Entry). x.address / 2 ^ 12 == vpn) es ≡ false → found es (vpn * 2 ^ 12) ≡ None
-no_such_page [] vpn none = refl
-no_such_page (x ∷ es) vpn none =
-    let both = either (x.address / 2 ^ 12 == vpn) (list_any (λ (y : granted.Entry). y.address / 2 ^ 12 == vpn) es) none in
-    let other : (x.address == vpn * 2 ^ 12) ≡ false = differs x.address (vpn * 2 ^ 12) (λ (is : vpn * 2 ^ 12 ≡ x.address). (
-    let page : x.address / 2 ^ 12 ≡ vpn = omega (arith, is) in
-    let no : true ≡ false = sym (ap (λ (n : ℕ). n == vpn) page ∙ itself vpn) ∙ both.0 in
-    absurd cc)) in
-    ap (λ (b : Bool). cond b (Some x.grant) (found es (vpn * 2 ^ 12))) other ∙ no_such_page es vpn both.1
-
 -- What is represented once a process has ended.
 module _ (g : GrantsState) (t : Places) (p : ℕ) (low : 0 < p) (high : p ≤ length g.table) where
   abbrev es : List granted.Entry
@@ -166,39 +113,32 @@ module _ (g : GrantsState) (t : Places) (p : ℕ) (low : 0 < p) (high : p ≤ le
   other_table : (q r : ℕ) → q ≢ p → page_of_table u q r ≡ page_of_table t q r
   other_table q r other = ap (frame_of_place q) (place_kept es t p q r (λ own. absurd (other own)))
 
-  pub buffer_ended : (entries : List Entry) (numbers : ℕ → ℕ) → AreKnown one_space numbers → BufferHolds entries numbers g t → BufferHolds (all_forgotten entries es 1) numbers h u
-  buffer_ended entries numbers are k =
-      let left = all_forgets es entries 1 (plain_of entries numbers g t k) in
-      record {
-        few = left.0.few;
-        single = left.0.single;
-        apart = left.0.apart;
-        own = left.0.own;
-        backed = λ slot e q at live some number. elim (left.1.each slot e at) [
-          | inl start ↦ absurd (none_of_start slot e start some)
-          | inr was ↦
-              let b = k.backed slot e q was.0 live some number in
-              let out = was.1 (numbered (numbers q) 1 e.asid (are q) some number) in
-              record { mapped = b.mapped; words = b.words ∙ ap (entry_of (hi_of e.vpn e.asid)) (same e.vpn q live b.mapped out.0 out.1) }
-        ];
-      }
+  -- what others have stays, and nothing is of a process that has given its number up
+  pub buffer_ended : (entries : List Entry) (s : Spaces) → BufferHolds entries s g t → BufferHolds entries (given_up s p) h u
+  buffer_ended entries s k = record {
+    few = k.few;
+    single = k.single;
+    apart = k.apart;
+    own = k.own;
+    backed = λ slot e q at live some number. elim (cases_eq q p) [
+      | inl own ↦ absurd (none_left s p e.asid some (sym (ap (number_of (given_up s p)) own) ∙ number))
+      | inr other ↦
+          let b = k.backed slot e q at live some (sym (others_stay s p q other) ∙ number) in
+          record { mapped = b.mapped; words = b.words ∙ ap (entry_of (hi_of e.vpn e.asid)) (same e.vpn q live other b.mapped) }
+    ];
+    used = k.used;
+  }
     where
-      by_table : (vpn q : ℕ) → 0xC0000 ≤ vpn → ((r : ℕ) → vpn ≡ 0xC0000 + r → used r es ≡ false) → lo_of g t q vpn ≡ lo_of h u q vpn
-      by_table vpn q table none =
-          let is : vpn ≡ 0xC0000 + (vpn - 0xC0000) = omega (arith, table) in
+      none_left : (s : Spaces) (p n : ℕ) → 0 < n → number_of (given_up s p) p ≡ n → ⊥
+      none_left s p n some is = let none = gone_there s p in omega (arith, none, is, some)
+
+      same : (vpn q : ℕ) → 0 < q → q ≢ p → IsMapped vpn → lo_of g t q vpn ≡ lo_of h u q vpn
+      same vpn q live other (inl user) = user_lo g t q vpn user ∙ (sym (other_word q vpn live other) ∙ sym (user_lo h u q vpn user))
+      same vpn q live other (inr table) =
+          let low_page = table.0 in
+          let is : vpn ≡ 0xC0000 + (vpn - 0xC0000) = omega (arith, low_page) in
           subst (λ (n : ℕ). lo_of g t q n ≡ lo_of h u q n) (sym is)
-          (table_lo g t q (vpn - 0xC0000) ∙ (ap (λ (o : Option ℕ). read_only (frame_of_place q o)) (sym (place_kept es t p q (vpn - 0xC0000) (λ own. none (vpn - 0xC0000) is))) ∙ sym (table_lo h u q (vpn - 0xC0000))))
-
-      by_page : (vpn q : ℕ) → 0 < q → list_any (λ (x : granted.Entry). x.address / 2 ^ 12 == vpn) es ≡ false → granted_word g q vpn ≡ granted_word h q vpn
-      by_page vpn q live none = elim (cases_eq q p) [
-        | inl own ↦ subst (λ (n : ℕ). granted_word g n vpn ≡ granted_word h n vpn) (sym own)
-            (ap (word_of_grant g) (no_such_page es vpn none) ∙ sym (ap (λ (xs : List granted.Entry). word_of_grant h (found xs (vpn * 2 ^ 12))) own_entries))
-        | inr other ↦ sym (other_word q vpn live other)
-      ]
-
-      same : (vpn q : ℕ) → 0 < q → IsMapped vpn → list_any (λ (x : granted.Entry). x.address / 2 ^ 12 == vpn) es ≡ false → ((r : ℕ) → vpn ≡ 0xC0000 + r → used r es ≡ false) → lo_of g t q vpn ≡ lo_of h u q vpn
-      same vpn q live (inl user) page table = user_lo g t q vpn user ∙ (by_page vpn q live page ∙ sym (user_lo h u q vpn user))
-      same vpn q live (inr high_page) page table = by_table vpn q high_page.0 table
+          (table_lo g t q (vpn - 0xC0000) ∙ (ap (λ (f : ℕ). read_only f) (sym (other_table q (vpn - 0xC0000) other)) ∙ sym (table_lo h u q (vpn - 0xC0000))))
 
   module _ (memory : List ℕ) (empty : HasEmptyTable memory) (k : WordsHold memory t g) where
     own_place : (r : ℕ) → place_of u p r ≡ None
@@ -235,10 +175,11 @@ module _ (g : GrantsState) (t : Places) (p : ℕ) (low : 0 < p) (high : p ≤ le
       same = all_closed_long es t p low ∙ (k.same ∙ sym (length-set g.table (p - 1) []));
     }
 
-  pub end_represented : (entries : List Entry) (memory : List ℕ) (numbers : ℕ → ℕ) → AreKnown one_space numbers → IsRepresented entries memory t numbers g → IsRepresented (all_forgotten entries es 1) memory u numbers h
-  end_represented entries memory numbers are k = record {
-    buffer = buffer_ended entries numbers are k.buffer;
+  pub end_represented : (entries : List Entry) (memory : List ℕ) (s : Spaces) → IsRepresented entries memory t s g → IsRepresented entries memory u (given_up s p) h
+  end_represented entries memory s k = record {
+    buffer = buffer_ended entries s k.buffer;
     words = words_ended memory k.empty k.words;
     places = all_closed_places es t p low (subst (λ (n : ℕ). p ≤ n) (sym k.words.same) high) k.places;
     empty = k.empty;
+    spaces = given_up_apart s p k.spaces;
   }

@@ -13,8 +13,9 @@ use Rattle.ds_tlb.specs.Singles.{match_each_other}
 use Rattle.ds_tlb.specs.Words.{entry_of}
 use Rattle.ds_tlb.proofs.Matches.{empty_entries_are_single}
 use Rattle.ds_tables.specs.Places.{Places}
+use Rattle.ds_asid.specs.Spaces.{Spaces, AreApart, number_of}
 use Rattle.ds_grants.specs.State.{GrantsState}
-use Rattle.ds_grants.specs.Buffer.{hi_of, lo_of, IsMapped, IsBacked, BufferHolds, AreNumbersApart, entry_for, filled}
+use Rattle.ds_grants.specs.Buffer.{hi_of, lo_of, IsMapped, IsBacked, BufferHolds, entry_for, filled}
 use Rattle.ds_grants.proofs.Translations.{at_set, set_single, found_there}
 use Rattle.ds_grants.proofs.Fields.{has_page, has_space, mapped_small, lo_own}
 
@@ -26,13 +27,14 @@ is_start n slot e at =
     sym (get_or_from_slice_get (empty_entries n) slot e e at) ∙ get_or-map-range_with_len empty_entry 0 n slot slot e (omega arith) (omega arith)
 
 -- an empty buffer holds, whatever is granted
-pub empty_buffer : (n : ℕ) (numbers : ℕ → ℕ) (g : GrantsState) (t : Places) → n ≤ 64 → BufferHolds (empty_entries n) numbers g t
-empty_buffer n numbers g t few = record {
+pub empty_buffer : (n : ℕ) (s : Spaces) (g : GrantsState) (t : Places) → n ≤ 64 → BufferHolds (empty_entries n) s g t
+empty_buffer n s g t few = record {
   few = (let long = length-map-range_with_len empty_entry 0 n in omega (arith, long, few));
   single = empty_entries_are_single n;
   apart = λ slot e at. inr (is_start n slot e at);
   own = λ slot e at. ap (λ (x : Entry). x.g) (is_start n slot e at);
   backed = λ slot e process at live some is. (let none : e.asid ≡ 0 = ap (λ (x : Entry). x.asid) (is_start n slot e at) in absurd (omega arith));
+  used = λ slot e at some. (let none : e.asid ≡ 0 = ap (λ (x : Entry). x.asid) (is_start n slot e at) in absurd (omega arith));
 }
 
 -- A search finds what was written where nothing matched.
@@ -85,11 +87,12 @@ find_filled entries g t p vpn asid slot page space within none = find_written en
 answers : (e f : Entry) → f.g ≡ false → e.g ≡ false → match_each_other e f ≡ true → matches e.vpn e.asid f ≡ true
 answers e f h g m = grind (arith, nat_tests)
 
-written_buffer : (entries : List Entry) (numbers : ℕ → ℕ) (g : GrantsState) (t : Places) (p vpn slot : ℕ) → AreNumbersApart numbers → BufferHolds entries numbers g t → 0 < p → 0 < numbers p
-    → IsMapped vpn → ((j : ℕ) → find entries vpn (numbers p) ≡ Some j → j ≡ slot) → BufferHolds (slice_set entries slot (entry_for g t p (numbers p) vpn)) numbers g t
-written_buffer entries numbers g t p vpn slot apart k live some mapped there =
-    let asid : ℕ = numbers p in
-    let few : numbers p < 64 = apart.few p in
+written_buffer : (entries : List Entry) (s : Spaces) (g : GrantsState) (t : Places) (p vpn slot : ℕ) → AreApart s → BufferHolds entries s g t → 0 < p → 0 < number_of s p
+    → IsMapped vpn → ((j : ℕ) → find entries vpn (number_of s p) ≡ Some j → j ≡ slot) → BufferHolds (slice_set entries slot (entry_for g t p (number_of s p) vpn)) s g t
+written_buffer entries s g t p vpn slot apart k live some mapped there =
+    let asid : ℕ = number_of s p in
+    let below : number_of s p < s.next = apart.used p in
+    let few : number_of s p < 64 = (let most = apart.high in omega (arith, below, most)) in
     let e : Entry = entry_of (hi_of vpn asid) (lo_of g t p vpn) in
     let page : e.vpn ≡ vpn = has_page vpn asid (lo_of g t p vpn) (mapped_small vpn mapped) few in
     let space : e.asid ≡ asid = has_space vpn asid (lo_of g t p vpn) (mapped_small vpn mapped) few in
@@ -105,13 +108,17 @@ written_buffer entries numbers g t p vpn slot apart k live some mapped there =
       backed = λ i f q at running number holds. elim (at_set entries slot i e f at) [
         | inl here ↦
             let same : f.asid ≡ asid = ap (λ (x : Entry). x.asid) here.1 ∙ space in
-            let owner : p ≡ q = apart.apart p q live running some (sym same ∙ sym holds) in
+            let owner : p ≡ q = apart.apart p q some (sym same ∙ sym holds) in
             subst (λ (x : Entry). IsBacked g t q x) (sym here.1)
             (subst (λ (r : ℕ). IsBacked g t r e) owner (record {
               mapped = subst IsMapped (sym page) mapped;
               words = ap₂ (λ (v a : ℕ). entry_of (hi_of v a) (lo_of g t p v)) (sym page) (sym space);
             }))
         | inr other ↦ k.backed i f q other.1 running number holds
+      ];
+      used = λ i f at some_number. elim (at_set entries slot i e f at) [
+        | inl here ↦ subst (λ (n : ℕ). n < s.next) (sym (ap (λ (x : Entry). x.asid) here.1 ∙ space)) below
+        | inr other ↦ k.used i f other.1 some_number
       ];
     }
 
@@ -120,13 +127,13 @@ where_found : (slot j : ℕ) (found : Option ℕ) → found ≡ Some j → j ≡
 where_found slot j found is = rw is refl
 
 -- a fill in the place of what is there for the page
-pub filled_buffer : (entries : List Entry) (numbers : ℕ → ℕ) (g : GrantsState) (t : Places) (p vpn slot : ℕ) → AreNumbersApart numbers → BufferHolds entries numbers g t → 0 < p → 0 < numbers p
-    → IsMapped vpn → BufferHolds (filled entries vpn (numbers p) slot (entry_for g t p (numbers p) vpn)) numbers g t
-filled_buffer entries numbers g t p vpn slot apart k live some mapped =
-    written_buffer entries numbers g t p vpn (unwrap_or (find entries vpn (numbers p)) slot) apart k live some mapped (λ j is. where_found slot j (find entries vpn (numbers p)) is)
+pub filled_buffer : (entries : List Entry) (s : Spaces) (g : GrantsState) (t : Places) (p vpn slot : ℕ) → AreApart s → BufferHolds entries s g t → 0 < p → 0 < number_of s p
+    → IsMapped vpn → BufferHolds (filled entries vpn (number_of s p) slot (entry_for g t p (number_of s p) vpn)) s g t
+filled_buffer entries s g t p vpn slot apart k live some mapped =
+    written_buffer entries s g t p vpn (unwrap_or (find entries vpn (number_of s p)) slot) apart k live some mapped (λ j is. where_found slot j (find entries vpn (number_of s p)) is)
 
 -- a fill after a miss, in any slot
-pub missed_buffer : (entries : List Entry) (numbers : ℕ → ℕ) (g : GrantsState) (t : Places) (p vpn slot : ℕ) → AreNumbersApart numbers → BufferHolds entries numbers g t → 0 < p → 0 < numbers p
-    → IsMapped vpn → find entries vpn (numbers p) ≡ None → BufferHolds (slice_set entries slot (entry_for g t p (numbers p) vpn)) numbers g t
-missed_buffer entries numbers g t p vpn slot apart k live some mapped none =
-    written_buffer entries numbers g t p vpn slot apart k live some mapped (λ j is. (let no : None ≡ Some j = sym none ∙ is in absurd cc))
+pub missed_buffer : (entries : List Entry) (s : Spaces) (g : GrantsState) (t : Places) (p vpn slot : ℕ) → AreApart s → BufferHolds entries s g t → 0 < p → 0 < number_of s p
+    → IsMapped vpn → find entries vpn (number_of s p) ≡ None → BufferHolds (slice_set entries slot (entry_for g t p (number_of s p) vpn)) s g t
+missed_buffer entries s g t p vpn slot apart k live some mapped none =
+    written_buffer entries s g t p vpn slot apart k live some mapped (λ j is. (let no : None ≡ Some j = sym none ∙ is in absurd cc))

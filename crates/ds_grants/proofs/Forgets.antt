@@ -10,6 +10,8 @@ use Rattle.ds_tlb.specs.Words.{entry_of}
 use Rattle.ds_grants.specs.State.{GrantsState}
 use Rattle.ds_grants.proofs.Translations.{at_set, set_single, found_there}
 use Rattle.ds_tables.specs.Places.{Places, region_of}
+use Rattle.ds_asid.specs.Spaces.{Spaces, number_of, number_held}
+use Rattle.ds_asid.proofs.Apart.{none_held, some_held}
 use Rattle.ds_grants.specs.Buffer.{hi_of, lo_of, read_only, IsMapped, BufferHolds}
 use Rattle.ds_grants.specs.Changes.{cleared, forgotten, both_forgotten, IsChangedAt}
 use Rattle.ds_grants.proofs.Fields.{user_lo, table_lo}
@@ -66,45 +68,69 @@ forgets_by entries vpn asid (Some here) is k =
 pub forgets : (entries : List Entry) (vpn asid : ℕ) → IsPlain entries → IsPlain (forgotten entries vpn asid) × IsLess entries (forgotten entries vpn asid) vpn asid
 forgets entries vpn asid k = forgets_by entries vpn asid (find entries vpn asid) refl k
 
-pub plain_of : (entries : List Entry) (numbers : ℕ → ℕ) (g : GrantsState) (t : Places) → BufferHolds entries numbers g t → IsPlain entries
-plain_of entries numbers g t k = record { single = k.single; apart = k.apart; own = k.own; few = k.few }
+plain_of : (entries : List Entry) (s : Spaces) (g : GrantsState) (t : Places) → BufferHolds entries s g t → IsPlain entries
+plain_of entries s g t k = record { single = k.single; apart = k.apart; own = k.own; few = k.few }
 
 pub none_of_start : (slot : ℕ) (e : Entry) → e ≡ empty_entry slot → 0 < e.asid → ⊥
 none_of_start slot e start some = let none : e.asid ≡ 0 = ap (λ (x : Entry). x.asid) start in omega arith
 
--- an entry of who has no number answers to nobody
-pub numbered : (n asid e : ℕ) → (n ≡ asid) ⊎ (n ≡ 0) → 0 < e → n ≡ e → e ≡ asid
-numbered n asid e (inl is) some same = sym same ∙ is
-numbered n asid e (inr none) some same = absurd (omega (arith, none, some, same))
+-- What a process has in its address space besides what was forgotten is of other pages.
+module _ (g h : GrantsState) (t u : Places) (p address : ℕ) (changed : IsChangedAt g h t u p address) where
+  by_table : (vpn q : ℕ) → 0 < q → 0xC0000 ≤ vpn → (q ≡ p → vpn ≡ 0xC0000 + region_of address → ⊥) → lo_of g t q vpn ≡ lo_of h u q vpn
+  by_table vpn q running high other =
+      let is : vpn ≡ 0xC0000 + (vpn - 0xC0000) = omega (arith, high) in
+      subst (λ (n : ℕ). lo_of g t q n ≡ lo_of h u q n) (sym is)
+      (table_lo g t q (vpn - 0xC0000) ∙ (ap (λ (n : ℕ). read_only n) (sym (changed.tables q (vpn - 0xC0000) running (λ own region. other own (is ∙ ap (λ (n : ℕ). 0xC0000 + n) region)))) ∙ sym (table_lo h u q (vpn - 0xC0000))))
 
-pub buffer_changed : (entries : List Entry) (numbers : ℕ → ℕ) (g h : GrantsState) (t u : Places) (p address asid : ℕ) → (numbers p ≡ asid) ⊎ (numbers p ≡ 0) → IsChangedAt g h t u p address
-    → BufferHolds entries numbers g t → BufferHolds (both_forgotten entries address asid) numbers h u
-buffer_changed entries numbers g h t u p address asid known changed k =
-    let first = forgets entries (address / 2 ^ 12) asid (plain_of entries numbers g t k) in
-    let second = forgets (forgotten entries (address / 2 ^ 12) asid) (0xC0000 + region_of address) asid first.0 in
-    record {
-      few = second.0.few;
-      single = second.0.single;
-      apart = second.0.apart;
-      own = second.0.own;
-      backed = λ slot e q at running some number. elim (second.1.each slot e at) [
-        | inl start ↦ absurd (none_of_start slot e start some)
-        | inr stays ↦ elim (first.1.each slot e stays.0) [
+  same : (vpn q : ℕ) → 0 < q → IsMapped vpn → (q ≡ p → vpn ≡ address / 2 ^ 12 → ⊥) → (q ≡ p → vpn ≡ 0xC0000 + region_of address → ⊥) → lo_of g t q vpn ≡ lo_of h u q vpn
+  same vpn q running (inl low) other table = user_lo g t q vpn low ∙ (sym (changed.words q vpn running other) ∙ sym (user_lo h u q vpn low))
+  same vpn q running (inr high) other table = by_table vpn q running high.0 table
+
+  -- nothing stands there of a process that has no address space
+  kept_of_none : (entries : List Entry) (s : Spaces) → number_of s p ≡ 0 → BufferHolds entries s g t → BufferHolds entries s h u
+  kept_of_none entries s none k = record {
+    few = k.few;
+    single = k.single;
+    apart = k.apart;
+    own = k.own;
+    backed = λ slot e q at running some number.
+        let b = k.backed slot e q at running some number in
+        let not_own : q ≡ p → ⊥ = λ own. (let zero_there : e.asid ≡ 0 = sym number ∙ (ap (number_of s) own ∙ none) in omega (arith, zero_there, some)) in
+        record { mapped = b.mapped; words = b.words ∙ ap (entry_of (hi_of e.vpn e.asid)) (same e.vpn q running b.mapped (λ own page. not_own own) (λ own page. not_own own)) };
+    used = k.used;
+  }
+
+  forgotten_of : (entries : List Entry) (s : Spaces) (asid : ℕ) → number_of s p ≡ asid → BufferHolds entries s g t → BufferHolds (both_forgotten entries address (Some asid)) s h u
+  forgotten_of entries s asid is k =
+      let first = forgets entries (address / 2 ^ 12) asid (plain_of entries s g t k) in
+      let second = forgets (forgotten entries (address / 2 ^ 12) asid) (0xC0000 + region_of address) asid first.0 in
+      record {
+        few = second.0.few;
+        single = second.0.single;
+        apart = second.0.apart;
+        own = second.0.own;
+        backed = λ slot e q at running some number. elim (second.1.each slot e at) [
           | inl start ↦ absurd (none_of_start slot e start some)
-          | inr was ↦
-              let b = k.backed slot e q was.0 running some number in
-              let space : q ≡ p → e.asid ≡ asid = λ own. numbered (numbers p) asid e.asid known some (ap numbers (sym own) ∙ number) in
-              record { mapped = b.mapped; words = b.words ∙ ap (entry_of (hi_of e.vpn e.asid)) (same e.vpn q running b.mapped (λ own page. was.1 page (space own)) (λ own page. stays.1 page (space own))) }
-        ]
-      ];
-    }
-  where
-    by_table : (vpn q : ℕ) → 0 < q → 0xC0000 ≤ vpn → (q ≡ p → vpn ≡ 0xC0000 + region_of address → ⊥) → lo_of g t q vpn ≡ lo_of h u q vpn
-    by_table vpn q running high other =
-        let is : vpn ≡ 0xC0000 + (vpn - 0xC0000) = omega (arith, high) in
-        subst (λ (n : ℕ). lo_of g t q n ≡ lo_of h u q n) (sym is)
-        (table_lo g t q (vpn - 0xC0000) ∙ (ap (λ (n : ℕ). read_only n) (sym (changed.tables q (vpn - 0xC0000) running (λ own region. other own (is ∙ ap (λ (n : ℕ). 0xC0000 + n) region)))) ∙ sym (table_lo h u q (vpn - 0xC0000))))
+          | inr stays ↦ elim (first.1.each slot e stays.0) [
+            | inl start ↦ absurd (none_of_start slot e start some)
+            | inr was ↦
+                let b = k.backed slot e q was.0 running some number in
+                let space : q ≡ p → e.asid ≡ asid = λ own. sym number ∙ (ap (number_of s) own ∙ is) in
+                record { mapped = b.mapped; words = b.words ∙ ap (entry_of (hi_of e.vpn e.asid)) (same e.vpn q running b.mapped (λ own page. was.1 page (space own)) (λ own page. stays.1 page (space own))) }
+          ]
+        ];
+        used = λ slot e at some. elim (second.1.each slot e at) [
+          | inl start ↦ absurd (none_of_start slot e start some)
+          | inr stays ↦ elim (first.1.each slot e stays.0) [
+            | inl start ↦ absurd (none_of_start slot e start some)
+            | inr was ↦ k.used slot e was.0 some
+          ]
+        ];
+      }
 
-    same : (vpn q : ℕ) → 0 < q → IsMapped vpn → (q ≡ p → vpn ≡ address / 2 ^ 12 → ⊥) → (q ≡ p → vpn ≡ 0xC0000 + region_of address → ⊥) → lo_of g t q vpn ≡ lo_of h u q vpn
-    same vpn q running (inl low) other table = user_lo g t q vpn low ∙ (sym (changed.words q vpn running other) ∙ sym (user_lo h u q vpn low))
-    same vpn q running (inr high) other table = by_table vpn q running high.0 table
+  by_held : (entries : List Entry) (s : Spaces) (held : Option ℕ) → number_held s p ≡ held → BufferHolds entries s g t → BufferHolds (both_forgotten entries address held) s h u
+  by_held entries s None none k = kept_of_none entries s (none_held s p none) k
+  by_held entries s (Some asid) some k = forgotten_of entries s asid (some_held s p asid some) k
+
+  pub buffer_changed : (entries : List Entry) (s : Spaces) → BufferHolds entries s g t → BufferHolds (both_forgotten entries address (number_held s p)) s h u
+  buffer_changed entries s k = by_held entries s (number_held s p) refl k

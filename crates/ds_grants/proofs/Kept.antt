@@ -16,12 +16,13 @@ use Rattle.ds_policy.specs.Pages.{entries_of, entry_at, with_entry, without_entr
 use Rattle.ds_pagemap.proofs.Entries.{entry_at-with_entry, entry_at-without_entry}
 use Rattle.ds_grants.specs.State.{GrantsState, with_grant, without_grant}
 use Rattle.ds_tables.specs.Places.{Places, ArePlaces, region_of, place_of, free_place, has_place, frame_of_place, page_of_table, table_frame, opened, closed, with_place, freed, places_of}
+use Rattle.ds_asid.specs.Spaces.{Spaces, number_held}
 use Rattle.ds_tables.specs.Tables as tables
 use Rattle.ds_tables.specs.Tables.{HasEmptyTable, with_table_by, with_table, with_entry_word, word_place, entry_word}
 use Rattle.ds_tables.proofs.PlaceLemmas.{is_place, is_free_place, placed, place_of-other, place_of-kept, row_placed, closed_row, four_places}
 use Rattle.ds_tables.proofs.Map.{frames_kept, opened_old, opened_not, opened_new}
 use Rattle.ds_grants.specs.Words.{word_of_right, word_of_grant, WordsHold}
-use Rattle.ds_grants.specs.Changes.{both_forgotten, is_used, memory_without, places_without, IsChangedAt, AreKnown}
+use Rattle.ds_grants.specs.Changes.{both_forgotten, is_used, memory_without, places_without, IsChangedAt}
 use Rattle.ds_grants.specs.Represented.{IsRepresented, Keeps, HasPlace, IsLow, IsHigh}
 use Rattle.ds_grants.specs.Order.{is_no_page}
 use Rattle.ds_grants.proofs.FifthRegion.{either, fifth_by_places}
@@ -78,7 +79,7 @@ word_small g grant few = by_page grant.page few
     by_page None low = omega arith
     by_page (Some q) low = flagged grant.right q low
 
-module _ (entries : List Entry) (memory : List ℕ) (t : Places) (numbers known : ℕ → ℕ) (g : GrantsState) (p a : ℕ) (k : IsRepresented entries memory t numbers g) (are : AreKnown known numbers)
+module _ (entries : List Entry) (memory : List ℕ) (t : Places) (s : Spaces) (g : GrantsState) (p a : ℕ) (k : IsRepresented entries memory t s g)
     (long : 2 ^ 23 ≤ length memory) (low : 0 < p) (high : p ≤ length g.table) (page : a % 2 ^ 12 ≡ 0) where
   high_places : p ≤ length t
   high_places = subst (λ (n : ℕ). p ≤ n) (sym k.words.same) high
@@ -87,7 +88,7 @@ module _ (entries : List Entry) (memory : List ℕ) (t : Places) (numbers known 
   elsewhere vpn other = λ (e : ◌≡◌ {A = ℕ} (vpn * 2 ^ 12) a). other (omega (arith, e))
 
   pub put_represented : (grant : Grant) → IfSome grant.page (λ page. page < 1024) → HasPlace g p a
-      → IsRepresented (both_forgotten entries a (known p)) (tables.with_entry memory t p a (word_of_grant g (Some grant))) (opened t p (region_of a)) numbers (with_grant g p a grant)
+      → IsRepresented (both_forgotten entries a (number_held s p)) (tables.with_entry memory t p a (word_of_grant g (Some grant))) (opened t p (region_of a)) s (with_grant g p a grant)
   put_represented grant small region =
       let room : has_place t p (region_of a) ≡ true = room_for region in
       let changed : IsChangedAt g (with_grant g p a grant) t (opened t p (region_of a)) p a = record {
@@ -95,10 +96,11 @@ module _ (entries : List Entry) (memory : List ℕ) (t : Places) (numbers known 
         tables = λ q r live other. opened_tables t p (region_of a) q r k.places (λ own same. other own same);
       } in
       record {
-        buffer = buffer_changed entries numbers g (with_grant g p a grant) t (opened t p (region_of a)) p a (known p) (are p) changed k.buffer;
+        buffer = buffer_changed g (with_grant g p a grant) t (opened t p (region_of a)) p a changed entries s k.buffer;
         words = put_holds memory t g p a k.words k.places long k.empty low high page grant (word_small g grant small) room;
         places = opened_places t p (region_of a) k.places;
         empty = frames_kept memory t p a (word_of_grant g (Some grant)) 1 k.places long (inl (omega arith)) ∙ k.empty;
+        spaces = k.spaces;
       }
     where
       turned : (b : Bool) → not b ≡ false → b ≡ true
@@ -109,17 +111,18 @@ module _ (entries : List Entry) (memory : List ℕ) (t : Places) (numbers known 
       room_for (inl region) = turned (has_place t p (region_of a)) (sym (fifth_by_places t p (region_of a) (entries_of g.table p) (four_places t p k.places low high_places) (k.words.distinct p) (λ s. k.words.regions p s low)) ∙ region)
       room_for (inr there) = ap (λ (b : Bool). b || is_some (free_place t p)) (k.words.regions p (region_of a) low ∙ found_used (entries_of g.table p) a there)
 
-  pub remove_represented : IsRepresented (both_forgotten entries a (known p)) (memory_without memory t g p a) (places_without t g p a) numbers (without_grant g p a)
+  pub remove_represented : IsRepresented (both_forgotten entries a (number_held s p)) (memory_without memory t g p a) (places_without t g p a) s (without_grant g p a)
   remove_represented =
       let changed : IsChangedAt g (without_grant g p a) t (places_without t g p a) p a = record {
         words = λ q vpn live other. same_word g (without_grant g p a) (entry_at (without_entry g.table p a) q (vpn * 2 ^ 12)) ∙ ap (word_of_grant g) (entry_at-without_entry g.table p a q (vpn * 2 ^ 12) low live (λ own. elsewhere vpn (other own)));
         tables = λ q r live other. by_used (is_used (without_grant g p a) p (region_of a)) q r (λ own same. other own same);
       } in
       record {
-        buffer = buffer_changed entries numbers g (without_grant g p a) t (places_without t g p a) p a (known p) (are p) changed k.buffer;
+        buffer = buffer_changed g (without_grant g p a) t (places_without t g p a) p a changed entries s k.buffer;
         words = removed_holds memory t g p a k.words k.places long k.empty low high page;
         places = places_by (is_used (without_grant g p a) p (region_of a));
         empty = empty_by (is_used (without_grant g p a) p (region_of a));
+        spaces = k.spaces;
       }
     where
       by_used : (b : Bool) (q r : ℕ) → (q ≡ p → r ≡ region_of a → ⊥) → page_of_table (cond b t (closed t p (region_of a))) q r ≡ page_of_table t q r
@@ -182,8 +185,8 @@ word_kept old new t p a are high =
     word_at-same_frame old new (page_of_table t p (region_of a)) (a / 2 ^ 12 % 2 ^ 10 * 4) (omega arith)
     (high.1 (page_of_table t p (region_of a)) (table_in_memory t p (region_of a) (place_of t p (region_of a)) are refl))
 
-pub high_kept : (entries : List Entry) (old new : List ℕ) (t : Places) (numbers : ℕ → ℕ) (g : GrantsState) → IsHigh old new → IsRepresented entries old t numbers g → IsRepresented entries new t numbers g
-high_kept entries old new t numbers g high k = record {
+pub high_kept : (entries : List Entry) (old new : List ℕ) (t : Places) (s : Spaces) (g : GrantsState) → IsHigh old new → IsRepresented entries old t s g → IsRepresented entries new t s g
+high_kept entries old new t s g high k = record {
   buffer = k.buffer;
   words = record {
     words = λ p vpn live user. word_kept old new t p (vpn * 2 ^ 12) k.places high ∙ k.words.words p vpn live user;
@@ -193,6 +196,7 @@ high_kept entries old new t numbers g high k = record {
   };
   places = k.places;
   empty = high.1 1 (omega arith) ∙ k.empty;
+  spaces = k.spaces;
 }
 
 pub high_stored : (memory : List ℕ) (place w : ℕ) → length memory ≡ 2 ^ 23 → 402 * 4096 ≤ place → place < 2 ^ 23 → IsHigh memory (with_word memory place w)
@@ -201,13 +205,13 @@ high_stored memory place w size low high =
     (length-with_word memory place w inside, λ f table. frame_of-with_word_apart memory place w f inside (inl (omega (arith, table, low))))
 
 -- memory and places as others are
-pub represented_as : {entries : List Entry} {memory n : List ℕ} {t u : Places} {numbers : ℕ → ℕ} {g : GrantsState} → n ≡ memory → u ≡ t → IsRepresented entries memory t numbers g → IsRepresented entries n u numbers g
-represented_as {entries} {memory} {n} {t} {u} {numbers} {g} e f k = subst (λ (m : List ℕ). IsRepresented entries m u numbers g) (sym e) (subst (λ (v : Places). IsRepresented entries memory v numbers g) (sym f) k)
+pub represented_as : {entries : List Entry} {memory n : List ℕ} {t u : Places} {s : Spaces} {g : GrantsState} → n ≡ memory → u ≡ t → IsRepresented entries memory t s g → IsRepresented entries n u s g
+represented_as {entries} {memory} {n} {t} {u} {s} {g} e f k = subst (λ (m : List ℕ). IsRepresented entries m u s g) (sym e) (subst (λ (v : Places). IsRepresented entries memory v s g) (sym f) k)
 
 -- Changes one after the other, and none.
 
-pub keeps_then : {known : ℕ → ℕ} {es fs gs : List Entry} {m n o : List ℕ} {t u v : Places} {g h i : GrantsState} → Keeps known es m t g fs n u h → Keeps known fs n u h gs o v i → Keeps known es m t g gs o v i
-keeps_then first second = λ numbers apart are k. second numbers apart are (first numbers apart are k)
+pub keeps_then : {es fs gs : List Entry} {m n o : List ℕ} {t u v : Places} {r s q : Spaces} {g h i : GrantsState} → Keeps es m t r g fs n u s h → Keeps fs n u s h gs o v q i → Keeps es m t r g gs o v q i
+keeps_then first second = λ k. second (first k)
 
-pub keeps_same : (known : ℕ → ℕ) (es fs : List Entry) (m n : List ℕ) (t u : Places) (g h : GrantsState) → fs ≡ es → n ≡ m → u ≡ t → h ≡ g → Keeps known es m t g fs n u h
-keeps_same known es fs m n t u g h entries memory places grants = λ numbers apart are k. rw (entries, memory, places, grants) k
+pub keeps_same : (es fs : List Entry) (m n : List ℕ) (t u : Places) (r s : Spaces) (g h : GrantsState) → fs ≡ es → n ≡ m → u ≡ t → s ≡ r → h ≡ g → Keeps es m t r g fs n u s h
+keeps_same es fs m n t u r s g h entries memory places spaces grants = λ k. rw (entries, memory, places, spaces, grants) k

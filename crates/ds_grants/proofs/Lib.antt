@@ -7,6 +7,7 @@ pub mod Fills
 pub mod FirstGrants
 pub mod FirstPages
 pub mod Forgets
+pub mod Handing
 pub mod HeldByAll
 pub mod HolderCounts
 pub mod Images

@@ -1,6 +1,6 @@
 -- What holds of pages and frames at the ends of their ranges: each row is a theorem about the
 -- definitions alone.
-use Rattle.std.proofs.Common.{◌≡◌, ℕ, ◌*◌, ◌^◌, List, None, refl, arith, inl, inr}
+use Rattle.std.proofs.Common.{◌≡◌, ℕ, ◌*◌, ◌^◌, List, None, arith, inl, inr}
 use Rattle.ds_mem.specs.Memory.{frame_of}
 use Rattle.ds_policy.specs.declared.grant.Right.TheVariants.{Nothing}
 use Rattle.ds_grants.specs.State.{GrantsState, with_grant}
@@ -8,7 +8,6 @@ use Rattle.ds_tables.specs.Places.{Places}
 use Rattle.ds_tables.specs.Tables.{entry_word}
 use Rattle.ds_grants.specs.Words.{granted_word, WordsHold}
 use Rattle.ds_grants.specs.Buffer.{IsMapped}
-use Rattle.ds_grants.specs.Changes.{AreKnown}
 use Rattle.ds_grants.specs.Represented.{IsLow, IsHigh, HasRegion}
 use Rattle.ds_grants.specs.Rows.{grant, grants}
 
@@ -21,9 +20,6 @@ a_table_has_512_pages (inr table) = let last = table.1 in absurd (omega (arith, 
 
 pub its_last_page_is_of_the_last_region : IsMapped 0xC01FF
 its_last_page_is_of_the_last_region = inr (omega arith, omega arith)
-
-pub process_2_may_have_lost_its_number : AreKnown (λ (p : ℕ). p) (λ (p : ℕ). 0)
-process_2_may_have_lost_its_number = λ p. inr refl
 
 pub a_fifth_region_may_not_be_used : HasRegion (with_grant grants 2 0x01000000 (grant Nothing None)) 2 0x01400000 → ⊥
 a_fifth_region_may_not_be_used e = absurd cc

@@ -6,6 +6,7 @@ use Rattle.ds_tlb.specs.Singles.{IsSingle}
 use Rattle.ds_tlb.specs.Words.{entry_of}
 use Rattle.ds_grants.specs.State.{GrantsState}
 use Rattle.ds_tables.specs.Places.{Places, page_of_table}
+use Rattle.ds_asid.specs.Spaces.{Spaces, number_of}
 use Rattle.ds_grants.specs.Words.{granted_word}
 
 -- EntryHi of a page in an address space
@@ -32,9 +33,9 @@ pub record IsBacked (g : GrantsState) (t : Places) (p : ℕ) (e : Entry) : Type 
   pub mapped : IsMapped e.vpn
   pub words : e ≡ entry_of (hi_of e.vpn e.asid) (lo_of g t p e.vpn)
 
--- No two entries match, and each entry of a process's address space has the process's EntryLo of its
--- page; processes have address space numbers, or 0 where they have none.
-pub record BufferHolds (entries : List Entry) (numbers : ℕ → ℕ) (g : GrantsState) (t : Places)
+-- No two entries match, each entry of a process's address space has the process's EntryLo of its
+-- page, and no entry has a number that is still to be handed out.
+pub record BufferHolds (entries : List Entry) (s : Spaces) (g : GrantsState) (t : Places)
     : Type 0 where
   pub few : length entries ≤ 64
   pub single : IsSingle entries
@@ -44,16 +45,9 @@ pub record BufferHolds (entries : List Entry) (numbers : ℕ → ℕ) (g : Grant
   -- no entry answers in each address space
   pub own : (slot : ℕ) (e : Entry) → slice_get entries slot ≡ Some e → e.g ≡ false
   pub backed : (slot : ℕ) (e : Entry) (p : ℕ) → slice_get entries slot ≡ Some e
-      → 0 < p → 0 < e.asid → numbers p ≡ e.asid → IsBacked g t p e
-
--- no two processes have one address space number, of which there are 63
-pub record AreNumbersApart (numbers : ℕ → ℕ) : Type 0 where
-  pub apart : (p q : ℕ) → 0 < p → 0 < q → 0 < numbers p → numbers p ≡ numbers q → p ≡ q
-  pub few : (p : ℕ) → numbers p < 64
-
--- the number of the one address space, by which each process is known that has it
-abbrev pub one_space : ℕ → ℕ
-one_space p = 1
+      → 0 < p → 0 < e.asid → number_of s p ≡ e.asid → IsBacked g t p e
+  pub used : (slot : ℕ) (e : Entry) → slice_get entries slot ≡ Some e
+      → 0 < e.asid → e.asid < s.next
 
 -- the entry that maps a page of a process in an address space
 abbrev pub entry_for : GrantsState → Places → ℕ → ℕ → ℕ → Entry

@@ -1,5 +1,5 @@
 -- What a change of one entry makes of memory, places and the buffer.
-use Rattle.std.specs.Prelude.{◌≡◌, ◌≢◌, ◌⊎◌, ◌<◌, ℕ, ◌+◌, ◌/◌, ◌^◌, ◌==◌, Bool, if◌then◌else◌, List, [], ◌∷◌, slice_set, Option, Some, None}
+use Rattle.std.specs.Prelude.{◌≡◌, ◌≢◌, ◌<◌, ℕ, ◌+◌, ◌/◌, ◌^◌, ◌==◌, Bool, if◌then◌else◌, List, [], ◌∷◌, slice_set, Option, Some, None}
 use Rattle.std.specs.List.{list_any}
 use Rattle.ds_tlb.specs.declared.entry.Entry.{Entry}
 use Rattle.ds_tlb.specs.Entries.{find, empty_entry}
@@ -34,17 +34,12 @@ abbrev pub forgotten : List Entry → ℕ → ℕ → List Entry
 forgotten entries vpn asid = cleared entries (find entries vpn asid)
 
 -- without what an address space has for the page of an address, and for the page of its region's
--- table
-abbrev pub both_forgotten : List Entry → ℕ → ℕ → List Entry
-both_forgotten entries address asid =
+-- table; nothing is forgotten of a process that has no address space
+abbrev pub both_forgotten : List Entry → ℕ → Option ℕ → List Entry
+both_forgotten entries address None = entries
+both_forgotten entries address (Some asid) =
     forgotten (forgotten entries (address / 2 ^ 12) asid)
     (0xC0000 + region_of address) asid
-
--- without what an address space has for the pages of these entries, and for those of their regions'
--- tables
-abbrev pub all_forgotten : List Entry → List granted.Entry → ℕ → List Entry
-all_forgotten entries [] asid = entries
-all_forgotten entries (e ∷ rest) asid = all_forgotten (both_forgotten entries e.address asid) rest asid
 
 -- the places once the regions of these entries of a process have no tables
 abbrev pub all_closed : Places → ℕ → List granted.Entry → Places
@@ -58,7 +53,3 @@ pub record IsChangedAt (g h : GrantsState) (t u : Places) (p address : ℕ) : Ty
       → granted_word h q vpn ≡ granted_word g q vpn
   pub tables : (q r : ℕ) → 0 < q → (q ≡ p → r ≢ region_of address)
       → page_of_table u q r ≡ page_of_table t q r
-
--- each process has the number by which it is known, or none
-abbrev pub AreKnown : (ℕ → ℕ) → (ℕ → ℕ) → Type 0
-AreKnown known numbers = (p : ℕ) → (numbers p ≡ known p) ⊎ (numbers p ≡ 0)

@@ -9,8 +9,8 @@ use Rattle.ds_grants.specs.State.{GrantsState}
 use Rattle.ds_tables.specs.Places.{Places, ArePlaces}
 use Rattle.ds_tables.specs.Tables.{HasEmptyTable}
 use Rattle.ds_grants.specs.Words.{WordsHold}
-use Rattle.ds_grants.specs.Buffer.{BufferHolds, AreNumbersApart}
-use Rattle.ds_grants.specs.Changes.{AreKnown}
+use Rattle.ds_asid.specs.Spaces.{Spaces, AreApart}
+use Rattle.ds_grants.specs.Buffer.{BufferHolds}
 
 -- the page tables in memory have the words of what is granted, each table at a place of its own
 pub record HasWords (memory : List ℕ) (t : Places) (g : GrantsState) : Type 0 where
@@ -18,22 +18,22 @@ pub record HasWords (memory : List ℕ) (t : Places) (g : GrantsState) : Type 0 
   pub places : ArePlaces t
   pub empty : HasEmptyTable memory
 
--- what is granted stands in the page tables in memory, and the buffer has nothing else
-pub record IsRepresented (entries : List Entry) (memory : List ℕ) (t : Places) (numbers : ℕ → ℕ)
+-- what is granted stands in the page tables in memory, and the buffer has nothing else in the address
+-- spaces of processes, which are apart
+pub record IsRepresented (entries : List Entry) (memory : List ℕ) (t : Places) (s : Spaces)
     (g : GrantsState) : Type 0 where
-  pub buffer : BufferHolds entries numbers g t
+  pub buffer : BufferHolds entries s g t
   pub words : WordsHold memory t g
   pub places : ArePlaces t
   pub empty : HasEmptyTable memory
+  pub spaces : AreApart s
 
--- what is granted is represented after a change where it was before, whichever processes have the
--- numbers by which they are known
-abbrev pub Keeps : (ℕ → ℕ) → List Entry → List ℕ → Places → GrantsState
-    → List Entry → List ℕ → Places → GrantsState → Type 0
-Keeps known old_entries old_memory old_t old_g entries memory t g =
-    (numbers : ℕ → ℕ) → AreNumbersApart numbers → AreKnown known numbers
-    → IsRepresented old_entries old_memory old_t numbers old_g
-    → IsRepresented entries memory t numbers g
+-- what is granted is represented after a change where it was before
+abbrev pub Keeps : List Entry → List ℕ → Places → Spaces → GrantsState
+    → List Entry → List ℕ → Places → Spaces → GrantsState → Type 0
+Keeps old_entries old_memory old_t old_s old_g entries memory t s g =
+    IsRepresented old_entries old_memory old_t old_s old_g
+    → IsRepresented entries memory t s g
 
 -- only frames of page tables changed: no page, nor the vectors or the empty table
 abbrev pub IsLow : List ℕ → List ℕ → Type 0

@@ -86,7 +86,7 @@ abbrev pub entries : List Entry
 entries = entry_of 0x00400040 0x00192200 ∷ entry_of 0x00410040 0x00195600 ∷ entry_of 0xC0001040 0x00002200
     ∷ entry_of 0x00410080 0x00192200 ∷ []
 
-pub the_page_and_that_of_its_table_are_forgotten : map {B = ℕ × Bool} (λ (e : Entry). (e.vpn, e.v)) (both_forgotten entries 0x00410000 1)
+pub the_page_and_that_of_its_table_are_forgotten : map {B = ℕ × Bool} (λ (e : Entry). (e.vpn, e.v)) (both_forgotten entries 0x00410000 (Some 1))
     ≡ (0x400, true) ∷ (0x80001, false) ∷ (0x80002, false) ∷ (0x410, true) ∷ []
 the_page_and_that_of_its_table_are_forgotten = refl
 

@@ -7,12 +7,13 @@ ghost use Rattle.ds_policy.specs.Grants.{is_some_right, granted, copied, give, t
 ghost use Rattle.ds_grants.specs.State.{Does, IsAsLarge, lives_in, frame_of_page, page_state, pages_in};
 ghost use Rattle.ds_grants.specs.Free.{HasPage, IsFirstFree};
 ghost use Rattle.ds_grants.specs.Order.{is_no_page};
-ghost use Rattle.ds_grants.specs.Buffer.{one_space};
+ghost use Rattle.ds_asid.specs.Spaces.{number_held};
 ghost use Rattle.ds_grants.specs.Changes.{both_forgotten};
 ghost use Rattle.ds_grants.specs.Represented.{IsLow, HasRegion, Keeps};
 
 use crate::fault::GrantFault;
 use crate::grants::{Grants, frame_of_page};
+use ds_asid::Asids;
 use ds_mem::Memory;
 use ds_policy::{Grant, Right};
 use ds_tables::Tables;
@@ -31,6 +32,7 @@ impl Grants {
         mode: u32,
         memory: &mut Memory,
         tables: &mut Tables,
+        spaces: &mut Asids,
         tlb: &mut L,
     ) -> Result<(), GrantFault>
         requires low { 0 < caller }
@@ -42,15 +44,17 @@ impl Grants {
         ensures ended { self.new.ended ≡ self.old.ended }
         ensures refused { OnErr result ((self.new ≡ self.old) × (memory.new ≡ memory.old)
             × (tables.new ≡ tables.old) × (L.entries tlb.new ≡ L.entries tlb.old)) }
+        ensures spaces { spaces.new ≡ spaces.old }
         ensures shared { mode ≢ 3 → IsLow memory.old memory.new }
         ensures entries { OnOk result
-            (L.entries tlb.new ≡ both_forgotten (L.entries tlb.old) to 1) }
+            (L.entries tlb.new
+            ≡ both_forgotten (L.entries tlb.old) to (number_held spaces.old receiver)) }
         ensures elsewhere { (f : ℕ) → (f < 2) ⊎ (402 ≤ f)
             → f ≢ frame_of_page self.old (fresh (pages_in self.old memory.old))
             → frame_of memory.new f ≡ frame_of memory.old f }
-        ensures keeps { Keeps one_space
-            (L.entries tlb.old) memory.old tables.old self.old
-            (L.entries tlb.new) memory.new tables.new self.new }
+        ensures keeps { Keeps
+            (L.entries tlb.old) memory.old tables.old spaces.old self.old
+            (L.entries tlb.new) memory.new tables.new spaces.new self.new }
         ensures random { L.random_place tlb.new ≡ L.random_place tlb.old }
     {
         let grant = self.may_give(caller, addr, receiver, to, mode)?;
@@ -63,6 +67,7 @@ impl Grants {
                 to,
                 memory,
                 tables,
+                spaces,
                 tlb,
             ),
             2 => self.share(
@@ -73,9 +78,10 @@ impl Grants {
                 to,
                 memory,
                 tables,
+                spaces,
                 tlb,
             ),
-            _ => self.give_copy(grant, caller, receiver, to, memory, tables, tlb),
+            _ => self.give_copy(grant, caller, receiver, to, memory, tables, spaces, tlb),
         }
         Ok(())
     }
@@ -90,6 +96,7 @@ impl Grants {
         to: u32,
         memory: &mut Memory,
         tables: &mut Tables,
+        spaces: &mut Asids,
         tlb: &mut L,
     )
         requires low { 0 < receiver }
@@ -106,10 +113,12 @@ impl Grants {
         ensures low { IsLow memory.old memory.new }
         ensures same { IsAsLarge self.old self.new }
         ensures ended { self.new.ended ≡ self.old.ended }
-        ensures entries { L.entries tlb.new ≡ both_forgotten (L.entries tlb.old) to 1 }
-        ensures keeps { Keeps one_space
-            (L.entries tlb.old) memory.old tables.old self.old
-            (L.entries tlb.new) memory.new tables.new self.new }
+        ensures entries { L.entries tlb.new
+            ≡ both_forgotten (L.entries tlb.old) to (number_held spaces.old receiver) }
+        ensures spaces { spaces.new ≡ spaces.old }
+        ensures keeps { Keeps
+            (L.entries tlb.old) memory.old tables.old spaces.old self.old
+            (L.entries tlb.new) memory.new tables.new spaces.new self.new }
         ensures random { L.random_place tlb.new ≡ L.random_place tlb.old }
     {
         let shared = Grant {
@@ -117,7 +126,7 @@ impl Grants {
             giver: caller,
             ..grant
         };
-        self.put(receiver, to, shared, memory, tables, tlb);
+        self.put(receiver, to, shared, memory, tables, spaces, tlb);
     }
 
     /// Gives a copy of a page that a process has.
@@ -129,6 +138,7 @@ impl Grants {
         to: u32,
         memory: &mut Memory,
         tables: &mut Tables,
+        spaces: &mut Asids,
         tlb: &mut L,
     )
         requires low { 0 < receiver }
@@ -149,13 +159,15 @@ impl Grants {
             }) }
         ensures same { IsAsLarge self.old self.new }
         ensures ended { self.new.ended ≡ self.old.ended }
-        ensures entries { L.entries tlb.new ≡ both_forgotten (L.entries tlb.old) to 1 }
+        ensures entries { L.entries tlb.new
+            ≡ both_forgotten (L.entries tlb.old) to (number_held spaces.old receiver) }
+        ensures spaces { spaces.new ≡ spaces.old }
         ensures elsewhere { (f : ℕ) → (f < 2) ⊎ (402 ≤ f)
             → f ≢ frame_of_page self.old (fresh (pages_in self.old memory.old))
             → frame_of memory.new f ≡ frame_of memory.old f }
-        ensures keeps { Keeps one_space
-            (L.entries tlb.old) memory.old tables.old self.old
-            (L.entries tlb.new) memory.new tables.new self.new }
+        ensures keeps { Keeps
+            (L.entries tlb.old) memory.old tables.old spaces.old self.old
+            (L.entries tlb.new) memory.new tables.new spaces.new self.new }
         ensures random { L.random_place tlb.new ≡ L.random_place tlb.old }
     {
         if let (Some(page), Some(free)) = (grant.page, self.free_page()) {
@@ -166,7 +178,7 @@ impl Grants {
                 giver: caller,
                 ..grant
             };
-            self.put(receiver, to, copy, memory, tables, tlb);
+            self.put(receiver, to, copy, memory, tables, spaces, tlb);
         }
     }
 
@@ -178,6 +190,7 @@ impl Grants {
         addr: u32,
         memory: &mut Memory,
         tables: &mut Tables,
+        spaces: &mut Asids,
         tlb: &mut L,
     ) -> Result<(), GrantFault>
         ensures does { Does (page_state self.old memory.old) (page_state self.new memory.new) result
@@ -187,18 +200,20 @@ impl Grants {
         ensures ended { self.new.ended ≡ self.old.ended }
         ensures refused { OnErr result ((self.new ≡ self.old) × (memory.new ≡ memory.old)
             × (tables.new ≡ tables.old) × (L.entries tlb.new ≡ L.entries tlb.old)) }
+        ensures spaces { spaces.new ≡ spaces.old }
         ensures entries { OnOk result
-            (L.entries tlb.new ≡ both_forgotten (L.entries tlb.old) addr 1) }
-        ensures keeps { Keeps one_space
-            (L.entries tlb.old) memory.old tables.old self.old
-            (L.entries tlb.new) memory.new tables.new self.new }
+            (L.entries tlb.new
+            ≡ both_forgotten (L.entries tlb.old) addr (number_held spaces.old process)) }
+        ensures keeps { Keeps
+            (L.entries tlb.old) memory.old tables.old spaces.old self.old
+            (L.entries tlb.new) memory.new tables.new spaces.new self.new }
         ensures random { L.random_place tlb.new ≡ L.random_place tlb.old }
     {
         let grant = self.granted_to(process, addr)?;
         if grant.giver != caller {
             return Err(GrantFault::NotGiven);
         }
-        self.remove(process, addr, memory, tables, tlb);
+        self.remove(process, addr, memory, tables, spaces, tlb);
         Ok(())
     }
 
@@ -211,6 +226,7 @@ impl Grants {
         by_command: bool,
         memory: &mut Memory,
         tables: &mut Tables,
+        spaces: &mut Asids,
         tlb: &mut L,
     ) -> Result<(), GrantFault>
         requires process { by_command ≡ false → (0 < process) × (process ≤ length self.old.table) }
@@ -223,15 +239,17 @@ impl Grants {
         ensures ended { self.new.ended ≡ self.old.ended }
         ensures refused { OnErr result ((self.new ≡ self.old) × (memory.new ≡ memory.old)
             × (tables.new ≡ tables.old) × (L.entries tlb.new ≡ L.entries tlb.old)) }
+        ensures spaces { spaces.new ≡ spaces.old }
         ensures entries { OnOk result
-            (L.entries tlb.new ≡ both_forgotten (L.entries tlb.old) addr 1) }
-        ensures keeps { Keeps one_space
-            (L.entries tlb.old) memory.old tables.old self.old
-            (L.entries tlb.new) memory.new tables.new self.new }
+            (L.entries tlb.new
+            ≡ both_forgotten (L.entries tlb.old) addr (number_held spaces.old process)) }
+        ensures keeps { Keeps
+            (L.entries tlb.old) memory.old tables.old spaces.old self.old
+            (L.entries tlb.new) memory.new tables.new spaces.new self.new }
         ensures random { L.random_place tlb.new ≡ L.random_place tlb.old }
     {
         self.may_drop(process, addr, by_command)?;
-        self.remove(process, addr, memory, tables, tlb);
+        self.remove(process, addr, memory, tables, spaces, tlb);
         Ok(())
     }
 }

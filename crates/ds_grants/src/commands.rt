@@ -3,14 +3,14 @@ ghost use Rattle.std.specs.Prelude.{◌≡◌, ◌<◌, ◌≤◌, ◌-◌, true
 ghost use Rattle.ds_policy.specs.Pages.{entries_of};
 ghost use Rattle.ds_policy.specs.Grants.{is_some_right, grant, narrow, revoke, end_process};
 ghost use Rattle.ds_grants.specs.State.{Does, IsAsLarge, lives_in, page_state};
-ghost use Rattle.ds_grants.specs.Buffer.{one_space};
-ghost use Rattle.ds_grants.specs.Changes.{both_forgotten, all_forgotten, all_closed};
+ghost use Rattle.ds_asid.specs.Spaces.{number_held, given_up};
+ghost use Rattle.ds_grants.specs.Changes.{both_forgotten, all_closed};
 ghost use Rattle.ds_grants.specs.Represented.{IsLow, Keeps};
 
 use crate::fault::GrantFault;
 use crate::grants::Grants;
 use crate::page_tables::close_all;
-use crate::translation::forget_all;
+use ds_asid::Asids;
 use ds_mem::Memory;
 use ds_policy::{Grant, Right};
 use ds_tables::Tables;
@@ -29,6 +29,7 @@ impl Grants {
         rule: u32,
         memory: &mut Memory,
         tables: &mut Tables,
+        spaces: &mut Asids,
         tlb: &mut L,
     ) -> Result<(), GrantFault>
         requires named { page < self.old.named }
@@ -41,11 +42,13 @@ impl Grants {
         ensures ended { self.new.ended ≡ self.old.ended }
         ensures refused { OnErr result ((self.new ≡ self.old) × (memory.new ≡ memory.old)
             × (tables.new ≡ tables.old) × (L.entries tlb.new ≡ L.entries tlb.old)) }
+        ensures spaces { spaces.new ≡ spaces.old }
         ensures entries { OnOk result
-            (L.entries tlb.new ≡ both_forgotten (L.entries tlb.old) addr 1) }
-        ensures keeps { Keeps one_space
-            (L.entries tlb.old) memory.old tables.old self.old
-            (L.entries tlb.new) memory.new tables.new self.new }
+            (L.entries tlb.new
+            ≡ both_forgotten (L.entries tlb.old) addr (number_held spaces.old process)) }
+        ensures keeps { Keeps
+            (L.entries tlb.old) memory.old tables.old spaces.old self.old
+            (L.entries tlb.new) memory.new tables.new spaces.new self.new }
         ensures random { L.random_place tlb.new ≡ L.random_place tlb.old }
     {
         self.may_be_granted(process, addr)?;
@@ -56,7 +59,7 @@ impl Grants {
             give,
             giver: 0,
         };
-        self.put(process, addr, grant, memory, tables, tlb);
+        self.put(process, addr, grant, memory, tables, spaces, tlb);
         Ok(())
     }
 
@@ -67,6 +70,7 @@ impl Grants {
         addr: u32,
         memory: &mut Memory,
         tables: &mut Tables,
+        spaces: &mut Asids,
         tlb: &mut L,
     ) -> Result<(), GrantFault>
         ensures does { Does (page_state self.old memory.old) (page_state self.new memory.new) result
@@ -76,11 +80,13 @@ impl Grants {
         ensures ended { self.new.ended ≡ self.old.ended }
         ensures refused { OnErr result ((self.new ≡ self.old) × (memory.new ≡ memory.old)
             × (tables.new ≡ tables.old) × (L.entries tlb.new ≡ L.entries tlb.old)) }
+        ensures spaces { spaces.new ≡ spaces.old }
         ensures entries { OnOk result
-            (L.entries tlb.new ≡ both_forgotten (L.entries tlb.old) addr 1) }
-        ensures keeps { Keeps one_space
-            (L.entries tlb.old) memory.old tables.old self.old
-            (L.entries tlb.new) memory.new tables.new self.new }
+            (L.entries tlb.new
+            ≡ both_forgotten (L.entries tlb.old) addr (number_held spaces.old process)) }
+        ensures keeps { Keeps
+            (L.entries tlb.old) memory.old tables.old spaces.old self.old
+            (L.entries tlb.new) memory.new tables.new spaces.new self.new }
         ensures random { L.random_place tlb.new ≡ L.random_place tlb.old }
     {
         let grant = self.granted_to(process, addr)?;
@@ -88,7 +94,7 @@ impl Grants {
             right: Right::Read,
             ..grant
         };
-        self.put(process, addr, narrowed, memory, tables, tlb);
+        self.put(process, addr, narrowed, memory, tables, spaces, tlb);
         Ok(())
     }
 
@@ -101,6 +107,7 @@ impl Grants {
         rule: u32,
         memory: &mut Memory,
         tables: &mut Tables,
+        spaces: &mut Asids,
         tlb: &mut L,
     ) -> Result<(), GrantFault>
         ensures does { Does (page_state self.old memory.old) (page_state self.new memory.new) result
@@ -110,11 +117,13 @@ impl Grants {
         ensures ended { self.new.ended ≡ self.old.ended }
         ensures refused { OnErr result ((self.new ≡ self.old) × (memory.new ≡ memory.old)
             × (tables.new ≡ tables.old) × (L.entries tlb.new ≡ L.entries tlb.old)) }
+        ensures spaces { spaces.new ≡ spaces.old }
         ensures entries { OnOk result
-            (L.entries tlb.new ≡ both_forgotten (L.entries tlb.old) addr 1) }
-        ensures keeps { Keeps one_space
-            (L.entries tlb.old) memory.old tables.old self.old
-            (L.entries tlb.new) memory.new tables.new self.new }
+            (L.entries tlb.new
+            ≡ both_forgotten (L.entries tlb.old) addr (number_held spaces.old process)) }
+        ensures keeps { Keeps
+            (L.entries tlb.old) memory.old tables.old spaces.old self.old
+            (L.entries tlb.new) memory.new tables.new spaces.new self.new }
         ensures random { L.random_place tlb.new ≡ L.random_place tlb.old }
     {
         self.granted_to(process, addr)?;
@@ -125,16 +134,18 @@ impl Grants {
             give: false,
             giver: 0,
         };
-        self.put(process, addr, revoked, memory, tables, tlb);
+        self.put(process, addr, revoked, memory, tables, spaces, tlb);
         Ok(())
     }
 
-    /// Removes all entries of a process, which has ended from now on. What it gave stays.
+    /// Removes all entries of a process, which has ended from now on. What it gave stays. It gives
+    /// its address space number up, so what the buffer has of it answers to nobody.
     pub fn end_process<L: Lookaside>(
         &mut self,
         process: u32,
         memory: &mut Memory,
         tables: &mut Tables,
+        spaces: &mut Asids,
         tlb: &mut L,
     )
         requires low { 0 < process }
@@ -144,19 +155,19 @@ impl Grants {
         ensures memory { memory.new ≡ memory.old }
         ensures tables { tables.new
             ≡ all_closed tables.old process (entries_of self.old.table process) }
+        ensures spaces { spaces.new ≡ given_up spaces.old process }
         ensures same { IsAsLarge self.old self.new }
         ensures ended { self.new.ended ≡ slice_set self.old.ended (process - 1) true }
-        ensures entries { L.entries tlb.new
-            ≡ all_forgotten (L.entries tlb.old) (entries_of self.old.table process) 1 }
-        ensures keeps { Keeps one_space
-            (L.entries tlb.old) memory.old tables.old self.old
-            (L.entries tlb.new) memory.new tables.new self.new }
+        ensures entries { L.entries tlb.new ≡ L.entries tlb.old }
+        ensures keeps { Keeps
+            (L.entries tlb.old) memory.old tables.old spaces.old self.old
+            (L.entries tlb.new) memory.new tables.new spaces.new self.new }
         ensures random { L.random_place tlb.new ≡ L.random_place tlb.old }
     {
         let entries = self.table.entries(process);
         self.holders.release_all(entries);
         close_all(tables, process, entries);
-        forget_all(tlb, entries);
+        spaces.give_up(process);
         self.table.clear(process);
         self.ended[process as usize - 1] = true;
     }

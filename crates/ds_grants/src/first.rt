@@ -6,6 +6,7 @@ ghost use Rattle.ds_policy.specs.PolicyParts.{sources_of};
 ghost use Rattle.ds_pagemap.specs.First.{image_named, source_bytes, first_pages};
 ghost use Rattle.ds_tlb.specs.Entries.{empty_entries};
 ghost use Rattle.ds_tables.specs.Tables.{HasEmptyTable};
+ghost use Rattle.ds_asid.specs.Spaces.{at_start};
 ghost use Rattle.ds_grants.specs.State.{pages_in};
 ghost use Rattle.ds_grants.specs.Represented.{IsRepresented};
 ghost use Rattle.ds_grants.specs.First.{no_grants, first_grants};
@@ -14,8 +15,8 @@ use crate::first_tables::first_tables;
 use crate::grants::{Grants, PROCESSES, frame_of_page};
 use crate::holders::hold_table;
 use crate::tally::Tally;
-use crate::translation::flush;
 use arrayvec::ArrayVec;
+use ds_asid::Asids;
 use ds_asm::Image;
 use ds_mem::{Memory, OutOfMemory};
 use ds_policy::{Policy, PolicyPage, Source, Table, Text};
@@ -150,14 +151,15 @@ impl Grants {
     }
 
     /// The grants that a policy begins with, its pages in their frames of memory, and their words in
-    /// the page tables. There is one image for each source name of the policy, in their order. The
-    /// buffer is emptied. Refused, nothing changes.
+    /// the page tables. There is one image for each source name of the policy, in their order. No
+    /// process has an address space yet, and the buffer is flushed. Refused, nothing changes.
     pub fn new<L: Lookaside>(
         alloc: Global,
         policy: &Policy,
         images: &[Image],
         memory: &mut Memory,
         tables: &mut Tables,
+        spaces: &mut Asids,
         tlb: &mut L,
     ) -> Result<Grants, OutOfMemory>
         requires images { length images.now ≡ length (sources_of policy.now.pages) }
@@ -165,21 +167,21 @@ impl Grants {
         ensures pages { IfOk result (λ g. pages_in g memory.new
             ≡ first_pages policy.now images.now) }
         ensures represented { IfOk result (λ g. L.SLOTS ≤ 64 → HasEmptyTable memory.old
-            → (numbers : ℕ → ℕ)
-            → IsRepresented (L.entries tlb.new) memory.new tables.new numbers g) }
+            → IsRepresented (L.entries tlb.new) memory.new tables.new spaces.new g) }
+        ensures spaces { OnOk result (spaces.new ≡ at_start) }
         ensures entries { OnOk result (L.entries tlb.new ≡ empty_entries L.SLOTS) }
         ensures random { L.random_place tlb.new ≡ L.random_place tlb.old }
         ensures elsewhere { (f : ℕ) → (f < 2) ⊎ (length policy.now.pages + 402 ≤ f)
             → frame_of memory.new f ≡ frame_of memory.old f }
         ensures refused { OnErr result ((memory.new ≡ memory.old) × (tables.new ≡ tables.old)
-            × (L.entries tlb.new ≡ L.entries tlb.old)) }
+            × (spaces.new ≡ spaces.old) × (L.entries tlb.new ≡ L.entries tlb.old)) }
     {
         let grants = Grants::first(alloc, policy)?;
         // They name no page that the policy doesn't.
         prove!(policy.rules().len() <= 999);
         fill_pages(policy.sources(), images, policy.pages(), memory);
         *tables = first_tables(policy.rules(), policy.processes().len(), memory);
-        flush(tlb);
+        spaces.flush(tlb);
         Ok(grants)
     }
 }

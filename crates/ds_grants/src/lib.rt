@@ -28,8 +28,7 @@ pub use first::fill_page;
 pub use grants::{Grants, frame_of_page};
 pub use order::refusals_have_one_order;
 pub use represented::{
-    a_change_keeps_what_is_represented, pages_leave_tables_as_they_are,
+    a_change_keeps_what_is_represented, a_number_is_handed_out, pages_leave_tables_as_they_are,
     tables_leave_pages_as_they_are,
 };
 pub use table_words::{a_fifth_region_has_no_place, words_hold_after_a_change};
-pub use translation::flush;

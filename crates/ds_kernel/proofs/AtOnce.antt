@@ -1,6 +1,5 @@
 -- A call that is answered at once: what is held after it and its boundary, with the seat of the process as it was.
-use Rattle.std.proofs.lemmas.Bool.Decides.{nat_tests}
-use Rattle.std.proofs.Common.{◌≡◌, ℕ, ◌+◌, ◌%◌, ◌<◌, ◌≤◌, ◌==◌, Bool, true, false, cond, List, [], ◌∷◌, ◌++◌, length, length-set, Option, Some, None, refl, sym, ap, ap₂, subst, ◌∙◌, arith, ◌⊎◌, inl, inr}
+use Rattle.std.proofs.Common.{◌≡◌, ℕ, ◌+◌, ◌%◌, ◌<◌, ◌≤◌, ◌==◌, Bool, true, false, cond, List, [], ◌∷◌, ◌++◌, length, length-set, Option, Some, None, refl, sym, ap, subst, ◌∙◌, arith, ◌⊎◌, inl, inr}
 use Rattle.std.specs.Prelude.{slice_index, slice_set, slice_index_or, drop}
 use Rattle.ds_word.specs.Word.{word}
 use Rattle.ds_cp0.specs.System.{System, is_user}
@@ -30,7 +29,7 @@ use Rattle.ds_pagemap_laws.proofs.Asleep.{taken_asleep}
 use Rattle.ds_refinement.specs.declared.step.Step.TheVariants.{Unit, Boundary}
 use Rattle.ds_refinement.specs.declared.cause.Cause.TheVariants as cause
 use Rattle.ds_refinement.specs.Told.{told, code_in, is_delayed}
-use Rattle.ds_refinement.specs.Held.{Held, Kept, Own, vacated, whole, space_of}
+use Rattle.ds_refinement.specs.Held.{Held, Kept, Own, vacated, whole}
 use Rattle.ds_refinement.specs.Units.{ends_in_call, is_served, has_left_user}
 use Rattle.ds_refinement.specs.Stands.{Agrees, CountedBy, Stands, IsSound, AreResting, RunningIs, RunningBy}
 use Rattle.ds_refinement.specs.Services.{IsBare, Serves, seated, with_first_seated, with_boundary, with_none_spent}
@@ -70,14 +69,6 @@ use Rattle.ds_kernel.proofs.Stepping.{sound_behind, none_is_not_some}
 -- what code 8 tells
 told_call : (s : System) (pages : PageState) (p : ℕ) → code_in s ≡ 8 → told s pages p ≡ cause.Call
 told_call s pages p is = let e : (code_in s == 8) ≡ true = ap (λ (n : ℕ). n == 8) is in grind arith
-
--- who has the one address space's number has the space
-owner_of : (k : Kept) (p : ℕ) → 0 < space_of k p → k.owner ≡ p
-owner_of k p some = by p k.owner (p == k.owner) refl some
-  where
-    by : (p owner : ℕ) (b : Bool) → (p == owner) ≡ b → 0 < cond b 1 0 → owner ≡ p
-    by p owner true is some = grind (arith, nat_tests)
-    by p owner false is some = (let no : 0 < 0 = some in absurd (omega (arith, no)))
 
 -- what is held, by its parts
 abbrev held_by : CoreState → BusState → Kept → Own → Held
@@ -200,8 +191,8 @@ module _ (h : Held) (p : ℕ) (rest : List ℕ) (asked : Call) (answer : ℕ) (q
   ends : EndsInCall p h in_seat
   ends = record {
     serves = serves;
-    enters = entering s.ready p h.core in_seat.core in_seat.kept (ap first ready) (seat.0, (seat_kept later p behind seat).1, ap (λ (x : Process). x.standing) there ∙ standing) (owner_of h.kept p runs.number) (ap (on_processor h.core) (sym there));
-    represented = subst (λ (x : List ℕ). IsRepresented h.core.entries x h.kept.tables (space_of h.kept) h.kept.grants) (sym by.memory) sound.stands.agrees.represented;
+    enters = entering s.ready p h.core in_seat.core in_seat.kept (ap first ready) (seat.0, (seat_kept later p behind seat).1, ap (λ (x : Process). x.standing) there ∙ standing) runs.number runs.set (ap (on_processor h.core) (sym there));
+    represented = subst (λ (x : List ℕ). IsRepresented h.core.entries x h.kept.tables h.kept.spaces h.kept.grants) (sym by.memory) sound.stands.agrees.represented;
     vectors = subst HasWords (sym by.memory) sound.stands.agrees.vectors;
     base = record { tables = sound.stands.agrees.base.tables; whole = sound.stands.agrees.base.whole };
     grants = sound.stands.agrees.grants;

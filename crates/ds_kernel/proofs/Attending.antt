@@ -16,6 +16,7 @@ use Rattle.ds_pagemap.specs.declared.turn.Turn.{Turn}
 use Rattle.ds_pagemap.specs.Machine.{State, Process, process_of, with_process}
 use Rattle.ds_pagemap.specs.Boundary.{all_queued, woken, rotated, has_passed, boundary}
 use Rattle.ds_pagemap_laws.specs.Due.{come}
+use Rattle.ds_asid.specs.Spaces.{Spaces}
 use Rattle.ds_refinement.specs.Held.{Held, Kept, whole, began_or, last_boundary}
 use Rattle.ds_refinement.specs.Units.{user_status, is_general, has_left_user}
 use Rattle.ds_refinement.specs.Stands.{IsSound, RunningBy, OnProcessor, AreResting}
@@ -89,8 +90,8 @@ boundary_serves k n x y turn owed s = record {
 }
 
 -- who has the address space, and how far the clock was brought, a service doesn't see
-pub unseen : (f : State → State) (a k : Kept) (x y : List ℕ) (owner ticked : ℕ) → Serves f (record a { ticked = ticked }) x k y → Serves f a x (record k { owner = owner }) y
-unseen f a k x y owner ticked s = record { lines = s.lines; state = s.state; bare = s.bare; text = s.text; count = s.count }
+pub unseen : (f : State → State) (a k : Kept) (x y : List ℕ) (v : Spaces) (ticked : ℕ) → Serves f (record a { ticked = ticked }) x k y → Serves f a x (record k { spaces = v }) y
+unseen f a k x y v ticked s = record { lines = s.lines; state = s.state; bare = s.bare; text = s.text; count = s.count }
 
 -- what comes in counts by the queues that it leaves
 pub ruled_alike : (now : ℕ) (cs ds : List Character) (passed : Bool) (runner : Option ℕ) (m : State) → ((queues : List (List ℕ)) → all_queued queues cs ≡ all_queued queues ds) → ruled now cs passed runner m ≡ ruled now ds passed runner m

@@ -1,5 +1,5 @@
 -- A service ends the unit.
-use Rattle.std.proofs.Common.{◌≡◌, ℕ, ◌+◌, ◌/◌, ◌%◌, ◌^◌, ◌<◌, ◌≤◌, ◌==◌, Bool, true, false, cond, List, [], length, Option, Some, None, refl, sym, ap, ap₂, subst, ◌∙◌, arith}
+use Rattle.std.proofs.Common.{◌≡◌, ℕ, ◌+◌, ◌/◌, ◌%◌, ◌^◌, ◌<◌, ◌≤◌, true, false, List, [], length, Option, Some, None, refl, sym, ap, ap₂, subst, ◌∙◌, arith}
 use Rattle.ds_tlb.specs.declared.entry.Entry.{Entry}
 use Rattle.ds_mem.specs.Memory.{frame_of}
 use Rattle.ds_cp0.specs.System.{System}
@@ -7,13 +7,13 @@ use Rattle.ds_refill.specs.Handler.{HasWords}
 use Rattle.ds_dev.specs.Serial.{SerialState}
 use Rattle.ds_dev.specs.Clock.{ClockState}
 use Rattle.ds_dev.specs.Bus.{BusState}
-use Rattle.ds_grants.specs.Buffer.{one_space}
+use Rattle.ds_asid.specs.Spaces.{Spaces}
 use Rattle.ds_grants.specs.Represented.{IsRepresented, Keeps}
 use Rattle.ds_grants.specs.Sound.{NamesPages}
 use Rattle.ds_pagemap.specs.declared.turn.Turn.{Turn}
 use Rattle.ds_pagemap.specs.Boundary.{has_passed}
 use Rattle.ds_pagemap.specs.Machine.{State}
-use Rattle.ds_refinement.specs.Held.{Held, Kept, Own, space_of, began_or, last_boundary}
+use Rattle.ds_refinement.specs.Held.{Held, Kept, Own, began_or, last_boundary}
 use Rattle.ds_pagemap.specs.Unit.{Stop}
 use Rattle.ds_refinement.specs.Told.{own_in}
 use Rattle.ds_refinement.specs.Units.{ends_in_stop, ends_in_call}
@@ -36,18 +36,17 @@ use Rattle.ds_core.specs.Core.{CoreState}
 use Rattle.ds_refinement.specs.Counts.{HasNone, HasRanges, counts_of}
 use Rattle.ds_refinement.proofs.Tallied.{ranges_of}
 use Rattle.ds_kernel.specs.Ended.{HasEnded}
-use Rattle.ds_refinement.proofs.Spaces.{space_apart, space_known}
 use Rattle.ds_refinement.proofs.NoNewPairs.{same_pairs, joined_pairs}
 use Rattle.ds_refinement.proofs.Vectors.{vectors_first}
 use Rattle.ds_kernel.proofs.Keeping.{lawful_elsewhere}
 
--- whoever has the address space, the service is the same
-owner_unseen : (f : State → State) (a k : Kept) (x y : List ℕ) (owner : ℕ) → Serves f a x k y → Serves f a x (record k { owner = owner }) y
-owner_unseen f a k x y owner s = record { lines = s.lines; state = s.state; bare = s.bare; text = s.text; count = s.count }
+-- whoever has which address space, the service is the same
+spaces_unseen : (f : State → State) (a k : Kept) (x y : List ℕ) (v : Spaces) → Serves f a x k y → Serves f a x (record k { spaces = v }) y
+spaces_unseen f a k x y v s = record { lines = s.lines; state = s.state; bare = s.bare; text = s.text; count = s.count }
 
 -- and what is kept is orderly
-pub owner_orderly : (k : Kept) (owner : ℕ) → monitor.IsOrderly k → monitor.IsOrderly (record k { owner = owner })
-owner_orderly k owner it = record { lawful = lawful_elsewhere k [] [] [] [] it.lawful; ended = it.ended; commands = it.commands }
+pub spaces_orderly : (k : Kept) (v : Spaces) → monitor.IsOrderly k → monitor.IsOrderly (record k { spaces = v })
+spaces_orderly k v it = record { lawful = lawful_elsewhere k [] [] [] [] it.lawful; ended = it.ended; commands = it.commands }
 
 -- the turn of a process that began at a time
 abbrev turn_of : ℕ → ℕ → Option Turn
@@ -124,13 +123,13 @@ module _ {L : Type 0} (f : State → State) (old new : Parts L) (between : Monit
   -- what comes in leaves
   pub record Comes : Type 0 where
     pub enters : EntersBy new.monitor.ready new.core (kept_of new.monitor)
-    pub represented : IsRepresented entries last between.tables (space_of (kept_of between)) between.grants
-        → IsRepresented new.core.entries new.bus.memory new.monitor.tables (space_of (kept_of new.monitor)) new.monitor.grants
+    pub represented : IsRepresented entries last between.tables between.spaces between.grants
+        → IsRepresented new.core.entries new.bus.memory new.monitor.tables new.monitor.spaces new.monitor.grants
     pub pages : NamesPages between.grants
     pub random : new.core.random ≡ old.core.random
     pub memory : new.bus.memory ≡ last
     pub rests : (k : Kept) → AreResting old.bus k → AreResting new.bus k
-    pub monitor : new.monitor ≡ record between { owner = new.monitor.owner }
+    pub monitor : new.monitor ≡ record between { spaces = new.monitor.spaces }
     pub own : own_of new ≡ with_none_spent (own_of old)
     pub whole : IsWhole new.core
     pub context : new.core.system.context ≡ old.core.system.context
@@ -142,8 +141,7 @@ module _ {L : Type 0} (f : State → State) (old new : Parts L) (between : Monit
     pub size : length last ≡ length old.bus.memory
     pub first : frame_of last 0 ≡ frame_of old.bus.memory 0
     pub pairs : HasNoNewPairs old.core.entries entries
-    pub keeps : Keeps one_space old.core.entries old.bus.memory old.monitor.tables old.monitor.grants entries last between.tables between.grants
-    pub owner : between.owner ≡ old.monitor.owner
+    pub keeps : Keeps old.core.entries old.bus.memory old.monitor.tables old.monitor.spaces old.monitor.grants entries last between.tables between.spaces between.grants
     pub rate : between.rate ≡ old.monitor.rate
     pub ticked : between.ticked ≡ old.monitor.ticked
     pub until : between.quiet_until ≡ old.monitor.quiet_until
@@ -154,21 +152,17 @@ module _ {L : Type 0} (f : State → State) (old new : Parts L) (between : Monit
     pub due : between.due ≡ old.monitor.due
     pub room : (n : ℕ) → HasLogRoom (n + 1) old.monitor → HasLogRoom n between
 
-  kept_is : Comes → kept_of new.monitor ≡ record (kept_of between) { owner = new.monitor.owner }
+  kept_is : Comes → kept_of new.monitor ≡ record (kept_of between) { spaces = new.monitor.spaces }
   kept_is b = ap (λ (m : Monitor). kept_of m) b.monitor
-
-  same_space : Served → space_of (kept_of old.monitor) ≡ space_of (kept_of between)
-  same_space a = ap (λ (o : ℕ). λ (q : ℕ). cond (q == o) 1 0) (sym a.owner)
 
   pub has_ended : IsSound (held old) → old.monitor.owed ≡ None → Served → Comes → HasEnded f old new
   has_ended sound unowed a b = record {
     ends = record {
       serves = subst (λ (x : List ℕ). Serves f (seated old.core (kept_of old.monitor)) old.bus.memory (kept_of new.monitor) x) (sym b.memory)
           (subst (λ (k : Kept). Serves f (seated old.core (kept_of old.monitor)) old.bus.memory k last) (sym (kept_is b))
-          (owner_unseen f (seated old.core (kept_of old.monitor)) (kept_of between) old.bus.memory last new.monitor.owner a.serves));
+          (spaces_unseen f (seated old.core (kept_of old.monitor)) (kept_of between) old.bus.memory last new.monitor.spaces a.serves));
       enters = b.enters;
-      represented = b.represented (subst (λ (s : ℕ → ℕ). IsRepresented entries last between.tables s between.grants) (same_space a)
-          (a.keeps (space_of (kept_of old.monitor)) (space_apart (kept_of old.monitor)) (space_known (kept_of old.monitor)) sound.stands.agrees.represented));
+      represented = b.represented (a.keeps sound.stands.agrees.represented);
       vectors = subst HasWords (sym b.memory) (vectors_first old.bus.memory last a.first sound.stands.agrees.vectors);
       base = base_as old.core.system new.core.system b.context sound.stands.agrees.base;
       grants = subst NamesPages (sym (ap (λ (k : Kept). k.grants) (kept_is b))) b.pages;
@@ -190,7 +184,7 @@ module _ {L : Type 0} (f : State → State) (old new : Parts L) (between : Monit
     rate = ap (λ (m : Monitor). m.rate) b.monitor ∙ a.rate;
     until = ap (λ (m : Monitor). m.quiet_until) b.monitor ∙ a.until;
     next = ap (λ (m : Monitor). next_due (kept_of m)) b.monitor ∙ a.next;
-    kept = subst (λ (k : Kept). monitor.IsOrderly k) (sym (kept_is b)) (owner_orderly (kept_of between) new.monitor.owner a.kept);
+    kept = subst (λ (k : Kept). monitor.IsOrderly k) (sym (kept_is b)) (spaces_orderly (kept_of between) new.monitor.spaces a.kept);
     due = ap (λ (m : Monitor). m.due) b.monitor ∙ a.due;
     room = λ n h. subst (HasLogRoom n) (sym b.monitor) (a.room n h);
   }
@@ -199,10 +193,10 @@ module _ {L : Type 0} (f : State → State) (old new : Parts L) (between : Monit
 pub comes_in : {L : Type 0} (f : State → State) (old left new : Parts L) (between : Monitor) (entries : List Entry) (memory : List ℕ) (p : ℕ)
     → left ≡ record old { monitor = record old.monitor { seats = left.monitor.seats } }
     → EntersBy new.monitor.ready new.core (kept_of new.monitor)
-    → (IsRepresented entries memory between.tables (space_of (kept_of between)) between.grants
-    → IsRepresented new.core.entries new.bus.memory new.monitor.tables (space_of (kept_of new.monitor)) new.monitor.grants)
+    → (IsRepresented entries memory between.tables between.spaces between.grants
+    → IsRepresented new.core.entries new.bus.memory new.monitor.tables new.monitor.spaces new.monitor.grants)
     → NamesPages between.grants → new.core.random ≡ left.core.random → new.bus.memory ≡ memory → ((k : Kept) → AreResting left.bus k → AreResting new.bus k)
-    → new.monitor ≡ record between { owner = new.monitor.owner } → own_of new ≡ with_none_spent (own_of left) → IsWhole new.core
+    → new.monitor ≡ record between { spaces = new.monitor.spaces } → own_of new ≡ with_none_spent (own_of left) → IsWhole new.core
     → new.core.system.context ≡ left.core.system.context → HasNoNewPairs entries new.core.entries
     → Comes f old new between entries memory p
 comes_in {L} f old left new between entries memory p leaves enters represented pages random same rests monitor own whole context pairs = record {
@@ -239,9 +233,8 @@ stop_served {L} old left new between p unit pc stop unit_is pc_is above kept lea
       size = refl;
       first = refl;
       pairs = subst (λ (x : Parts L). HasNoNewPairs old.core.entries x.core.entries) (sym leaves) (same_pairs old.core.entries);
-      keeps = λ numbers apart known holds. subst (λ (m : Monitor). IsRepresented left.core.entries old.bus.memory m.tables numbers m.grants) (sym rest)
-          (subst (λ (x : Parts L). IsRepresented x.core.entries old.bus.memory x.monitor.tables numbers x.monitor.grants) (sym leaves) holds);
-      owner = ap (λ (m : Monitor). m.owner) rest ∙ ap (λ (x : Parts L). x.monitor.owner) leaves;
+      keeps = λ holds. subst (λ (m : Monitor). IsRepresented left.core.entries old.bus.memory m.tables m.spaces m.grants) (sym rest)
+          (subst (λ (x : Parts L). IsRepresented x.core.entries old.bus.memory x.monitor.tables x.monitor.spaces x.monitor.grants) (sym leaves) holds);
       rate = ap (λ (m : Monitor). m.rate) rest ∙ ap (λ (x : Parts L). x.monitor.rate) leaves;
       ticked = ap (λ (m : Monitor). m.ticked) rest ∙ ap (λ (x : Parts L). x.monitor.ticked) leaves;
       until = ap (λ (m : Monitor). m.quiet_until) rest ∙ ap (λ (x : Parts L). x.monitor.quiet_until) leaves;
@@ -260,9 +253,9 @@ pub call_served : {L : Type 0} (old left new : Parts L) (between : Monitor) (ent
     → left ≡ record old { monitor = record old.monitor { seats = left.monitor.seats } }
     → monitor.IsOrderly (kept_of between) → between.lines ≤ left.monitor.lines + 1 → ((n : ℕ) → HasLogRoom (n + 1) left.monitor → HasLogRoom n between)
     → Serves (ends_in_call p unit) (kept_of left.monitor) left.bus.memory (kept_of between) memory → length memory ≡ length left.bus.memory → ((f : ℕ) → f < 2 → frame_of memory f ≡ frame_of left.bus.memory f)
-    → Keeps one_space left.core.entries left.bus.memory left.monitor.tables left.monitor.grants entries memory between.tables between.grants
+    → Keeps left.core.entries left.bus.memory left.monitor.tables left.monitor.spaces left.monitor.grants entries memory between.tables between.spaces between.grants
     → HasNoNewPairs left.core.entries entries
-    → between ≡ record left.monitor { grants = between.grants; tables = between.tables; seats = between.seats; ready = between.ready; queues = between.queues; consoles = between.consoles; log = between.log; lines = between.lines; time = between.time; owed = between.owed }
+    → between ≡ record left.monitor { grants = between.grants; tables = between.tables; spaces = between.spaces; seats = between.seats; ready = between.ready; queues = between.queues; consoles = between.consoles; log = between.log; lines = between.lines; time = between.time; owed = between.owed }
     → Served (ends_in_call p old.core.system.epc) old new between entries memory p
 call_served {L} old left new between entries memory p unit unit_is above within kept leaves orderly lines room serves size elsewhere keeps pairs rest =
     let lines_left : left.monitor.lines ≡ old.monitor.lines = ap (λ (x : Parts L). x.monitor.lines) leaves in
@@ -274,8 +267,7 @@ call_served {L} old left new between entries memory p unit unit_is above within 
       size = size ∙ ap (λ (x : List ℕ). length x) held;
       first = elsewhere 0 (omega arith) ∙ ap (λ (x : List ℕ). frame_of x 0) held;
       pairs = subst (λ (x : Parts L). HasNoNewPairs x.core.entries entries) leaves pairs;
-      keeps = subst (λ (x : Parts L). Keeps one_space x.core.entries x.bus.memory x.monitor.tables x.monitor.grants entries memory between.tables between.grants) leaves keeps;
-      owner = ap (λ (m : Monitor). m.owner) rest ∙ ap (λ (x : Parts L). x.monitor.owner) leaves;
+      keeps = subst (λ (x : Parts L). Keeps x.core.entries x.bus.memory x.monitor.tables x.monitor.spaces x.monitor.grants entries memory between.tables between.spaces between.grants) leaves keeps;
       rate = ap (λ (m : Monitor). m.rate) rest ∙ ap (λ (x : Parts L). x.monitor.rate) leaves;
       ticked = ap (λ (m : Monitor). m.ticked) rest ∙ ap (λ (x : Parts L). x.monitor.ticked) leaves;
       until = ap (λ (m : Monitor). m.quiet_until) rest ∙ ap (λ (x : Parts L). x.monitor.quiet_until) leaves;

@@ -7,7 +7,6 @@ use Rattle.ds_dev.specs.Bus.{BusState, asks}
 use Rattle.ds_core.specs.Core.{CoreState}
 use Rattle.ds_policy.specs.declared.command.Character.{Character}
 use Rattle.ds_grants.specs.State.{page_state}
-use Rattle.ds_grants.specs.Buffer.{one_space}
 use Rattle.ds_grants.specs.Represented.{IsRepresented, IsLow, Keeps}
 use Rattle.ds_grants.specs.Sound.{NamesPages}
 use Rattle.ds_pagemap.specs.declared.turn.Turn.{Turn}
@@ -15,7 +14,7 @@ use Rattle.ds_pagemap.specs.Machine.{State}
 use Rattle.ds_pagemap.specs.Boundary.{all_queued, has_passed, boundary}
 use Rattle.ds_pagemap_laws.specs.Due.{come}
 use Rattle.ds_pagemap_laws.proofs.Formed.{formed_with}
-use Rattle.ds_refinement.specs.Held.{Kept, whole, space_of}
+use Rattle.ds_refinement.specs.Held.{Kept, whole}
 use Rattle.ds_refill.specs.Handler.{HasWords}
 use Rattle.ds_refinement.specs.Pairs.{HasNoNewPairs}
 use Rattle.ds_refinement.specs.Stands.{IsSound, AreResting}
@@ -32,10 +31,9 @@ use Rattle.ds_refinement.specs.Handling.{IsWhole}
 use Rattle.ds_kernel.specs.Devices.{IsOfLine, typed, interrupted}
 use Rattle.ds_kernel.specs.Attended.{to_come, bus_at, read_out, runner_of, unowed, ruled, HasAttended}
 use Rattle.ds_kernel.proofs.Attending.{at_boundary, quiet_kept, arrived_kept, seated_between, seat_beside, boundary_serves, unseen, ruled_alike, queued_alike, flag_is, rest_again}
-use Rattle.ds_refinement.proofs.Spaces.{space_apart, space_known}
 use Rattle.ds_refinement.proofs.NoNewPairs.{joined_pairs}
 use Rattle.ds_refinement.proofs.Vectors.{vectors_first}
-use Rattle.ds_kernel.proofs.Finishing.{owner_orderly, memory_rests, base_as, none_counted, ranges_behind}
+use Rattle.ds_kernel.proofs.Finishing.{spaces_orderly, memory_rests, base_as, none_counted, ranges_behind}
 
 -- nothing was received yet, so each that was is of a line
 pub none_received : (silo : List Received) → silo ≡ [] → All IsOfLine silo
@@ -73,7 +71,7 @@ module _ {L : Type 0} (old came served new : Parts L) (ahead : Monitor) (turn : 
     })
     (serves : Serves (ruled came.monitor.time (map typed came.bus.serial.silo) came.bus.clock.flagged (runner_of came.monitor.owed)) (unowed (seated came.core (kept_of came.monitor))) came.bus.memory (kept_of served.monitor) served.bus.memory)
     (orderly : monitor.IsOrderly (kept_of served.monitor)) (count : served.monitor.lines + length served.monitor.due.commands ≤ came.monitor.lines + length came.monitor.due.commands) (reads : served.bus ≡ record (read_out came.bus) { memory = served.bus.memory }) (below : IsLow came.bus.memory served.bus.memory)
-    (keeps : Keeps one_space came.core.entries came.bus.memory came.monitor.tables came.monitor.grants served.core.entries served.bus.memory served.monitor.tables served.monitor.grants)
+    (keeps : Keeps came.core.entries came.bus.memory came.monitor.tables came.monitor.spaces came.monitor.grants served.core.entries served.bus.memory served.monitor.tables served.monitor.spaces served.monitor.grants)
     (adds : HasNoNewPairs came.core.entries served.core.entries) (still : served.core.random ≡ came.core.random)
     (rest : served ≡ record came {
       core = record came.core { entries = served.core.entries };
@@ -81,6 +79,7 @@ module _ {L : Type 0} (old came served new : Parts L) (ahead : Monitor) (turn : 
       monitor = record came.monitor {
         grants = served.monitor.grants;
         tables = served.monitor.tables;
+        spaces = served.monitor.spaces;
         seats = served.monitor.seats;
         ready = served.monitor.ready;
         queues = served.monitor.queues;
@@ -92,12 +91,12 @@ module _ {L : Type 0} (old came served new : Parts L) (ahead : Monitor) (turn : 
     })
     (looks : ahead ≡ record served.monitor { quiet_until = next_due (kept_of served.monitor) })
     (enters : EntersBy new.monitor.ready new.core (kept_of new.monitor))
-    (represented : IsRepresented served.core.entries served.bus.memory ahead.tables (space_of (kept_of ahead)) ahead.grants
-    → IsRepresented new.core.entries new.bus.memory new.monitor.tables (space_of (kept_of new.monitor)) new.monitor.grants)
+    (represented : IsRepresented served.core.entries served.bus.memory ahead.tables ahead.spaces ahead.grants
+    → IsRepresented new.core.entries new.bus.memory new.monitor.tables new.monitor.spaces new.monitor.grants)
     (brings : HasNoNewPairs served.core.entries new.core.entries) (context : new.core.system.context ≡ served.core.system.context)
     (pages : NamesPages ahead.grants) (random : new.core.random ≡ served.core.random)
     (counts : own_of new ≡ with_none_spent (own_of served)) (complete : IsWhole new.core)
-    (ends : new ≡ record (with_counts_of new (record served { monitor = ahead })) { core = new.core; monitor = record ahead { owner = new.monitor.owner } }) where
+    (ends : new ≡ record (with_counts_of new (record served { monitor = ahead })) { core = new.core; monitor = record ahead { spaces = new.monitor.spaces } }) where
   abbrev k : Kept
   k = kept_of old.monitor
 
@@ -162,17 +161,17 @@ module _ {L : Type 0} (old came served new : Parts L) (ahead : Monitor) (turn : 
       serves_as did does (record (quiet_kept k0) { ticked = k.state.time }) (kept_of served.monitor) b.memory served.bus.memory
       (λ log. alike (whole (record (quiet_kept k0) { ticked = k.state.time }) b.memory log)) by_did
 
-  machine : Serves boundary k0 b.memory (record (kept_of served.monitor) { owner = new.monitor.owner }) served.bus.memory
+  machine : Serves boundary k0 b.memory (record (kept_of served.monitor) { spaces = new.monitor.spaces }) served.bus.memory
   machine =
-      boundary_serves k0 (record (kept_of served.monitor) { owner = new.monitor.owner }) b.memory served.bus.memory turn
+      boundary_serves k0 (record (kept_of served.monitor) { spaces = new.monitor.spaces }) b.memory served.bus.memory turn
       (ap (λ (s : State). s.owed) beside ∙ owed)
-      (unseen does (quiet_kept k0) (kept_of served.monitor) b.memory served.bus.memory new.monitor.owner k.state.time by_does)
+      (unseen does (quiet_kept k0) (kept_of served.monitor) b.memory served.bus.memory new.monitor.spaces k.state.time by_does)
 
-  monitor_is : new.monitor ≡ record ahead { owner = new.monitor.owner }
+  monitor_is : new.monitor ≡ record ahead { spaces = new.monitor.spaces }
   monitor_is = ap (λ (p : Parts L). p.monitor) ends
 
-  last : kept_of new.monitor ≡ record (kept_of served.monitor) { owner = new.monitor.owner }
-  last = ap (λ (m : Monitor). kept_of m) monitor_is ∙ ap (λ (m : Monitor). record (kept_of m) { owner = new.monitor.owner }) looks
+  last : kept_of new.monitor ≡ record (kept_of served.monitor) { spaces = new.monitor.spaces }
+  last = ap (λ (m : Monitor). kept_of m) monitor_is ∙ ap (λ (m : Monitor). record (kept_of m) { spaces = new.monitor.spaces }) looks
 
   bus_then : new.bus ≡ served.bus
   bus_then = ap (λ (p : Parts L). p.bus) ends
@@ -194,6 +193,7 @@ module _ {L : Type 0} (old came served new : Parts L) (ahead : Monitor) (turn : 
     ticked = old.monitor.time;
     grants = served.monitor.grants;
     tables = served.monitor.tables;
+    spaces = served.monitor.spaces;
     seats = served.monitor.seats;
     ready = served.monitor.ready;
     queues = served.monitor.queues;
@@ -210,6 +210,7 @@ module _ {L : Type 0} (old came served new : Parts L) (ahead : Monitor) (turn : 
       ∙ ap (λ (p : Parts L). record p.monitor {
         grants = served.monitor.grants;
         tables = served.monitor.tables;
+        spaces = served.monitor.spaces;
         seats = served.monitor.seats;
         ready = served.monitor.ready;
         queues = served.monitor.queues;
@@ -222,18 +223,18 @@ module _ {L : Type 0} (old came served new : Parts L) (ahead : Monitor) (turn : 
   ahead_is : ahead ≡ looked next
   ahead_is = looks ∙ ap (λ (m : Monitor). record m { quiet_until = next }) before_ahead
 
-  all : new.monitor ≡ record (looked next) { owner = new.monitor.owner }
-  all = monitor_is ∙ ap (λ (m : Monitor). record m { owner = new.monitor.owner }) ahead_is
+  all : new.monitor ≡ record (looked next) { spaces = new.monitor.spaces }
+  all = monitor_is ∙ ap (λ (m : Monitor). record m { spaces = new.monitor.spaces }) ahead_is
 
   entries : came.core.entries ≡ old.core.entries
   entries = ap (λ (p : Parts L). p.core.entries) comes ∙ same_entries (asks (bus_at b k)) old.core
 
   -- what is represented before who is first comes in
-  held_between : IsRepresented served.core.entries served.bus.memory served.monitor.tables (space_of k) served.monitor.grants
+  held_between : IsRepresented served.core.entries served.bus.memory served.monitor.tables served.monitor.spaces served.monitor.grants
   held_between =
-      keeps (space_of k) (space_apart k) (space_known k)
-      (subst (λ (es : List Entry). IsRepresented es came.bus.memory came.monitor.tables (space_of k) came.monitor.grants) (sym entries)
-      (subst (λ (p : Parts L). IsRepresented old.core.entries p.bus.memory p.monitor.tables (space_of k) p.monitor.grants) (sym comes) sound.stands.agrees.represented))
+      keeps
+      (subst (λ (es : List Entry). IsRepresented es came.bus.memory came.monitor.tables came.monitor.spaces came.monitor.grants) (sym entries)
+      (subst (λ (p : Parts L). IsRepresented old.core.entries p.bus.memory p.monitor.tables p.monitor.spaces p.monitor.grants) (sym comes) sound.stands.agrees.represented))
 
   random_is : new.core.random ≡ old.core.random
   random_is = random ∙ (still ∙ (ap (λ (p : Parts L). p.core.random) comes ∙ same_random (asks (bus_at b k)) old.core))
@@ -261,7 +262,7 @@ module _ {L : Type 0} (old came served new : Parts L) (ahead : Monitor) (turn : 
   ends_by = record {
     serves = served_is;
     enters = enters;
-    represented = represented (subst (λ (m : Monitor). IsRepresented served.core.entries served.bus.memory m.tables (space_of (kept_of m)) m.grants) (sym ahead_is) held_between);
+    represented = represented (subst (λ (m : Monitor). IsRepresented served.core.entries served.bus.memory m.tables m.spaces m.grants) (sym ahead_is) held_between);
     vectors = vectors_are;
     base = base_as old.core.system new.core.system context_is sound.stands.agrees.base;
     grants = subst NamesPages (sym (ap (λ (m : Monitor). m.grants) monitor_is)) pages;
@@ -290,5 +291,5 @@ module _ {L : Type 0} (old came served new : Parts L) (ahead : Monitor) (turn : 
     ticked = ap (λ (m : Monitor). m.ticked) all;
     rate = ap (λ (m : Monitor). m.rate) all;
     next = ap (λ (m : Monitor). m.quiet_until) all ∙ sym (ap next_due last);
-    kept = subst (λ (x : Kept). monitor.IsOrderly x) (sym last) (owner_orderly (kept_of served.monitor) new.monitor.owner orderly);
+    kept = subst (λ (x : Kept). monitor.IsOrderly x) (sym last) (spaces_orderly (kept_of served.monitor) new.monitor.spaces orderly);
   }

@@ -1,8 +1,7 @@
 -- What single steps of a station do: an instruction, a boundary, an idle turn; and a failure.
-use Rattle.std.proofs.Common.{◌≡◌, ◌≢◌, ℕ, ◌+◌, ◌-◌, ◌*◌, ◌^◌, ◌<◌, ◌≤◌, Bool, true, false, not, [], length, Option, None, refl, sym, ap, ap₂, subst, ◌∙◌, arith}
+use Rattle.std.proofs.Common.{◌≡◌, ◌≢◌, ℕ, ◌+◌, ◌^◌, ◌<◌, ◌≤◌, Bool, true, false, not, [], length, Option, None, refl, sym, ap, ap₂, subst, ◌∙◌, arith}
 use Rattle.std.proofs.lemmas.Bool.Decides.{nat_tests}
 use Rattle.std.specs.Prelude.{IsSome, is_some, ◌&&◌, ◌==◌}
-use Rattle.ds_word.specs.Word.{truth}
 use Rattle.ds_cp0.specs.System.{is_user}
 use Rattle.ds_core.specs.declared.event.Event.{Event}
 use Rattle.ds_core.specs.declared.event.Event.TheVariants.{Retired, Branched, Raised}
@@ -13,7 +12,6 @@ use Rattle.ds_core.specs.Ahead.{is_raised}
 use Rattle.ds_core.proofs.Users.{keeps_system}
 use Rattle.ds_dev.specs.Bus.{BusState}
 use Rattle.ds_pagemap.specs.declared.turn.Turn.{Turn}
-use Rattle.ds_pagemap.specs.Machine.{State}
 use Rattle.ds_pagemap.specs.Run.{is_over}
 use Rattle.ds_refinement.specs.declared.step.Step.{Step}
 use Rattle.ds_refinement.specs.declared.step.Step.TheVariants.{Inside, Over}
@@ -23,7 +21,7 @@ use Rattle.ds_refinement.specs.Stands.{IsSound}
 use Rattle.ds_refill.specs.Handler.{address_of}
 use Rattle.ds_refinement.specs.Handling.{IsWhole, touches}
 use Rattle.ds_refinement.specs.Services.{after_event, after_word, step_of, with_failure, with_one_spent}
-use Rattle.ds_refinement.specs.Steps.{Follows, Moves, ticks_of}
+use Rattle.ds_refinement.specs.Steps.{Follows, ticks_of}
 use Rattle.ds_refinement.specs.Units.{is_general, is_served}
 use Rattle.ds_refinement.proofs.Boundaries.{rests}
 use Rattle.ds_refinement.proofs.Joined.{instruction_real, word_real}

@@ -1,5 +1,5 @@
 -- A process that comes on the processor.
-use Rattle.std.specs.Prelude.{◌≡◌, ℕ, ◌+◌, ◌^◌, false, slice_index, slice_set}
+use Rattle.std.specs.Prelude.{◌≡◌, ℕ, ◌+◌, ◌*◌, ◌^◌, false, slice_index, slice_set}
 use Rattle.ds_word.specs.Word.{word}
 use Rattle.ds_isa.specs.Registers.{Registers, settled}
 use Rattle.ds_core.specs.Core.{CoreState}
@@ -13,7 +13,7 @@ begun_at c pc = record c {
   pc = pc;
   next = word (pc + 4);
   slot = false;
-  system = record c.system { status = user_status; entry_hi = 2 ^ 6 };
+  system = record c.system { status = user_status };
 }
 
 -- the process that runs after its call, with an answer in register 2
@@ -23,7 +23,11 @@ behind_call c answer q = record q {
   pc = word (c.system.epc + 4);
 }
 
--- the processor with a process, touched, at the beginning of its unit in the one address space
+-- the processor in an address space: EntryHi is of its page 0
+abbrev pub in_space : CoreState → ℕ → CoreState
+in_space c number = record c { system = record c.system { entry_hi = number * 2 ^ 6 } }
+
+-- the processor with a process, touched, at the beginning of its unit in the address space where it is
 abbrev pub on_processor : CoreState → Process → CoreState
 on_processor c q = begun_at (record c { registers = q.registers }) q.pc
 

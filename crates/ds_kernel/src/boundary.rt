@@ -1,6 +1,5 @@
 //! The boundary after a turn: it has nothing to do, or it is served.
 ghost use Rattle.std.specs.Prelude.{◌≡◌, ◌+◌, ◌<◌, ◌≤◌, ◌^◌, length, map, All, IsSome};
-ghost use Rattle.ds_grants.specs.Buffer.{one_space};
 ghost use Rattle.ds_grants.specs.Represented.{IsLow, Keeps};
 ghost use Rattle.ds_refinement.specs.Pairs.{HasNoNewPairs};
 ghost use Rattle.ds_refinement.specs.Services.{Serves, seated};
@@ -84,11 +83,11 @@ impl<L: Lookaside> Parts<L> {
         ensures orderly { monitor.IsOrderly (kept_of self.new.monitor) }
         ensures count { self.new.monitor.lines + length self.new.monitor.due.commands
             ≤ self.old.monitor.lines + length self.old.monitor.due.commands }
-        ensures keeps { Keeps one_space
+        ensures keeps { Keeps
             self.old.core.entries self.old.bus.memory self.old.monitor.tables
-            self.old.monitor.grants
+            self.old.monitor.spaces self.old.monitor.grants
             self.new.core.entries self.new.bus.memory self.new.monitor.tables
-            self.new.monitor.grants }
+            self.new.monitor.spaces self.new.monitor.grants }
         ensures pairs { HasNoNewPairs self.old.core.entries self.new.core.entries }
         ensures random { self.new.core.random ≡ self.old.core.random }
         ensures rest { self.new ≡ record self.old {
@@ -97,6 +96,7 @@ impl<L: Lookaside> Parts<L> {
           monitor = record self.old.monitor {
             grants = self.new.monitor.grants;
             tables = self.new.monitor.tables;
+            spaces = self.new.monitor.spaces;
             seats = self.new.monitor.seats;
             ready = self.new.monitor.ready;
             log = self.new.monitor.log;
@@ -129,11 +129,11 @@ impl<L: Lookaside> Parts<L> {
         ensures bus { self.new.bus
             ≡ record (read_out self.old.bus) { memory = self.new.bus.memory } }
         ensures low { IsLow self.old.bus.memory self.new.bus.memory }
-        ensures keeps { Keeps one_space
+        ensures keeps { Keeps
             self.old.core.entries self.old.bus.memory self.old.monitor.tables
-            self.old.monitor.grants
+            self.old.monitor.spaces self.old.monitor.grants
             self.new.core.entries self.new.bus.memory self.new.monitor.tables
-            self.new.monitor.grants }
+            self.new.monitor.spaces self.new.monitor.grants }
         ensures pairs { HasNoNewPairs self.old.core.entries self.new.core.entries }
         ensures random { self.new.core.random ≡ self.old.core.random }
         ensures rest { self.new ≡ record self.old {
@@ -142,6 +142,7 @@ impl<L: Lookaside> Parts<L> {
           monitor = record self.old.monitor {
             grants = self.new.monitor.grants;
             tables = self.new.monitor.tables;
+            spaces = self.new.monitor.spaces;
             seats = self.new.monitor.seats;
             ready = self.new.monitor.ready;
             queues = self.new.monitor.queues;

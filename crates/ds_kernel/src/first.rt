@@ -10,7 +10,7 @@ ghost use Rattle.ds_kernel.specs.Parts.{held};
 ghost use Rattle.ds_kernel.specs.Good.{IsGood};
 
 use crate::parts::Parts;
-use crate::seats::{ONE_SPACE, USER_STATUS};
+use crate::seats::{USER_STATUS, entry_hi_of};
 use ds_asm::Image;
 use ds_core::Core;
 use ds_cp0::{Cp0, register};
@@ -48,13 +48,16 @@ const SYSTEM: u32 = 0x1ff0_0000;
 /// What the serial lines ask for reaches the processor.
 const SYSTEM_ON: u32 = 0x0080_0000;
 
-/// The coprocessor at the beginning of a run: a user runs in address space 1.
+/// The address space of process 1, which runs first.
+const FIRST_SPACE: u8 = 1;
+
+/// The coprocessor at the beginning of a run: a user runs in the first address space.
 fn first_system() -> Cp0
     ensures { result ≡ first_system }
 {
     let mut cp0 = Cp0::new();
     cp0.write(register::STATUS, USER_STATUS);
-    cp0.write(register::ENTRY_HI, ONE_SPACE);
+    cp0.write(register::ENTRY_HI, entry_hi_of(FIRST_SPACE));
     cp0.write(register::CONTEXT, PAGE_TABLES);
     cp0
 }

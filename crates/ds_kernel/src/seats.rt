@@ -1,28 +1,33 @@
 //! How a process leaves the processor for its seat, and how the next one comes on the processor.
-ghost use Rattle.std.specs.Prelude.{◌≡◌, ℕ, ◌+◌, ◌<◌, ◌≤◌, length, slice_index, Some, All};
+ghost use Rattle.std.specs.Prelude.{◌≡◌, ℕ, ◌+◌, ◌*◌, ◌^◌, ◌<◌, ◌≤◌, length, slice_index, Some, All};
 ghost use Rattle.ds_pagemap.specs.Machine.{State, Process, process_of, first};
 ghost use Rattle.ds_pagemap_laws.specs.Lawful.{AreRegisters, IsReady};
 ghost use Rattle.ds_grants.specs.Represented.{IsRepresented};
-ghost use Rattle.ds_refinement.specs.Held.{space_of};
+ghost use Rattle.ds_asid.specs.Spaces.{number_of};
 ghost use Rattle.ds_refinement.specs.Handling.{IsWhole};
 ghost use Rattle.ds_refinement.specs.Pairs.{HasNoNewPairs};
 ghost use Rattle.ds_refinement.specs.Services.{resume_address, seated, EntersBy, with_none_spent};
 ghost use Rattle.ds_kernel.specs.Parts.{own_of, with_counts_of};
 ghost use Rattle.ds_monitor.specs.Kept.{kept_of};
 ghost use Rattle.ds_monitor.specs.Orderly as monitor;
-ghost use Rattle.ds_kernel.specs.Seats.{begun_at, behind_call, on_processor, AreAnswered};
+ghost use Rattle.ds_kernel.specs.Seats.{begun_at, behind_call, in_space, on_processor, AreAnswered};
 
 use crate::parts::Parts;
 use ds_cp0::register;
-use ds_grants::flush;
 use ds_tlb::Lookaside;
 use ds_word::wrapping_sum;
 
 /// Status while a user runs: user mode and interrupts on, and of these the clock's and the lines'.
 pub(crate) const USER_STATUS: u32 = 0xc03;
 
-/// EntryHi of page 0 in the one address space.
-pub(crate) const ONE_SPACE: u32 = 0x40;
+/// EntryHi of page 0 in an address space.
+#[inline(always)]
+pub(crate) fn entry_hi_of(number: u8) -> u32
+    requires { number < 64 }
+    ensures { result ≡ number * 2 ^ 6 }
+{
+    u32::from(number) << 6
+}
 
 /// There are 32 registers.
 fn look_at_size(registers: &[u32; 32])
@@ -90,24 +95,27 @@ impl<L: Lookaside> Parts<L> {
         );
     }
 
-    /// The process has the one address space. What the buffer had for another is gone.
+    /// The number of the process's address space: the one that it has, or else the next. Where all
+    /// are used up, every process loses its own first, and the buffer is flushed.
     #[inline(always)]
-    fn claim_space(&mut self, process: u32)
-        ensures owner { self.new.monitor ≡ record self.old.monitor { owner = process } }
+    fn claim_space(&mut self, process: u32) -> u8
+        requires few { process ≤ 100 }
+        ensures number { result ≡ number_of self.new.monitor.spaces process }
+        ensures range { (0 < result) × (result < 64) }
         ensures represented { IsRepresented self.old.core.entries self.old.bus.memory
-            self.old.monitor.tables (space_of (kept_of self.old.monitor)) self.old.monitor.grants
+            self.old.monitor.tables self.old.monitor.spaces self.old.monitor.grants
             → IsRepresented self.new.core.entries self.new.bus.memory
-            self.new.monitor.tables (space_of (kept_of self.new.monitor))
+            self.new.monitor.tables self.new.monitor.spaces
             self.new.monitor.grants }
         ensures pairs { HasNoNewPairs self.old.core.entries self.new.core.entries }
         ensures rest { self.new ≡ record self.old {
           core = record self.old.core { entries = self.new.core.entries };
-          monitor = self.new.monitor;
+          monitor = record self.old.monitor { spaces = self.new.monitor.spaces };
         } }
     {
-        if self.monitor.owner != process {
-            flush(&mut self.core.tlb);
-            self.monitor.owner = process;
+        match self.monitor.spaces.of(process) {
+            Some(number) => number,
+            None => self.monitor.spaces.take(process, &mut self.core.tlb),
         }
     }
 
@@ -152,7 +160,6 @@ impl<L: Lookaside> Parts<L> {
         self.core.next = wrapping_sum(pc, 4);
         self.core.slot = false;
         self.core.cp0.write(register::STATUS, USER_STATUS);
-        self.core.cp0.write(register::ENTRY_HI, ONE_SPACE);
     }
 
     /// The process that runs goes on after its call, with an answer: it stays on the processor, and
@@ -173,9 +180,10 @@ impl<L: Lookaside> Parts<L> {
         self.count(1, 0);
     }
 
-    /// The process comes on the processor, touched, at the beginning of its unit.
+    /// The process comes on the processor in its address space, touched, at the beginning of its unit.
     #[inline(always)]
-    fn put_on(&mut self, process: u32, caller: Option<u32>)
+    fn put_on(&mut self, process: u32, number: u8, caller: Option<u32>)
+        requires number { number < 64 }
         requires above { 0 < process }
         requires within { process ≤ length self.old.monitor.seats.items }
         requires nought { slice_index
@@ -183,11 +191,12 @@ impl<L: Lookaside> Parts<L> {
         requires answered { caller ≡ Some process → AreAnswered self.old.core.registers
             (process_of (kept_of self.old.monitor).state process).registers }
         ensures { self.new ≡ record self.old {
-          core = on_processor self.old.core
+          core = on_processor (in_space self.old.core number)
               (process_of (kept_of self.old.monitor).state process);
         } }
     {
         let pc = self.monitor.seats[process as usize - 1].pc();
+        self.core.cp0.write(register::ENTRY_HI, entry_hi_of(number));
         self.take_registers(process, caller);
         self.begin_at(pc);
     }
@@ -197,28 +206,29 @@ impl<L: Lookaside> Parts<L> {
     #[inline(always)]
     pub fn enter(&mut self, caller: Option<u32>)
         requires ready { All (IsReady (kept_of self.old.monitor).state) self.old.monitor.ready }
+        requires few { length self.old.monitor.seats.items ≤ 100 }
         requires registers { (p : ℕ)
             → AreRegisters (process_of (kept_of self.old.monitor).state p).registers }
         requires answered { (p : ℕ) → caller ≡ Some p → AreAnswered self.old.core.registers
             (process_of (kept_of self.old.monitor).state p).registers }
         ensures enters { EntersBy self.new.monitor.ready self.new.core (kept_of self.new.monitor) }
         ensures represented { IsRepresented self.old.core.entries self.old.bus.memory
-            self.old.monitor.tables (space_of (kept_of self.old.monitor)) self.old.monitor.grants
+            self.old.monitor.tables self.old.monitor.spaces self.old.monitor.grants
             → IsRepresented self.new.core.entries self.new.bus.memory
-            self.new.monitor.tables (space_of (kept_of self.new.monitor))
+            self.new.monitor.tables self.new.monitor.spaces
             self.new.monitor.grants }
         ensures pairs { HasNoNewPairs self.old.core.entries self.new.core.entries }
         ensures context { self.new.core.system.context ≡ self.old.core.system.context }
         ensures random { self.new.core.random ≡ self.old.core.random }
         ensures rest { self.new ≡ record self.old {
           core = self.new.core;
-          monitor = record self.old.monitor { owner = self.new.monitor.owner };
+          monitor = record self.old.monitor { spaces = self.new.monitor.spaces };
         } }
     {
         match self.monitor.first_ready() {
             Some(process) => {
-                self.claim_space(process);
-                self.put_on(process, caller);
+                let number = self.claim_space(process);
+                self.put_on(process, number, caller);
             }
             None => self.core.cp0.write(register::STATUS, USER_STATUS),
         }

@@ -5,12 +5,11 @@ ghost use Rattle.ds_log.specs.Length.{IsShortRule};
 ghost use Rattle.ds_mem.specs.Memory.{frame_of};
 ghost use Rattle.ds_cp0.specs.System.{is_user};
 ghost use Rattle.ds_procs.specs.Calls.{call_of};
-ghost use Rattle.ds_grants.specs.Buffer.{one_space};
 ghost use Rattle.ds_grants.specs.Represented.{IsRepresented, Keeps};
 ghost use Rattle.ds_grants.specs.Sound.{NamesPages};
 ghost use Rattle.ds_pagemap.specs.Machine.{State, process_of, first};
 ghost use Rattle.ds_pagemap_laws.specs.Lawful.{IsLawful};
-ghost use Rattle.ds_refinement.specs.Held.{whole, space_of};
+ghost use Rattle.ds_refinement.specs.Held.{whole};
 ghost use Rattle.ds_refinement.specs.Pairs.{HasNoNewPairs};
 ghost use Rattle.ds_refinement.specs.Units.{ends_in_stop, ends_in_call};
 ghost use Rattle.ds_refinement.specs.Handling.{IsWhole};
@@ -84,9 +83,9 @@ impl<L: Lookaside> Parts<L> {
             (process_of (kept_of self.old.monitor).state p).registers }
         ensures enters { EntersBy self.new.monitor.ready self.new.core (kept_of self.new.monitor) }
         ensures represented { IsRepresented self.old.core.entries self.old.bus.memory
-            self.old.monitor.tables (space_of (kept_of self.old.monitor)) self.old.monitor.grants
+            self.old.monitor.tables self.old.monitor.spaces self.old.monitor.grants
             → IsRepresented self.new.core.entries self.new.bus.memory
-            self.new.monitor.tables (space_of (kept_of self.new.monitor))
+            self.new.monitor.tables self.new.monitor.spaces
             self.new.monitor.grants }
         ensures pairs { HasNoNewPairs self.old.core.entries self.new.core.entries }
         ensures context { self.new.core.system.context ≡ self.old.core.system.context }
@@ -96,7 +95,7 @@ impl<L: Lookaside> Parts<L> {
         ensures whole { IsWhole self.new.core }
         ensures rest { self.new ≡ record (with_counts_of self.new self.old) {
           core = self.new.core;
-          monitor = record self.old.monitor { owner = self.new.monitor.owner };
+          monitor = record self.old.monitor { spaces = self.new.monitor.spaces };
         } }
     {
         let _table = self.monitor.grants.table();
@@ -157,11 +156,11 @@ impl<L: Lookaside> Parts<L> {
         ensures lines { self.new.monitor.lines ≤ self.old.monitor.lines + 1 }
         ensures log { (n : ℕ) → HasLogRoom (n + 1) self.old.monitor
             → HasLogRoom n self.new.monitor }
-        ensures keeps { Keeps one_space
+        ensures keeps { Keeps
             self.old.core.entries self.old.bus.memory self.old.monitor.tables
-            self.old.monitor.grants
+            self.old.monitor.spaces self.old.monitor.grants
             self.new.core.entries self.new.bus.memory self.new.monitor.tables
-            self.new.monitor.grants }
+            self.new.monitor.spaces self.new.monitor.grants }
         ensures pairs { HasNoNewPairs self.old.core.entries self.new.core.entries }
         ensures random { self.new.core.random ≡ self.old.core.random }
         ensures rest { self.new ≡ record self.old {
@@ -170,6 +169,7 @@ impl<L: Lookaside> Parts<L> {
           monitor = record self.old.monitor {
             grants = self.new.monitor.grants;
             tables = self.new.monitor.tables;
+            spaces = self.new.monitor.spaces;
             seats = self.new.monitor.seats;
             ready = self.new.monitor.ready;
             queues = self.new.monitor.queues;

@@ -14,6 +14,7 @@ use Rattle.ds_procs.specs.Queue.{without}
 use Rattle.ds_grants.specs.State.{GrantsState, pages_in}
 use Rattle.ds_grants.specs.First.{first_grants}
 use Rattle.ds_tables.specs.Places.{Places}
+use Rattle.ds_asid.specs.Spaces.{Spaces, at_start, taken}
 use Rattle.ds_pagemap.specs.First.{numbers, first_pages, first_process, first_state}
 use Rattle.ds_pagemap.specs.Machine.{Process, has_ended}
 use Rattle.ds_pagemap_laws.specs.Settled.{settled_process}
@@ -56,8 +57,8 @@ none_has_ended [] = refl
 none_has_ended (p ∷ ps) = ap (λ (bs : List Bool). false ∷ bs) (none_has_ended ps)
 
 -- what a monitor keeps at time 0
-abbrev pub beginning : List Process → List ℕ → List (List ℕ) → List (List ℕ) → List ℕ → ℕ → List TimedCommand → List Character → GrantsState → Places → Kept
-beginning processes ready queues consoles log rate commands characters grants tables = record {
+abbrev pub beginning : List Process → List ℕ → List (List ℕ) → List (List ℕ) → List ℕ → ℕ → List TimedCommand → List Character → GrantsState → Places → Spaces → Kept
+beginning processes ready queues consoles log rate commands characters grants tables spaces = record {
   state = record {
     memory = no_memory;
     rate = rate;
@@ -75,17 +76,17 @@ beginning processes ready queues consoles log rate commands characters grants ta
   tables = tables;
   log = log;
   lines = 0;
-  owner = 1;
+  spaces = spaces;
   ticked = 0;
 }
 
-pub begins : (policy : PolicyValue) (images : List (List ℕ)) (input : InputValue) (processes : List Process) (ready : List ℕ) (queues consoles : List (List ℕ)) (log : List ℕ) (rate : ℕ) (commands : List TimedCommand) (characters : List Character) (grants : GrantsState) (tables : Places)
+pub begins : (policy : PolicyValue) (images : List (List ℕ)) (input : InputValue) (processes : List Process) (ready : List ℕ) (queues consoles : List (List ℕ)) (log : List ℕ) (rate : ℕ) (commands : List TimedCommand) (characters : List Character) (grants : GrantsState) (tables : Places) (spaces : Spaces)
     → processes ≡ map first_process policy.processes → ready ≡ numbers (length policy.processes) 1 → queues ≡ replicate 4 [] → consoles ≡ [] ∷ [] ∷ [] ∷ [] ∷ []
-    → log ≡ [] → rate ≡ policy.rate → commands ≡ input.commands → characters ≡ input.characters → grants ≡ first_grants policy → beginning processes ready queues consoles log rate commands characters grants tables ≡ first_kept policy images input tables
-begins policy images input processes ready queues consoles log rate commands characters grants tables a b c d e f i h g =
-    let seats : Kept = beginning (map first_process policy.processes) (numbers (length policy.processes) 1) (replicate 4 []) (replicate 4 []) [] policy.rate input.commands input.characters (first_grants policy) tables in
-    let all : beginning processes ready queues consoles log rate commands characters grants tables ≡ seats = rw (a, b, c, d, e, f, i, h, g) refl in
-    all ∙ ap (λ (ps : List Process). beginning ps (numbers (length policy.processes) 1) (replicate 4 []) (replicate 4 []) [] policy.rate input.commands input.characters (first_grants policy) tables) (sym (settled_first policy.processes))
+    → log ≡ [] → rate ≡ policy.rate → commands ≡ input.commands → characters ≡ input.characters → grants ≡ first_grants policy → spaces ≡ taken at_start 1 → beginning processes ready queues consoles log rate commands characters grants tables spaces ≡ first_kept policy images input tables
+begins policy images input processes ready queues consoles log rate commands characters grants tables spaces a b c d e f i h g j =
+    let seats : Kept = beginning (map first_process policy.processes) (numbers (length policy.processes) 1) (replicate 4 []) (replicate 4 []) [] policy.rate input.commands input.characters (first_grants policy) tables (taken at_start 1) in
+    let all : beginning processes ready queues consoles log rate commands characters grants tables spaces ≡ seats = rw (a, b, c, d, e, f, i, h, g, j) refl in
+    all ∙ ap (λ (ps : List Process). beginning ps (numbers (length policy.processes) 1) (replicate 4 []) (replicate 4 []) [] policy.rate input.commands input.characters (first_grants policy) tables (taken at_start 1)) (sym (settled_first policy.processes))
 
 -- nobody is on the processor, and all is kept of the first state
 pub first_is_kept : (policy : PolicyValue) (images : List (List ℕ)) (input : InputValue) (tables : Places) (memory : List ℕ) → pages_in (first_grants policy) memory ≡ first_pages policy images → IsKept (first_kept policy images input tables) memory (first_state policy images input)

@@ -16,6 +16,7 @@ use Rattle.ds_log.specs.Text.{line_text}
 use Rattle.ds_grants.specs.declared.fault.GrantFault.{GrantFault}
 use Rattle.ds_grants.specs.State.{GrantsState, Does, page_state, number_of}
 use Rattle.ds_tables.specs.Places.{Places}
+use Rattle.ds_asid.specs.Spaces.{Spaces}
 use Rattle.ds_pagemap.specs.Machine.{State, process_of, lives, is_parked, made_ready}
 use Rattle.ds_pagemap.specs.Calls.{ended, refuse_command, or_logged, after_command}
 use Rattle.ds_pagemap.specs.Boundary.{after_commands}
@@ -31,18 +32,18 @@ use Rattle.ds_monitor.proofs.Serving.{serves_then}
 -- One command.
 
 -- a change of what is granted is what the command does, or it is refused as the command is
-pub grants_obey : {R : Type 0} (Z : Type 0) (n : ℕ) (c : Command) (k : Kept) (g : GrantsState) (t : Places) (x y : List ℕ) (r : Result R GrantFault) (meant : Result PageState ℕ)
+pub grants_obey : {R : Type 0} (Z : Type 0) (n : ℕ) (c : Command) (k : Kept) (g : GrantsState) (t : Places) (s : Spaces) (x y : List ℕ) (r : Result R GrantFault) (meant : Result PageState ℕ)
     → ((log : List Line) → after_command (whole k x log) n c ≡ or_logged (whole k x log) n meant) → IsBare k.state
-    → Does (page_state k.grants x) (page_state g y) r meant → OnErr r ((g ≡ k.grants) × (y ≡ x) × (t ≡ k.tables) × Z) → Obeys n c k x (record k { grants = g; tables = t }) y r
-grants_obey Z n c k g t x y (Ok done) meant is b does kept = record {
+    → Does (page_state k.grants x) (page_state g y) r meant → OnErr r ((g ≡ k.grants) × (y ≡ x) × (t ≡ k.tables) × Z) → s ≡ k.spaces → Obeys n c k x (record k { grants = g; tables = t; spaces = s }) y r
+grants_obey Z n c k g t s x y (Ok done) meant is b does kept same = record {
   lines = [];
-  state = λ log. is log ∙ (ap (or_logged (whole k x log) n) does ∙ ap (λ (l : List Line). whole (record k { grants = g; tables = t }) y l) (sym (append-nil log)));
+  state = λ log. is log ∙ (ap (or_logged (whole k x log) n) does ∙ ap (λ (l : List Line). whole (record k { grants = g; tables = t; spaces = s }) y l) (sym (append-nil log)));
   bare = b;
   text = sym (append-nil k.log);
   count = omega arith;
 }
-grants_obey Z n c k g t x y (Err fault) meant is b does kept = (
-  ap₂ (λ (h : GrantsState) (u : Places). record k { grants = h; tables = u }) kept.0 kept.2,
+grants_obey Z n c k g t s x y (Err fault) meant is b does kept same = (
+  ap₂ (λ (h : GrantsState) (u : Places). record k { grants = h; tables = u; spaces = s }) kept.0 kept.2 ∙ ap (λ (v : Spaces). record k { spaces = v }) same,
   kept.1,
   λ log. is log ∙ ap (or_logged (whole k x log) n) does.0,
 )

@@ -12,6 +12,7 @@ use Rattle.ds_log.specs.Text.{line_text}
 use Rattle.ds_grants.specs.declared.fault.GrantFault.{GrantFault}
 use Rattle.ds_grants.specs.State.{GrantsState, Does, number_of, lives_in, page_state}
 use Rattle.ds_tables.specs.Places.{Places}
+use Rattle.ds_asid.specs.Spaces.{Spaces}
 use Rattle.ds_pagemap.specs.Machine.{State, lives}
 use Rattle.ds_pagemap.specs.Calls.{with_pages, answered, or_number, rule_of, or_denied}
 use Rattle.ds_refinement.specs.Held.{Kept, whole}
@@ -27,25 +28,25 @@ pub less_room : (n : ℕ) (m : Monitor) → HasLogRoom (n + 1) m → HasLogRoom 
 less_room n m h = omega (arith, h)
 
 -- what is kept with other pages and another table, once a process has its answer
-abbrev pub with_answer : Kept → GrantsState → Places → ℕ → ℕ → Kept
-with_answer k g t p value = kept_after (λ (m : State). answered m p value) (record k { grants = g; tables = t })
+abbrev pub with_answer : Kept → GrantsState → Places → Spaces → ℕ → ℕ → Kept
+with_answer k g t s p value = kept_after (λ (m : State). answered m p value) (record k { grants = g; tables = t; spaces = s })
 
 -- pages and table become others, and the process has its answer
-pub answered_serves : (f : State → State) (k : Kept) (x y : List ℕ) (g : GrantsState) (t : Places) (p value : ℕ) → IsBare k.state
+pub answered_serves : (f : State → State) (k : Kept) (x y : List ℕ) (g : GrantsState) (t : Places) (s : Spaces) (p value : ℕ) → IsBare k.state
     → ((log : List Line) → f (whole k x log) ≡ answered (with_pages (whole k x log) (page_state g y)) p value)
-    → Serves f k x (with_answer k g t p value) y
-answered_serves f k x y g t p value b does = record {
+    → Serves f k x (with_answer k g t s p value) y
+answered_serves f k x y g t s p value b does = record {
   lines = [];
-  state = λ log. does log ∙ ap (λ (l : List Line). whole (with_answer k g t p value) y l) (sym (append-nil log));
+  state = λ log. does log ∙ ap (λ (l : List Line). whole (with_answer k g t s p value) y l) (sym (append-nil log));
   bare = record { memory = b.memory; log = b.log };
   text = sym (append-nil k.log);
   count = omega arith;
 }
 
 -- where pages and table become the same, what serves them serves those before
-pub serves_before : (f : State → State) (k n : Kept) (x y z : List ℕ) (g : GrantsState) (t : Places) → page_state g y ≡ page_state k.grants x
-    → Serves f (record k { grants = g; tables = t }) y n z → Serves f k x n z
-serves_before f k n x y z g t same s = record {
+pub serves_before : (f : State → State) (k n : Kept) (x y z : List ℕ) (g : GrantsState) (t : Places) (v : Spaces) → page_state g y ≡ page_state k.grants x
+    → Serves f (record k { grants = g; tables = t; spaces = v }) y n z → Serves f k x n z
+serves_before f k n x y z g t v same s = record {
   lines = s.lines;
   state = λ log. ap (λ (pages : PageState). f (with_pages (whole k x log) pages)) (sym same) ∙ s.state log;
   bare = s.bare;
@@ -74,12 +75,12 @@ number_is m p value new (Err fault) meant is done refused =
     ∙ ap (answered (with_pages m new) p) (sym refused))
 
 -- a call that is answered 0 or the number of its refusal
-pub number_serves : {R : Type 0} (f : State → Result PageState ℕ) (k : Kept) (x y : List ℕ) (g : GrantsState) (t : Places) (p value : ℕ) (r : Result R GrantFault) (meant : Result PageState ℕ) → IsBare k.state
+pub number_serves : {R : Type 0} (f : State → Result PageState ℕ) (k : Kept) (x y : List ℕ) (g : GrantsState) (t : Places) (s : Spaces) (p value : ℕ) (r : Result R GrantFault) (meant : Result PageState ℕ) → IsBare k.state
     → ((log : List Line) → f (whole k x log) ≡ meant) → Does (page_state k.grants x) (page_state g y) r meant
     → OnOk r (value ≡ 0) → IfErr r (λ fault. value ≡ number_of fault)
-    → Serves (λ (m : State). or_number m p (f m)) k x (with_answer k g t p value) y
-number_serves f k x y g t p value r meant b asks does done refused =
-    answered_serves (λ (m : State). or_number m p (f m)) k x y g t p value b
+    → Serves (λ (m : State). or_number m p (f m)) k x (with_answer k g t s p value) y
+number_serves f k x y g t s p value r meant b asks does done refused =
+    answered_serves (λ (m : State). or_number m p (f m)) k x y g t s p value b
     (λ log. ap (or_number (whole k x log) p) (asks log) ∙ number_is (whole k x log) p value (page_state g y) r meant does done refused)
 
 -- A refused give.

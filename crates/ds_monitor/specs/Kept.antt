@@ -23,9 +23,9 @@ kept_of m = record {
   };
   grants = m.grants;
   tables = m.tables;
+  spaces = m.spaces;
   log = m.log.items;
   lines = m.lines;
-  owner = m.owner;
   ticked = m.ticked;
 }
 

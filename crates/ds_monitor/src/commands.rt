@@ -1,7 +1,6 @@
 //! What an operator's commands do, at a boundary.
 ghost use Rattle.std.specs.Prelude.{◌≡◌, ℕ, ◌+◌, ◌<◌, ◌≤◌, ◌^◌, List, length};
 ghost use Rattle.ds_policy.specs.declared.command.Command.{Command};
-ghost use Rattle.ds_grants.specs.Buffer.{one_space};
 ghost use Rattle.ds_grants.specs.Represented.{IsLow, Keeps};
 ghost use Rattle.ds_grants.specs.State.{IsAsLarge};
 ghost use Rattle.ds_pagemap.specs.Machine.{State, lives};
@@ -74,14 +73,15 @@ impl Monitor {
         ensures marks { marks_of (kept_of self.new).state ≡ self.new.grants.ended }
         ensures same { IsAsLarge self.old.grants self.new.grants }
         ensures memory { memory.new ≡ memory.old }
-        ensures keeps { Keeps one_space
-            (L.entries tlb.old) memory.old self.old.tables self.old.grants
-            (L.entries tlb.new) memory.new self.new.tables self.new.grants }
+        ensures keeps { Keeps
+            (L.entries tlb.old) memory.old self.old.tables self.old.spaces self.old.grants
+            (L.entries tlb.new) memory.new self.new.tables self.new.spaces self.new.grants }
         ensures pairs { HasNoNewPairs (L.entries tlb.old) (L.entries tlb.new) }
         ensures random { L.random_place tlb.new ≡ L.random_place tlb.old }
         ensures rest { self.new ≡ record self.old {
           grants = self.new.grants;
           tables = self.new.tables;
+          spaces = self.new.spaces;
           seats = self.new.seats;
           ready = self.new.ready;
         } }
@@ -111,14 +111,15 @@ impl Monitor {
         ensures marks { marks_of (kept_of self.new).state ≡ self.new.grants.ended }
         ensures same { IsAsLarge self.old.grants self.new.grants }
         ensures low { IsLow memory.old memory.new }
-        ensures keeps { Keeps one_space
-            (L.entries tlb.old) memory.old self.old.tables self.old.grants
-            (L.entries tlb.new) memory.new self.new.tables self.new.grants }
+        ensures keeps { Keeps
+            (L.entries tlb.old) memory.old self.old.tables self.old.spaces self.old.grants
+            (L.entries tlb.new) memory.new self.new.tables self.new.spaces self.new.grants }
         ensures pairs { HasNoNewPairs (L.entries tlb.old) (L.entries tlb.new) }
         ensures random { L.random_place tlb.new ≡ L.random_place tlb.old }
         ensures rest { self.new ≡ record self.old {
           grants = self.new.grants;
           tables = self.new.tables;
+          spaces = self.new.spaces;
           seats = self.new.seats;
           ready = self.new.ready;
         } }
@@ -126,6 +127,7 @@ impl Monitor {
         let rule = COMMAND_RULES + number;
         let grants = &mut self.grants;
         let tables = &mut self.tables;
+        let spaces = &mut self.spaces;
         match command {
             Command::Grant {
                 process,
@@ -135,17 +137,17 @@ impl Monitor {
                 give,
             } => {
                 grants.grant(
-                    process, address, page, right, give, rule, memory, tables, tlb,
+                    process, address, page, right, give, rule, memory, tables, spaces, tlb,
                 )
             }
             Command::Narrow { process, address } => grants.narrow(
-                process, address, memory, tables, tlb,
+                process, address, memory, tables, spaces, tlb,
             ),
             Command::Revoke { process, address } => {
-                grants.revoke(process, address, rule, memory, tables, tlb)
+                grants.revoke(process, address, rule, memory, tables, spaces, tlb)
             }
             Command::Drop { process, address } => {
-                grants.drop_page(process, address, true, memory, tables, tlb)
+                grants.drop_page(process, address, true, memory, tables, spaces, tlb)
             }
             Command::Resume { process } => self.resume(process),
             Command::Stop { process } => self.stop(process, memory, tlb),
@@ -184,14 +186,15 @@ impl Monitor {
         ensures lines { self.new.lines ≤ self.old.lines + 1 }
         ensures room { (n : ℕ) → HasLogRoom (n + 1) self.old → HasLogRoom n self.new }
         ensures low { IsLow memory.old memory.new }
-        ensures keeps { Keeps one_space
-            (L.entries tlb.old) memory.old self.old.tables self.old.grants
-            (L.entries tlb.new) memory.new self.new.tables self.new.grants }
+        ensures keeps { Keeps
+            (L.entries tlb.old) memory.old self.old.tables self.old.spaces self.old.grants
+            (L.entries tlb.new) memory.new self.new.tables self.new.spaces self.new.grants }
         ensures pairs { HasNoNewPairs (L.entries tlb.old) (L.entries tlb.new) }
         ensures random { L.random_place tlb.new ≡ L.random_place tlb.old }
         ensures rest { self.new ≡ record self.old {
           grants = self.new.grants;
           tables = self.new.tables;
+          spaces = self.new.spaces;
           seats = self.new.seats;
           ready = self.new.ready;
           log = self.new.log;
@@ -216,14 +219,15 @@ impl Monitor {
         ensures count { self.new.lines + length self.new.due.commands
             ≤ self.old.lines + length self.old.due.commands }
         ensures low { IsLow memory.old memory.new }
-        ensures keeps { Keeps one_space
-            (L.entries tlb.old) memory.old self.old.tables self.old.grants
-            (L.entries tlb.new) memory.new self.new.tables self.new.grants }
+        ensures keeps { Keeps
+            (L.entries tlb.old) memory.old self.old.tables self.old.spaces self.old.grants
+            (L.entries tlb.new) memory.new self.new.tables self.new.spaces self.new.grants }
         ensures pairs { HasNoNewPairs (L.entries tlb.old) (L.entries tlb.new) }
         ensures random { L.random_place tlb.new ≡ L.random_place tlb.old }
         ensures rest { self.new ≡ record self.old {
           grants = self.new.grants;
           tables = self.new.tables;
+          spaces = self.new.spaces;
           seats = self.new.seats;
           ready = self.new.ready;
           log = self.new.log;

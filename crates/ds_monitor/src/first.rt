@@ -18,6 +18,7 @@ use crate::due::Due;
 use crate::line_queue::LineQueue;
 use crate::monitor::Monitor;
 use crate::seat::Seat;
+use ds_asid::Asids;
 use ds_asm::Image;
 use ds_grants::Grants;
 use ds_mem::{Memory, OutOfMemory};
@@ -71,7 +72,8 @@ fn all_ready(processes: usize) -> Queue
 impl Monitor {
     /// What is kept at the beginning of a run of a policy, whose pages go to their frames of
     /// memory and whose rules to the page tables. There is one image for each source name of the
-    /// policy, in their order. The buffer is emptied. Refused, nothing changes.
+    /// policy, in their order. Process 1 has an address space, and the buffer is empty. Refused,
+    /// nothing changes.
     pub fn new<L: Lookaside>(
         alloc: Global,
         policy: &Policy,
@@ -90,8 +92,7 @@ impl Monitor {
         ensures next { IfOk result (λ m. m.quiet_until ≡ next_due (kept_of m)) }
         ensures few { IfOk result (λ m. length m.due.commands ≤ 4096) }
         ensures represented { IfOk result (λ m. L.SLOTS ≤ 64 → HasEmptyTable memory.old
-            → (numbers : ℕ → ℕ)
-            → IsRepresented (L.entries tlb.new) memory.new m.tables numbers m.grants) }
+            → IsRepresented (L.entries tlb.new) memory.new m.tables m.spaces m.grants) }
         ensures entries { OnOk result (L.entries tlb.new ≡ empty_entries L.SLOTS) }
         ensures random { L.random_place tlb.new ≡ L.random_place tlb.old }
         ensures elsewhere { (f : ℕ) → f < 2 → frame_of memory.new f ≡ frame_of memory.old f }
@@ -101,12 +102,15 @@ impl Monitor {
         let seats = seats_of(alloc, policy.processes())?;
         let queues = empty_queues(alloc)?;
         let mut tables = Tables::new(policy.processes().len());
-        let grants = Grants::new(alloc, policy, images, memory, &mut tables, tlb)?;
+        let mut spaces = Asids::new();
+        let grants = Grants::new(alloc, policy, images, memory, &mut tables, &mut spaces, tlb)?;
+        spaces.take(1, tlb);
         // The commands are of this policy.
         let _orders = events.commands();
         let mut monitor = Monitor {
             grants,
             tables,
+            spaces,
             seats,
             ready: all_ready(policy.processes().len()),
             queues,
@@ -116,7 +120,6 @@ impl Monitor {
             time: 0,
             rate: policy.rate(),
             owed: None,
-            owner: 1,
             ticked: 0,
             due: Due::new(events),
             quiet_until: 0,

@@ -4,7 +4,6 @@ ghost use Rattle.ds_mem.specs.Memory.{frame_of};
 ghost use Rattle.ds_policy.specs.Pages.{entry_at, page_address};
 ghost use Rattle.ds_procs.specs.declared.call.Call.TheVariants as call;
 ghost use Rattle.ds_grants.specs.State.{IsAsLarge, number_of};
-ghost use Rattle.ds_grants.specs.Buffer.{one_space};
 ghost use Rattle.ds_grants.specs.Represented.{IsLow, Keeps};
 ghost use Rattle.ds_pagemap.specs.Machine.{State};
 ghost use Rattle.ds_pagemap.specs.Calls.{rule_of, or_denied, served};
@@ -116,9 +115,9 @@ impl Monitor {
         ensures size { length memory.new ≡ length memory.old }
         ensures elsewhere { (f : ℕ) → f < 2 → frame_of memory.new f ≡ frame_of memory.old f }
         ensures same { IsAsLarge self.old.grants self.new.grants }
-        ensures keeps { Keeps one_space
-            (L.entries tlb.old) memory.old self.old.tables self.old.grants
-            (L.entries tlb.new) memory.new self.new.tables self.new.grants }
+        ensures keeps { Keeps
+            (L.entries tlb.old) memory.old self.old.tables self.old.spaces self.old.grants
+            (L.entries tlb.new) memory.new self.new.tables self.new.spaces self.new.grants }
         ensures pairs { HasNoNewPairs (L.entries tlb.old) (L.entries tlb.new) }
         ensures random { L.random_place tlb.new ≡ L.random_place tlb.old }
         ensures ended { self.new.grants.ended ≡ self.old.grants.ended }
@@ -141,6 +140,7 @@ impl Monitor {
             mode,
             memory,
             &mut self.tables,
+            &mut self.spaces,
             tlb,
         );
         look_at_size(memory);
@@ -167,9 +167,9 @@ impl Monitor {
             (kept_of self.old) memory.old (kept_of self.new) memory.new }
         ensures low { IsLow memory.old memory.new }
         ensures same { IsAsLarge self.old.grants self.new.grants }
-        ensures keeps { Keeps one_space
-            (L.entries tlb.old) memory.old self.old.tables self.old.grants
-            (L.entries tlb.new) memory.new self.new.tables self.new.grants }
+        ensures keeps { Keeps
+            (L.entries tlb.old) memory.old self.old.tables self.old.spaces self.old.grants
+            (L.entries tlb.new) memory.new self.new.tables self.new.spaces self.new.grants }
         ensures pairs { HasNoNewPairs (L.entries tlb.old) (L.entries tlb.new) }
         ensures random { L.random_place tlb.new ≡ L.random_place tlb.old }
         ensures ended { self.new.grants.ended ≡ self.old.grants.ended }
@@ -179,9 +179,15 @@ impl Monitor {
           seats = self.new.seats;
         } }
     {
-        let done = self
-            .grants
-            .take(process, holder, address, memory, &mut self.tables, tlb);
+        let done = self.grants.take(
+            process,
+            holder,
+            address,
+            memory,
+            &mut self.tables,
+            &mut self.spaces,
+            tlb,
+        );
         self.answer(process, answer_of(done));
     }
 
@@ -201,9 +207,9 @@ impl Monitor {
             (kept_of self.old) memory.old (kept_of self.new) memory.new }
         ensures low { IsLow memory.old memory.new }
         ensures same { IsAsLarge self.old.grants self.new.grants }
-        ensures keeps { Keeps one_space
-            (L.entries tlb.old) memory.old self.old.tables self.old.grants
-            (L.entries tlb.new) memory.new self.new.tables self.new.grants }
+        ensures keeps { Keeps
+            (L.entries tlb.old) memory.old self.old.tables self.old.spaces self.old.grants
+            (L.entries tlb.new) memory.new self.new.tables self.new.spaces self.new.grants }
         ensures pairs { HasNoNewPairs (L.entries tlb.old) (L.entries tlb.new) }
         ensures random { L.random_place tlb.new ≡ L.random_place tlb.old }
         ensures ended { self.new.grants.ended ≡ self.old.grants.ended }
@@ -213,9 +219,15 @@ impl Monitor {
           seats = self.new.seats;
         } }
     {
-        let dropped = self
-            .grants
-            .drop_page(process, address, false, memory, &mut self.tables, tlb);
+        let dropped = self.grants.drop_page(
+            process,
+            address,
+            false,
+            memory,
+            &mut self.tables,
+            &mut self.spaces,
+            tlb,
+        );
         self.answer(process, answer_of(dropped));
     }
 }

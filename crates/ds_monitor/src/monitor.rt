@@ -4,6 +4,7 @@ use crate::consoles::Consoles;
 use crate::due::Due;
 use crate::line_queue::LineQueue;
 use crate::seat::Seat;
+use ds_asid::Asids;
 use ds_grants::Grants;
 use ds_pagemap::Turn;
 use ds_procs::Queue;
@@ -17,6 +18,8 @@ pub struct Monitor {
     pub grants: Grants,
     /// Where the page tables stand in memory, which have the words of what is granted.
     pub tables: Tables,
+    /// Which process has which address space, by its number.
+    pub spaces: Asids,
     /// The processes, by their numbers from 1. Of the one that runs only its standing and its line
     /// mean something.
     pub seats: Vec<Seat>,
@@ -34,8 +37,6 @@ pub struct Monitor {
     pub rate: u32,
     /// The turn whose boundary is owed.
     pub owed: Option<Turn>,
-    /// The process that has the one address space.
-    pub owner: u32,
     /// The time to which the clock was brought.
     pub ticked: u64,
     /// The characters that have not come in yet.

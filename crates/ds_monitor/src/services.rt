@@ -4,7 +4,6 @@ ghost use Rattle.ds_mem.specs.Memory.{frame_of};
 ghost use Rattle.ds_procs.specs.Calls.{call_of};
 ghost use Rattle.ds_log.specs.Length.{IsShortRule};
 ghost use Rattle.ds_grants.specs.State.{IsAsLarge};
-ghost use Rattle.ds_grants.specs.Buffer.{one_space};
 ghost use Rattle.ds_grants.specs.Represented.{Keeps};
 ghost use Rattle.ds_pagemap.specs.Machine.{State, process_of};
 ghost use Rattle.ds_pagemap.specs.Calls.{ended, served};
@@ -95,9 +94,9 @@ impl Monitor {
         ensures serves { Serves (λ (m : State). ended m process)
             (kept_of self.old) memory.old (kept_of self.new) memory.new }
         ensures memory { memory.new ≡ memory.old }
-        ensures keeps { Keeps one_space
-            (L.entries tlb.old) memory.old self.old.tables self.old.grants
-            (L.entries tlb.new) memory.new self.new.tables self.new.grants }
+        ensures keeps { Keeps
+            (L.entries tlb.old) memory.old self.old.tables self.old.spaces self.old.grants
+            (L.entries tlb.new) memory.new self.new.tables self.new.spaces self.new.grants }
         ensures pairs { HasNoNewPairs (L.entries tlb.old) (L.entries tlb.new) }
         ensures random { L.random_place tlb.new ≡ L.random_place tlb.old }
         ensures ended { self.new.grants.ended
@@ -106,13 +105,14 @@ impl Monitor {
         ensures rest { self.new ≡ record self.old {
           grants = self.new.grants;
           tables = self.new.tables;
+          spaces = self.new.spaces;
           seats = self.new.seats;
           ready = self.new.ready;
         } }
     {
         self.make_unready(process, Standing::Ended);
         self.grants
-            .end_process(process, memory, &mut self.tables, tlb);
+            .end_process(process, memory, &mut self.tables, &mut self.spaces, tlb);
     }
 
     /// Serves a call of a process that stands after it; it is at `pc`.
@@ -137,9 +137,9 @@ impl Monitor {
         ensures size { length bus.new.memory ≡ length bus.old.memory }
         ensures elsewhere { (f : ℕ) → f < 2
             → frame_of bus.new.memory f ≡ frame_of bus.old.memory f }
-        ensures keeps { Keeps one_space
-            (L.entries tlb.old) bus.old.memory self.old.tables self.old.grants
-            (L.entries tlb.new) bus.new.memory self.new.tables self.new.grants }
+        ensures keeps { Keeps
+            (L.entries tlb.old) bus.old.memory self.old.tables self.old.spaces self.old.grants
+            (L.entries tlb.new) bus.new.memory self.new.tables self.new.spaces self.new.grants }
         ensures pairs { HasNoNewPairs (L.entries tlb.old) (L.entries tlb.new) }
         ensures random { L.random_place tlb.new ≡ L.random_place tlb.old }
         ensures ended { self.new.grants.ended
@@ -150,6 +150,7 @@ impl Monitor {
         ensures rest { self.new ≡ record self.old {
           grants = self.new.grants;
           tables = self.new.tables;
+          spaces = self.new.spaces;
           seats = self.new.seats;
           ready = self.new.ready;
           queues = self.new.queues;
@@ -220,9 +221,9 @@ impl Monitor {
         ensures size { length bus.new.memory ≡ length bus.old.memory }
         ensures elsewhere { (f : ℕ) → f < 2
             → frame_of bus.new.memory f ≡ frame_of bus.old.memory f }
-        ensures keeps { Keeps one_space
-            (L.entries tlb.old) bus.old.memory self.old.tables self.old.grants
-            (L.entries tlb.new) bus.new.memory self.new.tables self.new.grants }
+        ensures keeps { Keeps
+            (L.entries tlb.old) bus.old.memory self.old.tables self.old.spaces self.old.grants
+            (L.entries tlb.new) bus.new.memory self.new.tables self.new.spaces self.new.grants }
         ensures pairs { HasNoNewPairs (L.entries tlb.old) (L.entries tlb.new) }
         ensures same { IsAsLarge self.old.grants self.new.grants }
         ensures random { L.random_place tlb.new ≡ L.random_place tlb.old }
@@ -231,6 +232,7 @@ impl Monitor {
         ensures rest { self.new ≡ record self.old {
           grants = self.new.grants;
           tables = self.new.tables;
+          spaces = self.new.spaces;
           seats = self.new.seats;
           ready = self.new.ready;
           queues = self.new.queues;

@@ -14,7 +14,7 @@ use Rattle.ds_core.specs.Ahead.{Hardware, hardware_of, left_by, after_steps, is_
 use Rattle.ds_core.proofs.Slots.{Slots, step_slots, ticks_of_advance}
 use Rattle.ds_core.proofs.Users.{keeps_system}
 use Rattle.ds_pagemap.specs.declared.turn.Turn.{Turn}
-use Rattle.ds_pagemap.specs.Machine.{State, first}
+use Rattle.ds_pagemap.specs.Machine.{first}
 use Rattle.ds_refinement.specs.declared.step.Step.{Step}
 use Rattle.ds_refinement.specs.declared.step.Step.TheVariants.{Inside, Unit, Boundary}
 use Rattle.ds_refinement.specs.Told.{is_delayed}

@@ -14,7 +14,6 @@ use Rattle.ds_grants.proofs.Fills.{find_written, same_keys, missed_buffer}
 use Rattle.ds_core.specs.Core.{CoreState}
 use Rattle.ds_pagemap.specs.Machine.{State, process_of, touched}
 use Rattle.ds_refinement.specs.Held.{Held, Own, space_of}
-use Rattle.ds_refinement.proofs.Spaces.{space_apart}
 use Rattle.ds_refinement.specs.Handling.{InDouble}
 use Rattle.ds_refinement.specs.Stands.{Agrees}
 use Rattle.ds_refinement.specs.Services.{at_unit, table_entry}
@@ -74,8 +73,8 @@ module _ (h : Held) (m : State) (p : ℕ) (rest : List ℕ) (k : Agrees h m) (re
       let back : slice_index h.core.registers.general 27 ≡ (process_of m p).pc = ap (λ (x : Registers). slice_index x.general 27) z.registers ∙ in_27 z.base.general z.first (process_of m p).pc long in
       own_unseen (record h { core = with_page_in h p slot }) own (touched true m)
       (touched_state h m p rest k ready (with_page_in h p slot) z.base z.owed z.units
-      (subst (λ (e : Entry). BufferHolds (slice_set h.core.entries slot e) (space_of h.kept) h.kept.grants h.kept.tables) (sym (entry_is z))
-      (missed_buffer h.core.entries (space_of h.kept) h.kept.grants h.kept.tables p (0xC0000 + z.region) slot (space_apart h.kept) k.represented.buffer r.seat.0 r.number (inr ((omega arith), (omega (arith, few_regions)))) z.missed))
+      (subst (λ (e : Entry). BufferHolds (slice_set h.core.entries slot e) h.kept.spaces h.kept.grants h.kept.tables) (sym (entry_is z))
+      (missed_buffer h.core.entries h.kept.spaces h.kept.grants h.kept.tables p (0xC0000 + z.region) slot k.represented.spaces k.represented.buffer r.seat.0 r.number (inr ((omega arith), (omega (arith, few_regions)))) z.missed))
       (record { tables = k.base.tables; whole = k.base.whole })
       (record { space = r.set.space; small = r.set.small })
       refl refl back (ap (λ (n : ℕ). word (n + 4)) back)

@@ -11,6 +11,8 @@ use Rattle.ds_policy.specs.Value.{PolicyValue, InputValue}
 use Rattle.ds_grants.specs.State.{page_state}
 use Rattle.ds_tables.specs.Places.{Places}
 use Rattle.ds_grants.specs.Words.{WordsHold}
+use Rattle.ds_asid.specs.Spaces.{AreApart, at_start}
+use Rattle.ds_asid.proofs.Apart.{start_apart, taken_apart}
 use Rattle.ds_grants.specs.Buffer.{BufferHolds}
 use Rattle.ds_grants.specs.Sound.{NamesPages}
 use Rattle.ds_grants.specs.First.{first_grants}
@@ -19,7 +21,7 @@ use Rattle.ds_pagemap.specs.Machine.{State, Process, no_process, process_of}
 use Rattle.ds_pagemap.specs.Boundary.{has_passed}
 use Rattle.ds_pagemap.specs.First.{first_state}
 use Rattle.ds_pagemap_laws.specs.Settled.{settled_process}
-use Rattle.ds_refinement.specs.Held.{Held, Kept, Own, bare, vacated, space_of}
+use Rattle.ds_refinement.specs.Held.{Held, Kept, Own, bare, vacated}
 use Rattle.ds_refinement.specs.Handling.{HasBase}
 use Rattle.ds_refinement.specs.Stands.{Stands, CountedBy, KeptIs, RunningBy, AreResting}
 use Rattle.ds_cp0.specs.System.{is_user}
@@ -84,10 +86,11 @@ first_stands policy images input start h some named low high f =
     record {
       agrees = record {
         represented = record {
-          buffer = subst (λ (c : CoreState). BufferHolds c.entries (space_of h.kept) h.kept.grants t) (sym f.core) (empty_buffer 64 (space_of h.kept) h.kept.grants t (omega arith));
+          buffer = subst (λ (c : CoreState). BufferHolds c.entries h.kept.spaces h.kept.grants t) (sym f.core) (empty_buffer 64 h.kept.spaces h.kept.grants t (omega arith));
           words = subst (λ (x : Kept). WordsHold memory t x.grants) (sym f.kept) f.tables.words;
           places = f.tables.places;
           empty = f.tables.empty;
+          spaces = subst (λ (x : Kept). AreApart x.spaces) (sym f.kept) (taken_apart at_start 1 start_apart (omega arith) (omega arith));
         };
         vectors = f.vectors;
         base = subst (λ (c : CoreState). HasBase c.system) (sym f.core) (record { tables = refl; whole = refl });

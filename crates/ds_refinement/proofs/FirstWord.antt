@@ -98,7 +98,7 @@ module _ (h : Held) (m : State) (p : ℕ) (rest : List ℕ) (k : Agrees h m) (re
         whole = aligned;
         reached =
             ap₂ (λ (a n : ℕ). translate h.core.entries a Kernel Load n) space before.context
-            ∙ table_hit h.core.entries (space_of h.kept) h.kept.grants h.kept.tables p before.vpn slot k.represented.buffer k.represented.places r.seat.0 r.number before.user found;
+            ∙ table_hit h.core.entries h.kept.spaces h.kept.grants h.kept.tables p before.vpn slot k.represented.buffer k.represented.places r.seat.0 r.number before.user found;
         memory = in_memory frame (before.vpn * 2 ^ 12) (table_below h.kept.tables p (region_of (before.vpn * 2 ^ 12)) k.represented.places);
         read = k.represented.words.words p before.vpn r.seat.0 before.user;
         word = w.small;

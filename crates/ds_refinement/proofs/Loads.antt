@@ -12,6 +12,7 @@ use Rattle.ds_amap.specs.declared.map.Mode.TheVariants.{Kernel}
 use Rattle.ds_amap.specs.declared.map.Fault.TheVariants.{Address, Invalid, Refill}
 use Rattle.ds_amap.specs.Map.{at_physical, through, through_slot, through_found, translate, place}
 use Rattle.ds_grants.specs.State.{GrantsState}
+use Rattle.ds_asid.specs.Spaces.{Spaces, number_of}
 use Rattle.ds_tables.specs.Places.{Places, ArePlaces, region_of, place_of, frame_of_place, page_of_table}
 use Rattle.ds_tables.specs.Tables.{word_place}
 use Rattle.ds_tables.proofs.PlaceLemmas.{is_place}
@@ -48,10 +49,10 @@ keys : (vpn asid : ℕ) (e : Entry) → e.g ≡ false → matches vpn asid e ≡
 keys vpn asid e g m = (grind (arith, nat_tests), grind (arith, nat_tests))
 
 -- what is found is the process's page of a table
-pub found_entry : (entries : List Entry) (numbers : ℕ → ℕ) (g : GrantsState) (t : Places) (p r slot : ℕ) → BufferHolds entries numbers g t → 0 < p → 0 < numbers p
-    → find entries (0xC0000 + r) (numbers p) ≡ Some slot → slice_get entries slot ≡ Some (page_entry (0xC0000 + r) (numbers p) (page_of_table t p r))
-found_entry entries numbers g t p r slot k running some found =
-    let asid : ℕ = numbers p in
+pub found_entry : (entries : List Entry) (spaces : Spaces) (g : GrantsState) (t : Places) (p r slot : ℕ) → BufferHolds entries spaces g t → 0 < p → 0 < number_of spaces p
+    → find entries (0xC0000 + r) (number_of spaces p) ≡ Some slot → slice_get entries slot ≡ Some (page_entry (0xC0000 + r) (number_of spaces p) (page_of_table t p r))
+found_entry entries spaces g t p r slot k running some found =
+    let asid : ℕ = number_of spaces p in
     let at = entry_of_match (0xC0000 + r) asid entries slot (found_matches (0xC0000 + r) asid entries slot found) in
     let e = at.0 in
     let key = keys (0xC0000 + r) asid e (k.own slot e at.1) at.2 in
@@ -72,16 +73,16 @@ mapped_there entries asid vpn found small is =
     ∙ ap (λ (n : ℕ). through_found entries (find entries n asid) Load addr) page
     ∙ ap (λ (o : Option ℕ). through_found entries o Load addr) is
 
-pub table_hit : (entries : List Entry) (numbers : ℕ → ℕ) (g : GrantsState) (t : Places) (p vpn slot : ℕ) → BufferHolds entries numbers g t → ArePlaces t → 0 < p → 0 < numbers p
-    → vpn < 2 ^ 19 → find entries (0xC0000 + vpn / 1024) (numbers p) ≡ Some slot
-    → translate entries (numbers p) Kernel Load (0xC0000000 + 4 * vpn) ≡ Ok (at_physical (word_place (page_of_table t p (region_of (vpn * 2 ^ 12))) (vpn * 2 ^ 12)))
-table_hit entries numbers g t p vpn slot k places running some small found =
+pub table_hit : (entries : List Entry) (spaces : Spaces) (g : GrantsState) (t : Places) (p vpn slot : ℕ) → BufferHolds entries spaces g t → ArePlaces t → 0 < p → 0 < number_of spaces p
+    → vpn < 2 ^ 19 → find entries (0xC0000 + vpn / 1024) (number_of spaces p) ≡ Some slot
+    → translate entries (number_of spaces p) Kernel Load (0xC0000000 + 4 * vpn) ≡ Ok (at_physical (word_place (page_of_table t p (region_of (vpn * 2 ^ 12))) (vpn * 2 ^ 12)))
+table_hit entries spaces g t p vpn slot k places running some small found =
     let addr : ℕ = 0xC0000000 + 4 * vpn in
     let region : vpn * 2 ^ 12 / 2 ^ 22 ≡ vpn / 1024 = omega arith in
     let offset : (0xC0000000 + 4 * vpn) % 2 ^ 12 ≡ vpn * 2 ^ 12 / 2 ^ 12 % 2 ^ 10 * 4 = omega arith in
-    mapped_there entries (numbers p) vpn (Some slot) small found
-    ∙ ap (λ (o : Option Entry). through_slot o Load addr) (found_entry entries numbers g t p (vpn / 1024) slot k running some found)
-    ∙ let_through (0xC0000 + vpn / 1024) (numbers p) (page_of_table t p (vpn / 1024)) addr (table_below t p (vpn / 1024) places)
+    mapped_there entries (number_of spaces p) vpn (Some slot) small found
+    ∙ ap (λ (o : Option Entry). through_slot o Load addr) (found_entry entries spaces g t p (vpn / 1024) slot k running some found)
+    ∙ let_through (0xC0000 + vpn / 1024) (number_of spaces p) (page_of_table t p (vpn / 1024)) addr (table_below t p (vpn / 1024) places)
     ∙ ap₂ (λ (f o : ℕ). Ok (at_physical (f * 2 ^ 12 + o))) (ap (page_of_table t p) (sym region)) offset
 
 pub table_miss_is : (entries : List Entry) (asid vpn : ℕ) → vpn < 2 ^ 19 → find entries (0xC0000 + vpn / 1024) asid ≡ None

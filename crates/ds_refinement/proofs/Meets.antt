@@ -187,7 +187,7 @@ small_offset address = omega arith
 module _ (c : CoreState) (b : BusState) (k : Kept) (m : State) (p : ℕ)
     (same : c.registers ≡ (process_of m p).registers) (pages : m.memory ≡ page_state k.grants b.memory) (large : length b.memory ≡ 2 ^ 23)
     (mode : c.system.status ≡ user_status) (small : c.pc < 2 ^ 32)
-    (holds : BufferHolds c.entries (space_of k) k.grants k.tables) (names : NamesPages k.grants) (some : 0 < p) (number : 0 < space_of k p) (space : asid_of c.system ≡ space_of k p) where
+    (holds : BufferHolds c.entries k.spaces k.grants k.tables) (names : NamesPages k.grants) (some : 0 < p) (number : 0 < space_of k p) (space : asid_of c.system ≡ space_of k p) where
   -- what is reached is granted
   granted : (access : Kind) (size : Size) (address : ℕ) (place : Physical) → reached c access size address ≡ Ok place → IsGranted k.grants p access size address place.0
   granted = user_reaches c k p (ap (λ (w : ℕ). bits w 1 1 == 1) mode) holds names some number space

@@ -4,14 +4,14 @@ use Rattle.std.specs.Prelude.{not, ◌&&◌, ◌==◌}
 use Rattle.ds_tlb.specs.Entries.{ticked, passed}
 use Rattle.ds_cp0.specs.System.{is_user}
 use Rattle.ds_core.specs.declared.event.Event.{Event}
-use Rattle.ds_core.specs.Core.{CoreState, Step}
+use Rattle.ds_core.specs.Core.{CoreState}
 use Rattle.ds_core.specs.Effect.{step}
 use Rattle.ds_refill.specs.Handler.{address_of}
 use Rattle.ds_refill_laws.specs.Refill.{handler_events}
 use Rattle.ds_handler.specs.Refills.{RunsInside}
 use Rattle.ds_refinement.specs.declared.step.Step.TheVariants.{Inside}
 use Rattle.ds_refinement.specs.Held.{Held}
-use Rattle.ds_refinement.specs.Counts.{Counts, counts_of, with_counts, one_more, one_written, one_word, one_refilled}
+use Rattle.ds_refinement.specs.Counts.{Counts, counts_of, with_counts, one_word, one_refilled}
 use Rattle.ds_refinement.specs.Units.{is_general, is_served}
 use Rattle.ds_refinement.specs.Stands.{IsSound}
 use Rattle.ds_refinement.specs.Steps.{Follows, Moves}

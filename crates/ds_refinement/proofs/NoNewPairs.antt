@@ -1,13 +1,12 @@
 -- No new pair of a user's page and an address space comes into a buffer.
-use Rattle.std.proofs.Common.{◌≡◌, ℕ, ◌+◌, ◌/◌, ◌^◌, ◌<◌, ◌≤◌, List, [], ◌∷◌, Option, Some, None, refl, sym, ap, subst, ◌∙◌, arith, inl, inr}
+use Rattle.std.proofs.Common.{◌≡◌, ℕ, ◌+◌, ◌/◌, ◌^◌, ◌<◌, ◌≤◌, List, Option, Some, None, refl, sym, ap, subst, ◌∙◌, arith, inl, inr}
 use Rattle.std.specs.Prelude.{slice_get, slice_set}
 use Rattle.std.proofs.lemmas.Option.{slice_get_within, get_or_from_slice_get}
 use Rattle.std.proofs.lemmas.List.FromFn.{length-map-range_with_len, get_or-map-range_with_len}
 use Rattle.ds_tlb.specs.declared.entry.Entry.{Entry}
 use Rattle.ds_tlb.specs.Entries.{find, empty_entry, empty_entries}
-use Rattle.ds_policy.specs.declared.grant.Entry as granted
 use Rattle.ds_tables.specs.Places.{region_of}
-use Rattle.ds_grants.specs.Changes.{cleared, forgotten, both_forgotten, all_forgotten}
+use Rattle.ds_grants.specs.Changes.{cleared, forgotten, both_forgotten}
 use Rattle.ds_grants.proofs.Translations.{at_set}
 use Rattle.ds_refinement.specs.Pairs.{HasNoNewPairs}
 
@@ -45,14 +44,9 @@ cleared_pairs : (old : List Entry) (found : Option ℕ) → HasNoNewPairs old (c
 cleared_pairs old None = same_pairs old
 cleared_pairs old (Some slot) = written_pairs old slot (empty_entry slot) (omega arith)
 
-pub forgotten_pairs : (old : List Entry) (address asid : ℕ) → HasNoNewPairs old (both_forgotten old address asid)
-forgotten_pairs old address asid =
+pub forgotten_pairs : (old : List Entry) (address : ℕ) (number : Option ℕ) → HasNoNewPairs old (both_forgotten old address number)
+forgotten_pairs old address None = same_pairs old
+forgotten_pairs old address (Some asid) =
     let between : List Entry = forgotten old (address / 2 ^ 12) asid in
-    joined_pairs old between (both_forgotten old address asid) (cleared_pairs old (find old (address / 2 ^ 12) asid))
+    joined_pairs old between (both_forgotten old address (Some asid)) (cleared_pairs old (find old (address / 2 ^ 12) asid))
     (cleared_pairs between (find between (0xC0000 + region_of address) asid))
-
-pub all_forgotten_pairs : (old : List Entry) (es : List granted.Entry) (asid : ℕ) → HasNoNewPairs old (all_forgotten old es asid)
-all_forgotten_pairs old [] asid = same_pairs old
-all_forgotten_pairs old (e ∷ es) asid =
-    joined_pairs old (both_forgotten old e.address asid) (all_forgotten old (e ∷ es) asid) (forgotten_pairs old e.address asid)
-    (all_forgotten_pairs (both_forgotten old e.address asid) es asid)

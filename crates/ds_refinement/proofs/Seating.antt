@@ -16,7 +16,7 @@ use Rattle.ds_pagemap.specs.Machine.{State, Process, no_process, process_of, wit
 use Rattle.ds_pagemap.proofs.Processes.{process_of-with_process}
 use Rattle.ds_pagemap_laws.specs.Settled.{settled_process, all_settled}
 use Rattle.ds_pagemap_laws.proofs.Processes.{of_settled}
-use Rattle.ds_refinement.specs.Held.{Held, Kept, Own, bare, whole, space_of}
+use Rattle.ds_refinement.specs.Held.{Held, Kept, Own, bare, whole}
 use Rattle.ds_refinement.specs.Units.{AtStart, user_status}
 use Rattle.ds_refinement.specs.Handling.{HasBase}
 use Rattle.ds_refinement.specs.Stands.{Agrees, CountedBy, Stands, KeptIs, IsKept, RunningIs, RunningBy, OnProcessor, AreResting}
@@ -128,7 +128,7 @@ entered_tallied [] c own k m b none ranges = (none, ranges)
 entered_tallied (p ∷ rest) c own k m b none ranges = none_tallied c own (may_write k p) (pages_of m p) (ap (λ (w : ℕ). bits w 1 1 == 1) b.mode) b.first none ranges
 
 -- all is kept, and who is first comes on the processor touched
-pub enters : (h : Held) (m : State) → IsKept h.kept h.bus.memory m → IsRepresented h.core.entries h.bus.memory h.kept.tables (space_of h.kept) h.kept.grants → HasWords h.bus.memory → HasBase h.core.system
+pub enters : (h : Held) (m : State) → IsKept h.kept h.bus.memory m → IsRepresented h.core.entries h.bus.memory h.kept.tables h.kept.spaces h.kept.grants → HasWords h.bus.memory → HasBase h.core.system
     → NamesPages h.kept.grants → length h.bus.memory ≡ 2 ^ 23 → AreResting h.bus h.kept → HasNone h.own → HasRanges h.core (counts_of h.own) → EntersBy h.kept.state.ready h.core h.kept → Stands h (touched true m)
 enters h m a represented vectors base grants size devices none ranges b =
     let s = by_ready h.kept.state.ready h.core h.kept h.bus.memory m refl a b in record {

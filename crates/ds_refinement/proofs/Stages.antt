@@ -278,7 +278,7 @@ module _ (h : Held) (m : State) (p : ℕ) (rest : List ℕ) (all : Stands h m) (
       let s = behind m p q (page_state h.kept.grants memory) ticks in
       let there : unit m ≡ s = is ∙ twice m p r (page_state h.kept.grants memory) ticks pc running.seat in
       let stands : Agrees new s = record {
-        represented = high_kept h.core.entries h.bus.memory memory h.kept.tables (space_of h.kept) h.kept.grants high k.represented;
+        represented = high_kept h.core.entries h.bus.memory memory h.kept.tables h.kept.spaces h.kept.grants high k.represented;
         vectors = vectors_high h.bus.memory memory high k.vectors;
         base = k.base;
         grants = k.grants;
@@ -299,7 +299,7 @@ module _ (h : Held) (m : State) (p : ℕ) (rest : List ℕ) (all : Stands h m) (
   stays : (c : CoreState) → c.entries ≡ h.core.entries → HasBase c.system → IsSet c.system (space_of h.kept p) → OnProcessor (is_user c.system) c.slot c h.kept p m
       → Agrees (record h { core = c }) m
   stays c entries base set there = record {
-    represented = subst (λ (es : List Entry). IsRepresented es h.bus.memory h.kept.tables (space_of h.kept) h.kept.grants) (sym entries) k.represented;
+    represented = subst (λ (es : List Entry). IsRepresented es h.bus.memory h.kept.tables h.kept.spaces h.kept.grants) (sym entries) k.represented;
     vectors = k.vectors;
     base = base;
     grants = k.grants;

@@ -15,7 +15,7 @@ use Rattle.ds_refinement.specs.Units.{user_status, is_general, is_served, has_le
 use Rattle.ds_refinement.specs.Services.{touched_registers}
 use Rattle.ds_refinement.proofs.Registers.{HasSeat, seat_kept, process_put}
 use Rattle.ds_refinement.proofs.Links.{touched_link}
-use Rattle.ds_refinement.proofs.Spaces.{space_apart}
+use Rattle.ds_refinement.proofs.Spaces.{small_number}
 use Rattle.ds_refinement.specs.Handling.{Phase, AtContext, AtAddress, AtLoad, AtPause, AtMove, AtClear, AtWrite, AtJump, AtReturn, index_of, HasBase, IsSet, AreUnits, InHandler, InDouble}
 use Rattle.ds_refinement.specs.Stands.{InKernel, OnProcessor, RunningIs, RunningBy, KeptIs, Agrees}
 
@@ -142,7 +142,7 @@ module _ (h : Held) (m : State) (p : ℕ) (rest : List ℕ) (k : Agrees h m) (re
   kept = subst (λ (rs : List ℕ). KeptIs rs h.kept h.bus.memory m) ready k.kept
 
   pub few : space_of h.kept p < 64
-  few = (space_apart h.kept).few p
+  few = small_number h.kept.spaces p k.represented.spaces
 
   -- what waits for the monitor, by whether user mode was left
   pub waits : (left : Bool) → is_served h.core ≡ true → has_left_user h.core ≡ left → InKernel true left h.core h.kept p m
@@ -157,10 +157,10 @@ module _ (h : Held) (m : State) (p : ℕ) (rest : List ℕ) (k : Agrees h m) (re
   touched_is = ap (touch_first m) (k.kept.ready ∙ ready)
 
   -- for the same state, with the processor in another place and other entries
-  pub same_state : (c : CoreState) → BufferHolds c.entries (space_of h.kept) h.kept.grants h.kept.tables → HasBase c.system → IsSet c.system (space_of h.kept p)
+  pub same_state : (c : CoreState) → BufferHolds c.entries h.kept.spaces h.kept.grants h.kept.tables → HasBase c.system → IsSet c.system (space_of h.kept p)
       → OnProcessor (is_user c.system) c.slot c h.kept p m → Agrees (record h { core = c }) m
   same_state c buffer base set on = record {
-    represented = record { buffer = buffer; words = k.represented.words; places = k.represented.places; empty = k.represented.empty };
+    represented = record { buffer = buffer; words = k.represented.words; places = k.represented.places; empty = k.represented.empty; spaces = k.represented.spaces };
     vectors = k.vectors;
     base = base;
     grants = k.grants;
@@ -171,14 +171,14 @@ module _ (h : Held) (m : State) (p : ℕ) (rest : List ℕ) (k : Agrees h m) (re
   }
 
   -- for the state with the process touched
-  pub stands_after : (c : CoreState) → BufferHolds c.entries (space_of h.kept) h.kept.grants h.kept.tables → HasBase c.system → IsSet c.system (space_of h.kept p)
+  pub stands_after : (c : CoreState) → BufferHolds c.entries h.kept.spaces h.kept.grants h.kept.tables → HasBase c.system → IsSet c.system (space_of h.kept p)
       → OnProcessor (is_user c.system) c.slot c h.kept p (with_process m p (touched_process (process_of m p))) → Agrees (record h { core = c }) (with_process m p (touched_process (process_of m p)))
   stands_after c buffer base set on =
       let q : Process = touched_process (process_of m p) in
       let s : State = with_process m p q in
       let put : process_of s p ≡ q = process_put m p q runs.seat in
       record {
-        represented = record { buffer = buffer; words = k.represented.words; places = k.represented.places; empty = k.represented.empty };
+        represented = record { buffer = buffer; words = k.represented.words; places = k.represented.places; empty = k.represented.empty; spaces = k.represented.spaces };
         vectors = k.vectors;
         base = base;
         grants = k.grants;
@@ -204,7 +204,7 @@ module _ (h : Held) (m : State) (p : ℕ) (rest : List ℕ) (k : Agrees h m) (re
   touched_already touch = touched_is ∙ (ap (with_process m p) (sym touch) ∙ with_process-process_of m p)
 
   -- for the state with the process touched, at the beginning of its unit
-  pub touched_state : (c : CoreState) (base : Registers) → m.owed ≡ None → AreUnits base p m → BufferHolds c.entries (space_of h.kept) h.kept.grants h.kept.tables → HasBase c.system → IsSet c.system (space_of h.kept p)
+  pub touched_state : (c : CoreState) (base : Registers) → m.owed ≡ None → AreUnits base p m → BufferHolds c.entries h.kept.spaces h.kept.grants h.kept.tables → HasBase c.system → IsSet c.system (space_of h.kept p)
       → c.system.status ≡ user_status → c.slot ≡ false → c.pc ≡ (process_of m p).pc → c.next ≡ word ((process_of m p).pc + 4) → c.registers ≡ lent base 0 (process_of m p).pc None
       → Agrees (record h { core = c }) (touched true m)
   touched_state c base owed units buffer tables set mode first at next registers =

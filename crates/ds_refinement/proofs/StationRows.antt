@@ -28,6 +28,7 @@ use Rattle.ds_refinement.specs.Units.{EndsUnit}
 use Rattle.ds_refinement.specs.Real.{HasUnit, MayGoBack, GoesBack, EndsReally, IsReal, Through}
 use Rattle.ds_refinement.specs.Granted.{IsGranted}
 use Rattle.ds_refinement.specs.Quiet.{IsQuiet}
+use Rattle.ds_asid.specs.Spaces.{taken}
 use Rattle.ds_refinement.specs.StationRows.{two, kept, page, other, core_at, user, served, done, table_page, doubled}
 
 -- a station that has begun so many instructions of a unit; it has no memory
@@ -36,13 +37,13 @@ after spent = record { core = user; bus = bus.at_start []; kept = kept; own = re
 
 -- The first comes in.
 
--- process 2 has the address space, and is first
+-- process 2 has address space 2, and is first
 abbrev second : Kept
-second = record kept { state = record two { ready = 2 ∷ 1 ∷ [] }; owner = 2 }
+second = record kept { state = record two { ready = 2 ∷ 1 ∷ [] }; spaces = taken kept.spaces 2 }
 
--- the processor at its first instruction, with these registers
+-- the processor at its first instruction in that address space, with these registers
 abbrev begins : Registers → CoreState
-begins r = record (core_at 0x00400000 0xC03) { registers = r }
+begins r = let c : CoreState = core_at 0x00400000 0xC03 in record c { registers = r; system = record c.system { entry_hi = 0x80 } }
 
 -- its registers once it was touched
 abbrev touched : Registers
@@ -52,11 +53,11 @@ pub process_2_comes_in_touched : EntersBy second.state.ready (begins touched) se
 process_2_comes_in_touched =
     let there : 0 < 2 = omega arith in
     let last : 2 ≤ 2 = omega arith in
-    let one : 0 < 1 = omega arith in
-    let small : 0x40 < 2 ^ 32 = omega arith in
+    let two : 0 < 2 = omega arith in
+    let small : 0x80 < 2 ^ 32 = omega arith in
     record {
       mode = refl;
-      number = one;
+      number = two;
       set = record { space = refl; small = small };
       first = refl;
       pc = refl;

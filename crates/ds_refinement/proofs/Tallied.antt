@@ -116,7 +116,7 @@ pub few_of : (h : Held) (m : State) → Stands h m → IsFew h.own
 few_of h m k = few_by h.kept.state.ready h.core h.own h.kept m k.counted
 
 -- what the buffer has without D, the process may not write
-pub tells_clean : (entries : List Entry) (k : Kept) (p page asid : ℕ) → BufferHolds entries (space_of k) k.grants k.tables → 0 < p → 0 < space_of k p → asid ≡ space_of k p → TellsClean entries page asid (may_write k p)
+pub tells_clean : (entries : List Entry) (k : Kept) (p page asid : ℕ) → BufferHolds entries k.spaces k.grants k.tables → 0 < p → 0 < space_of k p → asid ≡ space_of k p → TellsClean entries page asid (may_write k p)
 tells_clean entries k p page asid holds some number space = λ slot e found at clean.
     let of = found_of entries page asid slot e found at (holds.own slot e at) in
     let there : e.asid ≡ space_of k p = of.1 ∙ space in

@@ -1,7 +1,7 @@
 -- The service of a double miss goes back to the unit.
-use Rattle.std.proofs.Common.{◌≡◌, ◌≢◌, ℕ, ◌+◌, ◌-◌, ◌%◌, ◌<◌, ◌≤◌, Bool, true, false, cond, List, [], ◌∷◌, refl, sym, ap, subst, ◌∙◌, arith}
+use Rattle.std.proofs.Common.{◌≡◌, ◌≢◌, ℕ, ◌-◌, ◌<◌, ◌≤◌, Bool, true, false, cond, List, [], ◌∷◌, refl, sym, ap, subst, ◌∙◌, arith}
 use Rattle.std.specs.Prelude.{slice_index}
-use Rattle.ds_word.specs.Word.{word, bits}
+use Rattle.ds_word.specs.Word.{bits}
 use Rattle.ds_pagemap.specs.Machine.{State, touched}
 use Rattle.ds_refinement.specs.declared.step.Step.TheVariants.{Inside}
 use Rattle.ds_refinement.specs.Held.{Held}

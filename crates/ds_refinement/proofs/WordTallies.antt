@@ -1,26 +1,26 @@
 -- What the words of the handler and the service of a double miss leave is tallied.
-use Rattle.std.proofs.Common.{◌≡◌, ◌≢◌, ℕ, ◌+◌, ◌*◌, ◌-◌, ◌/◌, ◌^◌, ◌<◌, ◌≤◌, ◌==◌, Bool, true, false, List, [], ◌∷◌, length, set, Some, None, refl, sym, ap, ap₂, subst, ◌∙◌, arith, length-set}
+use Rattle.std.proofs.Common.{◌≡◌, ◌≢◌, ℕ, ◌+◌, ◌*◌, ◌-◌, ◌/◌, ◌^◌, ◌<◌, ◌≤◌, ◌==◌, Bool, true, false, List, [], ◌∷◌, length, set, Some, refl, sym, ap, ap₂, subst, ◌∙◌, arith}
 use Rattle.std.proofs.lemmas.Bool.Decides.{nat_tests}
 use Rattle.std.proofs.lemmas.List.{get_or-set_same, get_or-set_other}
-use Rattle.std.specs.Prelude.{slice_get, slice_index, slice_set}
+use Rattle.std.specs.Prelude.{slice_index}
 use Rattle.ds_word.specs.Word.{word, bits}
 use Rattle.ds_isa.specs.Meaning.{address_of}
 use Rattle.ds_isa.specs.Registers.{Registers}
 use Rattle.ds_tlb.specs.declared.entry.Entry.{Entry}
-use Rattle.ds_tlb.specs.Entries.{find, ticked}
+use Rattle.ds_tlb.specs.Entries.{find}
 use Rattle.ds_cp0.specs.System.{asid_of, is_user}
 use Rattle.ds_core.specs.Core.{CoreState}
 use Rattle.ds_core.specs.Effect.{step}
 use Rattle.ds_refill.specs.Handler as refill
 use Rattle.ds_refill_laws.specs.Refill.{lent, late_of}
 use Rattle.ds_tables.specs.Places.{page_of_table}
-use Rattle.ds_grants.specs.Buffer.{hi_of, read_only, lo_of, BufferHolds}
-use Rattle.ds_pagemap.specs.Machine.{State, process_of, touched}
-use Rattle.ds_bounds.specs.Course.{AtWord, Course, after_touch}
-use Rattle.ds_bounds.specs.Steps.{Next, table_page}
+use Rattle.ds_grants.specs.Buffer.{hi_of, read_only}
+use Rattle.ds_pagemap.specs.Machine.{State, touched}
+use Rattle.ds_bounds.specs.Course.{AtWord, Course}
+use Rattle.ds_bounds.specs.Steps.{Next}
 use Rattle.ds_bounds.specs.Tally.{IsTallied}
 use Rattle.ds_bounds.proofs.Courses as courses
-use Rattle.ds_refinement.specs.Held.{Held, Kept, space_of}
+use Rattle.ds_refinement.specs.Held.{Held, space_of}
 use Rattle.ds_refinement.specs.Needs.{pages_of}
 use Rattle.ds_refinement.specs.Counts.{Counts, counts_of, course_of, may_write, one_more, one_written, one_tabled, one_word}
 use Rattle.ds_refinement.specs.Units.{is_general, is_served, has_left_user}
@@ -107,7 +107,7 @@ module _ (h : Held) (m : State) (p : ℕ) (rest : List ℕ) (k : Agrees h m) (re
       (λ slot e found at.
       let there : find c.entries (0xC0000 + z.vpn / 1024) asid ≡ Some slot = ap₂ (λ (x a : ℕ). find c.entries (0xC0000 + x / 1024) a) (sym page) (sym space) ∙ found in
       let entry : ◌≡◌ (Some e) (Some (page_entry (0xC0000 + z.vpn / 1024) asid (page_of_table h.kept.tables p (z.vpn / 1024)))) =
-      sym at ∙ found_entry c.entries (space_of h.kept) h.kept.grants h.kept.tables p (z.vpn / 1024) slot k.represented.buffer now.seat.0 now.number there in
+      sym at ∙ found_entry c.entries h.kept.spaces h.kept.grants h.kept.tables p (z.vpn / 1024) slot k.represented.buffer now.seat.0 now.number there in
       by_entry e (page_entry (0xC0000 + z.vpn / 1024) asid (page_of_table h.kept.tables p (z.vpn / 1024))) entry
       (is_valid (0xC0000 + z.vpn / 1024) asid (page_of_table h.kept.tables p (z.vpn / 1024)))
       (small_frame (page_of_table h.kept.tables p (z.vpn / 1024)) (table_below h.kept.tables p (z.vpn / 1024) k.represented.places))))

@@ -29,7 +29,6 @@ use Rattle.ds_grants.proofs.Fields.{user_lo}
 use Rattle.ds_grants.proofs.Fills.{find_written, same_keys, missed_buffer}
 use Rattle.ds_pagemap.specs.Machine.{State, process_of, with_process, touched, touched_process}
 use Rattle.ds_refinement.specs.Held.{Held, space_of}
-use Rattle.ds_refinement.proofs.Spaces.{space_apart}
 use Rattle.ds_refinement.specs.declared.step.Step.TheVariants.{Inside}
 use Rattle.ds_refinement.specs.Units.{is_general, is_served}
 use Rattle.ds_refinement.specs.Handling.{Phase, AtContext, AtAddress, AtLoad, AtPause, AtMove, AtClear, AtWrite, AtJump, AtReturn, handler_status, IsWhole, InHandler, InDouble, touches}
@@ -203,7 +202,7 @@ module _ (h : Held) (m : State) (p : ℕ) (rest : List ℕ) (k : Agrees h m) (re
           let w : ℕ = granted_word h.kept.grants p z.vpn in
           let place : ℕ = word_place (page_of_table h.kept.tables p (region_of (z.vpn * 2 ^ 12))) (z.vpn * 2 ^ 12) in
           let reach : translate es (asid_of s) Kernel Load z.first ≡ Ok (at_physical place) =
-          ap₂ (λ (a n : ℕ). translate es a Kernel Load n) space address ∙ table_hit es (space_of h.kept) h.kept.grants h.kept.tables p z.vpn slot k.represented.buffer k.represented.places now.seat.0 now.number z.user found in
+          ap₂ (λ (a n : ℕ). translate es a Kernel Load n) space address ∙ table_hit es h.kept.spaces h.kept.grants h.kept.tables p z.vpn slot k.represented.buffer k.represented.places now.seat.0 now.number z.user found in
           let u : CoreState = at_word 0x8000000C 0x80000010 false (lent z.base w z.second (late_of 26 z.first)) s es later in
           let there : InHandler AtPause u h.kept p m = record {
             whole = wider _ z _ _ _ _ _ _ _ _ z.whole.slots;
@@ -392,7 +391,7 @@ module _ (h : Held) (m : State) (p : ℕ) (rest : List ℕ) (k : Agrees h m) (re
       follows Retired u
       (ap (λ (d : CoreState). step d b) is ∙ word_6 z.base x y s es h.core.random b k.vectors (kernel s z.status)
       ∙ ap (λ (f : Entry). record { event = Retired; core = at_word 0x8000001C 0x80000020 false (lent z.base x y None) s (slice_set es h.core.random f) later; bus = b }) entry_is)
-      (same_state h m p rest k ready u (missed_buffer es (space_of h.kept) h.kept.grants h.kept.tables p z.vpn h.core.random (space_apart h.kept) k.represented.buffer now.seat.0 now.number (inl z.user) z.answers) k.base now.set (in_handler AtJump u h.kept p m there))
+      (same_state h m p rest k ready u (missed_buffer es h.kept.spaces h.kept.grants h.kept.tables p z.vpn h.core.random k.represented.spaces k.represented.buffer now.seat.0 now.number (inl z.user) z.answers) k.base now.set (in_handler AtJump u h.kept p m there))
 
   at_jump : InHandler AtJump h.core h.kept p m → Follows
   at_jump z =

@@ -13,6 +13,7 @@ use Rattle.ds_core.specs.Core.{CoreState}
 use Rattle.ds_policy.specs.Value.{PolicyValue, InputValue}
 use Rattle.ds_refill.specs.Handler as handler
 use Rattle.ds_tables.specs.Places.{Places}
+use Rattle.ds_asid.specs.Spaces.{at_start, taken}
 use Rattle.ds_grants.specs.State.{page_state}
 use Rattle.ds_grants.specs.Represented.{HasWords}
 use Rattle.ds_grants.specs.First.{first_grants}
@@ -46,7 +47,7 @@ first_bus memory rate = record {
   system = 2 ^ 7;
 }
 
--- what is kept of the first state of a policy, with page tables at these places; process 1 runs
+-- what is kept of the first state of a policy, with page tables at these places; process 1 runs, in address space 1
 abbrev pub first_kept : PolicyValue → List (List ℕ) → InputValue → Places → Kept
 first_kept policy images input tables = record {
   state = bare (first_state policy images input);
@@ -54,7 +55,7 @@ first_kept policy images input tables = record {
   tables = tables;
   log = [];
   lines = 0;
-  owner = 1;
+  spaces = taken at_start 1;
   ticked = 0;
 }
 

@@ -1,8 +1,9 @@
 -- What a station holds: the processor, the bus with memory and devices, and what it keeps beside them.
-use Rattle.std.specs.Prelude.{ℕ, ◌==◌, Bool, if◌then◌else◌, List, [], ◌∷◌, Option, Some, None}
+use Rattle.std.specs.Prelude.{ℕ, Bool, List, [], ◌∷◌, Option, Some, None}
 use Rattle.ds_policy.specs.Grants.{PageState}
 use Rattle.ds_log.specs.declared.line.Line.{Line}
 use Rattle.ds_tables.specs.Places.{Places}
+use Rattle.ds_asid.specs.Spaces.{Spaces, number_of}
 use Rattle.ds_grants.specs.State.{GrantsState, page_state}
 use Rattle.ds_dev.specs.Bus.{BusState}
 use Rattle.ds_core.specs.Core.{CoreState}
@@ -20,8 +21,8 @@ pub record Kept : Type 0 where
   -- the text of the log, and how many lines it has
   pub log : List ℕ
   pub lines : ℕ
-  -- the process that has the one address space
-  pub owner : ℕ
+  -- which process has which address space, by its number
+  pub spaces : Spaces
   -- the time to which the clock was brought
   pub ticked : ℕ
 
@@ -67,7 +68,7 @@ vacated (p ∷ rest) m = with_process m p no_process
 
 -- the number of a process's address space, or 0 where it has none
 abbrev pub space_of : Kept → ℕ → ℕ
-space_of k p = if p == k.owner then 1 else 0
+space_of k p = number_of k.spaces p
 
 -- the time at which a turn began that still owes its boundary, or else this time
 abbrev pub began_or : Option Turn → ℕ → ℕ

@@ -109,7 +109,7 @@ pub record Serves (f : State → State) (old : Kept) (before : List ℕ) (new : 
 pub record EndsBy (f : State → State) (old new : Held) : Type 0 where
   pub serves : Serves f (seated old.core old.kept) old.bus.memory new.kept new.bus.memory
   pub enters : EntersBy new.kept.state.ready new.core new.kept
-  pub represented : IsRepresented new.core.entries new.bus.memory new.kept.tables (space_of new.kept) new.kept.grants
+  pub represented : IsRepresented new.core.entries new.bus.memory new.kept.tables new.kept.spaces new.kept.grants
   pub vectors : HasWords new.bus.memory
   pub base : HasBase new.core.system
   pub grants : NamesPages new.kept.grants

@@ -64,7 +64,7 @@ pub record AreResting (b : BusState) (k : Kept) : Type 0 where
 
 -- the station agrees with the machine state m, whatever it has counted
 pub record Agrees (h : Held) (m : State) : Type 0 where
-  pub represented : IsRepresented h.core.entries h.bus.memory h.kept.tables (space_of h.kept) h.kept.grants
+  pub represented : IsRepresented h.core.entries h.bus.memory h.kept.tables h.kept.spaces h.kept.grants
   -- the handler's words stand at the vector of misses
   pub vectors : HasWords h.bus.memory
   pub base : HasBase h.core.system

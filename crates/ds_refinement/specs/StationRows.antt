@@ -18,6 +18,8 @@ use Rattle.ds_pagemap.specs.Unit.{fault}
 use Rattle.ds_pagemap_laws.specs.Rows.{resting, loading, state_of}
 use Rattle.ds_refinement.specs.declared.cause.Cause.TheVariants as cause
 use Rattle.ds_refinement.specs.Told.{told, size_on}
+use Rattle.ds_asid.specs.Spaces as spaces
+use Rattle.ds_asid.specs.Spaces.{taken, given_up}
 use Rattle.ds_refinement.specs.Held.{Held, Kept, no_memory, bare, vacated, space_of}
 use Rattle.ds_refinement.specs.Units.{ends_in_stop, own_of, has_left_user, is_served}
 use Rattle.ds_refinement.specs.Steps.{ticks_of}
@@ -30,7 +32,7 @@ two = state_of (loading ∷ resting ∷ []) (1 ∷ 2 ∷ []) []
 
 -- what is kept beside the processor, which has process 1
 abbrev pub kept : Kept
-kept = record { state = two; grants = no_grants 2 4 0; tables = replicate 2 (replicate 4 None); log = []; lines = 0; owner = 1; ticked = 5 }
+kept = record { state = two; grants = no_grants 2 4 0; tables = replicate 2 (replicate 4 None); log = []; lines = 0; spaces = taken spaces.at_start 1; ticked = 5 }
 
 -- page 00400000 in frame 402, which may not be written
 abbrev pub page : Entry
@@ -62,11 +64,20 @@ served = core_at 0x80000080 0xC0C
 
 -- What is kept.
 
-pub process_1_has_the_address_space : space_of kept 1 ≡ 1
-process_1_has_the_address_space = refl
+pub process_1_has_an_address_space : space_of kept 1 ≡ 1
+process_1_has_an_address_space = refl
 
-pub process_2_has_no_address_space : space_of kept 2 ≡ 0
-process_2_has_no_address_space = refl
+pub process_2_has_none : space_of kept 2 ≡ 0
+process_2_has_none = refl
+
+pub process_2_takes_the_next : space_of (record kept { spaces = taken kept.spaces 2 }) 2 ≡ 2
+process_2_takes_the_next = refl
+
+pub process_1_keeps_its_own : space_of (record kept { spaces = taken kept.spaces 2 }) 1 ≡ 1
+process_1_keeps_its_own = refl
+
+pub who_gives_its_number_up_has_none : space_of (record kept { spaces = given_up kept.spaces 1 }) 1 ≡ 0
+who_gives_its_number_up_has_none = refl
 
 -- with a page that the policy names, and a line in the log
 abbrev pub written : State

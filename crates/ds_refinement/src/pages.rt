@@ -48,7 +48,7 @@ pub fn a_named_page_lives()
 /// permission table grants that process.
 pub fn what_a_user_reaches_is_granted()
     ensures { (c : CoreState) (k : Kept) (p : ℕ) → is_user c.system ≡ true
-        → BufferHolds c.entries (space_of k) k.grants k.tables → NamesPages k.grants → 0 < p
+        → BufferHolds c.entries k.spaces k.grants k.tables → NamesPages k.grants → 0 < p
         → 0 < space_of k p
         → asid_of c.system ≡ space_of k p
         → (access : Kind) (size : Size) (address : ℕ) (place : Physical)

@@ -1,9 +1,9 @@
 //! No new pair of a user's page and an address space comes into a buffer: each law is the contract
 //! of a function with an empty body.
-ghost use Rattle.std.specs.Prelude.{◌^◌, ◌≤◌, ◌≡◌, ℕ, List, slice_set};
+ghost use Rattle.std.specs.Prelude.{◌^◌, ◌≤◌, ◌≡◌, ℕ, List, Option, slice_set};
 ghost use Rattle.ds_tlb.specs.declared.entry.Entry.{Entry};
 ghost use Rattle.ds_tlb.specs.Entries.{empty_entries};
-ghost use Rattle.ds_grants.specs.Changes.{both_forgotten, all_forgotten};
+ghost use Rattle.ds_grants.specs.Changes.{both_forgotten};
 ghost use Rattle.ds_refinement.specs.Pairs.{HasNoNewPairs};
 
 /// A buffer that stays, is flushed, forgets a page of a user and the page of its table, or takes an
@@ -13,8 +13,8 @@ pub fn no_pair_is_new()
     ensures joined { (a b c : List Entry) → HasNoNewPairs a b → HasNoNewPairs b c
         → HasNoNewPairs a c }
     ensures flushed { (old : List Entry) (n : ℕ) → HasNoNewPairs old (empty_entries n) }
-    ensures forgotten { (old : List Entry) (address asid : ℕ)
-        → HasNoNewPairs old (both_forgotten old address asid) }
+    ensures forgotten { (old : List Entry) (address : ℕ) (number : Option ℕ)
+        → HasNoNewPairs old (both_forgotten old address number) }
     ensures written { (old : List Entry) (slot : ℕ) (e : Entry) → 2 ^ 19 ≤ e.vpn
         → HasNoNewPairs old (slice_set old slot e) }
 {}

@@ -25,7 +25,7 @@ pub fn the_runner_leaves()
 /// Where all is kept and nothing is counted, the first ready process comes on the processor, touched.
 pub fn the_first_comes_in()
     ensures { (h : Held) (m : State) → IsKept h.kept h.bus.memory m
-        → IsRepresented h.core.entries h.bus.memory h.kept.tables (space_of h.kept) h.kept.grants
+        → IsRepresented h.core.entries h.bus.memory h.kept.tables h.kept.spaces h.kept.grants
         → HasWords h.bus.memory → HasBase h.core.system → NamesPages h.kept.grants
         → length h.bus.memory ≡ 2 ^ 23 → AreResting h.bus h.kept
         → HasNone h.own → HasRanges h.core (counts_of h.own)

@@ -28,8 +28,8 @@ returns-clause-does g c =
     (ended_state (the_view c.self.inside) c.args.process c.args.memory.now c.requires.low high)
 
 pub returns-clause-keeps : goal.returns-clause-keeps
-returns-clause-keeps g c = λ numbers apart are k.
+returns-clause-keeps g c = λ k.
     let high : c.args.process ≤ length c.self.inside.table = subst (λ (s : GrantsState). c.args.process ≤ length s.table) (sym c.self.view_is) c.requires.high in
-    let before = subst (λ (s : GrantsState). IsRepresented (g.L.Lookaside.entries c.args.tlb.now) c.args.memory.now c.args.tables.now numbers s) (sym c.self.view_is) k in
-    rw (c.forget_all.ensures.entries, c.close_all.ensures, c.entries-entries.ensures.all, c.clear.ensures, c.deref_mut.ensures.value, refill_set c.self.inside.ended.items (c.args.process - 1) true, c.release_all.ensures.size)
-    (end_represented (the_view c.self.inside) c.args.tables.now c.args.process c.requires.low high (g.L.Lookaside.entries c.args.tlb.now) c.args.memory.now numbers are before)
+    let before = subst (λ (s : GrantsState). IsRepresented (g.L.Lookaside.entries c.args.tlb.now) c.args.memory.now c.args.tables.now c.args.spaces.now s) (sym c.self.view_is) k in
+    rw (c.give_up.ensures.value, c.close_all.ensures, c.entries-entries.ensures.all, c.clear.ensures, c.deref_mut.ensures.value, refill_set c.self.inside.ended.items (c.args.process - 1) true, c.release_all.ensures.size)
+    (end_represented (the_view c.self.inside) c.args.tables.now c.args.process c.requires.low high (g.L.Lookaside.entries c.args.tlb.now) c.args.memory.now c.args.spaces.now before)

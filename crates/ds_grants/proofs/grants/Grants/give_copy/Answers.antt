@@ -39,7 +39,7 @@ returns-in-Some-Some-clause-elsewhere g c = λ f page apart.
     (λ is. apart (is ∙ ap (λ n. n + 402) (sym (fresh_is c.args.self.now c.args.memory.now c.in-Some-Some.free first)))) copied
 
 pub returns-in-Some-Some-clause-keeps : goal.returns-in-Some-Some-clause-keeps
-returns-in-Some-Some-clause-keeps g c = λ numbers numbered known k.
+returns-in-Some-Some-clause-keeps g c = λ k.
     let copied : c.copy_frame.new.self ≡ with_frame c.args.memory.now (c.in-Some-Some.free + 402) (frame_of c.args.memory.now (c.in-Some-Some.page + 402)) =
     c.copy_frame.ensures.value ∙ rw (c.frame_of_page-in-Some-Some.ensures, c.frame_of_page.ensures) refl in
     let large : 8388608 ≤ length c.args.memory.now = large_before c.args.memory.now (frame_of c.args.memory.now (c.in-Some-Some.page + 402)) (c.in-Some-Some.free + 402) 8388608 (ap length (sym copied) ∙ c.copy_frame.ensures.size) in
@@ -51,6 +51,6 @@ returns-in-Some-Some-clause-keeps g c = λ numbers numbered known k.
     let free = first.within in
     let frame : length (frame_of c.args.memory.now (c.in-Some-Some.page + 402)) ≡ 4096 = frame_long c.args.memory.now (c.in-Some-Some.page + 402) (omega (arith, large, within, few, same)) in
     let size : length c.copy_frame.new.self ≡ length c.args.memory.now = ap length copied ∙ length-with_frame c.args.memory.now (frame_of c.args.memory.now (c.in-Some-Some.page + 402)) (c.in-Some-Some.free + 402) frame (omega (arith, large, free, few)) in
-    c.put.ensures.keeps (inl c.requires.region) numbers numbered known
-    (high_kept (g.L.Lookaside.entries c.args.tlb.now) c.args.memory.now c.copy_frame.new.self c.args.tables.now numbers c.args.self.now
+    c.put.ensures.keeps (inl c.requires.region)
+    (high_kept (g.L.Lookaside.entries c.args.tlb.now) c.args.memory.now c.copy_frame.new.self c.args.tables.now c.args.spaces.now c.args.self.now
     (size, λ f table. frames_apart c.args.memory.now c.copy_frame.new.self c.in-Some-Some.page c.in-Some-Some.free f large (omega (arith, within, few, same)) (omega (arith, free, few)) (λ is. absurd (omega (arith, is, table))) copied) k)

@@ -2,6 +2,7 @@ use Rattle.std.proofs.Common.{◌≡◌, ◌∙◌, ◌+◌, ◌<◌, ℕ, [], l
 use Rattle.ds_policy.specs.PolicyParts.{sources_of}
 use Rattle.ds_pagemap.specs.First.{source_bytes}
 use Rattle.ds_mem.specs.Memory.{frame_of}
+use Rattle.ds_asid.proofs.Apart.{start_apart}
 use Rattle.ds_grants.proofs.Fills.{empty_buffer}
 use Rattle.ds_grants.proofs.FirstPages.{first_pages_hold}
 use Rattle.ds_grants.proofs.grants.Grants.new.Goals as goal
@@ -13,11 +14,12 @@ returns-clause-pages g c =
     rw c.in_ok-grants.ensures (first_pages_hold c.args.policy.now c.args.images.now c.first_tables.new.memory c.rules.ensures.good c.pages.ensures.few (λ q below. c.first_tables.ensures.elsewhere (q + 402) (inr (omega arith)) ∙ each q below))
 
 pub returns-clause-represented : goal.returns-clause-represented
-returns-clause-represented g c = λ few empty numbers.
+returns-clause-represented g c = λ few empty.
     let words = c.first_tables.ensures.words (c.fill_pages.ensures.elsewhere 1 (inl (omega arith)) ∙ empty) c.in_ok-grants.grants (rw (c.processes.ensures.all, c.rules-2.ensures.all, c.in_ok-grants.ensures) refl) in
     record {
-      buffer = rw c.flush.ensures.entries (empty_buffer g.L.Lookaside.SLOTS numbers c.in_ok-grants.grants c.first_tables.result few);
+      buffer = rw c.flush.ensures.entries (empty_buffer g.L.Lookaside.SLOTS c.flush.new.self c.in_ok-grants.grants c.first_tables.result few);
       words = words.words;
       places = words.places;
       empty = words.empty;
+      spaces = rw c.flush.ensures.value start_apart;
     }

@@ -9,7 +9,6 @@ use Rattle.ds_mem.proofs.Zeros.{frame_of-zeros}
 use Rattle.ds_refill.specs.Handler as handler
 use Rattle.ds_tables.specs.Tables.{HasEmptyTable}
 use Rattle.ds_grants.specs.State.{GrantsState, page_state}
-use Rattle.ds_grants.specs.Buffer.{one_space}
 use Rattle.ds_grants.specs.Represented.{HasWords}
 use Rattle.ds_grants.specs.First.{first_grants}
 use Rattle.ds_grants.specs.Sound.{NamesPages}
@@ -39,7 +38,7 @@ returns-clause-first g c =
     let grants = ap (λ (k : Kept). k.grants) c.in_ok-monitor.ensures.first in
     let zero : HasEmptyTable c.in_ok-memory.memory = subst (λ (m : List ℕ). HasEmptyTable m) (sym c.in_ok-memory.ensures) (frame_of-zeros (2 ^ 23) 1 (omega arith)) in
     let empty : HasEmptyTable c.install.new.memory = c.install.ensures.frames 1 (omega arith) ∙ zero in
-    let represented = c.in_ok-monitor.ensures.represented (omega (arith, c.requires.slots)) empty one_space in
+    let represented = c.in_ok-monitor.ensures.represented (omega (arith, c.requires.slots)) empty in
     record {
       core =
           c.first_core.ensures

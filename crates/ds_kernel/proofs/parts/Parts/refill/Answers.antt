@@ -1,4 +1,4 @@
-use Rattle.std.proofs.Common.{◌≡◌, ◌<◌, ◌≤◌, refl, ap, subst, sym, length, arith}
+use Rattle.std.proofs.Common.{refl, ap, subst, sym, arith}
 use Rattle.std.specs.Prelude.{is_some}
 use Rattle.ds_core.specs.Core.{CoreState}
 use Rattle.ds_refill_laws.specs.Refill.{handler_events}

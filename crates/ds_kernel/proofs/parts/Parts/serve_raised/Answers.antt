@@ -1,6 +1,7 @@
-use Rattle.std.proofs.Common.{sym, subst}
+use Rattle.std.proofs.Common.{◌∙◌, ◌<◌, sym, subst, arith}
 use Rattle.ds_kernel.specs.declared.parts.Parts.{Parts}
 use Rattle.ds_kernel.specs.Parts.{held}
+use Rattle.ds_kernel.specs.Good.{IsBusy}
 use Rattle.ds_kernel.specs.Going.{GoesOn}
 use Rattle.ds_kernel.proofs.Doing.{kernel_of}
 use Rattle.ds_kernel.proofs.Running.{goes_join}
@@ -24,3 +25,17 @@ returns-else-answer_at_once-clause-goes g c = λ start before.
 
 pub returns-in_default-clause-goes : goal.returns-in_default-clause-goes
 returns-in_default-clause-goes g c = λ start before. c.refill_missed.ensures.goes c.args.n start c.requires.begun before
+
+pub serve_waiting-requires-clause-busy : goal.serve_waiting-requires-clause-busy
+serve_waiting-requires-clause-busy g c =
+    let kernel = kernel_of c.args.self.now.core (c.requires.called c.if-called.true).served in
+    let begun = c.requires.good.orderly.raised kernel in
+    let before : c.args.self.now.monitor.time < c.args.n = c.requires.begun begun in
+    let few = c.requires.few in
+    subst (IsBusy c.in-Some.process) (sym (c.answer_at_once.ensures.still c.if-answer_at_once.false)) (record {
+      good = c.requires.good;
+      first = sym c.first_ready.ensures ∙ c.in-Some.is;
+      begun = begun;
+      working = c.requires.working;
+      early = omega (arith, before, few);
+    })

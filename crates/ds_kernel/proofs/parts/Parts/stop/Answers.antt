@@ -1,6 +1,5 @@
 use Rattle.std.proofs.Common.{ℕ, List, ap, subst, ◌∙◌}
 use Rattle.ds_grants.specs.Represented.{IsRepresented}
-use Rattle.ds_refinement.specs.Held.{space_of}
 use Rattle.ds_kernel.specs.declared.parts.Parts.{Parts}
 use Rattle.ds_kernel.proofs.Keeping.{left_alive}
 use Rattle.ds_kernel.proofs.Finishing.{has_ended, rest_alike, comes_in, stop_served}
@@ -33,7 +32,7 @@ returns-clause-ends g c =
     c.look_at_unit.ensures.above c.leave.ensures.kept c.leave.ensures.rest (c.stop_unit.ensures.orderly (c.leave.ensures.orderly c.look_at_unit.ensures.orderly)
     (left_alive c.args.self.now.core (kept_of c.args.self.now.monitor) (kept_of c.leave.new.self.monitor) c.args.process c.leave.ensures.kept c.look_at_unit.ensures.first c.look_at_unit.ensures.above c.look_at_unit.ensures.within c.look_at_unit.ensures.alive)) c.stop_unit.ensures.room c.stop_unit.ensures.serves c.stop_unit.ensures.lines c.stop_unit.ensures.rest)
     (comes_in f old left new between left.core.entries old.bus.memory c.args.process c.leave.ensures.rest c.end_unit.ensures.enters
-    (subst (λ (m : List ℕ). IsRepresented left.core.entries m between.tables (space_of (kept_of between)) between.grants → IsRepresented new.core.entries new.bus.memory new.monitor.tables (space_of (kept_of new.monitor)) new.monitor.grants)
+    (subst (λ (m : List ℕ). IsRepresented left.core.entries m between.tables between.spaces between.grants → IsRepresented new.core.entries new.bus.memory new.monitor.tables new.monitor.spaces new.monitor.grants)
     (ap (λ (x : Parts g.row.L.Denot). x.bus.memory) c.leave.ensures.rest) c.end_unit.ensures.represented) c.end_unit.ensures.pages c.end_unit.ensures.random
     (ap (λ (x : Parts g.row.L.Denot). x.bus.memory) rest ∙ ap (λ (x : Parts g.row.L.Denot). x.bus.memory) c.leave.ensures.rest) (rest_alike left.bus new.bus (ap (λ (x : Parts g.row.L.Denot). x.bus) rest)) (ap (λ (x : Parts g.row.L.Denot). x.monitor) rest) c.end_unit.ensures.own c.end_unit.ensures.whole
     c.end_unit.ensures.context c.end_unit.ensures.pairs)

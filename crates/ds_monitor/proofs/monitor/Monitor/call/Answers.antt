@@ -2,7 +2,6 @@ use Rattle.std.proofs.Common.{[], sym, ◌≡◌, ◌∙◌, ◌+◌, ℕ, ap, s
 use Rattle.ds_word.specs.Word.{word}
 use Rattle.ds_dev.specs.Bus.{BusState}
 use Rattle.ds_procs.specs.Calls.{call_of}
-use Rattle.ds_grants.specs.Buffer.{one_space}
 use Rattle.ds_grants.specs.Represented.{Keeps}
 use Rattle.ds_pagemap.specs.Machine.{State, Process, process_of}
 use Rattle.ds_pagemap.proofs.Processes.{process_of-with_process}
@@ -98,5 +97,5 @@ returns-clause-keeps g c =
     let x = c.args.bus.now.memory in
     let y = c.serve.new.bus.memory in
     let last = c.serve.new.self in
-    subst (λ (m : Monitor). Keeps one_space old x c.args.self.now.tables c.args.self.now.grants new y m.tables m.grants) (sym c.end_turn.ensures.rest)
-    (subst (λ (m : Monitor). Keeps one_space old x m.tables m.grants new y last.tables last.grants) c.go_to.ensures.rest c.serve.ensures.keeps)
+    subst (λ (m : Monitor). Keeps old x c.args.self.now.tables c.args.self.now.spaces c.args.self.now.grants new y m.tables m.spaces m.grants) (sym c.end_turn.ensures.rest)
+    (subst (λ (m : Monitor). Keeps old x m.tables m.spaces m.grants new y last.tables last.spaces last.grants) c.go_to.ensures.rest c.serve.ensures.keeps)

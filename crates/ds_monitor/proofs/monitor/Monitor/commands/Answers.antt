@@ -28,7 +28,7 @@ loop-order-init g c = record {
   named = refl;
   count = omega arith;
   low = low_same c.args.memory.now;
-  keeps = λ numbers apart are holds. holds;
+  keeps = λ holds. holds;
   pairs = same_pairs (g.L.Lookaside.entries c.args.tlb.now);
   random = refl;
   room = c.requires.room;
@@ -80,16 +80,16 @@ loop-order-preserved g c =
       named = c.command.ensures.named ∙ i.named;
       count = (let all = i.count in let one = c.command.ensures.lines in omega (arith, all, one, longer, same));
       low = low_then c.args.memory.now c.loop-order.memory c.command.new.memory i.low c.command.ensures.low;
-      keeps = λ numbers apart are holds. c.command.ensures.keeps numbers apart are (i.keeps numbers apart are holds);
+      keeps = λ holds. c.command.ensures.keeps (i.keeps holds);
       pairs = joined_pairs (g.L.Lookaside.entries c.args.tlb.now) (g.L.Lookaside.entries c.loop-order.tlb) (g.L.Lookaside.entries c.command.new.tlb) i.pairs c.command.ensures.pairs;
       random = c.command.ensures.random ∙ i.random;
       room = subst (λ (d : InputValue). HasLogRoom (commands_by now d.commands) next) (sym still)
           (c.command.ensures.room (commands_by now left.commands) (fewer_lines (commands_by now left.commands + 1) (commands_by now last.due.commands) (record last { due = left }) (omega (arith, more)) i.room));
       rest =
           c.command.ensures.rest
-          ∙ (ap (λ (d : InputValue). record last { grants = next.grants; tables = next.tables; seats = next.seats; ready = next.ready; log = next.log; lines = next.lines; due = d }) c.take_command.ensures.rest
-          ∙ (ap (λ (m : Monitor). record m { grants = next.grants; tables = next.tables; seats = next.seats; ready = next.ready; log = next.log; lines = next.lines; due = record m.due { commands = left.commands } }) i.rest
-          ∙ ap (λ (d : InputValue). record c.args.self.now { grants = next.grants; tables = next.tables; seats = next.seats; ready = next.ready; log = next.log; lines = next.lines; due = record c.args.self.now.due { commands = d.commands } }) (sym still)));
+          ∙ (ap (λ (d : InputValue). record last { grants = next.grants; tables = next.tables; spaces = next.spaces; seats = next.seats; ready = next.ready; log = next.log; lines = next.lines; due = d }) c.take_command.ensures.rest
+          ∙ (ap (λ (m : Monitor). record m { grants = next.grants; tables = next.tables; spaces = next.spaces; seats = next.seats; ready = next.ready; log = next.log; lines = next.lines; due = record m.due { commands = left.commands } }) i.rest
+          ∙ ap (λ (d : InputValue). record c.args.self.now { grants = next.grants; tables = next.tables; spaces = next.spaces; seats = next.seats; ready = next.ready; log = next.log; lines = next.lines; due = record c.args.self.now.due { commands = d.commands } }) (sym still)));
     }
 
 pub returns-clause-serves : goal.returns-clause-serves

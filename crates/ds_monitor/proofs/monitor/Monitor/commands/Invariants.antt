@@ -1,5 +1,4 @@
 use Rattle.std.proofs.Common.{◌≡◌, ◌+◌, ◌≤◌, ℕ, List, length}
-use Rattle.ds_grants.specs.Buffer.{one_space}
 use Rattle.ds_grants.specs.Represented.{IsLow, Keeps}
 use Rattle.ds_refinement.specs.Held.{Kept}
 use Rattle.ds_refinement.specs.Pairs.{HasNoNewPairs}
@@ -17,13 +16,14 @@ invariant-loop-order g l = record {
   named : l.self.grants.named ≡ l.fn.self.grants.named;
   count : l.self.lines + length l.self.due.commands ≤ l.fn.self.lines + length l.fn.self.due.commands;
   low : IsLow l.fn.memory l.memory;
-  keeps : Keeps one_space (g.L.Lookaside.entries l.fn.tlb) l.fn.memory l.fn.self.tables l.fn.self.grants (g.L.Lookaside.entries l.tlb) l.memory l.self.tables l.self.grants;
+  keeps : Keeps (g.L.Lookaside.entries l.fn.tlb) l.fn.memory l.fn.self.tables l.fn.self.spaces l.fn.self.grants (g.L.Lookaside.entries l.tlb) l.memory l.self.tables l.self.spaces l.self.grants;
   pairs : HasNoNewPairs (g.L.Lookaside.entries l.fn.tlb) (g.L.Lookaside.entries l.tlb);
   random : g.L.Lookaside.random_place l.tlb ≡ g.L.Lookaside.random_place l.fn.tlb;
   room : HasLogRoom (commands_by l.fn.self.time l.self.due.commands) l.self;
   rest : l.self ≡ record l.fn.self {
     grants = l.self.grants;
     tables = l.self.tables;
+    spaces = l.self.spaces;
     seats = l.self.seats;
     ready = l.self.ready;
     log = l.self.log;

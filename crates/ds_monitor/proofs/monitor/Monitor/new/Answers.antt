@@ -1,8 +1,10 @@
-use Rattle.std.proofs.Common.{◌∙◌, sym, ap, subst, length, map, List}
+use Rattle.std.proofs.Common.{◌∙◌, sym, ap, subst, arith, length, map, List}
 use Rattle.ds_policy.specs.declared.policy.PolicyProcess.{PolicyProcess}
 use Rattle.ds_policy.specs.Value.{InputValue}
 use Rattle.ds_grants.specs.State.{GrantsState, pages_in}
+use Rattle.ds_asid.specs.Spaces.{Spaces, after_take}
 use Rattle.ds_grants.specs.Represented.{IsRepresented}
+use Rattle.ds_grants.proofs.Handing.{takes_number}
 use Rattle.ds_pagemap.specs.First.{first_process, first_state, numbers}
 use Rattle.ds_refinement.specs.Held.{Kept}
 use Rattle.ds_refinement.specs.First.{first_kept}
@@ -19,10 +21,10 @@ returns-clause-first g c =
     let policy = c.args.policy.now in
     let images = c.args.images.now in
     ap (λ (m : Monitor). kept_of m) c.look_ahead.ensures
-    ∙ (begins policy images c.args.events _ _ _ _ _ _ _ _ _ _
+    ∙ (begins policy images c.args.events _ _ _ _ _ _ _ _ _ _ _
     (c.in_ok-seats.ensures ∙ ap (map first_process) c.processes.ensures.all)
     (c.all_ready.ensures ∙ ap (λ (ps : List PolicyProcess). numbers (length ps) 1) c.processes-3.ensures.all)
-    c.in_ok-queues.ensures c.new-2.ensures c.new-3.ensures.items c.rate.ensures.all (ap (λ (i : InputValue). i.commands) c.new-4.ensures) (ap (λ (i : InputValue). i.characters) c.new-4.ensures) c.in_ok-grants.ensures.state
+    c.in_ok-queues.ensures c.new-2.ensures c.new-3.ensures.items c.rate.ensures.all (ap (λ (i : InputValue). i.commands) c.new-4.ensures) (ap (λ (i : InputValue). i.characters) c.new-4.ensures) c.in_ok-grants.ensures.state (c.take.ensures.value ∙ ap (λ (s : Spaces). after_take s 1) c.in_ok-grants.ensures.spaces)
     ∙ sym (ap (λ (m : Monitor). first_kept policy images c.args.events m.tables) c.look_ahead.ensures))
 
 pub returns-clause-kept : goal.returns-clause-kept
@@ -44,6 +46,6 @@ returns-clause-next g c =
     ap (λ (m : Monitor). m.quiet_until) c.look_ahead.ensures ∙ sym (ap (λ (m : Monitor). next_due (kept_of m)) c.look_ahead.ensures)
 
 pub returns-clause-represented : goal.returns-clause-represented
-returns-clause-represented g c = λ few empty numbers.
-    subst (λ (m : Monitor). IsRepresented (g.L.Lookaside.entries c.new.new.tlb) c.new.new.memory m.tables numbers m.grants) (sym c.look_ahead.ensures)
-    (c.in_ok-grants.ensures.represented few empty numbers)
+returns-clause-represented g c = λ few empty.
+    subst (λ (m : Monitor). IsRepresented (g.L.Lookaside.entries c.take.new.tlb) c.new.new.memory m.tables m.spaces m.grants) (sym c.look_ahead.ensures)
+    (takes_number g.L.Lookaside.SLOTS 1 few (omega arith) c.take.ensures.buffer c.take.ensures.value (c.in_ok-grants.ensures.represented few empty))

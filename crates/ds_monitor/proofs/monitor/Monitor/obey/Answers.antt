@@ -21,10 +21,10 @@ returns-in-Grant-clause-obeys g c =
     let x = c.args.memory.now in
     let p = c.in-Grant.process in
     let a = c.in-Grant.address in
-    subst (λ (z : Command). Obeys n z k x (record k { grants = c.grant.new.self; tables = c.grant.new.tables }) c.grant.new.memory c.grant.result) (sym c.in-Grant.is)
-    (grants_obey _ n (command.Grant c.in-Grant.process c.in-Grant.address c.in-Grant.page c.in-Grant.right c.in-Grant.give) k c.grant.new.self c.grant.new.tables x c.grant.new.memory c.grant.result (grant (lives_in k.grants) (page_state k.grants x) p a c.in-Grant.page c.in-Grant.right c.in-Grant.give (1000 + n))
+    subst (λ (z : Command). Obeys n z k x (record k { grants = c.grant.new.self; tables = c.grant.new.tables; spaces = c.grant.new.spaces }) c.grant.new.memory c.grant.result) (sym c.in-Grant.is)
+    (grants_obey _ n (command.Grant c.in-Grant.process c.in-Grant.address c.in-Grant.page c.in-Grant.right c.in-Grant.give) k c.grant.new.self c.grant.new.tables c.grant.new.spaces x c.grant.new.memory c.grant.result (grant (lives_in k.grants) (page_state k.grants x) p a c.in-Grant.page c.in-Grant.right c.in-Grant.give (1000 + n))
     (λ (log : List Line). ap (or_logged (whole k x log) n) (grant_as (lives (whole k x log)) (lives_in k.grants) (page_state k.grants x) p a (lives_as (whole k x log) k.grants p c.requires.marks) c.in-Grant.page c.in-Grant.right c.in-Grant.give (1000 + n)))
-    (record { memory = refl; log = refl }) c.grant.ensures.does c.grant.ensures.refused)
+    (record { memory = refl; log = refl }) c.grant.ensures.does c.grant.ensures.refused c.grant.ensures.spaces)
 
 pub returns-in-Narrow-clause-obeys : goal.returns-in-Narrow-clause-obeys
 returns-in-Narrow-clause-obeys g c =
@@ -33,10 +33,10 @@ returns-in-Narrow-clause-obeys g c =
     let x = c.args.memory.now in
     let p = c.in-Narrow.process in
     let a = c.in-Narrow.address in
-    subst (λ (z : Command). Obeys n z k x (record k { grants = c.narrow.new.self; tables = c.narrow.new.tables }) c.narrow.new.memory c.narrow.result) (sym c.in-Narrow.is)
-    (grants_obey _ n (command.Narrow c.in-Narrow.process c.in-Narrow.address) k c.narrow.new.self c.narrow.new.tables x c.narrow.new.memory c.narrow.result (narrow (lives_in k.grants) (page_state k.grants x) p a)
+    subst (λ (z : Command). Obeys n z k x (record k { grants = c.narrow.new.self; tables = c.narrow.new.tables; spaces = c.narrow.new.spaces }) c.narrow.new.memory c.narrow.result) (sym c.in-Narrow.is)
+    (grants_obey _ n (command.Narrow c.in-Narrow.process c.in-Narrow.address) k c.narrow.new.self c.narrow.new.tables c.narrow.new.spaces x c.narrow.new.memory c.narrow.result (narrow (lives_in k.grants) (page_state k.grants x) p a)
     (λ (log : List Line). ap (or_logged (whole k x log) n) (narrow_as (lives (whole k x log)) (lives_in k.grants) (page_state k.grants x) p a (lives_as (whole k x log) k.grants p c.requires.marks)))
-    (record { memory = refl; log = refl }) c.narrow.ensures.does c.narrow.ensures.refused)
+    (record { memory = refl; log = refl }) c.narrow.ensures.does c.narrow.ensures.refused c.narrow.ensures.spaces)
 
 pub returns-in-Revoke-clause-obeys : goal.returns-in-Revoke-clause-obeys
 returns-in-Revoke-clause-obeys g c =
@@ -45,10 +45,10 @@ returns-in-Revoke-clause-obeys g c =
     let x = c.args.memory.now in
     let p = c.in-Revoke.process in
     let a = c.in-Revoke.address in
-    subst (λ (z : Command). Obeys n z k x (record k { grants = c.revoke.new.self; tables = c.revoke.new.tables }) c.revoke.new.memory c.revoke.result) (sym c.in-Revoke.is)
-    (grants_obey _ n (command.Revoke c.in-Revoke.process c.in-Revoke.address) k c.revoke.new.self c.revoke.new.tables x c.revoke.new.memory c.revoke.result (revoke (lives_in k.grants) (page_state k.grants x) p a (1000 + n))
+    subst (λ (z : Command). Obeys n z k x (record k { grants = c.revoke.new.self; tables = c.revoke.new.tables; spaces = c.revoke.new.spaces }) c.revoke.new.memory c.revoke.result) (sym c.in-Revoke.is)
+    (grants_obey _ n (command.Revoke c.in-Revoke.process c.in-Revoke.address) k c.revoke.new.self c.revoke.new.tables c.revoke.new.spaces x c.revoke.new.memory c.revoke.result (revoke (lives_in k.grants) (page_state k.grants x) p a (1000 + n))
     (λ (log : List Line). ap (or_logged (whole k x log) n) (revoke_as (lives (whole k x log)) (lives_in k.grants) (page_state k.grants x) p a (lives_as (whole k x log) k.grants p c.requires.marks) (1000 + n)))
-    (record { memory = refl; log = refl }) c.revoke.ensures.does c.revoke.ensures.refused)
+    (record { memory = refl; log = refl }) c.revoke.ensures.does c.revoke.ensures.refused c.revoke.ensures.spaces)
 
 pub returns-in-Drop-clause-obeys : goal.returns-in-Drop-clause-obeys
 returns-in-Drop-clause-obeys g c =
@@ -57,10 +57,10 @@ returns-in-Drop-clause-obeys g c =
     let x = c.args.memory.now in
     let p = c.in-Drop.process in
     let a = c.in-Drop.address in
-    subst (λ (z : Command). Obeys n z k x (record k { grants = c.drop_page.new.self; tables = c.drop_page.new.tables }) c.drop_page.new.memory c.drop_page.result) (sym c.in-Drop.is)
-    (grants_obey _ n (command.Drop c.in-Drop.process c.in-Drop.address) k c.drop_page.new.self c.drop_page.new.tables x c.drop_page.new.memory c.drop_page.result (drop_by_command (lives_in k.grants) (page_state k.grants x) p a)
+    subst (λ (z : Command). Obeys n z k x (record k { grants = c.drop_page.new.self; tables = c.drop_page.new.tables; spaces = c.drop_page.new.spaces }) c.drop_page.new.memory c.drop_page.result) (sym c.in-Drop.is)
+    (grants_obey _ n (command.Drop c.in-Drop.process c.in-Drop.address) k c.drop_page.new.self c.drop_page.new.tables c.drop_page.new.spaces x c.drop_page.new.memory c.drop_page.result (drop_by_command (lives_in k.grants) (page_state k.grants x) p a)
     (λ (log : List Line). ap (or_logged (whole k x log) n) (drop_as (lives (whole k x log)) (lives_in k.grants) (page_state k.grants x) p a (lives_as (whole k x log) k.grants p c.requires.marks)))
-    (record { memory = refl; log = refl }) c.drop_page.ensures.does c.drop_page.ensures.refused)
+    (record { memory = refl; log = refl }) c.drop_page.ensures.does c.drop_page.ensures.refused c.drop_page.ensures.spaces)
 
 pub returns-in-Resume-clause-obeys : goal.returns-in-Resume-clause-obeys
 returns-in-Resume-clause-obeys g c =
@@ -72,16 +72,16 @@ returns-in-Stop-clause-obeys g c =
 
 pub returns-in-Grant-clause-pairs : goal.returns-in-Grant-clause-pairs
 returns-in-Grant-clause-pairs g c =
-    answered_pairs _ _ _ c.grant.result (g.L.Lookaside.entries c.args.tlb.now) (g.L.Lookaside.entries c.grant.new.tlb) c.in-Grant.address 1 c.grant.ensures.entries c.grant.ensures.refused
+    answered_pairs _ _ _ c.grant.result (g.L.Lookaside.entries c.args.tlb.now) (g.L.Lookaside.entries c.grant.new.tlb) c.in-Grant.address _ c.grant.ensures.entries c.grant.ensures.refused
 
 pub returns-in-Narrow-clause-pairs : goal.returns-in-Narrow-clause-pairs
 returns-in-Narrow-clause-pairs g c =
-    answered_pairs _ _ _ c.narrow.result (g.L.Lookaside.entries c.args.tlb.now) (g.L.Lookaside.entries c.narrow.new.tlb) c.in-Narrow.address 1 c.narrow.ensures.entries c.narrow.ensures.refused
+    answered_pairs _ _ _ c.narrow.result (g.L.Lookaside.entries c.args.tlb.now) (g.L.Lookaside.entries c.narrow.new.tlb) c.in-Narrow.address _ c.narrow.ensures.entries c.narrow.ensures.refused
 
 pub returns-in-Revoke-clause-pairs : goal.returns-in-Revoke-clause-pairs
 returns-in-Revoke-clause-pairs g c =
-    answered_pairs _ _ _ c.revoke.result (g.L.Lookaside.entries c.args.tlb.now) (g.L.Lookaside.entries c.revoke.new.tlb) c.in-Revoke.address 1 c.revoke.ensures.entries c.revoke.ensures.refused
+    answered_pairs _ _ _ c.revoke.result (g.L.Lookaside.entries c.args.tlb.now) (g.L.Lookaside.entries c.revoke.new.tlb) c.in-Revoke.address _ c.revoke.ensures.entries c.revoke.ensures.refused
 
 pub returns-in-Drop-clause-pairs : goal.returns-in-Drop-clause-pairs
 returns-in-Drop-clause-pairs g c =
-    answered_pairs _ _ _ c.drop_page.result (g.L.Lookaside.entries c.args.tlb.now) (g.L.Lookaside.entries c.drop_page.new.tlb) c.in-Drop.address 1 c.drop_page.ensures.entries c.drop_page.ensures.refused
+    answered_pairs _ _ _ c.drop_page.result (g.L.Lookaside.entries c.args.tlb.now) (g.L.Lookaside.entries c.drop_page.new.tlb) c.in-Drop.address _ c.drop_page.ensures.entries c.drop_page.ensures.refused

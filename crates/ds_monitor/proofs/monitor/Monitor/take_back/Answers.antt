@@ -18,10 +18,10 @@ returns-clause-serves g c = λ pc.
     let x = c.args.memory.now in
     let y = c.take-done.new.memory in
     subst (λ (n : Kept). Serves (λ (m : State). served m p pc (call.Take c.args.holder c.args.address)) k x n y) (sym c.answer.ensures.kept)
-    (number_serves (λ (m : State). take (lives m) m.memory p c.args.holder c.args.address) k x y c.take-done.new.self c.take-done.new.tables p c.answer_of.result c.take-done.result
+    (number_serves (λ (m : State). take (lives m) m.memory p c.args.holder c.args.address) k x y c.take-done.new.self c.take-done.new.tables c.take-done.new.spaces p c.answer_of.result c.take-done.result
     (take (lives_in k.grants) (page_state k.grants x) p c.args.holder c.args.address) (record { memory = refl; log = refl })
     (λ log. takes k x log p c.args.holder c.args.address c.requires.marks) c.take-done.ensures.does c.answer_of.ensures.done c.answer_of.ensures.refused)
 
 pub returns-clause-pairs : goal.returns-clause-pairs
 returns-clause-pairs g c =
-    answered_pairs _ _ _ c.take-done.result (g.L.Lookaside.entries c.args.tlb.now) (g.L.Lookaside.entries c.take-done.new.tlb) c.args.address 1 c.take-done.ensures.entries c.take-done.ensures.refused
+    answered_pairs _ _ _ c.take-done.result (g.L.Lookaside.entries c.args.tlb.now) (g.L.Lookaside.entries c.take-done.new.tlb) c.args.address _ c.take-done.ensures.entries c.take-done.ensures.refused

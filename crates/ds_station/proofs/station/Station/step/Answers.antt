@@ -1,5 +1,9 @@
+use Rattle.std.proofs.Common.{sym, subst}
+use Rattle.ds_log.proofs.Sends.{at_err}
+use Rattle.ds_refinement.specs.Held.{Held}
+use Rattle.ds_refinement.specs.Steps.{Stays}
 use Rattle.ds_kernel.specs.Parts.{held}
-use Rattle.ds_station.proofs.Runs.{sound_few}
+use Rattle.ds_station.proofs.Runs.{sound_few, stands_still}
 use Rattle.ds_station.proofs.station.Station.step.Goals as goal
 
 pub returns-clause-few : goal.returns-clause-few
@@ -7,3 +11,9 @@ returns-clause-few g c = sound_few (held c.step.new.self) c.step.ensures.good.so
 
 pub returns-in_err-step-clause-few : goal.returns-in_err-step-clause-few
 returns-in_err-step-clause-few g c = sound_few (held c.step.new.self) c.step.ensures.good.sound
+
+pub returns-in_err-step-clause-err : goal.returns-in_err-step-clause-err
+returns-in_err-step-clause-err g c =
+    at_err c.from_residual.result
+    (subst (λ (o : Held). Stays o (held c.step.new.self)) c.self.view_is
+    (subst (λ (h : Held). Stays (held c.self.inside.parts) h) (sym c.in_err-step.ensures.marked) (stands_still (held c.self.inside.parts))))

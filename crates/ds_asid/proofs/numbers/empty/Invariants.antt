@@ -1,6 +1,6 @@
 use Rattle.std.proofs.Common.{◌≡◌, ◌<◌, ℕ, get_or}
 use Rattle.ds_tlb.specs.Entries.{empty_entry}
-use Rattle.ds_grants.proofs.translation.flush.Given as goal
+use Rattle.ds_asid.proofs.numbers.empty.Given as goal
 
 abbrev pub invariant-loop-slot : goal.invariant-loop-slot
 invariant-loop-slot g l = record {
