@@ -26,6 +26,7 @@ class File:
         self.lines = [f"# {line}" for line in head] + ["# Written by tools/grants_cases.py."]
         self.model = Model(0, 0, 0)
         self.reasons = []  # of each refusal: its call, and all that speaks against it
+        self.changes = []  # of spaces.txt: each call, its process's kind, and whether the buffer has what changes
 
     def ask(self, asked, told=False):
         self.model, answered = answer(self.model, asked)
@@ -120,7 +121,7 @@ def refusals():
 
 
 def ask_all(file, processes):
-    """All entries, live bytes and what the buffer has."""
+    """All entries, live bytes, and what the buffer has for each process."""
     addresses = set()
     for p in processes:
         file.ask(f"addresses {p}")
@@ -129,8 +130,10 @@ def ask_all(file, processes):
             addresses.add(at)
     for page in file.model.live_pages()[:200]:
         file.ask(f"byte {page}")
-    for at in sorted(addresses):
-        file.ask(f"translation {at:08x}")
+    for p in processes:
+        file.ask(f"space {p}")
+        for at in sorted(addresses):
+            file.ask(f"translation {p} {at:08x}")
 
 
 def mostly(rng, good, every):
@@ -149,6 +152,8 @@ def random_call(model, rng, processes, places):
     p, q = mostly(rng, alive, processes), mostly(rng, alive, processes)
     verb = rng.choices(["grant", "give", "take", "drop", "revoke", "narrow", "write", "fill", "end"],
                        [20, 34, 10, 10, 5, 5, 10, 14, 0.2])[0]
+    if verb == "fill" and p not in alive:
+        p = alive[0]
     held = [at for at, entry in model.row(p).items() if entry[1] is not None]
     at = mostly(rng, held, places)
     if verb == "grant":
@@ -212,7 +217,90 @@ def many():
     return file
 
 
-WRITTEN = {"refusals.txt": refusals, "sequences.txt": sequences, "many.txt": many}
+SPACE_PLACES = [0x1000, 0x2000, 0x40_0000, 0x40_1000]  # of spaces.txt: the same for all; numbers alone tell them apart
+NEVER = 4  # of spaces.txt: so many processes come on the processor in the last round alone
+
+
+def kind_of_space(model, had, p):
+    """Whether a process has a number, had one before a flush, or never had one."""
+    return "held" if p in model.numbers else "lost" if p in had else "never"
+
+
+def change_of(model, rng, p):
+    """A call or command that changes an entry of this process, and where."""
+    row, others = model.row(p), [q for q in model.entries if model.lives(q)]
+    at = rng.choice([at for at in SPACE_PLACES if model.held(p, at) is not None] or SPACE_PLACES)
+    _, page, _, _, giver = model.at(p, at)
+    if at not in row or page is None:
+        q = rng.choice(others)
+        sources = [a for a, (_, page, _, give, _) in model.row(q).items() if page is not None and give]
+        if at not in row and sources and rng.random() < 0.75:
+            return f"give {q} {rng.choice(sources):08x} {p} {at:08x} {rng.choice([1, 1, 3])}", at
+        return f"grant {p} {at:08x} {rng.randrange(model.named)} {rng.choice(['read', 'write'])} give 2", at
+    if giver and rng.random() < 0.875:
+        return f"take {giver} {p} {at:08x}", at
+    return rng.choice([f"narrow {p} {at:08x}", f"narrow {p} {at:08x}", f"revoke {p} {at:08x} 3",
+                       f"drop {p} {at:08x} own", f"drop {p} {at:08x} command"]), at
+
+
+def change(file, rng, had, everybody):
+    """An entry changes of a process of some kind; asked is what the buffer has there for it, and for others."""
+    kinds = {}
+    for p in everybody:
+        if file.model.lives(p):
+            kinds.setdefault(kind_of_space(file.model, had, p), []).append(p)
+    kind = rng.choice(sorted(kinds))
+    p = rng.choice(kinds[kind])
+    if rng.random() < 0.02:
+        asked, places = f"end {p}", SPACE_PLACES
+    else:
+        asked, at = change_of(file.model, rng, p)
+        places = [at]
+    file.changes.append((asked.split()[0], kind, any(file.model.held(p, at) is not None for at in places)))
+    file.ask(asked)
+    for at in places:
+        file.ask(f"translation {p} {at:08x}")
+        others = [q for q in everybody if q != p and file.model.held(q, at) is not None]
+        for q in rng.sample(others, min(2, len(others))):
+            file.ask(f"translation {q} {at:08x}")
+
+
+def turn(file, rng, had, p):
+    """A process comes on the processor and misses; one that has a new number finds nothing that it hasn't put there."""
+    is_new = p not in file.model.numbers
+    file.ask(f"fill {p} {rng.choice(SPACE_PLACES):08x}")
+    had.add(p)
+    if is_new:
+        file.ask(f"space {p}")
+        for at in rng.sample(SPACE_PLACES, 2):
+            file.ask(f"translation {p} {at:08x}")
+
+
+def spaces():
+    """More processes than there are address spaces take turns, so that numbers run out again and again."""
+    file = File(["70 and 100 processes take turns, each in its address space, while entries change of processes that have a",
+                 "number, that had one before a flush, and that never had one. All have the same few addresses."])
+    for processes in (70, 100):
+        rng = random.Random(processes)
+        file.ask(f"start {processes} 300 {processes}")
+        everybody, had = list(range(1, processes + 1)), set()
+        for p in everybody:
+            for at in SPACE_PLACES:
+                file.ask(f"grant {p} {at:08x} {p - 1} {rng.choice(['read', 'write'])} give 1")
+        for rounds in range(5):
+            for p in everybody if rounds == 4 else everybody[:-NEVER]:
+                if file.model.lives(p):
+                    turn(file, rng, had, p)
+                change(file, rng, had, everybody)
+        for p in everybody:
+            file.ask(f"space {p}")
+            for at in SPACE_PLACES:
+                file.ask(f"translation {p} {at:08x}")
+    return file
+
+
+WRITTEN = {"refusals.txt": refusals, "sequences.txt": sequences, "many.txt": many, "spaces.txt": spaces}
+REPLAYED = ("refusals.txt", "stories.txt", "sequences.txt", "many.txt", "spaces.txt")
 
 
 def wanted_output(texts):
@@ -233,7 +321,7 @@ def files():
     """What the files have to hold, and the program's output."""
     texts = {name: make().text() for name, make in WRITTEN.items()}
     told = {**texts, "stories.txt": (DATA / "stories.txt").read_text()}
-    output = wanted_output((name, told[name]) for name in ("refusals.txt", "stories.txt", "sequences.txt", "many.txt"))
+    output = wanted_output((name, told[name]) for name in REPLAYED)
     return {**{DATA / name: text for name, text in texts.items()}, OUTPUT: output}
 
 

@@ -6,7 +6,7 @@ from itertools import combinations
 
 sys.dont_write_bytecode = True
 
-from grants_cases import DATA, files, refusals  # noqa: E402
+from grants_cases import DATA, files, refusals, spaces  # noqa: E402
 from grants_model import Model, answer  # noqa: E402
 
 TOGETHER = {  # what can speak against a call together
@@ -37,6 +37,19 @@ class Tests(unittest.TestCase):
             met = {"-".join(map(str, pair)) for reasons in sets for pair in combinations(reasons, 2)}
             self.assertEqual(met, set(pairs.split()), call)
             self.assertEqual({reasons[0] for reasons in sets if len(reasons) == 1}, ALONE[call], call)
+
+    def test_each_call_changes_entries_of_processes_of_each_kind(self):
+        met = set(spaces().changes)
+        for call in ("grant", "give", "take", "drop", "narrow", "revoke", "end"):
+            for kind in ("held", "lost", "never"):
+                self.assertTrue(met & {(call, kind, True), (call, kind, False)}, (call, kind))
+        for call in ("take", "drop", "narrow", "revoke", "end"):
+            self.assertIn((call, "held", True), met)
+
+    def test_numbers_run_out_again_and_again(self):
+        asked = [line for line in spaces().lines if line.startswith(("start", "space"))]
+        firsts = [line.split()[-1] == "1" for line in asked]
+        self.assertGreater(sum(firsts), 8)
 
     def test_the_files_are_as_they_are_written(self):
         for path, text in files().items():

@@ -1,7 +1,7 @@
 //! What steps answer.
 
 use crate::grants::page_words::fits_after;
-use crate::grants::replay::{FIRST_FRAME, Replay, SPACE};
+use crate::grants::replay::{FIRST_FRAME, Replay};
 use crate::machine::memory::{MIXED, fill, filled};
 use crate::machine::told::said;
 use ds_grants::GrantFault;
@@ -29,7 +29,9 @@ pub fn answer<L: Lookaside>(
         ("entry", [process, address]) => told_entry(alloc, replay.entry(*process, *address)),
         ("addresses", [process]) => addresses(alloc, replay, *process),
         ("byte", [page]) => told_byte(alloc, filled(&replay.memory, frame_of(*page))),
-        ("translation", [address]) => translation(alloc, replay, *address),
+        ("enter", [first, last]) => entered(alloc, replay, *first, *last),
+        ("space", [process]) => told_space(alloc, replay.space_of(*process)),
+        ("translation", [process, address]) => translation(alloc, replay, *process, *address),
         _ => called(alloc, replay, verb, operands),
     }
 }
@@ -127,25 +129,54 @@ fn push_address(text: &mut String, address: u32) -> Result<(), AllocError> {
     write!(text, "{address:08x}")
 }
 
-/// The page to which the buffer leads an access of this kind, if to one.
-fn page_of<L: Lookaside>(replay: &mut Replay<L>, kind: Kind, address: u32) -> Option<u32> {
+/// Lets processes come on the processor, one after the other.
+fn entered<L: Lookaside>(
+    alloc: Global,
+    replay: &mut Replay<L>,
+    first: u32,
+    last: u32,
+) -> Result<Option<String>, AllocError> {
+    if !replay.is_within(first) || !replay.is_within(last) {
+        return Ok(None);
+    }
+    for process in first..=last {
+        replay.enter(process);
+    }
+    said(alloc, "ok")
+}
+
+/// The number of an address space, if there is one.
+fn told_space(alloc: Global, number: Option<u8>) -> Result<Option<String>, AllocError> {
+    match number {
+        Some(number) => told_number(alloc, u32::from(number)),
+        None => said(alloc, "none"),
+    }
+}
+
+/// The page to which the buffer leads an access of this kind in an address space, if to one.
+fn page_of<L: Lookaside>(buffer: &mut L, kind: Kind, address: u32, asid: u8) -> Option<u32> {
     let vpn = address >> 12;
-    let base = match replay.buffer.recalled(kind, vpn, SPACE) {
+    let base = match buffer.recalled(kind, vpn, asid) {
         Some(base) => base,
-        None => replay.buffer.base(kind, vpn, SPACE)?,
+        None => buffer.base(kind, vpn, asid)?,
     };
     (base / 4096).checked_sub(FIRST_FRAME)
 }
 
-/// What the buffer answers to the process that runs: the page that it may read, or also write.
+/// What the buffer answers to a process: the page that it may read, or also write. A process that
+/// has no address space is answered nothing.
 fn translation<L: Lookaside>(
     alloc: Global,
     replay: &mut Replay<L>,
+    process: u32,
     address: u32,
 ) -> Result<Option<String>, AllocError> {
-    let fetched = page_of(replay, Kind::Fetch, address);
-    let loaded = page_of(replay, Kind::Load, address);
-    let stored = page_of(replay, Kind::Store, address);
+    let Some(asid) = replay.space_of(process) else {
+        return said(alloc, "none");
+    };
+    let fetched = page_of(&mut replay.buffer, Kind::Fetch, address, asid);
+    let loaded = page_of(&mut replay.buffer, Kind::Load, address, asid);
+    let stored = page_of(&mut replay.buffer, Kind::Store, address, asid);
     match (loaded, stored) {
         (None, None) if fetched.is_none() => said(alloc, "none"),
         (Some(page), None) if fetched == loaded => told_page(alloc, "read", page),

@@ -1,7 +1,8 @@
-//! The grants on which a file is replayed, with the memory, the page tables in it, and the translation
-//! buffer beside them.
+//! The grants on which a file is replayed, with the memory, the page tables in it, the address spaces
+//! and the translation buffer beside them.
 ghost use Rattle.std.specs.Prelude.{◌≡◌, ◌<◌, ◌≤◌, true, length};
 
+use ds_asid::Asids;
 use ds_grants::{GrantFault, Grants};
 use ds_mem::{Memory, OutOfMemory};
 use ds_policy::{Grant, Right};
@@ -18,9 +19,6 @@ const PROCESSES: u32 = 100;
 /// The most pages.
 const PAGES: u32 = 1024;
 
-/// The address space of the process that runs.
-pub const SPACE: u8 = 1;
-
 /// Where Random starts.
 const RANDOM: usize = 63;
 
@@ -31,6 +29,7 @@ pub struct Replay<L> {
     named: u32,
     pub memory: Memory,
     pub tables: Tables,
+    pub spaces: Asids,
     pub buffer: L,
     ghost names: { grants.named ≡ named },
 }
@@ -55,6 +54,7 @@ impl<L: Lookaside> Replay<L> {
             named,
             memory: Memory::new(alloc)?,
             tables: Tables::new(processes),
+            spaces: Asids::new(),
             buffer: new_buffer(),
         })
     }
@@ -63,6 +63,7 @@ impl<L: Lookaside> Replay<L> {
     pub fn is_within(&self, process: u32) -> bool
         ensures low { result ≡ true → 0 < process }
         ensures high { result ≡ true → process ≤ length self.now.grants.table }
+        ensures few { result ≡ true → process ≤ 100 }
     {
         process > 0 && process as usize <= self.grants.table().processes()
     }
@@ -77,7 +78,6 @@ impl<L: Lookaside> Replay<L> {
     ///     narrow PROCESS ADDRESS
     ///     end PROCESS
     pub fn call(&mut self, verb: &str, operands: &[u32]) -> Option<Result<(), GrantFault>> {
-        let (memory, tables, buffer) = (&mut self.memory, &mut self.tables, &mut self.buffer);
         match (verb, operands) {
             ("give", [caller, address, receiver, to, mode]) => {
                 self.give(*caller, *address, *receiver, *to, *mode)
@@ -90,30 +90,34 @@ impl<L: Lookaside> Replay<L> {
                 };
                 self.grant(*process, *address, *page, right, *give == 1, *rule)
             }
-            ("take", [caller, process, address]) => {
-                Some(
-                    self.grants
-                        .take(*caller, *process, *address, memory, tables, buffer),
-                )
-            }
             ("drop", [process, address, by_command @ 0..=1]) => {
                 self.drop_page(*process, *address, *by_command == 1)
             }
+            ("end", [process]) => self.end(*process),
+            _ => self.call_anyhow(verb, operands),
+        }
+    }
+
+    /// The outcome of a call that is asked whoever the process is.
+    fn call_anyhow(&mut self, verb: &str, operands: &[u32]) -> Option<Result<(), GrantFault>> {
+        let (memory, tables) = (&mut self.memory, &mut self.tables);
+        let (spaces, buffer) = (&mut self.spaces, &mut self.buffer);
+        let outcome = match (verb, operands) {
+            ("take", [caller, process, address]) => {
+                self.grants
+                    .take(*caller, *process, *address, memory, tables, spaces, buffer)
+            }
             ("revoke", [process, address, rule]) => {
-                Some(
-                    self.grants
-                        .revoke(*process, *address, *rule, memory, tables, buffer),
-                )
+                self.grants
+                    .revoke(*process, *address, *rule, memory, tables, spaces, buffer)
             }
             ("narrow", [process, address]) => {
-                Some(
-                    self.grants
-                        .narrow(*process, *address, memory, tables, buffer),
-                )
+                self.grants
+                    .narrow(*process, *address, memory, tables, spaces, buffer)
             }
-            ("end", [process]) => self.end(*process),
-            _ => None,
-        }
+            _ => return None,
+        };
+        Some(outcome)
     }
 
     /// A process gives what it has.
@@ -128,8 +132,12 @@ impl<L: Lookaside> Replay<L> {
         if !self.is_within(caller) {
             return None;
         }
-        let (memory, tables, buffer) = (&mut self.memory, &mut self.tables, &mut self.buffer);
-        Some(self.grants.give(caller, address, receiver, to, mode, memory, tables, buffer))
+        let (memory, tables) = (&mut self.memory, &mut self.tables);
+        let (spaces, buffer) = (&mut self.spaces, &mut self.buffer);
+        let outcome = self.grants.give(
+            caller, address, receiver, to, mode, memory, tables, spaces, buffer,
+        );
+        Some(outcome)
     }
 
     /// The operator grants a page that has a name.
@@ -145,12 +153,12 @@ impl<L: Lookaside> Replay<L> {
         if page >= self.named || right == Right::Nothing {
             return None;
         }
-        let (memory, tables, buffer) = (&mut self.memory, &mut self.tables, &mut self.buffer);
-        Some(
-            self.grants.grant(
-                process, address, page, right, give, rule, memory, tables, buffer,
-            ),
-        )
+        let (memory, tables) = (&mut self.memory, &mut self.tables);
+        let (spaces, buffer) = (&mut self.spaces, &mut self.buffer);
+        let outcome = self.grants.grant(
+            process, address, page, right, give, rule, memory, tables, spaces, buffer,
+        );
+        Some(outcome)
     }
 
     /// A process drops an entry, or the operator does.
@@ -163,11 +171,12 @@ impl<L: Lookaside> Replay<L> {
         if !by_command && !self.is_within(process) {
             return None;
         }
-        let (memory, tables, buffer) = (&mut self.memory, &mut self.tables, &mut self.buffer);
-        Some(
-            self.grants
-                .drop_page(process, address, by_command, memory, tables, buffer),
-        )
+        let (memory, tables) = (&mut self.memory, &mut self.tables);
+        let (spaces, buffer) = (&mut self.spaces, &mut self.buffer);
+        let outcome = self
+            .grants
+            .drop_page(process, address, by_command, memory, tables, spaces, buffer);
+        Some(outcome)
     }
 
     /// A process ends.
@@ -179,9 +188,28 @@ impl<L: Lookaside> Replay<L> {
             process,
             &mut self.memory,
             &mut self.tables,
+            &mut self.spaces,
             &mut self.buffer,
         );
         Some(Ok(()))
+    }
+
+    /// The number of a process's address space, if it has one.
+    pub fn space_of(&self, process: u32) -> Option<u8> {
+        self.spaces.of(process)
+    }
+
+    /// The number of a process that comes on the processor: its own, or else the next. None where
+    /// there is no such process.
+    pub fn enter(&mut self, process: u32) -> Option<u8> {
+        if !self.is_within(process) {
+            return None;
+        }
+        let number = match self.spaces.of(process) {
+            Some(number) => number,
+            None => self.spaces.take(process, &mut self.buffer),
+        };
+        Some(number)
     }
 
     /// What is granted to a process at an address.
@@ -192,22 +220,25 @@ impl<L: Lookaside> Replay<L> {
         self.grants.table().entry(process, address)
     }
 
-    /// Puts what a process is granted at an address into the slot that Random names, where the buffer
-    /// has nothing for it; whether it did.
+    /// Lets a process come on the processor, and puts what it is granted at an address into the slot
+    /// that Random names, where the buffer has nothing for it; whether it did.
     pub fn fill(&mut self, process: u32, address: u32) -> bool {
         let vpn = address >> 12;
+        let Some(asid) = self.enter(process) else {
+            return false;
+        };
         let Some(grant) = self.entry(process, address) else {
             return false;
         };
         let Some(page) = grant.page else {
             return false;
         };
-        if self.buffer.find(vpn, SPACE).is_some() {
+        if self.buffer.find(vpn, asid).is_some() {
             return false;
         }
         self.buffer.write_random(Entry {
             vpn,
-            asid: SPACE,
+            asid,
             pfn: page.saturating_add(FIRST_FRAME),
             n: false,
             d: grant.right == Right::Write,

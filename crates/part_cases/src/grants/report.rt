@@ -14,11 +14,12 @@ use std::rt::Files;
 use std::{fs, io};
 
 /// The files.
-const FILES: [&str; 4] = [
+const FILES: [&str; 5] = [
     "grants/refusals.txt",
     "grants/stories.txt",
     "grants/sequences.txt",
     "grants/many.txt",
+    "grants/spaces.txt",
 ];
 
 /// How many lines that differ are told.
@@ -65,11 +66,13 @@ fn parts_of(line: &str) -> (&str, &str) {
 ///
 ///     start PROCESSES FRAMES NAMED    anew, with no entries
 ///     write PAGE BYTE                 fills the page's frame
-///     fill PROCESS ADDRESS            what a miss of the process there leads to
+///     enter FIRST LAST                these processes come on the processor, one after the other
+///     fill PROCESS ADDRESS            the process comes on the processor, and a miss of it there
 ///     entry PROCESS ADDRESS           what is granted there
 ///     addresses PROCESS               those of all its entries, in the order in which they came
 ///     byte PAGE                       what the page's frame is filled with
-///     translation ADDRESS             what the buffer answers
+///     space PROCESS                   the number of its address space
+///     translation PROCESS ADDRESS     what the buffer answers it
 fn answered<L: Lookaside>(
     alloc: Global,
     replay: &mut Replay<L>,
