@@ -181,7 +181,7 @@ class Made(Run):
         address = rng.choice([OWN, OWN, NEXT, NEXT, GIVEN, FAR, START])
         if not self.has_right(p, address):
             page = rng.choice([self.own(p), self.own(rng.randrange(1, self.count + 1))])
-            return "grant", p, address, page, rng.choice(["read", "write"]), rng.random() < 0.5
+            return "grant", p, address, 0 if address == START else page, rng.choice(["read", "write"]), rng.random() < 0.5
         return rng.choice(["narrow", "narrow", "revoke", "drop"]), p, address
 
 
