@@ -104,8 +104,7 @@ impl<L: Lookaside> Replay<L> {
         let (spaces, buffer) = (&mut self.spaces, &mut self.buffer);
         let outcome = match (verb, operands) {
             ("take", [caller, process, address]) => {
-                self.grants
-                    .take(*caller, *process, *address, memory, tables, spaces, buffer)
+                self.grants.take(*caller, *process, *address, memory, tables, spaces, buffer)
             }
             ("revoke", [process, address, rule]) => {
                 self.grants
@@ -173,9 +172,9 @@ impl<L: Lookaside> Replay<L> {
         }
         let (memory, tables) = (&mut self.memory, &mut self.tables);
         let (spaces, buffer) = (&mut self.spaces, &mut self.buffer);
-        let outcome = self
-            .grants
-            .drop_page(process, address, by_command, memory, tables, spaces, buffer);
+        let outcome = self.grants.drop_page(
+            process, address, by_command, memory, tables, spaces, buffer,
+        );
         Some(outcome)
     }
 
