@@ -10,7 +10,7 @@ use Rattle.ds_asm.specs.Forms.{Written, form_named}
 use Rattle.ds_asm.specs.Operands.{Instruction, Target, BranchTo, JumpTo, bare, before_close, has_comma, is_code, is_link, with_indexed, with_number, with_operand, with_operands, with_register, with_signed, with_target, with_value}
 use Rattle.ds_asm.specs.Lines.{Statement, Encoded, Byte, Space, mnemonic_of, behind_mnemonic, number_word, statement_named, statement_of, with_statement, with_label, line_of}
 use Rattle.ds_asm.specs.Assembly.{is_reserved_word}
-use Rattle.ds_source_reasons.specs.Plain.{AssemblerNumber}
+use Rattle.ds_asm.specs.declared.number.Number as code
 use Rattle.ds_source_reasons.specs.Reasons.{or_next}
 use Rattle.ds_source_reasons.specs.Ranges.{RangeReason, Reserved, bounded, operand_range, operands_range, datum_range, form_range, number_range, shape_of, word_range, shaped_range, named_range, text_range, parts_range, range_reason_of, is_refused, is_out_of_range}
 
@@ -32,13 +32,13 @@ and_true true = refl
 and_true false = refl
 
 -- a number in a field
-bounded_in : (b : Bool) (least most : ℕ) (text : List ℕ) (n : AssemblerNumber) → (b && is_within least most n) ≡ (b && not (is_some (bounded least most text (Some n))))
+bounded_in : (b : Bool) (least most : ℕ) (text : List ℕ) (n : code.Number) → (b && is_within least most n) ≡ (b && not (is_some (bounded least most text (Some n))))
 bounded_in b least most text n = elim (cases_Bool (is_within least most n)) [
   | inl e ↦ rw e refl
   | inr e ↦ rw e refl
 ]
 
-number_in : (f : Field) (least most : ℕ) (text : List ℕ) (i : Instruction) (n : Option AssemblerNumber) → ranged (option_map (λ m. with_number f least most m i) n) ≡ all_are (i.in_range && not (is_some (bounded least most text n))) (option_map (λ m. with_number f least most m i) n)
+number_in : (f : Field) (least most : ℕ) (text : List ℕ) (i : Instruction) (n : Option code.Number) → ranged (option_map (λ m. with_number f least most m i) n) ≡ all_are (i.in_range && not (is_some (bounded least most text n))) (option_map (λ m. with_number f least most m i) n)
 number_in f least most text i None = refl
 number_in f least most text i (Some n) = ap Some (bounded_in i.in_range least most text n)
 
@@ -117,13 +117,13 @@ bytes_refused : (a : Option RangeReason) (b : Bool) → not (is_some a) ≡ b �
 bytes_refused (Some r) b e = rw (sym e) refl
 bytes_refused None b e = rw (sym e) refl
 
-number_fits : (least most : ℕ) (text : List ℕ) (n : AssemblerNumber) → not (is_some (bounded least most text (Some n))) ≡ is_within least most n
+number_fits : (least most : ℕ) (text : List ℕ) (n : code.Number) → not (is_some (bounded least most text (Some n))) ≡ is_within least most n
 number_fits least most text n = elim (cases_Bool (is_within least most n)) [
   | inl e ↦ rw e refl
   | inr e ↦ rw e refl
 ]
 
-word_statement : (at : ℕ) (name text : List ℕ) (n : Option AssemblerNumber) → is_some (shaped_range at name (bounded 2147483648 4294967295 text n) (option_map shape_of (number_word n text))) ≡ is_refused at (number_word n text)
+word_statement : (at : ℕ) (name text : List ℕ) (n : Option code.Number) → is_some (shaped_range at name (bounded 2147483648 4294967295 text n) (option_map shape_of (number_word n text))) ≡ is_refused at (number_word n text)
 word_statement at name text (Some n) = word_refused at (bounded 2147483648 4294967295 text (Some n)) (is_within 2147483648 4294967295 n) (number_fits 2147483648 4294967295 text n)
 word_statement at name text None = elim (cases_Bool (is_name text)) [
   | inl e ↦ rw e (word_refused at None true refl)
@@ -134,7 +134,7 @@ word_in : (at : ℕ) (name : List ℕ) (left : Option (List ℕ)) → is_some (s
 word_in at name None = refl
 word_in at name (Some text) = word_statement at name text (number_of text)
 
-byte_statement : (at : ℕ) (name text : List ℕ) (n : Option AssemblerNumber) → is_some (shaped_range at name (bounded 128 255 text n) (option_map shape_of (option_map (λ m. Byte m) n))) ≡ is_refused at (option_map (λ m. Byte m) n)
+byte_statement : (at : ℕ) (name text : List ℕ) (n : Option code.Number) → is_some (shaped_range at name (bounded 128 255 text n) (option_map shape_of (option_map (λ m. Byte m) n))) ≡ is_refused at (option_map (λ m. Byte m) n)
 byte_statement at name text None = refl
 byte_statement at name text (Some n) = bytes_refused (bounded 128 255 text (Some n)) (is_within 128 255 n) (number_fits 128 255 text n)
 
@@ -142,7 +142,7 @@ byte_in : (at : ℕ) (name : List ℕ) (left : Option (List ℕ)) → is_some (s
 byte_in at name None = refl
 byte_in at name (Some text) = byte_statement at name text (number_of text)
 
-space_statement : (at : ℕ) (name text : List ℕ) (n : Option AssemblerNumber) → is_some (shaped_range at name (bounded 0 65536 text n) (option_map shape_of (option_map (λ m. Space m) n))) ≡ is_refused at (option_map (λ m. Space m) n)
+space_statement : (at : ℕ) (name text : List ℕ) (n : Option code.Number) → is_some (shaped_range at name (bounded 0 65536 text n) (option_map shape_of (option_map (λ m. Space m) n))) ≡ is_refused at (option_map (λ m. Space m) n)
 space_statement at name text None = refl
 space_statement at name text (Some n) = bytes_refused (bounded 0 65536 text (Some n)) (is_within 0 65536 n) (number_fits 0 65536 text n)
 

@@ -1,4 +1,3 @@
-pub mod WrittenForms
 pub mod Exact
 pub mod ExactRanges
 pub mod Passed

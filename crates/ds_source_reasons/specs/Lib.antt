@@ -1,5 +1,4 @@
 pub mod Operands
-pub mod Forms
 pub mod Reasons
 pub mod Plain
 pub mod Ranges

@@ -2,6 +2,7 @@
 use Rattle.std.specs.Prelude.{codes, ℕ, ◌-◌, ◌%◌, ◌^◌, Bool, true, false, not, ◌&&◌, ◌==◌, bytes_eq, if◌then◌else◌, List, [], ◌∷◌, Option, Some, None, option_map}
 use Rattle.ds_isa.specs.Fields.{Operand, Register, LinkRegister, SystemRegister, Number, Code, Signed, Branch, Jump, Indexed}
 use Rattle.ds_asm.specs.Characters.{is_name, trimmed, until, behind}
+use Rattle.ds_asm.specs.declared.number.Number as code
 use Rattle.ds_asm.specs.Numbers.{number_of, is_within}
 use Rattle.ds_asm.specs.Forms.{Written, form_named}
 use Rattle.ds_asm.specs.Operands as operands
@@ -10,7 +11,6 @@ use Rattle.ds_asm.specs.Lines.{Statement, Encoded, WordNumber, WordLabel, Byte, 
 use Rattle.ds_asm.specs.Assembly.{is_reserved_word, is_in_range, is_aligned}
 use Rattle.ds_source_reasons.specs.declared.shape.Shape.{Shape}
 use Rattle.ds_source_reasons.specs.declared.shape.Shape.TheVariants as shape
-use Rattle.ds_source_reasons.specs.Plain.{AssemblerNumber}
 use Rattle.ds_source_reasons.specs.Reasons.{or_next}
 
 -- the reasons, with what stands in the line
@@ -23,12 +23,12 @@ pub data RangeReason : Type 0 where
 -- Numbers.
 
 -- whether a number, if there is one, is from -least to most
-abbrev pub within : ℕ → ℕ → Option AssemblerNumber → Bool
+abbrev pub within : ℕ → ℕ → Option code.Number → Bool
 within least most None = true
 within least most (Some n) = is_within least most n
 
 -- the reason of a text that is this number
-abbrev pub bounded : ℕ → ℕ → List ℕ → Option AssemblerNumber → Option RangeReason
+abbrev pub bounded : ℕ → ℕ → List ℕ → Option code.Number → Option RangeReason
 bounded least most text n = if within least most n then None else Some (OutOfRange text least most)
 
 -- the reason of a number from 0 up to the greatest that a field of this width holds

@@ -1,51 +1,11 @@
 //! Characters of a source, and the parts of a line.
-ghost use Rattle.std.specs.Prelude.{◌≡◌, ◌≤◌, ◌<◌, ◌==◌, ◌||◌, length, option_map, count_by};
-ghost use Rattle.std.specs.List.{list_all, prefix_len, suffix_len, position_or_len};
-ghost use Rattle.ds_asm.specs.Characters.{is_blank, is_letter, is_digit, is_name, without_front_blanks, without_back_blanks, trimmed, until, behind};
+ghost use Rattle.std.specs.Prelude.{◌≡◌, ◌≤◌, ◌==◌, length, count_by};
+ghost use Rattle.std.specs.List.{position_or_len};
+ghost use Rattle.ds_asm.specs.Characters.{is_blank};
 ghost use Rattle.ds_asm.specs.Lines.{mnemonic_of};
 ghost use Rattle.ds_source_reasons.specs.Reasons.{after_word, has_byte};
 
-/// How many characters a name has at most.
-const MOST_NAME: usize = 32;
-
-/// Whether a character is a space, a tab or a carriage return.
-pub(crate) fn is_blank(c: u8) -> bool
-    ensures { result ≡ is_blank c }
-{
-    c == b' ' || c == b'\t' || c == b'\r'
-}
-
-/// Whether a character is a letter or the underscore.
-pub(crate) fn is_letter(c: u8) -> bool
-    ensures { result ≡ is_letter c }
-{
-    (b'a' <= c && c <= b'z') || (b'A' <= c && c <= b'Z') || c == b'_'
-}
-
-/// Whether a character is a decimal digit.
-pub(crate) fn is_digit(c: u8) -> bool
-    ensures { result ≡ is_digit c }
-{
-    b'0' <= c && c <= b'9'
-}
-
-/// Whether a text is a letter and then at most 31 letters and digits.
-pub(crate) fn is_name(text: &[u8]) -> bool
-    ensures { result ≡ is_name text.now }
-{
-    match text {
-        [] => false,
-        [first, rest @ ..] => is_letter(*first)
-            && rest.len() < MOST_NAME
-            && has_letters_and_digits(rest),
-    }
-}
-
-fn has_letters_and_digits(text: &[u8]) -> bool
-    ensures { result ≡ list_all (λ c. is_letter c || is_digit c) text.now }
-{
-    text.iter().all(|c| is_letter(*c) || is_digit(*c))
-}
+use ds_asm::{is_blank, without_front_blanks};
 
 /// Whether a text has this byte.
 pub(crate) fn has_byte(c: u8, text: &[u8]) -> bool
@@ -60,70 +20,6 @@ pub(crate) fn count_commas(text: &[u8]) -> usize
     ensures within { result ≤ length text.now }
 {
     text.iter().filter(|b| **b == b',').count()
-}
-
-fn count_front_blanks(text: &[u8]) -> usize
-    ensures exact { result ≡ prefix_len is_blank text.now }
-    ensures within { result ≤ length text.now }
-{
-    text.iter().take_while(|c| is_blank(**c)).count()
-}
-
-fn without_front_blanks(text: &[u8]) -> &[u8]
-    ensures { result.now ≡ without_front_blanks text.now }
-{
-    let count = count_front_blanks(text);
-    &text[count..]
-}
-
-fn count_back_blanks(text: &[u8]) -> usize
-    ensures exact { result ≡ suffix_len is_blank text.now }
-    ensures within { result ≤ length text.now }
-{
-    text.iter().rev().take_while(|c| is_blank(**c)).count()
-}
-
-/// A text without the blanks at its end.
-pub(crate) fn without_back_blanks(text: &[u8]) -> &[u8]
-    ensures { result.now ≡ without_back_blanks text.now }
-{
-    let count = count_back_blanks(text);
-    &text[..text.len() - count]
-}
-
-/// A text without the blanks at its ends.
-pub(crate) fn trimmed(text: &[u8]) -> &[u8]
-    ensures { result.now ≡ trimmed text.now }
-{
-    without_back_blanks(without_front_blanks(text))
-}
-
-fn place_of(c: u8, text: &[u8]) -> usize
-    ensures exact { result ≡ position_or_len (λ b. b == c) text.now }
-    ensures within { result ≤ length text.now }
-{
-    text.iter().take_while(|b| **b != c).count()
-}
-
-/// What stands before the first character `c`, or the whole text.
-pub(crate) fn until(c: u8, text: &[u8]) -> &[u8]
-    ensures { result.now ≡ until c text.now }
-{
-    let place = place_of(c, text);
-    &text[..place]
-}
-
-/// What stands before the first character `c`, and after it if there is one.
-pub(crate) fn split_at_first(c: u8, text: &[u8]) -> (&[u8], Option<&[u8]>)
-    ensures front { result.0.now ≡ until c text.now }
-    ensures back { option_map (λ t. t.now) result.1 ≡ behind c text.now }
-{
-    let place = place_of(c, text);
-    if place < text.len() {
-        (&text[..place], Some(&text[place + 1..]))
-    } else {
-        (text, None)
-    }
 }
 
 /// The first word of a text, and what stands after it and its blanks.

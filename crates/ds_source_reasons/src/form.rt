@@ -1,113 +1,11 @@
-//! The forms of instructions in a source.
-ghost use Rattle.std.specs.Prelude.{◌≡◌, ◌≤◌, ◌||◌, ◌*◌, ◌%◌, ◌^◌, ◌-◌, not, bytes_eq, count_by, length, option_map, map};
-ghost use Rattle.std.specs.List.{find};
-ghost use Rattle.ds_asm.specs.Forms.{form_named};
+//! What the operands of an instruction have to be.
+ghost use Rattle.std.specs.Prelude.{◌≡◌, ◌≤◌, ◌||◌, not, count_by, length, map};
+ghost use Rattle.ds_asm.specs.Forms.{operand_of};
 ghost use Rattle.ds_asm.specs.Operands.{is_code, is_link};
-ghost use Rattle.ds_source_reasons.specs.Forms.{written_of, field_of, operand_of};
 ghost use Rattle.ds_source_reasons.specs.Operands.{least_of, wanted_by};
 
 use crate::reason::Wanted;
-use ds_isa::instruction_table;
-
-/// Where an operand's value stands in a word.
-#[derive(Clone, Copy, Debug, PartialEq, Eq)]
-pub(crate) enum Place {
-    Rs,
-    Rt,
-    Rd,
-    Shamt,
-    Immediate,
-    Code,
-    Target,
-}
-
-/// What stands in an operand's place.
-#[derive(Clone, Copy, Debug, PartialEq, Eq)]
-pub(crate) enum Operand {
-    Register(Place),
-    /// A register that may be left out, which is 31.
-    LinkRegister,
-    /// A register of the system coprocessor.
-    SystemRegister,
-    /// A number from 0 up.
-    Number(Place),
-    /// A number from 0 up that may be left out, which is 0.
-    Code,
-    /// A signed number of 16 bits.
-    Signed,
-    /// A label in reach of a branch.
-    Branch,
-    /// A label in reach of a jump.
-    Jump,
-    /// A signed number, and the register of the base in parentheses after it.
-    Indexed,
-}
-
-/// How an instruction is written.
-#[derive(Clone, Copy)]
-pub(crate) struct Form {
-    name: &'static str,
-    /// The word with 0 in all operands.
-    pub(crate) word: u32,
-    pub(crate) operands: &'static [Operand],
-}
-
-/// An operand, by the word for it in the table of instructions.
-macro_rules! operand {
-    (rs) => { Operand::Register(Place::Rs) };
-    (rt) => { Operand::Register(Place::Rt) };
-    (rd) => { Operand::Register(Place::Rd) };
-    (link) => { Operand::LinkRegister };
-    (system) => { Operand::SystemRegister };
-    (shamt) => { Operand::Number(Place::Shamt) };
-    (unsigned) => { Operand::Number(Place::Immediate) };
-    (code) => { Operand::Code };
-    (signed) => { Operand::Signed };
-    (label) => { Operand::Branch };
-    (jump) => { Operand::Jump };
-    (indexed) => { Operand::Indexed };
-}
-
-/// The form of a word, with its name and operands as a row has them.
-macro_rules! form {
-    ($word:expr, $name:literal [$($operand:ident)*]) => {
-        Form { name: $name, word: $word, operands: &[$(operand!($operand)),*] }
-    };
-}
-
-macro_rules! form_rows {
-    (special { $($funct:literal $special:ident $field:tt zero $zero:tt $(given $condition:tt)? uses $use:tt written { $($text:tt)* };)* }
-     regimm { $($sign:literal $regimm:ident $place:tt zero $none:tt $(given $need:tt)? uses $using:tt written { $($line:tt)* };)* }
-     major { $($op:literal $major:ident $part:tt zero $nought:tt uses $used:tt written { $($form:tt)* };)* }
-     transfer { $($way:literal $transfer:ident $end:tt zero $nil:tt uses $using_these:tt written { $($words:tt)* };)* }
-     operation { $($number:literal $operation:ident [] zero [] uses $using_none:tt written { $($name:tt)* };)* }) => {
-        [
-            form!(0, "nop" []),
-            $(form!($funct, $($text)*),)*
-            $(form!(0x400_0000 + $sign * 0x1_0000, $($line)*),)*
-            $(form!($op * 0x400_0000, $($form)*),)*
-            $(form!(0x4000_0000 + $way * 0x20_0000, $($words)*),)*
-            $(form!(0x4200_0000 + $number, $($name)*),)*
-        ]
-    };
-}
-
-/// The forms: `nop`, and those of the table of instructions in its order.
-static FORMS: [Form; 66] = instruction_table!(form_rows);
-
-/// The form of a name.
-pub(crate) fn form_named(name: &[u8]) -> Option<&'static Form>
-    ensures { option_map (λ f. written_of f.now) result ≡ form_named name.now }
-{
-    form_among(FORMS.as_slice(), name)
-}
-
-fn form_among<'a>(forms: &'a [Form], name: &[u8]) -> Option<&'a Form>
-    ensures { option_map (λ f. f.now) result
-        ≡ find (λ f. bytes_eq f.name.now name.now) forms.now }
-{
-    forms.iter().find(|f| f.name.as_bytes() == name)
-}
+use ds_asm::Operand;
 
 /// How many operands have to be written.
 pub(crate) fn least_of(operands: &[Operand]) -> usize
@@ -128,60 +26,15 @@ fn count_written(operands: &[Operand]) -> usize
         .count()
 }
 
-impl Operand {
-    /// Whether it is a code, which may be left out.
-    pub(crate) fn is_code(self) -> bool
-        ensures { result ≡ is_code (operand_of self) }
-    {
-        matches!(self, Operand::Code)
-    }
-
-    /// Whether it is a link register, which may be left out.
-    pub(crate) fn is_link(self) -> bool
-        ensures { result ≡ is_link (operand_of self) }
-    {
-        matches!(self, Operand::LinkRegister)
-    }
-
-    /// What has to stand in its place.
-    pub(crate) fn wanted(self) -> Wanted
-        ensures { result ≡ wanted_by (operand_of self) }
-    {
-        match self {
-            Operand::Register(_) | Operand::LinkRegister => Wanted::Register,
-            Operand::SystemRegister => Wanted::SystemRegister,
-            Operand::Number(_) | Operand::Code | Operand::Signed => Wanted::Number,
-            Operand::Branch | Operand::Jump => Wanted::Label,
-            Operand::Indexed => Wanted::Address,
-        }
-    }
-}
-
-impl Place {
-    /// A value in its place, cut to the place's width.
-    pub(crate) fn put(self, value: u32) -> u32
-        ensures { result ≡ value % 2 ^ (field_of self).width * 2 ^ (field_of self).lo }
-    {
-        match self {
-            Place::Rs => value % 32 * 0x20_0000,
-            Place::Rt => value % 32 * 0x1_0000,
-            Place::Rd => value % 32 * 0x800,
-            Place::Shamt => value % 32 * 0x40,
-            Place::Immediate => value % 0x1_0000,
-            Place::Code => value % 0x10_0000 * 0x40,
-            Place::Target => value % 0x400_0000,
-        }
-    }
-
-    /// The greatest number that it holds.
-    pub(crate) fn most(self) -> u32
-        ensures { result ≡ 2 ^ (field_of self).width - 1 }
-    {
-        match self {
-            Place::Rs | Place::Rt | Place::Rd | Place::Shamt => 31,
-            Place::Immediate => 0xFFFF,
-            Place::Code => 0xF_FFFF,
-            Place::Target => 0x3FF_FFFF,
-        }
+/// What has to stand in the place of an operand.
+pub(crate) fn wanted_by(operand: Operand) -> Wanted
+    ensures { result ≡ wanted_by (operand_of operand) }
+{
+    match operand {
+        Operand::Register(_) | Operand::LinkRegister => Wanted::Register,
+        Operand::SystemRegister => Wanted::SystemRegister,
+        Operand::Number(_) | Operand::Code | Operand::Signed => Wanted::Number,
+        Operand::Branch | Operand::Jump => Wanted::Label,
+        Operand::Indexed => Wanted::Address,
     }
 }

@@ -4,15 +4,12 @@
 mod characters;
 mod fault;
 mod form;
-mod instruction;
 mod law;
 mod line;
 mod macros;
-mod number;
 mod operand;
 mod range;
 mod reason;
-mod register;
 mod shape;
 mod statement;
 mod target;

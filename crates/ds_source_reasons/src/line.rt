@@ -4,13 +4,13 @@ ghost use Rattle.std.specs.List.{find};
 ghost use Rattle.ds_source_reasons.specs.Plain.{plain_reason};
 ghost use Rattle.ds_source_reasons.specs.Reasons.{first_reason, has_dot, is_directive, is_written, labelled_reason, no_label, parts_reason, reason_of, said_reason, statement_text, word_reason};
 
-use crate::characters::{
-    has_byte, is_blank, is_digit, is_letter, is_name, split_at_first, split_word, trimmed, until,
-    without_back_blanks,
-};
+use crate::characters::{has_byte, split_word};
 use crate::macros::is_macro;
 use crate::reason::SyntaxReason;
 use crate::statement::text_reason;
+use ds_asm::{
+    is_blank, is_digit, is_letter, is_name, split_at_first, trimmed, until, without_back_blanks,
+};
 
 /// Why a line of a source, without its line feed, can't be read. There is none where it can.
 #[tactic(auto, unfolding(crate::specs::Reasons::reason_of))]

@@ -1,16 +1,17 @@
 //! What may stand in the place of an operand.
 ghost use Rattle.std.specs.Prelude.{◌≡◌, ◌+◌, ◌^◌, ◌<◌, [], option_map, map, length};
-ghost use Rattle.ds_source_reasons.specs.Forms.{operand_of};
+ghost use Rattle.ds_asm.specs.Forms.{operand_of};
 ghost use Rattle.ds_source_reasons.specs.Operands.{base_of, is_address, is_base, is_number_or_label, fits};
 ghost use Rattle.ds_source_reasons.specs.Plain.{plain_reason};
 ghost use Rattle.ds_source_reasons.specs.Reasons.{bad_base, bad_register, counted, counted_by, has_dollar, misfit, operand_count, operand_reason, operands_reason};
 
-use crate::characters::{count_commas, is_name, split_at_first, split_word, trimmed};
-use crate::form::{Operand, least_of};
-use crate::instruction::{before_close, has_comma};
-use crate::number::number_of;
+use crate::characters::{count_commas, split_word};
+use crate::form::{least_of, wanted_by};
 use crate::reason::{SyntaxReason, Wanted};
-use crate::register::{register_of, system_register_of};
+use ds_asm::{
+    Operand, before_close, has_comma, is_name, number_of, register_of, split_at_first,
+    system_register_of, trimmed,
+};
 
 /// The reason of the operands of a statement, of which `left` is the text.
 #[tactic(auto, unfolding(crate::specs::Reasons::operands_reason))]
@@ -35,7 +36,7 @@ pub(crate) fn operands_reason<'a>(
                 } else {
                     Some(SyntaxReason::Operand {
                         number,
-                        wanted: operand.wanted(),
+                        wanted: wanted_by(*operand),
                         found: &[],
                     })
                 }
@@ -45,7 +46,7 @@ pub(crate) fn operands_reason<'a>(
                     operands_reason(number, more, left)
                 } else {
                     let (front, behind) = split_at_first(b',', text);
-                    match operand_reason(number, operand.wanted(), trimmed(front)) {
+                    match operand_reason(number, wanted_by(*operand), trimmed(front)) {
                         Some(reason) => Some(reason),
                         None => operands_reason(number + 1, more, behind),
                     }

@@ -1,19 +1,17 @@
 //! The reason of a statement that may not stand where it stands.
 ghost use Rattle.std.specs.Prelude.{◌≡◌, option_map, map};
-ghost use Rattle.ds_source_reasons.specs.Forms.{operand_of, written_of};
-ghost use Rattle.ds_source_reasons.specs.Plain.{plain_number};
+ghost use Rattle.ds_asm.specs.Forms.{operand_of, written_of};
 ghost use Rattle.ds_source_reasons.specs.PlainRanges.{plain_range};
 ghost use Rattle.ds_source_reasons.specs.Ranges.{bounded, datum_range, form_range, named_range, number_range, operand_range, operands_range, parts_range, place_range, range_reason_of, reserved_range, text_range, word_range, within};
-ghost use Rattle.ds_asm.specs.Assembly.{is_reserved_word};
 ghost use Rattle.ds_asm.specs.Numbers.{number_of};
 
-use crate::characters::{is_name, split_at_first, split_word, trimmed, until};
-use crate::form::{Form, Operand, form_named};
-use crate::instruction::has_comma;
-use crate::number::{Number, number_of};
+use crate::characters::split_word;
 use crate::reason::RangeReason;
 use crate::shape::{Shape, shape_named};
-use ds_isa::{Instr, decode};
+use ds_asm::{
+    Form, Number, Operand, form_named, has_comma, is_name, is_reserved_word, number_of,
+    split_at_first, trimmed, until,
+};
 
 /// How far below 0 a number of 16 bits may be.
 const LEAST_HALF: u64 = 0x8000;
@@ -108,14 +106,6 @@ fn reserved_range(name: &[u8], shape: Shape) -> Option<RangeReason<'_>>
         }
         Shape::Word | Shape::Bytes => None,
     }
-}
-
-/// Whether a word is no instruction.
-#[tactic(auto, unfolding(ds_asm::specs::Assembly::is_reserved_word))]
-fn is_reserved_word(word: u32) -> bool
-    ensures { result ≡ is_reserved_word word }
-{
-    matches!(decode(word), Instr::Reserved(_))
 }
 
 /// The first number of a statement that doesn't fit.
@@ -213,7 +203,7 @@ fn bounded(least: u64, most: u64, text: &[u8]) -> Option<RangeReason<'_>>
 }
 
 fn within(least: u64, most: u64, number: Option<Number>) -> bool
-    ensures { result ≡ within least most (option_map plain_number number) }
+    ensures { result ≡ within least most number }
 {
     match number {
         None => true,

@@ -1,14 +1,10 @@
 //! What the place and the form of a statement depend on.
 ghost use Rattle.std.specs.Prelude.{◌≡◌, option_map};
-ghost use Rattle.ds_asm.specs.Lines.{instruction_named, number_word, statement_named};
+ghost use Rattle.ds_asm.specs.Lines.{number_word, statement_named};
 ghost use Rattle.ds_asm.specs.Numbers.{number_of};
-ghost use Rattle.ds_source_reasons.specs.Forms.{plain_instruction};
 ghost use Rattle.ds_source_reasons.specs.Ranges.{shape_of};
 
-use crate::characters::is_name;
-use crate::form::form_named;
-use crate::instruction::{Instruction, instruction_of};
-use crate::number::number_of;
+use ds_asm::{instruction_named, is_name, number_of};
 
 /// What a statement becomes.
 #[derive(Clone, Copy, Debug, PartialEq, Eq)]
@@ -54,13 +50,4 @@ fn word_shape(text: &[u8]) -> Option<Shape>
             }
         }
     }
-}
-
-/// The instruction of a mnemonic and of what stands after it, if it can be read.
-pub(crate) fn instruction_named<'a>(name: &[u8], left: Option<&'a [u8]>) -> Option<Instruction<'a>>
-    ensures { option_map plain_instruction result
-        ≡ instruction_named name.now (option_map (λ t. t.now) left.entry) }
-{
-    let form = form_named(name)?;
-    instruction_of(form.word, form.operands, left)
 }

@@ -1,13 +1,13 @@
 //! The reason of a statement.
 ghost use Rattle.std.specs.Prelude.{◌≡◌, option_map};
-ghost use Rattle.ds_source_reasons.specs.Forms.{written_of};
+ghost use Rattle.ds_asm.specs.Forms.{written_of};
 ghost use Rattle.ds_source_reasons.specs.Plain.{plain_reason};
 ghost use Rattle.ds_source_reasons.specs.Reasons.{directive_reason, has_upper_case, instruction_reason, no_mnemonic, statement_reason, text_reason};
 
 use crate::characters::split_word;
-use crate::form::{Form, form_named};
 use crate::operand::{counted, counted_by, fits, misfit, operand_count, operands_reason};
 use crate::reason::{SyntaxReason, Wanted};
+use ds_asm::{Form, form_named};
 
 /// The reason of the text of a statement; an empty one has none.
 pub(crate) fn text_reason(text: &[u8]) -> Option<SyntaxReason<'_>>

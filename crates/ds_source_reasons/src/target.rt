@@ -1,14 +1,13 @@
 //! The label that a statement goes to.
 ghost use Rattle.std.specs.Prelude.{◌≡◌, option_map};
 ghost use Rattle.ds_asm.specs.Lines.{line_of, line_parts, statement_named, statement_of, with_statement};
-ghost use Rattle.ds_source_reasons.specs.Forms.{plain_target};
+ghost use Rattle.ds_asm.specs.Plain.{plain_target};
 ghost use Rattle.ds_source_reasons.specs.PlainRanges.{plain_range};
 ghost use Rattle.ds_source_reasons.specs.Ranges.{label_in, label_of, target_in, target_reason_of};
 
-use crate::characters::{is_name, split_at_first, split_word, trimmed, until};
-use crate::instruction::Target;
+use crate::characters::split_word;
 use crate::reason::RangeReason;
-use crate::shape::instruction_named;
+use ds_asm::{Target, instruction_named, is_name, split_at_first, trimmed, until};
 
 /// The reason of a line, without its line feed, of which the assembler told in its second pass that
 /// a target is out of range: the label that it goes to, if it goes to one.
