@@ -1,8 +1,7 @@
 //! Both buffers at three sizes, through the trait.
 ghost use Rattle.std.specs.Prelude.{◌≡◌, ◌<◌, ◌≤◌};
 
-use ds_tlb::{BadRandom, Entry, Indexed, Lookaside, Tlb};
-use std::test::Fail;
+use ds_tlb::{Entry, Indexed, Lookaside, Tlb};
 
 /// Pages that collide: the first two are in one bucket, as are the third and the page that slot 3
 /// holds at the start.
@@ -34,27 +33,45 @@ fn do_step<L: Lookaside>(buffer: &mut L, step: usize)
     }
 }
 
-/// Whether two buffers hold the same and find the same.
-fn are_alike<A: Lookaside, B: Lookaside>(a: &A, b: &B) -> bool {
-    let mut held = A::SLOTS == B::SLOTS;
+/// Whether two buffers hold the same.
+fn hold_alike<A: Lookaside, B: Lookaside>(a: &A, b: &B) -> bool {
+    let mut alike = A::SLOTS == B::SLOTS;
     for slot in 0..A::SLOTS {
         if slot < B::SLOTS {
-            held = held && a.read(slot) == b.read(slot);
+            alike = alike && a.read(slot) == b.read(slot);
         }
     }
-    let found = PAGES.iter().all(|vpn| {
-        (0..4u8).all(|asid| {
-            a.find(*vpn, asid) == b.find(*vpn, asid) && a.probe(*vpn, asid) == b.probe(*vpn, asid)
-        })
-    });
-    held && found && a.random() == b.random()
+    alike
 }
 
-/// How many slots match the page in the address space.
-fn matches_of<L: Lookaside>(buffer: &L, vpn: u32, asid: u8) -> usize {
-    (0..L::SLOTS)
-        .filter(|slot| buffer.read(*slot).matches(vpn, asid))
-        .count()
+/// Whether two buffers find the same for a page, in each of four address spaces.
+fn find_alike<A: Lookaside, B: Lookaside>(a: &A, b: &B, vpn: u32) -> bool {
+    let mut alike = true;
+    for asid in 0..4u8 {
+        let found = a.find(vpn, asid) == b.find(vpn, asid);
+        alike = alike && found && a.probe(vpn, asid) == b.probe(vpn, asid);
+    }
+    alike
+}
+
+/// Whether two buffers hold the same and find the same.
+fn are_alike<A: Lookaside, B: Lookaside>(a: &A, b: &B) -> bool {
+    let mut alike = hold_alike(a, b) && a.random() == b.random();
+    for vpn in PAGES {
+        alike = alike && find_alike(a, b, vpn);
+    }
+    alike
+}
+
+/// Whether two slots or more match the page in the address space.
+fn is_doubled<L: Lookaside>(buffer: &L, vpn: u32, asid: u8) -> bool {
+    let (mut once, mut twice) = (false, false);
+    for slot in 0..L::SLOTS {
+        let matches = buffer.read(slot).matches(vpn, asid);
+        twice = twice || once && matches;
+        once = once || matches;
+    }
+    twice
 }
 
 /// Runs one script on both; whether they were alike throughout, with two slots that matched one
@@ -75,16 +92,17 @@ fn agree<A: Lookaside, B: Lookaside>(start: usize) -> bool
         do_step(&mut a, step);
         do_step(&mut b, step);
         alike = alike && are_alike(&a, &b);
-        doubled = doubled || matches_of(&a, 0x400, 1) > 1;
+        doubled = doubled || is_doubled(&a, 0x400, 1);
     }
     alike && doubled
 }
 
 #[test]
 fn both_buffers_answer_alike(rt: HostRuntime) {
-    assert!(rt; agree::<Tlb<64, 8>, Indexed<64, 8>>(63));
-    assert!(rt; agree::<Tlb<10, 8>, Indexed<10, 8>>(9));
-    assert!(rt; agree::<Tlb<8, 1>, Indexed<8, 1>>(4));
+    let large = agree::<Tlb<64, 8>, Indexed<64, 8>>(63);
+    let narrow = agree::<Tlb<10, 8>, Indexed<10, 8>>(9);
+    let small = agree::<Tlb<8, 1>, Indexed<8, 1>>(4);
+    assert!(rt; large && narrow && small);
 }
 
 /// Whether a buffer of this type starts with each of the two, and refuses the others.
@@ -93,27 +111,30 @@ fn starts_from<L: Lookaside>(low: usize, high: usize) -> bool
     requires some_free { L.WIRED < L.SLOTS }
     requires few { L.SLOTS ≤ 64 }
 {
-    (0..256).all(|start| L::new(start).is_ok() == (low <= start && start <= high))
+    let mut right = true;
+    for start in 0..256 {
+        right = right && L::new(start).is_ok() == (low <= start && start <= high);
+    }
+    right
 }
 
 #[test]
 fn random_starts_from_the_wired_slots_to_the_last(rt: HostRuntime) {
-    assert!(rt; Tlb::<10, 8>::new(9).is_ok());
-    assert!(rt; matches!(Tlb::<10, 8>::new(10), Err(BadRandom)));
-    assert!(rt; starts_from::<Tlb<64, 8>>(8, 63));
-    assert!(rt; starts_from::<Tlb<10, 8>>(8, 9));
-    assert!(rt; starts_from::<Tlb<8, 1>>(1, 7));
-    assert!(rt; starts_from::<Indexed<64, 8>>(8, 63));
-    assert!(rt; starts_from::<Indexed<10, 8>>(8, 9));
-    assert!(rt; starts_from::<Indexed<8, 1>>(1, 7));
+    let large = starts_from::<Tlb<64, 8>>(8, 63) && starts_from::<Indexed<64, 8>>(8, 63);
+    let narrow = starts_from::<Tlb<10, 8>>(8, 9) && starts_from::<Indexed<10, 8>>(8, 9);
+    let small = starts_from::<Tlb<8, 1>>(1, 7) && starts_from::<Indexed<8, 1>>(1, 7);
+    assert!(rt; large && narrow && small);
 }
 
-/// What a buffer of this type answers to the calls of a refill handler, each by its Index word.
-fn index_words<L: Lookaside>() -> Result<[u32; 6], BadRandom>
+/// What a buffer of this type answers to the calls of a refill handler, each by its Index word; none
+/// where Random can't start at slot 9.
+fn index_words<L: Lookaside>() -> Option<[u32; 6]>
     requires slots { L.SLOTS ≡ 64 }
     requires wired { L.WIRED ≡ 8 }
 {
-    let mut buffer = L::new(9)?;
+    let Ok(mut buffer) = L::new(9) else {
+        return None;
+    };
     let user = Entry {
         vpn: 0x400,
         asid: 5,
@@ -128,15 +149,13 @@ fn index_words<L: Lookaside>() -> Result<[u32; 6], BadRandom>
     let global = buffer.probe(0x400, 6);
     buffer.write(9, Entry::empty(9));
     let left = buffer.probe(0x400, 5);
-    Ok([before, at_random, wrapped, lowest, global, left])
+    Some([before, at_random, wrapped, lowest, global, left])
 }
 
 #[test]
-fn the_lowest_match_is_probed_and_random_wraps_to_the_last_slot(
-    rt: HostRuntime,
-) -> Result<(), Fail> {
-    let words = [0x8000_0000, 9, 63, 0x900, 0x3f00, 0x3f00];
-    assert_eq!(rt; index_words::<Tlb<64, 8>>()?, words);
-    assert_eq!(rt; index_words::<Indexed<64, 8>>()?, words);
-    Ok(())
+fn the_lowest_match_is_probed_and_random_wraps_to_the_last_slot(rt: HostRuntime) {
+    let words = Some([0x8000_0000, 9, 63, 0x900, 0x3f00, 0x3f00]);
+    let searched = index_words::<Tlb<64, 8>>();
+    let indexed = index_words::<Indexed<64, 8>>();
+    assert!(rt; searched == words && indexed == words);
 }

@@ -1,6 +1,8 @@
 //! What is told of a refusal.
+ghost use Rattle.std.specs.Prelude.{◌≤◌, length};
+
 use ds_check::{Place, mend_text, rule_line, toml_place};
-use std::test::*;
+use std::alloc::Global;
 
 const POLICY: &[u8] = b"version = 1
 frames = 2
@@ -41,35 +43,52 @@ address = 0x0041A000
 right = \"none\"
 ";
 
-#[test]
-fn refusals_are_mended_by_their_numbers(rt: HostRuntime) -> Result<(), Fail> {
-    for (number, first) in [
-        (1, "R is outside 8 to 63"),
-        (3, "The line cannot be read."),
-        (4, "A branch, a jump or `.word`"),
-        (5, "An earlier line has the label"),
-        (6, "One of four things."),
-        (7, "The image passes 65,536 bytes"),
-        (8, "The text is no TOML document"),
-        (9, "Rules count from 1"),
-        (10, "The value of the root key"),
-        (20, "The line is no event"),
-        (24, "`run_files` or `run_policy`"),
-        (25, "The host has no memory left."),
-        (26, "There is no such file"),
-    ] {
-        let words = mend_text(number).ok_or("words")?;
-        assert!(rt; words.starts_with(first), "{number}");
-        assert!(rt; words.ends_with("\n"), "{number}");
+/// The numbers of refusals that are mended, each with the first of the words that tell how.
+const MENDED: [(u32, &str); 13] = [
+    (1, "R is outside 8 to 63"),
+    (3, "The line cannot be read."),
+    (4, "A branch, a jump or `.word`"),
+    (5, "An earlier line has the label"),
+    (6, "One of four things."),
+    (7, "The image passes 65,536 bytes"),
+    (8, "The text is no TOML document"),
+    (9, "Rules count from 1"),
+    (10, "The value of the root key"),
+    (20, "The line is no event"),
+    (24, "`run_files` or `run_policy`"),
+    (25, "The host has no memory left."),
+    (26, "There is no such file"),
+];
+
+/// Whether a number's words begin so, and end their line.
+fn is_mended(number: u32, first: &str) -> bool {
+    match mend_text(number) {
+        Some(words) => words.starts_with(first) && words.ends_with("\n"),
+        None => false,
     }
-    for number in [0, 2, 11, 19, 21, 23, 27u32] {
-        assert!(rt; mend_text(number).is_none(), "{number}");
-    }
-    Ok(())
 }
 
 #[test]
-fn a_policy_is_refused_at_a_place(rt: HostRuntime) -> Result<(), Fail> {
+fn refusals_are_mended_by_their_numbers(rt: HostRuntime) {
+    let mut right = true;
+    for (number, first) in MENDED {
+        right = right && is_mended(number, first);
+    }
+    assert!(rt; right);
+}
+
+#[test]
+fn other_numbers_are_not_mended(rt: HostRuntime) {
+    let mut none = true;
+    for number in [0, 2, 11, 19, 21, 23, 27u32] {
+        none = none && mend_text(number).is_none();
+    }
+    assert!(rt; none);
+}
+
+#[test]
+fn a_policy_is_refused_at_a_rules_line(rt: HostRuntime) {
+    let mut right = true;
     for (number, line) in [
         (1, Some(21)),
         (2, Some(27)),
@@ -77,17 +96,25 @@ fn a_policy_is_refused_at_a_place(rt: HostRuntime) -> Result<(), Fail> {
         (4, None),
         (0, None),
     ] {
-        assert_eq!(rt; rule_line(POLICY, number), line, "{number}");
+        right = right && rule_line(POLICY, number) == line;
     }
-    for (text, place) in [
-        (POLICY, None),
-        (
-            b"version = 1\nframes =\n".as_slice(),
-            Some(Place { line: 2, column: 9 }),
-        ),
-    ] {
-        let found = toml_place(rt.alloc(), text).ok().ok_or("memory")?;
-        assert_eq!(rt; found, place);
+    assert!(rt; right);
+}
+
+/// Whether a policy is no TOML document at this place, or at none.
+fn is_refused_at(alloc: Global, text: &[u8], wanted: Option<Place>) -> bool
+    requires { length text.now ≤ 16777216 }
+{
+    match toml_place(alloc, text) {
+        Ok(place) => place == wanted,
+        Err(_) => false,
     }
-    Ok(())
+}
+
+#[test]
+fn a_policy_that_is_no_toml_document_is_refused_at_a_place(rt: HostRuntime) {
+    let cut_off = b"version = 1\nframes =\n".as_slice();
+    let good = is_refused_at(rt.alloc(), POLICY, None);
+    let bad = is_refused_at(rt.alloc(), cut_off, Some(Place { line: 2, column: 9 }));
+    assert!(rt; good && bad);
 }

@@ -6,7 +6,7 @@ use ds_log::WriteFailed;
 use ds_policy::{EventsFault, PolicyFault};
 use ds_tables::Regions;
 use ds_tlb::BadRandom;
-use std::test::*;
+use std::alloc::AllocError;
 
 /// The faults of a source, each in a line: its number, and its text.
 const OF_A_SOURCE: &str = "3 3 Syntax 2
@@ -17,32 +17,34 @@ const OF_A_SOURCE: &str = "3 3 Syntax 2
 25 25 Memory
 ";
 
+const FAULTS: [AsmFault; 6] = [
+    AsmFault::Source(SourceFault::Syntax(2)),
+    AsmFault::Source(SourceFault::UnknownLabel(1)),
+    AsmFault::Source(SourceFault::DoubleLabel(7)),
+    AsmFault::Source(SourceFault::Range(65)),
+    AsmFault::Source(SourceFault::TooLong(2)),
+    AsmFault::Memory,
+];
+
 #[test]
-fn faults_of_a_source_have_numbers_and_texts(rt: HostRuntime) -> Result<(), Fail> {
+fn faults_of_a_source_have_numbers_and_texts(rt: HostRuntime) -> Result<(), AllocError> {
     let mut told = String::new(rt.alloc());
-    for fault in [
-        AsmFault::Source(SourceFault::Syntax(2)),
-        AsmFault::Source(SourceFault::UnknownLabel(1)),
-        AsmFault::Source(SourceFault::DoubleLabel(7)),
-        AsmFault::Source(SourceFault::Range(65)),
-        AsmFault::Source(SourceFault::TooLong(2)),
-        AsmFault::Memory,
-    ] {
+    for fault in FAULTS.iter() {
         let number = fault.number();
         write!(told, "{number} {fault}\n")?;
     }
-    assert_eq!(rt; told.as_str(), OF_A_SOURCE);
+    assert!(rt; told.as_str() == OF_A_SOURCE);
     Ok(())
 }
 
+/// The texts of faults that carry nothing.
+const OF_PARTS: &str = "out of memory, out of memory, bus error, the text could not be written";
+
 #[test]
-fn faults_have_texts(rt: HostRuntime) -> Result<(), Fail> {
+fn faults_have_texts(rt: HostRuntime) -> Result<(), AllocError> {
     let (memory, log) = (ds_mem::OutOfMemory, ds_log::OutOfMemory);
     let told = format!(in rt.alloc(); "{memory}, {log}, {BusError}, {WriteFailed}")?;
-    assert_eq!(rt;
-        told.as_str(),
-        "out of memory, out of memory, bus error, the text could not be written"
-    );
+    assert!(rt; told.as_str() == OF_PARTS);
     Ok(())
 }
 
@@ -61,11 +63,11 @@ fn faults_have_numbers(rt: HostRuntime) {
         ds_mem::OutOfMemory.number(),
         ds_log::OutOfMemory.number(),
     ];
-    assert_eq!(rt; numbers, [1, 2, 8, 9, 10, 11, 20, 25, 25, 25, 25]);
     let codes = [
         ExceptionCode::Interrupt.number(),
         ExceptionCode::LoadAddress.number(),
         ExceptionCode::Overflow.number(),
     ];
-    assert_eq!(rt; codes, [0, 4, 12]);
+    let right = numbers == [1, 2, 8, 9, 10, 11, 20, 25, 25, 25, 25];
+    assert!(rt; right && codes == [0, 4, 12]);
 }

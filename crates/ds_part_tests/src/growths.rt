@@ -1,12 +1,12 @@
 //! Want of memory. These tests pass whichever growth is refused: `rt try --test --fail-alloc N`.
+ghost use Rattle.std.specs.Prelude.{◌≤◌, length};
+
 use crate::table::is_filled;
 use ds_mem::Memory;
 use ds_policy::{
     Character, Command, EventList, Events, EventsFault, Grant, Policy, PolicyRule, Right, Table,
 };
 use std::alloc::Global;
-use std::process::Abort;
-use std::test::*;
 
 /// One process, and nothing else.
 const SMALLEST: &str = "version = 1\nframes = 1\nprocess = [{ start = 0, line = 0 }]\n";
@@ -15,61 +15,54 @@ const SMALLEST: &str = "version = 1\nframes = 1\nprocess = [{ start = 0, line = 
 const SMALL: &str =
     "version = 1\nframes = 1\nprocess = [{ start = 0, line = 0 }]\npage = [{ name = \"a\", source = \"s\", part = 0 }]\nrule = [{ process = 1, address = 0, right = \"write\", page = \"a\" }]\n";
 
-/// The policy of a text, or none where memory ran out.
-fn policy_of(rt: &impl Abort, alloc: Global, text: &str) -> Option<Policy> {
+/// The policy of a text, or else whether it is memory that ran out.
+fn policy_of(alloc: Global, text: &str) -> Result<Policy, bool> {
     match Policy::read(alloc, text.as_bytes()) {
-        Ok(policy) => Some(policy),
-        Err(fault) => {
-            assert_eq!(rt; fault.number(), 25);
-            None
-        }
+        Ok(policy) => Ok(policy),
+        Err(fault) => Err(fault.number() == 25),
     }
 }
 
 /// The one growth is refused with 25.
 #[test]
 fn for_want_of_memory_there_is_no_workstations_memory(rt: HostRuntime) {
-    match Memory::new(rt.alloc()) {
-        Ok(memory) => assert_eq!(rt; memory.word(0), 0),
-        Err(fault) => assert_eq!(rt; fault.number(), 25),
-    }
+    let right = match Memory::new(rt.alloc()) {
+        Ok(memory) => memory.word(0) == 0,
+        Err(fault) => fault.number() == 25,
+    };
+    assert!(rt; right);
 }
 
-/// Whichever growth is refused, the answer is `Memory`.
-#[test]
-fn for_want_of_memory_there_is_no_policy(rt: HostRuntime) {
-    let Some(policy) = policy_of(&rt, rt.alloc(), SMALL) else {
-        return;
+/// Whether a policy has one of each, or there is no memory for it.
+fn has_one_of_each(alloc: Global) -> bool {
+    let policy = match policy_of(alloc, SMALL) {
+        Ok(policy) => policy,
+        Err(is_memory) => return is_memory,
     };
-    assert_eq!(rt; policy.processes().len(), 1);
-    assert_eq!(rt; policy.pages().len(), 1);
-    assert_eq!(rt; policy.sources().len(), 1);
-    let rule = PolicyRule {
+    let [rule] = policy.rules() else {
+        return false;
+    };
+    let wanted = PolicyRule {
         process: 1,
         address: 0,
         right: Right::Write,
         page: Some(0),
         give: false,
     };
-    assert_eq!(rt; policy.rules(), [rule].as_slice());
+    let counted = policy.processes().len() == 1 && policy.pages().len() == 1;
+    counted && policy.sources().len() == 1 && *rule == wanted
 }
 
-/// There are 12 growths: 11 of the policy, and 1 of the table, where `Table::new` is refused. A
-/// change of the table has none.
+/// Whichever growth is refused, the answer is `Memory`.
 #[test]
-fn for_want_of_memory_there_is_no_table(rt: HostRuntime) {
-    let Some(policy) = policy_of(&rt, rt.alloc(), SMALLEST) else {
-        return;
-    };
-    assert_eq!(rt; policy.processes().len(), 1);
-    let mut table = match Table::new(rt.alloc(), &policy) {
-        Ok(table) => table,
-        Err(refused) => {
-            assert_eq!(rt; refused.number(), 25);
-            return;
-        }
-    };
-    assert_eq!(rt; table.entry(1, 0), None);
+fn for_want_of_memory_there_is_no_policy(rt: HostRuntime) {
+    assert!(rt; has_one_of_each(rt.alloc()));
+}
+
+/// Whether a table takes 256 entries and no more, and has none of them when it is cleared.
+fn takes_256(table: &mut Table) -> bool
+    requires { 1 ≤ length table.old }
+{
     let grant = Grant {
         right: Right::Write,
         page: Some(0),
@@ -77,39 +70,35 @@ fn for_want_of_memory_there_is_no_table(rt: HostRuntime) {
         give: false,
         giver: 0,
     };
-    assert!(rt; is_filled(&mut table, grant, 256));
+    let none = table.entry(1, 0).is_none();
+    let filled = is_filled(table, grant, 256);
     let refused = table.set(1, 256 * 4096, grant).is_err();
-    let last = table.entry(1, 255 * 4096);
+    let last = table.entry(1, 255 * 4096) == Some(grant);
     let removed = table.remove(1, 0).is_ok();
     table.clear(1);
-    assert_eq!(rt;
-        (refused, last, removed, table.entry(1, 255 * 4096)),
-        (true, Some(grant), true, None)
-    );
+    none && filled && refused && last && removed && table.entry(1, 255 * 4096).is_none()
 }
 
-/// There are 20 growths: 11 of the policy, 3 of the nine words, and 6 of the two commands and the
-/// characters: of their words, of the commands, and of the `key` line and its bytes. An empty input
-/// and comments have none. `collect` asks once more where it is refused, so a growth of words
-/// changes no answer.
-#[test]
-fn for_want_of_memory_an_input_says_nothing_else(rt: HostRuntime) {
-    let Some(policy) = policy_of(&rt, rt.alloc(), SMALLEST) else {
-        return;
+/// Whether there is a table that does so, or no memory for it.
+fn has_table(alloc: Global) -> bool {
+    let policy = match policy_of(alloc, SMALLEST) {
+        Ok(policy) => policy,
+        Err(is_memory) => return is_memory,
     };
-    for (text, wanted) in [
-        (b"".as_slice(), (0, 0, 0)),
-        (b"# nothing\n\n".as_slice(), (0, 0, 0)),
-        (b"\n#\n1 2 3 4 5 6 7 8 9".as_slice(), (3, 0, 0)),
-        (
-            b"1 stop 1\n1 key 0 4142\n2 drop 1 00000000".as_slice(),
-            (0, 2, 2),
-        ),
-    ] {
-        if let Some(said) = said_by(rt.alloc(), text, &policy) {
-            assert_eq!(rt; said, wanted, "{text:?}");
-        }
+    if policy.processes().len() != 1 {
+        return false;
     }
+    match Table::new(alloc, &policy) {
+        Ok(mut table) => takes_256(&mut table),
+        Err(refused) => refused.number() == 25,
+    }
+}
+
+/// There are 12 growths: 11 of the policy, and 1 of the table, where `Table::new` is refused. A
+/// change of the table has none.
+#[test]
+fn for_want_of_memory_there_is_no_table(rt: HostRuntime) {
+    assert!(rt; has_table(rt.alloc()));
 }
 
 /// The line of an input's fault, or 0, and how many commands and characters it has; none where
@@ -120,6 +109,42 @@ fn said_by(alloc: Global, text: &[u8], policy: &Policy) -> Option<(u64, usize, u
         Err(EventsFault::InputFault(line)) => Some((line, 0, 0)),
         Err(EventsFault::Memory) => None,
     }
+}
+
+/// Whether an input of a policy says so much, or memory runs out.
+fn says(alloc: Global, text: &[u8], policy: &Policy, wanted: (u64, usize, usize)) -> bool {
+    match said_by(alloc, text, policy) {
+        Some(said) => said == wanted,
+        None => true,
+    }
+}
+
+/// Whether each input says as much as it should, or memory runs out.
+fn inputs_say(alloc: Global) -> bool {
+    let policy = match policy_of(alloc, SMALLEST) {
+        Ok(policy) => policy,
+        Err(is_memory) => return is_memory,
+    };
+    let events = b"1 stop 1\n1 key 0 4142\n2 drop 1 00000000".as_slice();
+    let nothing = says(alloc, b"".as_slice(), &policy, (0, 0, 0));
+    let comment = says(alloc, b"# nothing\n\n".as_slice(), &policy, (0, 0, 0));
+    let fault = says(
+        alloc,
+        b"\n#\n1 2 3 4 5 6 7 8 9".as_slice(),
+        &policy,
+        (3, 0, 0),
+    );
+    let three = says(alloc, events, &policy, (0, 2, 2));
+    nothing && comment && fault && three
+}
+
+/// There are 20 growths: 11 of the policy, 3 of the nine words, and 6 of the two commands and the
+/// characters: of their words, of the commands, and of the `key` line and its bytes. An empty input
+/// and comments have none. `collect` asks once more where it is refused, so a growth of words
+/// changes no answer.
+#[test]
+fn for_want_of_memory_an_input_says_nothing_else(rt: HostRuntime) {
+    assert!(rt; inputs_say(rt.alloc()));
 }
 
 /// Whether the list has so many commands, one a tick.
@@ -146,26 +171,31 @@ fn has_characters(list: EventList, count: usize) -> bool {
     right && left.take_first().is_none()
 }
 
+/// Adds a command and two characters at each of nine times: whether all are in the list, and none
+/// is that was refused.
+fn adds_all_or_stays(alloc: Global) -> bool {
+    let mut list = EventList::new(alloc);
+    for time in 0..9u32 {
+        let added = time as usize;
+        if !list.follows(time) {
+            return false;
+        }
+        let command = Command::Stop { process: time };
+        if list.add_command(time, command).is_err() {
+            return has_commands(&list, added) && has_characters(list, 2 * added);
+        }
+        if !list.follows(time) {
+            return false;
+        }
+        if list.add_characters(time, 3, b"AB".as_slice()).is_err() {
+            return has_commands(&list, added + 1) && has_characters(list, 2 * added);
+        }
+    }
+    !list.follows(7) && has_commands(&list, 9) && has_characters(list, 18)
+}
+
 /// Each list grows several times. Where a growth is refused, the list is as it was.
 #[test]
 fn for_want_of_memory_an_event_is_not_added(rt: HostRuntime) {
-    let mut list = EventList::new(rt.alloc());
-    for time in 0..9u32 {
-        let added = time as usize;
-        assert!(rt; list.follows(time));
-        if list
-            .add_command(time, Command::Stop { process: time })
-            .is_err()
-        {
-            assert!(rt; has_commands(&list, added) && has_characters(list, 2 * added));
-            return;
-        }
-        assert!(rt; list.follows(time));
-        if list.add_characters(time, 3, b"AB".as_slice()).is_err() {
-            assert!(rt; has_commands(&list, added + 1) && has_characters(list, 2 * added));
-            return;
-        }
-    }
-    assert!(rt; !list.follows(7));
-    assert!(rt; has_commands(&list, 9) && has_characters(list, 18));
+    assert!(rt; adds_all_or_stays(rt.alloc()));
 }

@@ -10,7 +10,7 @@ use ds_isa::Late;
 use ds_mem::{Memory, OutOfMemory};
 use ds_refill::{WORDS, install, phase};
 use ds_tables::{Tables, pte_address};
-use ds_tlb::{BadRandom, Entry, Indexed, Lookaside, Tlb};
+use ds_tlb::{Entry, Indexed, Lookaside, Tlb};
 use std::alloc::Global;
 use std::test::Fail;
 
@@ -37,15 +37,21 @@ const MISSED: u32 = 0x41_0000;
 /// The page-table word of the page that missed: frame 402, to be written, valid.
 const WORD: u32 = 0x19_2600;
 
+/// Whether the memory begins with the nine words.
+fn has_words(memory: &Memory) -> bool {
+    let mut right = true;
+    for k in 0..9 {
+        right = right && memory.word(4 * k as u32) == WORDS[k];
+    }
+    right
+}
+
 #[test]
 fn the_words_are_those_of_the_text(rt: HostRuntime) -> Result<(), Fail> {
     let image = assemble(rt.alloc(), TEXT.as_bytes())?;
-    assert_eq!(rt; image.len(), 36);
     let mut memory = Memory::new(rt.alloc())?;
     image.page(0, memory.frame_mut(0));
-    for k in 0..9 {
-        assert_eq!(rt; memory.word(4 * k as u32), WORDS[k], "word {k}");
-    }
+    assert!(rt; image.len() == 36 && has_words(&memory));
     Ok(())
 }
 
@@ -55,30 +61,30 @@ fn the_words_are_installed_at_the_beginning_of_memory(rt: HostRuntime) -> Result
     memory.put_word(36, 5);
     memory.put_word(0x1000, 6);
     install(&mut memory);
-    for k in 0..9 {
-        assert_eq!(rt; memory.word(4 * k as u32), WORDS[k], "word {k}");
-    }
-    assert_eq!(rt; memory.word(36), 5);
-    assert_eq!(rt; memory.word(0x1000), 6);
+    let others = memory.word(36) == 5 && memory.word(0x1000) == 6;
+    assert!(rt; others && has_words(&memory));
     Ok(())
 }
 
+/// Places that have no word of the handler.
+const ELSEWHERE: [u32; 7] = [
+    0x8000_0024,
+    0x8000_0080,
+    0x8000_0002,
+    0x7fff_fffc,
+    0,
+    0x18,
+    0xa000_0000,
+];
+
 #[test]
 fn a_place_has_the_phase_of_its_word(rt: HostRuntime) {
-    assert_eq!(rt; phase(0x8000_0000), Some(0));
-    assert_eq!(rt; phase(0x8000_0018), Some(6));
-    assert_eq!(rt; phase(0x8000_0020), Some(8));
-    for pc in [
-        0x8000_0024,
-        0x8000_0080,
-        0x8000_0002,
-        0x7fff_fffc,
-        0,
-        0x18,
-        0xa000_0000,
-    ] {
-        assert_eq!(rt; phase(pc), None, "{pc:08X}");
+    let seventh = phase(0x8000_0018) == Some(6);
+    let mut right = seventh && phase(0x8000_0000) == Some(0) && phase(0x8000_0020) == Some(8);
+    for pc in ELSEWHERE {
+        right = right && phase(pc).is_none();
     }
+    assert!(rt; right);
 }
 
 /// A bus whose memory has the handler, and in process 1's table the word of the page that missed;
@@ -135,11 +141,11 @@ fn refilled() -> Entry {
 }
 
 /// A buffer with the page of the table, and where the handler has written it the entry too.
-fn new_tlb<L: Lookaside>(table: u32, place: usize) -> Result<L, BadRandom>
+fn new_tlb<L: Lookaside>(table: u32, place: usize) -> Option<L>
     requires slots { L.SLOTS ≡ 64 }
     requires wired { L.WIRED ≡ 8 }
 {
-    let mut tlb = L::new(63)?;
+    let mut tlb = L::new(63).ok()?;
     let page = Entry {
         vpn: pte_address(MISSED) >> 12,
         pfn: table,
@@ -150,11 +156,11 @@ fn new_tlb<L: Lookaside>(table: u32, place: usize) -> Result<L, BadRandom>
     if place > 6 {
         tlb.write(63, refilled());
     }
-    Ok(tlb)
+    Some(tlb)
 }
 
 /// A processor that has taken the miss and stands before the word at a place of the handler.
-fn new_core<L: Lookaside>(table: u32, place: usize) -> Result<Core<L>, BadRandom>
+fn new_core<L: Lookaside>(table: u32, place: usize) -> Option<Core<L>>
     requires slots { L.SLOTS ≡ 64 }
     requires wired { L.WIRED ≡ 8 }
 {
@@ -178,7 +184,7 @@ fn new_core<L: Lookaside>(table: u32, place: usize) -> Result<Core<L>, BadRandom
     cp0.write(register::ENTRY_LO, entry_lo);
     let pc = FIRST.wrapping_add(4 * (place % 9) as u32);
     let slot = place == 8;
-    Ok(Core {
+    Some(Core {
         registers,
         hi: 0,
         lo: 0,
@@ -191,13 +197,25 @@ fn new_core<L: Lookaside>(table: u32, place: usize) -> Result<Core<L>, BadRandom
     })
 }
 
+/// Whether the buffer leads the program to the page that missed.
+fn has_page<L: Lookaside>(tlb: &L) -> bool
+    requires { L.SLOTS ≡ 64 }
+{
+    match tlb.find(MISSED >> 12, 1) {
+        Some(slot) => tlb.read(slot) == refilled(),
+        None => false,
+    }
+}
+
 /// Runs the handler from a place to its end: whether it has gone back to the program in user mode,
 /// with register 26 cleared and the entry in the buffer once, and all other registers as they were.
-fn goes_back<L: Lookaside>(bus: &mut Bus, table: u32, place: usize) -> Result<bool, BadRandom>
+fn goes_back<L: Lookaside>(bus: &mut Bus, table: u32, place: usize) -> bool
     requires slots { L.SLOTS ≡ 64 }
     requires wired { L.WIRED ≡ 8 }
 {
-    let mut core: Core<L> = new_core(table, place)?;
+    let Some(mut core) = new_core::<L>(table, place) else {
+        return false;
+    };
     for _ in place..9 {
         core.step(bus);
     }
@@ -205,61 +223,53 @@ fn goes_back<L: Lookaside>(bus: &mut Bus, table: u32, place: usize) -> Result<bo
     registers[0] = 0;
     registers[26] = 0;
     registers[27] = PROGRAM;
-    let found = match core.tlb.find(MISSED >> 12, 1) {
-        Some(slot) => core.tlb.read(slot) == refilled(),
-        None => false,
-    };
-    Ok(
-        found
-            && core.registers == registers
-            && core.late.is_none()
-            && (core.pc, core.next, core.slot) == (PROGRAM, PROGRAM + 4, false)
-            && core.cp0.read(register::STATUS) == 3,
-    )
+    let kept = core.registers == registers && core.late.is_none();
+    let at = core.pc == PROGRAM && core.next == PROGRAM + 4 && !core.slot;
+    let in_user_mode = core.cp0.read(register::STATUS) == 3;
+    has_page(&core.tlb) && kept && at && in_user_mode
+}
+
+/// Whether it goes back from each of its places.
+fn goes_back_from_each<L: Lookaside>(bus: &mut Bus, table: u32) -> bool
+    requires slots { L.SLOTS ≡ 64 }
+    requires wired { L.WIRED ≡ 8 }
+{
+    let mut right = true;
+    for place in 0..9 {
+        right = goes_back::<L>(bus, table, place) && right;
+    }
+    right
 }
 
 #[test]
 fn the_handler_refills_from_each_of_its_places(rt: HostRuntime) -> Result<(), Fail> {
     let (mut bus, table) = new_bus(rt.alloc())?;
-    assert_eq!(rt; table, 2);
-    for place in 0..9 {
-        assert!(rt;
-            goes_back::<Tlb<64, 8>>(&mut bus, table, place)?,
-            "from place {place}"
-        );
-        assert!(rt;
-            goes_back::<Indexed<64, 8>>(&mut bus, table, place)?,
-            "from place {place}"
-        );
-    }
+    let searched = goes_back_from_each::<Tlb<64, 8>>(&mut bus, table);
+    let indexed = goes_back_from_each::<Indexed<64, 8>>(&mut bus, table);
+    assert!(rt; table == 2 && searched && indexed);
     Ok(())
 }
 
-/// The handler where the buffer lacks the page of the table: what its third word does, where it
-/// goes on, BadVAddr, and register 27.
-fn missed<L: Lookaside>(bus: &mut Bus) -> Result<(Event, u32, u32, u32), BadRandom>
+/// The handler where the buffer lacks the page of the table: whether its third word misses it, and
+/// the processor goes on at the other vector, with register 27 as the handler left it.
+fn misses<L: Lookaside>(bus: &mut Bus) -> bool
     requires slots { L.SLOTS ≡ 64 }
     requires wired { L.WIRED ≡ 8 }
 {
-    let mut core: Core<L> = new_core(2, 0)?;
+    let Some(mut core) = new_core::<L>(2, 0) else {
+        return false;
+    };
     core.tlb.write(0, Entry::empty(0));
     core.step(bus);
     core.step(bus);
-    let event = core.step(bus);
-    let bad = core.cp0.read(register::BAD_VADDR);
-    Ok((event, core.pc, bad, core.registers[27]))
+    let is_missed = core.step(bus) == Event::Raised(ExceptionCode::LoadMiss);
+    let told = core.cp0.read(register::BAD_VADDR) == 0xc000_1040;
+    is_missed && told && core.pc == 0x8000_0080 && core.registers[27] == PROGRAM
 }
 
 #[test]
 fn a_page_of_a_table_may_be_missed(rt: HostRuntime) -> Result<(), Fail> {
     let (mut bus, _) = new_bus(rt.alloc())?;
-    let want = (
-        Event::Raised(ExceptionCode::LoadMiss),
-        0x8000_0080,
-        0xc000_1040,
-        PROGRAM,
-    );
-    assert_eq!(rt; missed::<Tlb<64, 8>>(&mut bus)?, want);
-    assert_eq!(rt; missed::<Indexed<64, 8>>(&mut bus)?, want);
+    assert!(rt; misses::<Tlb<64, 8>>(&mut bus) && misses::<Indexed<64, 8>>(&mut bus));
     Ok(())
 }

@@ -1,61 +1,97 @@
 //! Words and their instructions, both ways: many words that look like chance, and operands too
 //! large for their fields.
 
+ghost use Rattle.std.specs.Prelude.{◌<◌};
+
 use ds_isa::{Instr, decode, encode, round_trip};
 
-/// A number whose bits look like chance, from the one before it.
-fn next_word(word: u32) -> u32 {
-    word.wrapping_mul(1664525).wrapping_add(1013904223)
+/// A number whose bits look like chance, from the one before it, which it replaces.
+fn next_word(word: &mut u32) -> u32 {
+    *word = word.wrapping_mul(1664525).wrapping_add(1013904223);
+    *word
+}
+
+/// Whether a word is that of its instruction.
+fn comes_back(word: u32) -> bool {
+    round_trip(word);
+    encode(&decode(word)) == word
+}
+
+/// Whether words of an operation come back.
+fn operation_comes_back(op: u32, word: &mut u32) -> bool
+    requires { op < 64 }
+{
+    let mut right = true;
+    for _ in 0..300 {
+        let tried = op * 0x400_0000 + (next_word(word) >> 6);
+        right = comes_back(tried) && right;
+    }
+    right
 }
 
 #[test]
 fn every_word_comes_back(rt: HostRuntime) {
     let mut word: u32 = 1;
+    let mut right = true;
     for op in 0..64_u32 {
-        for _ in 0..300 {
-            word = next_word(word);
-            let tried = op * 0x400_0000 + (word >> 6);
-            round_trip(tried);
-            assert_eq!(rt; encode(&decode(tried)), tried);
-        }
+        right = operation_comes_back(op, &mut word) && right;
     }
+    assert!(rt; right);
+}
+
+/// Whether words of operation 0 come back: of all fields, and of rs, rt and rd alone.
+fn function_comes_back(funct: u32, word: &mut u32) -> bool {
+    let mut right = true;
+    for _ in 0..200 {
+        let drawn = next_word(word);
+        let whole = comes_back(drawn >> 12 << 6 | funct);
+        right = comes_back(drawn >> 17 << 11 | funct) && whole && right;
+    }
+    right
 }
 
 #[test]
 fn every_word_of_operation_0_comes_back(rt: HostRuntime) {
     let mut word: u32 = 1;
+    let mut right = true;
     for funct in 0..64_u32 {
-        for _ in 0..200 {
-            word = next_word(word);
-            // of all fields, and of rs, rt and rd alone
-            for tried in [word >> 12 << 6 | funct, word >> 17 << 11 | funct] {
-                round_trip(tried);
-                assert_eq!(rt; encode(&decode(tried)), tried);
-            }
-        }
+        right = function_comes_back(funct, &mut word) && right;
     }
+    assert!(rt; right);
+}
+
+/// Whether words of an operation and a field come back: with rd and what lies below it, and with
+/// nothing below rd.
+fn field_comes_back(op: u32, field: u32, word: &mut u32) -> bool {
+    let mut right = true;
+    for _ in 0..8 {
+        let drawn = next_word(word);
+        let whole = comes_back(op | field << 16 | drawn >> 16);
+        right = comes_back(op | field << 16 | drawn >> 27 << 11) && whole && right;
+    }
+    right
+}
+
+/// Whether words of an operation come back, of each field.
+fn fields_come_back(op: u32, word: &mut u32) -> bool {
+    let mut right = true;
+    for field in 0..1024_u32 {
+        right = field_comes_back(op, field, word) && right;
+    }
+    right
 }
 
 #[test]
 fn every_word_of_operations_1_and_16_comes_back(rt: HostRuntime) {
     let mut word: u32 = 1;
-    for op in [0x0400_0000_u32, 0x4000_0000] {
-        for field in 0..1024_u32 {
-            for _ in 0..8 {
-                word = next_word(word);
-                // with rd and what lies below it, and with nothing below rd
-                for low in [word >> 16, word >> 27 << 11] {
-                    let tried = op | field << 16 | low;
-                    round_trip(tried);
-                    assert_eq!(rt; encode(&decode(tried)), tried);
-                }
-            }
-        }
-    }
+    let first = fields_come_back(0x0400_0000, &mut word);
+    let sixteenth = fields_come_back(0x4000_0000, &mut word);
+    assert!(rt; first && sixteenth);
 }
 
 #[test]
 fn an_operand_too_large_keeps_its_low_bits(rt: HostRuntime) {
+    let mut right = true;
     for (instr, word) in [
         (
             Instr::Sll {
@@ -77,6 +113,7 @@ fn an_operand_too_large_keeps_its_low_bits(rt: HostRuntime) {
         (Instr::J { target: 0x400_0001 }, 0x0800_0001),
         (Instr::Mtc0 { rt: 32, rd: 46 }, 0x4080_7000),
     ] {
-        assert_eq!(rt; encode(&instr), word);
+        right = right && encode(&instr) == word;
     }
+    assert!(rt; right);
 }

@@ -2,7 +2,7 @@
 ghost use Rattle.std.specs.Prelude.{◌≡◌};
 
 use ds_amap::{Access, Fault, Mode, Physical, translate};
-use ds_tlb::{BadRandom, Entry, Indexed, Lookaside, Tlb};
+use ds_tlb::{Entry, Indexed, Lookaside, Tlb};
 
 /// Page 00400 of address space 1 in frame 00007, read only.
 const PAGE: Entry = Entry {
@@ -16,11 +16,13 @@ const PAGE: Entry = Entry {
 };
 
 /// A buffer with that page, page 00401 not valid, and page C0001 writable in each address space.
-fn filled<L: Lookaside>() -> Result<L, BadRandom>
+fn filled<L: Lookaside>() -> Option<L>
     requires slots { L.SLOTS ≡ 64 }
     requires wired { L.WIRED ≡ 8 }
 {
-    let mut tlb = L::new(63)?;
+    let Ok(mut tlb) = L::new(63) else {
+        return None;
+    };
     tlb.write(8, PAGE);
     tlb.write(
         9,
@@ -40,7 +42,7 @@ fn filled<L: Lookaside>() -> Result<L, BadRandom>
             ..PAGE
         },
     );
-    Ok(tlb)
+    Some(tlb)
 }
 
 /// An address, what is done there by whom in which address space, and the answer.
@@ -129,26 +131,34 @@ const ROWS: [Row; 14] = [
     ),
 ];
 
-/// Whether the buffer answers each row.
-fn answers_all<L: Lookaside>(tlb: &L) -> bool {
-    ROWS.iter().all(|(addr, access, mode, asid, want)| {
-        translate(*addr, *access, *mode, tlb, *asid) == *want
-    })
-}
-
-#[test]
-fn each_segment_is_translated_as_its_row_says(rt: HostRuntime) -> Result<(), BadRandom> {
-    assert!(rt; answers_all(&filled::<Tlb<64, 8>>()?));
-    assert!(rt; answers_all(&filled::<Indexed<64, 8>>()?));
-    Ok(())
-}
-
-/// A buffer with the first and last page of kuseg in frames 1 and 2, and of kseg2 in 3 and 4.
-fn bounded<L: Lookaside>() -> Result<L, BadRandom>
+/// Whether a buffer with these pages answers each row.
+fn answers_all<L: Lookaside>() -> bool
     requires slots { L.SLOTS ≡ 64 }
     requires wired { L.WIRED ≡ 8 }
 {
-    let mut tlb = L::new(63)?;
+    let Some(tlb) = filled::<L>() else {
+        return false;
+    };
+    let mut right = true;
+    for (addr, access, mode, asid, want) in ROWS {
+        right = right && translate(addr, access, mode, &tlb, asid) == want;
+    }
+    right
+}
+
+#[test]
+fn each_segment_is_translated_as_its_row_says(rt: HostRuntime) {
+    assert!(rt; answers_all::<Tlb<64, 8>>() && answers_all::<Indexed<64, 8>>());
+}
+
+/// A buffer with the first and last page of kuseg in frames 1 and 2, and of kseg2 in 3 and 4.
+fn bounded<L: Lookaside>() -> Option<L>
+    requires slots { L.SLOTS ≡ 64 }
+    requires wired { L.WIRED ≡ 8 }
+{
+    let Ok(mut tlb) = L::new(63) else {
+        return None;
+    };
     let page = Entry { d: true, ..PAGE };
     tlb.write(
         8,
@@ -182,7 +192,7 @@ fn bounded<L: Lookaside>() -> Result<L, BadRandom>
             ..page
         },
     );
-    Ok(tlb)
+    Some(tlb)
 }
 
 /// The first and last address of each segment, whether a user may use it, and its place.
@@ -197,23 +207,34 @@ const BOUNDS: [(u32, bool, u32); 8] = [
     (0xffff_ffff, false, 0x4fff),
 ];
 
-/// Whether each bound is translated for each access in both modes.
-fn answers_bounds<L: Lookaside>(tlb: &L) -> bool {
-    BOUNDS.iter().all(|(addr, free, place)| {
-        [Access::Fetch, Access::Load, Access::Store]
-            .iter()
-            .all(|access| {
-                let found = Ok(Physical(*place));
-                let of_user = if *free { found } else { Err(Fault::Address) };
-                translate(*addr, *access, Mode::User, tlb, 1) == of_user
-                    && translate(*addr, *access, Mode::Kernel, tlb, 1) == found
-            })
-    })
+/// Whether a bound is translated for an access in both modes.
+fn answers_bound<L: Lookaside>(tlb: &L, bound: (u32, bool, u32), access: Access) -> bool {
+    let (addr, free, place) = bound;
+    let found = Ok(Physical(place));
+    let of_user = if free { found } else { Err(Fault::Address) };
+    translate(addr, access, Mode::User, tlb, 1) == of_user
+        && translate(addr, access, Mode::Kernel, tlb, 1) == found
+}
+
+/// Whether each bound is translated for each access.
+fn answers_bounds<L: Lookaside>() -> bool
+    requires slots { L.SLOTS ≡ 64 }
+    requires wired { L.WIRED ≡ 8 }
+{
+    let Some(tlb) = bounded::<L>() else {
+        return false;
+    };
+    let mut right = true;
+    for bound in BOUNDS {
+        right = right
+            && answers_bound(&tlb, bound, Access::Fetch)
+            && answers_bound(&tlb, bound, Access::Load)
+            && answers_bound(&tlb, bound, Access::Store);
+    }
+    right
 }
 
 #[test]
-fn each_segment_begins_and_ends_where_it_should(rt: HostRuntime) -> Result<(), BadRandom> {
-    assert!(rt; answers_bounds(&bounded::<Tlb<64, 8>>()?));
-    assert!(rt; answers_bounds(&bounded::<Indexed<64, 8>>()?));
-    Ok(())
+fn each_segment_begins_and_ends_where_it_should(rt: HostRuntime) {
+    assert!(rt; answers_bounds::<Tlb<64, 8>>() && answers_bounds::<Indexed<64, 8>>());
 }

@@ -21,14 +21,21 @@ ffffFFFF=4294967295
  0041000=
 ";
 
-#[test]
-fn an_address_is_eight_hexadecimal_digits(rt: HostRuntime) -> Result<(), Fail> {
-    for line in ADDRESSES.lines() {
-        let (word, address) = line.split_once('=').ok_or("an equals sign")?;
-        let address = address.parse::<u32>().ok();
-        assert_eq!(rt; address_of(word.as_bytes()), address, "{word}");
+/// Whether the word of a line is the address that stands behind it.
+fn is_address(line: &str) -> bool {
+    match line.split_once('=') {
+        Some((word, address)) => address_of(word.as_bytes()) == address.parse::<u32>().ok(),
+        None => false,
     }
-    Ok(())
+}
+
+#[test]
+fn an_address_is_eight_hexadecimal_digits(rt: HostRuntime) {
+    let mut right = true;
+    for line in ADDRESSES.lines() {
+        right = is_address(line) && right;
+    }
+    assert!(rt; right);
 }
 
 #[test]
@@ -37,7 +44,10 @@ fn a_long_text_is_read(rt: HostRuntime) -> Result<(), Fail> {
     let mut text: Vec<u8> = Vec::new(rt.alloc());
     text.resize(100_000, b'\n')?;
     text.resize(200_000, b' ')?;
-    let fault = Events::read(rt.alloc(), &text, &policy).err();
-    assert_eq!(rt; fault, Some(EventsFault::InputFault(100_001)));
+    let is_fault = match Events::read(rt.alloc(), &text, &policy) {
+        Ok(_) => false,
+        Err(fault) => fault == EventsFault::InputFault(100_001),
+    };
+    assert!(rt; is_fault);
     Ok(())
 }

@@ -14,9 +14,8 @@ fn asks(number: u32, argument: u32) -> Process {
 #[test]
 fn a_process_starts_ready_with_all_registers_zero(rt: HostRuntime) {
     let process = Process::new(0x0040_0000);
-    assert_eq!(rt; process.registers, [0; 32]);
-    assert_eq!(rt; (process.hi, process.lo, process.pc), (0, 0, 0x0040_0000));
-    assert_eq!(rt; process.state, Standing::Ready);
+    let zero = process.registers == [0; 32] && process.hi == 0 && process.lo == 0;
+    assert!(rt; zero && process.pc == 0x0040_0000 && process.state == Standing::Ready);
 }
 
 /// The calls of processes that ask by these registers 2 and 4.
@@ -30,9 +29,11 @@ const CALLS: [(u32, u32, Call); 5] = [
 
 #[test]
 fn a_call_is_read_off_the_registers(rt: HostRuntime) {
+    let mut right = true;
     for (number, argument, call) in CALLS {
-        assert_eq!(rt; Call::of(&asks(number, argument)), call);
+        right = right && Call::of(&asks(number, argument)) == call;
     }
+    assert!(rt; right);
 }
 
 #[test]
@@ -50,16 +51,16 @@ fn calls_about_grants_have_up_to_four_arguments(rt: HostRuntime) {
     let drop = Call::Drop {
         address: 0x0041_0000,
     };
-    let given = Call::of(&process);
+    let gives = Call::of(&process) == give;
     process.registers[2] = 8;
-    assert_eq!(rt; (given, Call::of(&process)), (give, drop));
+    let drops = Call::of(&process) == drop;
     let mut process = asks(7, 2);
     process.registers[5] = 0x0080_0000;
     let take = Call::Take {
         process: 2,
         address: 0x0080_0000,
     };
-    assert_eq!(rt; Call::of(&process), take);
+    assert!(rt; gives && drops && Call::of(&process) == take);
 }
 
 /// Who runs in the next turns: the first of the queue before each of four rotations.
@@ -89,35 +90,27 @@ fn queue_of(first: u32, second: u32, third: u32) -> Queue
 fn turns_go_round_among_those_that_are_ready(rt: HostRuntime) {
     let mut ready = Queue::new();
     ready.rotate();
-    assert_eq!(rt; ready.first(), None);
+    let none = ready.first().is_none();
     ready.push(1);
     ready.push(2);
     ready.push(100);
-    assert_eq!(rt;
-        next_turns(&mut ready),
-        [Some(1), Some(2), Some(100), Some(1)]
-    );
+    let three = next_turns(&mut ready) == [Some(1), Some(2), Some(100), Some(1)];
     ready.remove(2);
     ready.remove(3);
-    assert_eq!(rt;
-        next_turns(&mut ready),
-        [Some(100), Some(1), Some(100), Some(1)]
-    );
+    let two = next_turns(&mut ready) == [Some(100), Some(1), Some(100), Some(1)];
+    assert!(rt; none && three && two);
 }
 
 #[test]
 fn a_process_goes_to_the_end_from_anywhere(rt: HostRuntime) {
     let mut ready = queue_of(1, 2, 3);
     ready.to_end(2);
-    assert_eq!(rt;
-        next_turns(&mut ready),
-        [Some(1), Some(3), Some(2), Some(1)]
-    );
+    let from_within = next_turns(&mut ready) == [Some(1), Some(3), Some(2), Some(1)];
     let mut ready = queue_of(1, 3, 2);
     ready.to_end(1);
-    let first = ready.first();
+    let from_the_front = ready.first() == Some(3);
     ready.remove(3);
-    assert_eq!(rt; (first, ready.first()), (Some(3), Some(2)));
+    assert!(rt; from_within && from_the_front && ready.first() == Some(2));
 }
 
 /// Whether processes 1 to 100 have the next turns, one after the other.
@@ -136,11 +129,11 @@ fn a_hundred_processes_take_turns(rt: HostRuntime) {
     for process in 1..101 {
         ready.push(process);
     }
-    assert!(rt; take_turns(&mut ready) && ready.first() == Some(1));
+    let in_turn = take_turns(&mut ready) && ready.first() == Some(1);
     for process in 1..=99 {
         ready.remove(process);
     }
-    let last = ready.first();
+    let last = ready.first() == Some(100);
     ready.remove(100);
-    assert_eq!(rt; (last, ready.first()), (Some(100), None));
+    assert!(rt; in_turn && last && ready.first().is_none());
 }

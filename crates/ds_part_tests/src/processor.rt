@@ -5,7 +5,7 @@ use ds_core::{Core, Event};
 use ds_cp0::{Cp0, ExceptionCode, register};
 use ds_dev::Bus;
 use ds_mem::{Memory, OutOfMemory};
-use ds_tlb::{BadRandom, Entry, Indexed, Lookaside, Tlb};
+use ds_tlb::{Entry, Indexed, Lookaside, Tlb};
 use std::alloc::Global;
 use std::test::Fail;
 
@@ -30,29 +30,21 @@ fn page(vpn: u32, pfn: u32, d: bool) -> Entry {
     }
 }
 
-/// A buffer with the program's page.
-fn new_tlb<L: Lookaside>() -> Result<L, BadRandom>
-    requires slots { L.SLOTS ≡ 64 }
-    requires wired { L.WIRED ≡ 8 }
-{
-    let mut tlb = L::new(63)?;
-    tlb.write(8, page(0x400, 1, true));
-    Ok(tlb)
-}
-
 /// A processor in address space 1 whose registers hold 7 but register 0, and register 8 what is
-/// asked for.
-fn new_core<L: Lookaside>(status: u32, pc: u32, eighth: u32) -> Result<Core<L>, BadRandom>
+/// asked for, with the program's page in the buffer.
+fn new_core<L: Lookaside>(status: u32, pc: u32, eighth: u32) -> Option<Core<L>>
     requires slots { L.SLOTS ≡ 64 }
     requires wired { L.WIRED ≡ 8 }
 {
+    let mut tlb = L::new(63).ok()?;
+    tlb.write(8, page(0x400, 1, true));
     let mut registers = [7; 32];
     registers[0] = 0;
     registers[8] = eighth;
     let mut cp0 = Cp0::new();
     cp0.write(register::STATUS, status);
     cp0.write(register::ENTRY_HI, 0x40);
-    Ok(Core {
+    Some(Core {
         registers,
         hi: 0,
         lo: 0,
@@ -61,7 +53,7 @@ fn new_core<L: Lookaside>(status: u32, pc: u32, eighth: u32) -> Result<Core<L>, 
         next: pc.wrapping_add(4),
         slot: false,
         cp0,
-        tlb: new_tlb()?,
+        tlb,
     })
 }
 
@@ -102,64 +94,60 @@ fn put_table<L: Lookaside>(core: &mut Core<L>)
 }
 
 /// From a miss at 00410000, whose entry's word is 00002600 (frame 2, writable) in a table page in
-/// frame 3: the address after the handler, register 26, what a probe leaves in Index, and Random.
-fn refilled<L: Lookaside>(bus: &mut Bus) -> Result<(u32, u32, u32, usize), BadRandom>
+/// frame 3: whether the handler goes back to the program, clears register 26, and leaves the page
+/// in slot 56, and Random at 53.
+fn is_refilled<L: Lookaside>(bus: &mut Bus) -> bool
     requires slots { L.SLOTS ≡ 64 }
     requires wired { L.WIRED ≡ 8 }
 {
-    put_words(bus, 0, &HANDLER);
-    put_words(bus, 0x3040, &[0x2600]);
-    put_words(bus, PLACE, &[0x8d09_0000]);
-    let mut core: Core<L> = new_core(3, PROGRAM, 0x41_0000)?;
+    let Some(mut core) = new_core::<L>(3, PROGRAM, 0x41_0000) else {
+        return false;
+    };
     put_table(&mut core);
     for _ in 0..10 {
         core.step(bus);
     }
-    let index = core.tlb.probe(0x410, 1);
-    Ok((core.pc, core.registers[26], index, core.tlb.random()))
+    let found = core.tlb.probe(0x410, 1) == 56 * 256 && core.tlb.random() == 53;
+    found && core.pc == PROGRAM && core.registers[26] == 0
 }
 
 #[test]
 fn the_handler_refills_the_missing_page(rt: HostRuntime) -> Result<(), Fail> {
     let mut bus = new_bus(rt.alloc())?;
-    let want = (PROGRAM, 0, 56 * 256, 53);
-    assert_eq!(rt; refilled::<Tlb<64, 8>>(&mut bus)?, want);
-    assert_eq!(rt; refilled::<Indexed<64, 8>>(&mut bus)?, want);
+    put_words(&mut bus, 0, &HANDLER);
+    put_words(&mut bus, 0x3040, &[0x2600]);
+    put_words(&mut bus, PLACE, &[0x8d09_0000]);
+    let searched = is_refilled::<Tlb<64, 8>>(&mut bus);
+    let indexed = is_refilled::<Indexed<64, 8>>(&mut bus);
+    assert!(rt; searched && indexed);
     Ok(())
 }
 
 /// An interrupt by software at the kernel's second instruction, which stands in a slot and would
-/// write register 9: the events, EPC, Cause, Random and register 9.
-fn interrupted<L: Lookaside>(
-    bus: &mut Bus,
-) -> Result<(Event, Event, u32, u32, usize, u32), BadRandom>
+/// write register 9: whether the branch is to be run again, and the instruction was not.
+fn is_interrupted<L: Lookaside>(bus: &mut Bus) -> bool
     requires slots { L.SLOTS ≡ 64 }
     requires wired { L.WIRED ≡ 8 }
 {
-    put_words(bus, PLACE, &[0x1000_0001, 0x2409_0001]);
-    let mut core: Core<L> = new_core(0x100, KERNEL, 0)?;
+    let Some(mut core) = new_core::<L>(0x100, KERNEL, 0) else {
+        return false;
+    };
     core.cp0.write(register::CAUSE, 0x100);
     let first = core.step(bus);
     core.cp0.write(register::STATUS, 0x101);
     let second = core.step(bus);
-    let epc = core.cp0.read(register::EPC);
-    let cause = core.cp0.read(register::CAUSE);
-    Ok((
-        first,
-        second,
-        epc,
-        cause,
-        core.tlb.random(),
-        core.registers[9],
-    ))
+    let events = first == Event::Branched && second == Event::Raised(ExceptionCode::Interrupt);
+    let told = core.cp0.read(register::EPC) == KERNEL;
+    let in_slot = core.cp0.read(register::CAUSE) == 0x8000_0100;
+    events && told && in_slot && core.tlb.random() == 62 && core.registers[9] == 7
 }
 
 #[test]
 fn an_interrupt_in_a_slot_runs_the_branch_again(rt: HostRuntime) -> Result<(), Fail> {
     let mut bus = new_bus(rt.alloc())?;
-    let raised = Event::Raised(ExceptionCode::Interrupt);
-    let want = (Event::Branched, raised, KERNEL, 0x8000_0100, 62, 7);
-    assert_eq!(rt; interrupted::<Tlb<64, 8>>(&mut bus)?, want);
-    assert_eq!(rt; interrupted::<Indexed<64, 8>>(&mut bus)?, want);
+    put_words(&mut bus, PLACE, &[0x1000_0001, 0x2409_0001]);
+    let searched = is_interrupted::<Tlb<64, 8>>(&mut bus);
+    let indexed = is_interrupted::<Indexed<64, 8>>(&mut bus);
+    assert!(rt; searched && indexed);
     Ok(())
 }
