@@ -1,6 +1,7 @@
 -- However a unit goes on, it is tallied.
-use Rattle.std.proofs.Common.{◌≡◌, ◌≢◌, ℕ, zero, suc, ◌+◌, ◌-◌, ◌*◌, ◌<◌, ◌≤◌, inl, inr, Bool, true, false, List, [], ◌∷◌, length, ap, ◌∙◌, arith, refl, subst, sym}
+use Rattle.std.proofs.Common.{◌≡◌, ◌≢◌, ◌⊎◌, ℕ, zero, suc, ◌+◌, ◌-◌, ◌*◌, ◌<◌, ◌≤◌, inl, inr, Bool, true, false, List, [], ◌∷◌, length, ap, ◌∙◌, arith, refl, subst, sym}
 use Rattle.std.specs.Prelude.{Contains, slice_get, slice_set, None}
+use Rattle.std.proofs.lemmas.Bool.{cases_eq}
 use Rattle.ds_tlb.proofs.Bits.{read_set_other}
 use Rattle.ds_word.specs.Word.{truth}
 use Rattle.ds_tlb.specs.declared.entry.Entry.{Entry}
@@ -8,10 +9,10 @@ use Rattle.ds_tlb.specs.Entries.{find}
 use Rattle.ds_bounds.specs.Cost.{Met, cost}
 use Rattle.ds_bounds.proofs.Costs.{costs}
 use Rattle.ds_bounds.specs.Course.{Ask, Fetch, Slot, Access, asked, Place, Begun, InItsSlot, AtWord, AtDoubleMiss, AtModification, AtService, Work, Course}
-use Rattle.ds_bounds.specs.Steps.{table_page, counted, wrote, tabled, copied, Next, Branches, Misses, MissesInSlot, IsUsers, Modifies, Traps, Passes, MissesTable, Writes, Returns, Tables, Copies, After, Begins}
-use Rattle.ds_bounds.specs.Tally.{has_page, wasted, AllStood, IsSince, Tally, IsTabling, IsModified, IsAt, IsTallied, IsShort, Stood, WasWritten, is_serving, steps_ahead}
+use Rattle.ds_bounds.specs.Steps.{table_page, counted, wrote, turned, tabled, copied, Next, Branches, Misses, MissesInSlot, IsUsers, Modifies, Traps, Passes, MissesTable, Writes, Returns, Tables, Copies, After, Begins}
+use Rattle.ds_bounds.specs.Tally.{has_page, wasted, AllStood, IsSince, Tally, IsTabling, IsModified, IsAt, IsTallied, IsShort, Stood, WasWritten, turns, is_serving, steps_ahead}
 use Rattle.ds_bounds.proofs.Tallies.{truth_small, doubles_few, refills_few, copies_few, ticks, page_unmet, table_unmet, copy_unmet, wrote_tally, tabled_tally, copied_tally}
-use Rattle.ds_bounds.proofs.Slots.{turn_apart, turn_on, stood_among, stood_apart}
+use Rattle.ds_bounds.proofs.Slots.{turn_apart, turn_first, turn_on, stood_among, stood_apart}
 
 -- what is not met leaves room for what it costs
 room : (met : Met) (ask : Ask) → has_page met ask ≡ false → cost met + wasted ask + 9 ≤ 59
@@ -285,6 +286,41 @@ grows_by c d met slot t was (Copies entries dirty place writable keys size is) =
 
 pub grows : (c d : Course) (slot : ℕ) → IsTallied c → Next c d → WasWritten c.work slot → WasWritten d.work slot
 grows c d slot i next was = grows_by c d i.met slot i.tally was next
+
+-- No other slot changes.
+
+abbrev Changes : Course → Course → ℕ → Type 0
+Changes c d slot = WasWritten d.work slot ⊎ (slice_get d.work.entries slot ≡ slice_get c.work.entries slot)
+
+-- what a refill writes, it writes at Random
+refill_changes : (c d : Course) (e : Entry) (slot : ℕ) → d.work ≡ wrote e c.work → Changes c d slot
+refill_changes c d e slot is = elim (cases_eq slot c.work.random) [
+  | inl same ↦ inl (still c d slot (wrote e c.work) is (inl (0, (omega arith), sym same)))
+  | inr apart ↦ inr (ap (λ (w : Work). slice_get w.entries slot) is ∙ read_set_other c.work.entries c.work.random slot e apart)
+]
+
+-- and the monitor at the slot whose turn it is
+table_changes : (c d : Course) (e : Entry) (slot : ℕ) → c.work.wired < 8 → d.work ≡ tabled e c.work → Changes c d slot
+table_changes c d e slot turn is = elim (cases_eq slot c.work.wired) [
+  | inl same ↦ inl (still c d slot (tabled e c.work) is (inr (subst (λ (n : ℕ). (n < 8) × (turns n (turned c.work.wired) ≤ c.work.tables + 1)) (sym same) (turn, turn_first c.work.wired c.work.tables turn))))
+  | inr apart ↦ inr (ap (λ (w : Work). slice_get w.entries slot) is ∙ read_set_other c.work.entries c.work.wired slot e apart)
+]
+
+others_by : (c d : Course) (slot : ℕ) → c.work.wired < 8 → c.place ≢ AtModification → Next c d → Changes c d slot
+others_by c d slot turn apart (Branches place is) = inr (ap (λ (x : Course). slice_get x.work.entries slot) is)
+others_by c d slot turn apart (Misses ask place none is) = inr (ap (λ (x : Course). slice_get x.work.entries slot) is)
+others_by c d slot turn apart (MissesInSlot ask place other none is) = inr (ap (λ (x : Course). slice_get x.work.entries slot) is)
+others_by c d slot turn apart (Modifies place clean is) = inr (ap (λ (x : Course). slice_get x.work.entries slot) is)
+others_by c d slot turn apart (Traps page place is) = inr (ap (λ (x : Course). slice_get x.work.entries slot) is)
+others_by c d slot turn apart (Passes word place low other is) = inr (ap (λ (x : Course). slice_get x.work.entries slot) is)
+others_by c d slot turn apart (MissesTable place none is) = inr (ap (λ (x : Course). slice_get x.work.entries slot) is)
+others_by c d slot turn apart (Writes e place page space is) = refill_changes c d e slot (ap (λ (x : Course). x.work) is)
+others_by c d slot turn apart (Returns place is) = inr (ap (λ (x : Course). slice_get x.work.entries slot) is)
+others_by c d slot turn apart (Tables e place page space is) = table_changes c d e slot turn (ap (λ (x : Course). x.work) is)
+others_by c d slot turn apart (Copies entries dirty place writable keys size is) = absurd (apart place)
+
+pub others : (c d : Course) (slot : ℕ) → IsTallied c → Next c d → c.place ≢ AtModification → WasWritten d.work slot ⊎ (slice_get d.work.entries slot ≡ slice_get c.work.entries slot)
+others c d slot i next apart = others_by c d slot i.tally.turn apart next
 
 -- Each step leaves fewer to take.
 

@@ -1,5 +1,5 @@
 //! The course of a unit: it is short, and what it writes into the buffer stays.
-ghost use Rattle.std.specs.Prelude.{◌≡◌, ◌≢◌, ℕ, ◌+◌, ◌<◌, ◌≤◌, List, length, slice_get, slice_set, Some};
+ghost use Rattle.std.specs.Prelude.{◌≡◌, ◌≢◌, ◌⊎◌, ℕ, ◌+◌, ◌<◌, ◌≤◌, List, length, slice_get, slice_set, Some};
 ghost use Rattle.ds_tlb.specs.declared.entry.Entry.{Entry};
 ghost use Rattle.ds_bounds.specs.Course.{Course, AtWord, AtDoubleMiss, AtModification};
 ghost use Rattle.ds_bounds.specs.Steps.{After, Begins, HasKeys, Next};
@@ -19,12 +19,15 @@ pub fn a_units_course_is_short()
 {}
 
 /// What a unit has written into the buffer is not replaced while it goes on, except by the service
-/// of a copy, which leaves each slot its page and its address space. Each step leaves fewer to take.
+/// of a copy, which leaves each slot its page and its address space; and no slot changes but what it
+/// has written. Each step leaves fewer to take.
 pub fn what_a_unit_writes_stays()
     ensures stays { (c d : Course) (slot : ℕ) → IsTallied c → Next c d → c.place ≢ AtModification
         → WasWritten c.work slot → slice_get d.work.entries slot ≡ slice_get c.work.entries slot }
     ensures grows { (c d : Course) (slot : ℕ) → IsTallied c → Next c d → WasWritten c.work slot
         → WasWritten d.work slot }
+    ensures others { (c d : Course) (slot : ℕ) → IsTallied c → Next c d → c.place ≢ AtModification
+        → WasWritten d.work slot ⊎ (slice_get d.work.entries slot ≡ slice_get c.work.entries slot) }
     ensures falls { (c d : Course) → IsTallied c → Next c d → steps_ahead d < steps_ahead c }
 {}
 

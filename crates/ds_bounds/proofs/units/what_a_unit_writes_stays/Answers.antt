@@ -1,4 +1,4 @@
-use Rattle.ds_bounds.proofs.Courses.{stays, grows, falls}
+use Rattle.ds_bounds.proofs.Courses.{stays, grows, others, falls}
 use Rattle.ds_bounds.proofs.units.what_a_unit_writes_stays.Goals as goal
 
 pub returns-clause-stays : goal.returns-clause-stays
@@ -6,6 +6,9 @@ returns-clause-stays c = stays
 
 pub returns-clause-grows : goal.returns-clause-grows
 returns-clause-grows c = grows
+
+pub returns-clause-others : goal.returns-clause-others
+returns-clause-others c = others
 
 pub returns-clause-falls : goal.returns-clause-falls
 returns-clause-falls c = falls
