@@ -422,3 +422,12 @@ module _ (h : Held) (m : State) (p : ℕ) (rest : List ℕ) (k : Agrees h m) (re
       by_does (inl r) = (r.entries, r.random)
       by_does (inr (inl t)) = let wrong : event.Branched ≡ event.Retired = sym t.event ∙ done in absurd cc
       by_does (inr (inr l)) = let wrong : event.Raised l.what.code ≡ event.Retired = sym l.event ∙ done in absurd cc
+
+  -- no instruction changes the buffer
+  pub entries_stay : s.core.entries ≡ h.core.entries
+  entries_stay = by_does does_here
+    where
+      by_does : Does h.core here p s → s.core.entries ≡ h.core.entries
+      by_does (inl r) = r.entries
+      by_does (inr (inl t)) = ap (λ (c : CoreState). c.entries) t.core
+      by_does (inr (inr l)) = ap (λ (c : CoreState). c.entries) l.core

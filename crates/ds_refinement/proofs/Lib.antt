@@ -41,3 +41,5 @@ pub mod Nine
 pub mod Vectors
 pub mod NoNewPairs
 pub mod WaysBack
+pub mod Staying
+pub mod WrittenRows

@@ -189,7 +189,7 @@ abbrev again : Held
 again = record called { core = record (core_at 0x00400008 0xC03) { system = record called.core.system { status = 0xC03 } } }
 
 pub all_but_the_cause_is_a_way_back : GoesBack called again
-all_but_the_cause_is_a_way_back = record { mode = refl; address = refl; pages = refl; devices = refl; answered = λ up. (let no : true ≡ false = up in absurd cc) }
+all_but_the_cause_is_a_way_back = record { mode = refl; address = refl; pages = refl; devices = refl; answered = λ up. (let no : true ≡ false = up in absurd cc); written = λ up. (let no : true ≡ false = up in absurd cc) }
 
 pub a_call_does_not_go_back : IsReal called again → ⊥
 a_call_does_not_go_back real = elim (real.service (refl, λ none. absurd cc) refl) [
@@ -216,7 +216,7 @@ stood_there zero e is low = let same : table_page ≡ e = cc in let high : 0xC00
 stood_there (suc slot) e is low = (suc slot, e, is, refl, refl)
 
 pub a_double_miss_goes_back : GoesBack (doubled 0) (with_table_page (doubled 0) 1)
-a_double_miss_goes_back = record { mode = refl; address = refl; pages = refl; devices = refl; answered = λ nested. (0, refl) }
+a_double_miss_goes_back = record { mode = refl; address = refl; pages = refl; devices = refl; answered = λ nested. (0, refl); written = λ nested. (0x3200, refl) }
 
 pub that_is_real : IsReal (doubled 0) (with_table_page (doubled 0) 1)
 that_is_real = record {

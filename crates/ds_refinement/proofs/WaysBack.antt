@@ -2,6 +2,8 @@
 use Rattle.std.proofs.Common.{◌≡◌, ◌≢◌, ℕ, ◌-◌, ◌<◌, ◌≤◌, Bool, true, false, cond, List, [], ◌∷◌, refl, sym, ap, subst, ◌∙◌, arith}
 use Rattle.std.specs.Prelude.{slice_index}
 use Rattle.ds_word.specs.Word.{bits}
+use Rattle.ds_tables.specs.Places.{page_of_table}
+use Rattle.ds_grants.specs.Buffer.{read_only}
 use Rattle.ds_pagemap.specs.Machine.{State, touched}
 use Rattle.ds_refinement.specs.declared.step.Step.TheVariants.{Inside}
 use Rattle.ds_refinement.specs.Held.{Held}
@@ -47,6 +49,7 @@ module _ (h : Held) (p : ℕ) (rest : List ℕ) (sound : IsSound h) (ready : h.k
     pages = refl;
     devices = refl;
     answered = λ again. (h.own.wired, page_answers h m p rest sound.stands.agrees ready h.own.wired (let few = (ranges_of h m sound.stands).turn in omega (arith, few)) doubled);
+    written = λ again. (read_only (page_of_table h.kept.tables p (bits h.core.system.entry_hi 12 20 - 0xC0000)), refl);
   }
 
   first_page : 0xC0000 ≤ bits h.core.system.entry_hi 12 20

@@ -2,7 +2,7 @@
 use Rattle.std.proofs.Common.{◌≡◌, ◌≢◌, ℕ, ◌+◌, ◌*◌, ◌-◌, ◌/◌, ◌^◌, ◌<◌, ◌≤◌, ◌==◌, Bool, true, false, List, [], ◌∷◌, length, set, Some, refl, sym, ap, ap₂, subst, ◌∙◌, arith}
 use Rattle.std.proofs.lemmas.Bool.Decides.{nat_tests}
 use Rattle.std.proofs.lemmas.List.{get_or-set_same, get_or-set_other}
-use Rattle.std.specs.Prelude.{slice_index}
+use Rattle.std.specs.Prelude.{slice_index, if◌then◌else◌}
 use Rattle.ds_word.specs.Word.{word, bits}
 use Rattle.ds_isa.specs.Meaning.{address_of}
 use Rattle.ds_isa.specs.Registers.{Registers}
@@ -16,7 +16,7 @@ use Rattle.ds_refill_laws.specs.Refill.{lent, late_of}
 use Rattle.ds_tables.specs.Places.{page_of_table}
 use Rattle.ds_grants.specs.Buffer.{hi_of, read_only}
 use Rattle.ds_pagemap.specs.Machine.{State, touched}
-use Rattle.ds_bounds.specs.Course.{AtWord, Course}
+use Rattle.ds_bounds.specs.Course.{AtWord, Course, Pages, after_touch}
 use Rattle.ds_bounds.specs.Steps.{Next}
 use Rattle.ds_bounds.specs.Tally.{IsTallied}
 use Rattle.ds_bounds.proofs.Courses as courses
@@ -56,6 +56,10 @@ table_place vpn user = omega arith
 at_general : (pc : ℕ) → (pc == 0x80000080) ≡ true → pc ≡ 0x80000080
 at_general pc is = grind (arith, nat_tests)
 
+-- the pages that the unit asks for after a word of the handler
+abbrev pub pages_after_word : Bool → Pages → Pages
+pages_after_word seventh pages = if seventh then after_touch pages else pages
+
 -- A station that agrees with m, whose first ready process is p, and whose unit is tallied.
 module _ (h : Held) (m : State) (p : ℕ) (rest : List ℕ) (k : Agrees h m) (ready : h.kept.state.ready ≡ p ∷ rest) (tallied : IsTallied (course_of h.core (counts_of h.own) (may_write h.kept p) (pages_of m p))) where
   abbrev n : Counts
@@ -76,14 +80,16 @@ module _ (h : Held) (m : State) (p : ℕ) (rest : List ℕ) (k : Agrees h m) (re
   first : m.ready ≡ p ∷ rest
   first = (kept h m p rest k ready).ready
 
-  -- what the word is to leave
+  -- where the word leads, by whether it is the seventh, which touches the process
+  abbrev led : Bool → Course
+  led seventh = course_of s (one_word seventh h.core.random n) dirty (pages_after_word seventh (pages_of m p))
+
+  -- the step of the course that the word is to be
   abbrev Leaves : Type 0
-  Leaves = IsTallied (course_of s (one_word (touches h.core) h.core.random n) dirty (pages_of (touched (touches h.core) m) p))
+  Leaves = Next (course_of c n dirty (pages_of m p)) (led (touches h.core))
 
   goes : touches h.core ≡ false → Next (course_of c n dirty (pages_of m p)) (course_of s (one_more n) dirty (pages_of m p)) → Leaves
-  goes which next =
-      subst (λ (b : Bool). IsTallied (course_of s (one_word b h.core.random n) dirty (pages_of (touched b m) p))) (sym which)
-      (courses.goes_on (course_of c n dirty (pages_of m p)) (course_of s (one_more n) dirty (pages_of m p)) tallied next)
+  goes which next = subst (λ (b : Bool). Next (course_of c n dirty (pages_of m p)) (led b)) (sym which) next
 
   passes : (i : ℕ) → i < 8 → ◌≢◌ {A = ℕ} i 2 → ◌≢◌ {A = ℕ} i 6 → touches h.core ≡ false → c.system.status ≡ 0xC0C → c.slot ≡ false → c.pc ≡ 0x80000000 + 4 * i → c.next ≡ 0x80000000 + 4 * (i + 1) → Leaves
   passes i low two six which mode outside at next = goes which (nine.passes c h.bus n dirty (pages_of m p) k.vectors mode i low two six outside at next)
@@ -107,7 +113,7 @@ module _ (h : Held) (m : State) (p : ℕ) (rest : List ℕ) (k : Agrees h m) (re
       (λ slot e found at.
       let there : find c.entries (0xC0000 + z.vpn / 1024) asid ≡ Some slot = ap₂ (λ (x a : ℕ). find c.entries (0xC0000 + x / 1024) a) (sym page) (sym space) ∙ found in
       let entry : ◌≡◌ (Some e) (Some (page_entry (0xC0000 + z.vpn / 1024) asid (page_of_table h.kept.tables p (z.vpn / 1024)))) =
-      sym at ∙ found_entry c.entries h.kept.spaces h.kept.grants h.kept.tables p (z.vpn / 1024) slot k.represented.buffer now.seat.0 now.number there in
+      sym at ∙ found_entry c.entries (space_of h.kept) h.kept.grants h.kept.tables p (z.vpn / 1024) slot k.represented.buffer now.seat.0 now.number there in
       by_entry e (page_entry (0xC0000 + z.vpn / 1024) asid (page_of_table h.kept.tables p (z.vpn / 1024))) entry
       (is_valid (0xC0000 + z.vpn / 1024) asid (page_of_table h.kept.tables p (z.vpn / 1024)))
       (small_frame (page_of_table h.kept.tables p (z.vpn / 1024)) (table_below h.kept.tables p (z.vpn / 1024) k.represented.places))))
@@ -115,12 +121,11 @@ module _ (h : Held) (m : State) (p : ℕ) (rest : List ℕ) (k : Agrees h m) (re
       by_entry : (e f : Entry) → ◌≡◌ (Some e) (Some f) → f.v ≡ true → f.pfn < 2048 → (e.v ≡ true) × (e.pfn < 2048)
       by_entry e f same valid small = let is : e ≡ f = cc in (ap (λ (x : Entry). x.v) is ∙ valid, subst (λ (x : Entry). x.pfn < 2048) (sym is) small)
 
-  -- the seventh word, which touches the process
+  -- the seventh word
   at_write : InHandler AtWrite h.core h.kept p m → Leaves
   at_write z =
-      subst (λ (b : Bool). IsTallied (course_of s (one_word b h.core.random n) dirty (pages_of (touched b m) p))) (sym (ap (λ (x : ℕ). x == refill.address_of 6) z.pc))
-      (touched_tallied m p rest c s n (one_written c.random n) dirty dirty first now.seat tallied
-      (nine.writes c h.bus n dirty (pages_of m p) k.vectors z.status z.pc (z.next ∙ ap (λ (x : ℕ). word (x + 4)) z.pc)))
+      subst (λ (b : Bool). Next (course_of c n dirty (pages_of m p)) (led b)) (sym (ap (λ (x : ℕ). x == refill.address_of 6) z.pc))
+      (nine.writes c h.bus n dirty (pages_of m p) k.vectors z.status z.pc (z.next ∙ ap (λ (x : ℕ). word (x + 4)) z.pc))
 
   by_phase : (phase : Phase) → InHandler phase h.core h.kept p m → Leaves
   by_phase AtContext z = passes 0 (omega arith) (λ (e : ◌≡◌ {A = ℕ} 0 2). omega arith) (λ (e : ◌≡◌ {A = ℕ} 0 6). omega arith) (ap (λ (x : ℕ). x == refill.address_of 6) z.pc) z.status z.slot z.pc (z.next ∙ ap (λ (x : ℕ). word (x + 4)) z.pc)
@@ -134,8 +139,16 @@ module _ (h : Held) (m : State) (p : ℕ) (rest : List ℕ) (k : Agrees h m) (re
   by_phase AtReturn z = goes (ap (λ (x : ℕ). x == refill.address_of 6) z.pc) (nine.returns c h.bus n dirty (pages_of m p) k.vectors z.status z.pc)
 
   -- a word of the handler
-  pub word_tallied : is_user h.core.system ≡ false → is_general h.core ≡ false → Leaves
-  word_tallied user general = let at = here h m p rest k ready user general in by_phase at.0 at.1
+  pub word_next : is_user h.core.system ≡ false → is_general h.core ≡ false → Next (course_of c n dirty (pages_of m p)) (led (touches h.core))
+  word_next user general = let at = here h m p rest k ready user general in by_phase at.0 at.1
+
+  -- what it leaves
+  tallied_by : (seventh : Bool) → Next (course_of c n dirty (pages_of m p)) (led seventh) → IsTallied (course_of s (one_word seventh h.core.random n) dirty (pages_of (touched seventh m) p))
+  tallied_by true next = touched_tallied m p rest c s n (one_written c.random n) dirty dirty first now.seat tallied next
+  tallied_by false next = courses.goes_on (course_of c n dirty (pages_of m p)) (led false) tallied next
+
+  pub word_tallied : is_user h.core.system ≡ false → is_general h.core ≡ false → IsTallied (course_of s (one_word (touches h.core) h.core.random n) dirty (pages_of (touched (touches h.core) m) p))
+  word_tallied user general = tallied_by (touches h.core) (word_next user general)
 
   -- the service of a double miss
   pub double_tallied : is_served h.core ≡ true → has_left_user h.core ≡ false → IsTallied (course_of (with_table_page h p).core (one_tabled n) dirty (pages_of (touched true m) p))

@@ -14,6 +14,7 @@ pub mod Steps
 pub mod Pairs
 pub mod Services
 pub mod Real
+pub mod Written
 pub mod Granted
 pub mod First
 pub mod Ends

@@ -1,6 +1,7 @@
 -- Which steps of the station are steps of the processor.
-use Rattle.std.specs.Prelude.{◌≡◌, ◌≢◌, ◌⊎◌, ⊤, ℕ, ◌/◌, ◌^◌, true, false, if◌then◌else◌, List, [], ◌∷◌, slice_index, Some, None, IsSome}
+use Rattle.std.specs.Prelude.{◌≡◌, ◌≢◌, ◌⊎◌, ⊤, ℕ, ◌/◌, ◌^◌, true, false, if◌then◌else◌, List, [], ◌∷◌, slice_index, slice_set, Some, None, IsSome}
 use Rattle.ds_tlb.specs.Entries.{find}
+use Rattle.ds_tlb.specs.Words.{entry_of}
 use Rattle.ds_cp0.specs.System.{asid_of, is_user}
 use Rattle.ds_policy.specs.declared.access.Verdict.TheVariants.{Allowed}
 use Rattle.ds_policy.specs.Pages.{decide}
@@ -49,7 +50,7 @@ abbrev pub unit_address : CoreState → ℕ
 unit_address c = if has_left_user c then c.system.epc else slice_index c.registers.general 27
 
 -- The unit goes on in user mode at its address, and no byte of a page and no device has changed. After a double miss a
--- slot of the buffer answers for the page that EntryHi names.
+-- slot of the buffer answers for the page that EntryHi names: an entry of that page was put into the slot whose turn it was.
 pub record GoesBack (old new : Held) : Type 0 where
   pub mode : is_user new.core.system ≡ true
   pub address : new.core.pc ≡ unit_address old.core
@@ -57,6 +58,8 @@ pub record GoesBack (old new : Held) : Type 0 where
   pub devices : record new.bus { memory = [] } ≡ record old.bus { memory = [] }
   pub answered : has_left_user old.core ≡ false
       → (slot : ℕ) × (find new.core.entries (old.core.system.entry_hi / 2 ^ 12) (asid_of new.core.system) ≡ Some slot)
+  pub written : has_left_user old.core ≡ false
+      → (lo : ℕ) × (new.core.entries ≡ slice_set old.core.entries old.own.wired (entry_of old.core.system.entry_hi lo))
 
 -- The unit ends: the exception came from user mode, and what was told ends it.
 pub record EndsReally (old new : Held) : Type 0 where

@@ -24,6 +24,7 @@ mod step;
 mod tallies;
 mod told;
 mod turns;
+mod writes;
 
 pub use asked::{
     a_touch_leaves_what_is_asked_for, an_exception_is_asked_for, an_instruction_goes_on,
@@ -72,3 +73,4 @@ pub use turns::{
     a_boundary_is_served, a_failure_is_not_seen, a_quiet_boundary, an_idle_turn,
     an_idle_turn_is_served, nothing_is_left_to_do, steps_join,
 };
+pub use writes::a_unit_keeps_what_it_wrote;
