@@ -1,5 +1,5 @@
 -- What a unit has written into the buffer stays while it goes on.
-use Rattle.std.proofs.Common.{◌≡◌, ◌≢◌, ◌⊎◌, ℕ, ◌+◌, ◌-◌, ◌/◌, ◌<◌, ◌≤◌, ◌==◌, Bool, true, false, cond, not, List, [], ◌∷◌, None, refl, sym, ap, ap₂, subst, ◌∙◌, inl, inr, arith}
+use Rattle.std.proofs.Common.{◌≡◌, ◌≢◌, ◌⊎◌, ℕ, ◌-◌, ◌/◌, ◌<◌, ◌≤◌, ◌==◌, Bool, true, false, cond, List, [], ◌∷◌, None, refl, sym, ap, ap₂, subst, ◌∙◌, inl, inr, arith}
 use Rattle.std.proofs.lemmas.Bool.Decides.{nat_tests}
 use Rattle.std.specs.Prelude.{Contains, IsSome, Option, is_some, slice_get}
 use Rattle.ds_word.specs.Word.{bits}
@@ -12,7 +12,7 @@ use Rattle.ds_core.specs.Core.{CoreState}
 use Rattle.ds_core.specs.Effect.{step}
 use Rattle.ds_pagemap.specs.Machine.{State}
 use Rattle.ds_pagemap.specs.declared.turn.Turn.{Turn}
-use Rattle.ds_bounds.specs.Course.{Pages, Place, Begun, AtWord, AtDoubleMiss, AtModification, Work, Course, after_touch}
+use Rattle.ds_bounds.specs.Course.{Pages, Begun, AtWord, AtDoubleMiss, AtModification, Work, Course}
 use Rattle.ds_bounds.specs.Steps.{Next, Tables, tabled}
 use Rattle.ds_bounds.specs.Tally.{IsTallied, turns}
 use Rattle.ds_bounds.proofs.Courses as courses
@@ -21,11 +21,11 @@ use Rattle.ds_refinement.specs.Told.{code_in, told}
 use Rattle.ds_refinement.specs.Held.{Held, Own}
 use Rattle.ds_refinement.specs.Needs.{pages_of}
 use Rattle.ds_refinement.specs.Counts.{Counts, HasNone, counts_of, course_of, fresh, may_write, one_more, one_tabled, one_word, place_by, place_of}
-use Rattle.ds_refinement.specs.Units.{EndsUnit, has_left_user, is_general, is_served}
+use Rattle.ds_refinement.specs.Units.{has_left_user, is_general, is_served}
 use Rattle.ds_refinement.specs.Handling.{touches}
 use Rattle.ds_refinement.specs.Stands.{IsSound}
-use Rattle.ds_refinement.specs.Steps.{Follows, Moves, counts_after}
-use Rattle.ds_refinement.specs.Real.{EndsReally, GoesBack, GoesBackBy, GoesOnReally, HasUnit, IsReal}
+use Rattle.ds_refinement.specs.Steps.{Follows, Moves}
+use Rattle.ds_refinement.specs.Real.{GoesBack, GoesBackBy, GoesOnReally, HasUnit, IsReal}
 use Rattle.ds_refinement.specs.Written.{HasWritten, KeepsWritten}
 use Rattle.ds_refinement.proofs.Standing.{away_is, first_ready, served_is}
 use Rattle.ds_refinement.proofs.AskedFor.{entries_stay}

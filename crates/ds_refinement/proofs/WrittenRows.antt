@@ -1,5 +1,5 @@
 -- What a small unit has written into the buffer, and what of that a step may change: each row is a theorem about the definitions alone.
-use Rattle.std.proofs.Common.{◌≡◌, ◌⊎◌, ℕ, zero, suc, ◌<◌, ◌≤◌, ◌-◌, List, false, [], ◌∷◌, Some, refl, ap, sym, arith, inl, inr}
+use Rattle.std.proofs.Common.{◌≡◌, ◌⊎◌, ℕ, zero, suc, ◌<◌, ◌≤◌, List, false, [], ◌∷◌, Some, refl, ap, sym, arith, inl, inr}
 use Rattle.std.specs.Prelude.{slice_get, slice_index_or}
 use Rattle.ds_tlb.specs.declared.entry.Entry.{Entry}
 use Rattle.ds_refinement.specs.Held.{Held, Own}
