@@ -46,9 +46,13 @@ bare_app = record { top = record (new_app (codes "dsmon")).top { has_version = t
 abbrev pub files_app : App
 files_app = with_subcommand (with_subcommand bare_app run_app.top) list_app.top
 
--- `check POLICY [INPUT]`
+-- `--notes-as-faults`
+abbrev pub notes_rule : Rule
+notes_rule = record (new_rule (codes "notes-as-faults")) { long = Some (codes "notes-as-faults"); action = Some SetTrue }
+
+-- `check POLICY [INPUT] [--notes-as-faults]`
 abbrev pub check_app : App
-check_app = with_rule (with_rule (new_app (codes "check")) (required_rule (codes "POLICY"))) (new_rule (codes "INPUT"))
+check_app = with_rule (with_rule (with_rule (new_app (codes "check")) (required_rule (codes "POLICY"))) (new_rule (codes "INPUT"))) notes_rule
 
 -- `--quiet`
 abbrev pub quiet_rule : Rule
@@ -108,10 +112,13 @@ pub record AsksForList (words : List Text) (request : ListRequest) : Type 0 wher
   pub named : subcommand_of dsmon_app words ≡ Some (codes "list", rows)
   pub names : NamesList rows request
 
--- what stands after `check` names the policy, and the input where one is wanted
+-- what stands after `check` names the policy, and the input where one is wanted, and says whether
+-- notes are faults
 pub record NamesCheck (rows : List Row) (request : CheckRequest) : Type 0 where
   pub policy : first_of (codes "POLICY") rows ≡ Some request.policy.now
   pub input : first_of (codes "INPUT") rows ≡ option_map (λ s. s.now) request.input
+  pub faults : one_of (codes "notes-as-faults") rows ≡ Some (codes "true") → request.notes_as_faults ≡ true
+  pub notes : one_of (codes "notes-as-faults") rows ≡ Some (codes "false") → request.notes_as_faults ≡ false
 
 -- clap takes the words, and they ask what this policy and this input mean
 pub record AsksForCheck (words : List Text) (request : CheckRequest) : Type 0 where

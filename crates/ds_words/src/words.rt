@@ -2,7 +2,7 @@
 ghost use Rattle.std.specs.Prelude.{◌≡◌, ◌↔◌, IfOk, IfSome, None, Some, codes, false, map, string_bytes};
 ghost use Rattle.clap.specs.Words.{FailsBy, app_of, fault_of, found_of, new_app, new_rule, rows_of, rule_of, subcommand_name_of, subcommand_of, subcommand_rows_of, with_rule, with_subcommand};
 ghost use Rattle.clap.specs.declared.builder.command.Command.TheViews.{out-Command as fields_of};
-ghost use Rattle.ds_words.specs.Words.{AsksForBare, AsksForCheck, AsksForList, AsksForRun, AsksForSomething, NamesBare, NamesCheck, NamesList, NamesRun, bare_app, check_app, command_named, dsmon_app, files_app, keys_rule, list_app, machine_app, quiet_rule, random_rule, required_rule, run_app, time_rule, words_rule};
+ghost use Rattle.ds_words.specs.Words.{AsksForBare, AsksForCheck, AsksForList, AsksForRun, AsksForSomething, NamesBare, NamesCheck, NamesList, NamesRun, bare_app, check_app, command_named, dsmon_app, files_app, keys_rule, list_app, machine_app, notes_rule, quiet_rule, random_rule, required_rule, run_app, time_rule, words_rule};
 
 use clap::builder::ValueParser;
 use clap::{Arg, ArgAction, ArgMatches, Command, Error};
@@ -39,6 +39,8 @@ pub struct CheckRequest<'a> {
     pub policy: &'a str,
     /// The name of the input's file.
     pub input: Option<&'a str>,
+    /// Whether a note is taken for a fault.
+    pub notes_as_faults: bool,
 }
 
 /// A source that the words want run on the bare machine.
@@ -85,7 +87,8 @@ const HELP: &str = "Examples:
 
 The status is 0 where all was done, 1 where the words are wrong or ask for help,
 2 where the policy, a source, the input or R is refused, and 3 where a fault ends
-the run. With 2 and 3 a line on standard error tells the fault's number and name.";
+the run. With 2 and 3 a line on standard error tells the fault's number and name;
+where a note is taken for a fault, the status is 2, and the notes are told there.";
 
 /// What stands at the end of the help of `run`.
 const RUN_HELP: &str =
@@ -99,10 +102,12 @@ Example:
 /// What stands at the end of the help of `check`.
 const CHECK_HELP: &str =
     "POLICY, its sources and INPUT are read as a run reads them. Where all is good, the permission table
-at the start is written, process by process; then what is near a limit; then what comes when. Where
-something is refused, standard error tells the refusal as a run does, where it is as far as that is
-known, the reason with what to write, and the other faults of the source with their reasons. The
-status is 2 then.
+at the start is written, process by process; then what is near a limit; then what comes when; then
+the notes: what is worth a look in the policy and in its sources, though nothing is refused for it.
+Where something is refused, standard error tells the refusal as a run does, where it is as far as
+that is known, the reason with what to write, and the other faults of the source with their reasons.
+The status is 2 then. With --notes-as-faults it is 2 where there is a note, too: nothing is written
+then, and standard error has the notes.
 
 Examples:
   dsmon check policy.toml input.txt
@@ -114,6 +119,8 @@ Examples:
     ..
     events
     5 command 1, rule 1001: stop 1
+    notes
+    guest.s 2: it reads register 8, which is still being loaded; put a `nop` between, or ..
   dsmon check policy.toml
     dsmon: 3 Syntax guest.s 2
         addiu $v0, 1
@@ -225,6 +232,16 @@ fn input_argument<'a>(alloc: Global) -> Arg<'a>
     Arg::new(alloc, "INPUT").help("The file of the input; without it nothing comes")
 }
 
+fn notes_argument<'a>(alloc: Global) -> Arg<'a>
+    ensures rule { rule_of result ≡ notes_rule }
+    ensures local { result.global ≡ false }
+{
+    Arg::new(alloc, "notes-as-faults")
+        .long("notes-as-faults")
+        .action(ArgAction::SetTrue)
+        .help("A note is a fault: the notes alone are told, on standard error")
+}
+
 fn check_command<'a>(alloc: Global) -> Result<Command<'a>, AllocError>
     ensures app { IfOk result (λ c. app_of c ≡ check_app) }
     ensures local { IfOk result (λ c. (fields_of c).has_globals ≡ false) }
@@ -233,7 +250,8 @@ fn check_command<'a>(alloc: Global) -> Result<Command<'a>, AllocError>
         .about("Explains a policy and an input, or why they are refused")
         .after_help(CHECK_HELP)
         .arg(file_argument(alloc, "POLICY", "The file of the policy, in TOML"))?
-        .arg(input_argument(alloc))
+        .arg(input_argument(alloc))?
+        .arg(notes_argument(alloc))
 }
 
 fn words_argument<'a>(alloc: Global) -> Arg<'a>
@@ -403,6 +421,7 @@ fn check_request_of<'a>(found: &ArgMatches<'a>) -> Option<CheckRequest<'a>>
     Some(CheckRequest {
         policy: found.get_str("POLICY")?,
         input: found.get_str("INPUT"),
+        notes_as_faults: found.get_flag("notes-as-faults"),
     })
 }
 
