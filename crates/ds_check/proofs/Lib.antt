@@ -5,3 +5,5 @@ pub mod RuleLines
 pub mod PlaceSteps
 pub mod EventSteps
 pub mod LineSteps
+pub mod SpotSteps
+pub mod StartSteps

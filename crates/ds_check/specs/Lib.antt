@@ -11,3 +11,6 @@ pub mod Places
 pub mod PlaceRows
 pub mod Lines
 pub mod LineRows
+pub mod Spots
+pub mod Starts
+pub mod StartRows

@@ -1,5 +1,5 @@
 //! What a reader of a policy and its input may ask before a run: what stands where, what is near a
-//! limit, what comes when, and how a refusal is mended.
+//! limit, what comes when, where each process starts, and how a refusal is mended.
 #![tactic(auto)]
 
 mod coming;
@@ -12,6 +12,8 @@ mod permissions;
 mod places;
 mod refusals;
 mod sheet;
+mod spots;
+mod starts;
 mod words;
 
 pub use coming::events_text;
@@ -21,3 +23,4 @@ pub use lines::Lines;
 pub use mend::mend_text;
 pub use permissions::table_text;
 pub use places::{Place, rule_line, toml_place};
+pub use starts::{AssembledSources, starts_text};
