@@ -19,6 +19,7 @@ COMMANDS = [  # those that take longest first
     ["tools/test_reading_cases.py"],
     ["tools/test_grants_cases.py"],
     ["tools/test_turns_cases.py"],
+    ["tools/test_reason_cases.py"],
     ["tools/test_refused_memory.py"],
     ["tools/test_unit_course.py"],
     ["tools/unit_course.py"],

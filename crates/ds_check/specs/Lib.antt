@@ -14,3 +14,5 @@ pub mod LineRows
 pub mod Spots
 pub mod Starts
 pub mod StartRows
+pub mod Carets
+pub mod CaretRows

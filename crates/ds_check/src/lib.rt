@@ -2,6 +2,7 @@
 //! limit, what comes when, where each process starts, and how a refusal is mended.
 #![tactic(auto)]
 
+mod caret;
 mod coming;
 mod counts;
 mod explained;
@@ -16,6 +17,7 @@ mod spots;
 mod starts;
 mod words;
 
+pub use caret::push_caret;
 pub use coming::events_text;
 pub use explained::explain;
 pub use limits::limits_text;

@@ -140,7 +140,7 @@ fn behind(place: Place, byte: u8) -> Place
 }
 
 /// Whether a byte goes on with a character of UTF-8.
-fn goes_on(byte: u8) -> bool
+pub(crate) fn goes_on(byte: u8) -> bool
     ensures { result ≡ goes_on byte }
 {
     byte >= 0x80 && byte <= 0xBF

@@ -1,7 +1,7 @@
 -- Lines that go to a writer some at a time.
 use Rattle.std.proofs.Common.{◌≡◌, append-nil, append_assoc, ℕ, zero, suc, ◌+◌, ◌-◌, ◌<◌, ◌≤◌, List, [], ◌∷◌, ◌++◌, length, take, drop, get_or, refl, sym, ◌∙◌, ap, subst, arith}
 use Rattle.std.proofs.lemmas.List.{take_all}
-use Rattle.std.specs.Prelude.{Option, Some, Result, Ok, Err, OnOk, OnErr, codes, slice_index_or}
+use Rattle.std.specs.Prelude.{Option, Some, Result, Ok, Err, OnOk, OnErr, codes, slice_get, slice_index_or}
 use Rattle.std.specs.Io.KnownBytes.{Appends}
 use Rattle.ds_asm.specs.declared.fault.SourceFault.{SourceFault}
 use Rattle.ds_log.specs.Sent.{AppendsPart}
@@ -9,7 +9,8 @@ use Rattle.ds_log.proofs.Sends.{appends_both, appends_none, part_behind, part_be
 use Rattle.ds_asm.specs.Assembling.{source_fault_line}
 use Rattle.ds_source_reasons.specs.declared.fault.FaultyLines.{FaultyLines}
 use Rattle.ds_source_reasons.specs.Told.{after_line, after_lines}
-use Rattle.ds_drive.specs.Told.{Passed, none_passed, others_told, pass, passed_in, reason_after, told_line, told_lines}
+use Rattle.ds_drive.specs.declared.refused.FaultySource.{FaultySource}
+use Rattle.ds_drive.specs.Told.{Passed, fault_shown, none_passed, others_told, pass, passed_in, reason_after, source_shown, told_line, told_lines}
 
 -- of a whole text so much was sent, and this is still to come
 pub record SentOf (old new : Option (List ℕ)) (left whole : List ℕ) : Type 0 where
@@ -106,6 +107,13 @@ first_passed l old text fault all none rest passed =
     ∙ (ap (λ (r : List ℕ). record { lines = source_fault_line fault; rest = r }) rest
     ∙ (ap (λ (n : ℕ). record { lines = source_fault_line fault; rest = after_line (after_lines (source_fault_line fault - n - 1) old.rest.now) }) none
     ∙ ap (λ (r : List ℕ). record { lines = source_fault_line fault; rest = after_line (after_lines (source_fault_line fault - 0 - 1) r) }) all))
+
+-- what is shown of the first fault of a source
+pub first_shown : (source : Option FaultySource) (s : FaultySource) (text : List ℕ) (faults : List SourceFault) (first : SourceFault)
+    → source ≡ Some s → text ≡ s.text.items → faults ≡ s.faults.items → Some first ≡ slice_get faults 0 → fault_shown text (Some first) ≡ source_shown source
+first_shown source s text faults first is same all found =
+    ap (λ (o : Option SourceFault). fault_shown text o) (found ∙ ap (λ (l : List SourceFault). slice_get l 0) all)
+    ∙ (ap (λ (t : List ℕ). fault_shown t (slice_get s.faults.items 0)) same ∙ ap source_shown (sym is))
 
 -- the lines of all that stand after the first
 pub others_same : (text held : List ℕ) (p : Passed) (faults : List SourceFault) (d : SourceFault) → 1 ≤ length faults → held ≡ text → p ≡ pass (none_passed text) (slice_index_or faults 0 d)

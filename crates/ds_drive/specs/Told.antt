@@ -1,13 +1,15 @@
 -- What standard error is told: of a failure, of a fault of a source, and of a check that is refused.
-use Rattle.std.specs.Prelude.{ℕ, ◌-◌, List, [], ◌∷◌, ◌++◌, Option, None, Some, codes, decimal, option_map, slice_get}
+use Rattle.std.specs.Prelude.{ℕ, ◌-◌, List, [], ◌∷◌, ◌++◌, Option, None, Some, codes, decimal, option_map, slice_get, take}
 use Rattle.ds_asm.specs.declared.fault.SourceFault.{SourceFault}
 use Rattle.ds_asm.specs.Assembling.{source_fault_line, source_fault_name, source_fault_number}
-use Rattle.ds_check.specs.Lines.{shown_line}
+use Rattle.ds_check.specs.Carets.{caret_line}
+use Rattle.ds_check.specs.Lines.{line_at, shown_line}
 use Rattle.ds_check.specs.Mending.{mended}
 use Rattle.ds_source_reasons.specs.declared.fault.FaultyLines.{FaultyLines}
 use Rattle.ds_policy_reasons.specs.Texts.{input_cause_text, policy_reason_text}
 use Rattle.ds_policy_reasons.specs.declared.reason.PolicyReason.{PolicyReason}
 use Rattle.ds_policy_reasons.specs.declared.reason.PolicyReason.TheVariants as reason
+use Rattle.ds_source_reasons.specs.Carets.{caret_place}
 use Rattle.ds_source_reasons.specs.Reasons.{or_next}
 use Rattle.ds_source_reasons.specs.Told.{FaultReason, after_line, after_lines, fault_text, line_in, reason_at}
 use Rattle.ds_station.specs.declared.fault.Fault.{Fault}
@@ -57,15 +59,25 @@ abbrev pub at_end : Option FaultReason → List ℕ
 at_end None = []
 at_end (Some why) = codes ": " ++ line_in (fault_text why)
 
--- the line of a source with this number, where the source is shown
-abbrev pub shown_in : Option (List ℕ) → ℕ → List ℕ
-shown_in None number = []
-shown_in (Some text) number = shown_line text number
+-- a caret below a place of a shown line, where there is one
+abbrev pub caret_below : List ℕ → Option ℕ → List ℕ
+caret_below line None = []
+caret_below line (Some place) = caret_line (take place line)
 
--- the line that tells of a fault: what it begins with, the number of the source's line, and the reason; and below it the source's line, where the source is shown
+-- a caret below what a reason quotes of its line, where that has a place
+abbrev pub reason_below : List ℕ → Option FaultReason → List ℕ
+reason_below line None = []
+reason_below line (Some why) = caret_below line (caret_place why line)
+
+-- the line of a source with this number and the caret below it, where the source is shown
+abbrev pub shown_in : Option (List ℕ) → Option FaultReason → ℕ → List ℕ
+shown_in None why number = []
+shown_in (Some text) why number = shown_line text number ++ reason_below (line_at text number) why
+
+-- the line that tells of a fault: what it begins with, the number of the source's line, and the reason; and below it the source's line with a caret, where the source is shown
 abbrev pub told_line : List ℕ → List ℕ → Option (List ℕ) → Option FaultReason → SourceFault → List ℕ
 told_line front place source why fault =
-    fault_head front place fault ++ (decimal (source_fault_line fault) ++ (at_end why ++ (codes "\n" ++ shown_in source (source_fault_line fault))))
+    fault_head front place fault ++ (decimal (source_fault_line fault) ++ (at_end why ++ (codes "\n" ++ shown_in source why (source_fault_line fault))))
 
 -- the lines that tell of faults after some lines, each with its reason
 unfoldable pub told_lines : List ℕ → List ℕ → Option (List ℕ) → Passed → List SourceFault → List ℕ
@@ -110,10 +122,10 @@ place_line (Some line) (Some column) = codes "in line " ++ (decimal line ++ (cod
 place_line (Some line) None = codes "in line " ++ (decimal line ++ codes " of the policy\n")
 place_line None column = []
 
--- the source's line of a fault, where there is one
+-- the source's line of a first fault with the caret below it, where there is one
 abbrev pub fault_shown : List ℕ → Option SourceFault → List ℕ
 fault_shown text None = []
-fault_shown text (Some fault) = shown_line text (source_fault_line fault)
+fault_shown text (Some fault) = shown_in (Some text) (reason_after (none_passed text) fault) (source_fault_line fault)
 
 -- the line of the first fault of a source that is at fault, where one is
 abbrev pub source_shown : Option FaultySource → List ℕ
@@ -173,7 +185,7 @@ text_or_none (Some text) = text
 abbrev pub why_told : Refused → List ℕ
 why_told r = text_or_none (or_next (reason_told r) (mended (failure_number r.failure)))
 
--- what is told of a check that is refused: the failure's line, the place in the policy, the line of the source or of the input, the reason and how it is mended, and the other faults of the source
+-- what is told of a check that is refused: the failure's line, the place in the policy, the line of the source with a caret or that of the input, the reason and how it is mended, and the other faults of the source
 abbrev pub refused_text : Refused → List ℕ
 refused_text r = failure_line r.failure
     ++ (place_line r.line r.column ++ (source_shown r.source ++ (input_shown r.input ++ (why_told r ++ others_shown r.source))))

@@ -1,15 +1,15 @@
 //! The faults of a source, told a line each.
-ghost use Rattle.std.specs.Prelude.{◌≡◌, ◌++◌, IfOk, OnOk, OnErr, option_map};
+ghost use Rattle.std.specs.Prelude.{◌≡◌, ◌++◌, IfOk, OnOk, OnErr, option_map, take};
 ghost use Rattle.std.specs.Io.KnownBytes.{Appends};
 ghost use Rattle.ds_asm.specs.Assembling.{source_fault_line};
-ghost use Rattle.ds_drive.specs.Told.{at_end, fault_head, fault_name, pass, passed_in, reason_after, shown_in, told_line, told_lines};
+ghost use Rattle.ds_drive.specs.Told.{at_end, caret_below, fault_head, fault_name, pass, passed_in, reason_after, reason_below, shown_in, told_line, told_lines};
 ghost use Rattle.ds_log.specs.Sent.{AppendsPart};
 ghost use Rattle.ds_source_reasons.specs.Told.{plain_fault};
 
 use ds_asm::{SourceFault, first_line};
-use ds_check::Lines;
+use ds_check::{Lines, push_caret};
 use ds_log::{WriteFailed, send};
-use ds_source_reasons::{FaultReason, FaultyLines, push_reason};
+use ds_source_reasons::{FaultReason, FaultyLines, caret_place, push_reason};
 use itoa::Buffer;
 use std::alloc::{AllocError, Global};
 use std::io::Write;
@@ -56,8 +56,8 @@ fn push_head<'a>(
     text.extend_from_slice(b" ")
 }
 
-/// Tells of faults, a line each with the reason at its end, and shows the source's line below it
-/// where the source's lines are lent. Where the writer fails, or memory runs out, the rest is not
+/// Tells of faults, a line each with the reason at its end, and shows the source's line with a caret
+/// below it where the source's lines are lent. Where the writer fails, or memory runs out, the rest is not
 /// told.
 pub(crate) fn tell_lines<'a, 's, E: Write>(
     alloc: Global,
@@ -88,8 +88,8 @@ pub(crate) fn tell_lines<'a, 's, E: Write>(
     Ok(())
 }
 
-/// Adds all that is told of a fault: its line with the reason, and the source's line where the
-/// source's lines are lent.
+/// Adds all that is told of a fault: its line with the reason, and the source's line with a caret
+/// where the source's lines are lent.
 #[inline(never)]
 fn push_told<'a, 's>(
     sheet: &mut Vec<u8>,
@@ -110,7 +110,7 @@ fn push_told<'a, 's>(
     sheet.extend_from_slice(Buffer::new().format(fault.line()).as_bytes())?;
     push_reason_line(sheet, words, reason)?;
     sheet.push(b'\n')?;
-    push_shown(sheet, lines, fault)
+    push_shown(sheet, lines, reason, fault)
 }
 
 /// Adds what stands at the end of a fault's line: the first line of its reason, where it has one.
@@ -133,19 +133,60 @@ fn push_reason_line<'s>(
     }
 }
 
-/// Adds the line of the source that is at fault, where the source's lines are lent.
-fn push_shown<'s>(
+/// Adds the line of the source that is at fault and the caret, where the source's lines are lent.
+pub(crate) fn push_shown<'s>(
     sheet: &mut Vec<u8>,
     lines: &mut Option<Lines<'s>>,
+    reason: Option<FaultReason<'s>>,
     fault: &SourceFault,
 ) -> Result<(), AllocError>
-    ensures text { OnOk result (sheet.new.items ≡ sheet.old.items
-        ++ shown_in lines.old (source_fault_line fault.now)) }
+    ensures text { OnOk result (sheet.new.items ≡ sheet.old.items ++ shown_in lines.old
+        (option_map plain_fault reason.entry) (source_fault_line fault.now)) }
     ensures same { lines.new ≡ lines.old }
 {
     match lines {
-        Some(lines) => lines.push(sheet, fault.line()),
+        Some(lines) => {
+            lines.push(sheet, fault.line())?;
+            let line = lines.line(fault.line());
+            push_below(sheet, line, reason)
+        }
         None => Ok(()),
+    }
+}
+
+/// Adds a caret below what a reason quotes of its line, where that has a place.
+fn push_below<'s>(
+    sheet: &mut Vec<u8>,
+    line: &[u8],
+    reason: Option<FaultReason<'s>>,
+) -> Result<(), AllocError>
+    ensures { OnOk result (sheet.new.items
+        ≡ sheet.old.items ++ reason_below line.now (option_map plain_fault reason.entry)) }
+{
+    match reason {
+        Some(reason) => push_caret_at(sheet, line, caret_place(reason, line)),
+        None => Ok(()),
+    }
+}
+
+/// Adds a caret below a place of a line, where there is one.
+fn push_caret_at(sheet: &mut Vec<u8>, line: &[u8], place: Option<usize>) -> Result<(), AllocError>
+    ensures { OnOk result (sheet.new.items ≡ sheet.old.items ++ caret_below line.now place) }
+{
+    match place {
+        Some(place) => push_caret(sheet, front_of(line, place)),
+        None => Ok(()),
+    }
+}
+
+/// So much of a line, or all where it has less.
+fn front_of(line: &[u8], most: usize) -> &[u8]
+    ensures { result.now ≡ take most line.now }
+{
+    if most < line.len() {
+        &line[..most]
+    } else {
+        line
     }
 }
 

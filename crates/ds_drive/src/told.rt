@@ -1,17 +1,18 @@
 //! What standard error is told of a failure, and of a check that is refused.
-ghost use Rattle.std.specs.Prelude.{◌≡◌, ◌++◌, OnErr, OnOk, codes, flat_map};
+ghost use Rattle.std.specs.Prelude.{◌≡◌, ◌++◌, OnErr, OnOk, Some, codes, flat_map};
+ghost use Rattle.ds_asm.specs.Assembling.{source_fault_line};
 ghost use Rattle.std.specs.Io.KnownBytes.{Appends};
 ghost use Rattle.ds_check.specs.Lines.{shown_line};
 ghost use Rattle.ds_drive.specs.Failures.{failure_number};
 ghost use Rattle.ds_drive.specs.Statuses.{fault_status};
-ghost use Rattle.ds_drive.specs.Told.{failure_line, fault_words, input_shown, none_passed, others_shown, others_told, pass, passed_in, place_line, refused_text, source_fault_words, source_shown, why_told};
+ghost use Rattle.ds_drive.specs.Told.{failure_line, fault_words, input_shown, none_passed, others_shown, others_told, pass, passed_in, place_line, reason_after, refused_text, shown_in, source_fault_words, source_shown, why_told};
 ghost use Rattle.ds_log.specs.Sent.{AppendsPart};
 
 use crate::failure::Failure;
-use crate::faults::{Untold, Wording, tell_lines};
+use crate::faults::{Untold, Wording, push_shown, tell_lines};
 use crate::refused::{FaultyInput, FaultySource, Refused};
 use crate::status::status_of;
-use crate::why::{push_mending, push_reason_told};
+use crate::why::{first_reason, push_mending, push_reason_told};
 use ds_asm::SourceFault;
 use ds_check::Lines;
 use ds_log::{WriteFailed, send};
@@ -196,7 +197,8 @@ fn send_place<E: Write>(err: &mut E, line: Option<u64>, column: Option<u64>) -> 
     }
 }
 
-/// Shows the line of the first fault of a source that is at fault, where one is.
+/// Shows the line of the first fault of a source that is at fault, with a caret below it, where one
+/// is.
 fn send_source<E: Write>(
     alloc: Global,
     err: &mut E,
@@ -209,11 +211,33 @@ fn send_source<E: Write>(
 {
     match source {
         Some(source) => match source.faults.first() {
-            Some(first) => show_line(alloc, err, &source.text, first.line()),
+            Some(first) => show_fault(alloc, err, &source.text, first),
             None => Ok(()),
         },
         None => Ok(()),
     }
+}
+
+/// Shows the line of the first fault of a source, with a caret below it.
+fn show_fault<E: Write>(
+    alloc: Global,
+    err: &mut E,
+    text: &[u8],
+    first: &SourceFault,
+) -> Result<(), Untold>
+    ensures all { OnOk result (Appends (E.contents err.old) (E.contents err.new)
+        (shown_in (Some text.now) (reason_after (none_passed text.now) first.now)
+        (source_fault_line first.now))) }
+    ensures front { OnErr result (AppendsPart (E.contents err.old) (E.contents err.new)
+        (shown_in (Some text.now) (reason_after (none_passed text.now) first.now)
+        (source_fault_line first.now))) }
+{
+    let mut lines = Some(Lines::of(text));
+    let mut shown = Vec::new(alloc);
+    let reason = first_reason(text, first);
+    push_shown(&mut shown, &mut lines, reason, first)?;
+    send(err, &shown)?;
+    Ok(())
 }
 
 /// Tells of the faults after the first of a source that is at fault, where one is.

@@ -1,10 +1,11 @@
 //! Why a check is refused, in words.
 ghost use Rattle.std.specs.Prelude.{◌≡◌, ◌++◌, IfOk, OnOk, codes, decimal, is_some, option_map};
 ghost use Rattle.ds_check.specs.Mending.{mended};
-ghost use Rattle.ds_drive.specs.Told.{reason_told, text_or_none, why_input, why_policy, why_source};
+ghost use Rattle.ds_drive.specs.Told.{none_passed, reason_after, reason_told, text_or_none, why_input, why_policy, why_source};
 ghost use Rattle.ds_source_reasons.specs.Told.{fault_text, plain_fault};
 
 use crate::refused::{FaultyInput, FaultySource, Refused};
+use ds_asm::SourceFault;
 use ds_check::mend_text;
 use ds_policy_reasons::{PolicyReason, input_cause_text, policy_reason_text};
 use ds_source_reasons::{FaultReason, FaultyLines, push_reason};
@@ -42,11 +43,18 @@ fn source_reason(source: &Option<FaultySource>) -> Option<FaultReason<'_>>
 {
     match source {
         Some(source) => match source.faults.first() {
-            Some(first) => FaultyLines::of(&source.text).reason(*first),
+            Some(first) => first_reason(&source.text, first),
             None => None,
         },
         None => None,
     }
+}
+
+/// The reason of the first fault of a source.
+pub(crate) fn first_reason<'s>(text: &'s [u8], first: &SourceFault) -> Option<FaultReason<'s>>
+    ensures { option_map plain_fault result ≡ reason_after (none_passed text.now) first.now }
+{
+    FaultyLines::of(text).reason(*first)
 }
 
 /// What is wrong with the line of an input that is at fault, where it is known.

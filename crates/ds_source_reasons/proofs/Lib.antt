@@ -2,3 +2,4 @@ pub mod Exact
 pub mod ExactRanges
 pub mod Passed
 pub mod Reach
+pub mod Carets

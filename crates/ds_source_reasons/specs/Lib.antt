@@ -5,6 +5,8 @@ pub mod Ranges
 pub mod PlainRanges
 pub mod Texts
 pub mod Told
+pub mod Carets
+pub mod CaretRows
 pub mod OnLines
 pub mod SyntaxRows
 pub mod RangeRows

@@ -1,6 +1,7 @@
 //! Why a line of an assembly source is refused, and what to write in its place.
 #![tactic(auto)]
 
+mod caret;
 mod characters;
 mod fault;
 mod form;
@@ -16,6 +17,7 @@ mod target;
 mod texts;
 mod told;
 
+pub use caret::caret_place;
 pub use fault::{FaultReason, FaultyLines, fault_reason, push_reason};
 pub use law::{
     a_range_reason_is_a_range_fault, a_reason_is_a_syntax_fault,

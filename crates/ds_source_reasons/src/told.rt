@@ -19,7 +19,7 @@ use itoa::Buffer;
 use std::alloc::AllocError;
 
 /// How many characters of a text are shown at most.
-const MOST_SHOWN: usize = 40;
+pub(crate) const MOST_SHOWN: usize = 40;
 
 /// Adds the words of a reason for which a line can't be read, with what to write in its place.
 #[tactic(auto, unfolding(crate::specs::Texts::reason_text))]

@@ -1,0 +1,13 @@
+-- Worked carets.
+use Rattle.std.specs.Prelude.{codes, refl, ◌≡◌, ◌∷◌, ◌++◌}
+use Rattle.ds_check.specs.Carets.{caret_line}
+
+pub a_caret_below_the_first_character : caret_line (codes "") ≡ codes "    ^\n"
+a_caret_below_the_first_character = refl
+
+pub a_tab_stands_below_a_tab : caret_line (codes "x:\t") ≡ codes "      \t^\n"
+a_tab_stands_below_a_tab = refl
+
+-- a letter of two bytes is one column
+pub a_letter_with_an_accent : caret_line (0xC3 ∷ 0xA9 ∷ codes " ") ≡ codes "      ^\n"
+a_letter_with_an_accent = refl
