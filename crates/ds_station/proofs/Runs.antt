@@ -13,10 +13,13 @@ use Rattle.ds_refinement.specs.Real.{IsNoBusError, Through}
 use Rattle.ds_refinement.specs.Runs.{RunsTo, RunsWithin, held_goes_on}
 use Rattle.ds_refinement.proofs.Stages.{no_bus_error}
 use Rattle.ds_refinement.specs.Counts.{IsFew}
+use Rattle.ds_refinement.specs.Written.{KeepsWritten}
+use Rattle.ds_refinement.proofs.Staying.{inside_keeps}
 use Rattle.ds_refinement.proofs.Tallied.{failure_stands, few_of}
 use Rattle.ds_refinement.proofs.RunSteps.{within_stays, to_end}
 use Rattle.ds_kernel.specs.declared.halt.Halt.{Halt}
 use Rattle.ds_kernel.specs.declared.halt.Halt.TheVariants as halt
+use Rattle.ds_kernel.specs.Ended.{Does}
 use Rattle.ds_kernel.specs.Halts.{Halts}
 use Rattle.ds_kernel.specs.Ran.{HasRun, WasCut}
 use Rattle.ds_station.specs.Faults.{IsFaultAfter, of_halt}
@@ -28,6 +31,12 @@ sound_single h s = s.stands.agrees.represented.buffer.single
 -- and the counts of its unit are few
 pub sound_few : (h : Held) → IsSound h → IsFew h.own
 sound_few h s = few_of h s.state s.stands
+
+-- a step inside a unit keeps what the unit has written
+pub does_keep : (kind : Step) (old new : Held) → IsSound old → Does kind old new → kind ≡ Inside → KeepsWritten old new
+does_keep kind old new sound does inside =
+    let same : Does Inside old new = subst (λ (k : Step). Does k old new) inside does in
+    inside_keeps old new sound same.follows same.moves same.real
 
 -- no instruction of a user of a station that is sound meets a bus error
 pub no_error : (h : Held) → IsSound h → h.kept.state.owed ≡ None → h.kept.state.ready ≢ [] → is_user h.core.system ≡ true → h.core.pc < 2 ^ 32 → IsNoBusError (step h.core h.bus).event

@@ -33,6 +33,7 @@ ghost use Rattle.ds_refinement.specs.Stands.{Stands, IsSound};
 ghost use Rattle.ds_refinement.specs.Steps.{Follows, Stays, Moves};
 ghost use Rattle.ds_refinement.specs.Real.{IsNoBusError, IsReal, RealPath};
 ghost use Rattle.ds_refinement.specs.Services.{with_failure};
+ghost use Rattle.ds_refinement.specs.Written.{KeepsWritten};
 ghost use Rattle.ds_refinement.specs.Runs.{RunsTo, RunsWithin, held_goes_on};
 ghost use Rattle.ds_station.specs.Faults.{IsFaultAfter, IsStartFault, RefusesStep};
 ghost use Rattle.ds_station.specs.Runs.{IsCut};
@@ -109,7 +110,9 @@ impl<L: Lookaside> Station<L> {
     /// owed. After a failure it answers `Failed`, and nothing changes. No two entries of the buffer
     /// match the same page, and no instruction of a user meets a bus error.
     /// So far its unit has taken at most 61 instructions, 4 refills, 4 entries of page tables' pages
-    /// and 8 services, and Random has come to no slot twice since the first of these refills.
+    /// and 8 services, and Random has come to no slot twice since the first of these refills. What a
+    /// refill or a double miss wrote into the buffer stays in its slot while the unit goes on, and
+    /// nothing else in the buffer changes.
     #[tactic(auto, using(crate::proofs::Runs::sound_single, crate::proofs::Runs::no_error))]
     pub fn step(&mut self) -> Result<Step, Fault>
         requires { self.old.kept.state.owed ≡ None → self.old.kept.state.time < 1000000000 }
@@ -118,6 +121,8 @@ impl<L: Lookaside> Station<L> {
         ensures real { OnOk result (IsReal self.old self.new) }
         ensures sound { IsSound self.new }
         ensures few { IsFew self.new.own }
+        ensures keeps { IfOk result (λ step. step ≡ Step.Inside
+            → KeepsWritten self.old self.new) }
         ensures single { IsSingle self.new.core.entries }
         ensures bus { self.old.kept.state.owed ≡ None → self.old.kept.state.ready ≢ []
             → is_user self.old.core.system ≡ true

@@ -1,9 +1,11 @@
-use Rattle.std.proofs.Common.{sym, subst}
+use Rattle.std.proofs.Common.{◌≡◌, sym, subst}
 use Rattle.ds_log.proofs.Sends.{at_err}
+use Rattle.ds_refinement.specs.declared.step.Step.TheVariants.{Inside}
 use Rattle.ds_refinement.specs.Held.{Held}
 use Rattle.ds_refinement.specs.Steps.{Stays}
+use Rattle.ds_refinement.specs.Written.{KeepsWritten}
 use Rattle.ds_kernel.specs.Parts.{held}
-use Rattle.ds_station.proofs.Runs.{sound_few, stands_still}
+use Rattle.ds_station.proofs.Runs.{does_keep, sound_few, stands_still}
 use Rattle.ds_station.proofs.station.Station.step.Goals as goal
 
 pub returns-clause-few : goal.returns-clause-few
@@ -17,3 +19,10 @@ returns-in_err-step-clause-err g c =
     at_err c.from_residual.result
     (subst (λ (o : Held). Stays o (held c.step.new.self)) c.self.view_is
     (subst (λ (h : Held). Stays (held c.self.inside.parts) h) (sym c.in_err-step.ensures.marked) (stands_still (held c.self.inside.parts))))
+
+-- What a unit has written stays.
+
+pub returns-clause-keeps : goal.returns-clause-keeps
+returns-clause-keeps g c =
+    subst (λ (old : Held). c.in_ok-step.field-0 ≡ Inside → KeepsWritten old (held c.step.new.self)) c.self.view_is
+    (does_keep c.in_ok-step.field-0 (held c.self.inside.parts) (held c.step.new.self) c.self.invariant.good.sound c.in_ok-step.ensures.does)
