@@ -113,7 +113,7 @@ module _ (h : Held) (m : State) (p : ℕ) (rest : List ℕ) (k : Agrees h m) (re
       (λ slot e found at.
       let there : find c.entries (0xC0000 + z.vpn / 1024) asid ≡ Some slot = ap₂ (λ (x a : ℕ). find c.entries (0xC0000 + x / 1024) a) (sym page) (sym space) ∙ found in
       let entry : ◌≡◌ (Some e) (Some (page_entry (0xC0000 + z.vpn / 1024) asid (page_of_table h.kept.tables p (z.vpn / 1024)))) =
-      sym at ∙ found_entry c.entries (space_of h.kept) h.kept.grants h.kept.tables p (z.vpn / 1024) slot k.represented.buffer now.seat.0 now.number there in
+      sym at ∙ found_entry c.entries h.kept.spaces h.kept.grants h.kept.tables p (z.vpn / 1024) slot k.represented.buffer now.seat.0 now.number there in
       by_entry e (page_entry (0xC0000 + z.vpn / 1024) asid (page_of_table h.kept.tables p (z.vpn / 1024))) entry
       (is_valid (0xC0000 + z.vpn / 1024) asid (page_of_table h.kept.tables p (z.vpn / 1024)))
       (small_frame (page_of_table h.kept.tables p (z.vpn / 1024)) (table_below h.kept.tables p (z.vpn / 1024) k.represented.places))))
