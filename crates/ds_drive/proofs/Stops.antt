@@ -252,7 +252,7 @@ module _ (words : List Text) (holds : List ℕ → List ℕ → Type 0) (lacks :
 
   pub check_stopped : (request : CheckRequest) (r : Refused) → fault_status (failure_number r.failure) ≡ status → AsksForCheck words request → ChecksBy r holds lacks request old new
       → AppendsPart err_old err_new (refused_text r) → IsStopped status words holds lacks (stream old new) (stream err_old err_new)
-  check_stopped request r has asks refused told = inr (inr (inr (inl (request, asks, record { refused = r; has = has; so = refused; told = told }))))
+  check_stopped request r has asks refused told = inr (inr (inr (inl (request, asks, inl (record { refused = r; has = has; so = refused; told = told })))))
 
 -- memory was wanting for the words
 pub wants_memory : (known err_old err_new : Option (List ℕ)) → AppendsPart err_old err_new (failure_line (failure.Fault fault.Memory)) → WantsMemory (stream known known) (stream err_old err_new)

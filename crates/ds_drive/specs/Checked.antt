@@ -1,5 +1,5 @@
 -- What a check of a policy explains, and what is left where it refuses.
-use Rattle.std.specs.Prelude.{◌≡◌, ◌⊎◌, ℕ, List, [], Option, None, Some, Ok, All, map, ⊤}
+use Rattle.std.specs.Prelude.{◌≡◌, ◌⊎◌, ◌==◌, ◌&&◌, ◌++◌, ℕ, Bool, true, false, not, List, [], Option, None, Some, Ok, All, codes, length, map, ⊤}
 use Rattle.std.specs.Borrow.{Bor}
 use Rattle.std.specs.Io.KnownBytes.{Appends, Keeps}
 use Rattle.ds_policy.specs.PolicyText.{policy_of}
@@ -17,6 +17,9 @@ use Rattle.ds_drive.specs.declared.failure.Failure.TheVariants as failure
 use Rattle.ds_drive.specs.declared.refused.Refused.{Refused}
 use Rattle.ds_drive.specs.AtFault.{IsAtFault, plain}
 use Rattle.ds_drive.specs.Failures.{IsUnread, NamesSource}
+use Rattle.ds_drive.specs.Noted.{notes_text, starts_of}
+use Rattle.ds_drive.specs.declared.check.Checking.{Checking}
+use Rattle.ds_drive.specs.declared.check.Checking.TheVariants as checking
 use Rattle.ds_check.specs.Explained.{explained}
 use Rattle.ds_words.specs.declared.words.CheckRequest.{CheckRequest}
 
@@ -27,9 +30,8 @@ IsInput holds (Some name) input = holds name.now input
 
 -- a policy, its sources and an input, each as its file holds it: they are good together, as a run
 -- for no ticks finds them
-pub record AreGood (holds : List ℕ → List ℕ → Type 0) (request : CheckRequest) (value : PolicyValue) (input : List ℕ) (events : InputValue) : Type 0 where
+pub record AreGood (holds : List ℕ → List ℕ → Type 0) (request : CheckRequest) (value : PolicyValue) (sources : Sources) (input : List ℕ) (events : InputValue) : Type 0 where
   pub policy : List ℕ
-  pub sources : Sources
   pub policy_held : holds request.policy.now policy
   pub input_held : IsInput holds request.input input
   pub sources_held : All (λ s. holds s.0 s.1) sources
@@ -39,21 +41,43 @@ pub record AreGood (holds : List ℕ → List ℕ → Type 0) (request : CheckRe
   pub first : State
   pub begins : inputs policy sources input 0 63 ≡ Ok first
 
--- of what is explained of them, this holds
-pub record OfGood (holds : List ℕ → List ℕ → Type 0) (request : CheckRequest) (P : List ℕ → Type 0) : Type 0 where
+-- what they mean: what is explained, and where the processes start
+abbrev pub meaning_text : PolicyValue → Sources → List ℕ → InputValue → List ℕ
+meaning_text value sources input events = explained value input events ++ (codes "starts\n" ++ starts_of value sources)
+
+-- of what they mean, and of the notes on them, this holds
+pub record OfGood (holds : List ℕ → List ℕ → Type 0) (request : CheckRequest) (P : List ℕ → List ℕ → Type 0) : Type 0 where
   pub value : PolicyValue
+  pub sources : Sources
   pub input : List ℕ
   pub events : InputValue
-  pub good : AreGood holds request value input events
-  pub so : P (explained value input events)
+  pub good : AreGood holds request value sources input events
+  pub so : P (meaning_text value sources input events) (notes_text value sources)
 
--- it is written
+-- these notes are taken for faults: the words say so, and there is one
+abbrev pub are_faults : CheckRequest → List ℕ → Bool
+are_faults request notes = request.notes_as_faults && not (length notes == 0)
+
+-- what is written: what they mean, and the notes below it
+abbrev pub with_notes : List ℕ → List ℕ → List ℕ
+with_notes text notes = text ++ (codes "notes\n" ++ notes)
+
+-- it is written, with the notes, which are no faults
 abbrev pub Explains : (List ℕ → List ℕ → Type 0) → CheckRequest → Option (List ℕ) → Option (List ℕ) → Type 0
-Explains holds request old new = OfGood holds request (λ text. Appends old new text)
+Explains holds request old new = OfGood holds request (λ text notes. (are_faults request notes ≡ false) × Appends old new (with_notes text notes))
 
 -- a front of it is written
 abbrev pub CutsExplanation : (List ℕ → List ℕ → Type 0) → CheckRequest → Option (List ℕ) → Option (List ℕ) → Type 0
-CutsExplanation holds request old new = OfGood holds request (λ text. AppendsPart old new text)
+CutsExplanation holds request old new = OfGood holds request (λ text notes. (are_faults request notes ≡ false) × AppendsPart old new (with_notes text notes))
+
+-- these are the notes, and they are taken for faults
+abbrev pub HasNotes : (List ℕ → List ℕ → Type 0) → CheckRequest → List ℕ → Type 0
+HasNotes holds request told = OfGood holds request (λ text notes. (are_faults request notes ≡ true) × (told ≡ notes))
+
+-- what comes of a check: the explanation and the notes are written; or there are notes that are taken for faults, and nothing is
+abbrev pub Checks : Checking → (List ℕ → List ℕ → Type 0) → CheckRequest → Option (List ℕ) → Option (List ℕ) → Type 0
+Checks checking.Explained holds request old new = Explains holds request old new
+Checks (checking.Noted notes) holds request old new = HasNotes holds request notes.items × Keeps old new
 
 -- the file of the input was not read
 abbrev pub IsUnreadInput : (List ℕ → Type 0) → Option (Bor (List ℕ)) → Failure → Type 0

@@ -19,7 +19,7 @@ use Rattle.ds_drive.specs.Told.{failure_line, listed_faults, refused_text}
 use Rattle.ds_log.specs.Sent.{AppendsPart}
 use Rattle.ds_drive.specs.Statuses.{fault_status}
 use Rattle.ds_drive.specs.BareRuns.{RunsBare, CutsBare, BareFailsBy, HasBareFaults}
-use Rattle.ds_drive.specs.Checked.{Explains, CutsExplanation, ChecksBy}
+use Rattle.ds_drive.specs.Checked.{Explains, CutsExplanation, ChecksBy, HasNotes}
 use Rattle.ds_drive.specs.Listed.{ListsFile, CutsListing, FailsBy, HasFaults}
 use Rattle.ds_words.specs.Words.{AsksForBare, AsksForDemo, AsksForRun, AsksForList, AsksForCheck}
 
@@ -97,13 +97,21 @@ pub record RefusesWith (status : ℕ) (err : Stream) (P : Refused → Type 0) : 
   pub so : P refused
   pub told : Tells err (refused_text refused)
 
+-- there are notes that are taken for faults, which have status 2: they were told, and nothing is written
+pub record IsNoted (status : ℕ) (holds : List ℕ → List ℕ → Type 0) (request : CheckRequest) (out err : Stream) : Type 0 where
+  pub has : status ≡ 2
+  pub notes : List ℕ
+  pub are : HasNotes holds request notes
+  pub kept : Keeps out.old out.new
+  pub told : Tells err notes
+
 -- what the words ask for is not done, for a cause that has this status and was told
 abbrev pub IsStopped : ℕ → List Text → (List ℕ → List ℕ → Type 0) → (List ℕ → Type 0) → Stream → Stream → Type 0
 IsStopped status words holds lacks out err =
     (AsksForDemo words × DemoStops status out err)
     ⊎ (((request : Request) × AsksForRun words request × FailsWith status err (λ f. StopsBy f holds lacks request out.old out.new))
     ⊎ (((request : ListRequest) × AsksForList words request × (FailsWith status err (λ f. FailsBy f holds lacks request out.old out.new) ⊎ IsFaulty status holds request out err))
-    ⊎ (((request : CheckRequest) × AsksForCheck words request × RefusesWith status err (λ r. ChecksBy r holds lacks request out.old out.new))
+    ⊎ (((request : CheckRequest) × AsksForCheck words request × (RefusesWith status err (λ r. ChecksBy r holds lacks request out.old out.new) ⊎ IsNoted status holds request out err))
     ⊎ ((request : BareRequest) × AsksForBare words request × (FailsWith status err (λ f. BareFailsBy f holds lacks request out.old out.new) ⊎ IsFaultyBare status holds request out err)))))
 
 -- nothing is written, and want of memory was told

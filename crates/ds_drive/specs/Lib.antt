@@ -5,6 +5,7 @@ pub mod Listed
 pub mod Checked
 pub mod Done
 pub mod Failures
+pub mod Noted
 pub mod Statuses
 pub mod Told
 pub mod Worked

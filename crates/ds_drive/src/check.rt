@@ -1,25 +1,37 @@
 //! A policy, its sources and an input checked and explained.
-ghost use Rattle.std.specs.Prelude.{◌≡◌, ◌⊎◌, ◌<◌, ℕ, List, IfErr, IfOk, OnOk, OnErr};
+ghost use Rattle.std.specs.Prelude.{◌≡◌, ◌⊎◌, ◌<◌, ◌++◌, codes, ℕ, List, IfErr, IfOk, OnOk, OnErr};
 ghost use Rattle.std.specs.Io.KnownBytes.{Keeps};
-ghost use Rattle.ds_drive.specs.Checked.{AreGood, ChecksBy, Explains, IsInput, RefusesCheck, IsUnreadInput};
+ghost use Rattle.ds_drive.specs.AtFault.{texts_seen};
+ghost use Rattle.ds_drive.specs.Checked.{AreGood, Checks, ChecksBy, IsInput, RefusesCheck, IsUnreadInput, are_faults, with_notes};
 
 use crate::failure::Failure;
 use crate::files::Files;
+use crate::notes::{Findings, findings_of};
 use crate::refused::{Refused, cause_of};
-use crate::run::{lent, named_file, source_texts};
+use crate::run::{SourceText, lent, named_file, source_texts};
 use ds_check::explain;
 use ds_log::send;
 use ds_policy::{Events, Policy};
 use ds_policy_reasons::policy_reason;
 use ds_station::{Fault, run_policy};
 use ds_words::CheckRequest;
-use std::alloc::Global;
+use std::alloc::{AllocError, Global};
 use std::io::{Write, sink};
 
-/// A policy and an input that are good together.
+/// What came of a check.
+#[derive(Drop)]
+pub enum Checking {
+    /// What it means was written, with the notes.
+    Explained,
+    /// There are these notes, which are taken for faults, and nothing was written.
+    Noted(Vec<u8>),
+}
+
+/// A policy, its sources and an input that are good together.
 #[derive(Drop)]
 struct Good {
     policy: Policy,
+    texts: Vec<SourceText>,
     input: Vec<u8>,
     events: Events,
 }
@@ -51,7 +63,7 @@ fn read_good<'a, F: Files>(
     files: &mut F,
 ) -> Result<Good, Refused<'a>>
     ensures good { IfOk result (λ good. AreGood (F.holds files.old) request.now
-        good.policy good.input.items good.events) }
+        good.policy (texts_seen good.texts.items) good.input.items good.events) }
     ensures refused { IfErr result (λ r. RefusesCheck r (F.holds files.old)
         (F.lacks files.old) request.now) }
     ensures kept { (file bytes : List ℕ) → F.holds files.new file bytes
@@ -78,7 +90,7 @@ fn read_good<'a, F: Files>(
         63,
         &mut sink(),
     ) {
-        Ok(()) => {}
+        Ok(()) => drop(sources),
         Err(fault) => {
             drop(sources);
             let cause = cause_of(alloc, &policy, &fault, &input)?;
@@ -88,6 +100,7 @@ fn read_good<'a, F: Files>(
     match Events::read(alloc, input.as_slice(), &policy) {
         Ok(events) => Ok(Good {
             policy,
+            texts,
             input,
             events,
         }),
@@ -95,15 +108,35 @@ fn read_good<'a, F: Files>(
     }
 }
 
+/// Whether these notes are taken for faults: the words say so, and there is one.
+fn are_faults<'a>(request: &CheckRequest<'a>, notes: &[u8]) -> bool
+    ensures { result ≡ are_faults request.now notes.now }
+{
+    request.notes_as_faults && !notes.is_empty()
+}
+
+/// Adds what was found, with a line before each part that names it.
+fn push_findings(text: &mut Vec<u8>, found: &Findings) -> Result<(), AllocError>
+    ensures { OnOk result (text.new.items ≡ with_notes
+        (text.old.items ++ (codes "starts\n" ++ found.now.starts.items)) found.now.notes.items) }
+{
+    text.extend_from_slice(b"starts\n")?;
+    text.extend_from_slice(&found.starts)?;
+    text.extend_from_slice(b"notes\n")?;
+    text.extend_from_slice(&found.notes)
+}
+
 /// Reads the policy, the input and each source, as a run would, and writes what they mean: the
-/// permission table at the start, what is near a limit, and what comes when.
+/// permission table at the start, what is near a limit, what comes when, and where each process starts;
+/// and then the notes. Where there are notes, and the words take notes for faults, it answers them,
+/// and nothing is written.
 pub fn check_files<'a, F: Files, W: Write>(
     alloc: Global,
     request: &CheckRequest<'a>,
     files: &mut F,
     out: &mut W,
-) -> Result<(), Refused<'a>>
-    ensures ok { OnOk result (Explains (F.holds files.old) request.now
+) -> Result<Checking, Refused<'a>>
+    ensures ok { IfOk result (λ came. Checks came (F.holds files.old) request.now
         (W.contents out.old) (W.contents out.new)) }
     ensures err { IfErr result (λ r. ChecksBy r (F.holds files.old) (F.lacks files.old)
         request.now (W.contents out.old) (W.contents out.new)) }
@@ -113,14 +146,18 @@ pub fn check_files<'a, F: Files, W: Write>(
 {
     let Good {
         policy,
+        texts,
         input,
         events,
     } = read_good(alloc, request, files)?;
-    match explain(alloc, &policy, &input, events) {
-        Ok(text) => match send(out, &text) {
-            Ok(()) => Ok(()),
-            Err(_) => Err(Refused::from(Failure::Fault(Fault::WriteFault))),
-        },
-        Err(_) => Err(Refused::from(Failure::Fault(Fault::Memory))),
+    let found = findings_of(alloc, &policy, &texts)?;
+    if are_faults(request, &found.notes) {
+        return Ok(Checking::Noted(found.notes));
+    }
+    let mut text = explain(alloc, &policy, &input, events)?;
+    push_findings(&mut text, &found)?;
+    match send(out, &text) {
+        Ok(()) => Ok(Checking::Explained),
+        Err(_) => Err(Refused::from(Failure::Fault(Fault::WriteFault))),
     }
 }

@@ -8,11 +8,12 @@ ghost use Rattle.ds_log.specs.Sent.{AppendsPart};
 ghost use Rattle.ds_words.specs.Words.{AsksForSomething};
 
 use crate::bare::bare_file;
-use crate::check::check_files;
+use crate::check::{Checking, check_files};
 use crate::demo::run_demo;
 use crate::failure::Failure;
 use crate::files::Files;
 use crate::list::{Listing, list_file, tell_faults};
+use crate::notes::tell_notes;
 use crate::run::run_request;
 use crate::status::{DONE, WORDS_REFUSED};
 use crate::told::{tell, tell_refused};
@@ -25,7 +26,7 @@ use std::io::{ErrorKind, Write};
 /// Does what the words ask for, the program's own name first, and answers the status: 0 done; 1 the
 /// words were refused for another cause than memory, or ask for help; 2 refused input; 3 a fault of
 /// the run. What was refused is told on `err`; that a write there fails changes no status.
-#[tactic(auto, using(ds_words::proofs::WordLemmas::alone, crate::proofs::Cuts::nothing_written, crate::proofs::Cuts::demo_cut, crate::proofs::Cuts::run_cut, crate::proofs::Cuts::list_cut, crate::proofs::Cuts::check_cut, crate::proofs::BareLemmas::bare_cut, crate::proofs::BareLemmas::bare_stopped, crate::proofs::BareLemmas::bare_faulty, crate::proofs::Stops::demo_stopped, crate::proofs::Stops::run_stopped, crate::proofs::Stops::list_stopped, crate::proofs::Stops::list_faulty, crate::proofs::Stops::check_stopped, crate::proofs::Stops::wants_memory))]
+#[tactic(auto, using(ds_words::proofs::WordLemmas::alone, crate::proofs::Cuts::nothing_written, crate::proofs::Cuts::demo_cut, crate::proofs::Cuts::run_cut, crate::proofs::Cuts::list_cut, crate::proofs::Cuts::check_cut, crate::proofs::BareLemmas::bare_cut, crate::proofs::BareLemmas::bare_stopped, crate::proofs::BareLemmas::bare_faulty, crate::proofs::Stops::demo_stopped, crate::proofs::Stops::run_stopped, crate::proofs::Stops::list_stopped, crate::proofs::Stops::list_faulty, crate::proofs::Stops::check_stopped, crate::proofs::Noting::check_noted, crate::proofs::Stops::wants_memory))]
 pub fn drive<F: Files, W: Write, E: Write>(
     alloc: Global,
     words: &[String],
@@ -74,7 +75,8 @@ pub fn drive<F: Files, W: Write, E: Write>(
             Err(unlisted) => tell(err, &unlisted),
         },
         Ok(Some(Wish::Check(request))) => match check_files(alloc, &request, files, out) {
-            Ok(()) => DONE,
+            Ok(Checking::Explained) => DONE,
+            Ok(Checking::Noted(notes)) => tell_notes(err, &notes),
             Err(refused) => tell_refused(alloc, err, &refused),
         },
         Ok(Some(Wish::Bare(request))) => match bare_file(alloc, &request, files, out) {

@@ -1,8 +1,8 @@
-use Rattle.std.proofs.Common.{◌∙◌, map, ap, subst, sym, rules, ℕ, List}
+use Rattle.std.proofs.Common.{◌∙◌, map, ap, refl, subst, sym, rules, ℕ, List}
 use Rattle.ds_policy_reasons.specs.Policies.{policy_reason}
 use Rattle.ds_station.specs.Headline.{sources_seen}
 use Rattle.ds_drive.specs.declared.run.SourceText.{SourceText}
-use Rattle.ds_drive.specs.AtFault.{IsPlaceAt, IsReasonAt}
+use Rattle.ds_drive.specs.AtFault.{IsPlaceAt, IsReasonAt, texts_seen}
 use Rattle.ds_station.specs.declared.fault.Fault.{Fault}
 use Rattle.ds_drive.specs.declared.failure.Failure.TheVariants as failure
 use Rattle.ds_drive.proofs.HeldFiles.{all_held, names_held, input_kept, begins_over}
@@ -12,16 +12,15 @@ use Rattle.ds_drive.proofs.check.read_good.Goals as goal
 pub returns-in-Ok-read-clause-good : goal.returns-in-Ok-read-clause-good
 returns-in-Ok-read-clause-good g c =
     let lent = c.in_ok-sources.ensures ∙ ap (map (λ (s : SourceText). (s.name, s.text.items))) c.as_slice.ensures.value in
-    let begun = begins_over c.in-Ok.policy c.in_ok-text.text.items _ _ _ _
-    (search rules) (ap sources_seen c.as_slice-2.ensures.value) c.as_slice-3.ensures.value c.in-Ok-run_policy.ensures.ok in
+    let begun = begins_over c.in-Ok.policy c.in_ok-text.text.items _ (texts_seen c.in_ok-texts.texts.items) _ _
+    (search rules) (ap sources_seen c.as_slice-2.ensures.value ∙ lent) c.as_slice-3.ensures.value c.in-Ok-run_policy.ensures.ok in
     record {
       policy = c.in_ok-text.text.items;
-      sources = sources_seen c.in_ok-sources.sources.items;
       policy_held = c.in_ok-text.ensures.found;
       input_held = input_kept (g.F.Files.holds c.args.files.now) (g.F.Files.holds c.named_file.new.files) c.args.request.now.input c.in_ok-input.input.items c.in_ok-text.ensures.kept c.in_ok-input.ensures.found;
       sources_held = all_held (g.F.Files.holds c.args.files.now) (g.F.Files.holds c.input_of.new.files) c.in_ok-texts.texts.items _
-          (λ file bytes h. c.in_ok-text.ensures.kept file bytes (c.in_ok-input.ensures.kept file bytes h)) c.in_ok-texts.ensures.found lent;
-      sources_named = names_held c.in_ok-texts.texts.items _ _ lent (c.in_ok-texts.ensures.names ∙ c.sources.ensures.all);
+          (λ file bytes h. c.in_ok-text.ensures.kept file bytes (c.in_ok-input.ensures.kept file bytes h)) c.in_ok-texts.ensures.found refl;
+      sources_named = names_held c.in_ok-texts.texts.items _ _ refl (c.in_ok-texts.ensures.names ∙ c.sources.ensures.all);
       policy_read = search rules;
       input_read = search rules;
       first = begun.0;

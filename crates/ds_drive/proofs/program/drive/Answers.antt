@@ -1,9 +1,12 @@
 use Rattle.std.proofs.Common.{refl, subst, rules, inl, map, string_bytes}
+use Rattle.ds_drive.specs.declared.check.Checking.{Checking}
 use Rattle.ds_drive.specs.declared.list.Listing.{Listing}
+use Rattle.ds_drive.specs.Checked.{Checks}
 use Rattle.ds_drive.specs.Listed.{Lists}
 use Rattle.ds_drive.specs.BareRuns.{RunsOrIsFaulty}
 use Rattle.ds_drive.proofs.BareLemmas.{bare_cut, bare_faulty}
 use Rattle.ds_drive.proofs.Cuts.{demo_cut, list_cut, run_cut}
+use Rattle.ds_drive.proofs.Noting.{check_noted}
 use Rattle.ds_drive.proofs.Stops.{list_faulty}
 use Rattle.ds_words.proofs.WordLemmas.{alone, fails_for_memory, only_memory_fails}
 use Rattle.ds_drive.proofs.program.drive.Goals as goal
@@ -53,3 +56,11 @@ returns-in-Ok-Faults-bare_file-clause-stopped g c two =
     let new = g.W.Write.contents c.bare_file.new.out in
     let runs = subst (λ (came : Listing). RunsOrIsFaulty came holds c.in-Ok-Some-Bare.request old new) c.in-Ok-Faults-bare_file.field-0-is c.in-Ok-Faults-bare_file.ensures.ok in
     bare_faulty (map string_bytes c.args.words.now) holds (g.F.Files.lacks c.args.files.now) 2 old new (g.E.Write.contents c.args.err.now) (g.E.Write.contents c.tell_faults-in-Ok-Faults-bare_file.new.err) c.in-Ok-Some-Bare.request c.in-Ok-Faults-bare_file.source.text.items c.in-Ok-Faults-bare_file.source.faults.items refl (search rules) runs.0 runs.1 (search rules)
+
+pub returns-in-Ok-Noted-clause-stopped : goal.returns-in-Ok-Noted-clause-stopped
+returns-in-Ok-Noted-clause-stopped g c two =
+    let holds = g.F.Files.holds c.args.files.now in
+    let old = g.W.Write.contents c.args.out.now in
+    let new = g.W.Write.contents c.check_files.new.out in
+    let checks = subst (λ (came : Checking). Checks came holds c.in-Ok-Some-Check.request old new) c.in-Ok-Noted.field-0-is c.in-Ok-Noted.ensures.ok in
+    check_noted (map string_bytes c.args.words.now) holds (g.F.Files.lacks c.args.files.now) 2 old new (g.E.Write.contents c.args.err.now) (g.E.Write.contents c.tell_notes.new.err) c.in-Ok-Some-Check.request c.in-Ok-Noted.notes.items refl (search rules) checks.0 checks.1 (search rules)

@@ -1,0 +1,3 @@
+# A comment has no bytes.
+main:   addiu $2,$0,0
+        syscall
