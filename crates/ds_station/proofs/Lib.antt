@@ -4,3 +4,4 @@ pub mod NamedTexts
 pub mod Preparing
 pub mod Quiet
 pub mod Guarded
+mod Reading

@@ -3,3 +3,4 @@ pub mod Station
 pub mod Runs
 pub mod Headline
 pub mod Written
+pub mod Reads

@@ -13,6 +13,7 @@ ghost use Rattle.std.specs.Prelude.{
   IfOk,
   option_map,
   [],
+  None,
   false,
   Ok,
 };
@@ -29,7 +30,7 @@ ghost use Rattle.ds_pagemap.specs.Inputs.{
   image_read,
   images_from,
 };
-ghost use Rattle.ds_refinement.specs.Stands.{Stands};
+ghost use Rattle.ds_refinement.specs.Stands.{IsSound, Stands};
 ghost use Rattle.ds_station.specs.Headline.{
   Writes,
   WritesReally,
@@ -109,7 +110,7 @@ fn images_of(
 }
 
 /// A station at the beginning of the run that the texts ask for under a policy.
-fn prepare(
+pub fn prepare(
     alloc: Global,
     policy: &Policy,
     sources: &[(&str, &[u8])],
@@ -122,7 +123,10 @@ fn prepare(
     ensures real { IfOk result (λ s. Begins
         (inputs_under_by loaded policy.now (sources_seen sources.now) input.now n random)
         (BeginsWith random s)) }
+    ensures sound { IfOk result IsSound }
     ensures working { IfOk result (λ s. s.own.failed ≡ false) }
+    ensures spent { IfOk result (λ s. s.own.spent ≡ 0) }
+    ensures unowed { IfOk result (λ s. s.kept.state.owed ≡ None) }
     ensures few { OnOk result (n ≤ 1000000000) }
     ensures err { IfErr result (λ f. Refuses f
         (inputs_under policy.now (sources_seen sources.now) input.now n random)) }
@@ -145,7 +149,10 @@ fn prepare(
 }
 
 /// The text of a station's state goes to the writer.
-fn deliver<L: Lookaside, W: Write>(station: &Station<L>, out: &mut W) -> Result<(), WriteFailed>
+pub fn deliver<L: Lookaside, W: Write>(
+    station: &Station<L>,
+    out: &mut W,
+) -> Result<(), WriteFailed>
     ensures ok { OnOk result
         (Appends (W.contents out.old) (W.contents out.new) (held_text station.now)) }
     ensures err { OnErr result

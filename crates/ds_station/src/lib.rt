@@ -3,10 +3,11 @@
 
 mod fault;
 mod files;
+mod reads;
 mod station;
 
 pub use ds_policy::MOST_TICKS;
 pub use ds_refinement::Step;
 pub use fault::Fault;
-pub use files::{run_files, run_policy};
+pub use files::{deliver, prepare, run_files, run_policy};
 pub use station::Station;

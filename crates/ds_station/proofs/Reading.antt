@@ -1,0 +1,62 @@
+-- What is read of a station.
+use Rattle.std.proofs.Common.{◌≡◌, ℕ, ◌+◌, ◌*◌, ◌^◌, ◌<◌, ◌≤◌, Bool, true, false, List, [], ◌∷◌, length, Option, Some, None, refl, sym, ap, subst, ◌∙◌, arith}
+use Rattle.std.specs.Prelude.{IfSome}
+use Rattle.std.specs.List.{All}
+use Rattle.std.proofs.lemmas.List.Elements.{All-head}
+use Rattle.ds_pagemap.specs.Machine.{State, first}
+use Rattle.ds_pagemap_laws.specs.Lawful.{IsReady}
+use Rattle.ds_word.specs.Bytes.{word_at}
+use Rattle.ds_isa.specs.declared.instr.Kind.TheVariants.{Fetch}
+use Rattle.ds_isa.specs.declared.instr.Size.TheVariants.{Word}
+use Rattle.ds_policy.specs.declared.access.Verdict.{Verdict}
+use Rattle.ds_policy.specs.declared.access.Verdict.TheVariants.{Allowed, Denied}
+use Rattle.ds_policy.specs.declared.access.Rule.{Rule}
+use Rattle.ds_policy.specs.Pages.{decide}
+use Rattle.ds_cp0.specs.System.{is_user}
+use Rattle.ds_grants.specs.State.{GrantsState, page_state, pages_in}
+use Rattle.ds_grants.specs.Sound.{NamesPages}
+use Rattle.ds_refinement.specs.Held.{Held}
+use Rattle.ds_refinement.proofs.Frames.{word_of_page}
+use Rattle.ds_kernel.specs.Good.{IsOrderly}
+use Rattle.ds_kernel.proofs.Fetching.{allowed_page}
+use Rattle.ds_station.specs.Reads.{fetched, word_on}
+
+-- while nothing is counted of a unit, the processor is in user mode
+pub user_at_rest : (h : Held) → IsOrderly h → h.own.spent ≡ 0 → is_user h.core.system ≡ true
+user_at_rest h orderly none = by (is_user h.core.system) refl
+  where
+    by : (b : Bool) → is_user h.core.system ≡ b → is_user h.core.system ≡ true
+    by true is = is
+    by false is = (let some : 0 < h.own.spent = orderly.raised is in absurd (omega (arith, some, none)))
+
+-- the word in a page that may be fetched
+pub word_found : (g : GrantsState) (memory : List ℕ) (p address page offset place : ℕ) → NamesPages g → length memory ≡ 2 ^ 23 → decide g.table p Fetch Word address ≡ Allowed page offset → place ≡ (page + 402) * 4096 + offset
+    → Some (word_at memory place) ≡ fetched (page_state g memory) p address
+word_found g memory p address page offset place names large is at =
+    let on = allowed_page g p Fetch Word address page offset names is in
+    let low = on.at in
+    ap (λ (x : ℕ). Some (word_at memory x)) at
+    ∙ (ap (λ (w : ℕ). Some w) (word_of_page g memory page offset on.lives on.low on.few large (omega (arith, low)))
+    ∙ ap (word_on (pages_in g memory)) (sym is))
+
+-- or there is none
+pub word_denied : (g : GrantsState) (memory : List ℕ) (p address : ℕ) (rule : Rule) (code : ℕ) → decide g.table p Fetch Word address ≡ Denied rule code → None ≡ fetched (page_state g memory) p address
+word_denied g memory p address rule code is = ap (word_on (pages_in g memory)) (sym is)
+
+-- the first of those that are ready has a seat
+pub first_seat : (m : State) (ready : List ℕ) (o : Option ℕ) → All (IsReady m) ready → o ≡ first ready → IfSome o (λ p. (0 < p) × (p ≤ length m.processes))
+first_seat m [] None all is = tt
+first_seat m [] (Some p) all is = absurd (cc)
+first_seat m (q ∷ rest) None all is = tt
+first_seat m (q ∷ rest) (Some p) all is =
+    let head = All-head (IsReady m) q rest all in
+    let same : q ≡ p = cc in
+    subst (λ (x : ℕ). (0 < x) × (x ≤ length m.processes)) same (head.0, head.1)
+
+-- a page that may be fetched from has a number below 1,024
+pub page_low : (g : GrantsState) (p address page offset : ℕ) → NamesPages g → decide g.table p Fetch Word address ≡ Allowed page offset → page < 1024
+page_low g p address page offset names is =
+    let on = allowed_page g p Fetch Word address page offset names is in
+    let low = on.low in
+    let few = on.few in
+    omega (arith, low, few)

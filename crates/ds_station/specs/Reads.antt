@@ -1,0 +1,40 @@
+-- What a station shows of its processes, by what it holds.
+use Rattle.std.specs.Prelude.{ℕ, ◌+◌, ◌-◌, ◌^◌, if◌then◌else◌, List, Option, Some, None}
+use Rattle.ds_word.specs.Word.{word}
+use Rattle.ds_word.specs.Bytes.{word_at}
+use Rattle.ds_isa.specs.declared.instr.Size.TheVariants.{Word}
+use Rattle.ds_isa.specs.declared.instr.Kind.TheVariants.{Fetch}
+use Rattle.ds_policy.specs.declared.access.Verdict.{Verdict}
+use Rattle.ds_policy.specs.declared.access.Verdict.TheVariants.{Allowed, Denied}
+use Rattle.ds_policy.specs.Pages.{Pages, decide, bytes_of}
+use Rattle.ds_policy.specs.Grants.{PageState}
+use Rattle.ds_grants.specs.State.{page_state}
+use Rattle.ds_core.specs.Core.{CoreState}
+use Rattle.ds_pagemap.specs.Machine.{process_of, first}
+use Rattle.ds_pagemap.specs.Boundary.{is_first}
+use Rattle.ds_refinement.specs.Held.{Held}
+
+-- the word at the place of an access that is allowed
+abbrev pub word_on : Pages → Verdict → Option ℕ
+word_on pages (Allowed page offset) = Some (word_at (bytes_of pages page) offset)
+word_on pages (Denied rule code) = None
+
+-- the word at an address, where the process may fetch it
+abbrev pub fetched : PageState → ℕ → ℕ → Option ℕ
+fetched s p address = word_on s.pages (decide s.table p Fetch Word address)
+
+-- the pages and the table that a station holds
+abbrev pub memory_held : Held → PageState
+memory_held h = page_state h.kept.grants h.bus.memory
+
+-- in user mode, the address of the unit on the processor: in a slot, of its branch
+abbrev pub unit_on : CoreState → ℕ
+unit_on c = if c.slot then word (c.pc + 0xFFFFFFFC) else c.pc
+
+-- where a process goes on: the one that runs by the processor, and each other by its seat
+abbrev pub address_held : Held → ℕ → ℕ
+address_held h p = if is_first (first h.kept.state.ready) p then unit_on h.core else (process_of h.kept.state p).pc
+
+-- the general registers of a process, from the same places
+abbrev pub general_held : Held → ℕ → List ℕ
+general_held h p = if is_first (first h.kept.state.ready) p then h.core.registers.general else (process_of h.kept.state p).registers.general

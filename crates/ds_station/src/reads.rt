@@ -1,0 +1,129 @@
+//! What a station shows of its processes.
+ghost use Rattle.std.specs.Prelude.{◌≡◌, ◌<◌, ◌≤◌, length, IfSome, true};
+ghost use Rattle.ds_cp0.specs.System.{is_user};
+ghost use Rattle.ds_pagemap.specs.Boundary.{is_first};
+ghost use Rattle.ds_pagemap.specs.Machine.{first, process_of};
+ghost use Rattle.ds_station.specs.Reads.{address_held, fetched, general_held, memory_held, unit_on};
+
+use crate::station::Station;
+use ds_grants::frame_of_page;
+use ds_isa::{Kind, Size};
+use ds_policy::{Access, Verdict};
+use ds_procs::Standing;
+use ds_tlb::Lookaside;
+use ds_word::wrapping_sum;
+
+/// Four less, in 32 bits.
+const BACK: u32 = 0xFFFF_FFFC;
+
+impl<L: Lookaside> Station<L> {
+    /// How many processes there are, 100 at most: each has its row in the permission table.
+    pub fn processes(&self) -> u32
+        ensures held { result ≡ length self.now.kept.state.processes }
+        ensures table { result ≡ length self.now.kept.grants.table }
+        ensures few { result ≤ 100 }
+    {
+        self.parts.monitor.seats.len() as u32
+    }
+
+    /// The process that runs, which is the first that is ready.
+    pub fn runner(&self) -> Option<u32>
+        ensures held { result ≡ first self.now.kept.state.ready }
+        ensures seat { IfSome result
+            (λ p. (0 < p) × (p ≤ length self.now.kept.state.processes)) }
+    {
+        self.parts.monitor.first_ready()
+    }
+
+    /// Whether a process is the one that runs.
+    fn runs(&self, process: u32) -> bool
+        ensures { result ≡ is_first (first self.now.kept.state.ready) process }
+    {
+        match self.parts.monitor.first_ready() {
+            Some(runner) => runner == process,
+            None => false,
+        }
+    }
+
+    /// How a process stands, by its number from 1.
+    pub fn standing(&self, process: u32) -> Standing
+        requires above { 0 < process }
+        requires within { process ≤ length self.now.kept.state.processes }
+        ensures { result ≡ (process_of self.now.kept.state process).standing }
+    {
+        self.parts.monitor.seats[process as usize - 1].standing()
+    }
+
+    /// In user mode, the address of the unit on the processor: in a slot, of its branch.
+    fn unit(&self) -> u32
+        ensures { result ≡ unit_on self.now.core }
+    {
+        if self.parts.core.slot {
+            wrapping_sum(self.parts.core.pc, BACK)
+        } else {
+            self.parts.core.pc
+        }
+    }
+
+    /// While nothing is counted of a unit, the processor is in user mode.
+    pub fn look_at_mode(&self)
+        ensures { self.now.own.spent ≡ 0 → is_user self.now.core.system ≡ true }
+    {
+        let _spent = self.parts.spent;
+    }
+
+    /// Where a process goes on. Of the one that runs it is the address of its unit, in user mode.
+    pub fn address(&self, process: u32) -> u32
+        requires above { 0 < process }
+        requires within { process ≤ length self.now.kept.state.processes }
+        ensures { result ≡ address_held self.now process }
+    {
+        if self.runs(process) {
+            self.unit()
+        } else {
+            self.parts.monitor.seats[process as usize - 1].pc()
+        }
+    }
+
+    /// The general registers of a process in its seat; of none they are zero.
+    fn seated(&self, process: u32) -> [u32; 32]
+        ensures { result ≡ (process_of self.now.kept.state process).registers.general }
+    {
+        let seats = &self.parts.monitor.seats;
+        match seats.get((process as usize).saturating_sub(1)) {
+            Some(seat) => *seat.general(),
+            None => [0; 32],
+        }
+    }
+
+    /// The general registers of a process, of which there may be none. Of the one that runs they are
+    /// the processor's.
+    pub fn general(&self, process: u32) -> [u32; 32]
+        ensures { result ≡ general_held self.now process }
+    {
+        if self.runs(process) {
+            self.parts.core.registers
+        } else {
+            self.seated(process)
+        }
+    }
+
+    /// The word at an address, where the process may fetch it.
+    pub fn word_at(&self, process: u32, address: u32) -> Option<u32>
+        requires above { 0 < process }
+        requires within { process ≤ length self.now.kept.state.processes }
+        ensures { result ≡ fetched (memory_held self.now) process address }
+    {
+        let access = Access {
+            kind: Kind::Fetch,
+            size: Size::Word,
+        };
+        match self.parts.monitor.grants.table().decide(process, access, address) {
+            Verdict::Allowed { page, offset } => {
+                let place = frame_of_page(page) * 4096 + offset;
+                Some(self.parts.bus.word(place))
+            }
+            Verdict::Denied { .. } => None,
+        }
+    }
+}

@@ -1,0 +1,28 @@
+-- The unit that a state has next.
+use Rattle.std.specs.Prelude.{ℕ, ◌+◌, is_some, if◌then◌else◌, Option, Some, None}
+use Rattle.ds_word.specs.Word.{word}
+use Rattle.ds_isa.specs.Encoding.{uses}
+use Rattle.ds_isa.specs.Instruction.{instruction_of}
+use Rattle.ds_isa.specs.Shapes.{is_branch}
+use Rattle.ds_policy.specs.Grants.{PageState}
+use Rattle.ds_pagemap.specs.Machine.{State, process_of, first}
+use Rattle.ds_station.specs.Reads.{fetched}
+use Rattle.ds_trace.specs.declared.start.Start.{Start}
+
+-- the word in the slot of the instruction at an address, where that is a branch
+abbrev pub slot_of : PageState → ℕ → ℕ → Option ℕ → Option ℕ
+slot_of s p pc None = None
+slot_of s p pc (Some w) = if is_branch (uses (instruction_of w)).shape then fetched s p (word (pc + 4)) else None
+
+-- the unit of a process at an address, at a time
+abbrev pub start_at : PageState → ℕ → ℕ → ℕ → Start
+start_at s time p pc = record { time = time; process = p; address = pc; word = fetched s p pc; slot = slot_of s p pc (fetched s p pc) }
+
+-- the unit of a process, if there is one
+abbrev pub start_of : State → Option ℕ → Option Start
+start_of m None = None
+start_of m (Some p) = Some (start_at m.memory m.time p (process_of m p).pc)
+
+-- the unit that is next: of the first ready process, where no boundary is owed
+abbrev pub next_start : State → Option Start
+next_start m = if is_some m.owed then None else start_of m (first m.ready)

@@ -1,0 +1,69 @@
+//! The trace of a run, from texts to a text.
+ghost use Rattle.std.specs.Prelude.{◌≡◌, IfErr, OnOk, Err};
+ghost use Rattle.ds_pagemap.specs.Inputs.{Refusal, inputs, inputs_under};
+ghost use Rattle.ds_station.specs.Headline.{Begins, IsRefused, sources_seen};
+ghost use Rattle.ds_trace.specs.Traces.{TraceEndsBy, WritesTrace};
+
+use crate::trace::tell;
+use ds_policy::Policy;
+use ds_station::{Fault, prepare};
+use std::alloc::Global;
+use std::io::Write;
+
+/// As `run_files` of `ds_station`, with the trace of the run before its text: what each unit was,
+/// what was logged, which process runs from when on, and at the end how each process stands.
+///
+/// Inputs are refused as `run_files` refuses them, and nothing is written. Where memory runs out or a
+/// write fails, a prefix of the trace and the text is written.
+pub fn trace_files<W: Write>(
+    alloc: Global,
+    policy: &[u8],
+    sources: &[(&str, &[u8])],
+    input: &[u8],
+    n: u64,
+    random: u8,
+    out: &mut W,
+) -> Result<(), Fault>
+    ensures ok { OnOk result (Begins
+        (inputs policy.now (sources_seen sources.now) input.now n random)
+        (WritesTrace (W.contents out.old) (W.contents out.new) n)) }
+    ensures err { IfErr result (λ f. TraceEndsBy f
+        (inputs policy.now (sources_seen sources.now) input.now n random)
+        (W.contents out.old) (W.contents out.new) n) }
+    ensures refused { (refusal : Refusal)
+        → inputs policy.now (sources_seen sources.now) input.now n random ≡ Err refusal
+        → IsRefused result refusal (W.contents out.old) (W.contents out.new) }
+{
+    let policy = match Policy::read(alloc, policy) {
+        Ok(policy) => policy,
+        Err(fault) => return Err(Fault::from(fault)),
+    };
+    trace_policy(alloc, &policy, sources, input, n, random, out)
+}
+
+/// As `trace_files`, under a policy that was read before.
+pub fn trace_policy<W: Write>(
+    alloc: Global,
+    policy: &Policy,
+    sources: &[(&str, &[u8])],
+    input: &[u8],
+    n: u64,
+    random: u8,
+    out: &mut W,
+) -> Result<(), Fault>
+    ensures ok { OnOk result (Begins
+        (inputs_under policy.now (sources_seen sources.now) input.now n random)
+        (WritesTrace (W.contents out.old) (W.contents out.new) n)) }
+    ensures err { IfErr result (λ f. TraceEndsBy f
+        (inputs_under policy.now (sources_seen sources.now) input.now n random)
+        (W.contents out.old) (W.contents out.new) n) }
+    ensures refused { (refusal : Refusal)
+        → inputs_under policy.now (sources_seen sources.now) input.now n random ≡ Err refusal
+        → IsRefused result refusal (W.contents out.old) (W.contents out.new) }
+{
+    let mut station = match prepare(alloc, policy, sources, input, n, random) {
+        Ok(station) => station,
+        Err(refused) => return Err(refused),
+    };
+    tell(alloc, &mut station, n, out)
+}

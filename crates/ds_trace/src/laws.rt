@@ -1,0 +1,22 @@
+//! What a trace does not show.
+ghost use Rattle.std.specs.Prelude.{◌≡◌, ℕ, Bool};
+ghost use Rattle.ds_pagemap.specs.Machine.{State, process_of, touched};
+ghost use Rattle.ds_pagemap.specs.Boundary.{boundary};
+ghost use Rattle.ds_trace.specs.Ends.{end_text};
+ghost use Rattle.ds_trace.specs.Lines.{half_text};
+
+/// A touch of the process that runs, before a half turn and after it, changes no line, and no line
+/// of the end.
+pub fn a_touch_changes_no_line()
+    ensures lines { (a b : Bool) (m t : State)
+        → half_text (touched a m) (touched b t) ≡ half_text m t }
+    ensures end { (b : Bool) (m : State) → end_text (touched b m) ≡ end_text m }
+{}
+
+/// A boundary leaves each process its registers and its address.
+pub fn a_boundary_leaves_registers()
+    ensures registers { (m : State) (p : ℕ)
+        → (process_of (boundary m) p).registers ≡ (process_of m p).registers }
+    ensures address { (m : State) (p : ℕ)
+        → (process_of (boundary m) p).pc ≡ (process_of m p).pc }
+{}

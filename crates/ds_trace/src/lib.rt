@@ -1,0 +1,17 @@
+//! The trace of a run: what happened, unit by unit, and how each process stands at the end.
+#![tactic(auto)]
+
+mod digits;
+mod ends;
+mod files;
+mod laws;
+mod lines;
+mod sheet;
+mod start;
+mod trace;
+
+pub use files::{trace_files, trace_policy};
+pub use laws::{a_boundary_leaves_registers, a_touch_changes_no_line};
+
+#[cfg(test)]
+mod tests;

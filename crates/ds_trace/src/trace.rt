@@ -1,0 +1,207 @@
+//! A run that is told unit by unit.
+ghost use Rattle.std.specs.Prelude.{◌≡◌, ◌<◌, ◌≤◌, ◌++◌, ◌||◌, IfErr, IfOk, OnErr, OnOk, None, [], false, nat_lt};
+ghost use Rattle.std.specs.Io.KnownBytes.{Appends};
+ghost use Rattle.ds_log.specs.Sent.{AppendsPart};
+ghost use Rattle.ds_refinement.specs.Stands.{IsSound};
+ghost use Rattle.ds_station.specs.Headline.{held_text};
+ghost use Rattle.ds_trace.specs.Advanced.{Adds, Advances, is_last};
+ghost use Rattle.ds_trace.specs.Handed.{IsFinished, IsHandedOn, IsLate};
+ghost use Rattle.ds_trace.specs.Shows.{TellsAll, Traces, TracesPart, before_held, end_held, half_held};
+
+use crate::sheet::Sheet;
+use crate::start::Before;
+use ds_station::{Fault, Station, Step, deliver};
+use ds_tlb::Lookaside;
+use std::alloc::{AllocError, Global};
+use std::io::Write;
+
+/// So many bytes are handed to the writer at once, or a few more.
+const MOST_BYTES: usize = 65536;
+
+/// Adds the lines of the half turn that is done, and looks at the station for the next.
+fn tell_half<L: Lookaside>(
+    station: &Station<L>,
+    owed: bool,
+    sheet: &mut Sheet,
+    before: &mut Before,
+) -> Result<(), AllocError>
+    ensures text { OnOk result (sheet.new.text.items
+        ≡ sheet.old.text.items ++ half_held before.old station.now) }
+    ensures next { OnOk result (before.new ≡ before_held owed station.now) }
+{
+    sheet.push_half(before, station)?;
+    *before = Before::of(station, owed);
+    Ok(())
+}
+
+/// Adds the lines of the half turn that a step has ended, if it has.
+fn tell_step<L: Lookaside>(
+    station: &Station<L>,
+    step: Step,
+    sheet: &mut Sheet,
+    before: &mut Before,
+) -> Result<(), AllocError>
+    ensures { OnOk result (Adds step station.now sheet.old.text.items before.old
+        sheet.new.text.items before.new) }
+{
+    match step {
+        Step::Unit => tell_half(station, true, sheet, before),
+        Step::Boundary => tell_half(station, false, sheet, before),
+        Step::Inside => Ok(()),
+        Step::Over => Ok(()),
+    }
+}
+
+/// Whether a step found all processes ended.
+fn is_last(step: Step) -> bool
+    ensures { result ≡ is_last step }
+{
+    match step {
+        Step::Over => true,
+        Step::Inside => false,
+        Step::Unit => false,
+        Step::Boundary => false,
+    }
+}
+
+/// One step of a station, told of where it ends a half turn. It answers whether that found all
+/// processes ended, or the fault by which there was none.
+fn advance<L: Lookaside>(
+    station: &mut Station<L>,
+    sheet: &mut Sheet,
+    before: &mut Before,
+) -> Result<Result<bool, Fault>, AllocError>
+    requires early { station.old.kept.state.owed ≡ None
+        → station.old.kept.state.time < 1000000000 }
+    requires working { station.old.own.failed ≡ false }
+    ensures { IfOk result (λ r. Advances r station.old station.new
+        sheet.old.text.items before.old sheet.new.text.items before.new) }
+{
+    let step = match station.step() {
+        Ok(step) => step,
+        Err(fault) => {
+            station.look_at_mode();
+            return Ok(Err(fault));
+        }
+    };
+    station.look_at_mode();
+    tell_step(station, step, sheet, before)?;
+    Ok(Ok(is_last(step)))
+}
+
+/// Hands what is to be written to the writer.
+fn hand_all<W: Write>(sheet: &mut Sheet, out: &mut W) -> Result<(), Fault>
+    ensures ok { OnOk result
+        (Appends (W.contents out.old) (W.contents out.new) sheet.old.text.items) }
+    ensures sent { OnOk result (sheet.new.text.items ≡ []) }
+    ensures err { OnErr result
+        (AppendsPart (W.contents out.old) (W.contents out.new) sheet.old.text.items) }
+    ensures late { IfErr result IsLate }
+{
+    match sheet.send(out) {
+        Ok(()) => Ok(()),
+        Err(_) => Err(Fault::WriteFault),
+    }
+}
+
+/// Hands what is to be written to the writer, where it is long.
+fn hand_on<W: Write>(sheet: &mut Sheet, out: &mut W) -> Result<(), Fault>
+    ensures ok { OnOk result (IsHandedOn (W.contents out.old) (W.contents out.new)
+        sheet.old.text.items sheet.new.text.items) }
+    ensures err { OnErr result
+        (AppendsPart (W.contents out.old) (W.contents out.new) sheet.old.text.items) }
+    ensures late { IfErr result IsLate }
+{
+    if sheet.text.len() < MOST_BYTES {
+        return Ok(());
+    }
+    hand_all(sheet, out)
+}
+
+/// Whether a boundary is owed, or the time of a run for n is not over.
+fn is_before<L: Lookaside>(station: &Station<L>, n: u64, before: &Before) -> bool
+    ensures { result ≡ (before.now.owed || nat_lt station.now.kept.state.time n) }
+{
+    before.owed || station.time() < n
+}
+
+/// Follows a station to the end of a run for n, and tells of it. It answers the fault that cut the
+/// run short, if one did. What is left to be written is in the sheet.
+fn follow<L: Lookaside, W: Write>(
+    station: &mut Station<L>,
+    n: u64,
+    sheet: &mut Sheet,
+    out: &mut W,
+) -> Result<Option<Fault>, Fault>
+    requires few { n ≤ 1000000000 }
+    requires sound { IsSound station.old }
+    requires working { station.old.own.failed ≡ false }
+    requires spent { station.old.own.spent ≡ 0 }
+    requires unowed { station.old.kept.state.owed ≡ None }
+    requires empty { sheet.old.text.items ≡ [] }
+    ensures ok { IfOk result (λ cut. TellsAll cut n station.old station.new
+        (W.contents out.old) (W.contents out.new) sheet.new.text.items) }
+    ensures err { OnErr result
+        (TracesPart n station.old (W.contents out.old) (W.contents out.new)) }
+    ensures late { IfErr result IsLate }
+{
+    station.look_at_mode();
+    let mut before = Before::of(station, false);
+    while is_before(station, n, &before) {
+        match advance(station, sheet, &mut before)? {
+            Ok(false) => {}
+            Ok(true) => return Ok(None),
+            Err(fault) => return Ok(Some(fault)),
+        }
+        hand_on(sheet, out)?;
+    }
+    station.look_at_mode();
+    Ok(None)
+}
+
+/// Writes what is left of the trace, the end's text, and the text of the station's state.
+fn finish<L: Lookaside, W: Write>(
+    station: &Station<L>,
+    sheet: &mut Sheet,
+    out: &mut W,
+) -> Result<(), Fault>
+    ensures ok { OnOk result (IsFinished (W.contents out.old) (W.contents out.new)
+        sheet.old.text.items station.now) }
+    ensures err { OnErr result (AppendsPart (W.contents out.old) (W.contents out.new)
+        (sheet.old.text.items ++ end_held station.now ++ held_text station.now)) }
+    ensures late { IfErr result IsLate }
+{
+    sheet.push_end(station)?;
+    hand_all(sheet, out)?;
+    match deliver(station, out) {
+        Ok(()) => Ok(()),
+        Err(_) => Err(Fault::WriteFault),
+    }
+}
+
+/// Runs a station for n, and writes the trace of the run, the end's text, and the text of the state
+/// in which it ended. Where memory runs out or a write fails, a prefix of that is written.
+pub(crate) fn tell<L: Lookaside, W: Write>(
+    alloc: Global,
+    station: &mut Station<L>,
+    n: u64,
+    out: &mut W,
+) -> Result<(), Fault>
+    requires few { n ≤ 1000000000 }
+    requires sound { IsSound station.old }
+    requires working { station.old.own.failed ≡ false }
+    requires spent { station.old.own.spent ≡ 0 }
+    requires unowed { station.old.kept.state.owed ≡ None }
+    ensures ok { OnOk result (Traces n station.old (W.contents out.old) (W.contents out.new)) }
+    ensures err { OnErr result
+        (TracesPart n station.old (W.contents out.old) (W.contents out.new)) }
+    ensures late { IfErr result IsLate }
+{
+    let mut sheet = Sheet::new(alloc);
+    let cut = follow(station, n, &mut sheet, out)?;
+    finish(station, &mut sheet, out)?;
+    match cut {
+        None => Ok(()),
+        Some(fault) => Err(fault),
+    }
+}
