@@ -149,10 +149,7 @@ pub fn prepare(
 }
 
 /// The text of a station's state goes to the writer.
-pub fn deliver<L: Lookaside, W: Write>(
-    station: &Station<L>,
-    out: &mut W,
-) -> Result<(), WriteFailed>
+pub fn deliver<L: Lookaside, W: Write>(station: &Station<L>, out: &mut W) -> Result<(), WriteFailed>
     ensures ok { OnOk result
         (Appends (W.contents out.old) (W.contents out.new) (held_text station.now)) }
     ensures err { OnErr result

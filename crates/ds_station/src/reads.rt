@@ -118,7 +118,13 @@ impl<L: Lookaside> Station<L> {
             kind: Kind::Fetch,
             size: Size::Word,
         };
-        match self.parts.monitor.grants.table().decide(process, access, address) {
+        match self
+            .parts
+            .monitor
+            .grants
+            .table()
+            .decide(process, access, address)
+        {
             Verdict::Allowed { page, offset } => {
                 let place = frame_of_page(page) * 4096 + offset;
                 Some(self.parts.bus.word(place))
