@@ -1,6 +1,6 @@
 //! What arithmetic makes of words, and the fields of an instruction.
 
-use crate::machine::told::{number, said};
+use crate::machine::told::Answer;
 use ds_word::{
     byte_signed, byte_unsigned, checked_difference, checked_sum, code, div_signed, div_unsigned,
     funct, half_signed, half_unsigned, imm, is_negative, merge_left, merge_right, mul_signed,
@@ -8,35 +8,32 @@ use ds_word::{
     sign16, signed_less, store_byte, store_half, store_left, store_right, target, upper,
     wrapping_difference, wrapping_sum,
 };
-use std::alloc::{AllocError, Global};
 
-/// What a function of words answers, as a text; none where there is no function of that name with
-/// so many operands.
-pub fn answer(alloc: Global, name: &str, operands: &[u32]) -> Result<Option<String>, AllocError> {
-    let word = match operands {
-        [word] => of_one(name, *word),
-        [a, b] => of_two(name, *a, *b),
-        [word, register, place @ 0..=3] => of_place(name, *word, *register, *place),
-        _ => None,
-    };
-    if let Some(word) = word {
-        return number(alloc, word);
-    }
+/// What a function of words answers; none where there is no function of that name with so many
+/// operands.
+pub fn answer(name: &str, operands: &[u32]) -> Option<Answer> {
     match (name, operands) {
-        ("fields", [word]) => fields(alloc, *word),
-        (_, [a, b]) => of_pair(alloc, name, *a, *b),
-        _ => Ok(None),
+        ("fields", [word]) => Some(Answer::Fields(fields(*word))),
+        (_, [word]) => of_one(name, *word).map(Answer::Number),
+        (_, [a, b]) => of_two(name, *a, *b),
+        (_, [word, register, place @ 0..=3]) => {
+            of_place(name, *word, *register, *place).map(Answer::Number)
+        }
+        _ => None,
     }
 }
 
 /// The six fields of a word, by their numbers.
-fn fields(alloc: Global, word: u32) -> Result<Option<String>, AllocError> {
+fn fields(word: u32) -> [u8; 6] {
     let (source, second, destination) = (rs(word), rt(word), rd(word));
-    let (operation, amount, function) = (op(word), shamt(word), funct(word));
-    let text = format!(in alloc;
-        "{operation} {source} {second} {destination} {amount} {function}"
-    )?;
-    Ok(Some(text))
+    [
+        op(word),
+        source,
+        second,
+        destination,
+        shamt(word),
+        funct(word),
+    ]
 }
 
 /// The functions of one word.
@@ -52,8 +49,16 @@ fn of_one(name: &str, word: u32) -> Option<u32> {
     }
 }
 
+/// The functions of two words.
+fn of_two(name: &str, a: u32, b: u32) -> Option<Answer> {
+    match to_one(name, a, b) {
+        Some(word) => Some(Answer::Number(word)),
+        None => to_two(name, a, b),
+    }
+}
+
 /// The functions of two words that make one, and of a word and a place in it.
-fn of_two(name: &str, a: u32, b: u32) -> Option<u32> {
+fn to_one(name: &str, a: u32, b: u32) -> Option<u32> {
     match name {
         "wrapping_sum" => Some(wrapping_sum(a, b)),
         "wrapping_difference" => Some(wrapping_difference(a, b)),
@@ -86,23 +91,23 @@ fn of_place(name: &str, word: u32, register: u32, place: u32) -> Option<u32> {
 }
 
 /// The functions of two words that make two, or that may make none.
-fn of_pair(alloc: Global, name: &str, a: u32, b: u32) -> Result<Option<String>, AllocError> {
+fn to_two(name: &str, a: u32, b: u32) -> Option<Answer> {
     let (high, low) = match name {
         "mul_signed" => mul_signed(a, b),
         "mul_unsigned" => mul_unsigned(a, b),
         "div_signed" => div_signed(a, b),
         "div_unsigned" => div_unsigned(a, b),
-        "checked_sum" => return told(alloc, checked_sum(a, b)),
-        "checked_difference" => return told(alloc, checked_difference(a, b)),
-        _ => return Ok(None),
+        "checked_sum" => return Some(told(checked_sum(a, b))),
+        "checked_difference" => return Some(told(checked_difference(a, b))),
+        _ => return None,
     };
-    Ok(Some(format!(in alloc; "{high:08x} {low:08x}")?))
+    Some(Answer::Two(high, low))
 }
 
 /// A word, or - for none.
-fn told(alloc: Global, word: Option<u32>) -> Result<Option<String>, AllocError> {
+fn told(word: Option<u32>) -> Answer {
     match word {
-        Some(word) => number(alloc, word),
-        None => said(alloc, "-"),
+        Some(word) => Answer::Number(word),
+        None => Answer::Said("-"),
     }
 }

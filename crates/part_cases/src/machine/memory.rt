@@ -80,11 +80,12 @@ pub fn filled(memory: &Memory, frame: u32) -> Option<u32> {
     }
     let bytes = memory.frame(frame);
     let first = bytes.first()?;
-    if bytes.iter().all(|byte| byte == first) {
-        Some(u32::from(*first))
-    } else {
-        Some(MIXED)
+    for byte in bytes.iter() {
+        if byte != first {
+            return Some(MIXED);
+        }
     }
+    Some(u32::from(*first))
 }
 
 /// How many frames are filled with a byte.

@@ -4,7 +4,7 @@ ghost use Rattle.std.specs.Prelude.{◌≡◌};
 use ds_core::Core;
 use ds_cp0::{Cp0, register};
 use ds_dev::Bus;
-use ds_tlb::{BadRandom, Entry, Lookaside};
+use ds_tlb::{Entry, Lookaside};
 
 /// Where the kernel's programs stand.
 pub const KERNEL: u32 = 0x8000_1000;
@@ -27,11 +27,11 @@ fn page(vpn: u32, pfn: u32, d: bool, v: bool) -> Entry {
 
 /// A buffer with the program's page, and after it a page that is not valid, a clean one, one
 /// where nothing is, and the serial lines; page 00406 in address space 2.
-fn new_tlb<L: Lookaside>() -> Result<L, BadRandom>
+fn new_tlb<L: Lookaside>() -> Option<L>
     requires slots { L.SLOTS ≡ 64 }
     requires wired { L.WIRED ≡ 8 }
 {
-    let mut tlb = L::new(63)?;
+    let mut tlb = L::new(63).ok()?;
     tlb.write(8, page(0x400, 1, true, true));
     tlb.write(9, page(0x401, 1, true, false));
     tlb.write(10, page(0x402, 1, false, true));
@@ -44,12 +44,12 @@ fn new_tlb<L: Lookaside>() -> Result<L, BadRandom>
             ..page(0x406, 1, true, true)
         },
     );
-    Ok(tlb)
+    Some(tlb)
 }
 
 /// A processor in address space 1 whose registers hold 7 but register 0, and register 8 what is
 /// asked for.
-pub fn new_core<L: Lookaside>(status: u32, pc: u32, eighth: u32) -> Result<Core<L>, BadRandom>
+pub fn new_core<L: Lookaside>(status: u32, pc: u32, eighth: u32) -> Option<Core<L>>
     requires slots { L.SLOTS ≡ 64 }
     requires wired { L.WIRED ≡ 8 }
 {
@@ -59,7 +59,7 @@ pub fn new_core<L: Lookaside>(status: u32, pc: u32, eighth: u32) -> Result<Core<
     let mut cp0 = Cp0::new();
     cp0.write(register::STATUS, status);
     cp0.write(register::ENTRY_HI, 0x40);
-    Ok(Core {
+    Some(Core {
         registers,
         hi: 0,
         lo: 0,

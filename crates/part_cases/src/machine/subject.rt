@@ -3,8 +3,9 @@ ghost use Rattle.std.specs.Prelude.{◌≡◌};
 
 use crate::machine::case::{numbers, step_of};
 use crate::machine::programs::{entry_behind, fault_of, registers_behind};
+use crate::machine::told::Answer;
 use crate::machine::words::{instruction_of, kind_of_all, operation_of, registers_of};
-use crate::machine::{arithmetic, bus, memory, system, told};
+use crate::machine::{arithmetic, bus, memory, system};
 use ds_cp0::Cp0;
 use ds_dev::Bus;
 use ds_tables::Tables;
@@ -120,21 +121,26 @@ impl Subject {
         };
         let operands = operands.as_slice();
         match self {
-            Subject::Arithmetic => arithmetic::answer(alloc, step, operands),
-            Subject::System => system::answer(alloc, &mut machine.cp0, step, operands),
-            Subject::Bus => bus::answer(alloc, &mut machine.bus, step, operands),
-            Subject::Memory => {
-                let memory = machine.bus.memory();
-                match memory::answer(memory, &mut machine.tables, step, operands) {
-                    Some(number) => told::number(alloc, number),
-                    None => Ok(None),
-                }
-            }
             Subject::Decoded | Subject::Registers | Subject::Operations | Subject::Rowless =>
                 self.of_words(alloc, operands),
-            Subject::Faults(_) | Subject::Late(_) | Subject::Entries(_) => {
-                self.of_program(alloc, &mut machine.bus, operands)
+            _ => match self.answer(machine, step, operands) {
+                Some(answer) => answer.to_string(alloc).map(Some),
+                None => Ok(None),
+            },
+        }
+    }
+
+    /// What comes of a step, or of a program.
+    fn answer(self, machine: &mut Machine, step: &str, operands: &[u32]) -> Option<Answer> {
+        match self {
+            Subject::Arithmetic => arithmetic::answer(step, operands),
+            Subject::System => system::answer(&mut machine.cp0, step, operands),
+            Subject::Bus => bus::answer(&mut machine.bus, step, operands),
+            Subject::Memory => {
+                let memory = machine.bus.memory();
+                memory::answer(memory, &mut machine.tables, step, operands).map(Answer::Number)
             }
+            _ => self.of_program(&mut machine.bus, operands),
         }
     }
 
@@ -150,37 +156,25 @@ impl Subject {
     }
 
     /// What comes of a case of a program.
-    fn of_program(
-        self,
-        alloc: Global,
-        bus: &mut Bus,
-        given: &[u32],
-    ) -> Result<Option<String>, AllocError> {
+    fn of_program(self, bus: &mut Bus, given: &[u32]) -> Option<Answer> {
         match self {
             Subject::Faults(Buffer::Searched)
             | Subject::Late(Buffer::Searched)
-            | Subject::Entries(Buffer::Searched) => {
-                self.of_program_over::<Tlb<64, 8>>(alloc, bus, given)
-            }
-            _ => self.of_program_over::<Indexed<64, 8>>(alloc, bus, given),
+            | Subject::Entries(Buffer::Searched) => self.over::<Tlb<64, 8>>(bus, given),
+            _ => self.over::<Indexed<64, 8>>(bus, given),
         }
     }
 
     /// What comes of a case of a program over a buffer.
-    fn of_program_over<L: Lookaside>(
-        self,
-        alloc: Global,
-        bus: &mut Bus,
-        given: &[u32],
-    ) -> Result<Option<String>, AllocError>
+    fn over<L: Lookaside>(self, bus: &mut Bus, given: &[u32]) -> Option<Answer>
         requires slots { L.SLOTS ≡ 64 }
         requires wired { L.WIRED ≡ 8 }
     {
         match self {
-            Subject::Faults(_) => fault_of::<L>(alloc, bus, given),
-            Subject::Late(_) => registers_behind::<L>(alloc, bus, given),
-            Subject::Entries(_) => entry_behind::<L>(alloc, bus, given),
-            _ => Ok(None),
+            Subject::Faults(_) => fault_of::<L>(bus, given),
+            Subject::Late(_) => registers_behind::<L>(bus, given),
+            Subject::Entries(_) => entry_behind::<L>(bus, given),
+            _ => None,
         }
     }
 }

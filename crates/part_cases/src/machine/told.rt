@@ -1,13 +1,70 @@
-//! Answers to steps, as texts.
+//! Answers, as the files of cases write them.
 
+use ds_cp0::ExceptionCode;
 use std::alloc::{AllocError, Global};
+use std::fmt;
 
-/// An answer of one word.
-pub fn said(alloc: Global, word: &str) -> Result<Option<String>, AllocError> {
-    Ok(Some(String::from_str(alloc, word)?))
+/// What comes of a case. Numbers have eight hexadecimal digits where nothing else is said.
+#[derive(Clone, Copy)]
+pub enum Answer {
+    /// A word.
+    Said(&'static str),
+    /// A number.
+    Number(u32),
+    /// Two numbers.
+    Two(u32, u32),
+    /// Four numbers.
+    Four(u32, u32, u32, u32),
+    /// The six fields of a word, in decimal digits.
+    Fields([u8; 6]),
+    /// A character that left: its line, and its byte in two digits.
+    Sent(u8, u8),
+    /// What registers read, each that does not read 0 behind its number.
+    Registers([u32; 32]),
+    /// A fault: its cause, EPC, BadVAddr, `BD` or -, and where the processor goes on.
+    Fault {
+        code: ExceptionCode,
+        epc: u32,
+        address: u32,
+        slot: &'static str,
+        pc: u32,
+    },
 }
 
-/// An answer of one number, in eight hexadecimal digits.
-pub fn number(alloc: Global, number: u32) -> Result<Option<String>, AllocError> {
-    Ok(Some(format!(in alloc; "{number:08x}")?))
+impl fmt::Display for Answer {
+    fn fmt<W: fmt::Write>(&self, f: &mut fmt::Formatter<W>) -> fmt::Result {
+        match self {
+            Answer::Said(word) => write!(f, "{word}"),
+            Answer::Number(number) => write!(f, "{number:08x}"),
+            Answer::Two(a, b) => write!(f, "{a:08x} {b:08x}"),
+            Answer::Four(a, b, c, d) => write!(f, "{a:08x} {b:08x} {c:08x} {d:08x}"),
+            Answer::Fields([a, b, c, d, e, g]) => write!(f, "{a} {b} {c} {d} {e} {g}"),
+            Answer::Sent(line, byte) => write!(f, "{line} {byte:02x}"),
+            Answer::Registers(values) => write_registers(f, values),
+            Answer::Fault {
+                code,
+                epc,
+                address,
+                slot,
+                pc,
+            } => write!(f, "{code:?} {epc:08x} {address:08x} {slot} {pc:08x}"),
+        }
+    }
+}
+
+/// Writes the registers that do not read 0, with a blank between.
+fn write_registers<W: fmt::Write>(f: &mut fmt::Formatter<W>, values: &[u32; 32]) -> fmt::Result {
+    let mut between = "";
+    for (number, value) in values.iter().enumerate() {
+        if *value != 0 {
+            write!(f, "{between}{number:x} {value:08x}")?;
+            between = " ";
+        }
+    }
+    Ok(())
+}
+
+/// An answer of one word, as a text.
+pub fn said(alloc: Global, word: &str) -> Result<Option<String>, AllocError> {
+    Ok(Some(String::from_str(alloc, word)?))
 }

@@ -4,6 +4,7 @@ ghost use Rattle.std.specs.Prelude.{◌≡◌, ◌+◌, ◌≤◌};
 use crate::programs::machine::Machine;
 use crate::programs::random::Reached;
 use ds_core::Core;
+use ds_cp0::Cp0;
 use ds_dev::Bus;
 use ds_tlb::Lookaside;
 
@@ -76,8 +77,16 @@ pub fn are_frames_alike(a: &mut Bus, b: &mut Bus, first: u32, count: u32) -> boo
 fn are_cores_alike<A: Lookaside, B: Lookaside>(a: &Core<A>, b: &Core<B>) -> bool {
     let registers = a.registers == b.registers && a.hi == b.hi && a.lo == b.lo && a.late == b.late;
     let place = a.pc == b.pc && a.next == b.next && a.slot == b.slot;
-    let system = (0..16u8).all(|number| a.cp0.read(number) == b.cp0.read(number));
-    registers && place && system
+    registers && place && are_systems_alike(&a.cp0, &b.cp0)
+}
+
+/// Whether two system coprocessors have the same registers.
+fn are_systems_alike(a: &Cp0, b: &Cp0) -> bool {
+    let mut alike = true;
+    for number in 0..16u8 {
+        alike = alike && a.read(number) == b.read(number);
+    }
+    alike
 }
 
 /// Whether two buffers hold the same entries, and have the same Random.
