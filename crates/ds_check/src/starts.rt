@@ -16,8 +16,8 @@ pub struct AssembledSources<'a> {
     pub images: &'a [Image],
 }
 
-/// Where each process starts: its start; the line of a source that stands there, if there is one, and
-/// the first label there; and how many entries the process has.
+/// Where each process starts: its start; the line of a source that stands there, if there is one,
+/// and the first label there; and how many entries the process has.
 pub fn starts_text<'a>(
     alloc: Global,
     policy: &Policy,

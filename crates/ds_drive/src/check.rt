@@ -127,9 +127,9 @@ fn push_findings(text: &mut Vec<u8>, found: &Findings) -> Result<(), AllocError>
 }
 
 /// Reads the policy, the input and each source, as a run would, and writes what they mean: the
-/// permission table at the start, what is near a limit, what comes when, and where each process starts;
-/// and then the notes. Where there are notes, and the words take notes for faults, it answers them,
-/// and nothing is written.
+/// permission table at the start, what is near a limit, what comes when, and where each process
+/// starts; and then the notes. Where there are notes, and the words take notes for faults, it
+/// answers them, and nothing is written.
 pub fn check_files<'a, F: Files, W: Write>(
     alloc: Global,
     request: &CheckRequest<'a>,
