@@ -5,7 +5,6 @@ use ds_policy::Text;
 use ds_station::Fault;
 use std::alloc::{AllocError, Global};
 use std::io::Write;
-use std::process::Abort;
 use std::test::Fail;
 use std::{fs, io};
 
@@ -214,23 +213,29 @@ dsmon check --help|  00400000 read  code, part 0 of guest.s, rule 1
 /// Whether words are answered with status 1 and without output, and are told what is wanted.
 fn is_told(alloc: Global, words: &str, wanted: &str) -> Result<bool, AllocError> {
     let answer = answer_to(alloc, words, &[])?;
-    match String::from_utf8(answer.err) {
-        Ok(text) => {
-            let is_in = text.as_str().contains(wanted);
-            Ok(answer.status == 1 && answer.out.is_empty() && is_in)
-        }
-        Err(_) => Ok(false),
+    let is_in = match std::str::from_utf8(answer.err.as_slice()) {
+        Ok(text) => text.contains(wanted),
+        Err(_) => false,
+    };
+    Ok(answer.status == 1 && answer.out.is_empty() && is_in)
+}
+
+/// Whether the words of a line are told what stands behind its bar.
+fn is_line_told(alloc: Global, line: &str) -> Result<bool, AllocError> {
+    match line.split_once('|') {
+        Some((words, wanted)) => is_told(alloc, words, wanted),
+        None => Ok(false),
     }
 }
 
 #[test]
-fn words_that_run_nothing_are_told_why(rt: HostRuntime) -> Result<(), Fail> {
+fn words_that_run_nothing_are_told_why(rt: HostRuntime) -> Result<(), AllocError> {
+    let mut right = true;
     for line in TOLD_WORDS.lines() {
-        let (words, wanted) = line.split_once('|').ok_or("a bar")?;
-        assert!(rt; is_told(rt.alloc(), words, wanted)?, "{line}");
+        right = is_line_told(rt.alloc(), line)? && right;
     }
     let answer = answer_to(rt.alloc(), "dsmon --version", &[])?;
-    assert!(rt; answer.err.ends_with(b"dsmon 0.1.0\n"));
+    assert!(rt; right && answer.err.ends_with(b"dsmon 0.1.0\n"));
     Ok(())
 }
 
@@ -246,39 +251,37 @@ fn is_run(alloc: Global, line: &str, asked: &str) -> Result<bool, AllocError> {
 /// The demonstration asks for no file; a run asks for the policy, the input and the sources in this
 /// order.
 #[test]
-fn a_run_asks_for_its_files_and_writes_its_text(rt: HostRuntime) -> Result<(), Fail> {
-    assert!(rt; is_run(rt.alloc(), DEMO, "")?);
-    assert!(rt; is_run(rt.alloc(), RUN, "p.toml\nin.txt\none.s\n")?);
+fn a_run_asks_for_its_files_and_writes_its_text(rt: HostRuntime) -> Result<(), AllocError> {
+    let demo = is_run(rt.alloc(), DEMO, "")?;
+    let run = is_run(rt.alloc(), RUN, "p.toml\nin.txt\none.s\n")?;
+    assert!(rt; demo && run);
     Ok(())
 }
 
 #[test]
-fn a_file_that_can_not_be_read_is_told_by_its_name(rt: HostRuntime) -> Result<(), Fail> {
+fn a_file_that_can_not_be_read_is_told_by_its_name(rt: HostRuntime) -> Result<(), AllocError> {
     let mut words = words_of(rt.alloc(), "dsmon run policy.toml in.txt 9")?;
     if let Some(word) = words.get_mut(2) {
         *word = String::from_str(rt.alloc(), "no such policy.toml")?;
     }
     let answer = answer_to_words(rt.alloc(), words.as_slice(), &[])?;
-    assert_eq!(rt;
-        (answer.status, answer.err.as_slice()),
-        (2, b"dsmon: 26 Unreadable no such policy.toml\n".as_slice())
-    );
+    let told = b"dsmon: 26 Unreadable no such policy.toml\n".as_slice();
+    assert!(rt; answer.status == 2 && answer.err.as_slice() == told);
     Ok(())
 }
 
-/// The status and the text of words that could not be had.
-fn refused_words(alloc: Global, kind: io::ErrorKind) -> (u8, Vec<u8>) {
+/// Whether words that could not be had are told so, with a status.
+fn are_refused(alloc: Global, kind: io::ErrorKind, status: u8, told: &[u8]) -> bool {
     let mut err: Vec<u8> = Vec::new(alloc);
-    let status = refuse_words(&mut err, kind);
-    (status, err)
+    refuse_words(&mut err, kind) == status && err.as_slice() == told
 }
 
 #[test]
 fn words_that_could_not_be_had_are_told(rt: HostRuntime) {
-    let (status, err) = refused_words(rt.alloc(), io::ErrorKind::OutOfMemory);
-    assert!(rt; status == 3 && err.as_slice() == NO_MEMORY);
-    let (status, err) = refused_words(rt.alloc(), io::ErrorKind::InvalidData);
-    assert!(rt; status == 1 && err.as_slice() == b"dsmon: the words are no text\n".as_slice());
+    let no_text = b"dsmon: the words are no text\n".as_slice();
+    let exhausted = are_refused(rt.alloc(), io::ErrorKind::OutOfMemory, 3, NO_MEMORY);
+    let garbled = are_refused(rt.alloc(), io::ErrorKind::InvalidData, 1, no_text);
+    assert!(rt; exhausted && garbled);
 }
 
 #[test]
@@ -287,19 +290,19 @@ fn a_file_of_the_system_is_read_whole_and_one_that_is_not_there_is_not(
 ) -> Result<(), Fail> {
     let name = format!(in rt.alloc(); "/tmp/dsmon-test-{}", std::process::id(rt.process()))?;
     let mut files = SystemFiles::new(&rt);
-    assert!(rt; files.read(rt.alloc(), name.as_str()).is_err());
+    let none = files.read(rt.alloc(), name.as_str()).is_err();
     fs::write(&rt, name.as_str(), b"frames = 16\n")?;
-    let bytes = files.read(rt.alloc(), name.as_str());
-    fs::remove_file(&rt, name.as_str())?;
-    let Ok(bytes) = bytes else {
-        return Err(Fail::from("it was not read"));
+    let whole = match files.read(rt.alloc(), name.as_str()) {
+        Ok(bytes) => bytes.as_slice() == b"frames = 16\n".as_slice(),
+        Err(_) => false,
     };
-    assert_eq!(rt; bytes.as_slice(), b"frames = 16\n".as_slice());
+    fs::remove_file(&rt, name.as_str())?;
+    assert!(rt; none && whole);
     Ok(())
 }
 
-/// What a run answers whose source has so many bytes that say nothing.
-fn answer_to_long_source(alloc: Global, count: usize) -> Result<Answer, AllocError> {
+/// Whether a run whose source has so many bytes that say nothing is refused so.
+fn is_refused(alloc: Global, count: usize, told: &[u8]) -> Result<bool, AllocError> {
     let mut text: Vec<u8> = Vec::new(alloc);
     text.resize(count, b'x')?;
     let files = [
@@ -307,19 +310,15 @@ fn answer_to_long_source(alloc: Global, count: usize) -> Result<Answer, AllocErr
         ("one.s", text.as_slice()),
         ("p.toml", POLICY.as_bytes()),
     ];
-    answer_to(alloc, RUN, &files)
+    let answer = answer_to(alloc, RUN, &files)?;
+    Ok(answer.status == 2 && answer.err.as_slice() == told)
 }
 
 #[test]
-fn a_source_has_at_most_16777216_bytes(rt: HostRuntime) -> Result<(), Fail> {
-    for (count, wanted) in [
-        (16_777_216, "dsmon: 3 Syntax one.s 1\n"),
-        (16_777_217, "dsmon: 26 Unreadable one.s\n"),
-    ] {
-        let answer = answer_to_long_source(rt.alloc(), count)?;
-        assert_eq!(rt; answer.err.as_slice(), wanted.as_bytes());
-        assert_eq!(rt; answer.status, 2);
-    }
+fn a_source_has_at_most_16777216_bytes(rt: HostRuntime) -> Result<(), AllocError> {
+    let read = is_refused(rt.alloc(), 16_777_216, b"dsmon: 3 Syntax one.s 1\n")?;
+    let unread = is_refused(rt.alloc(), 16_777_217, b"dsmon: 26 Unreadable one.s\n")?;
+    assert!(rt; read && unread);
     Ok(())
 }
 
@@ -328,8 +327,8 @@ const WRITE_FAULT: &[u8] = b"dsmon: 23 WriteFault\n";
 
 const NO_MEMORY: &[u8] = b"dsmon: 25 Memory\n";
 
-/// The status of a command whose output is closed, and what it tells.
-fn answer_closed(alloc: Global, line: &str) -> Result<(u8, Vec<u8>), AllocError> {
+/// Whether a command whose output is closed tells so, and no more where that is all.
+fn is_write_fault(alloc: Global, line: &str, is_all: bool) -> Result<bool, AllocError> {
     let words = words_of(alloc, line)?;
     let files = files_with(INPUT, SOURCE);
     let mut held = Held {
@@ -338,7 +337,7 @@ fn answer_closed(alloc: Global, line: &str) -> Result<(u8, Vec<u8>), AllocError>
     };
     let mut err: Vec<u8> = Vec::new(alloc);
     let status = drive(alloc, words.as_slice(), &mut held, &mut Closed, &mut err);
-    Ok((status, err))
+    Ok(status == 3 && is_line(&err, WRITE_FAULT, is_all))
 }
 
 /// Whether a text begins with a line, or is the line.
@@ -348,7 +347,8 @@ fn is_line(text: &[u8], line: &[u8], is_all: bool) -> bool {
 
 /// A command, and whether the line of its fault is all that is told.
 #[test]
-fn an_output_that_is_closed_is_a_write_fault(rt: HostRuntime) -> Result<(), Fail> {
+fn an_output_that_is_closed_is_a_write_fault(rt: HostRuntime) -> Result<(), AllocError> {
+    let mut right = true;
     for (line, is_all) in [
         (RUN, true),
         (DEMO, true),
@@ -357,14 +357,15 @@ fn an_output_that_is_closed_is_a_write_fault(rt: HostRuntime) -> Result<(), Fail
         (CHECK, false),
         (CHECK_POLICY, false),
     ] {
-        let (status, err) = answer_closed(rt.alloc(), line)?;
-        assert!(rt; status == 3 && is_line(&err, WRITE_FAULT, is_all), "{line}");
+        right = is_write_fault(rt.alloc(), line, is_all)? && right;
     }
+    assert!(rt; right);
     Ok(())
 }
 
-/// The status of a command whose error stream is closed, and whether it writes nothing.
-fn answer_untold(alloc: Global, line: &str, source: &str) -> Result<(u8, bool), AllocError> {
+/// Whether a command whose error stream is closed has this status, and writes something where that
+/// is 0.
+fn is_untold(alloc: Global, line: &str, source: &str, wanted: u8) -> Result<bool, AllocError> {
     let words = words_of(alloc, line)?;
     let files = files_with(INPUT, source);
     let mut held = Held {
@@ -373,11 +374,12 @@ fn answer_untold(alloc: Global, line: &str, source: &str) -> Result<(u8, bool), 
     };
     let mut out: Vec<u8> = Vec::new(alloc);
     let status = drive(alloc, words.as_slice(), &mut held, &mut out, &mut Closed);
-    Ok((status, out.is_empty()))
+    Ok(status == wanted && out.is_empty() == (wanted != 0))
 }
 
 #[test]
-fn a_closed_error_stream_changes_no_answer(rt: HostRuntime) -> Result<(), Fail> {
+fn a_closed_error_stream_changes_no_answer(rt: HostRuntime) -> Result<(), AllocError> {
+    let mut right = true;
     for (line, source, wanted) in [
         (LIST, BAD_SOURCE, 2),
         (CHECK, BAD_SOURCE, 2),
@@ -388,14 +390,16 @@ fn a_closed_error_stream_changes_no_answer(rt: HostRuntime) -> Result<(), Fail> 
         (LIST, SOURCE, 0),
         (CHECK, SOURCE, 0),
     ] {
-        let answer = answer_untold(rt.alloc(), line, source)?;
-        assert_eq!(rt; answer, (wanted, wanted != 0), "{line}");
+        right = is_untold(rt.alloc(), line, source, wanted)? && right;
     }
+    assert!(rt; right);
     Ok(())
 }
 
 #[test]
-fn a_demonstration_whose_streams_are_closed_is_a_write_fault(rt: HostRuntime) -> Result<(), Fail> {
+fn a_demonstration_whose_streams_are_closed_is_a_write_fault(
+    rt: HostRuntime,
+) -> Result<(), AllocError> {
     let words = words_of(rt.alloc(), DEMO)?;
     let mut files = Exhausted { before: 0 };
     let status = drive(
@@ -405,29 +409,26 @@ fn a_demonstration_whose_streams_are_closed_is_a_write_fault(rt: HostRuntime) ->
         &mut Closed,
         &mut Closed,
     );
-    assert_eq!(rt; status, 3);
+    assert!(rt; status == 3);
     Ok(())
 }
 
-/// What a command answers where there is no memory after so many files.
-fn answer_exhausted(alloc: Global, line: &str, before: u32) -> Result<Answer, AllocError> {
+/// Whether a command writes nothing where there is no memory after so many files, and tells so, and
+/// no more where that is all.
+fn is_exhausted(alloc: Global, line: &str, before: u32, is_all: bool) -> Result<bool, AllocError> {
     let words = words_of(alloc, line)?;
     let mut files = Exhausted { before };
     let mut out: Vec<u8> = Vec::new(alloc);
     let mut err: Vec<u8> = Vec::new(alloc);
     let status = drive(alloc, words.as_slice(), &mut files, &mut out, &mut err);
-    Ok(Answer {
-        status,
-        out,
-        err,
-        asked: String::new(alloc),
-    })
+    Ok(status == 3 && out.is_empty() && is_line(&err, NO_MEMORY, is_all))
 }
 
 /// A command, after how many files there is no memory, and whether the line of its fault is all
 /// that is told.
 #[test]
-fn want_of_memory_for_a_file_is_status_3(rt: HostRuntime) -> Result<(), Fail> {
+fn want_of_memory_for_a_file_is_status_3(rt: HostRuntime) -> Result<(), AllocError> {
+    let mut right = true;
     for (line, before, is_all) in [
         (RUN, 0, true),
         (RUN, 1, true),
@@ -438,14 +439,9 @@ fn want_of_memory_for_a_file_is_status_3(rt: HostRuntime) -> Result<(), Fail> {
         (CHECK, 1, false),
         (CHECK, 2, false),
     ] {
-        let answer = answer_exhausted(rt.alloc(), line, before)?;
-        assert_eq!(rt;
-            (answer.status, answer.out.is_empty()),
-            (3, true),
-            "{line} {before}"
-        );
-        assert!(rt; is_line(&answer.err, NO_MEMORY, is_all), "{line} {before}");
+        right = is_exhausted(rt.alloc(), line, before, is_all)? && right;
     }
+    assert!(rt; right);
     Ok(())
 }
 
@@ -459,64 +455,97 @@ fn is_told_as(alloc: Global, fault: Fault, status: u8, line: &str) -> bool {
 fn a_fault_that_no_run_of_files_reaches_is_told_in_its_line(rt: HostRuntime) {
     let alloc = rt.alloc();
     let source = Fault::NoSource(Text::of("one.s"));
-    assert!(rt; is_told_as(alloc, Fault::Stuck, 3, "dsmon: 21 Stuck\n"));
-    assert!(rt; is_told_as(alloc, Fault::Failed, 3, "dsmon: 22 Failed\n"));
-    assert!(rt; is_told_as(alloc, source, 2, "dsmon: 24 NoSource one.s\n"));
+    let stuck = is_told_as(alloc, Fault::Stuck, 3, "dsmon: 21 Stuck\n");
+    let failed = is_told_as(alloc, Fault::Failed, 3, "dsmon: 22 Failed\n");
+    let no_source = is_told_as(alloc, source, 2, "dsmon: 24 NoSource one.s\n");
+    assert!(rt; stuck && failed && no_source);
+}
+
+/// Whether what is told of a failure is its text.
+fn is_told_by_its_text<'a>(alloc: Global, failure: Failure<'a>) -> Result<bool, AllocError> {
+    let mut err: Vec<u8> = Vec::new(alloc);
+    let _ = tell(&mut err, &failure);
+    let line = format!(in alloc; "dsmon: {failure}\n")?;
+    Ok(err.as_slice() == line.as_bytes())
+}
+
+/// Whether what is told of a fault is its text.
+fn is_fault_told(alloc: Global, fault: Fault) -> Result<bool, AllocError> {
+    is_told_by_its_text(alloc, Failure::Fault(fault))
 }
 
 #[test]
-fn the_text_of_a_failure_is_what_is_told_of_it(rt: HostRuntime) -> Result<(), Fail> {
-    let in_source = |name, fault| Fault::InSource {
-        name: Text::of(name),
-        fault,
-    };
+fn the_text_of_a_failure_is_what_is_told_of_it(rt: HostRuntime) -> Result<(), AllocError> {
+    let mut right = true;
     for failure in [
         Failure::UnreadableFile("a file.toml"),
         Failure::UnreadableSource(Text::of("one.s")),
-        Failure::Fault(Fault::BadRandom),
-        Failure::Fault(in_source("one.s", SourceFault::Syntax(7))),
-        Failure::Fault(in_source("", SourceFault::UnknownLabel(16_777_217))),
-        Failure::Fault(Fault::BadToml),
-        Failure::Fault(Fault::BadRule(999)),
-        Failure::Fault(Fault::Limit("frames")),
-        Failure::Fault(Fault::InputFault(12)),
-        Failure::Fault(Fault::Stuck),
-        Failure::Fault(Fault::Failed),
-        Failure::Fault(Fault::WriteFault),
-        Failure::Fault(Fault::NoSource(Text::of("two.s"))),
-        Failure::Fault(Fault::Memory),
     ] {
-        let mut err: Vec<u8> = Vec::new(rt.alloc());
-        let _ = tell(&mut err, &failure);
-        let line = format!(in rt.alloc(); "dsmon: {failure}\n")?;
-        assert_eq!(rt; err.as_slice(), line.as_bytes(), "{line}");
+        right = is_told_by_its_text(rt.alloc(), failure)? && right;
     }
+    for fault in [
+        Fault::BadRandom,
+        Fault::BadToml,
+        Fault::BadRule(999),
+        Fault::Limit("frames"),
+        Fault::InputFault(12),
+        Fault::Stuck,
+        Fault::Failed,
+        Fault::WriteFault,
+        Fault::NoSource(Text::of("two.s")),
+        Fault::Memory,
+    ] {
+        right = is_fault_told(rt.alloc(), fault)? && right;
+    }
+    assert!(rt; right);
     Ok(())
+}
+
+/// Whether what is told of a source's fault is its text.
+fn is_source_told(alloc: Global, name: Text<64>, fault: SourceFault) -> Result<bool, AllocError> {
+    is_fault_told(alloc, Fault::InSource { name, fault })
+}
+
+#[test]
+fn the_text_of_a_sources_fault_is_what_is_told_of_it(rt: HostRuntime) -> Result<(), AllocError> {
+    let named = is_source_told(rt.alloc(), Text::of("one.s"), SourceFault::Syntax(7))?;
+    let fault = SourceFault::UnknownLabel(16_777_217);
+    let nameless = is_source_told(rt.alloc(), Text::of(""), fault)?;
+    assert!(rt; named && nameless);
+    Ok(())
+}
+
+/// Whether an answer is a text, or want of memory with nothing written.
+fn is_text_or_memory(answer: &Answer) -> bool {
+    match answer.status {
+        0 => !answer.out.is_empty(),
+        3 => answer.out.is_empty(),
+        _ => false,
+    }
 }
 
 /// Whether the command is answered twice by one text, or once by the text and once by want of
 /// memory with nothing written. The harness itself may be what lacks memory.
-fn is_whole_or_memory(rt: &impl Abort, alloc: Global, line: &str) -> Result<bool, AllocError> {
+fn is_whole_or_memory(alloc: Global, line: &str) -> Result<bool, AllocError> {
     let files = files_with(INPUT, SOURCE);
     let first = answer_to(alloc, line, &files)?;
     let second = answer_to(alloc, line, &files)?;
-    for answer in [&first, &second] {
-        assert!(rt; answer.status == 0 || answer.status == 3, "{line}");
-        assert_eq!(rt; answer.out.is_empty(), answer.status == 3, "{line}");
-    }
-    Ok(
-        (first.status == 0 && second.status == 3)
-            || (first.status == 3 && second.status == 0)
-            || (first.status == 0 && second.status == 0 && first.out == second.out),
-    )
+    let is_alike = match (first.status, second.status) {
+        (0, 3) | (3, 0) => true,
+        (0, 0) => first.out.as_slice() == second.out.as_slice(),
+        _ => false,
+    };
+    Ok(is_alike && is_text_or_memory(&first) && is_text_or_memory(&second))
 }
 
 /// This passes whichever growth is refused: `rt try --test --fail-alloc N`.
 #[test]
 fn for_want_of_memory_nothing_is_listed_or_explained(rt: HostRuntime) {
+    let mut right = true;
     for line in [LIST, LIST_WORDS, CHECK] {
-        if let Ok(is_so) = is_whole_or_memory(&rt, rt.alloc(), line) {
-            assert!(rt; is_so, "{line}");
+        if let Ok(is_so) = is_whole_or_memory(rt.alloc(), line) {
+            right = right && is_so;
         }
     }
+    assert!(rt; right);
 }

@@ -2,8 +2,7 @@
 use ds_drive::{FileFault, Files};
 use ds_rows::{run_rows, run_tables};
 use std::alloc::Global;
-use std::process::Abort;
-use std::test::Fail;
+use std::io;
 
 /// Files in memory: names with their texts.
 #[derive(Clone, Copy)]
@@ -47,15 +46,14 @@ log 1
 time 20
 ";
 
-/// Runs what an index says, by one of the two calls, and compares status and text.
-fn check<'a>(
-    rt: &impl Abort,
+/// Runs what an index says, by one of the two calls; whether status and text are those wanted.
+fn is_told<'a>(
     alloc: Global,
     index: &'a str,
     cases: &'a str,
     status: u8,
     wanted: &str,
-) -> Result<(), Fail> {
+) -> io::Result<bool> {
     let held = [
         ("index", index),
         ("a/policy", POLICY),
@@ -73,23 +71,22 @@ fn check<'a>(
     } else {
         run_tables(alloc, "index", files, &mut out, &mut err)?
     };
-    assert_eq!(rt; std::str::from_utf8(&out)?, wanted);
-    assert_eq!(rt; came, status);
-    Ok(())
+    Ok(came == status && out.as_slice() == wanted.as_bytes())
 }
 
 #[test]
-fn rows_that_come_to_status_and_text_are_as_expected(rt: HostRuntime) -> Result<(), Fail> {
+fn rows_that_come_to_status_and_text_are_as_expected(rt: HostRuntime) -> io::Result<()> {
     let index = "a 0 written run policy nothing 20\na 2 refused run policy stop 20\n";
     let wanted = "\
 a 0 written run policy nothing 20: as expected
 a 2 refused run policy stop 20: as expected
 ";
-    check(&rt, rt.alloc(), index, "", 0, wanted)
+    assert!(rt; is_told(rt.alloc(), index, "", 0, wanted)?);
+    Ok(())
 }
 
 #[test]
-fn each_other_row_is_told(rt: HostRuntime) -> Result<(), Fail> {
+fn each_other_row_is_told(rt: HostRuntime) -> io::Result<()> {
     let index = "\
 a 0 refused run policy stop 20
 a 2 written run policy nothing 20
@@ -108,11 +105,12 @@ a 0 missing run policy nothing 20: a file can't be read
 a 0: words are missing, or the cases have no form
 a 0 written run policy nothing 20: as expected
 ";
-    check(&rt, rt.alloc(), index, "", 1, wanted)
+    assert!(rt; is_told(rt.alloc(), index, "", 1, wanted)?);
+    Ok(())
 }
 
 #[test]
-fn the_cases_of_a_table_are_counted(rt: HostRuntime) -> Result<(), Fail> {
+fn the_cases_of_a_table_are_counted(rt: HostRuntime) -> io::Result<()> {
     let cases = "# Inputs.
 
 == a command that names no process
@@ -138,11 +136,12 @@ time 20
 ";
     let index = "a input cases run policy input 20\n";
     let wanted = "a input cases run policy input 20: 3 as expected\n";
-    check(&rt, rt.alloc(), index, cases, 0, wanted)
+    assert!(rt; is_told(rt.alloc(), index, cases, 0, wanted)?);
+    Ok(())
 }
 
 #[test]
-fn each_other_case_is_told(rt: HostRuntime) -> Result<(), Fail> {
+fn each_other_case_is_told(rt: HostRuntime) -> io::Result<()> {
     let cases = "\
 == a command that names no process
 1 stop
@@ -165,25 +164,31 @@ a comment that writes something: the first 10 bytes are as expected, and no more
 nothing is said of it: words are missing, or the cases have no form
 ";
     let index = "a input cases run policy input 20\n";
-    check(&rt, rt.alloc(), index, cases, 1, wanted)
+    assert!(rt; is_told(rt.alloc(), index, cases, 1, wanted)?);
+    Ok(())
 }
 
+/// Cases that have no form: lines outside a case, wrong escapes, and a text behind what is wanted.
+const FORMLESS: [&str; 7] = [
+    "text\n",
+    "== a\n\\y\n-- ok\n",
+    "== a\n\\x\n-- ok\n",
+    "== a\n\\x4\n-- ok\n",
+    "== a\n\\xg0\n-- ok\n",
+    "== a\n-- ok\nmore\n",
+    "== a\n-- 3 Syntax one.s 1\nmore\n",
+];
+
 #[test]
-fn a_wrong_escape_and_a_line_outside_a_case_have_no_form(rt: HostRuntime) -> Result<(), Fail> {
+fn a_wrong_escape_and_a_line_outside_a_case_have_no_form(rt: HostRuntime) -> io::Result<()> {
     let index = "a input cases run policy input 20\n";
     let wanted = "\
 a input cases run policy input 20: words are missing, or the cases have no form
 ";
-    for cases in [
-        "text\n",
-        "== a\n\\y\n-- ok\n",
-        "== a\n\\x\n-- ok\n",
-        "== a\n\\x4\n-- ok\n",
-        "== a\n\\xg0\n-- ok\n",
-        "== a\n-- ok\nmore\n",
-        "== a\n-- 3 Syntax one.s 1\nmore\n",
-    ] {
-        check(&rt, rt.alloc(), index, cases, 1, wanted)?;
+    let mut right = true;
+    for cases in FORMLESS {
+        right = is_told(rt.alloc(), index, cases, 1, wanted)? && right;
     }
+    assert!(rt; right);
     Ok(())
 }

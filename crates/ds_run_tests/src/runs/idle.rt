@@ -13,52 +13,64 @@ const TIMES: [u32; 3] = [10, 1_000_000, 999_999_000];
 const LATEST: u64 = 1_000_000_000;
 
 /// What a run writes of so many characters, which it ends at a time.
-fn text_of(alloc: Global, put: &str, time: u64) -> Result<String, Fail> {
+fn text_of(alloc: Global, put: &str, time: u64) -> Result<String, AllocError> {
     let count = put.len();
-    Ok(format!(in alloc;
+    format!(in alloc;
         "console 0 {count}\n{put}\nconsole 1 0\n\nconsole 2 0\n\nconsole 3 0\n\nlog 0\ntime {time}\n"
-    )?)
+    )
 }
 
-/// Compares what comes of a run for n, in which a character comes at a time, with what was wanted.
-fn check_late(
-    rt: &impl Abort,
-    alloc: Global,
-    rate: u32,
-    time: u64,
-    n: u64,
-    wanted: &str,
-) -> Result<(), Fail> {
-    let policy = format!(in alloc; "rate = {rate}\n{POLICY}")?;
-    let input = format!(in alloc; "{time} key 0 41\n")?;
+/// A policy and an input of runs.
+#[derive(Clone, Copy)]
+struct Inputs<'a> {
+    policy: &'a str,
+    input: &'a str,
+}
+
+/// Whether a run of these for n writes what is wanted.
+fn writes<'a>(alloc: Global, inputs: Inputs<'a>, n: u64, wanted: &str) -> Result<bool, AllocError> {
     let run = Run {
-        policy: policy.as_bytes(),
+        policy: inputs.policy.as_bytes(),
         sources: &[("one.s", WAITS)],
-        input: input.as_bytes(),
+        input: inputs.input.as_bytes(),
         n,
         random: 63,
     };
-    check(rt, alloc, run, wanted)
+    comes(alloc, run, wanted)
 }
 
-/// Compares runs that end where the character comes, where it was put, and later.
-fn check_at(rt: &impl Abort, alloc: Global, rate: u32, time: u32) -> Result<(), Fail> {
+/// Whether runs are right that end where the character comes, where it was put, and later.
+fn is_put(alloc: Global, rate: u32, time: u32) -> Result<bool, AllocError> {
+    let policy = format!(in alloc; "rate = {rate}\n{POLICY}")?;
+    let input = format!(in alloc; "{time} key 0 41\n")?;
+    let inputs = Inputs {
+        policy: policy.as_str(),
+        input: input.as_str(),
+    };
     let time = u64::from(time);
     let end = time + 7;
     let before = text_of(alloc, "", time)?;
     let after = text_of(alloc, "A", end)?;
-    check_late(rt, alloc, rate, time, time, before.as_str())?;
-    check_late(rt, alloc, rate, time, end, after.as_str())?;
-    check_late(rt, alloc, rate, time, LATEST, after.as_str())
+    let waited = writes(alloc, inputs, time, before.as_str())?;
+    let was_put = writes(alloc, inputs, end, after.as_str())?;
+    Ok(writes(alloc, inputs, LATEST, after.as_str())? && waited && was_put)
+}
+
+/// Whether the character is put at each rate of the clock.
+fn is_put_at_each_rate(alloc: Global, time: u32) -> Result<bool, AllocError> {
+    let mut right = is_put(alloc, 0, time)?;
+    for rate in 3..16 {
+        right = is_put(alloc, rate, time)? && right;
+    }
+    Ok(right)
 }
 
 #[test]
-fn a_character_comes_after_many_idle_ticks(rt: HostRuntime) -> Result<(), Fail> {
+fn a_character_comes_after_many_idle_ticks(rt: HostRuntime) -> Result<(), AllocError> {
+    let mut right = true;
     for time in TIMES {
-        check_at(&rt, rt.alloc(), 0, time)?;
-        for rate in 3..16 {
-            check_at(&rt, rt.alloc(), rate, time)?;
-        }
+        right = is_put_at_each_rate(rt.alloc(), time)? && right;
     }
+    assert!(rt; right);
     Ok(())
 }

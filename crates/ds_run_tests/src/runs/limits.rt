@@ -2,15 +2,14 @@
 
 use super::*;
 
-/// Compares what comes of a run for 100 ticks with what was wanted of it.
-fn check_large(
-    rt: &impl Abort,
+/// Whether what comes of a run for 100 ticks is what was wanted of it.
+fn comes_of(
     alloc: Global,
     policy: &[u8],
     source: &[u8],
     input: &[u8],
     wanted: &str,
-) -> Result<(), Fail> {
+) -> Result<bool, AllocError> {
     let sources = [("one.s", source)];
     let run = Run {
         policy,
@@ -19,7 +18,7 @@ fn check_large(
         n: 100,
         random: 63,
     };
-    check(rt, alloc, run, wanted)
+    comes(alloc, run, wanted)
 }
 
 /// A rule that lets the process read its code.
@@ -27,17 +26,17 @@ const READ_CODE: &str =
     "[[rule]]\nprocess = 1\naddress = 0x00400000\nright = \"read\"\npage = \"code\"\n";
 
 #[test]
-fn a_policy_of_ten_thousand_rules_has_too_many(rt: HostRuntime) -> Result<(), Fail> {
+fn a_policy_of_ten_thousand_rules_has_too_many(rt: HostRuntime) -> Result<(), AllocError> {
     let mut policy = String::from_str(rt.alloc(), POLICY)?;
     for _ in 1..10_000 {
         policy.push_str(READ_CODE)?;
     }
-    let policy = policy.as_bytes();
-    check_large(&rt, rt.alloc(), policy, b"", b"", "10 Limit rule")
+    assert!(rt; comes_of(rt.alloc(), policy.as_bytes(), b"", b"", "10 Limit rule")?);
+    Ok(())
 }
 
 #[test]
-fn a_source_of_sixteen_mebibytes_is_too_long(rt: HostRuntime) -> Result<(), Fail> {
+fn a_source_of_sixteen_mebibytes_is_too_long(rt: HostRuntime) -> Result<(), AllocError> {
     let policy = POLICY.as_bytes();
     let line = b"nop\n";
     let mut source = Vec::with_capacity(rt.alloc(), 1 << 24)?;
@@ -45,27 +44,32 @@ fn a_source_of_sixteen_mebibytes_is_too_long(rt: HostRuntime) -> Result<(), Fail
         source.extend_from_slice(line)?;
     }
     let wanted = "7 TooLong one.s 16385";
-    check_large(&rt, rt.alloc(), policy, &source, b"", wanted)
+    assert!(rt; comes_of(rt.alloc(), policy, &source, b"", wanted)?);
+    Ok(())
 }
 
 #[test]
-fn a_source_of_one_line_of_sixteen_mebibytes_says_nothing(rt: HostRuntime) -> Result<(), Fail> {
+fn a_source_of_one_line_of_sixteen_mebibytes_says_nothing(
+    rt: HostRuntime,
+) -> Result<(), AllocError> {
     let policy = POLICY.as_bytes();
     let source = vec![in rt.alloc(); b'0'; 1 << 24]?;
     let wanted = "3 Syntax one.s 1";
-    check_large(&rt, rt.alloc(), policy, &source, b"", wanted)
+    assert!(rt; comes_of(rt.alloc(), policy, &source, b"", wanted)?);
+    Ok(())
+}
+
+/// Whether this comes of an input of 100,000 times one byte.
+fn comes_of_long(alloc: Global, byte: u8, wanted: &str) -> Result<bool, AllocError> {
+    let input = vec![in alloc; byte; 100_000]?;
+    comes_of(alloc, POLICY.as_bytes(), PUT_A.as_bytes(), &input, wanted)
 }
 
 #[test]
-fn an_input_may_have_a_long_comment_and_no_long_word(rt: HostRuntime) -> Result<(), Fail> {
-    let policy = POLICY.as_bytes();
-    for (byte, wanted) in [
-        (b'#', A),
-        (b'1', "20 InputFault 1"),
-        (b' ', "20 InputFault 1"),
-    ] {
-        let input = vec![in rt.alloc(); byte; 100_000]?;
-        check_large(&rt, rt.alloc(), policy, PUT_A.as_bytes(), &input, wanted)?;
-    }
+fn an_input_may_have_a_long_comment_and_no_long_word(rt: HostRuntime) -> Result<(), AllocError> {
+    let comment = comes_of_long(rt.alloc(), b'#', A)?;
+    let word = comes_of_long(rt.alloc(), b'1', "20 InputFault 1")?;
+    let blank = comes_of_long(rt.alloc(), b' ', "20 InputFault 1")?;
+    assert!(rt; comment && word && blank);
     Ok(())
 }

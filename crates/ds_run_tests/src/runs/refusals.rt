@@ -43,16 +43,17 @@ fn run_of<'a>(policy: &'a str, sources: &'a [(&'a str, &'a [u8])]) -> Run<'a> {
     }
 }
 
-/// Compares each run with what is wanted of it.
-fn check_all<'a>(rt: &impl Abort, alloc: Global, runs: &[(Run<'a>, &str)]) -> Result<(), Fail> {
+/// Whether what is wanted comes of each run.
+fn all_come<'a>(alloc: Global, runs: &[(Run<'a>, &str)]) -> Result<bool, AllocError> {
+    let mut right = true;
     for (run, wanted) in runs {
-        check(rt, alloc, *run, wanted)?;
+        right = comes(alloc, *run, wanted)? && right;
     }
-    Ok(())
+    Ok(right)
 }
 
 #[test]
-fn a_source_that_is_not_there_is_told(rt: HostRuntime) -> Result<(), Fail> {
+fn a_source_that_is_not_there_is_told(rt: HostRuntime) -> Result<(), AllocError> {
     let none = run_of(POLICY, &[]);
     let named = [("One.s", PUT_A.as_bytes()), ("one.s ", PUT_A.as_bytes())];
     let policy = Run {
@@ -69,22 +70,24 @@ fn a_source_that_is_not_there_is_told(rt: HostRuntime) -> Result<(), Fail> {
         (policy, "8 BadToml"),
         (input, "24 NoSource one.s"),
     ];
-    check_all(&rt, rt.alloc(), &runs)
+    assert!(rt; all_come(rt.alloc(), &runs)?);
+    Ok(())
 }
 
 #[test]
-fn of_two_sources_of_one_name_the_first_is_taken(rt: HostRuntime) -> Result<(), Fail> {
+fn of_two_sources_of_one_name_the_first_is_taken(rt: HostRuntime) -> Result<(), AllocError> {
     let good_first = [("one.s", PUT_A.as_bytes()), ("one.s", BAD_SECOND_LINE)];
     let bad_first = [("one.s", BAD_SECOND_LINE), ("one.s", PUT_A.as_bytes())];
     let runs = [
         (run_of(POLICY, &good_first), A),
         (run_of(POLICY, &bad_first), "3 Syntax one.s 2"),
     ];
-    check_all(&rt, rt.alloc(), &runs)
+    assert!(rt; all_come(rt.alloc(), &runs)?);
+    Ok(())
 }
 
 #[test]
-fn of_two_names_the_first_ones_fault_is_told(rt: HostRuntime) -> Result<(), Fail> {
+fn of_two_names_the_first_ones_fault_is_told(rt: HostRuntime) -> Result<(), AllocError> {
     let bad_first = [("one.s", BAD_SECOND_LINE)];
     let bad_second = [("two.s", BAD_SECOND_LINE)];
     let good_first = [("one.s", PUT_A.as_bytes())];
@@ -93,13 +96,14 @@ fn of_two_names_the_first_ones_fault_is_told(rt: HostRuntime) -> Result<(), Fail
         (run_of(TWO_SOURCES, &bad_second), "24 NoSource one.s"),
         (run_of(TWO_SOURCES, &good_first), "24 NoSource two.s"),
     ];
-    check_all(&rt, rt.alloc(), &runs)
+    assert!(rt; all_come(rt.alloc(), &runs)?);
+    Ok(())
 }
 
 #[test]
 fn more_ticks_than_are_served_are_refused_behind_the_input_and_before_random(
     rt: HostRuntime,
-) -> Result<(), Fail> {
+) -> Result<(), AllocError> {
     let good = [("one.s", PUT_A.as_bytes())];
     let bad = [("one.s", BAD_SECOND_LINE)];
     let many = Run {
@@ -121,5 +125,6 @@ fn more_ticks_than_are_served_are_refused_behind_the_input_and_before_random(
         (input, "20 InputFault 1"),
         (source, "3 Syntax one.s 2"),
     ];
-    check_all(&rt, rt.alloc(), &runs)
+    assert!(rt; all_come(rt.alloc(), &runs)?);
+    Ok(())
 }
