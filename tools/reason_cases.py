@@ -1,7 +1,7 @@
 #!/usr/bin/env python3
 """Writes two tables of sources into crates/rows/data/mistakes/, each case with what `dsmon list` tells of it by the rules of docs/mistakes.md.
 
-One has each byte alone in a line, directly behind a statement, and behind a statement and a blank; the other has a statement that is cut off after
+One has each byte alone in a line, directly after a statement, and after a statement and a blank; the other has a statement that is cut off after
 each of its bytes. tools/test_reason_cases.py holds the rules against the table that was written by hand, and the files against this script.
 """
 import sys
@@ -51,14 +51,14 @@ def alone(c):
     return one.get(c, no_mnemonic(bytes([c])))
 
 
-def directly_behind(c):
+def directly_after(c):
     """What is told of `nop` and this byte; a colon makes it a label."""
     if c in BLANKS + b"\n#:":
         return None
     return no_mnemonic(b"nop" + bytes([c])) if c in WRITTEN else no_byte(c)
 
 
-def behind_a_blank(c):
+def after_a_blank(c):
     """What is told of `nop`, a blank and this byte."""
     if c in BLANKS + b"\n#":
         return None
@@ -94,7 +94,7 @@ def case(title, text, told):
 
 def files():
     """The name of each file, and what it holds."""
-    places = [("alone", b"", alone), ("behind a statement", b"nop", directly_behind), ("behind a statement and a blank", b"nop ", behind_a_blank)]
+    places = [("alone", b"", alone), ("after a statement", b"nop", directly_after), ("after a statement and a blank", b"nop ", after_a_blank)]
     every_byte = [case(f"{c:02X} {title}", front + bytes([c]), rule(c)) for title, front, rule in places for c in range(256)]
     prefixes = [case(f"{count} bytes", LINE[:count], cut_off(count)) for count in range(len(LINE) + 1)]
     for name, cases in (("source_bytes", every_byte), ("source_prefixes", prefixes)):
