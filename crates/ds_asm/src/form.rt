@@ -92,10 +92,16 @@ macro_rules! form_rows {
 /// The forms: `nop`, and those of the table of instructions in its order.
 static FORMS: [Form; 66] = instruction_table!(form_rows);
 
+/// Where the form of `j` stands among these. No other name is one letter alone.
+const JUMP: usize = 33;
+
 /// The form of a name.
 pub fn form_named(name: &[u8]) -> Option<&'static Form>
     ensures { option_map (λ f. written_of f.now) result ≡ form_named name.now }
 {
+    if name.len() == 1 {
+        return find_form(&FORMS[JUMP..JUMP + 1], name);
+    }
     find_form(FORMS.as_slice(), name)
 }
 
