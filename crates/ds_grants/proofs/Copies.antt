@@ -1,17 +1,19 @@
--- The first page that is free, and the page state with a copy in its frame.
-use Rattle.std.proofs.Common.{zero, suc, ◌≡◌, ◌≢◌, ◌⊎◌, ℕ, ◌+◌, ◌*◌, ◌<◌, ◌≤◌, ◌==◌, Bool, true, false, cond, nat_lt, nat_le, List, [], ◌∷◌, length, map, get_or, is_some, Option, Some, None, refl, sym, ap, subst, ◌∙◌, inl, inr, arith, slice_set, length-set, IfSome, IsNone, is_none, not, drop, take, ◌++◌}
+-- The first page that is free, and the page state with a copy that lies in the frame of its page.
+use Rattle.std.proofs.Common.{zero, suc, ◌≡◌, ◌≢◌, ◌⊎◌, ℕ, ◌+◌, ◌*◌, ◌<◌, ◌≤◌, ◌==◌, Bool, true, false, cond, nat_lt, nat_le, List, [], ◌∷◌, length, map, get_or, is_some, Option, Some, None, refl, sym, ap, subst, ◌∙◌, inl, inr, arith, slice_set, length-set, IfSome, IsNone, is_none, not, drop, take}
 use Rattle.std.specs.List.{range_with_len}
 use Rattle.std.proofs.lemmas.Bool.{cases_Bool, cases_eq, cases_lt, false≢true}
 use Rattle.std.proofs.lemmas.Bool.Decides.{nat_tests}
 use Rattle.std.proofs.lemmas.List.{same_lists, get_or-set_same, get_or-set_other, length-take, length-take-le, length-drop}
 use Rattle.std.proofs.lemmas.List.FromFn.{length-map-range_with_len, get_or-map-range_with_len}
 use Rattle.ds_mem.specs.Memory.{frame_of, with_frame}
-use Rattle.ds_mem.proofs.Frames.{frame_of-with_frame, frame_of-with_frame_apart}
+use Rattle.ds_mem.proofs.Frames.{frame_of-with_frame_apart}
 use Rattle.ds_policy.specs.declared.grant.Grant.{Grant}
 use Rattle.ds_policy.specs.declared.grant.Right.TheVariants.{Write}
 use Rattle.ds_policy.specs.Pages.{Pages, entry_at, is_named_by, bytes_of, count_live, fresh}
 use Rattle.ds_policy.specs.Grants.{granted, copied}
+use Rattle.std.specs.Prelude.{slice_index}
 use Rattle.ds_grants.specs.State.{GrantsState, is_live, page_in, pages_in, page_state, with_grant}
+use Rattle.ds_grants.specs.Copies.{with_copy}
 use Rattle.ds_grants.specs.Counts.{one_if_named, page_of, holders_of}
 use Rattle.ds_grants.specs.Free.{IsFirstFree}
 use Rattle.ds_grants.proofs.HolderCounts.{holders_with, named_by_holders, itself}
@@ -90,36 +92,36 @@ apart_either zero (suc n) apart = inl (omega arith)
 apart_either (suc j) zero apart = inr (omega arith)
 apart_either (suc j) (suc n) apart = elim (apart_either j n (λ same. apart (ap suc same))) [ inl below ↦ inl (omega arith) | inr above ↦ inr (omega arith) ]
 
--- the pages with a copy in the frame of one that was free
-pub pages_copied : (g h : GrantsState) (memory : List ℕ) (k n : ℕ) → h.frames ≡ g.frames → g.frames ≤ 1024 → 8388608 ≤ length memory → k < g.frames → is_live g k ≡ true → n < g.frames → is_live h n ≡ true
+-- the pages with a copy that lies in the frame of its page
+pub pages_copied : (g h : GrantsState) (memory : List ℕ) (k n : ℕ) → h.frames ≡ g.frames → h.lies ≡ slice_set g.lies n (slice_index g.lies k) → length g.lies ≡ g.frames
+    → k < g.frames → is_live g k ≡ true → n < g.frames → is_live h n ≡ true
     → ((q : ℕ) → q ≢ n → is_live h q ≡ is_live g q)
-    → pages_in h (with_frame memory (n + 402) (frame_of memory (k + 402))) ≡ slice_set (pages_in g memory) n (Some (bytes_of (pages_in g memory) k))
-pages_copied g h memory k n size few large source lives target born others =
-    let new : List ℕ = with_frame memory (n + 402) (frame_of memory (k + 402)) in
+    → pages_in h memory ≡ slice_set (pages_in g memory) n (Some (bytes_of (pages_in g memory) k))
+pages_copied g h memory k n size lies all source lives target born others =
     let long = length-map-range_with_len (page_in g memory) 0 g.frames in
-    let long' = length-map-range_with_len (page_in h new) 0 h.frames in
+    let long' = length-map-range_with_len (page_in h memory) 0 h.frames in
     let set_long = length-set (pages_in g memory) n (Some (bytes_of (pages_in g memory) k)) in
-    let frame : length (frame_of memory (k + 402)) ≡ 4096 = length-take-le 4096 (drop ((k + 402) * 4096) memory) (let rest = length-drop ((k + 402) * 4096) memory in omega arith) in
-    let page : get_or (pages_in g memory) k None ≡ Some (frame_of memory (k + 402)) = get_or-map-range_with_len (page_in g memory) 0 g.frames k k None source (omega arith) ∙ rw lives refl in
-    let bytes : bytes_of (pages_in g memory) k ≡ frame_of memory (k + 402) = rw page refl in
-    same_lists (pages_in h new) (slice_set (pages_in g memory) n (Some (bytes_of (pages_in g memory) k))) (omega arith)
+    let page : get_or (pages_in g memory) k None ≡ Some (frame_of memory (slice_index g.lies k + 402)) = get_or-map-range_with_len (page_in g memory) 0 g.frames k k None source (omega arith) ∙ rw lives refl in
+    let bytes : bytes_of (pages_in g memory) k ≡ frame_of memory (slice_index g.lies k + 402) = rw page refl in
+    same_lists (pages_in h memory) (slice_set (pages_in g memory) n (Some (bytes_of (pages_in g memory) k))) (omega arith)
     (λ j d within.
     let inside : j < h.frames = omega arith in
-    let left : get_or (pages_in h new) j d ≡ page_in h new j = get_or-map-range_with_len (page_in h new) 0 h.frames j j d inside (omega arith) in
+    let left : get_or (pages_in h memory) j d ≡ page_in h memory j = get_or-map-range_with_len (page_in h memory) 0 h.frames j j d inside (omega arith) in
     elim (cases_eq j n) [
       | inl here ↦
-          let right : get_or (slice_set (pages_in g memory) n (Some (bytes_of (pages_in g memory) k))) j d ≡ Some (frame_of memory (k + 402)) =
+          let right : get_or (slice_set (pages_in g memory) n (Some (bytes_of (pages_in g memory) k))) j d ≡ Some (frame_of memory (slice_index g.lies k + 402)) =
           ap (λ i. get_or (slice_set (pages_in g memory) n (Some (bytes_of (pages_in g memory) k))) i d) here
           ∙ get_or-set_same (pages_in g memory) n (Some (bytes_of (pages_in g memory) k)) d (omega arith)
           ∙ ap (λ (b : List ℕ). Some b) bytes in
-          let now : page_in h new n ≡ Some (frame_of memory (k + 402)) = rw born (ap (λ (b : List ℕ). Some b) (frame_of-with_frame memory (frame_of memory (k + 402)) (n + 402) frame (omega arith))) in
-          left ∙ ap (page_in h new) here ∙ now ∙ sym right
+          let at : slice_index h.lies n ≡ slice_index g.lies k = ap (λ (ls : List ℕ). slice_index ls n) lies ∙ get_or-set_same g.lies n (slice_index g.lies k) 0 (omega arith) in
+          let now : page_in h memory n ≡ Some (frame_of memory (slice_index g.lies k + 402)) = rw born (ap (λ (f : ℕ). Some (frame_of memory (f + 402))) at) in
+          left ∙ ap (page_in h memory) here ∙ now ∙ sym right
       | inr apart ↦
           let right : get_or (slice_set (pages_in g memory) n (Some (bytes_of (pages_in g memory) k))) j d ≡ page_in g memory j =
           get_or-set_other (pages_in g memory) n j (Some (bytes_of (pages_in g memory) k)) d apart
           ∙ get_or-map-range_with_len (page_in g memory) 0 g.frames j j d (omega arith) (omega arith) in
-          let same : frame_of new (j + 402) ≡ frame_of memory (j + 402) = frame_of-with_frame_apart memory (frame_of memory (k + 402)) (n + 402) (j + 402) frame (omega arith) (elim (apart_either j n apart) [ inl below ↦ inl (omega arith) | inr above ↦ inr (omega arith) ]) in
-          left ∙ (rw (others j apart) (ap (λ (b : List ℕ). cond (is_live g j) (Some b) None) same)) ∙ sym right
+          let same : slice_index h.lies j ≡ slice_index g.lies j = ap (λ (ls : List ℕ). slice_index ls j) lies ∙ get_or-set_other g.lies n j (slice_index g.lies k) 0 apart in
+          left ∙ (rw (others j apart) (ap (λ (f : ℕ). cond (is_live g j) (Some (frame_of memory (f + 402))) None) same)) ∙ sym right
     ])
 
 module _ (g : GrantsState) (p a : ℕ) (grant : Grant) (n : ℕ) (low : 0 < p) (high : p ≤ length g.table) (none : entry_at g.table p a ≡ None) (named : grant.page ≡ Some n) where
@@ -153,13 +155,12 @@ module _ (g : GrantsState) (p a : ℕ) (grant : Grant) (n : ℕ) (low : 0 < p) (
 
 -- the page state with a copy
 pub copied_state : (g : GrantsState) (p a : ℕ) (grant : Grant) (k n caller : ℕ) (memory : List ℕ) → 0 < p → p ≤ length g.table → entry_at g.table p a ≡ None
-    → grant.page ≡ Some k → k < g.frames → is_live g k ≡ true → IsFirstFree g n → g.frames ≤ 1024 → 8388608 ≤ length memory
-    → page_state (with_grant g p a (record grant { right = Write; page = Some n; giver = caller })) (with_frame memory (n + 402) (frame_of memory (k + 402)))
+    → grant.page ≡ Some k → k < g.frames → is_live g k ≡ true → IsFirstFree g n → length g.lies ≡ g.frames
+    → page_state (with_grant (with_copy g k n) p a (record grant { right = Write; page = Some n; giver = caller })) memory
     ≡ granted (copied (page_state g memory) grant.page) p a (record grant { right = Write; page = Some (fresh (pages_in g memory)); giver = caller })
-copied_state g p a grant k n caller memory low high none named source lives free few large =
-    let given : Grant = record grant { right = Write; page = Some n; giver = caller } in
+copied_state g p a grant k n caller memory low high none named source lives free all =
     let number = fresh_is g memory n free in
-    let pages = pages_copied g (with_grant g p a (record grant { right = Write; page = Some n; giver = caller })) memory k n refl few large source lives free.within
+    let pages = pages_copied g (with_grant (with_copy g k n) p a (record grant { right = Write; page = Some n; giver = caller })) memory k n refl refl all source lives free.within
     (born_lives g p a (record grant { right = Write; page = Some n; giver = caller }) n low high none refl) (others_live g p a (record grant { right = Write; page = Some n; giver = caller }) n low high none refl) in
     rw (number, named) (ap (λ (ps : Pages). granted (record { pages = ps; table = g.table; named = g.named }) p a (record grant { right = Write; page = Some n; giver = caller })) pages)
 
@@ -167,12 +168,6 @@ copied_state g p a grant k n caller memory low high none named source lives free
 pub none_there : (o : Option Grant) → IsNone o → o ≡ None
 none_there None h = refl
 none_there (Some g) h = absurd (false≢true (sym h))
-
--- memory was as large as it is
-pub large_before : (memory bytes : List ℕ) (f n : ℕ) → length (with_frame memory f bytes) ≡ n → n ≤ length memory
-large_before memory bytes f n size =
-    let most = length-take (length memory) (take (f * 4096) memory ++ (bytes ++ drop (f * 4096 + length bytes) memory)) in
-    omega arith
 
 -- a frame within memory has 4,096 bytes
 pub frame_long : (memory : List ℕ) (f : ℕ) → f * 4096 + 4096 ≤ length memory → length (frame_of memory f) ≡ 4096

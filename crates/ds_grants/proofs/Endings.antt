@@ -108,7 +108,7 @@ module _ (g : GrantsState) (t : Places) (p : ℕ) (low : 0 < p) (high : p ≤ le
   own_entries = get_or-set_same g.table (p - 1) [] [] (omega (arith, low, high))
 
   other_word : (q vpn : ℕ) → 0 < q → q ≢ p → granted_word h q vpn ≡ granted_word g q vpn
-  other_word q vpn live other = same_word g h (entry_at h.table q (vpn * 2 ^ 12)) ∙ ap (word_of_grant g) (entry_at-set_other g.table p q (vpn * 2 ^ 12) [] low live other)
+  other_word q vpn live other = same_word g h.table h.ended (entry_at h.table q (vpn * 2 ^ 12)) ∙ ap (word_of_grant g) (entry_at-set_other g.table p q (vpn * 2 ^ 12) [] low live other)
 
   other_table : (q r : ℕ) → q ≢ p → page_of_table u q r ≡ page_of_table t q r
   other_table q r other = ap (frame_of_place q) (place_kept es t p q r (λ own. absurd (other own)))

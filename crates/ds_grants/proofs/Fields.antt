@@ -1,6 +1,6 @@
 -- Fields of an entry that is made of a page, an address space and EntryLo.
 use Rattle.std.proofs.Common.{◌≡◌, ℕ, ◌+◌, ◌-◌, ◌*◌, ◌/◌, ◌%◌, ◌^◌, ◌<◌, ◌==◌, Bool, true, false, cond, Option, Some, None, refl, ap, ◌∙◌, arith, inl, inr}
-use Rattle.std.specs.Prelude.{nat_lt}
+use Rattle.std.specs.Prelude.{◌&&◌, not, nat_lt, slice_index}
 use Rattle.std.proofs.lemmas.Bool.Decides.{nat_tests}
 use Rattle.ds_word.specs.Word.{bits, bit}
 use Rattle.ds_tlb.specs.Words.{entry_of}
@@ -9,7 +9,7 @@ use Rattle.ds_policy.specs.declared.grant.Right.{Right}
 use Rattle.ds_policy.specs.declared.grant.Right.TheVariants.{Nothing, Read, Write}
 use Rattle.ds_policy.specs.Pages.{entry_at}
 use Rattle.ds_policy.specs.Grants.{is_some_right, is_write}
-use Rattle.ds_grants.specs.State.{GrantsState, frame_of_page}
+use Rattle.ds_grants.specs.State.{GrantsState, frame_of_page, is_shared}
 use Rattle.ds_tables.specs.Places.{Places, page_of_table}
 use Rattle.ds_grants.specs.Words.{page_word, word_of_right, word_of_grant, granted_word}
 use Rattle.ds_grants.specs.Buffer.{hi_of, read_only, lo_of, IsMapped, entry_for}
@@ -37,7 +37,7 @@ page_own frame false = not_global (frame * 2 ^ 12 + bit 10 false + bit 9 true) (
 own_by_right : (g : GrantsState) (right : Right) (page : ℕ) → (bits (word_of_right g right (Some page)) 8 1 == 1) ≡ false
 own_by_right g Nothing page = refl
 own_by_right g Read page = page_own (frame_of_page g page) false
-own_by_right g Write page = page_own (frame_of_page g page) true
+own_by_right g Write page = page_own (frame_of_page g page) (not (is_shared g page))
 
 own_by_page : (g : GrantsState) (right : Right) (page : Option ℕ) → (bits (word_of_right g right page) 8 1 == 1) ≡ false
 own_by_page g right None = refl
@@ -81,17 +81,17 @@ pub granted_lo : (g : GrantsState) (p vpn page : ℕ) (grant : Grant) → entry_
 granted_lo g p vpn page grant at named right =
     ap (word_of_grant g) at ∙ (ap (word_of_right g grant.right) named ∙ ap (λ (b : Bool). cond b (page_word g page grant.right) 0) right)
 
-page_fields : (g : GrantsState) (vpn asid page : ℕ) (right : Right) → vpn < 2 ^ 20 → asid < 64 → page < 1024
-    → entry_of (hi_of vpn asid) (page_word g page right) ≡ record { vpn = vpn; asid = asid; pfn = frame_of_page g page; n = false; d = is_write right; v = true; g = false }
+page_fields : (g : GrantsState) (vpn asid page : ℕ) (right : Right) → vpn < 2 ^ 20 → asid < 64 → slice_index g.lies page < 1024
+    → entry_of (hi_of vpn asid) (page_word g page right) ≡ record { vpn = vpn; asid = asid; pfn = frame_of_page g page; n = false; d = is_write right && not (is_shared g page); v = true; g = false }
 page_fields g vpn asid page right low few small =
     let w = page_word g page right in
-    let flags = flags_of_word (frame_of_page g page) (is_write right) in
-    let frame : bits w 12 20 ≡ page + 402 = flags.0 ∙ omega arith in
+    let flags = flags_of_word (frame_of_page g page) (is_write right && not (is_shared g page)) in
+    let frame : bits w 12 20 ≡ frame_of_page g page = flags.0 ∙ omega arith in
     rw (has_page vpn asid (page_word g page right) low few, has_space vpn asid (page_word g page right) low few, frame, flags.1, flags.2, flags.3, flags.4) refl
 
 -- the entry that maps a page with a right, by its fields
-pub granted_fields : (g : GrantsState) (t : Places) (p asid vpn page : ℕ) (grant : Grant) → vpn < 2 ^ 19 → asid < 64 → page < 1024
+pub granted_fields : (g : GrantsState) (t : Places) (p asid vpn page : ℕ) (grant : Grant) → vpn < 2 ^ 19 → asid < 64 → slice_index g.lies page < 1024
     → entry_at g.table p (vpn * 2 ^ 12) ≡ Some grant → grant.page ≡ Some page → is_some_right grant.right ≡ true
-    → entry_for g t p asid vpn ≡ record { vpn = vpn; asid = asid; pfn = frame_of_page g page; n = false; d = is_write grant.right; v = true; g = false }
+    → entry_for g t p asid vpn ≡ record { vpn = vpn; asid = asid; pfn = frame_of_page g page; n = false; d = is_write grant.right && not (is_shared g page); v = true; g = false }
 granted_fields g t p asid vpn page grant user few small at named right =
     ap (entry_of (hi_of vpn asid)) (user_lo g t p vpn user ∙ granted_lo g p vpn page grant at named right) ∙ page_fields g vpn asid page grant.right (omega (arith, user)) few small

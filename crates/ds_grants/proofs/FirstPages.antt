@@ -1,11 +1,11 @@
 -- The named pages in their frames of memory.
 use Rattle.std.proofs.Common.{◌≡◌, ◌∙◌, ◌⊎◌, sym, ap, refl, ℕ, zero, suc, true, false, ◌+◌, ◌-◌, ◌*◌, ◌<◌, ◌≤◌, List, [], ◌∷◌, ◌++◌, length, map, drop, get_or, replicate, Option, Some, None, inl, inr, arith, length-append}
-use Rattle.std.specs.Prelude.{nat_lt}
+use Rattle.std.specs.Prelude.{nat_lt, slice_index}
 use Rattle.std.specs.List.{All}
 use Rattle.std.proofs.lemmas.Bool.{cases_lt}
 use Rattle.std.proofs.lemmas.Bool.Decides.{nat_tests}
 use Rattle.std.proofs.lemmas.List.{length-take, length-drop, same_lists, length-map, length-replicate, get_or-map, get_or_append_left, get_or-append_right, get_or-replicate}
-use Rattle.std.proofs.lemmas.List.FromFn.{length-map-range_with_len, get_or-map-range_with_len}
+use Rattle.std.proofs.lemmas.List.FromFn.{length-map-range_with_len, get_or-map-range_with_len, get_or-range_with_len}
 use Rattle.ds_policy.specs.declared.policy.PolicyPage.{PolicyPage}
 use Rattle.ds_policy.specs.Value.{PolicyValue}
 use Rattle.ds_policy.specs.PolicyFacts.{IsGoodRule}
@@ -69,12 +69,13 @@ first_pages_hold policy images memory good few each =
     let all_long : length (pages_in (first_grants policy) memory) ≡ policy.frames = length-map-range_with_len (page_in (first_grants policy) memory) 0 policy.frames in
     same_lists (pages_in (first_grants policy) memory) (named ++ others) (omega (arith, all_long, named_long, others_long, length-append named others)) (λ k d within.
     let at : k < policy.frames = omega (arith, all_long) in
+    let lies : slice_index (first_grants policy).lies k ≡ k = get_or-range_with_len 0 policy.frames k 0 at ∙ (let e : 0 + k ≡ k = omega arith in e) in
     get_or-map-range_with_len (page_in (first_grants policy) memory) 0 policy.frames k k d at (omega arith)
     ∙ elim (cases_lt k (length policy.pages)) [
       | inl low ↦
           let lives : nat_lt k (length policy.pages) ≡ true = grind (arith, nat_tests) in
           let here = each k low in
-          rw (lives, here, get_or_append_left named others d k (omega (arith, named_long))) (sym (some_of (λ (page : PolicyPage). source_bytes (sources_of policy.pages) images page.source) policy.pages k d low))
+          rw (lives, lies, here, get_or_append_left named others d k (omega (arith, named_long))) (sym (some_of (λ (page : PolicyPage). source_bytes (sources_of policy.pages) images page.source) policy.pages k d low))
       | inr high ↦
           let past : nat_lt k (length policy.pages) ≡ false = grind (arith, nat_tests) in
           let none = unnamed_is_free policy k good (omega arith) in

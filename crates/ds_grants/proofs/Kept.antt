@@ -1,6 +1,7 @@
 -- What is represented after an entry is put, and after one is removed.
 use Rattle.std.proofs.Common.{◌≡◌, ◌≢◌, ◌⊎◌, ℕ, ◌+◌, ◌-◌, ◌*◌, ◌/◌, ◌%◌, ◌^◌, ◌<◌, ◌≤◌, Bool, true, false, cond, not, List, length, Option, Some, None, refl, sym, ap, subst, ◌∙◌, arith, inl, inr}
-use Rattle.std.specs.Prelude.{IfSome, ◌||◌, ◌==◌, nat_le, is_some}
+use Rattle.std.specs.Prelude.{IfSome, ◌||◌, ◌==◌, nat_le, is_some, slice_index}
+use Rattle.std.proofs.lemmas.Bool.{cases_Bool}
 use Rattle.std.proofs.lemmas.Bool.Decides.{nat_tests}
 use Rattle.std.proofs.lemmas.List.{length-map}
 use Rattle.ds_mem.specs.Memory.{zeros}
@@ -14,7 +15,8 @@ use Rattle.ds_policy.specs.declared.grant.Right.{Right}
 use Rattle.ds_policy.specs.declared.grant.Right.TheVariants.{Nothing, Read, Write}
 use Rattle.ds_policy.specs.Pages.{entries_of, entry_at, with_entry, without_entry}
 use Rattle.ds_pagemap.proofs.Entries.{entry_at-with_entry, entry_at-without_entry}
-use Rattle.ds_grants.specs.State.{GrantsState, with_grant, without_grant}
+use Rattle.ds_grants.specs.State.{GrantsState, is_shared, with_grant, without_grant}
+use Rattle.ds_grants.specs.Sound.{AreLaidOut}
 use Rattle.ds_tables.specs.Places.{Places, ArePlaces, region_of, place_of, free_place, has_place, frame_of_place, page_of_table, table_frame, opened, closed, with_place, freed, places_of}
 use Rattle.ds_asid.specs.Spaces.{Spaces, number_held}
 use Rattle.ds_tables.specs.Tables as tables
@@ -65,17 +67,21 @@ pub few_pages : (page : Option ℕ) (frames : ℕ) → frames ≤ 1024 → IfSom
 few_pages None frames few within = tt
 few_pages (Some q) frames few within = omega (arith, few, within)
 
+pub few_frames : (g : GrantsState) (page : Option ℕ) → g.frames ≤ 1024 → AreLaidOut g → IfSome page (λ q. q < g.frames) → IfSome page (λ q. slice_index g.lies q < 1024)
+few_frames g None few laid within = tt
+few_frames g (Some q) few laid within = let low = laid.within q within in omega (arith, few, low)
+
 -- A page-table word has 32 bits.
 
-pub word_small : (g : GrantsState) (grant : Grant) → IfSome grant.page (λ page. page < 1024) → word_of_grant g (Some grant) < 2 ^ 32
+pub word_small : (g : GrantsState) (grant : Grant) → IfSome grant.page (λ page. slice_index g.lies page < 1024) → word_of_grant g (Some grant) < 2 ^ 32
 word_small g grant few = by_page grant.page few
   where
-    flagged : (right : Right) (q : ℕ) → q < 1024 → word_of_right g right (Some q) < 2 ^ 32
+    flagged : (right : Right) (q : ℕ) → slice_index g.lies q < 1024 → word_of_right g right (Some q) < 2 ^ 32
     flagged Nothing q low = omega arith
     flagged Read q low = omega arith
-    flagged Write q low = omega arith
+    flagged Write q low = elim (cases_Bool (is_shared g q)) [ inl marked ↦ rw marked (omega arith) | inr alone ↦ rw alone (omega arith) ]
 
-    by_page : (page : Option ℕ) → IfSome page (λ page. page < 1024) → word_of_right g grant.right page < 2 ^ 32
+    by_page : (page : Option ℕ) → IfSome page (λ page. slice_index g.lies page < 1024) → word_of_right g grant.right page < 2 ^ 32
     by_page None low = omega arith
     by_page (Some q) low = flagged grant.right q low
 
@@ -87,12 +93,12 @@ module _ (entries : List Entry) (memory : List ℕ) (t : Places) (s : Spaces) (g
   elsewhere : (vpn : ℕ) → vpn ≢ a / 2 ^ 12 → vpn * 2 ^ 12 ≢ a
   elsewhere vpn other = λ (e : ◌≡◌ {A = ℕ} (vpn * 2 ^ 12) a). other (omega (arith, e))
 
-  pub put_represented : (grant : Grant) → IfSome grant.page (λ page. page < 1024) → HasPlace g p a
+  pub put_represented : (grant : Grant) → IfSome grant.page (λ page. slice_index g.lies page < 1024) → HasPlace g p a
       → IsRepresented (both_forgotten entries a (number_held s p)) (tables.with_entry memory t p a (word_of_grant g (Some grant))) (opened t p (region_of a)) s (with_grant g p a grant)
   put_represented grant small region =
       let room : has_place t p (region_of a) ≡ true = room_for region in
       let changed : IsChangedAt g (with_grant g p a grant) t (opened t p (region_of a)) p a = record {
-        words = λ q vpn live other. same_word g (with_grant g p a grant) (entry_at (with_entry g.table p a grant) q (vpn * 2 ^ 12)) ∙ ap (word_of_grant g) (entry_at-with_entry g.table p a grant q (vpn * 2 ^ 12) low live (λ own. elsewhere vpn (other own)));
+        words = λ q vpn live other. same_word g (with_entry g.table p a grant) g.ended (entry_at (with_entry g.table p a grant) q (vpn * 2 ^ 12)) ∙ ap (word_of_grant g) (entry_at-with_entry g.table p a grant q (vpn * 2 ^ 12) low live (λ own. elsewhere vpn (other own)));
         tables = λ q r live other. opened_tables t p (region_of a) q r k.places (λ own same. other own same);
       } in
       record {
@@ -114,7 +120,7 @@ module _ (entries : List Entry) (memory : List ℕ) (t : Places) (s : Spaces) (g
   pub remove_represented : IsRepresented (both_forgotten entries a (number_held s p)) (memory_without memory t g p a) (places_without t g p a) s (without_grant g p a)
   remove_represented =
       let changed : IsChangedAt g (without_grant g p a) t (places_without t g p a) p a = record {
-        words = λ q vpn live other. same_word g (without_grant g p a) (entry_at (without_entry g.table p a) q (vpn * 2 ^ 12)) ∙ ap (word_of_grant g) (entry_at-without_entry g.table p a q (vpn * 2 ^ 12) low live (λ own. elsewhere vpn (other own)));
+        words = λ q vpn live other. same_word g (without_entry g.table p a) g.ended (entry_at (without_entry g.table p a) q (vpn * 2 ^ 12)) ∙ ap (word_of_grant g) (entry_at-without_entry g.table p a q (vpn * 2 ^ 12) low live (λ own. elsewhere vpn (other own)));
         tables = λ q r live other. by_used (is_used (without_grant g p a) p (region_of a)) q r (λ own same. other own same);
       } in
       record {

@@ -1,6 +1,7 @@
 pub mod Chains
 pub mod Copies
 pub mod Endings
+pub mod EntriesAnew
 pub mod Fields
 pub mod FifthRegion
 pub mod Fills
@@ -12,10 +13,15 @@ pub mod HeldByAll
 pub mod HolderCounts
 pub mod Images
 pub mod Kept
+pub mod Laying
 pub mod Living
+pub mod Lying
+pub mod OwnFrames
+pub mod PageAnew
 pub mod Puts
 pub mod RegionsSeen
 pub mod RuleWords
 pub mod Sizes
 pub mod Translations
 pub mod WordRows
+pub mod WordsAnew

@@ -1,5 +1,6 @@
 -- Which pages live, and the pages that lie in memory, when the table changes.
 use Rattle.std.proofs.Common.{zero, suc, ◌≡◌, ℕ, ◌+◌, ◌-◌, ◌<◌, ◌≤◌, ◌||◌, Bool, true, false, cond, nat_lt, List, ◌∷◌, length, map, Option, Some, None, refl, sym, ap, ap₂, subst, ◌∙◌, inl, inr, arith}
+use Rattle.std.specs.Prelude.{slice_index}
 use Rattle.std.specs.List.{range_with_len}
 use Rattle.std.proofs.lemmas.Bool.{cases_Bool, false≢true}
 use Rattle.std.proofs.lemmas.Bool.Decides.{nat_tests}
@@ -16,18 +17,18 @@ use Rattle.ds_grants.specs.Counts.{one_if_named, page_of, holders_of}
 use Rattle.ds_grants.proofs.HolderCounts.{holders_with, holders_without, named_by_holders, found_holds, row_holders}
 
 -- pages are the same where the same pages live
-pages_from_same : (g g' : GrantsState) (memory : List ℕ) (at n : ℕ) → ((q : ℕ) → is_live g' q ≡ is_live g q) → map (page_in g' memory) (range_with_len at n) ≡ map (page_in g memory) (range_with_len at n)
-pages_from_same g g' memory at n same =
+pages_from_same : (g g' : GrantsState) (memory : List ℕ) (at n : ℕ) → g'.lies ≡ g.lies → ((q : ℕ) → is_live g' q ≡ is_live g q) → map (page_in g' memory) (range_with_len at n) ≡ map (page_in g memory) (range_with_len at n)
+pages_from_same g g' memory at n lies same =
     same_lists (map (page_in g' memory) (range_with_len at n)) (map (page_in g memory) (range_with_len at n))
     (length-map-range_with_len (page_in g' memory) at n ∙ sym (length-map-range_with_len (page_in g memory) at n))
     (λ k d h.
     let within : k < n = let size = length-map-range_with_len (page_in g' memory) at n in omega arith in
     get_or-map-range_with_len (page_in g' memory) at n k (at + k) d within refl
-    ∙ ap (λ (b : Bool). cond b (Some (frame_of memory (at + k + 402))) None) (same (at + k))
+    ∙ ap₂ (λ (b : Bool) (ls : List ℕ). cond b (Some (frame_of memory (slice_index ls (at + k) + 402))) None) (same (at + k)) lies
     ∙ sym (get_or-map-range_with_len (page_in g memory) at n k (at + k) d within refl))
 
-pub pages_same : (g g' : GrantsState) (memory : List ℕ) → g'.frames ≡ g.frames → ((q : ℕ) → is_live g' q ≡ is_live g q) → pages_in g' memory ≡ pages_in g memory
-pages_same g g' memory size same = ap (λ n. map (page_in g' memory) (range_with_len 0 n)) size ∙ pages_from_same g g' memory 0 g.frames same
+pub pages_same : (g g' : GrantsState) (memory : List ℕ) → g'.frames ≡ g.frames → g'.lies ≡ g.lies → ((q : ℕ) → is_live g' q ≡ is_live g q) → pages_in g' memory ≡ pages_in g memory
+pages_same g g' memory size lies same = ap (λ n. map (page_in g' memory) (range_with_len 0 n)) size ∙ pages_from_same g g' memory 0 g.frames lies same
 
 -- what changed in page tables leaves the page state
 pub low_pages : (g : GrantsState) (old new : List ℕ) → IsLow old new → page_state g new ≡ page_state g old
@@ -37,7 +38,7 @@ low_pages g old new low =
     (λ k d h.
     let within : k < g.frames = omega arith in
     get_or-map-range_with_len (page_in g new) 0 g.frames k k d within (omega arith)
-    ∙ ap (λ (bytes : List ℕ). cond (is_live g k) (Some bytes) None) (low.1 (k + 402) (inr (omega arith)))
+    ∙ ap (λ (bytes : List ℕ). cond (is_live g k) (Some bytes) None) (low.1 (slice_index g.lies k + 402) (inr (omega arith)))
     ∙ sym (get_or-map-range_with_len (page_in g old) 0 g.frames k k d within (omega arith))) in
     ap (λ (pages : Pages). record { pages = pages; table = g.table; named = g.named }) pages
 
@@ -45,7 +46,7 @@ low_pages g old new low =
 pub live_by_holders : (g : GrantsState) (q : ℕ) → is_live g q ≡ (nat_lt q g.named || nat_lt 0 (holders_of g.table q))
 live_by_holders g q = ap (λ b. nat_lt q g.named || b) (named_by_holders g.table q)
 
-some_of : (h : ℕ) → nat_lt 0 h ≡ true → 0 < h
+pub some_of : (h : ℕ) → nat_lt 0 h ≡ true → 0 < h
 some_of h is = grind (arith, nat_tests)
 
 both_some : (h h' : ℕ) → (0 < h' → 0 < h) → (0 < h → 0 < h') → nat_lt 0 h' ≡ nat_lt 0 h
@@ -58,7 +59,7 @@ both_some (suc h) (suc h') down up = grind (arith, nat_tests)
 pub one_named : (q : ℕ) (o : Option ℕ) → names q o ≡ true → one_if_named q o ≡ 1
 one_named q o h = rw h refl
 
-none_named : (q : ℕ) (o : Option ℕ) → names q o ≡ false → one_if_named q o ≡ 0
+pub none_named : (q : ℕ) (o : Option ℕ) → names q o ≡ false → one_if_named q o ≡ 0
 none_named q o h = rw h refl
 
 -- a page lives or not, whatever the policy names, by its holders
@@ -103,7 +104,7 @@ pub put_state : (g : GrantsState) (p a : ℕ) (grant : Grant) (memory : List ℕ
     → page_state (with_grant g p a grant) memory ≡ granted (page_state g memory) p a grant
 put_state g p a grant memory low high lives keeps =
     ap (λ (ps : Pages). granted (record { pages = ps; table = g.table; named = g.named }) p a grant)
-    (pages_same g (with_grant g p a grant) memory refl (put_live g p a grant low high lives keeps))
+    (pages_same g (with_grant g p a grant) memory refl refl (put_live g p a grant low high lives keeps))
 
 -- what stays of a page, where fewer pages live
 kept_page : (b c : Bool) (x : List ℕ) → (c ≡ true → b ≡ true) → cond c (cond b (Some x) None) None ≡ cond c (Some x) None
@@ -120,7 +121,7 @@ pages_kept : (g : GrantsState) (t : Table) (memory : List ℕ) (n at : ℕ) → 
 pages_kept g t memory zero at fewer = refl
 pages_kept g t memory (suc n) at fewer =
     ap₂ (λ (x : Option (List ℕ)) (xs : Pages). x ∷ xs)
-    (kept_page (is_live g at) (nat_lt at g.named || is_named_by t at) (frame_of memory (at + 402)) (either_still (nat_lt at g.named) (is_named_by g.table at) (is_named_by t at) (fewer at)))
+    (kept_page (is_live g at) (nat_lt at g.named || is_named_by t at) (frame_of memory (slice_index g.lies at + 402)) (either_still (nat_lt at g.named) (is_named_by g.table at) (is_named_by t at) (fewer at)))
     (pages_kept g t memory n (at + 1) fewer)
 
 -- so the page state with fewer holders is that of the pages that live on

@@ -9,10 +9,12 @@ use Rattle.ds_policy.specs.declared.grant.Grant.{Grant}
 use Rattle.ds_policy.specs.declared.grant.Right.{Right}
 use Rattle.ds_policy.specs.declared.grant.Entry.{Entry}
 use Rattle.ds_policy.specs.Pages.{Table, entries_of, found, put, entry_at, with_entry, without_entry}
-use Rattle.ds_policy.specs.Grants.{count_distinct}
+use Rattle.ds_policy.specs.Grants.{is_some_right, is_write, count_distinct}
 use Rattle.ds_policy.proofs.DistinctCounts.{count_insert}
 use Rattle.ds_pagemap.proofs.Entries.{entry_at-with_entry, entry_at-without_entry}
-use Rattle.ds_grants.specs.State.{GrantsState, with_grant, without_grant}
+use Rattle.ds_word.specs.Word.{bit}
+use Rattle.ds_grants.specs.declared.layout.Place.{Place}
+use Rattle.ds_grants.specs.State.{GrantsState, place_of_page, with_grant, without_grant}
 use Rattle.ds_tables.specs.Places.{Places, ArePlaces, freed, region_of, places_of, place_of, free_place, has_place, opened, closed, with_place}
 use Rattle.ds_tables.specs.Tables as tables
 use Rattle.ds_tables.specs.Tables.{HasEmptyTable, entry_word}
@@ -104,12 +106,25 @@ entries_gone t p a low high = get_or-set_same t (p - 1) (filter (λ (e : Entry).
 pub foreign_row : (t : Table) (p q : ℕ) (row : List Entry) → 0 < p → 0 < q → q ≢ p → entries_of (slice_set t (p - 1) row) q ≡ entries_of t q
 foreign_row t p q row low live apart = get_or-set_other t (p - 1) (q - 1) row [] (λ (e : ◌≡◌ {A = ℕ} (q - 1) (p - 1)). apart (omega arith))
 
--- a word doesn't depend on the table
-pub same_word : (g h : GrantsState) (o : Option Grant) → word_of_grant h o ≡ word_of_grant g o
-same_word g h None = refl
-same_word g h (Some grant) = by_page grant.right grant.page
+-- a word depends on where its page lies alone
+pub word_by_place : (g h : GrantsState) (right : Right) (page : Option ℕ) → place_of_page h page ≡ place_of_page g page → word_of_right h right page ≡ word_of_right g right page
+word_by_place g h right None same = refl
+word_by_place g h right (Some q) same = ap₂ (λ (f : ℕ) (b : Bool). cond (is_some_right right) ((f + 402) * 2 ^ 12 + bit 10 (is_write right && not b) + bit 9 true) 0) (ap frame_there same) (ap mark_there same)
   where
-    by_page : (right : Right) (page : Option ℕ) → word_of_right h right page ≡ word_of_right g right page
+    frame_there : Option Place → ℕ
+    frame_there None = 0
+    frame_there (Some place) = place.frame
+
+    mark_there : Option Place → Bool
+    mark_there None = false
+    mark_there (Some place) = place.shared
+
+-- so it doesn't depend on the table
+pub same_word : (g : GrantsState) (t : Table) (ended : List Bool) (o : Option Grant) → word_of_grant (record g { table = t; ended = ended }) o ≡ word_of_grant g o
+same_word g t ended None = refl
+same_word g t ended (Some grant) = by_page grant.right grant.page
+  where
+    by_page : (right : Right) (page : Option ℕ) → word_of_right (record g { table = t; ended = ended }) right page ≡ word_of_right g right page
     by_page right None = refl
     by_page right (Some q) = refl
 
@@ -308,10 +323,10 @@ module _ (memory : List ℕ) (t : Places) (g : GrantsState) (p a : ℕ) (k : Wor
               let at = at_address q vpn hit in
               let there : entry_at (with_entry g.table p a grant) q (vpn * 2 ^ 12) ≡ Some grant =
               ap₂ (λ (x y : ℕ). entry_at (with_entry g.table p a grant) x y) at.0 at.1 ∙ (ap (λ (es : List Entry). found es a) (entries_put g.table p a grant low high) ∙ found_put (entries_of g.table p) a grant) in
-              rw hit (sym (same_word g (with_grant g p a grant) (Some grant)) ∙ sym (ap (word_of_grant (with_grant g p a grant)) there))
+              rw hit (sym (same_word g (with_entry g.table p a grant) g.ended (Some grant)) ∙ sym (ap (word_of_grant (with_grant g p a grant)) there))
           | inr miss ↦
               let there : entry_at (with_entry g.table p a grant) q (vpn * 2 ^ 12) ≡ entry_at g.table q (vpn * 2 ^ 12) = entry_at-with_entry g.table p a grant q (vpn * 2 ^ 12) low live (elsewhere q vpn miss) in
-              rw miss (k.words q vpn live user ∙ (sym (same_word g (with_grant g p a grant) (entry_at g.table q (vpn * 2 ^ 12))) ∙ sym (ap (word_of_grant (with_grant g p a grant)) there)))
+              rw miss (k.words q vpn live user ∙ (sym (same_word g (with_entry g.table p a grant) g.ended (entry_at g.table q (vpn * 2 ^ 12))) ∙ sym (ap (word_of_grant (with_grant g p a grant)) there)))
         ];
     regions = λ q s live. opened_some t p (region_of a) q s are room ∙ elim (cases_eq q p) [
       | inl own ↦
@@ -348,7 +363,7 @@ module _ (memory : List ℕ) (t : Places) (g : GrantsState) (p a : ℕ) (k : Wor
 
   less_words : (q vpn : ℕ) → 0 < q → ((q == p) && (vpn * 2 ^ 12 / 2 ^ 12 == a / 2 ^ 12)) ≡ false → granted_word g q vpn ≡ granted_word less q vpn
   less_words q vpn live miss =
-      sym (same_word g less (entry_at g.table q (vpn * 2 ^ 12))) ∙ sym (ap (word_of_grant less) (entry_at-without_entry g.table p a q (vpn * 2 ^ 12) low live (elsewhere q vpn miss)))
+      sym (same_word g (without_entry g.table p a) g.ended (entry_at g.table q (vpn * 2 ^ 12))) ∙ sym (ap (word_of_grant less) (entry_at-without_entry g.table p a q (vpn * 2 ^ 12) low live (elsewhere q vpn miss)))
 
   -- its region has other entries, and keeps its table
   keeps_table : used (region_of a) (entries_of (without_entry g.table p a) p) ≡ true → WordsHold (tables.with_entry memory t p a 0) t less

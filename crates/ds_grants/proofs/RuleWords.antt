@@ -1,45 +1,57 @@
 -- The words of rules, one after the other.
-use Rattle.std.proofs.Common.{◌≡◌, ◌≢◌, ◌⊎◌, ℕ, zero, suc, ◌+◌, ◌-◌, ◌*◌, ◌%◌, ◌^◌, ◌<◌, ◌≤◌, ◌==◌, Bool, true, false, cond, not, List, [], ◌∷◌, ◌++◌, length, replicate, take, Option, Some, None, get_or, refl, sym, ap, subst, ◌∙◌, arith, inl, inr, length-set, get_or-set_same, get_or-set_other}
-use Rattle.std.specs.Prelude.{◌||◌, nat_lt, map, filter, is_some, IfSome, position}
+use Rattle.std.proofs.Common.{◌≡◌, ◌≢◌, ◌⊎◌, ℕ, zero, suc, ◌+◌, ◌-◌, ◌*◌, ◌%◌, ◌^◌, ◌<◌, ◌≤◌, ◌==◌, Bool, true, false, cond, not, List, [], ◌∷◌, ◌++◌, length, replicate, take, Option, Some, None, get_or, refl, sym, ap, ap₂, subst, ◌∙◌, arith, inl, inr, length-set, get_or-set_same, get_or-set_other}
+use Rattle.std.specs.Prelude.{◌||◌, nat_lt, map, filter, is_some, IfSome, position, slice_index}
 use Rattle.std.specs.List.{All, list_any}
 use Rattle.std.proofs.lemmas.Bool.{cases_Bool}
 use Rattle.std.proofs.lemmas.Bool.Decides.{nat_tests}
-use Rattle.std.proofs.lemmas.List.{take_more, length-replicate, length-take, get_or-take}
+use Rattle.std.proofs.lemmas.List.{take_more, length-replicate, length-take, get_or-take, get_or-replicate}
+use Rattle.std.proofs.lemmas.List.FromFn.{get_or-range_with_len}
 use Rattle.ds_policy.specs.declared.grant.Entry.{Entry}
 use Rattle.ds_policy.specs.declared.grant.Grant.{Grant}
 use Rattle.ds_policy.specs.declared.policy.PolicyRule.{PolicyRule}
-use Rattle.ds_policy.specs.Pages.{Table, entries_of, entry_at, found, put, with_entry}
+use Rattle.ds_policy.specs.Pages.{Table, entries_of, found, put, with_entry}
 use Rattle.ds_policy.specs.Grants.{region, count_distinct}
 use Rattle.ds_policy.specs.PolicyParts as rules
 use Rattle.ds_policy.specs.PolicyFacts.{IsGoodRule, HasFewRegions}
 use Rattle.ds_policy.specs.FirstTable.{granted_by, with_rule, with_rules}
 use Rattle.ds_tables.specs.Places.{Places, region_of, holds, places_of, place_of, has_place, opened}
 use Rattle.ds_tables.specs.Tables as tables
-use Rattle.ds_tables.specs.Tables.{HasEmptyTable, entry_word, word_place}
+use Rattle.ds_tables.specs.Tables.{HasEmptyTable}
 use Rattle.ds_tables.proofs.PlaceLemmas.{places_at, four_places, none_placed}
 use Rattle.ds_tables.proofs.Map.{frames_kept, none_words}
-use Rattle.ds_grants.specs.State.{GrantsState}
-use Rattle.ds_grants.specs.First.{no_grants}
+use Rattle.ds_grants.specs.State.{GrantsState, place_of_page}
+use Rattle.ds_grants.specs.First.{no_grants, first_place}
 use Rattle.ds_grants.specs.Words.{word_of_grant, regions_taken, WordsHold}
 use Rattle.ds_grants.specs.Represented.{HasWords, HasRegion}
 use Rattle.ds_grants.proofs.FifthRegion.{has, subset, regions_of, fifth_by_places}
 use Rattle.ds_grants.proofs.Puts.{put_holds, same_word}
 use Rattle.ds_grants.proofs.Kept.{opened_places, few_pages, word_small}
 
--- grants of which only the table matters
+-- this table, with each page in the frame of its number
 abbrev pub over : Table → GrantsState
-over table = record (no_grants 0 0 0) { table = table }
+over table = record (no_grants 0 1024 0) { table = table }
+
+lies_over : (q : ℕ) → q < 1024 → slice_index (over []).lies q ≡ q
+lies_over q low = get_or-range_with_len 0 1024 q 0 low ∙ (let e : 0 + q ≡ q = omega arith in e)
+
+pub place_over : (table : Table) (page : Option ℕ) → IfSome page (λ q. q < 1024) → place_of_page (over table) page ≡ first_place page
+place_over table None low = refl
+place_over table (Some q) low = ap₂ (λ (f : ℕ) (b : Bool). Some (record { frame = f; shared = b })) (lies_over q low) (get_or-replicate 1024 q false false low)
+
+frames_over : (page : Option ℕ) → IfSome page (λ q. q < 1024) → IfSome page (λ q. slice_index (over []).lies q < 1024)
+frames_over None low = tt
+frames_over (Some q) low = subst (λ (n : ℕ). n < 1024) (sym (lies_over q low)) low
 
 -- one word more
 written : (memory : List ℕ) (t : Places) (table : Table) (p a : ℕ) (grant : Grant) → HasWords memory t (over table) → 2 ^ 23 ≤ length memory → 0 < p → p ≤ length table → a % 4096 ≡ 0 → IfSome grant.page (λ q. q < 1024) → HasRegion (over table) p a
     → HasWords (tables.with_entry memory t p a (word_of_grant (over []) (Some grant))) (opened t p (region_of a)) (over (with_entry table p a grant))
 written memory t table p a grant k long low high page small region-free =
-    let w : word_of_grant (over []) (Some grant) ≡ word_of_grant (over table) (Some grant) = same_word (over table) (over []) (Some grant) in
+    let w : word_of_grant (over []) (Some grant) ≡ word_of_grant (over table) (Some grant) = same_word (over table) [] [] (Some grant) in
     let high_places : p ≤ length t = subst (λ (n : ℕ). p ≤ n) (sym k.words.same) high in
     let room : has_place t p (region_of a) ≡ true = turned (has_place t p (region_of a)) (sym (fifth_by_places t p (region_of a) (entries_of table p) (four_places t p k.places low high_places) (k.words.distinct p) (λ s. k.words.regions p s low)) ∙ region-free) in
     record {
       words = subst (λ (n : ℕ). WordsHold (tables.with_entry memory t p a n) (opened t p (region_of a)) (over (with_entry table p a grant))) (sym w)
-          (put_holds memory t (over table) p a k.words k.places long k.empty low high page grant (subst (λ (n : ℕ). n < 2 ^ 32) w (word_small (over []) grant small)) room);
+          (put_holds memory t (over table) p a k.words k.places long k.empty low high page grant (subst (λ (n : ℕ). n < 2 ^ 32) w (word_small (over []) grant (frames_over grant.page small))) room);
       places = opened_places t p (region_of a) k.places;
       empty = frames_kept memory t p a (word_of_grant (over []) (Some grant)) 1 k.places long (inl (omega arith)) ∙ k.empty;
     }
@@ -245,19 +257,6 @@ nothing_written processes places memory same few empty = subst (λ (n : ℕ). Ha
 
 pub written_as : {memory n : List ℕ} {t u : Places} {table : Table} → n ≡ memory → u ≡ t → HasWords memory t (over table) → HasWords n u (over table)
 written_as {memory} {n} {t} {u} {table} e f k = subst (λ (m : List ℕ). HasWords m u (over table)) (sym e) (subst (λ (v : Places). HasWords memory v (over table)) (sym f) k)
-
--- words depend on the table alone
-pub by_table : (memory : List ℕ) (t : Places) (g h : GrantsState) → h.table ≡ g.table → HasWords memory t g → HasWords memory t h
-by_table memory t g h same k = record {
-  words = record {
-    words = λ p vpn live user. k.words.words p vpn live user ∙ (sym (same_word g h (entry_at g.table p (vpn * 2 ^ 12))) ∙ ap (λ (x : Table). word_of_grant h (entry_at x p (vpn * 2 ^ 12))) (sym same));
-    regions = λ p r live. k.words.regions p r live ∙ ap (λ (x : Table). list_any (λ (e : Entry). region_of e.address == r) (entries_of x p)) (sym same);
-    distinct = k.words.distinct;
-    same = k.words.same ∙ ap (λ (x : Table). length x) (sym same);
-  };
-  places = k.places;
-  empty = k.empty;
-}
 
 -- rules over fewer pages are rules over more
 pub more_pages : (processes pages : ℕ) (rs : List PolicyRule) → pages ≤ 1024 → All (IsGoodRule processes pages) rs → All (IsGoodRule processes 1024) rs

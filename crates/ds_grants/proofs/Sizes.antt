@@ -1,18 +1,24 @@
 -- What is true of the grants stays true when an entry is put or removed.
 use Rattle.std.proofs.Common.{◌≡◌, ℕ, ◌+◌, ◌-◌, ◌<◌, ◌≤◌, ◌==◌, not, Bool, true, false, List, [], ◌∷◌, length, length-set, filter, is_some, IsNone, IsErr, OnOk, Result, Ok, Err, slice_index, ◌↔◌, Option, Some, None, refl, sym, ap, subst, ◌∙◌, inl, inr, arith, slice_set}
-use Rattle.std.specs.List.{All}
+use Rattle.std.specs.Prelude.{◌%◌, ◌^◌, nat_le, IfSome}
+use Rattle.std.specs.List.{All, AllByRecursion, IsDistinct}
 use Rattle.std.proofs.lemmas.Bool.{cases_Bool, false≢true}
+use Rattle.std.proofs.lemmas.Bool.Decides.{nat_tests}
 use Rattle.std.proofs.lemmas.List.Elements.{All-nil, All-head, All-tail, All-cons, All-set, All-filter, All-get_or}
 use Rattle.std.proofs.lemmas.List.Sums.{length-filter, count_by-le-length}
 use Rattle.ds_policy.specs.declared.grant.Entry.{Entry}
 use Rattle.ds_policy.specs.declared.grant.Grant.{Grant}
 use Rattle.ds_policy.specs.Pages.{Table, names, found, put, entries_of, entry_at, with_entry, without_entry}
 use Rattle.ds_policy.specs.Grants.{is_some_right, has_right}
-use Rattle.ds_grants.specs.State.{GrantsState, with_grant, without_grant}
-use Rattle.ds_grants.specs.Sound.{AreCounted, IsWhole, IsGoodRow, IsSound}
+use Rattle.ds_grants.specs.State.{GrantsState, LayoutState, with_grant, without_grant}
+use Rattle.ds_grants.specs.Sound.{AreCounted, IsWhole, IsAtPage, has_same_address, IsGoodRow, AreLaidOut, IsSound}
+use Rattle.ds_grants.specs.Copies.{IsMarked}
+use Rattle.ds_grants.specs.Order.{is_no_page}
 use Rattle.ds_grants.specs.Counts.{one_if_named, page_of, holders_in, holders_at, AreOneMore, AreOneFewer}
-use Rattle.ds_grants.proofs.HolderCounts.{put_counts, remove_counts, end_counts, itself, found_holds, row_holders, counted_within}
+use Rattle.ds_grants.proofs.FifthRegion.{either, same_number}
+use Rattle.ds_grants.proofs.HolderCounts.{put_counts, remove_counts, end_counts, holders_without, holders_fewer, itself, found_holds, row_holders, counted_within}
 use Rattle.ds_grants.proofs.Living.{one_named, found_lives}
+use Rattle.ds_grants.proofs.Laying.{live_below, live_marked, laid_fewer, live_fewer, laid_put}
 use Rattle.ds_grants.specs.Free.{HasPage}
 
 -- an entry in the place of another leaves as many, and one at the end has room
@@ -26,12 +32,58 @@ put_length (e ∷ es) a g before few room = elim (cases_Bool (e.address == a)) [
       omega arith)
 ]
 
-put_whole : (es : List Entry) (a : ℕ) (g : Grant) → is_some g.page ≡ is_some_right g.right → All IsWhole es → All IsWhole (put es a g)
-put_whole [] a g whole all = All-cons IsWhole (record { address = a; grant = g }) [] whole all
-put_whole (e ∷ es) a g whole all = elim (cases_Bool (e.address == a)) [
-  | inl here ↦ rw here (All-cons IsWhole (record { address = a; grant = g }) es whole (All-tail IsWhole e es all))
-  | inr there ↦ rw there (All-cons IsWhole e (put es a g) (All-head IsWhole e es all) (put_whole es a g whole (All-tail IsWhole e es all)))
+-- what is true of each entry and of the one put in is true of each then
+pub all_put : (P : Entry → Type 0) (es : List Entry) (a : ℕ) (g : Grant) → All P es → P (record { address = a; grant = g }) → All P (put es a g)
+all_put P [] a g all new = All-cons P (record { address = a; grant = g }) [] new (All-nil P)
+all_put P (e ∷ es) a g all new = elim (cases_Bool (e.address == a)) [
+  | inl here ↦ rw here (All-cons P (record { address = a; grant = g }) es new (All-tail P e es all))
+  | inr other ↦ rw other (All-cons P e (put es a g) (All-head P e es all) (all_put P es a g (All-tail P e es all) new))
 ]
+
+-- an entry that is put is at a page's address
+at_page : (a : ℕ) (grant : Grant) → is_no_page a ≡ false → IsAtPage (record { address = a; grant = grant })
+at_page a grant page =
+    let tests = either (not (a % 4096 == 0)) (nat_le (2 ^ 31) a) page in
+    let aligned = tests.0 in
+    let user = tests.1 in
+    record { whole = grind (arith, nat_tests); user = grind (arith, nat_tests) }
+
+-- No two entries of a process are at one address.
+
+put_apart : (x : Entry) (es : List Entry) (a : ℕ) (g : Grant) → (x.address == a) ≡ false → AllByRecursion (λ (y : Entry). has_same_address x y ≡ false) es → AllByRecursion (λ (y : Entry). has_same_address x y ≡ false) (put es a g)
+put_apart x [] a g other all = (other, tt)
+put_apart x (e ∷ es) a g other all = elim (cases_Bool (e.address == a)) [
+  | inl here ↦ rw here (other, all.1)
+  | inr there ↦ rw there (all.0, put_apart x es a g other all.1)
+]
+
+pub put_places : (es : List Entry) (a : ℕ) (g : Grant) → IsDistinct has_same_address es → IsDistinct has_same_address (put es a g)
+unfolding IsDistinct
+put_places [] a g apart = (tt, tt)
+put_places (e ∷ es) a g apart = elim (cases_Bool (e.address == a)) [
+  | inl here ↦ rw here (subst (λ (n : ℕ). AllByRecursion (λ (y : Entry). (n == y.address) ≡ false) es) (same_number e.address a here) apart.0, apart.1)
+  | inr there ↦ rw there (put_apart e es a g there apart.0, put_places es a g apart.1)
+]
+
+filter_apart : (p : Entry → Bool) (x : Entry) (es : List Entry) → AllByRecursion (λ (y : Entry). has_same_address x y ≡ false) es → AllByRecursion (λ (y : Entry). has_same_address x y ≡ false) (filter p es)
+filter_apart p x [] all = tt
+filter_apart p x (e ∷ es) all = elim (cases_Bool (p e)) [
+  | inl stays ↦ rw stays (all.0, filter_apart p x es all.1)
+  | inr goes ↦ rw goes (filter_apart p x es all.1)
+]
+
+filter_places : (p : Entry → Bool) (es : List Entry) → IsDistinct has_same_address es → IsDistinct has_same_address (filter p es)
+unfolding IsDistinct
+filter_places p [] apart = tt
+filter_places p (e ∷ es) apart = elim (cases_Bool (p e)) [
+  | inl stays ↦ rw stays (filter_apart p e es apart.0, filter_places p es apart.1)
+  | inr goes ↦ rw goes (filter_places p es apart.1)
+]
+
+-- a process that has nothing
+pub empty_row : IsGoodRow []
+unfolding IsDistinct
+empty_row = record { few = omega arith; whole = All-nil IsWhole; pages = All-nil IsAtPage; places = tt }
 
 -- the entries of each process are good
 pub good_row : (t : Table) (p : ℕ) → 0 < p → p ≤ length t → All IsGoodRow t → IsGoodRow (entries_of t p)
@@ -39,12 +91,17 @@ good_row t p low high all = All-get_or IsGoodRow t (p - 1) [] (omega arith) all
 
 pub sound_put : (g : GrantsState) (p a : ℕ) (grant : Grant) → 0 < p → p ≤ length g.table
     → (IsNone (entry_at g.table p a) → length (entries_of g.table p) < 256)
-    → is_some grant.page ≡ is_some_right grant.right → IsSound g → IsSound (with_grant g p a grant)
-sound_put g p a grant low high room whole sound =
+    → is_some grant.page ≡ is_some_right grant.right → is_no_page a ≡ false → IsSound g → IsSound (with_grant g p a grant)
+sound_put g p a grant low high room whole page sound =
     let row = good_row g.table p low high sound.rows in
     let size = length-set g.table (p - 1) (put (entries_of g.table p) a grant) in
     record {
-      rows = All-set IsGoodRow g.table (p - 1) (put (entries_of g.table p) a grant) (record { few = (let few = row.few in let all = put_length (entries_of g.table p) a grant 0 (omega arith) (λ none. let more = room none in omega arith) in let size : 0 + length (put (entries_of g.table p) a grant) ≤ 256 = all in omega arith); whole = put_whole (entries_of g.table p) a grant whole row.whole }) sound.rows;
+      rows = All-set IsGoodRow g.table (p - 1) (put (entries_of g.table p) a grant) (record {
+        few = (let few = row.few in let all = put_length (entries_of g.table p) a grant 0 (omega arith) (λ none. let more = room none in omega arith) in let size : 0 + length (put (entries_of g.table p) a grant) ≤ 256 = all in omega arith);
+        whole = all_put IsWhole (entries_of g.table p) a grant row.whole whole;
+        pages = all_put IsAtPage (entries_of g.table p) a grant row.pages (at_page a grant page);
+        places = put_places (entries_of g.table p) a grant row.places;
+      }) sound.rows;
       processes = let few = sound.processes in omega arith;
       ended = sound.ended ∙ sym size;
       named = sound.named;
@@ -60,58 +117,75 @@ sound_without g p a low high sound =
     let stay = length-filter others (entries_of g.table p) in
     let fewer = count_by-le-length others (entries_of g.table p) in
     record {
-      rows = All-set IsGoodRow g.table (p - 1) (filter others (entries_of g.table p)) (record { few = omega arith; whole = All-filter others IsWhole (entries_of g.table p) row.whole }) sound.rows;
+      rows = All-set IsGoodRow g.table (p - 1) (filter others (entries_of g.table p)) (record {
+        few = omega arith;
+        whole = All-filter others IsWhole (entries_of g.table p) row.whole;
+        pages = All-filter others IsAtPage (entries_of g.table p) row.pages;
+        places = filter_places others (entries_of g.table p) row.places;
+      }) sound.rows;
       processes = let few = sound.processes in omega arith;
       ended = sound.ended ∙ sym size;
       named = sound.named;
       frames = sound.frames;
     }
 
--- counts and bounds, when an entry was removed
-pub removed_sound : (t : Table) (holders new : List ℕ) (named : ℕ) (ended : List Bool) (p a : ℕ) → 0 < p → p ≤ length t
-    → AreCounted t holders × IsSound (record { table = t; frames = length holders; named = named; ended = ended })
-    → ((q : ℕ) → slice_index new q + holders_at q a (entries_of t p) ≡ slice_index holders q) → length new ≡ length holders
-    → AreCounted (without_entry t p a) new × IsSound (record { table = without_entry t p a; frames = length new; named = named; ended = ended })
-removed_sound t holders new named ended p a low high known fewer size = (
-  remove_counts t p a holders new low high known.0 fewer,
-  subst (λ n. IsSound (record { table = without_entry t p a; frames = n; named = named; ended = ended })) (sym size)
-      (sound_without (record { table = t; frames = length holders; named = named; ended = ended }) p a low high known.1),
+-- the grants of which so many pages may live as are counted
+abbrev pub held : Table → List ℕ → ℕ → List Bool → LayoutState → GrantsState
+held t holders named ended layout = record { table = t; frames = length holders; named = named; ended = ended; lies = layout.lies; shared = layout.shared }
+
+-- they are counted and within their bounds, and their pages lie in frames
+abbrev pub AreKept : Table → List ℕ → ℕ → List Bool → LayoutState → Type 0
+AreKept t holders named ended layout = AreCounted t holders × IsSound (held t holders named ended layout) × AreLaidOut (held t holders named ended layout)
+
+kept_as : (t : Table) (holders new : List ℕ) (named : ℕ) (ended : List Bool) (layout : LayoutState) → length new ≡ length holders → AreCounted t new → IsSound (held t holders named ended layout) → AreLaidOut (held t holders named ended layout) → AreKept t new named ended layout
+kept_as t holders new named ended layout size counted sound laid = (
+  counted,
+  subst (λ n. IsSound (record { table = t; frames = n; named = named; ended = ended; lies = layout.lies; shared = layout.shared })) (sym size) sound,
+  subst (λ n. AreLaidOut (record { table = t; frames = n; named = named; ended = ended; lies = layout.lies; shared = layout.shared })) (sym size) laid,
 )
+
+-- when an entry was removed
+pub removed_sound : (t : Table) (holders new : List ℕ) (named : ℕ) (ended : List Bool) (layout : LayoutState) (p a : ℕ) → 0 < p → p ≤ length t
+    → AreKept t holders named ended layout
+    → ((q : ℕ) → slice_index new q + holders_at q a (entries_of t p) ≡ slice_index holders q) → length new ≡ length holders
+    → AreKept (without_entry t p a) new named ended layout
+removed_sound t holders new named ended layout p a low high known fewer size =
+    kept_as (without_entry t p a) holders new named ended layout size (remove_counts t p a holders new low high known.0 fewer)
+    (sound_without (held t holders named ended layout) p a low high known.1)
+    (laid_fewer (held t holders named ended layout) (without_entry t p a) ended (live_fewer (held t holders named ended layout) (without_entry t p a) ended (λ q. let all = holders_without t p a q (omega (arith, low, high)) in omega (arith, all))) known.2)
 
 sound_end : (g : GrantsState) (p : ℕ) → IsSound g → IsSound (record g { table = slice_set g.table (p - 1) []; ended = slice_set g.ended (p - 1) true })
 sound_end g p sound =
     let size = length-set g.table (p - 1) [] in
     let marked = length-set g.ended (p - 1) true in
     record {
-      rows = All-set IsGoodRow g.table (p - 1) [] (record { few = omega arith; whole = All-nil IsWhole }) sound.rows;
+      rows = All-set IsGoodRow g.table (p - 1) [] empty_row sound.rows;
       processes = let few = sound.processes in omega arith;
       ended = marked ∙ sound.ended ∙ sym size;
       named = sound.named;
       frames = sound.frames;
     }
 
--- counts and bounds, when a process ended
-pub ended_sound : (t : Table) (holders new : List ℕ) (named : ℕ) (ended : List Bool) (p : ℕ) → 0 < p → p ≤ length t
-    → AreCounted t holders × IsSound (record { table = t; frames = length holders; named = named; ended = ended })
+-- when a process ended
+pub ended_sound : (t : Table) (holders new : List ℕ) (named : ℕ) (ended : List Bool) (layout : LayoutState) (p : ℕ) → 0 < p → p ≤ length t
+    → AreKept t holders named ended layout
     → ((q : ℕ) → slice_index new q + holders_in q (entries_of t p) ≡ slice_index holders q) → length new ≡ length holders
-    → AreCounted (slice_set t (p - 1) []) new × IsSound (record { table = slice_set t (p - 1) []; frames = length new; named = named; ended = slice_set ended (p - 1) true })
-ended_sound t holders new named ended p low high known fewer size = (
-  end_counts t p holders new low high known.0 fewer,
-  subst (λ n. IsSound (record { table = slice_set t (p - 1) []; frames = n; named = named; ended = slice_set ended (p - 1) true })) (sym size)
-      (sound_end (record { table = t; frames = length holders; named = named; ended = ended }) p known.1),
-)
+    → AreKept (slice_set t (p - 1) []) new named (slice_set ended (p - 1) true) layout
+ended_sound t holders new named ended layout p low high known fewer size =
+    kept_as (slice_set t (p - 1) []) holders new named (slice_set ended (p - 1) true) layout size (end_counts t p holders new low high known.0 fewer)
+    (sound_end (held t holders named ended layout) p known.1)
+    (laid_fewer (held t holders named ended layout) (slice_set t (p - 1) []) (slice_set ended (p - 1) true) (live_fewer (held t holders named ended layout) (slice_set t (p - 1) []) (slice_set ended (p - 1) true) (λ q. holders_fewer t p q low high)) known.2)
 
--- counts and bounds, when an entry was put
-pub put_sound : (t : Table) (holders middle new : List ℕ) (named : ℕ) (ended : List Bool) (p a : ℕ) (grant : Grant) → 0 < p → p ≤ length t
-    → (IsNone (entry_at t p a) → length (entries_of t p) < 256) → is_some grant.page ≡ is_some_right grant.right
-    → AreCounted t holders × IsSound (record { table = t; frames = length holders; named = named; ended = ended })
+-- when an entry was put
+pub put_sound : (t : Table) (holders middle new : List ℕ) (named : ℕ) (ended : List Bool) (layout : LayoutState) (p a : ℕ) (grant : Grant) → 0 < p → p ≤ length t
+    → (IsNone (entry_at t p a) → length (entries_of t p) < 256) → is_some grant.page ≡ is_some_right grant.right → is_no_page a ≡ false
+    → IfSome grant.page (λ q. IsMarked (held t holders named ended layout) q) → AreKept t holders named ended layout
     → AreOneFewer (page_of (entry_at t p a)) holders middle → AreOneMore grant.page middle new
-    → AreCounted (with_entry t p a grant) new × IsSound (record { table = with_entry t p a grant; frames = length new; named = named; ended = ended })
-put_sound t holders middle new named ended p a grant low high room whole known fewer more = (
-  put_counts t p a grant holders middle new low high known.0 fewer more,
-  subst (λ n. IsSound (record { table = with_entry t p a grant; frames = n; named = named; ended = ended })) (sym (more.size ∙ fewer.size))
-      (sound_put (record { table = t; frames = length holders; named = named; ended = ended }) p a grant low high room whole known.1),
-)
+    → AreKept (with_entry t p a grant) new named ended layout
+put_sound t holders middle new named ended layout p a grant low high room whole page marked known fewer more =
+    kept_as (with_entry t p a grant) holders new named ended layout (more.size ∙ fewer.size) (put_counts t p a grant holders middle new low high known.0 fewer more)
+    (sound_put (held t holders named ended layout) p a grant low high room whole page known.1)
+    (laid_put (held t holders named ended layout) p a grant low high marked known.2)
 
 -- what is done where there is something to be done
 pub done : {E : Type 0} (r : Result (Unit {0}) E) (o : Option Grant) (P : Type 0) → OnOk r P → (IsErr r ↔ IsNone o) → is_some o ≡ true → P
@@ -134,10 +208,10 @@ some_page None h = absurd (false≢true h)
 some_page (Some q) h = (q, refl)
 
 -- what is granted with a right has a page, which lives
-pub has_page : (g : GrantsState) (holders : List ℕ) (p a : ℕ) (grant : Grant) → 0 < p → p ≤ length g.table → g.frames ≡ length holders → AreCounted g.table holders → All IsGoodRow g.table
+pub has_page : (g : GrantsState) (holders : List ℕ) (p a : ℕ) (grant : Grant) → 0 < p → p ≤ length g.table → g.frames ≡ length holders → AreCounted g.table holders → IsSound g → AreLaidOut g
     → entry_at g.table p a ≡ Some grant → is_some_right grant.right ≡ true → HasPage g grant
-has_page g holders p a grant low high frames counted rows is right =
-    let row = good_row g.table p low high rows in
+has_page g holders p a grant low high frames counted sound laid is right =
+    let row = good_row g.table p low high sound.rows in
     let (q, named) = some_page grant.page (found_whole (entries_of g.table p) a grant row.whole is ∙ right) in
     let names_it : names q grant.page ≡ true = ap (names q) named ∙ itself q in
     let one = one_named q grant.page names_it in
@@ -146,7 +220,8 @@ has_page g holders p a grant low high frames counted rows is right =
     let among = row_holders g.table (p - 1) q in
     let count = counted q in
     let within = counted_within holders q (omega arith) in
-    record { page = q; named = named; within = omega arith; lives = found_lives g p a grant q is names_it }
+    let lives = found_lives g p a grant q is names_it in
+    record { page = q; named = named; within = omega arith; lives = lives; marked = live_marked g (live_below g holders counted frames sound.named) laid q lives }
 
 -- where no right is granted, no page is
 no_page_in : (es : List Entry) (a : ℕ) → All IsWhole es → (o : Option Grant) → found es a ≡ o → has_right o ≡ false → page_of o ≡ None

@@ -1,15 +1,18 @@
 -- What holds of pages and frames at the ends of their ranges: each row is a theorem about the
 -- definitions alone.
-use Rattle.std.proofs.Common.{◌≡◌, ℕ, ◌*◌, ◌^◌, List, None, arith, inl, inr}
+use Rattle.std.proofs.Common.{◌≡◌, ℕ, ◌*◌, ◌^◌, true, false, List, [], ◌∷◌, Some, None, refl, arith, inl, inr}
+use Rattle.std.specs.Prelude.{slice_set}
+use Rattle.std.proofs.lemmas.Map.Keys.{IsDistinct-head}
 use Rattle.ds_mem.specs.Memory.{frame_of}
-use Rattle.ds_policy.specs.declared.grant.Right.TheVariants.{Nothing}
+use Rattle.ds_policy.specs.declared.grant.Right.TheVariants.{Nothing, Read}
 use Rattle.ds_grants.specs.State.{GrantsState, with_grant}
 use Rattle.ds_tables.specs.Places.{Places}
 use Rattle.ds_tables.specs.Tables.{entry_word}
 use Rattle.ds_grants.specs.Words.{granted_word, WordsHold}
 use Rattle.ds_grants.specs.Buffer.{IsMapped}
 use Rattle.ds_grants.specs.Represented.{IsLow, IsHigh, HasRegion}
-use Rattle.ds_grants.specs.Rows.{grant, grants}
+use Rattle.ds_grants.specs.Sound.{IsAtPage, has_same_address, IsGoodRow, AreLaidOut}
+use Rattle.ds_grants.specs.Rows.{grant, entry, grants}
 
 pub the_last_users_page_has_its_word : (memory : List ℕ) (t : Places) (g : GrantsState) → WordsHold memory t g → entry_word memory t 1 (0x7FFFF * 2 ^ 12) ≡ granted_word g 1 0x7FFFF
 the_last_users_page_has_its_word memory t g k = k.words 1 0x7FFFF (omega arith) (omega arith)
@@ -32,3 +35,17 @@ the_vectors_are_as_they_were old new low = low.1 0 (inl (omega arith))
 
 pub the_last_table_is_as_it_was : (old new : List ℕ) → IsHigh old new → frame_of new 401 ≡ frame_of old 401
 the_last_table_is_as_it_was old new high = high.1 401 (omega arith)
+
+pub two_pages_alone_lie_apart : AreLaidOut (record grants { lies = slice_set grants.lies 0 1 }) → ⊥
+two_pages_alone_lie_apart k =
+    let no : false ≡ true = k.alone 0 1 (omega arith) (omega arith) refl refl (λ (e : ◌≡◌ {A = ℕ} 0 1). absurd (omega (arith, e))) refl in
+    absurd cc
+
+pub an_entry_is_at_a_page : IsAtPage (entry 0x00400010 Read (Some 0)) → ⊥
+an_entry_is_at_a_page k = let whole = k.whole in absurd (omega (arith, whole))
+
+pub two_entries_have_two_addresses : IsGoodRow (entry 0x00400000 Read (Some 0) ∷ entry 0x00400000 Read (Some 1) ∷ []) → ⊥
+two_entries_have_two_addresses k =
+    let first = IsDistinct-head has_same_address (entry 0x00400000 Read (Some 0)) (entry 0x00400000 Read (Some 1) ∷ []) k.places in
+    let no : true ≡ false = first.0 in
+    absurd cc

@@ -8,4 +8,7 @@ pub mod Changes
 pub mod Represented
 pub mod Order
 pub mod First
+pub mod Copies
 pub mod Rows
+pub mod Rewords
+pub mod Frames

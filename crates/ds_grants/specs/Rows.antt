@@ -1,6 +1,6 @@
 -- Page-table words of a few entries, and what changes of them leave: each row is a theorem about the
 -- definitions alone.
-use Rattle.std.specs.Prelude.{◌≡◌, refl, ℕ, Bool, true, false, List, [], ◌∷◌, map, Option, Some, None}
+use Rattle.std.specs.Prelude.{◌≡◌, refl, ℕ, Bool, true, false, List, [], ◌∷◌, map, slice_set, Option, Some, None}
 use Rattle.ds_tlb.specs.declared.entry.Entry.{Entry}
 use Rattle.ds_tlb.specs.Words.{entry_of}
 use Rattle.ds_policy.specs.declared.grant.Entry as granted
@@ -9,6 +9,7 @@ use Rattle.ds_policy.specs.declared.grant.Right.{Right}
 use Rattle.ds_policy.specs.declared.grant.Right.TheVariants.{Nothing, Read, Write}
 use Rattle.ds_grants.specs.State.{GrantsState}
 use Rattle.ds_grants.specs.First.{no_grants}
+use Rattle.ds_grants.specs.Copies.{with_copy, with_own_frame}
 use Rattle.ds_tables.specs.Places.{Places}
 use Rattle.ds_tables.specs.Tables.{with_entry}
 use Rattle.ds_grants.specs.Words.{word_of_right, granted_word, regions_taken}
@@ -63,6 +64,34 @@ another_process_has_other_words = refl
 
 pub three_places_of_five_are_taken : regions_taken (Some 1 ∷ None ∷ Some 300 ∷ Some 2 ∷ None ∷ []) ≡ 1 ∷ 300 ∷ 2 ∷ []
 three_places_of_five_are_taken = refl
+
+-- Pages that share a frame.
+
+-- page 3 may share its frame
+abbrev pub marked : GrantsState
+marked = record grants { shared = slice_set grants.shared 3 true }
+
+pub a_shared_page_is_not_dirty : granted_word marked 1 0x410 ≡ 0x00195200
+a_shared_page_is_not_dirty = refl
+
+pub a_page_alone_is_dirty : word_of_right marked Write (Some 2) ≡ 0x00194600
+a_page_alone_is_dirty = refl
+
+-- page 2 is a copy of page 3
+abbrev pub copied : GrantsState
+copied = with_copy grants 3 2
+
+pub a_copy_lies_in_the_frame_of_its_page : word_of_right copied Write (Some 2) ≡ 0x00195200
+a_copy_lies_in_the_frame_of_its_page = refl
+
+pub neither_of_the_two_is_dirty : granted_word copied 1 0x410 ≡ 0x00195200
+neither_of_the_two_is_dirty = refl
+
+pub a_page_in_a_frame_of_its_own_is_dirty : word_of_right (with_own_frame copied 2 9) Write (Some 2) ≡ 0x0019B600
+a_page_in_a_frame_of_its_own_is_dirty = refl
+
+pub the_other_stays_marked : word_of_right (with_own_frame copied 2 9) Write (Some 3) ≡ 0x00195200
+the_other_stays_marked = refl
 
 -- What the buffer has of them.
 

@@ -1,12 +1,19 @@
 -- What is granted, the page state that it has in a memory, and what a call answers.
-use Rattle.std.specs.Prelude.{◌≡◌, ℕ, ◌+◌, ◌-◌, Bool, true, not, ◌&&◌, ◌||◌, nat_lt, if◌then◌else◌, List, length, map, slice_index_or, Option, Some, None, Result, Ok, Err}
+use Rattle.std.specs.Prelude.{◌≡◌, ℕ, ◌+◌, ◌-◌, Bool, true, false, not, ◌&&◌, ◌||◌, nat_lt, if◌then◌else◌, List, length, map, slice_index, slice_index_or, Option, Some, None, Result, Ok, Err}
 use Rattle.std.specs.List.{range_with_len}
 use Rattle.ds_mem.specs.Memory.{frame_of}
 use Rattle.ds_policy.specs.declared.grant.Grant.{Grant}
 use Rattle.ds_policy.specs.Pages.{Table, Pages, is_named_by, with_entry, without_entry}
 use Rattle.ds_policy.specs.Grants.{PageState}
 use Rattle.ds_grants.specs.declared.fault.GrantFault.{GrantFault}
+use Rattle.ds_grants.specs.declared.layout.Place.{Place}
 use Rattle.ds_grants.specs.declared.fault.GrantFault.TheVariants.{NoProcess, NotPage, NoGrant, NotAllowed, Taken, TableFull, Regions, NoFrames, NotGiven}
+
+-- where the pages lie: of each the number, among the frames of pages, of its frame, and whether
+-- another page may lie there
+pub record LayoutState : Type 0 where
+  pub lies : List ℕ
+  pub shared : List Bool
 
 -- the permission table, and what it needs to be a page state
 pub record GrantsState : Type 0 where
@@ -17,6 +24,10 @@ pub record GrantsState : Type 0 where
   pub named : ℕ
   -- which processes have ended; process p is at p - 1
   pub ended : List Bool
+  -- of each page the number, among the frames of pages, of the frame in which it lies
+  pub lies : List ℕ
+  -- of each page whether another page may lie in its frame
+  pub shared : List Bool
 
 -- a page lives where the policy or an entry names it
 abbrev pub is_live : GrantsState → ℕ → Bool
@@ -24,7 +35,16 @@ is_live g page = nat_lt page g.named || is_named_by g.table page
 
 -- the frame in which a page lies
 abbrev pub frame_of_page : GrantsState → ℕ → ℕ
-frame_of_page g page = page + 402
+frame_of_page g page = slice_index g.lies page + 402
+
+-- another page may lie in its frame
+abbrev pub is_shared : GrantsState → ℕ → Bool
+is_shared g page = slice_index_or g.shared page false
+
+-- where a page lies, if there is one
+abbrev pub place_of_page : GrantsState → Option ℕ → Option Place
+place_of_page g None = None
+place_of_page g (Some page) = Some (record { frame = slice_index g.lies page; shared = is_shared g page })
 
 -- the bytes of a page in memory, where it lives
 abbrev pub page_in : GrantsState → List ℕ → ℕ → Option (List ℕ)

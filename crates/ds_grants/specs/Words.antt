@@ -1,5 +1,5 @@
 -- Page-table words as a function of what is granted, and memory that has them.
-use Rattle.std.specs.Prelude.{◌≡◌, ℕ, ◌+◌, ◌*◌, ◌^◌, ◌<◌, ◌==◌, true, if◌then◌else◌, List, [], ◌∷◌, length, Option, Some, None, is_some}
+use Rattle.std.specs.Prelude.{◌≡◌, ℕ, ◌+◌, ◌*◌, ◌^◌, ◌<◌, ◌==◌, ◌&&◌, not, true, if◌then◌else◌, List, [], ◌∷◌, length, Option, Some, None, is_some}
 use Rattle.std.specs.List.{list_any}
 use Rattle.ds_word.specs.Word.{bit}
 use Rattle.ds_policy.specs.declared.grant.Entry as granted
@@ -7,13 +7,15 @@ use Rattle.ds_policy.specs.declared.grant.Grant.{Grant}
 use Rattle.ds_policy.specs.declared.grant.Right.{Right}
 use Rattle.ds_policy.specs.Pages.{entry_at, entries_of}
 use Rattle.ds_policy.specs.Grants.{is_some_right, is_write, count_distinct}
-use Rattle.ds_grants.specs.State.{GrantsState, frame_of_page}
+use Rattle.ds_grants.specs.State.{GrantsState, frame_of_page, is_shared}
 use Rattle.ds_tables.specs.Places.{Places, region_of, places_of, place_of}
 use Rattle.ds_tables.specs.Tables.{entry_word}
 
--- EntryLo of a page for a right: its frame, valid, and dirty where the page may be written
+-- EntryLo of a page for a right: its frame, valid, and dirty where the page may be written and no
+-- other page may lie in its frame
 abbrev pub page_word : GrantsState → ℕ → Right → ℕ
-page_word g page right = frame_of_page g page * 2 ^ 12 + bit 10 (is_write right) + bit 9 true
+page_word g page right =
+    frame_of_page g page * 2 ^ 12 + bit 10 (is_write right && not (is_shared g page)) + bit 9 true
 
 -- the page-table word of a page, if there is one, for a right: 0 where there is no right
 abbrev pub word_of_right : GrantsState → Right → Option ℕ → ℕ

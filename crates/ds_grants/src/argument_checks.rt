@@ -3,7 +3,8 @@ ghost use Rattle.std.specs.Prelude.{◌≡◌, ℕ, ◌<◌, ◌≤◌, Bool, tr
 ghost use Rattle.ds_policy.specs.declared.grant.Right.{Right};
 ghost use Rattle.ds_policy.specs.Pages.{entries_of, entry_at, count_live};
 ghost use Rattle.ds_policy.specs.Grants.{PageState, ◌or_else◌, refused, has_right, is_some_right, not_page, no_right, table_full, fifth_region, may_not_give, given, granted, removed, give, grant, drop_own, drop_by_command};
-ghost use Rattle.ds_grants.specs.State.{number_of, lives_in, pages_in, page_state};
+ghost use Rattle.ds_grants.specs.State.{number_of, is_live, lives_in, pages_in, page_state};
+ghost use Rattle.ds_grants.specs.Copies.{IsMarked};
 ghost use Rattle.ds_grants.specs.Counts.{page_of};
 ghost use Rattle.ds_grants.specs.Free.{HasPage, IsFirstFree};
 ghost use Rattle.ds_grants.specs.Order.{is_no_page};
@@ -191,6 +192,8 @@ impl Grants {
             }))) }
         ensures free { OnOk result (page_of (entry_at self.now.table process addr) ≡ None) }
         ensures named { OnOk result (self.now.named ≤ self.now.frames) }
+        ensures marked { OnOk result ((page : ℕ) → is_live self.now page ≡ true
+            → IsMarked self.now page) }
         ensures page { OnOk result (is_no_page addr ≡ false) }
         ensures within { OnOk result ((0 < process) × (process ≤ length self.now.table)) }
         ensures room { OnOk result (IsNone (entry_at self.now.table process addr)

@@ -1,10 +1,11 @@
 //! What a process may do with what it was granted: give it, take back what it gave, and drop it.
-ghost use Rattle.std.specs.Prelude.{◌≡◌, ◌≢◌, ◌⊎◌, ℕ, ◌<◌, ◌≤◌, ◌^◌, List, true, false, length, if◌then◌else◌, Some, IsNone, OnErr, OnOk};
-ghost use Rattle.ds_mem.specs.Memory.{frame_of};
+ghost use Rattle.std.specs.Prelude.{◌≡◌, ◌≢◌, ℕ, ◌<◌, ◌≤◌, ◌^◌, List, true, false, length, if◌then◌else◌, Some, IsNone, OnErr, OnOk};
+ghost use Rattle.ds_tlb.specs.declared.entry.Entry.{Entry};
 ghost use Rattle.ds_policy.specs.declared.grant.Right.TheVariants.{Write};
 ghost use Rattle.ds_policy.specs.Pages.{entries_of, entry_at, fresh};
 ghost use Rattle.ds_policy.specs.Grants.{is_some_right, granted, copied, give, take, drop_own, drop_by_command};
-ghost use Rattle.ds_grants.specs.State.{Does, IsAsLarge, lives_in, frame_of_page, page_state, pages_in};
+ghost use Rattle.ds_grants.specs.State.{Does, IsAsLarge, lives_in, page_state, pages_in};
+ghost use Rattle.ds_grants.specs.Copies.{AreRewritten};
 ghost use Rattle.ds_grants.specs.Free.{HasPage, IsFirstFree};
 ghost use Rattle.ds_grants.specs.Order.{is_no_page};
 ghost use Rattle.ds_asid.specs.Spaces.{number_held};
@@ -12,7 +13,8 @@ ghost use Rattle.ds_grants.specs.Changes.{both_forgotten};
 ghost use Rattle.ds_grants.specs.Represented.{IsLow, HasRegion, Keeps};
 
 use crate::fault::GrantFault;
-use crate::grants::{Grants, frame_of_page};
+use crate::grants::Grants;
+use crate::rewords::reword_page;
 use ds_asid::Asids;
 use ds_mem::Memory;
 use ds_policy::{Grant, Right};
@@ -21,8 +23,8 @@ use ds_tlb::Lookaside;
 
 impl Grants {
     /// Gives what a process has at an address to another process: by mode 1 the page for reading,
-    /// by 2 for writing, by 3 a copy of it, in a frame of its own at once. Refused, nothing
-    /// changes.
+    /// by 2 for writing, by 3 a copy of it, which lies in the page's frame until one of the
+    /// two is first stored to. Refused, nothing changes.
     pub fn give<L: Lookaside>(
         &mut self,
         caller: u32,
@@ -45,13 +47,12 @@ impl Grants {
         ensures refused { OnErr result ((self.new ≡ self.old) × (memory.new ≡ memory.old)
             × (tables.new ≡ tables.old) × (L.entries tlb.new ≡ L.entries tlb.old)) }
         ensures spaces { spaces.new ≡ spaces.old }
-        ensures shared { mode ≢ 3 → IsLow memory.old memory.new }
-        ensures entries { OnOk result
-            (L.entries tlb.new
-            ≡ both_forgotten (L.entries tlb.old) to (number_held spaces.old receiver)) }
-        ensures elsewhere { (f : ℕ) → (f < 2) ⊎ (402 ≤ f)
-            → f ≢ frame_of_page self.old (fresh (pages_in self.old memory.old))
-            → frame_of memory.new f ≡ frame_of memory.old f }
+        ensures low { IsLow memory.old memory.new }
+        ensures entries { OnOk result ((between : List Entry)
+            × AreRewritten (L.entries tlb.old) between
+            × (mode ≢ 3 → between ≡ L.entries tlb.old)
+            × (L.entries tlb.new
+            ≡ both_forgotten between to (number_held spaces.old receiver))) }
         ensures keeps { Keeps
             (L.entries tlb.old) memory.old tables.old spaces.old self.old
             (L.entries tlb.new) memory.new tables.new spaces.new self.new }
@@ -129,7 +130,8 @@ impl Grants {
         self.put(receiver, to, shared, memory, tables, spaces, tlb);
     }
 
-    /// Gives a copy of a page that a process has.
+    /// Gives a copy of a page that a process has. It lies in the page's frame, which nobody may write
+    /// from now on, until one of the two gets a frame of its own.
     fn give_copy<L: Lookaside>(
         &mut self,
         grant: Grant,
@@ -159,19 +161,20 @@ impl Grants {
             }) }
         ensures same { IsAsLarge self.old self.new }
         ensures ended { self.new.ended ≡ self.old.ended }
-        ensures entries { L.entries tlb.new
-            ≡ both_forgotten (L.entries tlb.old) to (number_held spaces.old receiver) }
+        ensures low { IsLow memory.old memory.new }
+        ensures entries { (between : List Entry) × AreRewritten (L.entries tlb.old) between
+            × (L.entries tlb.new
+            ≡ both_forgotten between to (number_held spaces.old receiver)) }
         ensures spaces { spaces.new ≡ spaces.old }
-        ensures elsewhere { (f : ℕ) → (f < 2) ⊎ (402 ≤ f)
-            → f ≢ frame_of_page self.old (fresh (pages_in self.old memory.old))
-            → frame_of memory.new f ≡ frame_of memory.old f }
         ensures keeps { Keeps
             (L.entries tlb.old) memory.old tables.old spaces.old self.old
             (L.entries tlb.new) memory.new tables.new spaces.new self.new }
         ensures random { L.random_place tlb.new ≡ L.random_place tlb.old }
     {
         if let (Some(page), Some(free)) = (grant.page, self.free_page()) {
-            memory.copy_frame(frame_of_page(page), frame_of_page(free));
+            self.lay_copy(page, free);
+            let place = self.place(page);
+            reword_page(self.table(), page, place, memory, tables, spaces, tlb);
             let copy = Grant {
                 right: Right::Write,
                 page: Some(free),

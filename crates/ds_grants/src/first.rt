@@ -12,8 +12,9 @@ ghost use Rattle.ds_grants.specs.Represented.{IsRepresented};
 ghost use Rattle.ds_grants.specs.First.{no_grants, first_grants};
 
 use crate::first_tables::first_tables;
-use crate::grants::{Grants, PROCESSES, frame_of_page};
+use crate::grants::{Grants, PROCESSES};
 use crate::holders::hold_table;
+use crate::layout::{Layout, frame_in_memory};
 use crate::tally::Tally;
 use arrayvec::ArrayVec;
 use ds_asid::Asids;
@@ -58,8 +59,8 @@ pub fn fill_page(names: &[Text<64>], images: &[Image], source: &Option<Source>, 
     }
 }
 
-/// Fills the frame of each page with its part of the image of its source, or with zeros where it
-/// has none.
+/// Fills the frame of each page's number with the part of the image of its source, or with zeros
+/// where it has none.
 fn fill_pages(names: &[Text<64>], images: &[Image], pages: &[PolicyPage], memory: &mut Memory)
     requires images { length images.now ≡ length names.now }
     requires few { length pages.now ≤ 1024 }
@@ -74,7 +75,7 @@ fn fill_pages(names: &[Text<64>], images: &[Image], pages: &[PolicyPage], memory
             names,
             images,
             &page.source,
-            memory.frame_mut(frame_of_page(i as u32)),
+            memory.frame_mut(frame_in_memory(i as u32)),
         );
     }
 }
@@ -116,12 +117,14 @@ impl Grants {
         ensures { IfOk result (λ g. g ≡ no_grants processes frames named) }
     {
         let holders = zeros(alloc, frames as usize)?;
+        let layout = Layout::first(alloc, frames)?;
         match Table::empty(alloc, processes) {
             Ok(table) => Ok(Grants {
                 table,
                 holders: Tally::of(holders),
                 named,
                 ended: none_ended(processes),
+                layout,
             }),
             Err(_) => Err(OutOfMemory),
         }
@@ -134,6 +137,7 @@ impl Grants {
         // The rules are those of a policy that was read.
         prove!(policy.rules().len() <= 999);
         let mut holders = zeros(alloc, policy.frames() as usize)?;
+        let layout = Layout::first(alloc, policy.frames())?;
         let named = policy.pages().len() as u32;
         let ended = none_ended(policy.processes().len());
         match Table::new(alloc, policy) {
@@ -144,6 +148,7 @@ impl Grants {
                     holders: Tally::of(holders),
                     named,
                     ended,
+                    layout,
                 })
             }
             Err(_) => Err(OutOfMemory),

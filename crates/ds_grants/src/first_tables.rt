@@ -6,10 +6,12 @@ ghost use Rattle.ds_policy.specs.PolicyFacts.{IsGoodRule, HasFewRegions};
 ghost use Rattle.ds_policy.specs.FirstTable.{granted_by, with_rules};
 ghost use Rattle.ds_tables.specs.Places.{region_of, opened};
 ghost use Rattle.ds_tables.specs.Tables.{HasEmptyTable, with_entry};
-ghost use Rattle.ds_grants.specs.State.{GrantsState};
+ghost use Rattle.ds_grants.specs.State.{GrantsState, place_of_page};
+ghost use Rattle.ds_grants.specs.First.{first_place, AreInOrder};
 ghost use Rattle.ds_grants.specs.Words.{word_of_grant};
 ghost use Rattle.ds_grants.specs.Represented.{HasWords};
 
+use crate::layout::Place;
 use crate::page_tables::word_of_right;
 use ds_mem::Memory;
 use ds_policy::PolicyRule;
@@ -21,7 +23,7 @@ pub(crate) fn first_tables(rules: &[PolicyRule], processes: usize, memory: &mut 
     requires good { All (IsGoodRule processes 1024) rules.now }
     requires regions { HasFewRegions rules.now }
     ensures words { HasEmptyTable memory.old → (g : GrantsState)
-        → g.table ≡ with_rules (replicate processes []) 1 rules.now
+        → g.table ≡ with_rules (replicate processes []) 1 rules.now → AreInOrder g
         → HasWords memory.new result g }
     ensures elsewhere { (f : ℕ) → (f < 2) ⊎ (402 ≤ f)
         → frame_of memory.new f ≡ frame_of memory.old f }
@@ -38,7 +40,8 @@ fn write_rule(rule: &PolicyRule, memory: &mut Memory, tables: &mut Tables)
     requires { IfSome rule.now.page (λ q. q < 1024) }
     ensures tables { tables.new
         ≡ opened tables.old rule.now.process (region_of rule.now.address) }
-    ensures memory { (g : GrantsState) → memory.new
+    ensures memory { (g : GrantsState) → place_of_page g rule.now.page ≡ first_place rule.now.page
+        → memory.new
         ≡ with_entry memory.old tables.old rule.now.process rule.now.address
         (word_of_grant g (Some (granted_by 0 rule.now))) }
     ensures elsewhere { (f : ℕ) → (f < 2) ⊎ (402 ≤ f)
@@ -46,6 +49,19 @@ fn write_rule(rule: &PolicyRule, memory: &mut Memory, tables: &mut Tables)
     ensures size { length memory.old ≡ 2 ^ 23 }
 {
     let _first = memory.word(0);
-    let word = word_of_right(rule.right, rule.page);
+    let word = word_of_right(rule.right, first_place(rule.page));
     let _ = tables.put_entry(memory, rule.process, rule.address, word);
+}
+
+/// The frame of a page's number, in which no other page may lie, if there is a page.
+fn first_place(page: Option<u32>) -> Option<Place>
+    ensures { result ≡ first_place page }
+{
+    match page {
+        Some(page) => Some(Place {
+            frame: page,
+            shared: false,
+        }),
+        None => None,
+    }
 }

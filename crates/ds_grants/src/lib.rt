@@ -12,10 +12,13 @@ mod first;
 mod first_tables;
 mod grants;
 mod holders;
+mod late_copies;
+mod layout;
 mod order;
 mod page_tables;
 mod regions;
 mod represented;
+mod rewords;
 mod table_words;
 mod tally;
 mod translation;
@@ -25,7 +28,7 @@ pub use buffer_laws::{
 };
 pub use fault::GrantFault;
 pub use first::fill_page;
-pub use grants::{Grants, frame_of_page};
+pub use grants::Grants;
 pub use order::refusals_have_one_order;
 pub use represented::{
     a_change_keeps_what_is_represented, a_number_is_handed_out, pages_leave_tables_as_they_are,

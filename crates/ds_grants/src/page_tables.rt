@@ -1,30 +1,33 @@
 //! Words of page tables.
-ghost use Rattle.std.specs.Prelude.{◌≡◌, ◌<◌, ◌≤◌, ◌==◌, ◌^◌, IfSome, Some};
+ghost use Rattle.std.specs.Prelude.{◌≡◌, ℕ, ◌<◌, ◌≤◌, ◌==◌, ◌^◌, IfSome, Some, Option};
 ghost use Rattle.std.specs.List.{list_any};
 ghost use Rattle.ds_policy.specs.declared.grant.Entry as granted;
 ghost use Rattle.ds_tables.specs.Places.{region_of};
-ghost use Rattle.ds_grants.specs.State.{GrantsState};
+ghost use Rattle.ds_grants.specs.State.{GrantsState, place_of_page};
 ghost use Rattle.ds_grants.specs.Words.{word_of_right};
 ghost use Rattle.ds_grants.specs.Changes.{all_closed};
 
-use crate::grants::frame_of_page;
+use crate::layout::{Place, frame_in_memory};
 use ds_policy::{Entry, Right};
 use ds_tables::Tables;
 use ds_word::bit;
 
-/// The page-table word of a page, if there is one, for a right: its frame, valid, and dirty where it
-/// may be written; 0 where there is no right.
-pub(crate) fn word_of_right(right: Right, page: Option<u32>) -> u32
-    requires { IfSome page (λ q. q < 1024) }
-    ensures { (g : GrantsState) → result ≡ word_of_right g right page }
+/// The page-table word of a page by where it lies, if there is one, for a right: its frame, valid, and
+/// dirty where it may be written and no other page may lie there; 0 where there is no right.
+pub(crate) fn word_of_right(right: Right, place: Option<Place>) -> u32
+    requires { IfSome place (λ p. p.frame < 1024) }
+    ensures { (g : GrantsState) (page : Option ℕ) → place ≡ place_of_page g page
+        → result ≡ word_of_right g right page }
 {
     let writes = match right {
         Right::Nothing => return 0,
         Right::Read => false,
         Right::Write => true,
     };
-    match page {
-        Some(page) => frame_of_page(page) * 4096 + bit(10, writes) + bit(9, true),
+    match place {
+        Some(place) => {
+            frame_in_memory(place.frame) * 4096 + bit(10, writes && !place.shared) + bit(9, true)
+        }
         None => 0,
     }
 }

@@ -1,5 +1,5 @@
 //! Page tables and the buffer together.
-ghost use Rattle.std.specs.Prelude.{◌≡◌, ℕ, ◌*◌, ◌<◌, ◌≤◌, ◌%◌, ◌^◌, List, length, nat_lt, if◌then◌else◌, Some, IfSome};
+ghost use Rattle.std.specs.Prelude.{◌≡◌, ℕ, ◌*◌, ◌<◌, ◌≤◌, ◌%◌, ◌^◌, List, length, nat_lt, slice_index, if◌then◌else◌, Some, IfSome};
 ghost use Rattle.ds_word.specs.Bytes.{with_word};
 ghost use Rattle.ds_tlb.specs.declared.entry.Entry.{Entry};
 ghost use Rattle.ds_tlb.specs.Entries.{empty_entries};
@@ -18,7 +18,8 @@ pub fn a_change_keeps_what_is_represented()
     ensures put { (entries : List Entry) (memory : List ℕ) (t : Places) (s : Spaces)
         (g : GrantsState) (p a : ℕ) (grant : Grant)
         → 2 ^ 23 ≤ length memory → 0 < p → p ≤ length g.table
-        → a % 2 ^ 12 ≡ 0 → IfSome grant.page (λ page. page < 1024) → HasPlace g p a
+        → a % 2 ^ 12 ≡ 0 → IfSome grant.page (λ page. slice_index g.lies page < 1024)
+        → HasPlace g p a
         → Keeps entries memory t s g
         (both_forgotten entries a (number_held s p))
         (with_entry memory t p a (word_of_grant g (Some grant)))

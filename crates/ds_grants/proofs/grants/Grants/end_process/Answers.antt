@@ -18,7 +18,7 @@ pub invariant_of-self : goal.invariant_of-self
 invariant_of-self g c =
     let high : c.args.process ≤ length c.self.inside.table = subst (λ (s : GrantsState). c.args.process ≤ length s.table) (sym c.self.view_is) c.requires.high in
     rw (c.clear.ensures, c.deref_mut.ensures.value, refill_set c.self.inside.ended.items (c.args.process - 1) true)
-    (ended_sound c.self.inside.table c.self.inside.holders c.release_all.new.self c.self.inside.named c.self.inside.ended.items c.args.process c.requires.low high c.self.invariant
+    (ended_sound c.self.inside.table c.self.inside.holders c.release_all.new.self c.self.inside.named c.self.inside.ended.items c.self.inside.layout c.args.process c.requires.low high c.self.invariant
     (λ q. ap (λ es. slice_index c.release_all.new.self q + holders_in q es) (sym c.entries-entries.ensures.all) ∙ c.release_all.ensures.fewer q) c.release_all.ensures.size)
 
 pub returns-clause-does : goal.returns-clause-does

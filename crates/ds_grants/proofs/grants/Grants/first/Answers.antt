@@ -4,6 +4,7 @@ use Rattle.std.proofs.lemmas.List.{length-replicate}
 use Rattle.ds_policy.proofs.Filling.{whole}
 use Rattle.ds_grants.specs.Sound.{IsGoodRow}
 use Rattle.ds_grants.proofs.FirstGrants.{first_good, none_of}
+use Rattle.ds_grants.proofs.Laying.{laid_first}
 use Rattle.ds_grants.proofs.grants.Grants.first.Goals as goal
 
 pub hold_table-requires-clause-within : goal.hold_table-requires-clause-within
@@ -34,4 +35,5 @@ invariant_of-result c =
         named = omega (arith, named, size, c.pages.ensures.few);
         frames = omega (arith, size, c.frames.ensures.high);
       },
+      rw (c.in_ok-layout.ensures, size, c.frames-2.ensures.all) (laid_first _ _ _ _),
     )

@@ -10,6 +10,9 @@ returns-in_err-may_be_granted-clause-does g c =
     refused_by (page_state c.args.self.now c.args.memory.now) c.from_residual.result c.in_err-may_be_granted.field-0.0 _ (search rules)
     (c.in_err-may_be_granted.ensures.err c.args.memory.now c.args.page c.args.right c.args.give c.args.rule)
 
+pub put-requires-clause-marked : goal.put-requires-clause-marked
+put-requires-clause-marked g c = c.in_ok-may_be_granted.ensures.marked c.args.page (named_lives c.args.self.now c.args.page c.requires.named)
+
 pub returns-clause-does : goal.returns-clause-does
 returns-clause-does g c =
     let within = c.in_ok-may_be_granted.ensures.within in

@@ -13,4 +13,4 @@ returns-in-Some-clause-names c =
     let is : entry_at c.self.inside.table c.args.process c.args.addr ≡ Some c.in-Some.grant = search rules in
     let right : is_some_right c.in-Some.grant.right ≡ true = search rules in
     subst (λ (s : GrantsState). HasPage s c.in-Some.grant) c.self.view_is
-    (has_page (the_view c.self.inside) c.self.inside.holders c.args.process c.args.addr c.in-Some.grant c.requires.low high refl c.self.invariant.0 c.self.invariant.1.rows is right)
+    (has_page (the_view c.self.inside) c.self.inside.holders c.args.process c.args.addr c.in-Some.grant c.requires.low high refl c.self.invariant.0 c.self.invariant.1 c.self.invariant.2 is right)

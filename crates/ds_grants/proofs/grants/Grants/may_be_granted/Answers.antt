@@ -1,7 +1,10 @@
-use Rattle.std.proofs.Common.{rules, ◌≡◌, ◌≤◌, length, false, None, sym, subst}
+use Rattle.std.proofs.Common.{rules, ◌≡◌, ◌≤◌, ℕ, length, true, false, None, refl, sym, subst}
 use Rattle.ds_policy.specs.Pages.{entry_at}
 use Rattle.ds_policy.specs.Grants.{has_right}
-use Rattle.ds_grants.specs.State.{GrantsState}
+use Rattle.ds_grants.specs.State.{GrantsState, is_live}
+use Rattle.ds_grants.specs.Copies.{IsMarked}
+use Rattle.ds_grants.specs.contracts.grants.Grants.{the_view}
+use Rattle.ds_grants.proofs.Laying.{live_below, live_marked}
 use Rattle.ds_grants.specs.Counts.{page_of}
 use Rattle.ds_grants.proofs.Chains.{room_err, room_ok, at_ok}
 use Rattle.ds_grants.proofs.Sizes.{no_page}
@@ -22,3 +25,8 @@ returns-clause-free c =
     at_ok c.has_room.result
     (subst (λ (s : GrantsState). page_of (entry_at s.table c.args.process c.args.addr) ≡ None) c.self.view_is
     (no_page c.self.inside.table c.args.process c.args.addr low high c.self.invariant.1.rows none))
+
+pub returns-clause-marked : goal.returns-clause-marked
+returns-clause-marked c = at_ok c.has_room.result
+    (subst (λ (s : GrantsState). (page : ℕ) → is_live s page ≡ true → IsMarked s page) c.self.view_is
+    (live_marked (the_view c.self.inside) (live_below (the_view c.self.inside) c.self.inside.holders c.self.invariant.0 refl c.self.invariant.1.named) c.self.invariant.2))

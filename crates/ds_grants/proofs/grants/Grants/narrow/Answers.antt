@@ -1,6 +1,7 @@
 use Rattle.std.proofs.Common.{rules, ◌∙◌, ◌<◌, Ok, ℕ, Option, IfSome, is_some, sym, ap, subst}
 use Rattle.ds_policy.specs.Grants.{PageState}
 use Rattle.ds_grants.specs.State.{GrantsState, page_state}
+use Rattle.ds_grants.specs.Copies.{IsMarked}
 use Rattle.ds_grants.proofs.Chains.{refused_by, narrowed_as}
 use Rattle.ds_grants.proofs.Living.{low_pages, narrowed_state}
 use Rattle.ds_grants.proofs.grants.Grants.narrow.Goals as goal
@@ -13,6 +14,9 @@ put-requires-clause-whole g c = ap is_some c.in_ok-grant.ensures.names.named
 
 pub put-requires-clause-page : goal.put-requires-clause-page
 put-requires-clause-page g c = subst (λ (o : Option ℕ). IfSome o (λ q. q < c.args.self.now.frames)) (sym c.in_ok-grant.ensures.names.named) c.in_ok-grant.ensures.names.within
+
+pub put-requires-clause-marked : goal.put-requires-clause-marked
+put-requires-clause-marked g c = subst (λ (o : Option ℕ). IfSome o (λ q. IsMarked c.args.self.now q)) (sym c.in_ok-grant.ensures.names.named) c.in_ok-grant.ensures.names.marked
 
 pub returns-clause-does : goal.returns-clause-does
 returns-clause-does g c =

@@ -1,9 +1,11 @@
-use Rattle.std.proofs.Common.{◌≡◌, ◌∙◌, ◌+◌, ◌<◌, ℕ, [], length, map, get_or, refl, arith, inl, inr}
+use Rattle.std.proofs.Common.{◌≡◌, ◌∙◌, ◌+◌, ◌<◌, ℕ, [], length, map, get_or, refl, sym, subst, arith, inl, inr}
 use Rattle.ds_policy.specs.PolicyParts.{sources_of}
 use Rattle.ds_pagemap.specs.First.{source_bytes}
 use Rattle.ds_mem.specs.Memory.{frame_of}
 use Rattle.ds_asid.proofs.Apart.{start_apart}
 use Rattle.ds_grants.proofs.Fills.{empty_buffer}
+use Rattle.ds_grants.specs.First.{AreInOrder}
+use Rattle.ds_grants.proofs.FirstGrants.{first_order}
 use Rattle.ds_grants.proofs.FirstPages.{first_pages_hold}
 use Rattle.ds_grants.proofs.grants.Grants.new.Goals as goal
 
@@ -15,7 +17,8 @@ returns-clause-pages g c =
 
 pub returns-clause-represented : goal.returns-clause-represented
 returns-clause-represented g c = λ few empty.
-    let words = c.first_tables.ensures.words (c.fill_pages.ensures.elsewhere 1 (inl (omega arith)) ∙ empty) c.in_ok-grants.grants (rw (c.processes.ensures.all, c.rules-2.ensures.all, c.in_ok-grants.ensures) refl) in
+    let words = c.first_tables.ensures.words (c.fill_pages.ensures.elsewhere 1 (inl (omega arith)) ∙ empty) c.in_ok-grants.grants (rw (c.processes.ensures.all, c.rules-2.ensures.all, c.in_ok-grants.ensures) refl)
+    (subst AreInOrder (sym c.in_ok-grants.ensures) (first_order c.args.policy.now c.rules.ensures.good c.pages.ensures.few)) in
     record {
       buffer = rw c.flush.ensures.entries (empty_buffer g.L.Lookaside.SLOTS c.flush.new.self c.in_ok-grants.grants c.first_tables.result few);
       words = words.words;

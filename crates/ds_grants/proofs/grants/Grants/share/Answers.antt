@@ -1,6 +1,7 @@
 use Rattle.std.proofs.Common.{◌∙◌, ◌<◌, ℕ, Option, IfSome, is_some, sym, ap, subst}
 use Rattle.ds_policy.specs.Pages.{entry_at}
 use Rattle.ds_grants.specs.State.{GrantsState, page_state}
+use Rattle.ds_grants.specs.Copies.{IsMarked}
 use Rattle.ds_grants.specs.Counts.{page_of}
 use Rattle.ds_grants.proofs.Copies.{none_there}
 use Rattle.ds_grants.proofs.Living.{low_pages, shared_state, one_lives}
@@ -11,6 +12,9 @@ put-requires-clause-whole g c = ap is_some c.requires.names.named ∙ sym c.requ
 
 pub put-requires-clause-page : goal.put-requires-clause-page
 put-requires-clause-page g c = subst (λ (o : Option ℕ). IfSome o (λ q. q < c.args.self.now.frames)) (sym c.requires.names.named) c.requires.names.within
+
+pub put-requires-clause-marked : goal.put-requires-clause-marked
+put-requires-clause-marked g c = subst (λ (o : Option ℕ). IfSome o (λ q. IsMarked c.args.self.now q)) (sym c.requires.names.named) c.requires.names.marked
 
 pub returns-clause-state : goal.returns-clause-state
 returns-clause-state g c =

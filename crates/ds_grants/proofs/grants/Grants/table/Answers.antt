@@ -22,4 +22,5 @@ pub returns-clause-pages : goal.returns-clause-pages
 returns-clause-pages c = subst (λ (s : GrantsState). NamesPages s) c.self.view_is (record {
   frames = c.self.invariant.1.frames;
   named = λ p a q grant is named. named_within c.self.inside.table c.self.inside.holders p a q grant c.self.invariant.0 is named;
+  layout = c.self.invariant.2;
 })

@@ -1,0 +1,4 @@
+use Rattle.ds_grants.proofs.layout.unmarked.Goals as goal
+
+pub returns-in-Ok : goal.returns-in-Ok
+returns-in-Ok c = c.in-Ok.ensures.items_if_clones_equal (λ y same. same)
