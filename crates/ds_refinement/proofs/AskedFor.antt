@@ -35,6 +35,7 @@ use Rattle.ds_refinement.specs.Held.{Held, space_of}
 use Rattle.ds_refinement.specs.Units.{user_status}
 use Rattle.ds_refinement.specs.Stands.{OnProcessor, RunningIs, RunningBy, KeptIs, Agrees}
 use Rattle.ds_refinement.proofs.Frames.{word_of_page}
+use Rattle.ds_refinement.proofs.Late.{page_below, shows_store}
 use Rattle.ds_refinement.proofs.Lookups.{user_reaches}
 use Rattle.ds_refinement.proofs.Fields.{space_set}
 use Rattle.ds_refinement.proofs.Standing.{few}
@@ -150,15 +151,9 @@ lower false user u e = refl
 mode_user : (s : System) → is_user s ≡ true → map_user (mode_of s) ≡ true
 mode_user s user = rw user refl
 
-page_below : (w a : ℕ) → nat_le (2 ^ 31) a ≡ false → bits (with_field w 12 20 (bits a 12 20)) 12 20 ≡ a / 2 ^ 12
-page_below w a low = let below : a < 2 ^ 31 = grind (arith, nat_tests) in omega (arith, below)
-
 -- EntryHi names the page
 page_in : (w a : ℕ) → nat_lt a (2 ^ 31) ≡ true → bits (with_field w 12 20 (bits a 12 20)) 12 20 ≡ a / 2 ^ 12
 page_in w a low = let below : a < 2 ^ 31 = grind (arith, nat_tests) in omega (arith, below)
-
-shows_store : (c : CoreState) (access : Kind) (address : ℕ) → (entered c.system (refusal c access address Modified)).entry_hi ≡ with_field c.system.entry_hi 12 20 (bits address 12 20)
-shows_store c access address = refl
 
 pub shows : (c : CoreState) (access : Kind) (address : ℕ) → (entered c.system (refusal c access address Refill)).entry_hi ≡ with_field c.system.entry_hi 12 20 (bits address 12 20)
 shows c kind.Fetch address = refl
@@ -214,7 +209,7 @@ module _ (h : Held) (m : State) (p : ℕ) (rest : List ℕ) (k : Agrees h m) (re
         offset = h.core.pc % 4096;
         allowed = ap (λ (s : PageState). decide s.table p kind.Fetch Word h.core.pc) kept.pages ∙ a.allowed;
         same = ap (λ (s : PageState). word_at (bytes_of s.pages a.page) (h.core.pc % 4096)) kept.pages
-            ∙ (sym (word_of_page h.kept.grants h.bus.memory a.page (h.core.pc % 4096) a.lives a.low k.grants.frames k.size (omega arith)) ∙ ap (word_at h.bus.memory) (sym a.lies));
+            ∙ (sym (word_of_page h.kept.grants h.bus.memory a.page (h.core.pc % 4096) a.lives a.low k.grants k.size (omega arith)) ∙ ap (word_at h.bus.memory) (sym a.lies));
         small = a.small;
       }
 

@@ -116,7 +116,8 @@ boundary_of h m turn k owed quiet =
 
 -- in kernel mode no boundary is owed
 pub kernel_owes : (general left : Bool) (c : CoreState) (k : Kept) (p : ℕ) (m : State) → InKernel general left c k p m → m.owed ≡ None
-kernel_owes true true c k p m a = a.owed
+kernel_owes true true c k p m (inl a) = a.owed
+kernel_owes true true c k p m (inr a) = a.owed
 kernel_owes true false c k p m a = a.owed
 kernel_owes false left c k p m a = a.1.owed
 

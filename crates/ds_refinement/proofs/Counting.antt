@@ -16,12 +16,12 @@ use Rattle.ds_pagemap.specs.Unit.{Stop, at_pc, settle, after_call}
 use Rattle.ds_core.specs.declared.event.Event.{Event}
 use Rattle.ds_core.specs.declared.event.Event.TheVariants.{Retired, Branched, Raised}
 use Rattle.ds_refinement.specs.declared.step.Step.TheVariants.{Inside, Unit, Boundary}
-use Rattle.ds_refinement.specs.Held.{Held, Kept, Own, whole}
-use Rattle.ds_refinement.specs.Units.{is_general, is_served, ends_in_stop, ends_in_call}
+use Rattle.ds_refinement.specs.Held.{Held, Own, whole}
+use Rattle.ds_refinement.specs.Units.{has_left_user, is_general, is_served, ends_in_stop, ends_in_call}
 use Rattle.ds_refinement.specs.Told.{own_in}
 use Rattle.ds_dev.specs.Bus.{BusState}
 use Rattle.ds_refinement.specs.Handling.{touches}
-use Rattle.ds_refinement.specs.Counts.{Counts, HasNone, counts_of, with_counts, one_more, one_word, one_tabled}
+use Rattle.ds_refinement.specs.Counts.{Counts, HasNone, counts_of, with_counts, one_more, one_word, one_served}
 use Rattle.ds_refinement.specs.Steps.{Moves, counts_after, ticks_of}
 use Rattle.ds_refinement.specs.Services.{EndsBy, seated, with_first_seated, with_none_spent, with_one_spent, after_event, after_word, step_of, with_boundary, with_idle_turn}
 use Rattle.ds_refinement.specs.Ends.{EndsInStop, EndsInCall}
@@ -47,7 +47,7 @@ pub user_moves : (h : Held) (s : core.Step) → h.kept.state.owed ≡ None → i
 user_moves h s owed user few =
     let served : is_served h.core ≡ false = ap (λ (u : Bool). not u && is_general h.core) user in
     inside_moves h s.core s.bus (one_more (counts_of h.own)) owed served few refl
-    (sym (ap₂ (λ (a b : Bool). cond a (one_tabled (counts_of h.own)) (cond b (one_more (counts_of h.own)) (one_word (touches h.core) h.core.random (counts_of h.own)))) served user))
+    (sym (ap₂ (λ (a b : Bool). cond a (one_served (has_left_user h.core) (counts_of h.own)) (cond b (one_more (counts_of h.own)) (one_word (touches h.core) h.core.random (counts_of h.own)))) served user))
 
 -- by what the processor told of it
 pub event_moves : (e : Event) (h : Held) (s : core.Step) → h.kept.state.owed ≡ None → is_user h.core.system ≡ true → h.own.spent + 1 ≤ 64 → Moves (step_of e) h (after_event e h s)
@@ -63,13 +63,17 @@ word_spent false random n = refl
 pub word_moves : (h : Held) (s : core.Step) → h.kept.state.owed ≡ None → is_user h.core.system ≡ false → is_served h.core ≡ false → h.own.spent + 1 ≤ 64 → Moves Inside h (after_word h s)
 word_moves h s owed user served few =
     inside_moves h s.core s.bus (one_word (touches h.core) h.core.random (counts_of h.own)) owed served few (word_spent (touches h.core) h.core.random (counts_of h.own))
-    (sym (ap₂ (λ (a b : Bool). cond a (one_tabled (counts_of h.own)) (cond b (one_more (counts_of h.own)) (one_word (touches h.core) h.core.random (counts_of h.own)))) served user))
+    (sym (ap₂ (λ (a b : Bool). cond a (one_served (has_left_user h.core) (counts_of h.own)) (cond b (one_more (counts_of h.own)) (one_word (touches h.core) h.core.random (counts_of h.own)))) served user))
 
--- the service of a double miss counts no instruction
-pub back_moves : (h new : Held) → h.kept.state.owed ≡ None → is_served h.core ≡ true → h.own.spent ≤ 64 → new.kept ≡ h.kept → is_user new.core.system ≡ true
-    → counts_of new.own ≡ one_tabled (counts_of h.own) → new.own.failed ≡ h.own.failed → Moves Inside h new
+-- a service that goes back counts no instruction
+served_spent : (left : Bool) (n : Counts) → (one_served left n).spent ≡ n.spent
+served_spent true n = refl
+served_spent false n = refl
+
+pub back_moves : (h new : Held) → h.kept.state.owed ≡ None → is_served h.core ≡ true → h.own.spent ≤ 64 → new.kept.state ≡ h.kept.state → is_user new.core.system ≡ true
+    → counts_of new.own ≡ one_served (has_left_user h.core) (counts_of h.own) → new.own.failed ≡ h.own.failed → Moves Inside h new
 back_moves h new owed served few kept user counts failed =
-    let spent : new.own.spent ≡ h.own.spent = ap (λ (n : Counts). n.spent) counts in
+    let spent : new.own.spent ≡ h.own.spent = ap (λ (n : Counts). n.spent) counts ∙ served_spent (has_left_user h.core) (counts_of h.own) in
     let none : truth (is_served new.core) ≡ 0 = ap (λ (u : Bool). truth (not u && is_general new.core)) user in
     let one : truth (is_served h.core) ≡ 1 = ap truth served in
     let nothing : truth (not (is_served h.core)) ≡ 0 = ap (λ (b : Bool). truth (not b)) served in
@@ -77,8 +81,8 @@ back_moves h new owed served few kept user counts failed =
     let small : new.own.spent ≤ 64 = omega (arith, spent, few) in
     let left : 2 * (64 - new.own.spent) + truth (is_served new.core) < 2 * (64 - h.own.spent) + truth (is_served h.core) = omega (arith, spent, none, one) in
     let is : counts_of new.own ≡ counts_after h =
-    counts ∙ sym (ap (λ (a : Bool). cond a (one_tabled (counts_of h.own)) (cond (is_user h.core.system) (one_more (counts_of h.own)) (one_word (touches h.core) h.core.random (counts_of h.own)))) served) in
-    (owed, ap (λ (k : Kept). k.state.owed) kept ∙ owed, ap (λ (k : Kept). k.state.time) kept, counted, small, left, failed, is)
+    counts ∙ sym (ap (λ (a : Bool). cond a (one_served (has_left_user h.core) (counts_of h.own)) (cond (is_user h.core.system) (one_more (counts_of h.own)) (one_word (touches h.core) h.core.random (counts_of h.own)))) served) in
+    (owed, ap (λ (s : State). s.owed) kept ∙ owed, ap (λ (s : State). s.time) kept, counted, small, left, failed, is)
 
 -- Where a service ends its unit.
 

@@ -47,7 +47,7 @@ in_handler c word low at kernel =
 pub at_double : (c : CoreState) → c.pc ≡ 0x80000080 → is_user c.system ≡ false → bits c.system.status 3 1 ≡ 0 → place_of c ≡ AtDoubleMiss
 at_double c at kernel before = in_kernel c 0x80000080 at kernel ∙ ap (λ (x : ℕ). place_by false c.slot true (x == 1) (code_in c.system == 1) 0x80000080) before
 
-at_modified : (c : CoreState) → c.pc ≡ 0x80000080 → is_user c.system ≡ false → bits c.system.status 3 1 ≡ 1 → code_in c.system ≡ 1 → place_of c ≡ AtModification
+pub at_modified : (c : CoreState) → c.pc ≡ 0x80000080 → is_user c.system ≡ false → bits c.system.status 3 1 ≡ 1 → code_in c.system ≡ 1 → place_of c ≡ AtModification
 at_modified c at kernel before code =
     in_kernel c 0x80000080 at kernel ∙ ap₂ (λ (x y : ℕ). place_by false c.slot true (x == 1) (y == 1) 0x80000080) before code
 

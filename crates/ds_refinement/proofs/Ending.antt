@@ -1,5 +1,5 @@
 -- Services that end the unit: the runner leaves, something is done to what is kept, and the first comes in.
-use Rattle.std.proofs.Common.{◌≡◌, ℕ, ◌+◌, ◌++◌, Bool, true, false, cond, List, [], ◌∷◌, length, refl, sym, ap, ap₂, subst, ◌∙◌}
+use Rattle.std.proofs.Common.{◌≡◌, ℕ, ◌+◌, ◌++◌, ◌⊎◌, Bool, true, false, cond, List, [], ◌∷◌, length, refl, sym, ap, ap₂, subst, ◌∙◌, inl, inr}
 use Rattle.std.specs.Prelude.{◌&&◌, not, Option, Some, None, flat_map, is_some}
 use Rattle.std.proofs.lemmas.Grind.{flat_map-append}
 use Rattle.std.proofs.lemmas.List.{length-append}
@@ -24,12 +24,14 @@ use Rattle.ds_refinement.specs.declared.cause.Cause.{Cause}
 use Rattle.ds_refinement.specs.declared.cause.Cause.TheVariants as cause
 use Rattle.ds_refinement.specs.declared.step.Step.TheVariants.{Unit}
 use Rattle.ds_refinement.specs.Held.{Held, Kept, no_memory, whole}
+use Rattle.ds_refinement.specs.Copying.{AwaitsCopy, InCopy}
 use Rattle.ds_refinement.specs.Units.{is_general, is_served, has_left_user, EndsUnit, InService, Promise, own_of, ends_in_stop, ends_in_call}
 use Rattle.ds_refinement.specs.Stands.{Stands, IsKept, InKernel, OnProcessor}
 use Rattle.ds_refinement.specs.Told.{told, is_delayed, own_in}
 use Rattle.ds_refinement.specs.Steps.{Comes, Follows}
 use Rattle.ds_refinement.specs.Services.{Serves, EndsBy, seated}
 use Rattle.ds_refinement.specs.Ends.{EndsInStop, EndsInCall}
+use Rattle.ds_refinement.proofs.Late.{never_ends}
 use Rattle.ds_refinement.proofs.Seating.{off, leaves, enters, is_whole, running_of}
 
 -- half a turn where no boundary is owed is a unit
@@ -88,14 +90,33 @@ served_kernel h m p rest k ready served =
     subst (λ (general : Bool). InKernel general (has_left_user h.core) h.core h.kept p m) parts.1
     (subst (λ (user : Bool). OnProcessor user h.core.slot h.core h.kept p m) parts.0 (running_of h m p rest k.agrees ready).on)
 
-in_service : (h : Held) (m : State) (p : ℕ) (rest : List ℕ) → Stands h m → h.kept.state.ready ≡ p ∷ rest → is_served h.core ≡ true → has_left_user h.core ≡ true → InService h.core p m
+in_service : (h : Held) (m : State) (p : ℕ) (rest : List ℕ) → Stands h m → h.kept.state.ready ≡ p ∷ rest → is_served h.core ≡ true → has_left_user h.core ≡ true → InService h.core p m ⊎ InCopy h.core h.kept p m
 in_service h m p rest k ready served left = subst (λ (up : Bool). InKernel true up h.core h.kept p m) left (served_kernel h m p rest k ready served)
 
--- it ends its unit, as it is told over the pages that are held
+-- what is told ends its unit, as it is told over the pages that are held, or a store waits for a copy
+abbrev Stops : Held → ℕ → Type 0
+Stops h p = EndsUnit (page_state h.kept.grants h.bus.memory) p h.core.system.bad_vaddr (told h.core.system (page_state h.kept.grants h.bus.memory) p)
+
 pub waiting_ends : (h : Held) (m : State) (p : ℕ) (rest : List ℕ) → Stands h m → h.kept.state.ready ≡ p ∷ rest → is_served h.core ≡ true → has_left_user h.core ≡ true
-    → EndsUnit (page_state h.kept.grants h.bus.memory) p h.core.system.bad_vaddr (told h.core.system (page_state h.kept.grants h.bus.memory) p)
-waiting_ends h m p rest k ready served left =
-    subst (λ (s : PageState). EndsUnit s p h.core.system.bad_vaddr (told h.core.system s p)) k.agrees.kept.pages (in_service h m p rest k ready served left).ends
+    → EndsUnit (page_state h.kept.grants h.bus.memory) p h.core.system.bad_vaddr (told h.core.system (page_state h.kept.grants h.bus.memory) p) ⊎ AwaitsCopy h.core.system h.kept.grants p
+waiting_ends h m p rest k ready served left = elim (in_service h m p rest k ready served left) [
+  | inl a ↦ inl (subst (λ (s : PageState). EndsUnit s p h.core.system.bad_vaddr (told h.core.system s p)) k.agrees.kept.pages a.ends)
+  | inr late ↦ inr late.waits
+]
+
+-- where it ends the unit, no store waits
+stopping : (h : Held) (m : State) (p : ℕ) (rest : List ℕ) → Stands h m → h.kept.state.ready ≡ p ∷ rest → is_served h.core ≡ true → has_left_user h.core ≡ true → Stops h p → InService h.core p m
+stopping h m p rest k ready served left stops = elim (in_service h m p rest k ready served left) [
+  | inl a ↦ a
+  | inr late ↦ absurd (never_ends h.core.system h.kept.grants p late.waits (page_state h.kept.grants h.bus.memory) refl stops)
+]
+
+-- and where a store waits, the unit is not ended
+pub copying : (h : Held) (m : State) (p : ℕ) (rest : List ℕ) → Stands h m → h.kept.state.ready ≡ p ∷ rest → is_served h.core ≡ true → has_left_user h.core ≡ true → AwaitsCopy h.core.system h.kept.grants p → InCopy h.core h.kept p m
+copying h m p rest k ready served left waits = elim (in_service h m p rest k ready served left) [
+  | inl a ↦ absurd (never_ends h.core.system h.kept.grants p waits m.memory (ap (λ (s : PageState). s.table) k.agrees.kept.pages) a.ends)
+  | inr late ↦ late
+]
 
 -- the process in its seat stands at the unit's address, and only its registers are the processor's
 seat_is : (c : CoreState) (m : State) (p : ℕ) → is_user c.system ≡ false → InService c p m → with_registers m p c.registers ≡ with_process m p (off c (process_of m p))
@@ -115,13 +136,13 @@ promised h m p why pages a is =
 
 module _ (h new : Held) (p : ℕ) (rest : List ℕ) (ready : h.kept.state.ready ≡ p ∷ rest) (served : is_served h.core ≡ true) (left : has_left_user h.core ≡ true) where
   -- the service follows wherever the unit is what it does, as the promise has it
-  by_promise : (f : State → State) (why : Cause) → ((s : State) → all_settled (f s) ≡ f (all_settled s))
+  by_promise : (f : State → State) (why : Cause) → EndsUnit (page_state h.kept.grants h.bus.memory) p h.core.system.bad_vaddr why → ((s : State) → all_settled (f s) ≡ f (all_settled s))
       → told h.core.system (page_state h.kept.grants h.bus.memory) p ≡ why
       → ((m : State) → m.memory ≡ page_state h.kept.grants h.bus.memory → Promise why h.core.system.bad_vaddr (is_delayed h.core.system) h.core.system.epc p m (with_registers m p h.core.registers) → unit m ≡ f (with_registers m p h.core.registers))
       → EndsBy f h new → Follows Unit h new
-  by_promise f why settles is keeps ends = record {
+  by_promise f why stops settles is keeps ends = record {
     follows = λ m k.
-        let a : InService h.core p m = in_service h m p rest k ready served left in
+        let a : InService h.core p m = stopping h m p rest k ready served left (subst (EndsUnit (page_state h.kept.grants h.bus.memory) p h.core.system.bad_vaddr) (sym is) stops) in
         let user : is_user h.core.system ≡ false = (served_parts (is_user h.core.system) (is_general h.core) served).0 in
         let unit_is : unit m ≡ f (with_registers m p h.core.registers) = keeps m k.agrees.kept.pages (promised h m p why k.agrees.kept.pages a is) in
         service f h new m p rest settles k ready a.owed (unit_is ∙ ap f (seat_is h.core m p user a)) ends;
@@ -133,12 +154,12 @@ module _ (h new : Held) (p : ℕ) (rest : List ℕ) (ready : h.kept.state.ready 
   pub denied_ends : (access : Access) (rule : Rule) (code : ℕ) → told h.core.system (page_state h.kept.grants h.bus.memory) p ≡ cause.Access access
       → decide h.kept.grants.table p access.kind access.size h.core.system.bad_vaddr ≡ Denied rule code
       → EndsInStop p (record { kind = denied_as access.kind; address = h.core.system.bad_vaddr; rule = rule; code = code }) h new → Follows Unit h new
-  denied_ends access rule code is denied = by_promise _ (cause.Access access) (stop_settles h.core.system.epc (own_in h.core.system) _) is
+  denied_ends access rule code is denied = by_promise _ (cause.Access access) (rule, code, denied) (stop_settles h.core.system.epc (own_in h.core.system) _) is
       (λ m pages promise. promise rule code (ap (λ (s : PageState). decide s.table p access.kind access.size h.core.system.bad_vaddr) pages ∙ denied))
 
   pub fault_ends : (code : ℕ) → told h.core.system (page_state h.kept.grants h.bus.memory) p ≡ cause.Fault code
       → EndsInStop p (fault (own_in h.core.system) code) h new → Follows Unit h new
-  fault_ends code is = by_promise _ (cause.Fault code) (stop_settles h.core.system.epc (own_in h.core.system) _) is (λ m pages promise. promise)
+  fault_ends code is = by_promise _ (cause.Fault code) tt (stop_settles h.core.system.epc (own_in h.core.system) _) is (λ m pages promise. promise)
 
   abbrev PromisedCall : Bool → State → Type 0
   PromisedCall delayed m = Promise cause.Call h.core.system.bad_vaddr delayed h.core.system.epc p m (with_registers m p h.core.registers)
@@ -154,7 +175,7 @@ module _ (h new : Held) (p : ℕ) (rest : List ℕ) (ready : h.kept.state.ready 
 
   pub slot_ends : told h.core.system (page_state h.kept.grants h.bus.memory) p ≡ cause.Call → is_delayed h.core.system ≡ true
       → EndsInStop p (fault (own_in h.core.system) 8) h new → Follows Unit h new
-  slot_ends is delayed = by_promise _ cause.Call (stop_settles h.core.system.epc (own_in h.core.system) _) is
+  slot_ends is delayed = by_promise _ cause.Call tt (stop_settles h.core.system.epc (own_in h.core.system) _) is
       (λ m pages promise. slot_promise (is_delayed h.core.system) m delayed promise)
 
   call_settles : (s : State) → all_settled (ends_in_call p h.core.system.epc s) ≡ ends_in_call p h.core.system.epc (all_settled s)
@@ -162,4 +183,4 @@ module _ (h new : Held) (p : ℕ) (rest : List ℕ) (ready : h.kept.state.ready 
 
   pub call_ends : told h.core.system (page_state h.kept.grants h.bus.memory) p ≡ cause.Call → is_delayed h.core.system ≡ false
       → EndsInCall p h new → Follows Unit h new
-  call_ends is delayed = by_promise _ cause.Call call_settles is (λ m pages promise. call_promise (is_delayed h.core.system) m delayed promise)
+  call_ends is delayed = by_promise _ cause.Call tt call_settles is (λ m pages promise. call_promise (is_delayed h.core.system) m delayed promise)

@@ -1,5 +1,5 @@
 -- An exception of a user comes to the handler's first word, or waits at the general vector for the service.
-use Rattle.std.proofs.Common.{◌≡◌, ℕ, ◌/◌, ◌^◌, ◌<◌, Bool, true, false, cond, List, ◌∷◌, Option, Some, None, refl, sym, ap, ap₂, subst, ◌∙◌, arith, inl, inr}
+use Rattle.std.proofs.Common.{◌≡◌, ℕ, ◌/◌, ◌^◌, ◌<◌, ◌⊎◌, Bool, true, false, cond, List, ◌∷◌, Option, Some, None, refl, sym, ap, ap₂, subst, ◌∙◌, arith, inl, inr}
 use Rattle.std.proofs.lemmas.Bool.{cases_Bool}
 use Rattle.std.proofs.lemmas.Bool.Decides.{nat_tests}
 use Rattle.std.specs.Prelude.{slice_index, nat_lt, ◌&&◌}
@@ -15,12 +15,13 @@ use Rattle.ds_pagemap.specs.Unit.{with_registers}
 use Rattle.ds_refinement.specs.Told.{told, is_delayed}
 use Rattle.ds_refinement.specs.Held.{Held, space_of}
 use Rattle.ds_refinement.specs.Units.{user_status, EndsUnit, Promise, InService}
+use Rattle.ds_refinement.specs.Copying.{AwaitsCopy, InCopy}
 use Rattle.ds_refinement.proofs.Exceptions.{status_told, epc_told}
 use Rattle.ds_refinement.specs.Handling.{AtContext, HasBase, IsSet, IsWhole, AreUnits, InHandler, IsMiss}
 use Rattle.ds_refinement.specs.Stands.{OnProcessor, Agrees}
 use Rattle.ds_refinement.proofs.Fields.{space_set, hi_entered, context_entered, hi_low, hi_small, context_high, context_low}
 use Rattle.ds_handler.proofs.Lent.{lent_itself}
-use Rattle.ds_refinement.proofs.Standing.{runs, kept, few, same_state, in_handler, in_service, mode_of_user}
+use Rattle.ds_refinement.proofs.Standing.{runs, kept, few, same_state, in_handler, at_general, mode_of_user}
 
 -- An exception leaves EntryHi in its address space, and Context at the page tables.
 
@@ -103,25 +104,29 @@ module _ (h : Held) (m : State) (p : ℕ) (rest : List ℕ) (e : Exception) (k :
       (in_handler AtContext (core_at_vector h.core e) h.kept p m (at_first_word miss))
 
   general_enters : (e.miss && is_kuseg e.addr) ≡ false
-      → (vector e ≡ 0x80000080 → EndsUnit m.memory p (entered h.core.system e).bad_vaddr (told (entered h.core.system e) m.memory p))
+      → (vector e ≡ 0x80000080 → EndsUnit m.memory p (entered h.core.system e).bad_vaddr (told (entered h.core.system e) m.memory p) ⊎ AwaitsCopy (entered h.core.system e) h.kept.grants p)
       → Promise (told (entered h.core.system e) m.memory p) (entered h.core.system e).bad_vaddr (is_delayed (entered h.core.system e)) (process_of m p).pc p m (with_registers m p (settled h.core.registers))
       → Agrees (record h { core = core_at_vector h.core e }) m
   general_enters general ends promise =
       let pc : (core_at_vector h.core e).pc ≡ 0x80000080 = ap (λ (b : Bool). cond b 0x80000000 0x80000080) general in
-      let a : InService (core_at_vector h.core e) p m = record {
+      same_state h m p rest k ready (core_at_vector h.core e) k.represented.buffer (base_entered h.core.system e k.base) (set_entered h.core.system e asid set)
+      (at_general (core_at_vector h.core e) h.kept p m pc (status_told h.core.system e ∙ ap pushed mode) (waiting (ends pc)))
+    where
+      waiting : EndsUnit m.memory p (entered h.core.system e).bad_vaddr (told (entered h.core.system e) m.memory p) ⊎ AwaitsCopy (entered h.core.system e) h.kept.grants p
+          → InService (core_at_vector h.core e) p m ⊎ InCopy (core_at_vector h.core e) h.kept p m
+      waiting (inl stops) = inl (record {
         mode = status_told h.core.system e ∙ ap pushed mode;
         first = refl;
         owed = owed;
         epc = epc_told h.core.system e ∙ at;
         registers = units;
-        ends = ends pc;
+        ends = stops;
         promise = promise;
-      } in
-      same_state h m p rest k ready (core_at_vector h.core e) k.represented.buffer (base_entered h.core.system e k.base) (set_entered h.core.system e asid set)
-      (in_service (core_at_vector h.core e) h.kept p m pc a)
+      })
+      waiting (inr late) = inr (record { mode = status_told h.core.system e ∙ ap pushed mode; first = refl; owed = owed; epc = epc_told h.core.system e ∙ at; registers = units; waits = late })
 
   pub enters : (vector e ≡ 0x80000000 → IsMiss h.core e)
-      → (vector e ≡ 0x80000080 → EndsUnit m.memory p (entered h.core.system e).bad_vaddr (told (entered h.core.system e) m.memory p))
+      → (vector e ≡ 0x80000080 → EndsUnit m.memory p (entered h.core.system e).bad_vaddr (told (entered h.core.system e) m.memory p) ⊎ AwaitsCopy (entered h.core.system e) h.kept.grants p)
       → Promise (told (entered h.core.system e) m.memory p) (entered h.core.system e).bad_vaddr (is_delayed (entered h.core.system e)) (process_of m p).pc p m (with_registers m p (settled h.core.registers))
       → Agrees (record h { core = core_at_vector h.core e }) m
   enters miss ends promise = elim (cases_Bool (e.miss && is_kuseg e.addr)) [

@@ -1,12 +1,13 @@
 -- Fields of the words that an exception and the handler move: EntryHi, Context and page-table words.
 use Rattle.std.proofs.Common.{◌≡◌, ℕ, ◌+◌, ◌-◌, ◌*◌, ◌/◌, ◌%◌, ◌^◌, ◌<◌, Bool, true, false, Option, Some, None, refl, arith}
+use Rattle.std.specs.Prelude.{not}
 use Rattle.ds_word.specs.Word.{bits, bit}
 use Rattle.ds_cp0.specs.System.{with_field}
 use Rattle.ds_policy.specs.declared.grant.Grant.{Grant}
 use Rattle.ds_policy.specs.declared.grant.Right.{Right}
 use Rattle.ds_policy.specs.declared.grant.Right.TheVariants.{Nothing, Read, Write}
 use Rattle.ds_policy.specs.Pages.{entry_at}
-use Rattle.ds_grants.specs.State.{GrantsState, frame_of_page}
+use Rattle.ds_grants.specs.State.{GrantsState, is_shared, frame_of_page}
 use Rattle.ds_grants.specs.Sound.{NamesPages}
 use Rattle.ds_grants.specs.Words.{word_of_right, word_of_grant, granted_word}
 use Rattle.ds_grants.specs.Buffer.{hi_of}
@@ -68,7 +69,7 @@ zero_is_word = record { small = omega arith; low = refl }
 by_right : (g : GrantsState) (right : Right) (page : ℕ) → frame_of_page g page < 2 ^ 20 → IsWord (word_of_right g right (Some page))
 by_right g Nothing page few = zero_is_word
 by_right g Read page few = page_is_word (frame_of_page g page) false few
-by_right g Write page few = page_is_word (frame_of_page g page) true few
+by_right g Write page few = page_is_word (frame_of_page g page) (not (is_shared g page)) few
 
 by_page : (g : GrantsState) (right : Right) (page : Option ℕ) → ((q : ℕ) → page ≡ Some q → frame_of_page g q < 2 ^ 20) → IsWord (word_of_right g right page)
 by_page g right None few = zero_is_word
@@ -79,4 +80,4 @@ by_grant g None few = zero_is_word
 by_grant g (Some grant) few = by_page g grant.right grant.page (λ q is. few grant q refl is)
 
 pub word_is_word : (g : GrantsState) (p vpn : ℕ) → NamesPages g → IsWord (granted_word g p vpn)
-word_is_word g p vpn names = by_grant g (entry_at g.table p (vpn * 2 ^ 12)) (λ grant q at is. (let below = names.named p (vpn * 2 ^ 12) q grant at is in let few = names.frames in omega arith))
+word_is_word g p vpn names = by_grant g (entry_at g.table p (vpn * 2 ^ 12)) (λ grant q at is. (let below = names.named p (vpn * 2 ^ 12) q grant at is in let within = names.layout.within q below in let few = names.frames in omega (arith, within, few)))

@@ -1,6 +1,6 @@
 -- A word of a page lies in the page's frame: it is read there, and what is stored there changes no other page.
-use Rattle.std.proofs.Common.{◌≡◌, ◌≢◌, inl, inr, ℕ, ◌++◌, ◌+◌, ◌-◌, ◌*◌, ◌%◌, ◌^◌, ◌<◌, ◌≤◌, true, cond, List, length, take, drop, get_or, Option, Some, None, refl, sym, ap, ◌∙◌, arith}
-use Rattle.std.specs.Prelude.{slice_set}
+use Rattle.std.proofs.Common.{◌≡◌, ◌≢◌, inl, inr, ℕ, ◌++◌, ◌+◌, ◌-◌, ◌*◌, ◌%◌, ◌^◌, ◌<◌, ◌≤◌, Bool, true, false, cond, List, length, take, drop, get_or, Option, Some, None, refl, sym, ap, ◌∙◌, arith}
+use Rattle.std.specs.Prelude.{slice_index, slice_set}
 use Rattle.std.proofs.lemmas.Bool.{cases_eq, cases_lt}
 use Rattle.std.proofs.lemmas.List.{same_lists, length-set, get_or-set_same, get_or-set_other, drop-take, drop-drop, drop-append-le, length-take-le, length-drop, take-take}
 use Rattle.std.proofs.lemmas.List.FromFn.{length-map-range_with_len, get_or-map-range_with_len}
@@ -10,7 +10,8 @@ use Rattle.ds_word.proofs.Bytes.{length-with_word}
 use Rattle.ds_mem.specs.Memory.{frame_of}
 use Rattle.ds_mem.proofs.Words.{word_at-frame_of, frame_of-with_word_apart}
 use Rattle.ds_policy.specs.Pages.{Pages, bytes_of}
-use Rattle.ds_grants.specs.State.{GrantsState, is_live, frame_of_page, page_in, pages_in, page_state}
+use Rattle.ds_grants.specs.State.{GrantsState, is_live, is_shared, frame_of_page, page_in, pages_in, page_state}
+use Rattle.ds_grants.specs.Sound.{NamesPages}
 
 -- a word put after the first bytes is put into the rest
 put_behind : (memory : List ℕ) (start at w : ℕ) → start % 4 ≡ 0 → start + at - at % 4 + 4 ≤ length memory → drop start (with_word memory (start + at) w) ≡ with_word (drop start memory) at w
@@ -46,55 +47,75 @@ frame_of-with_word memory f at w inside within =
     ap (take 4096) (put_behind memory (f * 4096) at w (omega arith) (omega arith))
     ∙ put_among (drop (f * 4096) memory) 4096 at w (omega arith) (omega arith)
 
-module _ (g : GrantsState) (memory : List ℕ) (page offset : ℕ) (lives : is_live g page ≡ true) (low : page < g.frames) (few : g.frames ≤ 1024) (large : length memory ≡ 2 ^ 23) (inside : offset < 4096) where
+module _ (g : GrantsState) (memory : List ℕ) (page offset : ℕ) (lives : is_live g page ≡ true) (low : page < g.frames) (names : NamesPages g) (large : length memory ≡ 2 ^ 23) (inside : offset < 4096) where
   -- where the word lies
   abbrev pub place : ℕ
   place = frame_of_page g page * 4096 + offset
 
-  page_bytes : bytes_of (pages_in g memory) page ≡ frame_of memory (page + 402)
+  -- the number of its frame among those for pages
+  abbrev lies : ℕ
+  lies = slice_index g.lies page
+
+  within : slice_index g.lies page + 402 < 2048
+  within = let there = names.layout.within page low in let few = names.frames in omega (arith, there, few)
+
+  page_bytes : bytes_of (pages_in g memory) page ≡ frame_of memory (lies + 402)
   page_bytes =
-      let there : get_or (pages_in g memory) page None ≡ Some (frame_of memory (page + 402)) = get_or-map-range_with_len (page_in g memory) 0 g.frames page page None low (omega arith) ∙ rw lives refl in
+      let there : get_or (pages_in g memory) page None ≡ Some (frame_of memory (lies + 402)) = get_or-map-range_with_len (page_in g memory) 0 g.frames page page None low (omega arith) ∙ rw lives refl in
       rw there refl
 
   -- the word is read in the frame
   pub word_of_page : word_at memory place ≡ word_at (bytes_of (pages_in g memory) page) offset
-  word_of_page = word_at-frame_of memory (page + 402) offset inside ∙ ap (λ (bytes : List ℕ). word_at bytes offset) (sym page_bytes)
+  word_of_page = word_at-frame_of memory (lies + 402) offset inside ∙ ap (λ (bytes : List ℕ). word_at bytes offset) (sym page_bytes)
 
   -- memory stays as large
   pub size_stored : (w : ℕ) → length (with_word memory place w) ≡ length memory
-  size_stored w = length-with_word memory place w (omega arith)
+  size_stored w = length-with_word memory place w (let small = within in omega (arith, small, large, inside))
 
-  -- another page keeps its bytes
-  page_apart : (w q : ℕ) → q ≢ page → q < g.frames → frame_of (with_word memory place w) (q + 402) ≡ frame_of memory (q + 402)
-  page_apart w q apart within =
-      frame_of-with_word_apart memory place w (q + 402) (omega arith)
-      (elim (cases_lt q page) [ inl below ↦ inl (omega arith) | inr above ↦ inr (omega arith) ])
+  -- another frame keeps its bytes
+  frame_apart : (w f : ℕ) → f ≢ lies → frame_of (with_word memory place w) (f + 402) ≡ frame_of memory (f + 402)
+  frame_apart w f apart =
+      let small = within in
+      frame_of-with_word_apart memory place w (f + 402) (omega (arith, small, large, inside))
+      (elim (cases_lt f lies) [ inl below ↦ inl (omega (arith, below)) | inr above ↦ inr (omega (arith, above, apart, inside)) ])
+
+  -- so does another page, where no other lies in this one's frame
+  page_apart : is_shared g page ≡ false → (w q : ℕ) → q ≢ page → q < g.frames → page_in g (with_word memory place w) q ≡ page_in g memory q
+  page_apart alone w q apart low_q = by (is_live g q) refl
+    where
+      by : (b : Bool) → is_live g q ≡ b
+          → cond b (Some (frame_of (with_word memory place w) (slice_index g.lies q + 402))) None ≡ cond b (Some (frame_of memory (slice_index g.lies q + 402))) None
+      by false off = refl
+      by true on =
+          let elsewhere : slice_index g.lies q ≢ lies =
+          λ (same : slice_index g.lies q ≡ slice_index g.lies page). (let no : true ≡ false = sym (names.layout.alone q page low_q low on lives apart same) ∙ alone in absurd cc) in
+          ap (λ (bytes : List ℕ). Some bytes) (frame_apart w (slice_index g.lies q) elsewhere)
 
   -- the page has the word, and no other changes
-  pages_stored : (w : ℕ) → pages_in g (with_word memory place w) ≡ slice_set (pages_in g memory) page (Some (with_word (bytes_of (pages_in g memory) page) offset w))
-  pages_stored w =
+  pages_stored : is_shared g page ≡ false → (w : ℕ) → pages_in g (with_word memory place w) ≡ slice_set (pages_in g memory) page (Some (with_word (bytes_of (pages_in g memory) page) offset w))
+  pages_stored alone w =
       let new : List ℕ = with_word memory place w in
       let word : Option (List ℕ) = Some (with_word (bytes_of (pages_in g memory) page) offset w) in
       let long = length-map-range_with_len (page_in g memory) 0 g.frames in
       let long' = length-map-range_with_len (page_in g new) 0 g.frames in
       let set_long = length-set (pages_in g memory) page word in
       same_lists (pages_in g new) (slice_set (pages_in g memory) page word) (omega arith)
-      (λ q d within.
+      (λ q d short.
       let left : get_or (pages_in g new) q d ≡ page_in g new q = get_or-map-range_with_len (page_in g new) 0 g.frames q q d (omega arith) (omega arith) in
       elim (cases_eq q page) [
         | inl here ↦
             let right : get_or (slice_set (pages_in g memory) page word) q d ≡ word =
             ap (λ i. get_or (slice_set (pages_in g memory) page word) i d) here
             ∙ get_or-set_same (pages_in g memory) page word d (omega arith) in
-            let now : page_in g new page ≡ word = rw lives (ap (λ (b : List ℕ). Some b) (frame_of-with_word memory (page + 402) offset w inside (omega arith) ∙ ap (λ (b : List ℕ). with_word b offset w) (sym page_bytes))) in
+            let now : page_in g new page ≡ word = rw lives (ap (λ (b : List ℕ). Some b) (frame_of-with_word memory (lies + 402) offset w inside (let small = within in omega (arith, small, large)) ∙ ap (λ (b : List ℕ). with_word b offset w) (sym page_bytes))) in
             left ∙ ap (page_in g new) here ∙ now ∙ sym right
         | inr apart ↦
             let right : get_or (slice_set (pages_in g memory) page word) q d ≡ page_in g memory q =
             get_or-set_other (pages_in g memory) page q word d apart
             ∙ get_or-map-range_with_len (page_in g memory) 0 g.frames q q d (omega arith) (omega arith) in
-            left ∙ ap (λ (b : List ℕ). cond (is_live g q) (Some b) None) (page_apart w q apart (omega arith)) ∙ sym right
+            left ∙ page_apart alone w q apart (omega arith) ∙ sym right
       ])
 
   -- the page state with the word stored
-  pub state_stored : (w : ℕ) → page_state g (with_word memory place w) ≡ record (page_state g memory) { pages = slice_set (page_state g memory).pages page (Some (with_word (bytes_of (page_state g memory).pages page) offset w)) }
-  state_stored w = ap (λ (ps : Pages). record (page_state g memory) { pages = ps }) (pages_stored w)
+  pub state_stored : is_shared g page ≡ false → (w : ℕ) → page_state g (with_word memory place w) ≡ record (page_state g memory) { pages = slice_set (page_state g memory).pages page (Some (with_word (bytes_of (page_state g memory).pages page) offset w)) }
+  state_stored alone w = ap (λ (ps : Pages). record (page_state g memory) { pages = ps }) (pages_stored alone w)

@@ -19,9 +19,11 @@ use Rattle.ds_refinement.specs.Stands.{IsSound}
 use Rattle.ds_refinement.specs.Steps.{Follows, Moves}
 use Rattle.ds_refinement.specs.Services.{after_event, after_word}
 use Rattle.ds_refinement.specs.Told.{told}
+use Rattle.ds_refinement.specs.Copying.{AwaitsCopy}
 use Rattle.ds_refinement.specs.Pairs.{HasNoNewPairs}
 use Rattle.ds_refinement.specs.Units.{EndsUnit, has_left_user, is_served}
 use Rattle.ds_refinement.specs.Real.{GoesBack, GoesBackBy, HasUnit, IsReal, MayGoBack, RealPath, StopsBy, Through}
+use Rattle.ds_refinement.proofs.Late.{told_store}
 
 pub one_step : (kind : Step) (old new : Held) → Follows kind old new → Moves kind old new → IsReal old new → RealPath old new
 one_step kind old new f m r = record { path = old ∷ []; through = ((kind, f, m, r), refl) }
@@ -79,15 +81,17 @@ end_real h new p rest why ready served left is ends owed random pairs = record {
   pairs = λ has. pairs;
 }
 
--- a service that goes back, where the table allows what was told
-pub back_real : (h new : Held) (p : ℕ) (rest : List ℕ) (access : Access) (page offset : ℕ) → h.kept.state.ready ≡ p ∷ rest → is_served h.core ≡ true
-    → told h.core.system (page_state h.kept.grants h.bus.memory) p ≡ cause.Access access → decide h.kept.grants.table p access.kind access.size h.core.system.bad_vaddr ≡ Allowed page offset
+-- a service that goes back, where a store waits for a copy
+pub copy_real : (h new : Held) (p : ℕ) (rest : List ℕ) → h.kept.state.ready ≡ p ∷ rest → is_served h.core ≡ true → AwaitsCopy h.core.system h.kept.grants p
     → GoesBack h new → new.core.random ≡ h.core.random → HasNoNewPairs h.core.entries new.core.entries → IsReal h new
-back_real h new p rest access page offset ready served is allowed back random pairs = record {
+copy_real h new p rest ready served waits back random pairs = record {
   instruction = λ has other. (let no : true ≡ false = sym served ∙ other in absurd (cc));
   service = λ has at. inr (record {
-    may = inr (subst (λ (ps : List ℕ). GoesBackBy ps h) (sym ready)
-        (subst (λ (w : Cause). MayGoBack (page_state h.kept.grants h.bus.memory) p h.core.system.bad_vaddr w) (sym is) (page, offset, allowed)));
+    may = inr (subst (λ (ps : List ℕ). GoesBackBy ps h) (sym ready) (
+      subst (λ (w : Cause). MayGoBack (page_state h.kept.grants h.bus.memory) p h.core.system.bad_vaddr w)
+          (sym (told_store h.core.system h.kept.grants p waits (page_state h.kept.grants h.bus.memory))) (waits.page, waits.offset, waits.allowed),
+      waits,
+    ));
     back = back;
   });
   random = λ has. random;

@@ -1,5 +1,5 @@
 -- What is told where an instruction leaves the program, by the kind of its exception.
-use Rattle.std.proofs.Common.{◌≡◌, ℕ, ◌^◌, ◌<◌, ◌≤◌, Bool, true, false, cond, refl, sym, ap, ap₂, subst, ◌∙◌, arith, inl, inr}
+use Rattle.std.proofs.Common.{◌≡◌, ℕ, ◌^◌, ◌<◌, ◌≤◌, ◌⊎◌, Bool, true, false, cond, refl, sym, ap, ap₂, subst, ◌∙◌, arith, inl, inr}
 use Rattle.std.proofs.lemmas.Bool.Decides.{nat_tests}
 use Rattle.std.specs.Prelude.{nat_le, ◌==◌, ◌&&◌}
 use Rattle.ds_isa.specs.declared.instr.Size.{Size}
@@ -33,7 +33,7 @@ access_tests n least most =
     (apart, ap₂ (λ (a b : Bool). a && b) above below)
 
 -- an access is told by such a code
-access_told : (s : System) (pages : PageState) (p : ℕ) → 1 ≤ code_in s → code_in s ≤ 5
+pub access_told : (s : System) (pages : PageState) (p : ℕ) → 1 ≤ code_in s → code_in s ≤ 5
     → told s pages p ≡ cause.Access (record { kind = kind_told s; size = size_told s (size_at pages p (own_in s)) })
 access_told s pages p least most =
     let t = access_tests (code_in s) least most in
@@ -109,24 +109,24 @@ ends_fault s e code p pages is tests = subst (EndsUnit pages p (entered s e).bad
 pub ends_call : (s : System) (e : Exception) (p : ℕ) (pages : PageState) → number_of e.code ≡ 8 → EndsUnit pages p (entered s e).bad_vaddr (told (entered s e) pages p)
 ends_call s e p pages is = subst (EndsUnit pages p (entered s e).bad_vaddr) (sym (call_told s e pages p is)) tt
 
--- a refused access, which the table doesn't allow, and of which it answers what is told alike
-pub ends_access : (c : CoreState) (k : Kind) (size : Size) (address : ℕ) (fault : Fault) (p : ℕ) (pages : PageState)
+-- a refused access of which the table answers what is told alike: where it allows it, this follows
+pub ends_access : (Late : Type 0) (c : CoreState) (k : Kind) (size : Size) (address : ℕ) (fault : Fault) (p : ℕ) (pages : PageState)
     → let s = system_behind c k address fault in
     decide pages.table p (kind_told s) (size_told s (size_at pages p (own_in s))) address ≡ decide pages.table p k size address
-    → ((page offset : ℕ) → decide pages.table p k size address ≡ Allowed page offset → ⊥) → EndsUnit pages p s.bad_vaddr (told s pages p)
-ends_access c k size address fault p pages answer never =
+    → ((page offset : ℕ) → decide pages.table p k size address ≡ Allowed page offset → Late) → EndsUnit pages p s.bad_vaddr (told s pages p) ⊎ Late
+ends_access Late c k size address fault p pages answer late =
     let s = system_behind c k address fault in
     let is : told s pages p ≡ cause.Access (record { kind = kind_told s; size = size_told s (size_at pages p (own_in s)) }) = access_told s pages p (least_code c k address fault) (most_code c k address fault) in
     let bad : s.bad_vaddr ≡ address = address_told c.system (refusal c k address fault) address refl in
-    subst (EndsUnit pages p s.bad_vaddr) (sym is)
-    (subst (λ (a : ℕ). EndsUnit pages p a (cause.Access (record { kind = kind_told s; size = size_told s (size_at pages p (own_in s)) }))) (sym bad)
+    subst (λ (why : Cause). EndsUnit pages p s.bad_vaddr why ⊎ Late) (sym is)
+    (subst (λ (a : ℕ). EndsUnit pages p a (cause.Access (record { kind = kind_told s; size = size_told s (size_at pages p (own_in s)) })) ⊎ Late) (sym bad)
     (by (decide pages.table p k size address) refl answer))
   where
     by : (v : Verdict) → decide pages.table p k size address ≡ v
         → decide pages.table p (kind_told (system_behind c k address fault)) (size_told (system_behind c k address fault) (size_at pages p (own_in (system_behind c k address fault)))) address ≡ decide pages.table p k size address
-        → EndsUnit pages p address (cause.Access (record { kind = kind_told (system_behind c k address fault); size = size_told (system_behind c k address fault) (size_at pages p (own_in (system_behind c k address fault))) }))
-    by (Allowed page offset) is answer = absurd (never page offset is)
-    by (Denied rule code) is answer = (rule, code, answer ∙ is)
+        → EndsUnit pages p address (cause.Access (record { kind = kind_told (system_behind c k address fault); size = size_told (system_behind c k address fault) (size_at pages p (own_in (system_behind c k address fault))) })) ⊎ Late
+    by (Allowed page offset) is answer = inr (late page offset is)
+    by (Denied rule code) is answer = inl (rule, code, answer ∙ is)
 
 -- the instruction itself stands at pc
 pub own_behind : (c : CoreState) (k : Kind) (address : ℕ) (fault : Fault) → c.pc < 2 ^ 32 → own_in (system_behind c k address fault) ≡ c.pc

@@ -8,6 +8,7 @@ pub mod Registers
 pub mod Links
 pub mod Denials
 pub mod Leaving
+pub mod Late
 pub mod Meets
 pub mod Resting
 pub mod Stages
@@ -41,5 +42,7 @@ pub mod Nine
 pub mod Vectors
 pub mod NoNewPairs
 pub mod WaysBack
+pub mod Copied
 pub mod Staying
 pub mod WrittenRows
+pub mod CopyRows

@@ -23,7 +23,7 @@ use Rattle.ds_policy.specs.declared.grant.Right.{Right}
 use Rattle.ds_policy.specs.declared.grant.Right.TheVariants.{Nothing, Read, Write}
 use Rattle.ds_policy.specs.Pages.{names, allowed_on, by_right, entry_at, page_address}
 use Rattle.ds_policy.specs.Grants.{is_write, is_some_right}
-use Rattle.ds_grants.specs.State.{GrantsState, is_live, frame_of_page}
+use Rattle.ds_grants.specs.State.{GrantsState, is_live, is_shared, frame_of_page}
 use Rattle.ds_grants.specs.Words.{word_of_right, word_of_grant, granted_word}
 use Rattle.ds_grants.specs.Buffer.{hi_of, BufferHolds}
 use Rattle.ds_grants.specs.Sound.{NamesPages}
@@ -73,7 +73,13 @@ lets_go true d Load there place is = (cc, λ (e : Load ≡ Store). absurd cc)
 lets_go true true Store there place is = (cc, λ _. refl)
 lets_go true false Store there place is = absurd cc
 
--- What a word lets go: a page of a right, in its frame.
+-- both flags of a word's D
+may_and_alone : (writes shared : Bool) → (writes && not shared) ≡ true → (writes ≡ true) × (shared ≡ false)
+may_and_alone true false e = (refl, refl)
+may_and_alone true true e = absurd cc
+may_and_alone false shared e = absurd cc
+
+-- What a word lets go: a page of a right, in its frame, where no other page lies if it is stored to.
 pub record LetsGo (g : GrantsState) (o : Option Grant) (access : Kind) (address place : ℕ) : Type 0 where
   pub grant : Grant
   pub page : ℕ
@@ -81,6 +87,7 @@ pub record LetsGo (g : GrantsState) (o : Option Grant) (access : Kind) (address 
   pub named : grant.page ≡ Some page
   pub right : is_some_right grant.right ≡ true
   pub writes : access ≡ Store → is_write grant.right ≡ true
+  pub alone : access ≡ Store → is_shared g page ≡ false
   pub lies : place ≡ frame_of_page g page % 2 ^ 20 * 2 ^ 12 + address % 2 ^ 12
 
 -- the frame and the flags of a page's word
@@ -93,7 +100,7 @@ module _ (g : GrantsState) (hi address : ℕ) (access : Kind) (there : Physical)
   none_goes : (w : ℕ) → w ≡ 0 → through (entry_of hi w) access address ≡ Ok there → ⊥
   none_goes w zero is = let wrong : ◌≡◌ {A = Result Physical Fault} (Err Invalid) (Ok there) = sym (ap (λ (x : ℕ). through (entry_of hi x) access address) zero) ∙ is in cc
 
-  page_goes : (grant : Grant) (q : ℕ) (d : Bool) (o : Option Grant) → o ≡ Some grant → grant.page ≡ Some q → is_some_right grant.right ≡ true → (d ≡ true → is_write grant.right ≡ true)
+  page_goes : (grant : Grant) (q : ℕ) (d : Bool) (o : Option Grant) → o ≡ Some grant → grant.page ≡ Some q → is_some_right grant.right ≡ true → (d ≡ true → (is_write grant.right ≡ true) × (is_shared g q ≡ false))
       → through (entry_of hi (frame_of_page g q * 2 ^ 12 + bit 10 d + bit 9 true)) access address ≡ Ok there → LetsGo g o access address there.0
   page_goes grant q d o at named right write is =
       let flags = frame_flags (frame_of_page g q) d in
@@ -106,7 +113,8 @@ module _ (g : GrantsState) (hi address : ℕ) (access : Kind) (there : Physical)
         is = at;
         named = named;
         right = right;
-        writes = λ store. write (sym flags.1 ∙ goes.1 store);
+        writes = λ store. (write (sym flags.1 ∙ goes.1 store)).0;
+        alone = λ store. (write (sym flags.1 ∙ goes.1 store)).1;
         lies = sym (ap (λ (x : Physical). x.0) goes.0) ∙ ap (λ (n : ℕ). n * 2 ^ 12 + address % 2 ^ 12) (ap (λ (n : ℕ). n % 2 ^ 20) frame ∙ twice (frame_of_page g q));
       }
     where
@@ -116,7 +124,7 @@ module _ (g : GrantsState) (hi address : ℕ) (access : Kind) (there : Physical)
   right_goes : (grant : Grant) (right : Right) (q : ℕ) (o : Option Grant) → o ≡ Some grant → grant.page ≡ Some q → grant.right ≡ right → through (entry_of hi (word_of_right g right (Some q))) access address ≡ Ok there → LetsGo g o access address there.0
   right_goes grant Nothing q o at named same is = absurd (none_goes 0 refl is)
   right_goes grant Read q o at named same is = page_goes grant q false o at named (ap is_some_right same) (λ e. absurd cc) is
-  right_goes grant Write q o at named same is = page_goes grant q true o at named (ap is_some_right same) (λ e. ap is_write same) is
+  right_goes grant Write q o at named same is = page_goes grant q (not (is_shared g q)) o at named (ap is_some_right same) (λ alone. (ap is_write same, (may_and_alone true (is_shared g q) alone).1)) is
 
   named_goes : (grant : Grant) (page : Option ℕ) (o : Option Grant) → o ≡ Some grant → grant.page ≡ page → through (entry_of hi (word_of_right g grant.right page)) access address ≡ Ok there → LetsGo g o access address there.0
   named_goes grant None o at named is = absurd (none_goes 0 refl is)
@@ -125,6 +133,16 @@ module _ (g : GrantsState) (hi address : ℕ) (access : Kind) (there : Physical)
   word_goes : (o : Option Grant) → through (entry_of hi (word_of_grant g o)) access address ≡ Ok there → LetsGo g o access address there.0
   word_goes None is = absurd (none_goes 0 refl is)
   word_goes (Some grant) is = named_goes grant grant.page (Some grant) refl refl is
+
+-- a page lies in a frame of memory
+pub frame_small : (g : GrantsState) (page : ℕ) → NamesPages g → page < g.frames → frame_of_page g page < 2048
+frame_small g page names low = let within = names.layout.within page low in let few = names.frames in omega (arith, within, few)
+
+in_frame : (frame address : ℕ) → frame < 2048 → frame % 2 ^ 20 * 2 ^ 12 + address % 2 ^ 12 ≡ frame * 4096 + address % 4096
+in_frame frame address small = omega (arith, small)
+
+place_small : (frame address : ℕ) → frame < 2048 → frame * 4096 + address % 4096 < 2 ^ 23
+place_small frame address small = omega (arith, small)
 
 pub page_of_number : (address vpn : ℕ) → vpn ≡ address / 2 ^ 12 → address - address % 4096 ≡ vpn * 2 ^ 12
 page_of_number address vpn is = omega arith
@@ -142,8 +160,8 @@ module _ (c : CoreState) (g : GrantsState) (t : Places) (spaces : Spaces) (p : �
       let words : e ≡ entry_of (hi_of e.vpn e.asid) (granted_word g p e.vpn) = b.words ∙ ap (entry_of (hi_of e.vpn e.asid)) (user_lo g t p e.vpn user) in
       let w = word_goes g (hi_of e.vpn e.asid) address access place (entry_at g.table p (e.vpn * 2 ^ 12)) (subst (λ (x : Entry). through x access address ≡ Ok place) words is) in
       let below : w.page < g.frames = names.named p (e.vpn * 2 ^ 12) w.page w.grant w.is w.named in
-      let few = names.frames in
-      let lies : place.0 ≡ frame_of_page g w.page * 4096 + address % 4096 = (let at_frame = w.lies in omega (arith, below, few, at_frame)) in
+      let frame : frame_of_page g w.page < 2048 = frame_small g w.page names below in
+      let lies : place.0 ≡ frame_of_page g w.page * 4096 + address % 4096 = w.lies ∙ in_frame (frame_of_page g w.page) address frame in
       let granted : entry_at g.table p (page_address address) ≡ Some w.grant = ap (entry_at g.table p) (page_of_number address e.vpn of.0) ∙ w.is in
       record {
         page = w.page;
@@ -151,7 +169,8 @@ module _ (c : CoreState) (g : GrantsState) (t : Places) (spaces : Spaces) (p : �
         lives = named_page_lives g p (e.vpn * 2 ^ 12) w.page w.grant w.is w.named;
         low = below;
         lies = lies;
-        small = omega (arith, lies, below, few);
+        small = subst (λ (n : ℕ). n < 2 ^ 23) (sym lies) (place_small (frame_of_page g w.page) address frame);
+        alone = w.alone;
       }
 
   by_entry_at : (slot : ℕ) (at : Option Entry) → find c.entries (address / 2 ^ 12) (number_of spaces p) ≡ Some slot → slice_get c.entries slot ≡ at → through_slot at access address ≡ Ok place → is_aligned size address ≡ true → nat_le (2 ^ 31) address ≡ false → IsGranted g p access size address place.0

@@ -48,12 +48,14 @@ use Rattle.ds_refinement.specs.Units.{user_status, EndsUnit}
 use Rattle.ds_refinement.specs.Handling.{IsMiss}
 use Rattle.ds_refinement.specs.Real.{IsNoBusError}
 use Rattle.ds_refinement.specs.Held.{Kept, space_of}
+use Rattle.ds_refinement.specs.Copying.{AwaitsCopy}
 use Rattle.ds_refinement.specs.Granted.{IsGranted}
 use Rattle.ds_refinement.specs.Leaves.{Leaves}
 use Rattle.ds_refinement.proofs.Frames.{word_of_page, state_stored, size_stored}
 use Rattle.ds_refinement.proofs.Lookups.{user_reaches, user_misses}
 use Rattle.ds_refinement.proofs.Refusals.{load_kind, load_answer, store_kind, store_answer, fetch_kind, fetch_answer}
-use Rattle.ds_refinement.proofs.Denials.{refused_denied}
+use Rattle.ds_refinement.proofs.Denials.{refused_late}
+use Rattle.ds_refinement.proofs.Late.{late_awaits}
 use Rattle.ds_refinement.proofs.Leaving.{IsFaultCode, leaves_fault, leaves_branch, leaves_call, leaves_access, ends_fault, ends_call, ends_access, own_behind}
 
 -- the processor with Random counted down
@@ -78,11 +80,11 @@ pub record Turns (c : CoreState) (b : BusState) (m : State) (p : ℕ) (o : Outco
   pub step : s ≡ record { event = event.Branched; core = branched_core (counted c) after target; bus = b }
 
 -- the processor leaves the program
-pub record Raises (c : CoreState) (b : BusState) (m : State) (p : ℕ) (o : Outcome) (s : core.Step) : Type 0 where
+pub record Raises (c : CoreState) (b : BusState) (g : GrantsState) (m : State) (p : ℕ) (o : Outcome) (s : core.Step) : Type 0 where
   pub what : Exception
   pub leaves : Leaves (told (entered c.system what) m.memory p) (entered c.system what).bad_vaddr c.slot c.pc p m.memory o
-  -- at the general vector what was told ends the unit
-  pub ends : vector what ≡ 0x80000080 → EndsUnit m.memory p (entered c.system what).bad_vaddr (told (entered c.system what) m.memory p)
+  -- at the general vector what was told ends the unit, or it is a store that waits for a copy
+  pub ends : vector what ≡ 0x80000080 → EndsUnit m.memory p (entered c.system what).bad_vaddr (told (entered c.system what) m.memory p) ⊎ AwaitsCopy (entered c.system what) g p
   pub pc : what.pc ≡ c.pc
   pub slot : what.slot ≡ c.slot
   -- at the vector of misses a page of the user was missed, and nobody meets a bus error
@@ -92,7 +94,7 @@ pub record Raises (c : CoreState) (b : BusState) (m : State) (p : ℕ) (o : Outc
 
 -- an outcome and what the processor made of it
 abbrev pub Meets : CoreState → BusState → GrantsState → State → ℕ → Outcome → core.Step → Type 0
-Meets c b g m p o s = Retires c b g m p o s ⊎ Turns c b m p o s ⊎ Raises c b m p o s
+Meets c b g m p o s = Retires c b g m p o s ⊎ Turns c b m p o s ⊎ Raises c b g m p o s
 
 -- A fault of an instruction has one of the three codes that are told.
 
@@ -194,7 +196,7 @@ module _ (c : CoreState) (b : BusState) (k : Kept) (m : State) (p : ℕ)
 
   -- an exception that leaves the program as the machine leaves it
   left : (e : Exception) (o : Outcome) → e.pc ≡ c.pc → e.slot ≡ c.slot → Leaves (told (entered c.system e) m.memory p) (entered c.system e).bad_vaddr c.slot c.pc p m.memory o
-      → (vector e ≡ 0x80000080 → EndsUnit m.memory p (entered c.system e).bad_vaddr (told (entered c.system e) m.memory p))
+      → (vector e ≡ 0x80000080 → EndsUnit m.memory p (entered c.system e).bad_vaddr (told (entered c.system e) m.memory p) ⊎ AwaitsCopy (entered c.system e) k.grants p)
       → (vector e ≡ 0x80000000 → IsMiss c e) → IsNoBusError (event.Raised e.code)
       → Meets c b k.grants m p o (with_tick (core.at_vector c b e))
   left e o pc slot leaves ends missed bus = inr (inr (record { what = e; leaves = leaves; ends = ends; pc = pc; slot = slot; missed = missed; bus = bus; step = refl }))
@@ -208,9 +210,11 @@ module _ (c : CoreState) (b : BusState) (k : Kept) (m : State) (p : ℕ)
   refused access size address fault f is kind answer =
       left (refusal c access address fault) (where_allowed (decide m.memory.table p access size address) access address f) refl refl
       (leaves_access c access size address fault p m.memory f kind answer)
-      (λ general. ends_access c access size address fault p m.memory answer
-      (λ page offset allowed. refused_denied c k p (ap (λ (w : ℕ). bits w 1 1 == 1) mode) holds some number space access size address fault is general page offset
-      (sym (ap (λ (s : PageState). decide s.table p access size address) pages) ∙ allowed)))
+      (λ general. ends_access (AwaitsCopy (system_behind c access address fault) k.grants p) c access size address fault p m.memory answer
+      (λ page offset allowed.
+      let granted : decide k.grants.table p access size address ≡ Allowed page offset = sym (ap (λ (s : PageState). decide s.table p access size address) pages) ∙ allowed in
+      late_awaits c k.grants access size address fault p page offset
+      (refused_late c k p (ap (λ (w : ℕ). bits w 1 1 == 1) mode) holds some number space access size address fault is general page offset granted) granted))
       (refusal_missed c access size address fault (ap (λ (w : ℕ). bits w 1 1 == 1) mode) is) (refusal_bus fault (is_store access))
 
   -- an instruction that leaves these registers and this memory
@@ -228,7 +232,7 @@ module _ (c : CoreState) (b : BusState) (k : Kept) (m : State) (p : ℕ)
       let e = exception c ReservedInstruction in
       left e (Branched (with_registers m p after) target) refl refl
       (subst (λ (x : Bool). Leaves (told (entered c.system e) m.memory p) (entered c.system e).bad_vaddr x c.pc p m.memory (Branched (with_registers m p after) target)) (sym inside)
-      (leaves_branch c.system e c.pc p m.memory (with_registers m p after) target refl)) (λ general. ends_fault c.system e 10 p m.memory refl (refl, refl)) (no_vector) tt
+      (leaves_branch c.system e c.pc p m.memory (with_registers m p after) target refl)) (λ general. inl (ends_fault c.system e 10 p m.memory refl (refl, refl))) (no_vector) tt
 
   -- the table of the machine's state allows what is granted
   allowed_here : (access : Kind) (size : Size) (address place : ℕ) (a : IsGranted k.grants p access size address place) → decide m.memory.table p access size address ≡ Allowed a.page (address % 4096)
@@ -238,21 +242,21 @@ module _ (c : CoreState) (b : BusState) (k : Kept) (m : State) (p : ℕ)
   word_here : (access : Kind) (size : Size) (address place : ℕ) (a : IsGranted k.grants p access size address place) → word_at (bytes_of m.memory.pages a.page) (address % 4096) ≡ word_at b.memory place
   word_here access size address place a =
       ap (λ (s : PageState). word_at (bytes_of s.pages a.page) (address % 4096)) pages
-      ∙ (sym (word_of_page k.grants b.memory a.page (address % 4096) a.lives a.low names.frames large (small_offset address)) ∙ ap (word_at b.memory) (sym a.lies))
+      ∙ (sym (word_of_page k.grants b.memory a.page (address % 4096) a.lives a.low names large (small_offset address)) ∙ ap (word_at b.memory) (sym a.lies))
 
   -- the memory after a store is the pages'
-  page_here : (access : Kind) (size : Size) (address place : ℕ) (after : ℕ → ℕ) (a : IsGranted k.grants p access size address place)
+  page_here : (size : Size) (address place : ℕ) (after : ℕ → ℕ) (a : IsGranted k.grants p kind.Store size address place)
       → (let bytes = bytes_of m.memory.pages a.page in record m.memory { pages = slice_set m.memory.pages a.page (Some (with_word bytes (address % 4096) (after (word_at bytes (address % 4096))))) })
       ≡ page_state k.grants (with_word b.memory place (after (word_at b.memory place)))
-  page_here access size address place after a =
+  page_here size address place after a =
       let w : ℕ = after (word_at b.memory place) in
-      ap (λ (x : ℕ). record m.memory { pages = slice_set m.memory.pages a.page (Some (with_word (bytes_of m.memory.pages a.page) (address % 4096) (after x))) }) (word_here access size address place a)
+      ap (λ (x : ℕ). record m.memory { pages = slice_set m.memory.pages a.page (Some (with_word (bytes_of m.memory.pages a.page) (address % 4096) (after x))) }) (word_here kind.Store size address place a)
       ∙ (ap (λ (s : PageState). record s { pages = slice_set s.pages a.page (Some (with_word (bytes_of s.pages a.page) (address % 4096) w)) }) pages
-      ∙ (sym (state_stored k.grants b.memory a.page (address % 4096) a.lives a.low names.frames large (small_offset address) w)
+      ∙ (sym (state_stored k.grants b.memory a.page (address % 4096) a.lives a.low names large (small_offset address) (a.alone refl) w)
       ∙ ap (λ (x : ℕ). page_state k.grants (with_word b.memory x w)) (sym a.lies)))
 
   size_here : (access : Kind) (size : Size) (address place w : ℕ) (a : IsGranted k.grants p access size address place) → length (with_word b.memory place w) ≡ length b.memory
-  size_here access size address place w a = ap (λ (x : ℕ). length (with_word b.memory x w)) a.lies ∙ size_stored k.grants b.memory a.page (address % 4096) a.lives a.low names.frames large (small_offset address) w
+  size_here access size address place w a = ap (λ (x : ℕ). length (with_word b.memory x w)) a.lies ∙ size_stored k.grants b.memory a.page (address % 4096) a.lives a.low names large (small_offset address) w
 
   -- a store changes no page table
   high_here : (access : Kind) (size : Size) (address place w : ℕ) (a : IsGranted k.grants p access size address place) → IsHigh b.memory (with_word b.memory place w)
@@ -290,7 +294,7 @@ module _ (c : CoreState) (b : BusState) (k : Kept) (m : State) (p : ℕ)
         let went : where_allowed (decide m.memory.table p kind.Store size address) kind.Store address (λ page offset. Went (stored (with_registers m p (settled (process_of m p).registers)) page offset after))
         ≡ Went (record (with_registers m p (settled c.registers)) { memory = page_state k.grants memory }) =
         ap (λ (v : Verdict). where_allowed v kind.Store address (λ page offset. Went (stored (with_registers m p (settled (process_of m p).registers)) page offset after))) (allowed_here kind.Store size address place.0 a)
-        ∙ ap₂ (λ (r : Registers) (s : PageState). Went (record (with_registers m p (settled r)) { memory = s })) (sym same) (page_here kind.Store size address place.0 after a) in
+        ∙ ap₂ (λ (r : Registers) (s : PageState). Went (record (with_registers m p (settled r)) { memory = s })) (sym same) (page_here size address place.0 after a) in
         rw (in_memory place.0 a.small) (puts _ (settled c.registers) memory went (size_here kind.Store size address place.0 (after (word_at b.memory place.0)) a ∙ large) (high_here kind.Store size address place.0 (after (word_at b.memory place.0)) a))
 
     -- the outcome of the instruction's effect
@@ -303,11 +307,11 @@ module _ (c : CoreState) (b : BusState) (k : Kept) (m : State) (p : ℕ)
     effect_meets i (Faults code) asks code_known sized =
         let e = exception c (whole.fault_code code) in
         left e (Stopped (fault c.pc code)) refl refl (leaves_fault c.system e c.slot code c.pc p m.memory code_known.0 code_known.1)
-        (λ general. ends_fault c.system e code p m.memory code_known.0 code_known.1) no_vector (fault_bus code)
-    effect_meets i Calls asks code_known sized = let e = exception c SystemCall in left e Called refl refl (leaves_call c.system e c.slot c.pc p m.memory refl) (λ general. ends_call c.system e p m.memory refl) no_vector tt
+        (λ general. inl (ends_fault c.system e code p m.memory code_known.0 code_known.1)) no_vector (fault_bus code)
+    effect_meets i Calls asks code_known sized = let e = exception c SystemCall in left e Called refl refl (leaves_call c.system e c.slot c.pc p m.memory refl) (λ general. inl (ends_call c.system e p m.memory refl)) no_vector tt
     effect_meets i Privileged asks code_known sized =
         let e = unusable_exception c (unit_of i) in
-        rw (barred c (unit_of i) mode) (left e (Stopped (fault c.pc 11)) refl refl (leaves_fault c.system e c.slot 11 c.pc p m.memory refl (refl, refl)) (λ general. ends_fault c.system e 11 p m.memory refl (refl, refl)) no_vector tt)
+        rw (barred c (unit_of i) mode) (left e (Stopped (fault c.pc 11)) refl refl (leaves_fault c.system e c.slot 11 c.pc p m.memory refl (refl, refl)) (λ general. inl (ends_fault c.system e 11 p m.memory refl (refl, refl))) no_vector tt)
 
   -- the instruction at pc, whether it is fetched or not
   fetch_meets : (r : Result Physical Fault) → reached c kind.Fetch Word c.pc ≡ r

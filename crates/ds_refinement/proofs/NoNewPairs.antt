@@ -1,12 +1,13 @@
 -- No new pair of a user's page and an address space comes into a buffer.
-use Rattle.std.proofs.Common.{◌≡◌, ℕ, ◌+◌, ◌/◌, ◌^◌, ◌<◌, ◌≤◌, List, Option, Some, None, refl, sym, ap, subst, ◌∙◌, arith, inl, inr}
+use Rattle.std.proofs.Common.{◌≡◌, ℕ, ◌+◌, ◌/◌, ◌^◌, ◌<◌, ◌≤◌, List, length, get_or, Option, Some, None, refl, sym, ap, subst, ◌∙◌, arith, inl, inr}
 use Rattle.std.specs.Prelude.{slice_get, slice_set}
-use Rattle.std.proofs.lemmas.Option.{slice_get_within, get_or_from_slice_get}
+use Rattle.std.proofs.lemmas.Option.{slice_get_within, slice_get-get_or, get_or_from_slice_get}
 use Rattle.std.proofs.lemmas.List.FromFn.{length-map-range_with_len, get_or-map-range_with_len}
 use Rattle.ds_tlb.specs.declared.entry.Entry.{Entry}
 use Rattle.ds_tlb.specs.Entries.{find, empty_entry, empty_entries}
 use Rattle.ds_tables.specs.Places.{region_of}
 use Rattle.ds_grants.specs.Changes.{cleared, forgotten, both_forgotten}
+use Rattle.ds_grants.specs.Copies.{AreRewritten}
 use Rattle.ds_grants.proofs.Translations.{at_set}
 use Rattle.ds_refinement.specs.Pairs.{HasNoNewPairs}
 
@@ -50,3 +51,18 @@ forgotten_pairs old address (Some asid) =
     let between : List Entry = forgotten old (address / 2 ^ 12) asid in
     joined_pairs old between (both_forgotten old address (Some asid)) (cleared_pairs old (find old (address / 2 ^ 12) asid))
     (cleared_pairs between (find between (0xC0000 + region_of address) asid))
+
+-- entries that are rewritten keep their pairs
+pub rewritten_pairs : (old new : List Entry) → AreRewritten old new → HasNoNewPairs old new
+rewritten_pairs old new same = record {
+  each = λ slot e at user.
+      let size = same.1 in
+      let within : slot < length old = let inside = slice_get_within new slot e at in omega (arith, size, inside) in
+      let was : slice_get old slot ≡ Some (get_or old slot e) = slice_get-get_or old slot e within in
+      let now = same.0 slot (get_or old slot e) was in
+      let is : now.0 ≡ e = alike now.0 e (sym now.1 ∙ at) in
+      (slot, get_or old slot e, was, sym now.2 ∙ ap (λ (x : Entry). x.vpn) is, sym now.3 ∙ ap (λ (x : Entry). x.asid) is);
+}
+  where
+    alike : (x y : Entry) → Some x ≡ Some y → x ≡ y
+    alike x y same = cc

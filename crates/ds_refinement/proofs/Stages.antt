@@ -36,6 +36,7 @@ use Rattle.ds_refinement.specs.declared.cause.Cause.TheVariants as cause
 use Rattle.ds_refinement.specs.declared.step.Step.TheVariants.{Inside, Unit}
 use Rattle.ds_refinement.specs.Told.{told}
 use Rattle.ds_refinement.specs.Held.{Held, Kept, space_of, bare, began_or, last_boundary}
+use Rattle.ds_refinement.specs.Copying.{AwaitsCopy}
 use Rattle.ds_refinement.specs.Units.{user_status, owes_boundary, EndsUnit, Promise, AtStart, InSlot}
 use Rattle.ds_refinement.specs.Stands.{OnProcessor, RunningIs, RunningBy, KeptIs, AreResting, Agrees, CountedBy, Stands, IsSound}
 use Rattle.ds_refinement.specs.Leaves.{Leaves}
@@ -341,7 +342,7 @@ module _ (h : Held) (m : State) (p : ℕ) (rest : List ℕ) (all : Stands h m) (
   -- an exception comes to the handler, or waits to be served
   raises : (e : Exception) → e.slot ≡ h.core.slot → epc_of e ≡ (process_of m p).pc → AreUnits (settled h.core.registers) p m
       → Promise (told (entered h.core.system e) m.memory p) (entered h.core.system e).bad_vaddr h.core.slot (process_of m p).pc p m (with_registers m p (settled h.core.registers))
-      → (vector e ≡ 0x80000080 → EndsUnit m.memory p (entered h.core.system e).bad_vaddr (told (entered h.core.system e) m.memory p))
+      → (vector e ≡ 0x80000080 → EndsUnit m.memory p (entered h.core.system e).bad_vaddr (told (entered h.core.system e) m.memory p) ⊎ AwaitsCopy (entered h.core.system e) h.kept.grants p)
       → (vector e ≡ 0x80000000 → IsMiss h.core e) → IsWhole (core_at_vector (counted h.core) e)
       → IsTallied (course_of (core_at_vector (counted h.core) e) (one_more n) dirty (pages_of m p))
       → Comes Inside (after_event (event.Raised e.code) h (record { event = event.Raised e.code; core = core_at_vector (counted h.core) e; bus = h.bus })) m
@@ -406,7 +407,7 @@ module _ (h : Held) (m : State) (p : ℕ) (rest : List ℕ) (all : Stands h m) (
         subst Goes (sym w.step)
         (λ tallied. turns w.after w.target a.next (subst (λ (n : ℕ). n < 2 ^ 32) a.pc small) (sym first_alike ∙ (w.went ∙ ap (λ (t : State). Branched t w.target) (put_here w.after))) tallied)
 
-    first_raises : (s : core.Step) → Whole s → Raises h.core h.bus here p (instruction here p h.core.pc) s → Goes s
+    first_raises : (s : core.Step) → Whole s → Raises h.core h.bus h.kept.grants here p (instruction here p h.core.pc) s → Goes s
     first_raises s whole w =
         let t : System = entered h.core.system w.what in
         let pc : ℕ = (process_of m p).pc in
@@ -446,7 +447,7 @@ module _ (h : Held) (m : State) (p : ℕ) (rest : List ℕ) (all : Stands h m) (
     slot_turns : (s : core.Step) → Turns h.core h.bus here p (instruction here p h.core.pc) s → Goes s
     slot_turns s w = let no : true ≡ false = sym a.second ∙ w.outside in absurd cc
 
-    slot_raises : (s : core.Step) → Whole s → Raises h.core h.bus here p (instruction here p h.core.pc) s → Goes s
+    slot_raises : (s : core.Step) → Whole s → Raises h.core h.bus h.kept.grants here p (instruction here p h.core.pc) s → Goes s
     slot_raises s whole w =
         let t : System = entered h.core.system w.what in
         let pc : ℕ = (process_of m p).pc in

@@ -3,7 +3,7 @@ use Rattle.std.proofs.Common.{◌≡◌, ◌≢◌, ◌⊎◌, ℕ, ◌+◌, ◌
 use Rattle.std.specs.Prelude.{not, ◌&&◌}
 use Rattle.ds_word.specs.Word.{word, bits}
 use Rattle.ds_isa.specs.Registers.{Registers}
-use Rattle.ds_cp0.specs.System.{is_user}
+use Rattle.ds_cp0.specs.System.{is_user, pushed}
 use Rattle.ds_refill.specs.Handler.{address_of}
 use Rattle.ds_refill_laws.specs.Refill.{lent}
 use Rattle.ds_grants.specs.Buffer.{BufferHolds}
@@ -17,6 +17,7 @@ use Rattle.ds_refinement.proofs.Registers.{HasSeat, seat_kept, process_put}
 use Rattle.ds_refinement.proofs.Links.{touched_link}
 use Rattle.ds_refinement.proofs.Spaces.{small_number}
 use Rattle.ds_refinement.specs.Handling.{Phase, AtContext, AtAddress, AtLoad, AtPause, AtMove, AtClear, AtWrite, AtJump, AtReturn, index_of, HasBase, IsSet, AreUnits, InHandler, InDouble}
+use Rattle.ds_refinement.specs.Copying.{InCopy}
 use Rattle.ds_refinement.specs.Stands.{InKernel, OnProcessor, RunningIs, RunningBy, KeptIs, Agrees}
 
 -- Where the processor stands, by what it shows.
@@ -44,11 +45,11 @@ in_double c k p m at h =
     (subst (λ (b : Bool). InKernel b (has_left_user c) c k p m) (sym (ap (λ (n : ℕ). n == 0x80000080) at))
     (subst (λ (b : Bool). InKernel true b c k p m) (sym (ap (λ (n : ℕ). bits n 3 1 == 1) h.status)) h))
 
-pub in_service : (c : CoreState) (k : Kept) (p : ℕ) (m : State) → c.pc ≡ 0x80000080 → InService c p m → OnProcessor (is_user c.system) c.slot c k p m
-in_service c k p m at a =
-    subst (λ (b : Bool). OnProcessor b c.slot c k p m) (sym (ap (λ (n : ℕ). bits n 1 1 == 1) a.mode))
+pub at_general : (c : CoreState) (k : Kept) (p : ℕ) (m : State) → c.pc ≡ 0x80000080 → c.system.status ≡ pushed user_status → InService c p m ⊎ InCopy c k p m → OnProcessor (is_user c.system) c.slot c k p m
+at_general c k p m at mode a =
+    subst (λ (b : Bool). OnProcessor b c.slot c k p m) (sym (ap (λ (n : ℕ). bits n 1 1 == 1) mode))
     (subst (λ (b : Bool). InKernel b (has_left_user c) c k p m) (sym (ap (λ (n : ℕ). n == 0x80000080) at))
-    (subst (λ (b : Bool). InKernel true b c k p m) (sym (ap (λ (n : ℕ). bits n 3 1 == 1) a.mode)) a))
+    (subst (λ (b : Bool). InKernel true b c k p m) (sym (ap (λ (n : ℕ). bits n 3 1 == 1) mode)) a))
 
 at_start : (c : CoreState) (k : Kept) (p : ℕ) (m : State) → AtStart c p m → OnProcessor (is_user c.system) c.slot c k p m
 at_start c k p m a =

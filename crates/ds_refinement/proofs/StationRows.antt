@@ -1,5 +1,5 @@
 -- Stations and steps that are related, and some that are not: each row is a theorem about the definitions alone.
-use Rattle.std.proofs.Common.{◌≡◌, ℕ, zero, suc, ◌+◌, ◌*◌, ◌<◌, ◌≤◌, ◌^◌, inl, inr, true, false, List, [], ◌∷◌, refl, ap, arith}
+use Rattle.std.proofs.Common.{◌≡◌, ℕ, zero, suc, ◌+◌, ◌*◌, ◌<◌, ◌≤◌, ◌^◌, inl, inr, true, false, List, [], ◌∷◌, refl, sym, ap, arith}
 use Rattle.std.specs.Prelude.{Some, None, replicate, slice_get, slice_index, slice_set}
 use Rattle.ds_isa.specs.Registers.{Registers, zero_registers}
 use Rattle.ds_isa.specs.declared.instr.Size.TheVariants.{Word}
@@ -147,6 +147,8 @@ grants = record {
   frames = 1;
   named = 1;
   ended = false ∷ [];
+  lies = 0 ∷ [];
+  shared = false ∷ [];
 }
 
 -- its page, which is empty, and that table
@@ -189,14 +191,14 @@ abbrev again : Held
 again = record called { core = record (core_at 0x00400008 0xC03) { system = record called.core.system { status = 0xC03 } } }
 
 pub all_but_the_cause_is_a_way_back : GoesBack called again
-all_but_the_cause_is_a_way_back = record { mode = refl; address = refl; pages = refl; devices = refl; answered = λ up. (let no : true ≡ false = up in absurd cc); written = λ up. (let no : true ≡ false = up in absurd cc) }
+all_but_the_cause_is_a_way_back = record { mode = refl; address = refl; pages = refl; devices = refl; answered = λ up. (let no : true ≡ false = up in absurd cc); written = λ up. (let no : true ≡ false = up in absurd cc); rewritten = λ left. (λ slot e at. (e, at, refl, refl), refl) }
 
 pub a_call_does_not_go_back : IsReal called again → ⊥
 a_call_does_not_go_back real = elim (real.service (refl, λ none. absurd cc) refl) [
   | inl ends ↦ let owed : false ≡ true = ends.owed in absurd cc
   | inr on ↦ elim on.may [
     | inl nested ↦ (let no : true ≡ false = nested in absurd cc)
-    | inr by ↦ by
+    | inr by ↦ by.0
   ]
 ]
 
@@ -216,7 +218,7 @@ stood_there zero e is low = let same : table_page ≡ e = cc in let high : 0xC00
 stood_there (suc slot) e is low = (suc slot, e, is, refl, refl)
 
 pub a_double_miss_goes_back : GoesBack (doubled 0) (with_table_page (doubled 0) 1)
-a_double_miss_goes_back = record { mode = refl; address = refl; pages = refl; devices = refl; answered = λ nested. (0, refl); written = λ nested. (0x3200, refl) }
+a_double_miss_goes_back = record { mode = refl; address = refl; pages = refl; devices = refl; answered = λ nested. (0, refl); written = λ nested. (0x3200, refl); rewritten = λ left. (let no : false ≡ true = left in absurd cc) }
 
 pub that_is_real : IsReal (doubled 0) (with_table_page (doubled 0) 1)
 that_is_real = record {
@@ -290,11 +292,12 @@ pub a_word_of_page_0_is_reached_in_frame_402 : IsGranted grants 1 Load Word 0x00
 a_word_of_page_0_is_reached_in_frame_402 =
     let low : 0 < 1 = omega arith in
     let small : 0x00192004 < 2 ^ 23 = omega arith in
-    record { page = 0; allowed = refl; lives = refl; low = low; lies = refl; small = small }
+    record { page = 0; allowed = refl; lives = refl; low = low; lies = refl; small = small; alone = λ store. absurd cc }
 
 pub no_word_of_page_0_is_reached_in_frame_403 : IsGranted grants 1 Load Word 0x00400004 0x00193004 → ⊥
 no_word_of_page_0_is_reached_in_frame_403 granted =
     let allowed : Allowed 0 4 ≡ Allowed granted.page 4 = granted.allowed in
     let first : 0 ≡ granted.page = cc in
-    let lies : 0x00193004 ≡ (granted.page + 402) * 4096 + 4 = granted.lies in
-    absurd (omega (arith, first, lies))
+    let lies : 0x00193004 ≡ (slice_index (0 ∷ []) granted.page + 402) * 4096 + 4 = granted.lies in
+    let frame : slice_index (0 ∷ []) granted.page ≡ 0 = ap (slice_index (0 ∷ [])) (sym first) in
+    absurd (omega (arith, frame, lies))

@@ -50,6 +50,7 @@ module _ (h : Held) (p : ℕ) (rest : List ℕ) (sound : IsSound h) (ready : h.k
     devices = refl;
     answered = λ again. (h.own.wired, page_answers h m p rest sound.stands.agrees ready h.own.wired (let few = (ranges_of h m sound.stands).turn in omega (arith, few)) doubled);
     written = λ again. (read_only (page_of_table h.kept.tables p (bits h.core.system.entry_hi 12 20 - 0xC0000)), refl);
+    rewritten = λ left. (let no : false ≡ true = sym nested ∙ left in absurd cc);
   }
 
   first_page : 0xC0000 ≤ bits h.core.system.entry_hi 12 20

@@ -53,7 +53,7 @@ small_frame frame small = omega arith
 table_place : (vpn : ℕ) → vpn < 2 ^ 19 → 0xC0000000 + 4 * vpn < 2 ^ 32
 table_place vpn user = omega arith
 
-at_general : (pc : ℕ) → (pc == 0x80000080) ≡ true → pc ≡ 0x80000080
+pub at_general : (pc : ℕ) → (pc == 0x80000080) ≡ true → pc ≡ 0x80000080
 at_general pc is = grind (arith, nat_tests)
 
 -- the pages that the unit asks for after a word of the handler

@@ -37,6 +37,11 @@ one_tabled n = record n { wired = turned n.wired; tables = n.tables + 1; service
 abbrev pub one_copied : Counts → Counts
 one_copied n = record n { services = n.services + 1 }
 
+-- a service more after which the unit goes on, by whether the exception came from user mode: a copy, or an entry of a table's page
+abbrev pub one_served : Bool → Counts → Counts
+one_served true n = one_copied n
+one_served false n = one_tabled n
+
 -- a word of the handler more, by whether it is the seventh, which writes the slot that Random names
 abbrev pub one_word : Bool → ℕ → Counts → Counts
 one_word true random n = one_written random n

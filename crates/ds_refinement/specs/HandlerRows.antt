@@ -1,7 +1,7 @@
 -- What a small processor shows at each word of the handler, and after a double miss: each row is a theorem about the
 -- definitions alone. The page at 00400000 was missed, whose page-table word is 1700 (frame 1, valid, dirty, global) and
 -- stands at C0001000; the unit's address is 00400004.
-use Rattle.std.specs.Prelude.{◌≡◌, ℕ, ◌<◌, ◌^◌, true, false, [], ◌∷◌, slice_index, slice_get, Some, None, refl}
+use Rattle.std.specs.Prelude.{◌≡◌, ℕ, ◌<◌, ◌^◌, ◌⊎◌, true, false, [], ◌∷◌, slice_index, slice_get, Some, None, refl}
 use Rattle.ds_isa.specs.Registers.{zero_registers}
 use Rattle.ds_tlb.specs.declared.entry.Entry.{Entry}
 use Rattle.ds_cp0.specs.System.{System, at_start, is_user}
@@ -15,6 +15,7 @@ use Rattle.ds_refinement.specs.Held.{Held, Kept, Own}
 use Rattle.ds_refinement.specs.Units.{InService}
 use Rattle.ds_handler.specs.Refills.{after_refill}
 use Rattle.ds_refinement.specs.Handling.{handler_status, nested_status, HasBase, IsSet, AtContext, AtAddress, AtLoad, AtPause, AtMove, AtClear, AtWrite, AtJump, AtReturn, index_of, next_of, in_slot, Asked, Lends, Answers, has_touched, touches, InHandler, InDouble}
+use Rattle.ds_refinement.specs.Copying.{InCopy}
 use Rattle.ds_refinement.specs.Stands.{OnProcessor}
 use Rattle.ds_refinement.specs.Services.{with_table_page}
 
@@ -136,9 +137,9 @@ pub in_the_third_mode_it_is_a_double_miss : (k : Kept) (p : ℕ) (m : State) →
     → OnProcessor (is_user (general 0xC30).system) false (general 0xC30) k p m
 in_the_third_mode_it_is_a_double_miss k p m double = double
 
-pub in_the_second_mode_it_is_a_service : (k : Kept) (p : ℕ) (m : State) → InService (general 0xC0C) p m
+pub in_the_second_mode_it_is_a_service_or_a_copy : (k : Kept) (p : ℕ) (m : State) → InService (general 0xC0C) p m ⊎ InCopy (general 0xC0C) k p m
     → OnProcessor (is_user (general 0xC0C).system) false (general 0xC0C) k p m
-in_the_second_mode_it_is_a_service k p m service = service
+in_the_second_mode_it_is_a_service_or_a_copy k p m waits = waits
 
 pub at_the_other_vector_it_is_the_handler : (k : Kept) (p : ℕ) (m : State) → InHandler AtContext (at 0x80000000) k p m
     → OnProcessor (is_user (at 0x80000000).system) false (at 0x80000000) k p m

@@ -8,6 +8,7 @@ pub mod Counts
 pub mod CourseRows
 pub mod Units
 pub mod Handling
+pub mod Copying
 pub mod Stands
 pub mod Leaves
 pub mod Steps

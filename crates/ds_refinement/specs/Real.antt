@@ -7,6 +7,7 @@ use Rattle.ds_policy.specs.declared.access.Verdict.TheVariants.{Allowed}
 use Rattle.ds_policy.specs.Pages.{decide}
 use Rattle.ds_policy.specs.Grants.{PageState}
 use Rattle.ds_grants.specs.State.{page_state}
+use Rattle.ds_grants.specs.Copies.{AreRewritten}
 use Rattle.ds_cp0.specs.declared.exception.ExceptionCode.TheVariants.{FetchBus, DataBus}
 use Rattle.ds_core.specs.declared.event.Event.{Event}
 use Rattle.ds_core.specs.declared.event.Event.TheVariants.{Raised}
@@ -18,6 +19,7 @@ use Rattle.ds_refinement.specs.declared.step.Step.{Step}
 use Rattle.ds_refinement.specs.Held.{Held}
 use Rattle.ds_refinement.specs.Told.{told}
 use Rattle.ds_refinement.specs.Units.{EndsUnit, has_left_user, is_served}
+use Rattle.ds_refinement.specs.Copying.{AwaitsCopy}
 use Rattle.ds_refinement.specs.Pairs.{HasNoNewPairs}
 use Rattle.ds_refinement.specs.Steps.{Follows, Moves}
 
@@ -25,7 +27,7 @@ use Rattle.ds_refinement.specs.Steps.{Follows, Moves}
 abbrev pub HasUnit : Held → Type 0
 HasUnit h = (h.kept.state.owed ≡ None) × (h.kept.state.ready ≢ [])
 
--- what was told lets the unit of a process go on: an access that the table allows
+-- what was told may let the unit of a process go on: an access that the table allows
 abbrev pub MayGoBack : PageState → ℕ → ℕ → Cause → Type 0
 MayGoBack s p bad (cause.Access access) = (page : ℕ) × (offset : ℕ) × (decide s.table p access.kind access.size bad ≡ Allowed page offset)
 MayGoBack s p bad (cause.Fault code) = ⊥
@@ -38,12 +40,12 @@ StopsBy (p ∷ rest) h =
     let s : PageState = page_state h.kept.grants h.bus.memory in
     EndsUnit s p h.core.system.bad_vaddr (told h.core.system s p)
 
--- or lets it go on
+-- or lets it go on: it is a store that waits for a copy
 abbrev pub GoesBackBy : List ℕ → Held → Type 0
 GoesBackBy [] h = ⊥
 GoesBackBy (p ∷ rest) h =
     let s : PageState = page_state h.kept.grants h.bus.memory in
-    MayGoBack s p h.core.system.bad_vaddr (told h.core.system s p)
+    MayGoBack s p h.core.system.bad_vaddr (told h.core.system s p) × AwaitsCopy h.core.system h.kept.grants p
 
 -- the unit's address: it is in EPC where the exception came from user mode, and else the handler has it in register 27
 abbrev pub unit_address : CoreState → ℕ
@@ -51,6 +53,7 @@ unit_address c = if has_left_user c then c.system.epc else slice_index c.registe
 
 -- The unit goes on in user mode at its address, and no byte of a page and no device has changed. After a double miss a
 -- slot of the buffer answers for the page that EntryHi names: an entry of that page was put into the slot whose turn it was.
+-- After a copy each slot keeps its page and its address space.
 pub record GoesBack (old new : Held) : Type 0 where
   pub mode : is_user new.core.system ≡ true
   pub address : new.core.pc ≡ unit_address old.core
@@ -60,6 +63,7 @@ pub record GoesBack (old new : Held) : Type 0 where
       → (slot : ℕ) × (find new.core.entries (old.core.system.entry_hi / 2 ^ 12) (asid_of new.core.system) ≡ Some slot)
   pub written : has_left_user old.core ≡ false
       → (lo : ℕ) × (new.core.entries ≡ slice_set old.core.entries old.own.wired (entry_of old.core.system.entry_hi lo))
+  pub rewritten : has_left_user old.core ≡ true → AreRewritten old.core.entries new.core.entries
 
 -- The unit ends: the exception came from user mode, and what was told ends it.
 pub record EndsReally (old new : Held) : Type 0 where

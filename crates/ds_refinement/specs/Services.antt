@@ -1,7 +1,9 @@
 -- What instructions, services and boundaries make of what is held.
-use Rattle.std.specs.Prelude.{◌≡◌, ℕ, ◌+◌, ◌-◌, ◌<◌, ◌≤◌, ◌++◌, true, false, if◌then◌else◌, List, [], ◌∷◌, length, flat_map, slice_index, slice_set, Some, None}
+use Rattle.std.specs.Prelude.{◌≡◌, ℕ, ◌+◌, ◌-◌, ◌<◌, ◌≤◌, ◌++◌, true, false, if◌then◌else◌, List, [], ◌∷◌, length, flat_map, slice_index, slice_set, Some, None, IfSome}
 use Rattle.ds_word.specs.Word.{word, bits}
 use Rattle.ds_isa.specs.Registers.{Registers, settled}
+use Rattle.ds_mem.specs.Memory.{frame_of}
+use Rattle.ds_policy.specs.Pages.{entry_at, page_address}
 use Rattle.ds_procs.specs.declared.process.Standing.TheVariants.{Ready}
 use Rattle.ds_log.specs.declared.line.Line.{Line}
 use Rattle.ds_log.specs.Text.{line_text}
@@ -11,6 +13,9 @@ use Rattle.ds_tlb.specs.Words.{entry_of}
 use Rattle.ds_cp0.specs.System.{is_user}
 use Rattle.ds_refill.specs.Handler.{HasWords}
 use Rattle.ds_tables.specs.Places.{page_of_table}
+use Rattle.ds_grants.specs.State.{page_state}
+use Rattle.ds_grants.specs.Counts.{page_of}
+use Rattle.ds_grants.specs.Copies.{AreRewritten}
 use Rattle.ds_grants.specs.Buffer.{read_only}
 use Rattle.ds_grants.specs.Represented.{IsRepresented}
 use Rattle.ds_grants.specs.Sound.{NamesPages}
@@ -24,7 +29,7 @@ use Rattle.ds_refinement.specs.declared.step.Step.TheVariants.{Inside, Unit}
 use Rattle.ds_refinement.specs.Held.{Held, Kept, Own, no_memory, whole, space_of}
 use Rattle.ds_refinement.specs.Units.{user_status}
 use Rattle.ds_refinement.specs.Handling.{HasBase, IsSet, touches}
-use Rattle.ds_refinement.specs.Counts.{counts_of, with_counts, fresh, one_more, one_word, one_tabled, one_refilled, HasNone, HasRanges}
+use Rattle.ds_refinement.specs.Counts.{counts_of, with_counts, fresh, one_more, one_word, one_tabled, one_copied, one_refilled, HasNone, HasRanges}
 use Rattle.ds_refinement.specs.Stands.{AreResting}
 use Rattle.ds_refinement.specs.Steps.{ticks_of}
 
@@ -118,7 +123,7 @@ pub record EndsBy (f : State → State) (old new : Held) : Type 0 where
   pub none : HasNone new.own
   pub ranges : HasRanges new.core (counts_of new.own)
 
--- A word of the handler, and the service that lets the unit go on.
+-- A word of the handler, and the services that let the unit go on.
 
 -- what is held after a step of the processor that ends no unit
 abbrev pub with_step : Held → core.Step → Held
@@ -152,6 +157,26 @@ with_table_page h p = record h {
   };
   own = with_counts h.own (one_tabled (counts_of h.own));
 }
+
+-- the processor after a copy: the unit begins again at EPC, with registers 26 and 27 lost, and with other entries
+abbrev pub copied_core : CoreState → List Entry → CoreState
+copied_core c entries = record (at_unit c c.system.epc) { registers = touched_registers c.registers c.system.epc; entries = entries }
+
+-- The page that the process was to store to has got a frame of its own, and is marked no more: no page has other bytes, and each
+-- slot keeps its page and its address space.
+pub record IsCopied (p : ℕ) (old new : Held) : Type 0 where
+  pub core : new.core ≡ copied_core old.core new.core.entries
+  pub kept : new.kept ≡ record old.kept { grants = new.kept.grants }
+  pub own : new.own ≡ with_counts old.own (one_copied (counts_of old.own))
+  pub devices : record new.bus { memory = [] } ≡ record old.bus { memory = [] }
+  pub rewritten : AreRewritten old.core.entries new.core.entries
+  pub pages : page_state new.kept.grants new.bus.memory ≡ page_state old.kept.grants old.bus.memory
+  pub marks : IfSome (page_of (entry_at old.kept.grants.table p (page_address old.core.system.bad_vaddr)))
+      (λ page. new.kept.grants.shared ≡ slice_set old.kept.grants.shared page false)
+  pub represented : IsRepresented new.core.entries new.bus.memory new.kept.tables new.kept.spaces new.kept.grants
+  pub vectors : (f : ℕ) → f < 2 → frame_of new.bus.memory f ≡ frame_of old.bus.memory f
+  pub grants : NamesPages new.kept.grants
+  pub size : length new.bus.memory ≡ length old.bus.memory
 
 -- a whole refill is done, which ends at this processor; it wrote the slot that Random named after six words
 abbrev pub with_refill : Held → CoreState → Held

@@ -1,5 +1,5 @@
 -- The machine states that a station stands for, and how few steps its unit takes.
-use Rattle.std.specs.Prelude.{◌≡◌, ℕ, ◌%◌, ◌<◌, ◌≤◌, ◌^◌, Bool, true, false, List, [], ◌∷◌, length, flat_map}
+use Rattle.std.specs.Prelude.{◌≡◌, ℕ, ◌%◌, ◌<◌, ◌≤◌, ◌^◌, ◌⊎◌, Bool, true, false, List, [], ◌∷◌, length, flat_map}
 use Rattle.ds_procs.specs.declared.process.Standing.TheVariants.{Ready}
 use Rattle.ds_log.specs.Text.{line_text}
 use Rattle.ds_grants.specs.State.{page_state}
@@ -18,10 +18,12 @@ use Rattle.ds_refinement.specs.Units.{user_status, AtStart, InSlot, InService, i
 use Rattle.ds_refinement.specs.Needs.{pages_of}
 use Rattle.ds_refinement.specs.Counts.{counts_of, course_of, may_write, HasNone, HasRanges}
 use Rattle.ds_refinement.specs.Handling.{HasBase, IsSet, Phase, InHandler, InDouble}
+use Rattle.ds_refinement.specs.Copying.{InCopy}
 
--- in kernel mode, by whether it is at the general vector, and whether it came there from user mode
+-- in kernel mode, by whether it is at the general vector, and whether it came there from user mode: then it waits for a service
+-- that ends its unit, or for a copy
 abbrev pub InKernel : Bool → Bool → CoreState → Kept → ℕ → State → Type 0
-InKernel true true c k p m = InService c p m
+InKernel true true c k p m = InService c p m ⊎ InCopy c k p m
 InKernel true false c k p m = InDouble c k p m
 InKernel false up c k p m = (phase : Phase) × InHandler phase c k p m
 

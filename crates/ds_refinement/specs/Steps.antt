@@ -7,9 +7,9 @@ use Rattle.ds_pagemap.specs.Run.{half_turn, is_over}
 use Rattle.ds_refinement.specs.declared.step.Step.{Step}
 use Rattle.ds_refinement.specs.declared.step.Step.TheVariants.{Inside, Unit, Boundary, Over}
 use Rattle.ds_refinement.specs.Held.{Held}
-use Rattle.ds_refinement.specs.Units.{is_served}
+use Rattle.ds_refinement.specs.Units.{has_left_user, is_served}
 use Rattle.ds_refinement.specs.Handling.{touches}
-use Rattle.ds_refinement.specs.Counts.{Counts, counts_of, fresh, one_more, one_word, one_tabled}
+use Rattle.ds_refinement.specs.Counts.{Counts, counts_of, fresh, one_more, one_served, one_word}
 use Rattle.ds_refinement.specs.Stands.{Stands}
 
 -- half a turn, with a touch before and after or without
@@ -44,10 +44,10 @@ ticks_of slot = if slot then 2 else 1
 abbrev pub steps_left : Held → ℕ
 steps_left h = 2 * (64 - h.own.spent) + truth (is_served h.core)
 
--- what is counted after a step inside a unit: after a double miss an entry of a table's page, else an instruction or a word
+-- what is counted after a step inside a unit: a service, or else an instruction or a word
 abbrev pub counts_after : Held → Counts
 counts_after h =
-    if is_served h.core then one_tabled (counts_of h.own)
+    if is_served h.core then one_served (has_left_user h.core) (counts_of h.own)
     else if is_user h.core.system then one_more (counts_of h.own)
     else one_word (touches h.core) h.core.random (counts_of h.own)
 

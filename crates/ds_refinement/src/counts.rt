@@ -7,8 +7,8 @@ ghost use Rattle.ds_pagemap.specs.Boundary.{boundary};
 ghost use Rattle.ds_refinement.specs.declared.step.Step.TheVariants.{Inside, Unit, Boundary};
 ghost use Rattle.ds_cp0.specs.System.{is_user};
 ghost use Rattle.ds_refinement.specs.Held.{Held};
-ghost use Rattle.ds_refinement.specs.Units.{is_served};
-ghost use Rattle.ds_refinement.specs.Counts.{HasNone, counts_of, one_tabled};
+ghost use Rattle.ds_refinement.specs.Units.{has_left_user, is_served};
+ghost use Rattle.ds_refinement.specs.Counts.{HasNone, counts_of, one_served};
 ghost use Rattle.ds_refinement.specs.Steps.{Moves};
 ghost use Rattle.ds_refinement.specs.Services.{
   EndsBy,
@@ -35,12 +35,12 @@ pub fn a_word_is_counted()
         → Moves Inside h (after_word h s) }
 {}
 
-/// The service of a double miss counts no instruction, and leaves the kernel.
+/// The service of a double miss or of a late copy counts no instruction, and leaves the kernel.
 pub fn a_way_back_is_counted()
     ensures { (h new : Held) → h.kept.state.owed ≡ None → is_served h.core ≡ true
-        → h.own.spent ≤ 64 → new.kept ≡ h.kept → is_user new.core.system ≡ true
-        → counts_of new.own ≡ one_tabled (counts_of h.own) → new.own.failed ≡ h.own.failed
-        → Moves Inside h new }
+        → h.own.spent ≤ 64 → new.kept.state ≡ h.kept.state → is_user new.core.system ≡ true
+        → counts_of new.own ≡ one_served (has_left_user h.core) (counts_of h.own)
+        → new.own.failed ≡ h.own.failed → Moves Inside h new }
 {}
 
 /// A service that ends its unit takes one tick, and the count begins again.

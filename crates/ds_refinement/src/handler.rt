@@ -1,7 +1,7 @@
 //! The refill handler in the unit: each law is the contract of a function with an empty body. A
 //! station agrees with a state of the machine; the laws say with which it agrees after an exception
 //! or a word of the handler, and that a whole refill at once is a path.
-ghost use Rattle.std.specs.Prelude.{◌≡◌, ◌≢◌, ◌+◌, ◌≤◌, ℕ, true, false, None, List, [], ◌∷◌};
+ghost use Rattle.std.specs.Prelude.{◌≡◌, ◌≢◌, ◌⊎◌, ◌+◌, ◌≤◌, ℕ, true, false, None, List, [], ◌∷◌};
 ghost use Rattle.ds_isa.specs.Registers.{settled};
 ghost use Rattle.ds_cp0.specs.declared.exception.Exception.{Exception};
 ghost use Rattle.ds_cp0.specs.System.{is_user, epc_of, entered, vector};
@@ -16,6 +16,7 @@ ghost use Rattle.ds_refinement.specs.declared.step.Step.TheVariants.{Inside};
 ghost use Rattle.ds_refinement.specs.Told.{told, is_delayed};
 ghost use Rattle.ds_refinement.specs.Units.{EndsUnit, Promise, is_served};
 ghost use Rattle.ds_refinement.specs.Held.{Held};
+ghost use Rattle.ds_refinement.specs.Copying.{AwaitsCopy};
 ghost use Rattle.ds_refinement.specs.Handling.{AreUnits, IsMiss, IsWhole, touches};
 ghost use Rattle.ds_refinement.specs.Stands.{Agrees, IsSound};
 ghost use Rattle.ds_refinement.specs.Steps.{Follows};
@@ -54,8 +55,8 @@ pub fn a_handler_does_not_see_a_touch()
 {}
 
 /// An exception in a unit comes to the handler's first word, or it waits at the general vector for
-/// the service, which is told what the machine does there, and that its unit ends. The station
-/// agrees with the same state.
+/// the service, which is told what the machine does there, and that its unit ends; or it is a store
+/// that waits there for a copy. The station agrees with the same state.
 pub fn an_exception_enters()
     ensures { (h : Held) (m : State) (p : ℕ) (rest : List ℕ) (e : Exception) → Agrees h m
         → h.kept.state.ready ≡ p ∷ rest → h.kept.state.owed ≡ None
@@ -66,7 +67,9 @@ pub fn an_exception_enters()
         (with_registers m p (settled h.core.registers))
         → (vector e ≡ 0x80000000 → IsMiss h.core e)
         → (vector e ≡ 0x80000080 → EndsUnit m.memory p (entered h.core.system e).bad_vaddr
-        (told (entered h.core.system e) m.memory p)) → IsWhole (core_at_vector h.core e)
+        (told (entered h.core.system e) m.memory p)
+        ⊎ AwaitsCopy (entered h.core.system e) h.kept.grants p)
+        → IsWhole (core_at_vector h.core e)
         → Agrees (record h { core = core_at_vector h.core e }) m }
 {}
 

@@ -29,7 +29,7 @@ mod writes;
 pub use asked::{
     a_touch_leaves_what_is_asked_for, an_exception_is_asked_for, an_instruction_goes_on,
 };
-pub use backs::a_double_miss_goes_back;
+pub use backs::{a_double_miss_goes_back, a_late_copy_goes_back};
 pub use blocks::{
     a_block_is_a_path, a_sound_station_is_ready, an_exception_ends_a_block,
     the_last_boundary_decides,
@@ -61,7 +61,8 @@ pub use paths::{
 pub use runs::{a_block_is_within_a_run, a_run_goes_on};
 pub use seats::{the_first_comes_in, the_runner_leaves, what_is_kept_is_the_whole_state};
 pub use services::{
-    a_call_ends_its_unit, a_service_ends_its_unit, a_stop_ends_its_unit, what_waits_ends_its_unit,
+    a_call_ends_its_unit, a_service_ends_its_unit, a_stop_ends_its_unit,
+    what_waits_ends_its_unit_or_awaits_a_copy,
 };
 pub use step::Step;
 pub use tallies::{the_counts_are_few, the_counts_hold};

@@ -4,10 +4,11 @@ ghost use Rattle.std.specs.Prelude.{◌^◌, ◌≤◌, ◌≡◌, ℕ, List, Op
 ghost use Rattle.ds_tlb.specs.declared.entry.Entry.{Entry};
 ghost use Rattle.ds_tlb.specs.Entries.{empty_entries};
 ghost use Rattle.ds_grants.specs.Changes.{both_forgotten};
+ghost use Rattle.ds_grants.specs.Copies.{AreRewritten};
 ghost use Rattle.ds_refinement.specs.Pairs.{HasNoNewPairs};
 
-/// A buffer that stays, is flushed, forgets a page of a user and the page of its table, or takes an
-/// entry of a page of the kernel has no new pair; and so on after each other.
+/// A buffer that stays, is flushed, forgets a page of a user and the page of its table, takes an
+/// entry of a page of the kernel, or is rewritten has no new pair; and so on after each other.
 pub fn no_pair_is_new()
     ensures same { (es : List Entry) → HasNoNewPairs es es }
     ensures joined { (a b c : List Entry) → HasNoNewPairs a b → HasNoNewPairs b c
@@ -17,4 +18,5 @@ pub fn no_pair_is_new()
         → HasNoNewPairs old (both_forgotten old address number) }
     ensures written { (old : List Entry) (slot : ℕ) (e : Entry) → 2 ^ 19 ≤ e.vpn
         → HasNoNewPairs old (slice_set old slot e) }
+    ensures rewritten { (old new : List Entry) → AreRewritten old new → HasNoNewPairs old new }
 {}

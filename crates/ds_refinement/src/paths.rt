@@ -3,13 +3,9 @@ ghost use Rattle.std.specs.Prelude.{◌≡◌, ◌⊎◌, ℕ, ◌∷◌, ◌++�
 ghost use Rattle.ds_core.specs.declared.event.Event.{Event};
 ghost use Rattle.ds_core.specs.Core.{Step as CoreStep};
 ghost use Rattle.ds_core.specs.Effect.{step as core_step};
-ghost use Rattle.ds_policy.specs.declared.access.Access.{Access};
-ghost use Rattle.ds_policy.specs.declared.access.Verdict.TheVariants.{Allowed};
 ghost use Rattle.ds_policy.specs.Grants.{PageState};
-ghost use Rattle.ds_policy.specs.Pages.{decide};
 ghost use Rattle.ds_grants.specs.State.{page_state};
 ghost use Rattle.ds_refinement.specs.declared.cause.Cause.{Cause};
-ghost use Rattle.ds_refinement.specs.declared.cause.Cause.TheVariants as cause;
 ghost use Rattle.ds_refinement.specs.declared.step.Step.{Step};
 ghost use Rattle.ds_refinement.specs.Held.{Held};
 ghost use Rattle.ds_refinement.specs.Stands.{IsSound};
@@ -19,6 +15,7 @@ ghost use Rattle.ds_refinement.specs.Services.{
   after_word,
 };
 ghost use Rattle.ds_refinement.specs.Told.{told};
+ghost use Rattle.ds_refinement.specs.Copying.{AwaitsCopy};
 ghost use Rattle.ds_refinement.specs.Pairs.{HasNoNewPairs};
 ghost use Rattle.ds_refinement.specs.Units.{EndsUnit, has_left_user, is_served};
 ghost use Rattle.ds_refinement.specs.Real.{
@@ -68,14 +65,11 @@ pub fn an_end_is_real()
         → HasNoNewPairs h.core.entries new.core.entries → IsReal h new }
 {}
 
-/// A service that goes back to its unit is real after a double miss, and where what was told is an
-/// access that the table allows.
+/// A service that goes back to its unit is real after a double miss, and where a store waits for a
+/// copy.
 pub fn a_way_back_is_real()
-    ensures allowed { (h new : Held) (p : ℕ) (rest : List ℕ) (access : Access) (page offset : ℕ)
-        → h.kept.state.ready ≡ p ∷ rest → is_served h.core ≡ true
-        → told h.core.system (page_state h.kept.grants h.bus.memory) p ≡ cause.Access access
-        → decide h.kept.grants.table p access.kind access.size h.core.system.bad_vaddr
-        ≡ Allowed page offset
+    ensures copy { (h new : Held) (p : ℕ) (rest : List ℕ) → h.kept.state.ready ≡ p ∷ rest
+        → is_served h.core ≡ true → AwaitsCopy h.core.system h.kept.grants p
         → GoesBack h new → new.core.random ≡ h.core.random
         → HasNoNewPairs h.core.entries new.core.entries → IsReal h new }
     ensures double { (h new : Held) → is_served h.core ≡ true → has_left_user h.core ≡ false
@@ -83,7 +77,7 @@ pub fn a_way_back_is_real()
         → HasNoNewPairs h.core.entries new.core.entries → IsReal h new }
 {}
 
-/// What was told ends a unit or lets it go on, and never both.
+/// What was told ends a unit or may let it go on, and never both.
 pub fn what_was_told_decides()
     ensures either { (s : PageState) (p bad : ℕ) (why : Cause)
         → EndsUnit s p bad why ⊎ MayGoBack s p bad why }

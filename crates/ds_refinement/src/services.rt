@@ -1,5 +1,5 @@
 //! Services that end the unit of the process that runs.
-ghost use Rattle.std.specs.Prelude.{◌≡◌, ℕ, ◌∷◌, true, false, List, None};
+ghost use Rattle.std.specs.Prelude.{◌≡◌, ℕ, ◌∷◌, ◌⊎◌, true, false, List, None};
 ghost use Rattle.ds_policy.specs.declared.access.Access.{Access};
 ghost use Rattle.ds_policy.specs.declared.access.Rule.{Rule};
 ghost use Rattle.ds_policy.specs.declared.access.Verdict.TheVariants.{Denied};
@@ -13,6 +13,7 @@ ghost use Rattle.ds_refinement.specs.declared.step.Step.TheVariants.{Unit};
 ghost use Rattle.ds_refinement.specs.Told.{told, is_delayed, own_in};
 ghost use Rattle.ds_refinement.specs.Held.{Held};
 ghost use Rattle.ds_refinement.specs.Units.{EndsUnit, is_served, has_left_user};
+ghost use Rattle.ds_refinement.specs.Copying.{AwaitsCopy};
 ghost use Rattle.ds_refinement.specs.Stands.{Stands, IsSound};
 ghost use Rattle.ds_refinement.specs.Steps.{Comes, Follows};
 ghost use Rattle.ds_refinement.specs.Services.{EndsBy, resume_address};
@@ -69,11 +70,12 @@ pub fn a_call_ends_its_unit()
         → EndsInCall p h new → Follows Unit h new }
 {}
 
-/// An exception of the program that waits for its service ends its unit: it is a call, a fault, or
-/// an access that the table denies.
-pub fn what_waits_ends_its_unit()
+/// An exception of the program that waits for its service ends its unit, where it is a call, a
+/// fault, or an access that the table denies; or it is a store that waits for a copy.
+pub fn what_waits_ends_its_unit_or_awaits_a_copy()
     ensures { (h : Held) (p : ℕ) (rest : List ℕ) → IsSound h → h.kept.state.ready ≡ p ∷ rest
         → is_served h.core ≡ true → has_left_user h.core ≡ true
         → EndsUnit (page_state h.kept.grants h.bus.memory) p h.core.system.bad_vaddr
-        (told h.core.system (page_state h.kept.grants h.bus.memory) p) }
+        (told h.core.system (page_state h.kept.grants h.bus.memory) p)
+        ⊎ AwaitsCopy h.core.system h.kept.grants p }
 {}

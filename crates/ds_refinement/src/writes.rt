@@ -10,8 +10,8 @@ ghost use Rattle.ds_refinement.specs.Real.{IsReal};
 ghost use Rattle.ds_refinement.specs.Written.{HasWritten, KeepsWritten};
 
 /// What a refill or a double miss wrote into the buffer in this unit stays in its slot in each real
-/// step inside the unit, and in one after the other; and no other slot changes. A unit that begins
-/// has written nothing.
+/// step inside the unit, and in one after the other; and no other slot changes. After a copy a slot
+/// keeps at least its page and its address space. A unit that begins has written nothing.
 pub fn a_unit_keeps_what_it_wrote()
     ensures step { (old new : Held) → IsSound old → Follows Inside old new → Moves Inside old new
         → IsReal old new → KeepsWritten old new }

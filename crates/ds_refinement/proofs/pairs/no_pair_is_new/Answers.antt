@@ -1,4 +1,4 @@
-use Rattle.ds_refinement.proofs.NoNewPairs.{same_pairs, joined_pairs, flushed_pairs, forgotten_pairs, written_pairs}
+use Rattle.ds_refinement.proofs.NoNewPairs.{same_pairs, joined_pairs, flushed_pairs, forgotten_pairs, written_pairs, rewritten_pairs}
 use Rattle.ds_refinement.proofs.pairs.no_pair_is_new.Goals as goal
 
 pub returns-clause-same : goal.returns-clause-same
@@ -15,3 +15,6 @@ returns-clause-forgotten c = forgotten_pairs
 
 pub returns-clause-written : goal.returns-clause-written
 returns-clause-written c = written_pairs
+
+pub returns-clause-rewritten : goal.returns-clause-rewritten
+returns-clause-rewritten c = rewritten_pairs
