@@ -18,10 +18,6 @@ use Rattle.ds_kernel.specs.Good.{IsGood}
 use Rattle.ds_kernel.proofs.Waiting.{due_later, passed_later}
 use Rattle.ds_kernel.proofs.Bounding.{nothing_due}
 
-slot_small : (slot : Bool) → owed_tick slot ≤ 1
-slot_small true = omega arith
-slot_small false = omega arith
-
 pub may_run_ahead : {L : Type 0} (p : Parts L) (limit : ℕ) → IsGood p → IsNonDecreasingBy has_time p.monitor.due.commands → IsNonDecreasingBy comes_at p.monitor.due.characters → p.monitor.owed ≡ None → p.monitor.ready ≢ [] → is_user p.core.system ≡ true → p.spent ≡ owed_tick p.core.slot
     → p.monitor.time + limit + 1 < p.monitor.quiet_until → MayRunAhead limit (held p)
 may_run_ahead p limit good commands order owed ready user spent early = record {
@@ -29,7 +25,7 @@ may_run_ahead p limit good commands order owed ready user spent early = record {
   ready = ready;
   mode = user_status_of (held p) good.sound user;
   spent = spent;
-  fresh = good.orderly.fresh (let one = slot_small p.core.slot in omega (arith, spent, one));
+  fresh = good.orderly.fresh (omega (arith, spent));
   quiet = quiet_until (p.monitor.time + limit + 1) (held p).kept good.orderly.ticked (nothing_due p.monitor (p.monitor.time + limit + 1) p.monitor.owed commands order good.next early good.orderly.kept.lawful);
 }
 

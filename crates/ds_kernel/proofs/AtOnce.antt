@@ -240,7 +240,7 @@ module _ (h : Held) (p : ℕ) (rest : List ℕ) (asked : Call) (answer : ℕ) (q
   }
 
   still_back : GoesBack h in_seat → GoesBack h owing
-  still_back g = record { mode = g.mode; address = g.address; pages = g.pages; devices = g.devices; answered = g.answered; written = g.written }
+  still_back g = record { mode = g.mode; address = g.address; pages = g.pages; devices = g.devices; answered = g.answered; written = g.written; rewritten = g.rewritten }
 
   still_served : EndsReally h in_seat ⊎ GoesOnReally h in_seat → EndsReally h owing ⊎ GoesOnReally h owing
   still_served (inl e) = inl (record { owed = e.owed; left = e.left; stops = e.stops })

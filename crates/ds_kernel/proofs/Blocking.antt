@@ -35,6 +35,7 @@ use Rattle.ds_monitor.specs.Coming.{next_due}
 use Rattle.ds_kernel.specs.Good.{IsRate, IsGood}
 use Rattle.ds_kernel.specs.AtOnce.{IsCalled}
 use Rattle.ds_kernel.specs.Ran.{HasRun}
+use Rattle.ds_kernel.proofs.Doing.{owed_small}
 use Rattle.ds_kernel.specs.Going.{rank, GoesOn}
 use Rattle.ds_monitor.proofs.Lawful.{turn_orderly}
 use Rattle.ds_monitor.specs.Orderly as state
@@ -121,10 +122,6 @@ system_kept start zero mode calm = refl
 system_kept start (suc n) mode calm =
     let before : (after_steps n start).core.system ≡ start.core.system = system_kept start n mode (λ k below. calm k (omega (arith, below))) in
     keeps_system (after_steps n start).core (after_steps n start).bus (barred (after_steps n start).core 0 (ap (λ (s : System). s.status) before ∙ mode)) (calm n (omega arith)) ∙ before
-
-pub owed_small : (slot : Bool) → owed_tick slot ≤ 1
-owed_small true = omega arith
-owed_small false = omega arith
 
 -- the parts after a block: another processor and bus, so many ticks later, with so many instructions of the unit taken
 abbrev pub counted : {L : Type 0} → Parts L → CoreState → BusState → ℕ → ℕ → Parts L

@@ -72,7 +72,7 @@ module _ {L : Type 0} (old : Parts L) (good : IsGood old) (owed : IsSome old.mon
   }
 
   none_counted : HasNone (own_of old)
-  none_counted = none_of_fresh (own_of old) (none_spent old.spent good.orderly.begun) good.orderly.fresh
+  none_counted = none_of_fresh (own_of old) old.core.slot (none_spent old.spent good.orderly.begun) good.orderly.fresh
 
   quiet_does : IsQuiet h.kept → Does Boundary h (with_boundary h)
   quiet_does q =
@@ -166,7 +166,7 @@ module _ {L : Type 0} (old between waiting : Parts L) (good : IsGood old) (unowe
   quiet_idle q =
       record {
         follows = idle (held old) unowed nobody going q;
-        moves = idle_moves (held old) unowed (none_of_fresh (own_of old) none_begun good.orderly.fresh);
+        moves = idle_moves (held old) unowed (none_of_fresh (own_of old) old.core.slot none_begun good.orderly.fresh);
         real = real_idle (with_boundary (with_idle_turn (held old))) refl (same_pairs old.core.entries);
       }
 

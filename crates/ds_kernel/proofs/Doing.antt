@@ -1,11 +1,12 @@
 -- What the steps of a station do: each is followed by the machine with its counts, and is real.
-use Rattle.std.proofs.Common.{◌≡◌, ◌≢◌, ℕ, ◌+◌, ◌%◌, ◌^◌, ◌<◌, ◌≤◌, Bool, true, false, cond, not, nat_le, List, [], ◌∷◌, length, Option, Some, None, refl, sym, ap, ap₂, subst, ◌∙◌, arith}
+use Rattle.std.proofs.Common.{◌≡◌, ◌≢◌, ◌⊎◌, ℕ, ◌+◌, ◌%◌, ◌^◌, ◌<◌, ◌≤◌, Bool, true, false, cond, not, nat_le, List, [], ◌∷◌, length, Option, Some, None, refl, sym, ap, ap₂, subst, ◌∙◌, arith, inl, inr}
 use Rattle.std.specs.Prelude.{IsSome, ◌==◌}
 use Rattle.ds_word.specs.Word.{bits}
 use Rattle.ds_isa.specs.declared.instr.Kind.{Kind}
 use Rattle.ds_isa.specs.declared.instr.Kind.TheVariants.{Fetch, Load, Store}
 use Rattle.ds_isa.specs.Access.{is_aligned}
 use Rattle.ds_cp0.specs.System.{is_user}
+use Rattle.ds_core.specs.Ahead.{owed_tick}
 use Rattle.ds_policy.specs.declared.access.Access.{Access}
 use Rattle.ds_policy.specs.declared.access.Rule.{Rule}
 use Rattle.ds_policy.specs.declared.access.Rule.TheVariants.{K, A}
@@ -25,20 +26,22 @@ use Rattle.ds_refinement.specs.declared.cause.Cause.{Cause}
 use Rattle.ds_refinement.specs.declared.cause.Cause.TheVariants as cause
 use Rattle.ds_refinement.specs.declared.step.Step.TheVariants.{Inside, Unit}
 use Rattle.ds_refinement.specs.Held.{Held, Kept, Own}
-use Rattle.ds_refinement.specs.Counts.{Counts, HasNone, IsFresh, fresh}
+use Rattle.ds_grants.specs.State.{GrantsState}
+use Rattle.ds_refinement.specs.Counts.{Counts, HasNone, IsFresh, fresh, counts_of, one_served}
 use Rattle.ds_refinement.specs.Told.{told, is_delayed, own_in}
 use Rattle.ds_refinement.specs.Units.{InService, ends_in_stop, ends_in_call, user_status, is_general, is_served, has_left_user, EndsUnit}
 use Rattle.ds_refinement.specs.Stands.{IsSound, InKernel}
 use Rattle.ds_refinement.specs.Ends.{EndsInStop, EndsInCall}
 use Rattle.ds_refinement.specs.Pairs.{HasNoNewPairs}
-use Rattle.ds_refinement.specs.Services.{EntersBy, table_entry, with_table_page, with_none_spent}
+use Rattle.ds_refinement.specs.Copying.{AwaitsCopy, InCopy}
+use Rattle.ds_refinement.specs.Services.{EntersBy, table_entry, with_table_page, with_none_spent, IsCopied}
 use Rattle.ds_refinement.specs.Steps.{Follows, Moves, ticks_of}
 use Rattle.ds_refinement.proofs.Ending.{served_parts, served_kernel, waiting_ends, denied_ends, fault_ends, slot_ends, call_ends}
 use Rattle.ds_refinement.proofs.Counting.{stop_moves, call_moves, back_moves}
-use Rattle.ds_refinement.proofs.NoNewPairs.{written_pairs}
-use Rattle.ds_refinement.proofs.WordTallies.{double_begun}
+use Rattle.ds_refinement.proofs.NoNewPairs.{written_pairs, rewritten_pairs}
 use Rattle.ds_refinement.proofs.WaysBack.{double_page, double_follows, double_goes}
-use Rattle.ds_refinement.proofs.Joined.{end_real, double_real, never_both}
+use Rattle.ds_refinement.proofs.Copied.{copy_follows, copy_room, copy_goes}
+use Rattle.ds_refinement.proofs.Joined.{end_real, double_real, copy_real, never_both}
 use Rattle.ds_policy.specs.Value.{InputValue}
 use Rattle.ds_monitor.specs.Room.{HasBoundaryRoom, HasTurnRoom}
 use Rattle.ds_kernel.proofs.Rooms.{boundary_room_behind}
@@ -47,6 +50,7 @@ use Rattle.ds_kernel.specs.declared.parts.Parts.{Parts}
 use Rattle.ds_kernel.specs.Parts.{held, own_of}
 use Rattle.ds_monitor.specs.Coming.{next_due}
 use Rattle.ds_monitor.specs.Kept.{kept_of}
+use Rattle.ds_monitor.specs.Orderly as monitor
 use Rattle.ds_kernel.specs.Good.{IsRate, IsOrderly, IsGood, IsBusy}
 use Rattle.ds_kernel.specs.Ended.{HasEnded, Does}
 use Rattle.ds_kernel.proofs.Keeping.{first_rest}
@@ -67,8 +71,11 @@ module _ (h : Held) (p : ℕ) (rest : List ℕ) (sound : IsSound h) (ready : h.k
   -- the exception waits outside of slots
   outside_slot : has_left_user h.core ≡ true → h.core.slot ≡ false
   outside_slot left =
-      let waits : InService h.core p sound.state = subst (λ (up : Bool). InKernel true up h.core h.kept p sound.state) left (served_kernel h sound.state p rest sound.stands ready served) in
-      waits.first
+      let waits : InService h.core p sound.state ⊎ InCopy h.core h.kept p sound.state = subst (λ (up : Bool). InKernel true up h.core h.kept p sound.state) left (served_kernel h sound.state p rest sound.stands ready served) in
+      elim waits [
+        | inl ending ↦ ending.first
+        | inr late ↦ late.first
+      ]
 
   pub stop_does : has_left_user h.core ≡ true → (new : Held) (why : Cause) (stop : Stop) → h.kept.state.owed ≡ None → told h.core.system kept_pages p ≡ why
       → EndsUnit kept_pages p h.core.system.bad_vaddr why → new.own ≡ with_none_spent h.own → new.core.random ≡ h.core.random → HasNoNewPairs h.core.entries new.core.entries
@@ -83,12 +90,24 @@ module _ (h : Held) (p : ℕ) (rest : List ℕ) (sound : IsSound h) (ready : h.k
       let moves : Moves Unit h new = call_moves p h new owed (outside_slot left) own by in
       record { follows = call_ends h new p rest ready served left is outside by; moves = moves; real = end_real h new p rest cause.Call ready served left is tt moves.1 random pairs }
 
-  -- no access that the table allows waits there
-  pub none_allowed : has_left_user h.core ≡ true → (access : Access) (page offset : ℕ) → told h.core.system kept_pages p ≡ cause.Access access
-      → decide h.kept.grants.table p access.kind access.size h.core.system.bad_vaddr ≡ Allowed page offset → ⊥
-  none_allowed left access page offset is allowed =
-      never_both kept_pages p h.core.system.bad_vaddr (cause.Access access)
-      (subst (EndsUnit kept_pages p h.core.system.bad_vaddr) is (waiting_ends h sound.state p rest sound.stands ready served left)) (page, offset, allowed)
+  -- where an access waits there that the table allows, it is a store that waits for a copy
+  pub allowed_awaits : has_left_user h.core ≡ true → (access : Access) (page offset : ℕ) → told h.core.system kept_pages p ≡ cause.Access access
+      → decide h.kept.grants.table p access.kind access.size h.core.system.bad_vaddr ≡ Allowed page offset → AwaitsCopy h.core.system h.kept.grants p
+  allowed_awaits left access page offset is allowed = elim (waiting_ends h sound.state p rest sound.stands ready served left) [
+    | inl ends ↦ absurd (never_both kept_pages p h.core.system.bad_vaddr (cause.Access access)
+        (subst (EndsUnit kept_pages p h.core.system.bad_vaddr) is ends) (page, offset, allowed))
+    | inr waits ↦ waits
+  ]
+
+  -- and once its page has a frame of its own, the unit begins again
+  pub copied_does : (new : Held) → has_left_user h.core ≡ true → h.kept.state.owed ≡ None → h.own.spent ≤ 64 → AwaitsCopy h.core.system h.kept.grants p → IsCopied p h new → Does Inside h new
+  copied_does new left owed few waits copied =
+      let counts : counts_of new.own ≡ one_served (has_left_user h.core) (counts_of h.own) =
+      ap counts_of copied.own ∙ ap (λ (b : Bool). one_served b (counts_of h.own)) (sym left) in record {
+        follows = copy_follows h new p rest ready served left waits copied;
+        moves = back_moves h new owed served few (ap (λ (k : Kept). k.state) copied.kept) (ap (λ (c : CoreState). is_user c.system) copied.core) counts (ap (λ (o : Own). o.failed) copied.own);
+        real = copy_real h new p rest ready served waits (copy_goes h new p copied left) (ap (λ (c : CoreState). c.random) copied.core) (rewritten_pairs h.core.entries new.core.entries copied.rewritten);
+      }
 
   -- the page that EntryHi names is none of a user's
   pub page_above : has_left_user h.core ≡ false → 0xC0000 ≤ bits h.core.system.entry_hi 12 20
@@ -99,15 +118,19 @@ module _ (h : Held) (p : ℕ) (rest : List ℕ) (sound : IsSound h) (ready : h.k
       let above : 0xC0000 ≤ bits h.core.system.entry_hi 12 20 = page_above left in
       let new : Held = with_table_page h p in record {
         follows = double_follows h p rest ready served left;
-        moves = back_moves h new owed served few refl refl refl refl;
+        moves = back_moves h new owed served few refl refl (ap (λ (b : Bool). one_served b (counts_of h.own)) (sym left)) refl;
         real = double_real h new served left (double_goes h p rest sound ready served left) refl
             (written_pairs h.core.entries h.own.wired (table_entry h p) (omega (arith, above)));
       }
 
 -- The marks after a service.
 
-pub none_of_fresh : (own : Own) → own.spent ≡ 0 → (own.spent ≤ 3 → IsFresh own) → HasNone own
-none_of_fresh own zero f = f (omega (arith, zero)) ∙ ap (λ (n : ℕ). record (fresh own.wired) { spent = n }) zero
+pub owed_small : (slot : Bool) → owed_tick slot ≤ 1
+owed_small true = omega arith
+owed_small false = omega arith
+
+pub none_of_fresh : (own : Own) (slot : Bool) → own.spent ≡ 0 → (own.spent ≤ owed_tick slot → IsFresh own) → HasNone own
+none_of_fresh own slot zero f = f (omega (arith, zero)) ∙ ap (λ (n : ℕ). record (fresh own.wired) { spent = n }) zero
 
 -- where no unit has begun, nothing but instructions is counted
 pub fresh_of_none : (own : Own) → HasNone own → IsFresh own
@@ -200,12 +223,22 @@ module _ {L : Type 0} (p : ℕ) (old new : Parts L) (busy : IsBusy p old) (serve
       let r = first_rest old.monitor.ready p busy.first in
       call_does (held old) p r.0 busy.good.sound r.1 served left (held new) unowed is outside ended.own ended.random ended.pairs ended.ends
 
-  -- no access that the table allows waits
-  pub never_allowed : has_left_user old.core ≡ true → (access : Access) (page offset : ℕ) → tells (cause.Access access)
-      → decide old.monitor.grants.table p access.kind access.size old.core.system.bad_vaddr ≡ Allowed page offset → ⊥
-  never_allowed left access page offset asked decides =
+  -- an access that the table allows waits for a copy
+  pub awaits : has_left_user old.core ≡ true → (access : Access) (page offset : ℕ) → tells (cause.Access access)
+      → decide old.monitor.grants.table p access.kind access.size old.core.system.bad_vaddr ≡ Allowed page offset → AwaitsCopy old.core.system old.monitor.grants p
+  awaits left access page offset asked decides =
       let r = first_rest old.monitor.ready p busy.first in
-      none_allowed (held old) p r.0 busy.good.sound r.1 served left access page offset asked decides
+      allowed_awaits (held old) p r.0 busy.good.sound r.1 served left access page offset asked decides
+
+  pub copy_step : has_left_user old.core ≡ true → AwaitsCopy old.core.system old.monitor.grants p → IsCopied p (held old) (held new) → Does Inside (held old) (held new)
+  copy_step left waits copied =
+      let r = first_rest old.monitor.ready p busy.first in
+      copied_does (held old) p r.0 busy.good.sound r.1 served (held new) left unowed busy.good.orderly.spent waits copied
+
+  pub copies_few : has_left_user old.core ≡ true → AwaitsCopy old.core.system old.monitor.grants p → old.services ≤ 5
+  copies_few left waits =
+      let r = first_rest old.monitor.ready p busy.first in
+      copy_room (held old) p r.0 busy.good.sound r.1 served left waits
 
   -- the unit begins again after a double miss
   pub double_step : has_left_user old.core ≡ false → held new ≡ with_table_page (held old) p → Does Inside (held old) (held new)
@@ -214,38 +247,36 @@ module _ {L : Type 0} (p : ℕ) (old new : Parts L) (busy : IsBusy p old) (serve
       subst (λ (x : Held). Does Inside (held old) x) (sym is)
       (double_does (held old) p r.0 busy.good.sound r.1 served left unowed busy.good.orderly.spent)
 
-  pub late_enough : has_left_user old.core ≡ false → 4 ≤ old.spent
-  late_enough left =
-      let r = first_rest old.monitor.ready p busy.first in
-      double_begun (held old) busy.good.sound (some_ready old.monitor.ready p r.0 r.1) served left
-
   pub table_page_above : has_left_user old.core ≡ false → 0xC0000 ≤ bits old.core.system.entry_hi 12 20
   table_page_above left =
       let r = first_rest old.monitor.ready p busy.first in
       page_above (held old) p r.0 busy.good.sound r.1 served left
 
 -- the station is as it should be where the unit goes on in user mode
-pub back_good : {L : Type 0} (p : ℕ) (old new : Parts L) → IsBusy p old → 4 ≤ old.spent → new.monitor ≡ old.monitor → new.spent ≡ old.spent → new.failed ≡ old.failed
+pub back_good : {L : Type 0} (p : ℕ) (old new : Parts L) (g : GrantsState) → IsBusy p old → new.core.slot ≡ false → new.monitor ≡ record old.monitor { grants = g } → monitor.IsOrderly (record (kept_of old.monitor) { grants = g }) → new.spent ≡ old.spent → new.failed ≡ old.failed
     → is_user new.core.system ≡ true → Does Inside (held old) (held new) → IsGood new
-back_good p old new busy late monitor spent failed user does =
+back_good p old new g busy first monitor orderly spent failed user does =
     let o = busy.good.orderly in
-    let marks : IsOrderly (record (held new) { kept = kept_of old.monitor }) = record {
+    let begun : 0 < old.spent = busy.begun in
+    let none : owed_tick new.core.slot ≡ 0 = ap owed_tick first in
+    let marks : IsOrderly (record (held new) { kept = record (kept_of old.monitor) { grants = g } }) = record {
       begun = λ some. o.begun (subst (λ (n : ℕ). 0 < n) spent some);
       failed = λ is. o.failed (sym failed ∙ is);
       raised = λ kernel. (let no : true ≡ false = sym user ∙ kernel in absurd (cc));
       running = λ some. o.running (subst (λ (n : ℕ). 0 < n) spent some);
       spent = subst (λ (n : ℕ). n ≤ 64) (sym spent) o.spent;
-      fresh = λ few. absurd (omega (arith, few, late, spent));
+      fresh = λ few. absurd (omega (arith, few, none, begun, spent));
       lines = o.lines;
       ticked = o.ticked;
-      kept = o.kept;
+      kept = orderly;
       early = o.early;
       rate = o.rate;
     } in
+    let room = busy.good.room busy.begun in
     let t = does.follows.follows busy.good.sound.state busy.good.sound.stands in record {
       sound = record { state = t.0; stands = t.2 };
       orderly = subst (λ (m : Monitor). IsOrderly (record (held new) { kept = kept_of m })) (sym monitor) marks;
-      room = λ some. subst HasTurnRoom (sym monitor) (busy.good.room busy.begun);
+      room = λ some. subst HasTurnRoom (sym monitor) (record { consoles = room.consoles; log = room.log });
       owed = λ some. subst HasBoundaryRoom (sym monitor) (busy.good.owed (subst (λ (m : Monitor). IsSome m.owed) monitor some));
       next = subst (λ (m : Monitor). m.quiet_until ≡ next_due (kept_of m)) (sym monitor) busy.good.next;
     }

@@ -16,7 +16,7 @@ use Rattle.ds_policy.specs.declared.grant.Grant.{Grant}
 use Rattle.ds_policy.specs.declared.grant.Right.{Right}
 use Rattle.ds_policy.specs.declared.grant.Right.TheVariants.{Nothing, Read, Write}
 use Rattle.ds_policy.specs.Pages.{decide, address_code, allowed_on, by_right, by_entry, entry_at, page_address}
-use Rattle.ds_grants.specs.State.{GrantsState, is_live, page_state}
+use Rattle.ds_grants.specs.State.{GrantsState, is_live, frame_of_page, page_state}
 use Rattle.ds_grants.specs.Sound.{NamesPages}
 use Rattle.ds_refinement.specs.Told.{size_on, size_at}
 use Rattle.ds_refinement.proofs.Frames.{word_of_page}
@@ -70,7 +70,7 @@ size_by g memory p address names large (Denied rule code) is = refl
 size_by g memory p address names large (Allowed page offset) is =
     let on = allowed_page g p Fetch Word address page offset names is in
     let at = on.at in
-    ap (λ (w : ℕ). unwrap_or (access_size (instruction_of w)) Word) (sym (word_of_page g memory page offset on.lives on.low on.few large (omega arith)))
+    ap (λ (w : ℕ). unwrap_or (access_size (instruction_of w)) Word) (sym (word_of_page g memory page offset on.lives on.low names large (omega arith)))
 
 -- the size that an instruction asks for is told by its word in memory
 pub size_by_place : (g : GrantsState) (memory : List ℕ) (p address : ℕ) → NamesPages g → length memory ≡ 2 ^ 23 → size_at (page_state g memory) p address ≡ size_in memory (place_of g p address)
@@ -81,3 +81,14 @@ pub size_found : (g : GrantsState) (memory : List ℕ) (p address place : ℕ) (
     → instr ≡ instruction_of (word_at memory place) → size ≡ access_size instr → answer ≡ unwrap_or size Word → answer ≡ size_at (page_state g memory) p address
 size_found g memory p address place instr size answer names large at i s a =
     a ∙ ap (λ (o : Option Size). unwrap_or o Word) (s ∙ ap access_size i) ∙ sym (size_by_place g memory p address names large ∙ ap (size_in memory) at)
+
+-- the table lets nobody fetch from a page beyond those that may live
+pub fetched_low : (g : GrantsState) (p : ℕ) (access : Kind) (size : Size) (address page offset : ℕ) → NamesPages g → decide g.table p access size address ≡ Allowed page offset → page < g.frames
+fetched_low g p access size address page offset names is = (allowed_page g p access size address page offset names is).low
+
+-- which lie in frames of memory
+pub frame_small : (g : GrantsState) (page frame : ℕ) → NamesPages g → page < g.frames → frame ≡ frame_of_page g page → frame < 1426
+frame_small g page frame names low is =
+    let there = names.layout.within page low in
+    let few = names.frames in
+    omega (arith, there, few, is)

@@ -306,7 +306,7 @@ module _ {L : Type 0} (n end : ℕ) (old new : Parts L) (good : IsGood old) (may
       let k : ℕ = end - old.monitor.time - 1 in
       let to : old.monitor.time + suc k ≡ end = some_turns old.monitor.time end soon in
       subst (λ (t : ℕ). Reached n t (held old)) to
-      (turns_reach k n (held old) good.sound (none_of_fresh (own_of old) spent good.orderly.fresh) (subst (λ (t : ℕ). MayIdle t (held old)) (sym to) may) (subst (λ (t : ℕ). t ≤ n) (sym to) within))
+      (turns_reach k n (held old) good.sound (none_of_fresh (own_of old) old.core.slot spent good.orderly.fresh) (subst (λ (t : ℕ). MayIdle t (held old)) (sym to) may) (subst (λ (t : ℕ). t ≤ n) (sym to) within))
 
   pub idle_goes : GoesOn n (held old) (held new)
   idle_goes = subst (GoesOn n (held old)) (sym is) reached.goes

@@ -16,6 +16,7 @@ pub mod Fetching
 pub mod Keeping
 pub mod Finishing
 pub mod Doing
+pub mod Copying
 pub mod Stepping
 pub mod Beginning
 pub mod Called

@@ -26,6 +26,7 @@ use Rattle.ds_monitor.specs.declared.monitor.Monitor.{Monitor}
 use Rattle.ds_monitor.specs.Coming.{next_due}
 use Rattle.ds_monitor.specs.Kept.{kept_of}
 use Rattle.ds_monitor.specs.Room.{HasTurnRoom}
+use Rattle.ds_kernel.proofs.Doing.{owed_small}
 use Rattle.ds_kernel.proofs.Stepping.{none_is_not_some}
 use Rattle.ds_kernel.specs.Going.{GoesOn}
 use Rattle.ds_kernel.specs.Refilled.{has_missed}
@@ -95,7 +96,7 @@ module _ {L : Type 0} (old new : Parts L) (good : IsGood old) (ready : old.monit
         raised = λ is. omega arith;
         running = λ some. ready;
         spent = omega (arith, nine, few);
-        fresh = λ first. absurd (omega (arith, first));
+        fresh = λ first. absurd (let small = owed_small new.core.slot in omega (arith, first, small));
         lines = good.orderly.lines;
         ticked = good.orderly.ticked;
         early = good.orderly.early;

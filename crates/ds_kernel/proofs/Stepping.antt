@@ -8,7 +8,7 @@ use Rattle.ds_core.specs.declared.event.Event.TheVariants.{Retired, Branched, Ra
 use Rattle.ds_core.specs.Core as core
 use Rattle.ds_core.specs.Core.{CoreState}
 use Rattle.ds_core.specs.Effect.{step}
-use Rattle.ds_core.specs.Ahead.{is_raised}
+use Rattle.ds_core.specs.Ahead.{is_raised, owed_tick}
 use Rattle.ds_core.proofs.Users.{keeps_system}
 use Rattle.ds_dev.specs.Bus.{BusState}
 use Rattle.ds_pagemap.specs.declared.turn.Turn.{Turn}
@@ -16,7 +16,7 @@ use Rattle.ds_pagemap.specs.Run.{is_over}
 use Rattle.ds_refinement.specs.declared.step.Step.{Step}
 use Rattle.ds_refinement.specs.declared.step.Step.TheVariants.{Inside, Over}
 use Rattle.ds_refinement.specs.Held.{Held, Own}
-use Rattle.ds_refinement.specs.Counts.{IsFresh, counts_of, with_counts, one_more, one_word}
+use Rattle.ds_refinement.specs.Counts.{IsFresh, counts_of, one_more}
 use Rattle.ds_refinement.specs.Stands.{IsSound}
 use Rattle.ds_refill.specs.Handler.{address_of}
 use Rattle.ds_refinement.specs.Handling.{IsWhole, touches}
@@ -27,7 +27,6 @@ use Rattle.ds_refinement.proofs.Boundaries.{rests}
 use Rattle.ds_refinement.proofs.Joined.{instruction_real, word_real}
 use Rattle.ds_refinement.proofs.Counting.{event_moves, word_moves, word_spent}
 use Rattle.ds_refinement.proofs.Tallied.{failure_stands}
-use Rattle.ds_refinement.proofs.WordTallies.{word_room}
 use Rattle.ds_refinement.proofs.Meets.{barred}
 use Rattle.ds_refinement.proofs.NoNewPairs.{same_pairs}
 use Rattle.ds_refinement.proofs.Words.{word_follows}
@@ -43,6 +42,7 @@ use Rattle.ds_kernel.specs.declared.parts.Parts.{Parts}
 use Rattle.ds_kernel.specs.Parts.{held, own_of, with_counts_of}
 use Rattle.ds_kernel.specs.Good.{IsOrderly, IsGood}
 use Rattle.ds_kernel.specs.Ended.{Does}
+use Rattle.ds_kernel.proofs.Doing.{owed_small}
 
 pub none_is_not_some : (o : Option Turn) → o ≡ None → IsSome o → ⊥
 none_is_not_some o none some = let no : false ≡ true = sym (ap is_some none) ∙ some in absurd (cc)
@@ -79,14 +79,16 @@ failed_good old new good unowed is until room =
 pub fresh_more : (own : Own) → IsFresh own → IsFresh (with_one_spent own)
 fresh_more own f = ap one_more f
 
--- after a word of the handler, of which the seventh is not among the first instructions of its unit
-pub fresh_word : (seventh : Bool) (random : ℕ) (own : Own) → (seventh ≡ true → 7 ≤ own.spent) → (own.spent ≤ 3 → IsFresh own) → (with_counts own (one_word seventh random (counts_of own))).spent ≤ 3
-    → IsFresh (with_counts own (one_word seventh random (counts_of own)))
-fresh_word true random own late f few = absurd (let many = late refl in omega (arith, many, few))
-fresh_word false random own late f few = fresh_more own (f (omega (arith, few)))
+-- one instruction more, of a unit that has taken no more than its branch then, is its first
+pub fresh_first : (own : Own) (slot then_slot : Bool) → (own.spent ≤ owed_tick slot → IsFresh own) → own.spent + 1 ≤ owed_tick then_slot → IsFresh (with_one_spent own)
+fresh_first own slot then_slot f first = let small = owed_small then_slot in fresh_more own (f (omega (arith, first, small)))
+
+-- and of one that has begun there is none
+pub never_first : (slot : Bool) (before spent : ℕ) → 0 < before → spent ≡ before + 1 → spent ≤ owed_tick slot → ⊥
+never_first slot before spent begun one first = let small = owed_small slot in omega (arith, begun, one, first, small)
 
 -- A step of the processor in a unit, with no boundary owed, after which an instruction more is counted.
-pub inside_orderly : (h : Held) (c : CoreState) (b : BusState) (own : Own) → IsOrderly h → h.kept.state.owed ≡ None → h.kept.state.ready ≢ [] → h.own.spent < 64 → own.spent ≡ h.own.spent + 1 → (own.spent ≤ 3 → IsFresh own)
+pub inside_orderly : (h : Held) (c : CoreState) (b : BusState) (own : Own) → IsOrderly h → h.kept.state.owed ≡ None → h.kept.state.ready ≢ [] → h.own.spent < 64 → own.spent ≡ h.own.spent + 1 → (own.spent ≤ owed_tick c.slot → IsFresh own)
     → IsOrderly (record h { core = c; bus = b; own = own })
 inside_orderly h c b own orderly unowed ready few one fresh = record {
   begun = λ some. unowed;
@@ -161,8 +163,8 @@ module _ (h : Held) (sound : IsSound h) (orderly : IsOrderly h) (working : h.own
         early = (let most : ticks_of h.core.slot ≤ 2 = two_ticks h.core.slot in omega (arith, soon, most));
         rate = orderly.rate;
       }
-  marks Branched at = inside_orderly h s.core s.bus (with_one_spent h.own) orderly unowed ready few refl (λ first. fresh_more h.own (orderly.fresh (omega (arith, first))))
-  marks (Raised code) at = inside_orderly h s.core s.bus (with_one_spent h.own) orderly unowed ready few refl (λ first. fresh_more h.own (orderly.fresh (omega (arith, first))))
+  marks Branched at = inside_orderly h s.core s.bus (with_one_spent h.own) orderly unowed ready few refl (fresh_first h.own h.core.slot s.core.slot orderly.fresh)
+  marks (Raised code) at = inside_orderly h s.core s.bus (with_one_spent h.own) orderly unowed ready few refl (fresh_first h.own h.core.slot s.core.slot orderly.fresh)
 
   pub instruction_orderly : IsOrderly (behind s.event)
   instruction_orderly = marks s.event refl
@@ -279,9 +281,6 @@ module _ {L : Type 0} (old between new : Parts L) (good : IsGood old) (unowed : 
   word_joins : Follows Inside (held old) (after_word (held old) worded)
   word_joins = word_follows (held old) ready kernel unserved
 
-  seventh : touches old.core ≡ true → 7 ≤ old.spent
-  seventh is = (word_room (held old) good.sound ready 6 (omega arith) kernel (at_seventh old.core.pc is)).1
-
   pub word_does : Does Inside (held old) (held new)
   word_does = subst (Does Inside (held old)) (sym word_is) (record {
     follows = word_joins;
@@ -299,7 +298,7 @@ module _ {L : Type 0} (old between new : Parts L) (good : IsGood old) (unowed : 
   word_good = record {
     sound = subst IsSound (sym word_is) (sound_behind Inside (held old) (after_word (held old) worded) good.sound word_joins);
     orderly = subst IsOrderly (sym word_is) (inside_orderly (held old) worded.core worded.bus (after_word (held old) worded).own good.orderly unowed ready few (word_spent (touches old.core) old.core.random (counts_of (own_of old)))
-        (fresh_word (touches old.core) old.core.random (own_of old) seventh good.orderly.fresh));
+        (λ first. absurd (never_first worded.core.slot old.spent _ (good.orderly.raised kernel) (word_spent (touches old.core) old.core.random (counts_of (own_of old))) first)));
     room = λ some. subst HasTurnRoom (sym monitor_then) room;
     owed = λ some. absurd (none_is_not_some new.monitor.owed none_owed some);
     next = ap (λ (m : Monitor). m.quiet_until) monitor_then ∙ (until ∙ (good.next ∙ sym (ap (λ (x : Held). next_due x.kept) word_is)));

@@ -1,6 +1,7 @@
 -- What is true of a station's parts at any time, and while a unit goes on.
 use Rattle.std.specs.Prelude.{◌≡◌, ◌≢◌, ℕ, ◌+◌, ◌<◌, ◌≤◌, true, false, [], length, Some, None, IsSome}
 use Rattle.ds_cp0.specs.System.{is_user}
+use Rattle.ds_core.specs.Ahead.{owed_tick}
 use Rattle.ds_monitor.specs.Coming.{next_due}
 use Rattle.ds_monitor.specs.Kept.{kept_of}
 use Rattle.ds_pagemap.specs.Machine.{first}
@@ -26,8 +27,8 @@ pub record IsOrderly (h : Held) : Type 0 where
   pub raised : is_user h.core.system ≡ false → 0 < h.own.spent
   pub running : 0 < h.own.spent → h.kept.state.ready ≢ []
   pub spent : h.own.spent ≤ 64
-  -- no refill and no double miss is over before the fourth instruction
-  pub fresh : h.own.spent ≤ 3 → IsFresh h.own
+  -- before the first instruction of a unit, and after its branch alone, nothing else is counted
+  pub fresh : h.own.spent ≤ owed_tick h.core.slot → IsFresh h.own
   -- a unit writes a line of the log at most, and so does a command
   pub lines : h.kept.lines + length h.kept.state.commands ≤ h.kept.state.time + 4096
   pub ticked : h.kept.ticked ≤ h.kept.state.time

@@ -1,6 +1,6 @@
 //! The unit goes on: the processor is back in user mode at the unit's address.
 ghost use Rattle.std.specs.Prelude.{◌≡◌};
-ghost use Rattle.ds_refinement.specs.Services.{at_unit};
+ghost use Rattle.ds_refinement.specs.Services.{at_unit, touched_registers};
 
 use crate::parts::Parts;
 use crate::seats::USER_STATUS;
@@ -17,5 +17,20 @@ impl<L: Lookaside> Parts<L> {
         self.core.next = wrapping_sum(unit, 4);
         self.core.slot = false;
         self.core.cp0.write(register::STATUS, USER_STATUS);
+    }
+
+    /// The unit begins again; a late load is done, and registers 26 and 27 are lost to the refill.
+    pub(crate) fn go_back(&mut self)
+        ensures { self.new ≡ record self.old {
+          core = record (at_unit self.old.core self.old.core.system.epc) {
+            registers = touched_registers self.old.core.registers self.old.core.system.epc;
+          };
+        } }
+    {
+        let unit = self.unit_address();
+        self.core.registers[26] = 0;
+        self.core.registers[27] = unit;
+        self.core.late = None;
+        self.return_to(unit);
     }
 }

@@ -1,13 +1,12 @@
 //! Why the processor left the program, as the coprocessor's registers tell it.
 ghost use Rattle.std.specs.Prelude.{◌≡◌, ◌==◌, ◌<◌, ◌≤◌, ◌^◌, length, IfSome};
-ghost use Rattle.ds_grants.specs.State.{page_state};
+ghost use Rattle.ds_grants.specs.State.{frame_of_page, page_state};
 ghost use Rattle.ds_grants.specs.Sound.{NamesPages};
 ghost use Rattle.ds_refinement.specs.Told.{code_in, is_delayed, own_in, kind_told, size_told, size_at, told};
 ghost use Rattle.ds_kernel.specs.Places.{place_of};
 
 use crate::parts::Parts;
 use ds_cp0::register;
-use ds_grants::frame_of_page;
 use ds_isa::{Kind, Size, access_size};
 use ds_policy::{Access, Verdict};
 use ds_refinement::Cause;
@@ -80,6 +79,16 @@ impl<L: Lookaside> Parts<L> {
         }
     }
 
+    /// The frame in which a page lies, of those that memory has.
+    pub fn frame_of(&self, page: u32) -> u32
+        requires { page < self.now.monitor.grants.frames }
+        ensures value { result ≡ frame_of_page self.now.monitor.grants page }
+        ensures within { result < 1426 }
+    {
+        let _table = self.monitor.grants.table();
+        self.monitor.grants.frame_of_page(page)
+    }
+
     /// Where the instruction of a process at an address lies in memory, if the table lets the
     /// process fetch it.
     fn place_of(&self, process: u32, address: u32) -> Option<u32>
@@ -94,7 +103,7 @@ impl<L: Lookaside> Parts<L> {
             size: Size::Word,
         };
         match self.monitor.grants.table().decide(process, access, address) {
-            Verdict::Allowed { page, offset } => Some(frame_of_page(page) * 4096 + offset),
+            Verdict::Allowed { page, offset } => Some(self.frame_of(page) * 4096 + offset),
             Verdict::Denied { .. } => None,
         }
     }

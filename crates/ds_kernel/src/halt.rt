@@ -6,8 +6,6 @@
 pub enum Halt {
     /// Memory ran out.
     Memory,
-    /// A unit took too many instructions.
-    Stuck,
     /// An earlier failure stands.
     Failed,
 }

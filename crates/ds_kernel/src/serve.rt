@@ -1,5 +1,6 @@
 //! The exception that waits is served: the page of a table that the refill handler missed goes into
-//! the buffer, and the unit begins again; or it ends in a denial, a fault or a call.
+//! the buffer, or a page that is to be stored to gets a frame of its own, and the unit begins again; or
+//! it ends in a denial, a fault or a call.
 ghost use Rattle.std.specs.Prelude.{◌≡◌, true, false};
 ghost use Rattle.ds_grants.specs.State.{page_state};
 ghost use Rattle.ds_pagemap.specs.Unit.{denied_as};
@@ -32,7 +33,8 @@ fn denied_as(kind: Kind) -> Denied
 }
 
 impl<L: Lookaside> Parts<L> {
-    /// What the buffer did not let go: the unit ends in a denial.
+    /// What the buffer did not let go: a store to a page whose frame another may share, which gets one
+    /// of its own; or the unit ends in a denial.
     #[inline(never)]
     fn miss(&mut self, process: u32, access: Access) -> Step
         requires slots { L.SLOTS ≡ 64 }
@@ -48,8 +50,7 @@ impl<L: Lookaside> Parts<L> {
         self.look_at_unit(process);
         let address = self.bad_address();
         match self.monitor.grants.table().decide(process, access, address) {
-            // What waits for its service is an access that the table denies.
-            Verdict::Allowed { .. } => unreachable!(),
+            Verdict::Allowed { .. } => self.late_copy(process),
             Verdict::Denied { rule, code } => {
                 self.stop(process, denied_as(access.kind), address, rule, code)
             }

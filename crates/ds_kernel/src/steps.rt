@@ -1,6 +1,6 @@
 //! One step of a station: an instruction of the program or of the refill handler, a service, a
 //! boundary or an idle turn.
-ghost use Rattle.std.specs.Prelude.{◌≡◌, ◌≢◌, ◌<◌, ◌^◌, IfOk, IfErr, OnOk, OnErr, IsErrOf, [], None, IsSome, true, false};
+ghost use Rattle.std.specs.Prelude.{◌≡◌, ◌≢◌, ◌<◌, ◌^◌, IsOk, IfOk, IfErr, OnOk, OnErr, IsErrOf, [], None, IsSome, true, false};
 ghost use Rattle.ds_pagemap.specs.Run.{is_over};
 ghost use Rattle.ds_refinement.specs.Units.{is_served};
 ghost use Rattle.ds_refinement.specs.Services.{with_failure};
@@ -17,15 +17,13 @@ use crate::parts::Parts;
 use ds_refinement::Step;
 use ds_tlb::Lookaside;
 
-/// The most instructions of one unit.
-pub(crate) const MOST_SPENT: u32 = 64;
-
 impl<L: Lookaside> Parts<L> {
     /// Makes room for what one unit and the commands that are due after it may write, if it can.
     #[inline(never)]
     pub(crate) fn reserve(&mut self) -> bool
         requires early { self.old.monitor.time < 2 ^ 62 }
         ensures room { result ≡ true → HasTurnRoom self.new.monitor }
+        ensures full { HasTurnRoom self.old.monitor → result ≡ true }
         ensures held { held self.new ≡ held self.old }
         ensures rest { self.new ≡ record self.old {
           monitor = record self.old.monitor {
@@ -57,6 +55,7 @@ impl<L: Lookaside> Parts<L> {
         requires early { self.old.monitor.time < 2 ^ 62 }
         requires next { self.old.monitor.quiet_until ≡ next_due (kept_of self.old.monitor) }
         ensures room { result ≡ true → HasTurnRoom self.new.monitor }
+        ensures full { HasTurnRoom self.old.monitor → result ≡ true }
         ensures held { held self.new ≡ held self.old }
         ensures next { self.new.monitor.quiet_until ≡ self.old.monitor.quiet_until }
     {
@@ -75,19 +74,14 @@ impl<L: Lookaside> Parts<L> {
         requires working { self.old.failed ≡ false }
         requires unowed { self.old.monitor.owed ≡ None }
         requires ready { self.old.monitor.ready ≢ [] }
-        requires unserved { is_served self.old.core ≡ false }
         ensures ok { OnOk result (held self.new ≡ held self.old) }
-        ensures few { OnOk result (self.old.spent < 64) }
         ensures room { OnOk result (HasTurnRoom self.new.monitor) }
+        ensures full { HasTurnRoom self.old.monitor → IsOk result }
         ensures still { OnErr result (0 < self.old.spent → HasTurnRoom self.new.monitor) }
         ensures halts { IfErr result (λ halt. Halts halt (held self.old)) }
         ensures marked { OnErr result (held self.new ≡ with_failure (held self.old)) }
         ensures next { self.new.monitor.quiet_until ≡ self.old.monitor.quiet_until }
     {
-        if self.spent >= MOST_SPENT {
-            self.failed = true;
-            return Err(Halt::Stuck);
-        }
         if self.spent == 0 && !self.make_room() {
             self.failed = true;
             return Err(Halt::Memory);
@@ -116,6 +110,7 @@ impl<L: Lookaside> Parts<L> {
         requires unserved { is_served self.old.core ≡ false }
         requires early { self.old.monitor.time < 1000000000 }
         ensures good { IsGood self.new }
+        ensures full { HasTurnRoom self.old.monitor → IsOk result }
         ensures does { IfOk result (λ step. Does step (held self.old) (held self.new)) }
         ensures halts { IfErr result (λ halt. Halts halt (held self.old)) }
         ensures marked { OnErr result (held self.new ≡ with_failure (held self.old)) }
@@ -158,6 +153,7 @@ impl<L: Lookaside> Parts<L> {
         requires going { is_over (kept_of self.old.monitor).state ≡ false }
         requires early { self.old.monitor.time < 1000000000 }
         ensures good { IsGood self.new }
+        ensures full { HasTurnRoom self.old.monitor → IsOk result }
         ensures does { IfOk result (λ step. Does step (held self.old) (held self.new)) }
         ensures halts { IfErr result (λ halt. Halts halt (held self.old)) }
         ensures marked { OnErr result (held self.new ≡ with_failure (held self.old)) }
@@ -181,6 +177,7 @@ impl<L: Lookaside> Parts<L> {
         requires nobody { self.old.monitor.ready ≡ [] }
         requires early { self.old.monitor.time < 1000000000 }
         ensures good { IsGood self.new }
+        ensures full { HasTurnRoom self.old.monitor → IsOk result }
         ensures does { IfOk result (λ step. Does step (held self.old) (held self.new)) }
         ensures halts { IfErr result (λ halt. Halts halt (held self.old)) }
         ensures marked { OnErr result (held self.new ≡ with_failure (held self.old)) }
@@ -192,7 +189,8 @@ impl<L: Lookaside> Parts<L> {
     }
 
     /// One instruction of the processor, one service, an idle turn with its boundary, or the boundary
-    /// that is owed. After a failure it answers that, and nothing changes.
+    /// that is owed. After a failure it answers that, and nothing changes. Where there is room for
+    /// a turn it is not refused.
     #[inline(always)]
     pub fn step(&mut self) -> Result<Step, Halt>
         requires slots { L.SLOTS ≡ 64 }
@@ -200,6 +198,7 @@ impl<L: Lookaside> Parts<L> {
         requires good { IsGood self.old }
         requires early { self.old.monitor.owed ≡ None → self.old.monitor.time < 1000000000 }
         ensures good { IsGood self.new }
+        ensures full { HasTurnRoom self.old.monitor → self.old.failed ≡ false → IsOk result }
         ensures does { IfOk result (λ step. Does step (held self.old) (held self.new)) }
         ensures halts { IfErr result (λ halt. Halts halt (held self.old)) }
         ensures marked { OnErr result (held self.new ≡ with_failure (held self.old)) }

@@ -13,7 +13,7 @@ use Rattle.ds_policy.specs.declared.command.TimedCommand.{TimedCommand}
 use Rattle.ds_policy.specs.declared.command.Command.{Command}
 use Rattle.ds_policy.specs.InputFacts.{IsGoodCommand, AreGoodCommands}
 use Rattle.std.proofs.lemmas.List.Elements.{All-tail}
-use Rattle.ds_grants.specs.State.{page_state}
+use Rattle.ds_grants.specs.State.{GrantsState, page_state}
 use Rattle.ds_policy.specs.Grants.{PageState, give, take, drop_own}
 use Rattle.ds_log.specs.declared.line.Line.{Line}
 use Rattle.ds_pagemap.specs.declared.turn.Turn.{Turn}
@@ -197,3 +197,14 @@ seat_orderly k p pc r good it =
 -- a turn that is done
 pub turn_orderly : (k : Kept) (time : ℕ) (owed : Option Turn) → IsOrderly k → IsOrderly (record k { state = record k.state { time = time; owed = owed } })
 turn_orderly k time owed it = record { lawful = lawful_whenever (whole k [] []) time owed it.lawful; ended = it.ended; commands = it.commands }
+
+-- Where pages lie otherwise.
+pub lying_orderly : (k : Kept) (g : GrantsState) → length g.table ≡ length k.grants.table → g.named ≡ k.grants.named → g.ended ≡ k.grants.ended → IsOrderly k → IsOrderly (record k { grants = g })
+lying_orderly k g table named ended it = record {
+  lawful = record {
+    formed = formed_with (whole k [] []) (page_state g []) k.state.queues k.state.consoles [] k.state.time k.state.commands k.state.characters k.state.owed table refl refl it.lawful.formed;
+    asleep = it.lawful.asleep;
+  };
+  ended = it.ended ∙ sym ended;
+  commands = subst (λ (n : ℕ). AreGoodCommands n k.state.commands) (sym named) it.commands;
+}

@@ -52,6 +52,7 @@ impl Consoles {
     /// Makes room for one more byte on each line, if it can.
     pub fn reserve(&mut self) -> bool
         ensures room { result ≡ true → HasRoom self.new }
+        ensures full { HasRoom self.old → result ≡ true }
         ensures texts { texts_of self.new ≡ texts_of self.old }
     {
         if self.room > 0 {

@@ -1,6 +1,5 @@
 //! Calls about what is granted to a process: it gives it, takes back what it gave, and drops it.
 ghost use Rattle.std.specs.Prelude.{◌≡◌, ℕ, ◌+◌, ◌<◌, ◌≤◌, ◌^◌, List, length, OnOk, IfErr, Err};
-ghost use Rattle.ds_mem.specs.Memory.{frame_of};
 ghost use Rattle.ds_policy.specs.Pages.{entry_at, page_address};
 ghost use Rattle.ds_procs.specs.declared.call.Call.TheVariants as call;
 ghost use Rattle.ds_grants.specs.State.{IsAsLarge, number_of};
@@ -32,13 +31,6 @@ fn answer_of(done: Result<(), GrantFault>) -> u32
         Ok(()) => 0,
         Err(fault) => fault.number(),
     }
-}
-
-/// Memory has 8 MiB.
-fn look_at_size(memory: &Memory)
-    ensures { length memory.now ≡ 2 ^ 23 }
-{
-    let _first = memory.word(0);
 }
 
 impl Monitor {
@@ -89,8 +81,8 @@ impl Monitor {
     }
 
     /// The process gives what it has at an address to another: by mode 1 the page for reading, by 2
-    /// for writing, by 3 a copy. It stands after its call, which is at `pc`. A refused give is
-    /// logged.
+    /// for writing, by 3 a copy, which lies where its page does until one of them is stored to. It
+    /// stands after its call, which is at `pc`. A refused give is logged.
     pub fn give<L: Lookaside>(
         &mut self,
         process: u32,
@@ -112,8 +104,7 @@ impl Monitor {
         ensures serves { Serves
             (λ (m : State). served m process pc (call.Give address receiver to mode))
             (kept_of self.old) memory.old (kept_of self.new) memory.new }
-        ensures size { length memory.new ≡ length memory.old }
-        ensures elsewhere { (f : ℕ) → f < 2 → frame_of memory.new f ≡ frame_of memory.old f }
+        ensures low { IsLow memory.old memory.new }
         ensures same { IsAsLarge self.old.grants self.new.grants }
         ensures keeps { Keeps
             (L.entries tlb.old) memory.old self.old.tables self.old.spaces self.old.grants
@@ -131,7 +122,6 @@ impl Monitor {
           lines = self.new.lines;
         } }
     {
-        look_at_size(memory);
         let done = self.grants.give(
             process,
             address,
@@ -143,7 +133,6 @@ impl Monitor {
             &mut self.spaces,
             tlb,
         );
-        look_at_size(memory);
         match done {
             Ok(()) => self.answer(process, 0),
             Err(fault) => self.refuse_give(process, pc, address, fault.number()),

@@ -19,6 +19,7 @@ impl Monitor {
     pub fn reserve(&mut self, lines: usize) -> bool
         requires few { lines ≤ 10000 }
         ensures room { result ≡ true → HasRoom lines self.new }
+        ensures full { HasRoom lines self.old → result ≡ true }
         ensures kept { kept_of self.new ≡ kept_of self.old }
         ensures rest { self.new ≡ record self.old {
           consoles = self.new.consoles;

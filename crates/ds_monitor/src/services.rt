@@ -196,7 +196,7 @@ impl Monitor {
     }
 
     /// The call of a process at an address: the process goes on after it and is served, and its
-    /// turn is done. A copy that it gives is written to memory, and a refused give to the log.
+    /// turn is done. A refused give is written to the log.
     pub fn call<L: Lookaside>(&mut self, process: u32, pc: u32, bus: &mut Bus, tlb: &mut L)
         requires above { 0 < process }
         requires within { process ≤ length self.old.seats.items }

@@ -33,7 +33,6 @@ const OF_A_RUN: &str = "1 1 BadRandom
 25 25 Memory
 25 25 Memory
 25 25 Memory
-21 21 Stuck
 22 22 Failed
 ";
 
@@ -57,7 +56,6 @@ fn a_fault_is_told_by_its_number_and_name_and_what_it_carries(
         Fault::from(PolicyFault::Memory),
         Fault::from(EventsFault::Memory),
         Fault::from(Halt::Memory),
-        Fault::from(Halt::Stuck),
         Fault::from(Halt::Failed),
     ];
     assert!(rt; told(rt.alloc(), faults.as_slice())?.as_str() == OF_A_RUN);

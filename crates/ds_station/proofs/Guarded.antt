@@ -68,7 +68,7 @@ module _ (old new : Option (List ℕ)) (n : ℕ) (read : Result State Refusal) (
   ends_guarded : (f : Fault) → EndsBy f read old new n → EndsGuarded f read old new n
   ends_guarded fault.Memory (inl k) = inl k
   ends_guarded fault.Memory (inr b) = inr (prefix_guarded b)
-  ends_guarded fault.Stuck b = prefix_guarded b
+  ends_guarded fault.Stuck b = absurd b
   ends_guarded fault.WriteFault b = part_guarded b
   ends_guarded fault.Failed b = absurd b
   ends_guarded f b = b.1

@@ -82,7 +82,6 @@ really_if (Err f) old new n start read s t b path over a = tt
 
 -- what a new fault of the run ends by
 pub fault_written : (f : Fault) (read : Result State Refusal) (old new : Option (List ℕ)) (n : ℕ) → IsNewFault f → Begins read (WritesPrefix old new n) → EndsBy f read old new n
-fault_written fault.Stuck read old new n i b = b
 fault_written fault.Memory read old new n i b = inr b
 fault_written f read old new n i b = absurd i
 
@@ -114,7 +113,6 @@ module _ (n start : ℕ) (read : Result Loaded Refusal) (s t : Held) (old new : 
   }
 
   new_cut : (f : Fault) → IsNewFault f → IsCut f s t → held_goes_on n t ≡ true → Appends old new (held_text t) → EndsReally f read old new n start
-  new_cut fault.Stuck i cut going a = (b.0, b.1, cut_text fault.Stuck cut going a)
   new_cut fault.Memory i cut going a = inr (b.0, b.1, cut_text fault.Memory cut going a)
   new_cut f i cut going a = absurd i
 
@@ -140,7 +138,6 @@ module _ (n start : ℕ) (read : Result Loaded Refusal) (s t : Held) (old new : 
 -- where the inputs are refused, it did nothing
 pub refused_really : {Y : Type 0} (f : Fault) (any : Result Y Refusal) (read : Result Loaded Refusal) (old new : Option (List ℕ)) (n start : ℕ) → Refuses f any → Keeps old new → EndsReally f read old new n start
 refused_really fault.Memory any read old new n start i k = inl k
-refused_really fault.Stuck any read old new n start i k = absurd i
 refused_really fault.WriteFault any read old new n start i k = absurd i
 refused_really f any read old new n start i k = tt
 
@@ -151,7 +148,7 @@ begun_not read P r b e = let no : Ok b.0 ≡ Err r = sym b.1 ∙ e in cc
 ends_refused : (f : Fault) (read : Result State Refusal) (old new : Option (List ℕ)) (n : ℕ) (r : Refusal) → read ≡ Err r → EndsBy f read old new n → Refuses f read × Keeps old new
 ends_refused fault.Memory read old new n r e (inl k) = (tt, k)
 ends_refused fault.Memory read old new n r e (inr w) = absurd (begun_not read _ r w e)
-ends_refused fault.Stuck read old new n r e w = absurd (begun_not read _ r w e)
+ends_refused fault.Stuck read old new n r e w = absurd w
 ends_refused fault.WriteFault read old new n r e w = absurd (begun_not read _ r w e)
 ends_refused fault.Failed read old new n r e w = absurd w
 ends_refused f read old new n r e w = w

@@ -8,12 +8,11 @@ use Rattle.ds_pagemap_laws.specs.Lawful.{IsReady}
 use Rattle.ds_word.specs.Bytes.{word_at}
 use Rattle.ds_isa.specs.declared.instr.Kind.TheVariants.{Fetch}
 use Rattle.ds_isa.specs.declared.instr.Size.TheVariants.{Word}
-use Rattle.ds_policy.specs.declared.access.Verdict.{Verdict}
 use Rattle.ds_policy.specs.declared.access.Verdict.TheVariants.{Allowed, Denied}
 use Rattle.ds_policy.specs.declared.access.Rule.{Rule}
 use Rattle.ds_policy.specs.Pages.{decide}
 use Rattle.ds_cp0.specs.System.{is_user}
-use Rattle.ds_grants.specs.State.{GrantsState, page_state, pages_in}
+use Rattle.ds_grants.specs.State.{GrantsState, frame_of_page, page_state, pages_in}
 use Rattle.ds_grants.specs.Sound.{NamesPages}
 use Rattle.ds_refinement.specs.Held.{Held}
 use Rattle.ds_refinement.proofs.Frames.{word_of_page}
@@ -30,13 +29,13 @@ user_at_rest h orderly none = by (is_user h.core.system) refl
     by false is = (let some : 0 < h.own.spent = orderly.raised is in absurd (omega (arith, some, none)))
 
 -- the word in a page that may be fetched
-pub word_found : (g : GrantsState) (memory : List ℕ) (p address page offset place : ℕ) → NamesPages g → length memory ≡ 2 ^ 23 → decide g.table p Fetch Word address ≡ Allowed page offset → place ≡ (page + 402) * 4096 + offset
+pub word_found : (g : GrantsState) (memory : List ℕ) (p address page offset place : ℕ) → NamesPages g → length memory ≡ 2 ^ 23 → decide g.table p Fetch Word address ≡ Allowed page offset → place ≡ frame_of_page g page * 4096 + offset
     → Some (word_at memory place) ≡ fetched (page_state g memory) p address
 word_found g memory p address page offset place names large is at =
     let on = allowed_page g p Fetch Word address page offset names is in
     let low = on.at in
     ap (λ (x : ℕ). Some (word_at memory x)) at
-    ∙ (ap (λ (w : ℕ). Some w) (word_of_page g memory page offset on.lives on.low on.few large (omega (arith, low)))
+    ∙ (ap (λ (w : ℕ). Some w) (word_of_page g memory page offset on.lives on.low names large (omega (arith, low)))
     ∙ ap (word_on (pages_in g memory)) (sym is))
 
 -- or there is none
@@ -52,11 +51,3 @@ first_seat m (q ∷ rest) (Some p) all is =
     let head = All-head (IsReady m) q rest all in
     let same : q ≡ p = cc in
     subst (λ (x : ℕ). (0 < x) × (x ≤ length m.processes)) same (head.0, head.1)
-
--- a page that may be fetched from has a number below 1,024
-pub page_low : (g : GrantsState) (p address page offset : ℕ) → NamesPages g → decide g.table p Fetch Word address ≡ Allowed page offset → page < 1024
-page_low g p address page offset names is =
-    let on = allowed_page g p Fetch Word address page offset names is in
-    let low = on.low in
-    let few = on.few in
-    omega (arith, low, few)

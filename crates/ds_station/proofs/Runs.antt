@@ -45,7 +45,6 @@ no_error = no_bus_error
 -- where none stands, the fault of a step that is not done is a new one
 pub comes_after : (h : Halt) (s : Held) → Halts h s → IsFaultAfter s.own.failed (of_halt h)
 comes_after halt.Memory s k = subst (λ (b : Bool). IsFaultAfter b (of_halt halt.Memory)) (sym (k.0)) tt
-comes_after halt.Stuck s k = subst (λ (b : Bool). IsFaultAfter b (of_halt halt.Stuck)) (sym (k.0)) tt
 comes_after halt.Failed s k = subst (λ (b : Bool). IsFaultAfter b (of_halt halt.Failed)) (sym k) refl
 
 -- No step of a path fails.

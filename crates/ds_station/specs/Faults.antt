@@ -9,7 +9,6 @@ use Rattle.ds_asm.specs.declared.fault.AsmFault.TheVariants as asm
 use Rattle.ds_asm.specs.Assembling.{source_fault_number}
 use Rattle.ds_pagemap.specs.Run.{is_over}
 use Rattle.ds_refinement.specs.Held.{Held}
-use Rattle.ds_refinement.specs.Units.{is_served}
 use Rattle.ds_kernel.specs.declared.halt.Halt.{Halt}
 use Rattle.ds_kernel.specs.declared.halt.Halt.TheVariants as halt
 use Rattle.ds_station.specs.declared.fault.Fault.{Fault}
@@ -49,19 +48,16 @@ in_source name asm.Memory = Memory
 -- what a step that is not done is to a run
 abbrev pub of_halt : Halt → Fault
 of_halt halt.Memory = Memory
-of_halt halt.Stuck = Stuck
 of_halt halt.Failed = Failed
 
--- What is held where the next step is refused by a fault: memory runs out only where no unit is begun, and a unit is stuck only after 64 instructions.
+-- What is held where the next step is refused by a fault: memory runs out only where no unit is begun.
 abbrev pub RefusesStep : Fault → Held → Type 0
 RefusesStep Memory h = (h.own.failed ≡ false) × (h.own.spent ≡ 0) × (is_over h.kept.state ≡ false)
-RefusesStep Stuck h = (h.own.failed ≡ false) × (h.own.spent ≡ 64) × (is_served h.core ≡ false)
 RefusesStep Failed h = h.own.failed ≡ true
 RefusesStep _ h = ⊥
 
 -- a fault that comes of a step, and not of an earlier failure
 abbrev pub IsNewFault : Fault → Type 0
-IsNewFault Stuck = Unit {0}
 IsNewFault Memory = Unit {0}
 IsNewFault _ = ⊥
 

@@ -71,7 +71,7 @@ Begins {X} read P = (x : X) × (read ≡ Ok x) × P x
 -- when each fault comes, and what is written then: nothing where it refuses the inputs
 abbrev pub EndsBy : Fault → Result State Refusal → Option (List ℕ) → Option (List ℕ) → ℕ → Type 0
 EndsBy fault.Memory read old new n = Keeps old new ⊎ Begins read (WritesPrefix old new n)
-EndsBy fault.Stuck read old new n = Begins read (WritesPrefix old new n)
+EndsBy fault.Stuck read old new n = ⊥
 EndsBy fault.WriteFault read old new n = Begins read (WritesPart old new n)
 EndsBy fault.Failed read old new n = ⊥
 EndsBy f read old new n = Refuses f read × Keeps old new
@@ -127,6 +127,5 @@ pub record WritesPartReally (old new : Option (List ℕ)) (n start : ℕ) (l : L
 -- what the processor did where each fault comes: nothing that is told where the inputs are refused
 abbrev pub EndsReally : Fault → Result Loaded Refusal → Option (List ℕ) → Option (List ℕ) → ℕ → ℕ → Type 0
 EndsReally fault.Memory read old new n start = Keeps old new ⊎ Begins read (WritesCut fault.Memory old new n start)
-EndsReally fault.Stuck read old new n start = Begins read (WritesCut fault.Stuck old new n start)
 EndsReally fault.WriteFault read old new n start = Begins read (WritesPartReally old new n start)
 EndsReally f read old new n start = ⊤

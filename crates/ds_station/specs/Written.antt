@@ -58,7 +58,6 @@ pub record WritesGuardedPart (old new : Option (List ℕ)) (n : ℕ) (first : St
 -- where a run was cut short, or its text was, what is written is that of a guarded run
 abbrev pub EndsGuarded : Fault → Result State Refusal → Option (List ℕ) → Option (List ℕ) → ℕ → Type 0
 EndsGuarded fault.Memory read old new n = Keeps old new ⊎ Begins read (WritesGuardedPrefix old new n)
-EndsGuarded fault.Stuck read old new n = Begins read (WritesGuardedPrefix old new n)
 EndsGuarded fault.WriteFault read old new n = Begins read (WritesGuardedPart old new n)
 EndsGuarded f read old new n = Keeps old new
 

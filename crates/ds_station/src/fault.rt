@@ -35,7 +35,7 @@ pub enum Fault {
     /// The first line of the input, from 1, that is wrong.
     #[error("20 InputFault {0}")]
     InputFault(u64),
-    /// A unit took too many instructions.
+    /// A unit took too many instructions. No call answers it, since each unit ends before.
     #[error("21 Stuck")]
     Stuck,
     /// An earlier fault stands.
@@ -122,7 +122,6 @@ impl From<Halt> for Fault {
     fn from(h: Halt) -> Fault {
         match h {
             Halt::Memory => Fault::Memory,
-            Halt::Stuck => Fault::Stuck,
             Halt::Failed => Fault::Failed,
         }
     }

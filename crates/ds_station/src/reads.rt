@@ -6,7 +6,6 @@ ghost use Rattle.ds_pagemap.specs.Machine.{first, process_of};
 ghost use Rattle.ds_station.specs.Reads.{address_held, fetched, general_held, memory_held, unit_on};
 
 use crate::station::Station;
-use ds_grants::frame_of_page;
 use ds_isa::{Kind, Size};
 use ds_policy::{Access, Verdict};
 use ds_procs::Standing;
@@ -126,7 +125,7 @@ impl<L: Lookaside> Station<L> {
             .decide(process, access, address)
         {
             Verdict::Allowed { page, offset } => {
-                let place = frame_of_page(page) * 4096 + offset;
+                let place = self.parts.frame_of(page) * 4096 + offset;
                 Some(self.parts.bus.word(place))
             }
             Verdict::Denied { .. } => None,

@@ -112,7 +112,8 @@ impl<L: Lookaside> Station<L> {
     /// So far its unit has taken at most 61 instructions, 4 refills, 4 entries of page tables' pages
     /// and 8 services, and Random has come to no slot twice since the first of these refills. What a
     /// refill or a double miss wrote into the buffer stays in its slot while the unit goes on, and
-    /// nothing else in the buffer changes.
+    /// nothing else in the buffer changes; where a page gets a frame of its own, each slot keeps its
+    /// page and its address space.
     #[tactic(auto, using(crate::proofs::Runs::sound_single, crate::proofs::Runs::no_error))]
     pub fn step(&mut self) -> Result<Step, Fault>
         requires { self.old.kept.state.owed ≡ None → self.old.kept.state.time < 1000000000 }
@@ -173,10 +174,10 @@ impl<L: Lookaside> Station<L> {
         self.parts.monitor.time
     }
 
-    /// The machine instructions that the unit has taken so far, 64 at most.
+    /// The machine instructions that the unit has taken so far, 61 at most.
     pub fn spent(&self) -> u32
         ensures all { result ≡ self.now.own.spent }
-        ensures few { self.now.own.spent ≤ 64 }
+        ensures few { self.now.own.spent ≤ 61 }
     {
         self.parts.spent
     }

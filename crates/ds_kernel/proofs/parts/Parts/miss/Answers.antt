@@ -5,7 +5,7 @@ use Rattle.ds_pagemap.specs.Unit.{denied_as}
 use Rattle.ds_refinement.specs.declared.step.Step.{Step}
 use Rattle.ds_kernel.specs.Parts.{held}
 use Rattle.ds_kernel.specs.Ended.{Does}
-use Rattle.ds_kernel.proofs.Doing.{kernel_of, verdict_is, denied_small, stopped_as, denied_step, never_allowed, ended_good}
+use Rattle.ds_kernel.proofs.Doing.{kernel_of, verdict_is, denied_small, stopped_as, denied_step, awaits, ended_good}
 use Rattle.ds_kernel.proofs.parts.Parts.miss.Goals as goal
 
 pub stop-requires-clause-code : goal.stop-requires-clause-code
@@ -18,15 +18,15 @@ stop-requires-clause-code g c =
 pub stop-requires-clause-kernel : goal.stop-requires-clause-kernel
 stop-requires-clause-kernel g c = kernel_of c.args.self.now.core c.requires.served
 
-pub unreachable-requires : goal.unreachable-requires
-unreachable-requires g c =
+pub late_copy-requires-clause-waits : goal.late_copy-requires-clause-waits
+late_copy-requires-clause-waits g c =
     let old = c.args.self.now in
     let decides : decide old.monitor.grants.table c.args.process c.args.access.kind c.args.access.size old.core.system.bad_vaddr ≡ Allowed c.in-Allowed.page c.in-Allowed.offset =
     verdict_is _ old.monitor.grants.table c.args.process c.args.access _ old.core.system.bad_vaddr _ (Allowed c.in-Allowed.page c.in-Allowed.offset) c.decide.ensures.exact c.table.ensures.value c.bad_address-address.ensures c.in-Allowed.is in
-    never_allowed c.args.process old old c.requires.busy c.requires.served c.requires.left c.args.access c.in-Allowed.page c.in-Allowed.offset c.requires.told decides
+    awaits c.args.process old old c.requires.busy c.requires.served c.requires.left c.args.access c.in-Allowed.page c.in-Allowed.offset c.requires.told decides
 
-pub returns-clause-does : goal.returns-clause-does
-returns-clause-does g c =
+pub returns-in-Denied-clause-does : goal.returns-in-Denied-clause-does
+returns-in-Denied-clause-does g c =
     let old = c.args.self.now in
     let new = c.stop.new.self in
     let denied : decide old.monitor.grants.table c.args.process c.args.access.kind c.args.access.size old.core.system.bad_vaddr ≡ Denied c.in-Denied.rule c.in-Denied.code =
@@ -35,9 +35,9 @@ returns-clause-does g c =
     (denied_step c.args.process old new c.requires.busy c.requires.served c.requires.left c.args.access c.in-Denied.rule c.in-Denied.code c.requires.told denied
     (stopped_as c.args.process old new c.denied_as.result (denied_as c.args.access.kind) c.bad_address-address.result old.core.system.bad_vaddr c.in-Denied.rule c.in-Denied.code c.denied_as.ensures c.bad_address-address.ensures c.stop.ensures.ends))
 
-pub returns-clause-good : goal.returns-clause-good
-returns-clause-good g c =
+pub returns-in-Denied-clause-good : goal.returns-in-Denied-clause-good
+returns-in-Denied-clause-good g c =
     let old = c.args.self.now in
     let new = c.stop.new.self in
     ended_good _ c.args.process old new c.requires.busy c.stop.ensures.ends
-    (subst (λ (s : Step). Does s (held old) (held new)) c.stop.ensures.step (returns-clause-does g c))
+    (subst (λ (s : Step). Does s (held old) (held new)) c.stop.ensures.step (returns-in-Denied-clause-does g c))

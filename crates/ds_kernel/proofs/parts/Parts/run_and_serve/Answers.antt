@@ -2,7 +2,7 @@ use Rattle.std.proofs.Common.{◌≡◌, ◌+◌, ◌≤◌, arith}
 use Rattle.ds_core.specs.Ahead.{owed_tick}
 use Rattle.ds_kernel.specs.Parts.{held}
 use Rattle.ds_kernel.specs.Going.{GoesOn}
-use Rattle.ds_kernel.proofs.Blocking.{owed_small}
+use Rattle.ds_kernel.proofs.Doing.{owed_small}
 use Rattle.ds_kernel.proofs.parts.Parts.run_and_serve.Goals as goal
 
 pub serve_raised-requires-clause-begun : goal.serve_raised-requires-clause-begun

@@ -9,7 +9,8 @@ use Rattle.ds_kernel.specs.Parts.{held}
 use Rattle.ds_kernel.specs.Good.{IsGood}
 use Rattle.ds_kernel.specs.Going.{GoesOn}
 use Rattle.ds_kernel.specs.AtOnce.{IsCalled}
-use Rattle.ds_kernel.proofs.Blocking.{counted_is, owed_small, calm_good, calm_goes, raised_good, raised_goes, raised_call}
+use Rattle.ds_kernel.proofs.Doing.{owed_small}
+use Rattle.ds_kernel.proofs.Blocking.{counted_is, calm_good, calm_goes, raised_good, raised_goes, raised_call}
 use Rattle.ds_kernel.proofs.parts.Parts.run_block.Goals as goal
 
 pub returns-in-None-clause-good : goal.returns-in-None-clause-good

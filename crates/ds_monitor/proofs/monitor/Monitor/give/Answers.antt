@@ -9,7 +9,7 @@ use Rattle.ds_monitor.specs.declared.monitor.Monitor.{Monitor}
 use Rattle.ds_monitor.specs.Kept.{kept_of}
 use Rattle.ds_monitor.proofs.Serving.{serves_as}
 use Rattle.ds_monitor.proofs.Granting.{gives, answered_serves, serves_before}
-use Rattle.ds_monitor.proofs.Forgetting.{answered_pairs}
+use Rattle.ds_monitor.proofs.Forgetting.{given_pairs}
 use Rattle.ds_monitor.proofs.monitor.Monitor.give.Goals as goal
 
 pub returns-in-Ok-clause-serves : goal.returns-in-Ok-clause-serves
@@ -43,8 +43,8 @@ returns-in-Err-clause-serves g c =
 
 pub returns-in-Ok-clause-pairs : goal.returns-in-Ok-clause-pairs
 returns-in-Ok-clause-pairs g c =
-    answered_pairs _ _ _ c.give-done.result (g.L.Lookaside.entries c.args.tlb.now) (g.L.Lookaside.entries c.give-done.new.tlb) c.args.to _ c.give-done.ensures.entries c.give-done.ensures.refused
+    given_pairs _ _ _ c.give-done.result (g.L.Lookaside.entries c.args.tlb.now) (g.L.Lookaside.entries c.give-done.new.tlb) c.args.mode c.args.to _ c.give-done.ensures.entries c.give-done.ensures.refused
 
 pub returns-in-Err-clause-pairs : goal.returns-in-Err-clause-pairs
 returns-in-Err-clause-pairs g c =
-    answered_pairs _ _ _ c.give-done.result (g.L.Lookaside.entries c.args.tlb.now) (g.L.Lookaside.entries c.give-done.new.tlb) c.args.to _ c.give-done.ensures.entries c.give-done.ensures.refused
+    given_pairs _ _ _ c.give-done.result (g.L.Lookaside.entries c.args.tlb.now) (g.L.Lookaside.entries c.give-done.new.tlb) c.args.mode c.args.to _ c.give-done.ensures.entries c.give-done.ensures.refused

@@ -4,12 +4,13 @@ use Rattle.ds_isa.specs.declared.instr.Size.TheVariants.{Word}
 use Rattle.ds_policy.specs.Pages.{Table, decide}
 use Rattle.ds_refinement.specs.Held.{Held}
 use Rattle.ds_station.specs.Reads.{fetched, memory_held}
-use Rattle.ds_station.proofs.Reading.{page_low, word_found}
+use Rattle.ds_kernel.proofs.Fetching.{fetched_low}
+use Rattle.ds_station.proofs.Reading.{word_found}
 use Rattle.ds_station.proofs.station.Station.word_at.Goals as goal
 
-pub frame_of_page-requires : goal.frame_of_page-requires
-frame_of_page-requires g c =
-    page_low c.self.inside.parts.monitor.grants c.args.process c.args.address c.in-Allowed.page c.in-Allowed.offset c.table.ensures.pages
+pub frame_of-requires : goal.frame_of-requires
+frame_of-requires g c =
+    fetched_low c.self.inside.parts.monitor.grants c.args.process Fetch Word c.args.address c.in-Allowed.page c.in-Allowed.offset c.table.ensures.pages
     (ap (λ (t : Table). decide t c.args.process Fetch Word c.args.address) (sym c.table.ensures.value) ∙ sym c.in-Allowed.ensures.exact)
 
 pub returns-in-Allowed : goal.returns-in-Allowed
@@ -18,5 +19,5 @@ returns-in-Allowed g c =
     let verdict = ap (λ (t : Table). decide t c.args.process Fetch Word c.args.address) (sym c.table.ensures.value) ∙ sym c.in-Allowed.ensures.exact in
     subst (λ (h : Held). Some c.word.result ≡ fetched (memory_held h) c.args.process c.args.address) c.self.view_is
     (ap (λ (w : ℕ). Some w) c.word.ensures
-    ∙ word_found parts.monitor.grants parts.bus.memory c.args.process c.args.address c.in-Allowed.page c.in-Allowed.offset (c.frame_of_page.result * 4096 + c.in-Allowed.offset) c.table.ensures.pages c.self.invariant.good.sound.stands.agrees.size verdict
-    (ap (λ (f : ℕ). f * 4096 + c.in-Allowed.offset) c.frame_of_page.ensures))
+    ∙ word_found parts.monitor.grants parts.bus.memory c.args.process c.args.address c.in-Allowed.page c.in-Allowed.offset (c.frame_of.result * 4096 + c.in-Allowed.offset) c.table.ensures.pages c.self.invariant.good.sound.stands.agrees.size verdict
+    (ap (λ (f : ℕ). f * 4096 + c.in-Allowed.offset) c.frame_of.ensures.value))
