@@ -1,22 +1,48 @@
 #!/usr/bin/env python3
-"""Writes two tables of sources into crates/rows/data/mistakes/, each case with what `dsmon list` tells of it by the rules of docs/mistakes.md.
+"""Writes tables of sources, policies and inputs into crates/rows/data/mistakes/, each case with what `dsmon` tells of it.
 
-One has each byte alone in a line, directly after a statement, and after a statement and a blank; the other has a statement that is cut off after
-each of its bytes. tools/test_reason_cases.py holds the rules against the table that was written by hand, and the files against this script.
+Two are of sources, with what `dsmon list` tells by the rules of docs/mistakes.md: each byte alone in a line, directly after a statement, and after
+a statement and a blank; and statements that are cut off after each of their bytes. Four are of policies and inputs, with all that `dsmon check`
+tells by tools/reason_model.py: each byte in several places, and texts that are cut off after each of their bytes.
+tools/test_reason_cases.py holds the rules against the tables that were written by hand, and the files against this script.
 """
+import re
 import sys
 from pathlib import Path
 
 sys.dont_write_bytecode = True
 
+from reading_cases import INPUT, PAGES  # noqa: E402
+from reason_model import input_told, policy_told  # noqa: E402
+
 DATA = Path(__file__).resolve().parent.parent / "crates" / "rows" / "data" / "mistakes"
 HEAD = "Written by tools/reason_cases.py, from the rules of docs/mistakes.md."
+TOLD = "Written by tools/reason_cases.py, with what tools/reason_model.py says that `dsmon check` tells."
+POLICY = (DATA.parent / "policies" / "code_and_data.toml").read_bytes()
+ARRAYS = b"""\
+version = 1
+frames = 2
+process = [{ start = 0x00400000, line = 3 }]
+page = [ { name = "code", source = "one.s", part = 0 }, { name = "a" }]
+rule = [
+\t{ process = 1, address = 0x00400000, right = "read", page = "code" },
+  { process = 1, address = 0x7ffff000, right = "write", page = "a", give = true }, { process = 1, address = 0, right = "none" },
+]
+"""
 BLANKS = b" \t\r"
 LETTERS = b"abcdefghijklmnopqrstuvwxyz"
 UPPER = LETTERS.upper()
 DIGITS = b"0123456789"
 WRITTEN = LETTERS + UPPER + DIGITS + BLANKS + b"_$(),-.:"
-LINE = b"x: addiu $t0, $t1, -8 # down"
+LINES = [b"x: addiu $t0, $t1, -8 # down", b"loop: lw $v0, -4($sp)", b"sll $t0,$t1,31", b"x: beq $a0, $zero, x", b".word 0x7fffffff # a number", b"j_: jalr $v1, $t9"]
+# What the operands of a statement are to be.
+KINDS = {
+    b"add": ["a register"] * 3, b"addi": ["a register", "a register", "a number"], b"addiu": ["a register", "a register", "a number"],
+    b"lw": ["a register", "an address"], b"sll": ["a register", "a register", "a number"], b"beq": ["a register", "a register", "a label"],
+    b".word": ["a number or a label"], b"j": ["a label"], b"jal": ["a label"], b"jalr": ["a register", "a register"]}
+FORMS = {
+    "a register": rb"\$(zero|at|v[01]|a[0-3]|t[0-9]|s[0-7]|k[01]|gp|sp|fp|ra)", "a number": rb"-?[0-9]{1,10}|0x[0-9A-Fa-f]{1,8}",
+    "a label": rb"[A-Za-z_][A-Za-z0-9_]{0,31}", "an address": rb"-?[0-9]{1,10}\(\$sp\)", "a number or a label": rb"-?[0-9]{1,10}|0x[0-9A-Fa-f]{1,8}"}
 
 
 def shown(text):
@@ -67,19 +93,27 @@ def after_a_blank(c):
     return f"`{shown(bytes([c]))}` stands after the statement." if c in WRITTEN else no_byte(c)
 
 
-def cut_off(count):
-    """What is told of so many bytes of `LINE`."""
-    front = LINE[:count].split(b"#")[0].strip()
-    if front in (b"", b"x:"):
+def cut_off(line, count):
+    """What is told of so many bytes of a line."""
+    front = re.sub(rb"^[a-z_]+:", b"", line[:count].split(b"#")[0]).strip()
+    word, _, operands = front.partition(b" ")
+    if not front:
         return None
-    word, _, operands = front.removeprefix(b"x: ").partition(b" ")
-    if word not in (b"add", b"addi", b"addiu"):
+    if word == b"b":
+        return alone(ord("b"))
+    if word not in KINDS:
         return no_mnemonic(word)
-    found = operands.count(b",") + 1 if operands else 0
-    if found < 3:
-        return f"The statement wants 3 operands, and has {found}."
-    last = operands.split(b",")[2].strip()
-    return None if last == b"-8" else f"Operand 3, `{shown(last)}`, is to be a number."
+    kinds, found = KINDS[word], operands.count(b",") + 1 if operands else 0
+    if word == b"jalr" and found == 1:
+        kinds = kinds[1:]
+    if found != len(kinds):
+        return f"The statement wants {'1 to 2' if word == b'jalr' else len(kinds)} operands, and has {found}."
+    for number, (kind, operand) in enumerate(zip(kinds, operands.split(b",")), 1):
+        text = operand.strip()
+        if not re.fullmatch(FORMS[kind], text):
+            is_named = kind == "a register" and text.startswith(b"$")
+            return f"There is no register `{shown(text)}`." if is_named else f"Operand {number}, `{shown(text)}`, is to be {kind}."
+    return None
 
 
 def escaped(text):
@@ -89,18 +123,102 @@ def escaped(text):
 
 def case(title, text, told):
     answer = f"3 Syntax one.s 1: {told}" if told else "ok"
-    return f"== {title}\n{escaped(text)}\n-- {answer}\n"
+    return f"== {title}\n{escaped(text)}\n-- {escaped(answer.encode())}\n"
+
+
+# Policies and inputs.
+
+
+def end_of(text):
+    """The line and the column at the end of a text."""
+    last = text.split(b"\n")[-1]
+    return text.count(b"\n") + 1, len(last) + 1
+
+
+def where_it_breaks_off(text):
+    """Where the library says that a good document is none which is cut off here: at its end, or at a value that is no value yet, as `0x`."""
+    line, column = end_of(text)
+    cut = re.search(rb" (0x|t|tr|tru)$", text)
+    return line, column - len(cut[1]) if cut else column
+
+
+def in_a_key(c):
+    """Where the library says that a text is no document which has this byte before `frames = 16` in line 3: a table's name or a text may begin."""
+    return (3, 9) if c == ord("[") else (3, 13) if c in b"\"'" else (3, 1)
+
+
+def in_a_number(c):
+    """The same, for the last digit of `address = 0x00410000` in line 20: a byte that may stand in a number makes the whole of it none."""
+    return (20, 11) if c in LETTERS + UPPER + DIGITS + b"+-.:_" else (20, 20)
+
+
+def as_a_number(c):
+    """The same, for the digit of `line = 0` in line 6: a text ends with its line, and an array or a table goes on in the next."""
+    return (6, 9) if c in b" \t\"'" else (7, 3) if c == ord("[") else (7, 1) if c == ord("{") else (6, 8)
+
+
+def in_a_text(c):
+    """The same, for the last letter of `right = "write"` in line 21: a backslash takes the quotation mark into the text, which the line ends."""
+    return (21, 15) if c == ord('"') else (21, 16) if c == ord("\\") else (21, 14)
+
+
+def bytes_of_policies():
+    """Each byte in places of a policy, and where that is no document, if it is none."""
+    places = [
+        ("before a root key", POLICY.index(b"frames"), 0, in_a_key),
+        ("for the number of a line", POLICY.index(b"line = 0") + 7, 1, as_a_number),
+        ("for the last digit of an address", POLICY.index(b"0x00410000") + 9, 1, in_a_number),
+        ("for the last letter of a right", POLICY.index(b'write"') + 4, 1, in_a_text),
+    ]
+    for title, at, size, place in places:
+        for c in range(256):
+            yield f"{c:02X} {title}", POLICY[:at] + bytes([c]) + POLICY[at + size :], place(c)
+
+
+def bytes_of_inputs():
+    """Each byte in places of an input."""
+    first, line = b"5 key 0 41\n", b"70 grant 1 00410000 data write give\n"
+    places = [("before a time", 0, 0), ("for a digit of a time", 0, 1), ("for a blank", 8, 1), ("for a digit of an address", 18, 1), ("at the end", len(line) - 1, 0)]
+    for title, at, size in places:
+        for c in range(256):
+            yield f"{c:02X} {title}", first + line[:at] + bytes([c]) + line[at + size :]
+
+
+def checked(title, text, told):
+    """A case with all that `dsmon check` tells, or none where the text is good."""
+    lines = [f"== {title}", *(escaped_lines(text) if text else []), f"-- {told[0].decode()}" if told else "-- ok"]
+    return "\n".join(lines + ["| " + escaped(it) for it in (told or [])[1:]]) + "\n"
+
+
+def escaped_lines(text):
+    """The lines of a text as a table has them; a last line that has no line feed ends with a backslash."""
+    lines = [escaped(it) for it in text.split(b"\n")]
+    lines = [f"\\x{ord(it[0]):02X}{it[1:]}" if it.startswith(("==", "--")) else it for it in lines]
+    return lines[:-1] if not lines[-1] else [*lines[:-1], lines[-1] + "\\"]
+
+
+def tables():
+    """The name of each table of policies and inputs, and its cases."""
+    policies = [(title, text, policy_told(text, place)) for title, text, place in bytes_of_policies()]
+    yield "policy_bytes", policies
+    for name, policy in (("policy_prefixes", POLICY), ("array_prefixes", ARRAYS)):
+        fronts = [(f"{count} bytes", policy[:count]) for count in range(len(policy) + 1)]
+        yield name, [(title, text, policy_told(text, where_it_breaks_off(text))) for title, text in fronts]
+    yield "input_bytes", [(title, text, input_told(text, PAGES)) for title, text in bytes_of_inputs()]
+    yield "input_prefixes", [(f"{count} bytes", INPUT[:count], input_told(INPUT[:count], PAGES)) for count in range(len(INPUT) + 1)]
 
 
 def files():
     """The name of each file, and what it holds."""
     places = [("alone", b"", alone), ("after a statement", b"nop", directly_after), ("after a statement and a blank", b"nop ", after_a_blank)]
     every_byte = [case(f"{c:02X} {title}", front + bytes([c]), rule(c)) for title, front, rule in places for c in range(256)]
-    prefixes = [case(f"{count} bytes", LINE[:count], cut_off(count)) for count in range(len(LINE) + 1)]
+    prefixes = [case(f"{count} bytes of line {i}", line[:count], cut_off(line, count)) for i, line in enumerate(LINES, 1) for count in range(len(line) + 1)]
     for name, cases in (("source_bytes", every_byte), ("source_prefixes", prefixes)):
         yield f"{name}.cases", f"# {HEAD}\n\n" + "\n".join(cases)
+    for name, cases in tables():
+        yield f"{name}.cases", f"# {TOLD}\n\n" + "\n".join(checked(*it) for it in cases)
 
 
 if __name__ == "__main__":
     for name, text in files():
-        (DATA / name).write_text(text)
+        (DATA / name).write_text(text, "ascii")

@@ -1,12 +1,24 @@
 #!/usr/bin/env python3
-"""Tests of tools/reason_cases.py, by the table of sources that is written by hand, and of what the files hold."""
+"""Tests of tools/reason_cases.py and tools/reason_model.py, by the tables that are written by hand, and of what the files hold."""
 import re
 import sys
 import unittest
 
 sys.dont_write_bytecode = True
 
+from reading_cases import PAGES  # noqa: E402
 from reason_cases import DATA, files, no_byte, no_mnemonic  # noqa: E402
+from reason_model import input_told, policy_told  # noqa: E402
+from test_reading_cases import ESCAPE, byte_of  # noqa: E402
+
+
+def told_cases(name):
+    """The cases of a table: their names, their texts, and all that is told of them."""
+    blocks = re.split(rb"(?m)^== (.*)\n", (DATA / name).read_bytes())
+    for title, block in zip(blocks[1::2], blocks[2::2]):
+        text, first, more = re.match(rb"(?ms)(.*?)^-- ([^\n]*)\n(.*)", block).groups()
+        told = [first, *(it[2:] for it in more.split(b"\n") if it.startswith(b"| "))]
+        yield title.decode(), ESCAPE.sub(byte_of, text), [ESCAPE.sub(byte_of, it) for it in told]
 
 
 class Tests(unittest.TestCase):
@@ -16,6 +28,19 @@ class Tests(unittest.TestCase):
             self.assertIn(f"| {words}\n", told)
         self.assertRegex(told, re.escape("| `nop` stands after the statement.\n"))
         self.assertRegex(told, re.escape("| The statement wants 3 operands, and has 2.\n"))
+
+    def test_policies_are_told_as_is_written(self):
+        told = list(told_cases("policy.cases"))
+        for title, text, lines in told:
+            # The library tells that the second line is no TOML.
+            self.assertEqual(policy_told(text, (2, 1)), lines, title)
+        self.assertEqual(len(told), 29)
+
+    def test_inputs_are_told_as_is_written(self):
+        told = list(told_cases("input.cases"))
+        for title, text, lines in told:
+            self.assertEqual(input_told(text, PAGES), lines, title)
+        self.assertEqual(len(told), 17)
 
     def test_each_file_is_as_written(self):
         for name, text in files():

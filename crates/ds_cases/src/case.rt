@@ -10,8 +10,8 @@ pub enum Expected {
     Done,
     /// Status 0, and this text on standard output.
     Writes(Vec<u8>),
-    /// Status 2, and these lines on standard error, after `dsmon: `.
-    Refused(String),
+    /// Status 2, and these lines on standard error, after `dsmon: `, each with its line feed.
+    Refused(Vec<u8>),
 }
 
 /// A case of a table: a text that is put in place of a file, and what comes of it.
@@ -59,11 +59,7 @@ impl Case {
         match &mut self.expected {
             Some(Expected::Writes(text)) => push_line(text, line),
             Some(Expected::Refused(refusal)) => match line.strip_prefix("| ") {
-                Some(more) => {
-                    refusal.push('\n')?;
-                    refusal.push_str(more)?;
-                    Ok(true)
-                }
+                Some(more) => push_line(refusal, more),
                 None => Ok(is_skipped(line)),
             },
             Some(Expected::Done) => Ok(is_skipped(line)),
@@ -77,8 +73,10 @@ impl Case {
                     Ok(true)
                 }
                 Some(refusal) => {
-                    self.expected = Some(Expected::Refused(String::from_str(alloc, refusal)?));
-                    Ok(true)
+                    let mut told = Vec::new(alloc);
+                    let is_good = push_line(&mut told, refusal)?;
+                    self.expected = Some(Expected::Refused(told));
+                    Ok(is_good)
                 }
                 None => push_line(&mut self.text, line),
             },

@@ -1,9 +1,9 @@
 pub mod FirstLines
 pub mod EventCounts
 pub mod LimitTexts
-pub mod RuleLines
 pub mod PlaceSteps
 pub mod EventSteps
 pub mod LineSteps
+pub mod ItemSteps
 pub mod SpotSteps
 pub mod StartSteps

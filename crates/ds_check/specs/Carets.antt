@@ -1,11 +1,26 @@
 -- A caret below a shown line.
-use Rattle.std.specs.Prelude.{codes, ℕ, ◌==◌, if◌then◌else◌, List, [], ◌∷◌, ◌++◌, flat_map}
+use Rattle.std.specs.Prelude.{codes, ℕ, ◌+◌, ◌-◌, ◌==◌, if◌then◌else◌, List, [], ◌∷◌, ◌++◌, flat_map, take}
+use Rattle.ds_check.specs.declared.places.Place.{Place}
+use Rattle.ds_check.specs.Lines.{line_at, shown_line}
 use Rattle.ds_check.specs.Places.{goes_on}
 
 -- what stands beneath a byte that stands before a caret: a tab beneath a tab, a blank beneath any other character, and nothing beneath a byte that goes on with one
 abbrev pub beneath : ℕ → List ℕ
 beneath c = if c == 9 then 9 ∷ [] else if goes_on c then [] else 32 ∷ []
 
--- the line below a shown line, with a caret behind so much of that line
+-- the line below a shown line, with a caret after so much of that line
 abbrev pub caret_line : List ℕ → List ℕ
 caret_line front = codes "    " ++ (flat_map beneath front ++ codes "^\n")
+
+-- where k characters end, in bytes that begin at place n
+abbrev pub bytes_from : ℕ → ℕ → List ℕ → ℕ
+bytes_from n k [] = n
+bytes_from n k (b ∷ line) = if k == 0 then n else bytes_from (n + 1) (if goes_on b then k else k - 1) line
+
+-- so many characters of a line
+abbrev pub first_characters : ℕ → List ℕ → List ℕ
+first_characters k line = take (bytes_from 0 k line) line
+
+-- the line of a place as it is shown, and below it a caret at its column
+abbrev pub place_shown : List ℕ → Place → List ℕ
+place_shown text p = shown_line text p.line ++ caret_line (first_characters (p.column - 1) (line_at text p.line))

@@ -9,6 +9,8 @@ pub mod Mending
 pub mod MendingRows
 pub mod Places
 pub mod PlaceRows
+pub mod Items
+pub mod ItemRows
 pub mod Lines
 pub mod LineRows
 pub mod Spots

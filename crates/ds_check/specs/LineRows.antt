@@ -6,5 +6,5 @@ pub lines_count_from_1 : line_at (codes "nop\nwalk\n") 1 ∷ line_at (codes "nop
     ≡ codes "nop" ∷ codes "walk" ∷ codes "walk" ∷ [] ∷ [] ∷ []
 lines_count_from_1 = refl
 
-pub a_line_is_shown_behind_four_blanks : shown_line (codes "nop\n\twalk\r\n") 2 ≡ codes "    \twalk\r\n"
-a_line_is_shown_behind_four_blanks = refl
+pub a_line_is_shown_after_four_blanks : shown_line (codes "nop\n\twalk\r\n") 2 ≡ codes "    \twalk\r\n"
+a_line_is_shown_after_four_blanks = refl

@@ -1,5 +1,5 @@
 //! The lines of a text, shown where something is said of one.
-ghost use Rattle.std.specs.Prelude.{◌≡◌, ◌≤◌, ◌-◌, drop};
+ghost use Rattle.std.specs.Prelude.{◌≡◌, ◌≤◌, ◌-◌, drop, length};
 ghost use Rattle.std.specs.List.{before_first};
 ghost use Rattle.ds_asm.specs.Assembly.{lines_of};
 ghost use Rattle.ds_check.specs.Lines.{StandAt};
@@ -73,15 +73,16 @@ fn found<'a>(text: &'a [u8], number: u64, rest: &'a [u8], wanted: u64) -> &'a [u
     ensures { lines_of result.now ≡ drop (wanted - 1) (lines_of text.now) }
 {
     if wanted < number {
-        behind_lines(text, wanted.saturating_sub(1))
+        after_lines(text, wanted.saturating_sub(1))
     } else {
-        behind_lines(rest, wanted - number)
+        after_lines(rest, wanted - number)
     }
 }
 
 /// What stands after so many lines of a text.
-fn behind_lines(text: &[u8], count: u64) -> &[u8]
-    ensures { lines_of result.now ≡ drop count (lines_of text.now) }
+pub(crate) fn after_lines(text: &[u8], count: u64) -> &[u8]
+    ensures lines { lines_of result.now ≡ drop count (lines_of text.now) }
+    ensures within { length result.now ≤ length text.now }
 {
     let mut rest = text;
     let mut left = count;

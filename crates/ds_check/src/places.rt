@@ -1,10 +1,9 @@
-//! Where in its text a policy is refused.
-ghost use Rattle.std.specs.Prelude.{ℕ, ◌≡◌, ◌≤◌, ◌+◌, ◌==◌, ◌&&◌, ◌||◌, nat_le, length, not, is_some, IfOk, IfSome, true, take};
-ghost use Rattle.std.specs.List.{fold, prefix_len};
+//! Places in a text, and where one is no TOML document.
+ghost use Rattle.std.specs.Prelude.{ℕ, ◌≡◌, ◌≤◌, length, not, is_some, IfOk, IfSome};
+ghost use Rattle.std.specs.List.{fold};
 ghost use Rattle.ds_policy.specs.Document.{document};
-ghost use Rattle.ds_check.specs.Places.{rule_line, rules_in, begins_array, begins_with, is_blank, place_at, behind, goes_on};
+ghost use Rattle.ds_check.specs.Places.{place_at, after, goes_on};
 
-use ds_asm::first_line;
 use ds_policy::OutOfMemory;
 use std::alloc::Global;
 
@@ -13,81 +12,6 @@ use std::alloc::Global;
 pub struct Place {
     pub line: u64,
     pub column: u64,
-}
-
-/// The line, from 1, in which the rule of this number begins: a line that begins with `[[rule]]`
-/// after blanks, or one with the brace of a table of `rule = [..]`. A policy that writes the key
-/// in another way has none.
-pub fn rule_line(text: &[u8], number: u32) -> Option<u64>
-    ensures { result ≡ rule_line text.now number }
-{
-    let mut seen = 0;
-    let mut wanted = number as usize;
-    let mut in_array = false;
-    let mut left = text;
-    while !left.is_empty() {
-        let (line, rest) = first_line(left);
-        seen += 1;
-        in_array = stands_in_array(in_array, line);
-        let count = rules_in(in_array, line);
-        if is_among(wanted, count) {
-            return Some(seen);
-        }
-        wanted = wanted.saturating_sub(count);
-        left = rest;
-    }
-    None
-}
-
-/// Whether a line stands in an array of rules, where the one before it may.
-fn stands_in_array(in_array: bool, line: &[u8]) -> bool
-    ensures { result ≡ (in_array || begins_array line.now) }
-{
-    in_array || begins_array(line)
-}
-
-/// Whether so many have one of this number, from 1.
-fn is_among(number: usize, count: usize) -> bool
-    ensures { result ≡ (nat_le 1 number && nat_le number count) }
-{
-    1 <= number && number <= count
-}
-
-/// How many rules begin in a line, which may stand in an array of rules.
-fn rules_in(in_array: bool, line: &[u8]) -> usize
-    ensures { result ≡ rules_in in_array line.now }
-{
-    if in_array {
-        line.iter().filter(|b| **b == b'{').count()
-    } else if begins_with(b"[[rule]]", line) {
-        1
-    } else {
-        0
-    }
-}
-
-/// Whether an array of rules begins in a line.
-fn begins_array(line: &[u8]) -> bool
-    ensures { result ≡ begins_array line.now }
-{
-    begins_with(b"rule ", line) || begins_with(b"rule=", line) || begins_with(b"rule\t", line)
-}
-
-/// Whether a line begins with a word, after blanks.
-fn begins_with(word: &[u8], line: &[u8]) -> bool
-    ensures { result ≡ begins_with word.now line.now }
-{
-    line[count_blanks(line)..].starts_with(word)
-}
-
-/// How many blanks a line begins with.
-fn count_blanks(line: &[u8]) -> usize
-    ensures exact { result ≡ prefix_len is_blank line.now }
-    ensures within { result ≤ length line.now }
-{
-    line.iter()
-        .take_while(|b| **b == b' ' || **b == b'\t')
-        .count()
 }
 
 /// Where a text is no TOML document: where the fault begins that the library tells. A document has
@@ -101,28 +25,29 @@ pub fn toml_place(alloc: Global, text: &[u8]) -> Result<Option<Place>, OutOfMemo
     match toml::table_from_slice(alloc, text) {
         Ok(_) => Ok(None),
         Err(fault) => match fault.span() {
-            Some(span) => Ok(Some(place_behind(&text[..span.start]))),
+            Some(span) => Ok(Some(place_after(&text[..span.start]))),
             None => Err(OutOfMemory),
         },
     }
 }
 
 /// The place after a text.
-fn place_behind(before: &[u8]) -> Place
+fn place_after(before: &[u8]) -> Place
     requires { length before.now ≤ 16777216 }
-    ensures { result ≡ fold behind (record { line = 1; column = 1 }) before.now }
+    ensures { result ≡ fold after (record { line = 1; column = 1 }) before.now }
 {
     let mut place = Place { line: 1, column: 1 };
     for byte in before {
-        place = behind(place, *byte);
+        place = after(place, *byte);
     }
     place
 }
 
-fn behind(place: Place, byte: u8) -> Place
+/// The place after a byte.
+pub(crate) fn after(place: Place, byte: u8) -> Place
     requires line { place.line ≤ 16777216 }
     requires column { place.column ≤ 16777216 }
-    ensures { result ≡ behind place byte }
+    ensures { result ≡ after place byte }
 {
     if byte == b'\n' {
         Place {

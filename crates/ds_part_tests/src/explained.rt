@@ -1,7 +1,7 @@
 //! What is told of a refusal.
 ghost use Rattle.std.specs.Prelude.{◌≤◌, length};
 
-use ds_check::{Place, mend_text, rule_line, toml_place};
+use ds_check::{Items, Place, item_place, mend_text, root_key_place, toml_place};
 use std::alloc::Global;
 
 const POLICY: &[u8] = b"version = 1
@@ -86,19 +86,36 @@ fn other_numbers_are_not_mended(rt: HostRuntime) {
     assert!(rt; none);
 }
 
+/// Whether a rule of the policy stands at the beginning of this line, or its key does; or in none.
+fn stands_in(number: u32, key: Option<&str>, line: Option<u64>) -> bool {
+    match item_place(POLICY, Items::Rules, number, key) {
+        Some(place) => Some(place.line) == line && place.column == 1,
+        None => line.is_none(),
+    }
+}
+
 #[test]
-fn a_policy_is_refused_at_a_rules_line(rt: HostRuntime) {
+fn a_rule_stands_at_its_header_and_its_key_below_it(rt: HostRuntime) {
     let mut right = true;
-    for (number, line) in [
-        (1, Some(21)),
-        (2, Some(27)),
-        (3, Some(34)),
-        (4, None),
-        (0, None),
+    for (number, key, line) in [
+        (1, None, Some(21)),
+        (2, None, Some(27)),
+        (3, None, Some(34)),
+        (4, None, None),
+        (1, Some("give"), Some(21)),
+        (2, Some("give"), Some(32)),
+        (3, Some("right"), Some(37)),
     ] {
-        right = right && rule_line(POLICY, number) == line;
+        right = right && stands_in(number, key, line);
     }
     assert!(rt; right);
+}
+
+#[test]
+fn a_root_key_stands_before_the_tables(rt: HostRuntime) {
+    let rate = root_key_place(POLICY, "rate") == Some(Place { line: 3, column: 1 });
+    let start = root_key_place(POLICY, "start").is_none();
+    assert!(rt; rate && start);
 }
 
 /// Whether a policy is no TOML document at this place, or at none.

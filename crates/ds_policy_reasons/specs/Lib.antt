@@ -2,6 +2,8 @@ pub mod Layout
 pub mod Words
 pub mod Inputs
 pub mod InputRows
+pub mod CausePlaces
+pub mod CausePlaceRows
 pub mod Document
 pub mod Processes
 pub mod PolicyPages

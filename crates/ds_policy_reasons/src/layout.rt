@@ -38,7 +38,7 @@ fn has(byte: u8, line: &[u8]) -> bool
     line.iter().any(|b| *b == byte)
 }
 
-fn begins_with_blank(line: &[u8]) -> bool
+pub(crate) fn begins_with_blank(line: &[u8]) -> bool
     ensures { result ≡ begins_with_blank line.now }
 {
     match line {

@@ -2,6 +2,7 @@
 //! and how it is mended.
 #![tactic(auto)]
 
+mod cause_places;
 mod document;
 mod input;
 mod input_cause;
@@ -19,6 +20,7 @@ mod rules;
 mod texts;
 mod words;
 
+pub use cause_places::cause_place;
 pub use input::{InputReason, input_reason};
 pub use input_cause::InputCause;
 pub use laws::{

@@ -1,0 +1,12 @@
+use Rattle.std.proofs.Common.{◌≡◌, ◌+◌, ◌≤◌, length}
+use Rattle.ds_policy_reasons.specs.CausePlaces.{word_from}
+use Rattle.ds_policy_reasons.proofs.cause_places.word_place.Given as goal
+
+abbrev pub invariant-loop-left : goal.invariant-loop-left
+invariant-loop-left l = record {
+  same : word_from l.place l.more l.left ≡ word_from 0 l.blanks l.line;
+  within : l.place + length l.left ≤ length l.line;
+}
+
+abbrev pub decreases-loop-left : goal.decreases-loop-left
+decreases-loop-left l = length l.left
