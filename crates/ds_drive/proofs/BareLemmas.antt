@@ -74,9 +74,9 @@ module _ (holds : List ℕ → List ℕ → Type 0) (lacks : List ℕ → Type 0
 -- whatever the failure, nothing is written, or a front of the text of the run
 pub bare_cut : (words : List Text) (holds : List ℕ → List ℕ → Type 0) (lacks : List ℕ → Type 0) (request : BareRequest) (f : Failure) (old new : Option (List ℕ)) → AsksForBare words request
     → BareFailsBy f holds lacks request old new → IsCutShort words holds old new
-bare_cut words holds lacks request (failure.Fault fault.WriteFault) old new asks cut = inr (inr (inr (inr (inr (request, asks, cut)))))
+bare_cut words holds lacks request (failure.Fault fault.WriteFault) old new asks cut = inr (inr (inr (inr (inr (inl (request, asks, cut))))))
 bare_cut words holds lacks request (failure.Fault fault.Memory) old new asks (inl kept) = inl kept
-bare_cut words holds lacks request (failure.Fault fault.Memory) old new asks (inr cut) = inr (inr (inr (inr (inr (request, asks, cut)))))
+bare_cut words holds lacks request (failure.Fault fault.Memory) old new asks (inr cut) = inr (inr (inr (inr (inr (inl (request, asks, cut))))))
 bare_cut words holds lacks request (failure.Fault fault.BadRandom) old new asks refused = inl refused.1
 bare_cut words holds lacks request (failure.Fault (fault.InputFault line)) old new asks refused = inl refused.1
 bare_cut words holds lacks request (failure.UnreadableFile name) old new asks unread = inl unread.2
@@ -86,8 +86,8 @@ bare_cut words holds lacks request f old new asks none = absurd none
 module _ (words : List Text) (holds : List ℕ → List ℕ → Type 0) (lacks : List ℕ → Type 0) (status : ℕ) (old new err_old err_new : Option (List ℕ)) where
   pub bare_stopped : (request : BareRequest) (f : Failure) → fault_status (failure_number f) ≡ status → AsksForBare words request → BareFailsBy f holds lacks request old new
       → AppendsPart err_old err_new (failure_line f) → IsStopped status words holds lacks (stream old new) (stream err_old err_new)
-  bare_stopped request f has asks fails told = inr (inr (inr (inr (request, asks, inl (record { failure = f; has = has; so = fails; told = told })))))
+  bare_stopped request f has asks fails told = inr (inr (inr (inr (inl (request, asks, inl (record { failure = f; has = has; so = fails; told = told }))))))
 
   pub bare_faulty : (request : BareRequest) (text : List ℕ) (faults : List SourceFault) → status ≡ 2 → AsksForBare words request → HasBareFaults holds request text faults → Keeps old new
       → AppendsPart err_old err_new (listed_faults request.source.now text faults) → IsStopped status words holds lacks (stream old new) (stream err_old err_new)
-  bare_faulty request text faults has asks are kept told = inr (inr (inr (inr (request, asks, inr (record { has = has; text = text; faults = faults; are = are; kept = kept; told = told })))))
+  bare_faulty request text faults has asks are kept told = inr (inr (inr (inr (inl (request, asks, inr (record { has = has; text = text; faults = faults; are = are; kept = kept; told = told }))))))

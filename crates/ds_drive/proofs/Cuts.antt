@@ -18,7 +18,7 @@ use Rattle.ds_words.specs.declared.words.ListRequest.{ListRequest}
 use Rattle.ds_words.specs.declared.words.Request.{Request}
 use Rattle.ds_drive.specs.Demo.{demo_inputs}
 use Rattle.ds_drive.specs.Done.{IsCutShort}
-use Rattle.ds_drive.specs.Failures.{CutsFiles, IsUnread, StopsBy}
+use Rattle.ds_drive.specs.Failures.{CutsFiles, FilesStop, IsUnread, OfHeld, StopsBy}
 use Rattle.ds_drive.specs.Checked.{ChecksBy}
 use Rattle.ds_drive.specs.Listed.{FailsBy}
 use Rattle.ds_words.specs.Words.{AsksForDemo, AsksForRun, AsksForList, AsksForCheck}
@@ -36,22 +36,28 @@ cut_by : (f : Fault) (read : Result State Refusal) (old new : Option (List ℕ))
     → Keeps old new ⊎ Begins read (WritesPart old new n)
 cut_by fault.Memory read old new n (inl kept) = inl kept
 cut_by fault.Memory read old new n (inr b) = inr (b.0, b.1, part_of_prefix old new n b.0 b.2)
-cut_by fault.Stuck read old new n b = inr (b.0, b.1, part_of_prefix old new n b.0 b.2)
+cut_by fault.Stuck read old new n w = absurd w
 cut_by fault.WriteFault read old new n b = inr b
 cut_by fault.Failed read old new n w = absurd w
 cut_by f read old new n w = inl w.1
 
--- of a run of files
-files_cut_by : (f : Failure) (holds : List ℕ → List ℕ → Type 0) (lacks : List ℕ → Type 0) (request : Request) (old new : Option (List ℕ)) → StopsBy f holds lacks request old new
-    → Keeps old new ⊎ CutsFiles holds request old new
-files_cut_by (failure.UnreadableFile name) holds lacks request old new stops = inl stops.2
-files_cut_by (failure.UnreadableSource name) holds lacks request old new stops = inl stops.2
-files_cut_by (failure.Fault f) holds lacks request old new (inl memory) = inl memory.1
-files_cut_by (failure.Fault f) holds lacks request old new (inr stops) =
-    elim (cut_by f (inputs stops.policy stops.sources stops.input request.most_time request.random) old new request.most_time stops.so) [
+-- whatever the failure over the files of a run, nothing is written, or what a fault leaves
+pub files_cut_by : (ends : Fault → Result State Refusal → Type 0) (Q : Result State Refusal → Type 0) (f : Failure) (holds : List ℕ → List ℕ → Type 0) (lacks : List ℕ → Type 0) (request : Request) (old new : Option (List ℕ))
+    → ((e : Fault) (read : Result State Refusal) → ends e read → Keeps old new ⊎ Q read) → FilesStop ends f holds lacks request old new → Keeps old new ⊎ OfHeld holds request Q
+files_cut_by ends Q (failure.UnreadableFile name) holds lacks request old new leaves stops = inl stops.2
+files_cut_by ends Q (failure.UnreadableSource name) holds lacks request old new leaves stops = inl stops.2
+files_cut_by ends Q (failure.Fault f) holds lacks request old new leaves (inl memory) = inl memory.1
+files_cut_by ends Q (failure.Fault f) holds lacks request old new leaves (inr stops) =
+    elim (leaves f (inputs stops.policy stops.sources stops.input request.most_time request.random) stops.so) [
       | inl kept ↦ inl kept
-      | inr cut ↦ inr (record { policy = stops.policy; sources = stops.sources; input = stops.input; held = stops.held; so = cut })
+      | inr so ↦ inr (record { policy = stops.policy; sources = stops.sources; input = stops.input; held = stops.held; so = so })
     ]
+
+-- of a run
+run_leaves : (f : Failure) (holds : List ℕ → List ℕ → Type 0) (lacks : List ℕ → Type 0) (request : Request) (old new : Option (List ℕ)) → StopsBy f holds lacks request old new → Keeps old new ⊎ CutsFiles holds request old new
+run_leaves f holds lacks request old new stops =
+    files_cut_by (λ e read. EndsBy e read old new request.most_time) (λ read. Begins read (WritesPart old new request.most_time)) f holds lacks request old new
+    (λ e read ends. cut_by e read old new request.most_time ends) stops
 
 -- where nothing was begun, nothing is written
 pub nothing_written : (words : List Text) (holds : List ℕ → List ℕ → Type 0) (known : Option (List ℕ)) → IsCutShort words holds known known
@@ -66,7 +72,7 @@ demo_cut words holds f old new asks ends = elim (cut_by f demo_inputs old new 10
 
 -- a failure of a run of files
 pub run_cut : (words : List Text) (holds : List ℕ → List ℕ → Type 0) (lacks : List ℕ → Type 0) (request : Request) (f : Failure) (old new : Option (List ℕ)) → AsksForRun words request → StopsBy f holds lacks request old new → IsCutShort words holds old new
-run_cut words holds lacks request f old new asks stops = elim (files_cut_by f holds lacks request old new stops) [
+run_cut words holds lacks request f old new asks stops = elim (run_leaves f holds lacks request old new stops) [
   | inl kept ↦ inl kept
   | inr cut ↦ inr (inr (inl (request, asks, cut)))
 ]

@@ -1,46 +1,39 @@
 -- What is at fault where a check is refused.
-use Rattle.std.proofs.Common.{◌≡◌, ◌∙◌, ℕ, suc, zero, ◌<◌, List, [], ◌∷◌, ◌++◌, Bool, true, false, Option, None, Some, Result, Ok, Err, refl, sym, ap, subst, length, get_or, arith}
-use Rattle.std.specs.Prelude.{bytes_eq, codes, nat_le, nat_lt, option_map, position, slice_index_or, is_some, ◌&&◌, IfSome}
+use Rattle.std.proofs.Common.{◌≡◌, ◌∙◌, ℕ, suc, zero, ◌<◌, List, [], ◌∷◌, true, false, Option, None, Some, Ok, refl, sym, ap, subst, length, get_or, arith}
+use Rattle.std.specs.Prelude.{bytes_eq, option_map, position, slice_index_or, is_some, IfSome}
 use Rattle.ds_asm.specs.Faults.{all_faults}
 use Rattle.std.proofs.lemmas.Bool.{true≢false}
 use Rattle.std.proofs.lemmas.List.Quantifiers.{position-Some}
-use Rattle.ds_word.specs.ResultBinding.{◌>>=◌}
 use Rattle.ds_asm.specs.declared.fault.SourceFault.{SourceFault}
-use Rattle.ds_asm.specs.Assembly.{assembled}
-use Rattle.ds_policy.specs.Value.{PolicyValue, InputValue}
-use Rattle.ds_policy.specs.InputText.{input_of}
+use Rattle.ds_policy.specs.Value.{PolicyValue}
 use Rattle.ds_policy.specs.PolicyText.{policy_of}
 use Rattle.ds_policy.specs.declared.policy.PolicyPage.{PolicyPage}
 use Rattle.ds_policy_reasons.specs.Policies.{policy_reason, refusal_of, refused_by}
 use Rattle.ds_policy_reasons.specs.declared.input_cause.InputCause.{InputCause}
 use Rattle.ds_policy_reasons.specs.declared.reason.PolicyReason.{PolicyReason}
 use Rattle.ds_policy_reasons.proofs.PolicyLaws.{reason_refusal}
-use Rattle.ds_policy.specs.PolicyParts.{sources_of}
 use Rattle.ds_policy.specs.declared.fault.PolicyFault.{PolicyFault}
 use Rattle.ds_policy.specs.declared.fault.PolicyFault.TheVariants as policy_fault
-use Rattle.ds_pagemap.specs.Inputs.{Refusal, Sources, check, image_read, images_from, input_read, inputs_under, inputs_under_by, source_read, text_named}
-use Rattle.ds_pagemap.specs.Inputs as refusal
-use Rattle.ds_pagemap.specs.First.{first_state}
-use Rattle.ds_station.proofs.Preparing.{with_images, with_input, with_ticks}
+use Rattle.ds_pagemap.specs.Inputs.{Sources, text_named}
 use Rattle.ds_station.specs.Faults.{of_policy}
-use Rattle.ds_station.specs.Headline.{EndsBy}
 use Rattle.ds_station.specs.declared.fault.Fault.{Fault}
 use Rattle.ds_station.specs.declared.fault.Fault.TheVariants as fault
 use Rattle.ds_drive.specs.declared.refused.Refused.{Refused}
 use Rattle.ds_drive.specs.declared.refused.FaultyInput.{FaultyInput}
+use Rattle.ds_drive.specs.declared.refused.FaultyPolicy.{FaultyPolicy}
 use Rattle.ds_drive.specs.declared.refused.FaultySource.{FaultySource}
 use Rattle.ds_drive.specs.declared.run.SourceText.{SourceText}
-use Rattle.ds_drive.specs.AtFault.{IsAtFault, IsCauseAt, IsCauseOf, IsInputAt, IsPlaceAt, IsReasonAt, IsSourceAt, cause_of, plain, texts_seen}
+use Rattle.ds_drive.specs.AtFault.{IsAtFault, IsCauseAt, IsCauseOf, IsInputAt, IsPlaceAt, IsReasonAt, IsSourceAt, cause_of, place_told, plain, texts_seen}
+use Rattle.ds_drive.specs.PolicyPlaces.{place_of}
 use Rattle.ds_drive.proofs.HeldFiles.{same_value}
 
 -- a refusal of which nothing is told besides
-pub plain_is : (r : Refused) → r.source ≡ None → r.input ≡ None → r.reason ≡ None → r.line ≡ None → r.column ≡ None → r ≡ plain r.failure
-plain_is r a b e c d =
-    ap (λ (s : Option FaultySource). record { failure = r.failure; source = s; input = r.input; reason = r.reason; line = r.line; column = r.column }) a
-    ∙ (ap (λ (i : Option FaultyInput). record { failure = r.failure; source = None; input = i; reason = r.reason; line = r.line; column = r.column }) b
-    ∙ (ap (λ (w : Option PolicyReason). record { failure = r.failure; source = None; input = None; reason = w; line = r.line; column = r.column }) e
-    ∙ (ap (λ (l : Option ℕ). record { failure = r.failure; source = None; input = None; reason = None; line = l; column = r.column }) c
-    ∙ ap (λ (k : Option ℕ). record { failure = r.failure; source = None; input = None; reason = None; line = None; column = k }) d)))
+pub plain_is : (r : Refused) → r.source ≡ None → r.input ≡ None → r.reason ≡ None → r.policy ≡ None → r ≡ plain r.failure
+plain_is r a b c d =
+    ap (λ (s : Option FaultySource). record { failure = r.failure; source = s; input = r.input; reason = r.reason; policy = r.policy }) a
+    ∙ (ap (λ (i : Option FaultyInput). record { failure = r.failure; source = None; input = i; reason = r.reason; policy = r.policy }) b
+    ∙ (ap (λ (w : Option PolicyReason). record { failure = r.failure; source = None; input = None; reason = w; policy = r.policy }) c
+    ∙ ap (λ (p : Option FaultyPolicy). record { failure = r.failure; source = None; input = None; reason = None; policy = p }) d))
 
 -- a refusal of the policy is none of the input
 no_input_at : (e : PolicyFault) (input : List ℕ) → IsInputAt (of_policy e) input None
@@ -50,18 +43,19 @@ no_input_at (policy_fault.Limit key) input = tt
 no_input_at policy_fault.Memory input = tt
 
 -- what is at fault where the policy is refused
-pub policy_at : (e : PolicyFault) (policy input : List ℕ) (r : Refused) → IsPlaceAt (of_policy e) policy r.line r.column → IsReasonAt (of_policy e) policy r.reason
+pub policy_at : (e : PolicyFault) (policy input : List ℕ) (r : Refused) → IfSome r.policy (λ p. p.text.items ≡ policy) → IsPlaceAt (of_policy e) policy (place_told r.policy) → IsReasonAt (of_policy e) policy r.reason
     → r.source ≡ None → r.input ≡ None → IsAtFault (of_policy e) r policy [] input
-policy_at e policy input r place why no_source no_input = record {
+policy_at e policy input r own place why no_source no_input = record {
   source_at = subst (IsSourceAt (of_policy e) []) (sym no_source) tt;
   input_at = subst (IsInputAt (of_policy e) input) (sym no_input) (no_input_at e input);
+  policy_at = own;
   place_at = place;
   reason_at = why;
   cause_at = λ value is. subst (IsCauseAt value.pages) (sym no_input) tt;
 }
 
 -- what is mapped to nothing is nothing
-nothing_mapped : {A B : Type 0} (f : A → B) (o : Option A) → option_map f o ≡ None → o ≡ None
+pub nothing_mapped : {A B : Type 0} (f : A → B) (o : Option A) → option_map f o ≡ None → o ≡ None
 nothing_mapped f None is = refl
 nothing_mapped f (Some x) is = absurd (true≢false (ap is_some is))
 
@@ -90,85 +84,33 @@ cause_told f pages input None cause at is so = tt
 cause_told (fault.InputFault line) pages input (Some i) cause at is so = is ∙ (so ∙ ap (cause_of pages) (sym at.0))
 cause_told f pages input (Some i) cause none is so = absurd none
 
--- where no rule is refused, no place may be told
-nowhere : (f : Fault) (policy : List ℕ) → ((k : ℕ) → f ≡ fault.BadRule k → ⊥) → IsPlaceAt f policy None None
-nowhere (fault.BadRule number) policy none = absurd (none number refl)
-nowhere fault.BadToml policy none = (refl, refl)
-nowhere fault.BadRandom policy none = (refl, refl)
-nowhere (fault.InSource name f) policy none = (refl, refl)
-nowhere (fault.Limit key) policy none = (refl, refl)
-nowhere (fault.InputFault line) policy none = (refl, refl)
-nowhere fault.Stuck policy none = (refl, refl)
-nowhere fault.Failed policy none = (refl, refl)
-nowhere fault.WriteFault policy none = (refl, refl)
-nowhere (fault.NoSource name) policy none = (refl, refl)
-nowhere fault.Memory policy none = (refl, refl)
+-- nor a place
+no_place_at : (f : Fault) (policy : List ℕ) (value : PolicyValue) → policy_of policy ≡ Ok value → IsPlaceAt f policy None
+no_place_at fault.BadToml policy value read = tt
+no_place_at (fault.BadRule number) policy value read = ap (place_of policy) (no_reason policy value read)
+no_place_at (fault.Limit key) policy value read = ap (place_of policy) (no_reason policy value read)
+no_place_at fault.BadRandom policy value read = refl
+no_place_at (fault.InSource name f) policy value read = refl
+no_place_at (fault.InputFault line) policy value read = refl
+no_place_at fault.Stuck policy value read = refl
+no_place_at fault.Failed policy value read = refl
+no_place_at fault.WriteFault policy value read = refl
+no_place_at (fault.NoSource name) policy value read = refl
+no_place_at fault.Memory policy value read = refl
 
 -- what is at fault where the run is refused
 pub texts_at : (f : Fault) (r : Refused) (policy input : List ℕ) (value : PolicyValue) (sources seen : Sources) (cause : Option InputCause)
-    → ((k : ℕ) → f ≡ fault.BadRule k → ⊥) → policy_of policy ≡ Ok value → sources ≡ seen
+    → policy_of policy ≡ Ok value → sources ≡ seen
     → IsSourceAt f seen r.source → IsInputAt f input r.input → IfSome r.input (λ i. i.cause ≡ cause) → IsCauseOf f value.pages input cause
-    → r.reason ≡ None → r.line ≡ None → r.column ≡ None → IsAtFault f r policy sources input
-texts_at f r policy input value sources seen cause none read same source_at input_at told so no_why no_line no_column = record {
+    → r.reason ≡ None → r.policy ≡ None → IsAtFault f r policy sources input
+texts_at f r policy input value sources seen cause read same source_at input_at told so no_why no_policy = record {
   source_at = subst (λ (x : Sources). IsSourceAt f x r.source) (sym same) source_at;
   input_at = input_at;
-  place_at = subst (λ (l : Option ℕ). IsPlaceAt f policy l r.column) (sym no_line) (subst (IsPlaceAt f policy None) (sym no_column) (nowhere f policy none));
+  policy_at = subst (λ (p : Option FaultyPolicy). IfSome p (λ q. q.text.items ≡ policy)) (sym no_policy) tt;
+  place_at = subst (λ (p : Option FaultyPolicy). IsPlaceAt f policy (place_told p)) (sym no_policy) (no_place_at f policy value read);
   reason_at = subst (IsReasonAt f policy) (sym no_why) (no_reason_at f policy value read);
   cause_at = λ v is. subst (λ (x : PolicyValue). IsCauseAt x.pages r.input) (same_value (policy_of policy) value v read is) (cause_told f value.pages input r.input cause input_at told so);
 }
-
--- No rule is refused where the policy was read.
-
-abbrev refuses_rule : Refusal → Bool
-refuses_rule (refusal.BadRule k) = true
-refuses_rule r = false
-
-abbrev is_of_rule : {A : Type 0} → Result A Refusal → Bool
-is_of_rule (Ok x) = false
-is_of_rule (Err r) = refuses_rule r
-
-no_rule_then : {A B : Type 0} (first : Result A Refusal) (next : A → Result B Refusal) → is_of_rule first ≡ false → ((x : A) → is_of_rule (next x) ≡ false) → is_of_rule (first >>= next) ≡ false
-no_rule_then (Ok x) next one other = other x
-no_rule_then (Err r) next one other = one
-
-no_rule_source : (name : List ℕ) (image : Result (List ℕ) SourceFault) → is_of_rule (source_read name image) ≡ false
-no_rule_source name (Ok bytes) = refl
-no_rule_source name (Err f) = refl
-
-no_rule_image : (name : List ℕ) (text : Option (List ℕ)) → is_of_rule (image_read name text) ≡ false
-no_rule_image name None = refl
-no_rule_image name (Some text) = no_rule_source name (assembled text)
-
-no_rule_images : (sources : Sources) (done : List (List ℕ)) (names : List (List ℕ)) → is_of_rule (images_from sources done names) ≡ false
-unfolding images_from
-no_rule_images sources done [] = refl
-no_rule_images sources done (name ∷ names) =
-    no_rule_then (image_read name (text_named sources name)) (λ bytes. images_from sources (done ++ bytes ∷ []) names) (no_rule_image name (text_named sources name))
-    (λ bytes. no_rule_images sources (done ++ bytes ∷ []) names)
-
-no_rule_input : (input : Result InputValue ℕ) → is_of_rule (input_read input) ≡ false
-no_rule_input (Ok x) = refl
-no_rule_input (Err line) = refl
-
-no_rule_check : (b : Bool) (r : Refusal) → refuses_rule r ≡ false → is_of_rule (check b r) ≡ false
-no_rule_check true r other = refl
-no_rule_check false r other = other
-
-no_rule_under : (value : PolicyValue) (sources : Sources) (input : List ℕ) (n random : ℕ) → is_of_rule (inputs_under value sources input n random) ≡ false
-unfolding inputs_under inputs_under_by
-no_rule_under value sources input n random =
-    no_rule_then (images_from sources [] (sources_of value.pages)) (λ images. with_images first_state value images input n random) (no_rule_images sources [] (sources_of value.pages))
-    (λ images. no_rule_then (input_read (input_of value.pages input)) (λ events. with_input first_state value images events n random) (no_rule_input (input_of value.pages input))
-    (λ events. no_rule_then (check (nat_le n 1000000000) (refusal.Limit (codes "n"))) (λ few. with_ticks first_state value images events random) (no_rule_check (nat_le n 1000000000) (refusal.Limit (codes "n")) refl)
-    (λ few. no_rule_then (check (nat_le 8 random && nat_lt random 64) refusal.BadRandom) (λ good. Ok (first_state value images events)) (no_rule_check (nat_le 8 random && nat_lt random 64) refusal.BadRandom refl)
-    (λ good. refl))))
-
--- so the fault by which such a run ends is no rule's
-pub no_rule_ends : (value : PolicyValue) (sources : Sources) (input : List ℕ) (n random : ℕ) (f : Fault) (old new : Option (List ℕ)) (k : ℕ)
-    → EndsBy f (inputs_under value sources input n random) old new n → f ≡ fault.BadRule k → ⊥
-no_rule_ends value sources input n random f old new k ends is =
-    let rule = subst (λ (x : Fault). EndsBy x (inputs_under value sources input n random) old new n) is ends in
-    true≢false (sym (ap is_of_rule rule.0) ∙ no_rule_under value sources input n random)
 
 -- the text at the place of the first source of a name is the one of that name
 named_at : (texts : List SourceText) (name : List ℕ) (i : ℕ) (d : SourceText) → i < length texts → bytes_eq (get_or texts i d).name name ≡ true

@@ -15,7 +15,8 @@ use Rattle.ds_station.specs.Headline.{Begins}
 use Rattle.ds_drive.specs.Checked.{IsInput}
 use Rattle.ds_words.specs.declared.words.Request.{Request}
 use Rattle.ds_drive.specs.declared.run.SourceText.{SourceText}
-use Rattle.ds_drive.specs.Failures.{AreHeld}
+use Rattle.ds_drive.specs.AtFault.{texts_seen}
+use Rattle.ds_drive.specs.Failures.{AreHeld, HoldsInputs, OfHeld}
 
 names_of : (texts : List SourceText) → map (λ (s : List ℕ × List ℕ). s.0) (map (λ s. (s.name, s.text.items)) texts) ≡ map (λ s. s.name) texts
 names_of [] = refl
@@ -82,3 +83,14 @@ of_texts P value text s t i j n random read e f h =
 pub begins_over : {Q : State → Type 0} (value : PolicyValue) (text : List ℕ) (s t : Sources) (i j : List ℕ)
     → policy_of text ≡ Ok value → s ≡ t → i ≡ j → Begins (inputs_under value s i 0 63) Q → Begins (inputs text t j 0 63) Q
 begins_over {Q} value text s t i j read e f h = of_texts (λ made. Begins made Q) value text s t i j 0 63 read e f h
+
+-- what holds of the inputs of a run as they were read, holds of those that the files hold
+pub of_held : (holds : List ℕ → List ℕ → Type 0) (request : Request) (P : Result State Refusal → Type 0) (value : PolicyValue) (s t : Sources) (i j : List ℕ)
+    → HoldsInputs holds request value t j → s ≡ t → i ≡ j → P (inputs_under value s i request.most_time request.random) → OfHeld holds request P
+of_held holds request P value s t i j inputs e f so = record {
+  policy = inputs.policy;
+  sources = t;
+  input = j;
+  held = inputs.held;
+  so = of_texts P value inputs.policy s t i j request.most_time request.random inputs.read e f so;
+}

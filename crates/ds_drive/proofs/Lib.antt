@@ -5,3 +5,4 @@ pub mod HeldFiles
 pub mod Noting
 pub mod Stops
 pub mod Tellings
+pub mod TraceLemmas

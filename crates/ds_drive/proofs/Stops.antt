@@ -17,10 +17,10 @@ use Rattle.ds_policy.specs.declared.fault.PolicyFault.TheVariants as policy_faul
 use Rattle.ds_pagemap.specs.Machine.{State}
 use Rattle.ds_pagemap.specs.Inputs.{Refusal, Sources, inputs, inputs_under}
 use Rattle.ds_station.specs.Faults.{number_of, of_policy}
-use Rattle.ds_station.specs.Headline.{EndsBy}
+use Rattle.ds_station.specs.Headline.{EndsBy, Refuses}
 use Rattle.ds_station.specs.declared.fault.Fault.{Fault}
 use Rattle.ds_station.specs.declared.fault.Fault.TheVariants as fault
-use Rattle.ds_station.proofs.Headlines.{keeps_same}
+use Rattle.ds_station.proofs.Headlines.{keeps_same, refused_unwritten}
 use Rattle.ds_station.proofs.Preparing.{refused_by_policy}
 use Rattle.ds_drive.specs.declared.failure.Failure.{Failure}
 use Rattle.ds_drive.specs.declared.failure.Failure.TheVariants as failure
@@ -33,12 +33,13 @@ use Rattle.ds_drive.proofs.HeldFiles.{all_held, names_held, of_texts, same_value
 use Rattle.ds_drive.specs.Checked.{ChecksBy, IsInput, IsNotRead, IsUnreadInput, RefusesCheck}
 use Rattle.ds_drive.specs.Demo.{demo_inputs}
 use Rattle.ds_drive.specs.Done.{IsStopped, WantsMemory, stream}
-use Rattle.ds_drive.specs.AtFault.{IsCauseOf, IsInputAt, IsPlaceAt, IsReasonAt, IsSourceAt, plain, texts_seen}
+use Rattle.ds_drive.specs.AtFault.{IsCauseOf, IsInputAt, IsPlaceAt, IsReasonAt, IsSourceAt, place_told, plain, texts_seen}
+use Rattle.ds_drive.specs.declared.refused.FaultyPolicy.{FaultyPolicy}
 use Rattle.ds_drive.specs.Told.{failure_line, listed_faults, refused_text}
 use Rattle.ds_drive.specs.declared.refused.Refused.{Refused}
-use Rattle.ds_drive.proofs.Faulty.{no_rule_ends, plain_is, policy_at, texts_at}
+use Rattle.ds_drive.proofs.Faulty.{nothing_mapped, plain_is, policy_at, texts_at}
 use Rattle.ds_log.specs.Sent.{AppendsPart}
-use Rattle.ds_drive.specs.Failures.{AreUnread, IsUnread, StopsBy, failure_number}
+use Rattle.ds_drive.specs.Failures.{AreUnread, FilesStop, IsUnread, IsUnreadRun, StopsBy, failure_number}
 use Rattle.ds_drive.specs.Listed.{FailsBy, HasFaults}
 use Rattle.ds_drive.specs.Statuses.{fault_status}
 
@@ -47,30 +48,42 @@ pub named : (names : List (List ℕ)) (k : ℕ) (d told : List ℕ) → k < leng
 named names k d told within is = (k, within, get_or_default names k told d within ∙ sym is)
 
 -- the policy's file was not read
-pub policy_unread : (holds : List ℕ → List ℕ → Type 0) (lacks : List ℕ → Type 0) (request : Request) (f : Failure) (known : Option (List ℕ))
-    → IsUnread lacks request.policy.now f → StopsBy f holds lacks request known known
-policy_unread holds lacks request (failure.UnreadableFile told) known unread = (inl unread.0, subst lacks (sym unread.0) unread.1, keeps_same known)
-policy_unread holds lacks request (failure.Fault fault.Memory) known unread = inl (refl, keeps_same known)
-policy_unread holds lacks request f known none = absurd none
+pub policy_unread : (holds : List ℕ → List ℕ → Type 0) (lacks : List ℕ → Type 0) (request : Request) (f : Failure)
+    → IsUnread lacks request.policy.now f → IsUnreadRun f holds lacks request
+policy_unread holds lacks request (failure.UnreadableFile told) unread = (inl unread.0, subst lacks (sym unread.0) unread.1)
+policy_unread holds lacks request (failure.Fault fault.Memory) unread = inl refl
+policy_unread holds lacks request f none = absurd none
 
 -- the input's file was not read
-pub input_unread : (holds : List ℕ → List ℕ → Type 0) (lacks later : List ℕ → Type 0) (request : Request) (f : Failure) (known : Option (List ℕ))
-    → ((file : List ℕ) → later file → lacks file) → IsUnread later request.input.now f → StopsBy f holds lacks request known known
-input_unread holds lacks later request (failure.UnreadableFile told) known lacked unread = (inr unread.0, lacked told.now (subst later (sym unread.0) unread.1), keeps_same known)
-input_unread holds lacks later request (failure.Fault fault.Memory) known lacked unread = inl (refl, keeps_same known)
-input_unread holds lacks later request f known lacked none = absurd none
+pub input_unread : (holds : List ℕ → List ℕ → Type 0) (lacks later : List ℕ → Type 0) (request : Request) (f : Failure)
+    → ((file : List ℕ) → later file → lacks file) → IsUnread later request.input.now f → IsUnreadRun f holds lacks request
+input_unread holds lacks later request (failure.UnreadableFile told) lacked unread = (inr unread.0, lacked told.now (subst later (sym unread.0) unread.1))
+input_unread holds lacks later request (failure.Fault fault.Memory) lacked unread = inl refl
+input_unread holds lacks later request f lacked none = absurd none
 
 -- the file of a source was not read
-pub source_unread : (holds : List ℕ → List ℕ → Type 0) (lacks later : List ℕ → Type 0) (request : Request) (policy : List ℕ) (value : PolicyValue) (names : List (List ℕ)) (f : Failure) (known : Option (List ℕ))
+pub source_unread : (holds : List ℕ → List ℕ → Type 0) (lacks later : List ℕ → Type 0) (request : Request) (policy : List ℕ) (value : PolicyValue) (names : List (List ℕ)) (f : Failure)
     → ((file : List ℕ) → later file → lacks file) → holds request.policy.now policy → policy_of policy ≡ Ok value → names ≡ sources_of value.pages
-    → AreUnread later names f → StopsBy f holds lacks request known known
-source_unread holds lacks later request policy value names (failure.UnreadableSource told) known lacked held read are unread = (
+    → AreUnread later names f → IsUnreadRun f holds lacks request
+source_unread holds lacks later request policy value names (failure.UnreadableSource told) lacked held read are unread = (
   record { policy = policy; value = value; held = held; read = read; among = subst (λ (l : List (List ℕ)). Contains l told) are unread.0 },
   lacked told unread.1,
-  keeps_same known,
 )
-source_unread holds lacks later request policy value names (failure.Fault fault.Memory) known lacked held read are unread = inl (refl, keeps_same known)
-source_unread holds lacks later request policy value names f known lacked held read are none = absurd none
+source_unread holds lacks later request policy value names (failure.Fault fault.Memory) lacked held read are unread = inl refl
+source_unread holds lacks later request policy value names f lacked held read are none = absurd none
+
+-- where not all is read, nothing is written, and what refuses the inputs ends what was to be done with them
+pub unread_stops : (holds : List ℕ → List ℕ → Type 0) (lacks : List ℕ → Type 0) (ends : Fault → Result State Refusal → Type 0) (request : Request) (f : Failure) (known : Option (List ℕ))
+    → ((refused : Fault) (read : Result State Refusal) → Refuses refused read → ends refused read) → IsUnreadRun f holds lacks request → FilesStop ends f holds lacks request known known
+unread_stops holds lacks ends request (failure.UnreadableFile name) known so unread = (unread.0, unread.1, keeps_same known)
+unread_stops holds lacks ends request (failure.UnreadableSource name) known so unread = (unread.0, unread.1, keeps_same known)
+unread_stops holds lacks ends request (failure.Fault f) known so (inl memory) = inl (memory, keeps_same known)
+unread_stops holds lacks ends request (failure.Fault f) known so (inr o) = inr (record { policy = o.policy; sources = o.sources; input = o.input; held = o.held; so = so f _ o.so })
+
+-- so of a run
+pub run_unread : (holds : List ℕ → List ℕ → Type 0) (lacks : List ℕ → Type 0) (request : Request) (f : Failure) (known : Option (List ℕ)) → IsUnreadRun f holds lacks request → StopsBy f holds lacks request known known
+run_unread holds lacks request f known unread =
+    unread_stops holds lacks (λ refused read. EndsBy refused read known known request.most_time) request f known (λ refused read r. refused_unwritten refused read known known request.most_time r (keeps_same known)) unread
 
 -- want of memory
 pub memory_stops : (holds : List ℕ → List ℕ → Type 0) (lacks : List ℕ → Type 0) (request : Request) (known : Option (List ℕ)) → StopsBy (failure.Fault fault.Memory) holds lacks request known known
@@ -90,7 +103,7 @@ policy_ends (policy_fault.BadRule number) text input known n random r = (refused
 -- whatever the writer, the run ended by that fault
 pub ends_anyhow : (f : Fault) (read : Result State Refusal) (old new : Option (List ℕ)) (n : ℕ) → EndsBy f read old new n → EndsBy f read None None n
 ends_anyhow fault.Memory read old new n ends = inl tt
-ends_anyhow fault.Stuck read old new n ends = (ends.0, ends.1, record { last = ends.2.last; prefix = ends.2.prefix; going = ends.2.going; written = tt })
+ends_anyhow fault.Stuck read old new n none = absurd none
 ends_anyhow fault.WriteFault read old new n ends = (ends.0, ends.1, record { last = ends.2.last; prefix = ends.2.prefix; written = record { part = ends.2.written.part; rest = ends.2.written.rest; whole = ends.2.written.whole; appends = tt } })
 ends_anyhow fault.Failed read old new n none = absurd none
 ends_anyhow fault.BadRandom read old new n ends = (ends.0, tt)
@@ -102,16 +115,16 @@ ends_anyhow (fault.InputFault line) read old new n ends = (ends.0, tt)
 ends_anyhow (fault.NoSource name) read old new n ends = (ends.0, tt)
 
 module _ (holds : List ℕ → List ℕ → Type 0) (lacks : List ℕ → Type 0) where
-  policy_stops_by : (e : PolicyFault) (request : Request) (policy input : List ℕ) (known : Option (List ℕ)) → ((e ≡ policy_fault.Memory) ⊎ ((value : PolicyValue) → policy_of policy ≡ Ok value → ⊥))
+  policy_unsound_by : (e : PolicyFault) (request : Request) (policy input : List ℕ) → ((e ≡ policy_fault.Memory) ⊎ ((value : PolicyValue) → policy_of policy ≡ Ok value → ⊥))
       → holds request.policy.now policy → holds request.input.now input → Fails e (policy_of policy)
-      → StopsBy (failure.Fault (of_policy e)) holds lacks request known known
-  policy_stops_by e request policy input known (inl memory) first second r = inl (ap of_policy memory, keeps_same known)
-  policy_stops_by e request policy input known (inr none) first second r = inr (record {
+      → IsUnreadRun (failure.Fault (of_policy e)) holds lacks request
+  policy_unsound_by e request policy input (inl memory) first second r = inl (ap of_policy memory)
+  policy_unsound_by e request policy input (inr none) first second r = inr (record {
     policy = policy;
     sources = [];
     input = input;
     held = record { policy_held = first; input_held = second; sources_held = All-nil _; sources_named = λ value is. absurd (none value is) };
-    so = policy_ends e policy input known request.most_time request.random r;
+    so = refused_by_policy e policy [] input request.most_time request.random r;
   })
 
   bad_or_memory : (e : PolicyFault) (policy : List ℕ) → Fails e (policy_of policy) → (e ≡ policy_fault.Memory) ⊎ ((value : PolicyValue) → policy_of policy ≡ Ok value → ⊥)
@@ -121,24 +134,24 @@ module _ (holds : List ℕ → List ℕ → Type 0) (lacks : List ℕ → Type 0
   bad_or_memory (policy_fault.BadRule number) policy r = inr (λ value is. not_both (policy_of policy) value _ r is)
 
   -- the policy is refused
-  pub policy_stops : (e : PolicyFault) (request : Request) (policy input : List ℕ) (known : Option (List ℕ))
+  pub policy_unsound : (e : PolicyFault) (request : Request) (policy input : List ℕ)
       → holds request.policy.now policy → holds request.input.now input → Fails e (policy_of policy)
-      → StopsBy (failure.Fault (of_policy e)) holds lacks request known known
-  policy_stops e request policy input known first second r = policy_stops_by e request policy input known (bad_or_memory e policy r) first second r
+      → IsUnreadRun (failure.Fault (of_policy e)) holds lacks request
+  policy_unsound e request policy input first second r = policy_unsound_by e request policy input (bad_or_memory e policy r) first second r
 
   refuses_policy_by : (e : PolicyFault) (r : Refused) (request : CheckRequest) (policy input : List ℕ) → ((e ≡ policy_fault.Memory) ⊎ ((value : PolicyValue) → policy_of policy ≡ Ok value → ⊥))
       → holds request.policy.now policy → IsInput holds request.input input → Fails e (policy_of policy)
-      → r.failure ≡ failure.Fault (of_policy e) → IsPlaceAt (of_policy e) policy r.line r.column → IsReasonAt (of_policy e) policy r.reason → r.source ≡ None → r.input ≡ None
+      → r.failure ≡ failure.Fault (of_policy e) → IfSome r.policy (λ p. p.text.items ≡ policy) → IsPlaceAt (of_policy e) policy (place_told r.policy) → IsReasonAt (of_policy e) policy r.reason → r.source ≡ None → r.input ≡ None
       → RefusesCheck r holds lacks request
-  refuses_policy_by e r request policy input (inl memory) first second fails is place why no_source no_input =
+  refuses_policy_by e r request policy input (inl memory) first second fails is own place why no_source no_input =
       let f = ap of_policy memory in
-      let nowhere = subst (λ (x : Fault). IsPlaceAt x policy r.line r.column) f place in
+      let nowhere = subst (λ (x : Fault). IsPlaceAt x policy (place_told r.policy)) f place in
       let no_why = subst (λ (x : Fault). IsReasonAt x policy r.reason) f why in
       inl (
-        plain_is r no_source no_input no_why nowhere.0 nowhere.1,
+        plain_is r no_source no_input no_why (nothing_mapped (λ (p : FaultyPolicy). p.place) r.policy nowhere),
         subst (λ (x : Failure). IsNotRead x holds lacks request) (sym (is ∙ ap failure.Fault f)) tt,
       )
-  refuses_policy_by e r request policy input (inr none) first second fails is place why no_source no_input = inr (record {
+  refuses_policy_by e r request policy input (inr none) first second fails is own place why no_source no_input = inr (record {
     fault = of_policy e;
     is = is;
     so = record {
@@ -149,17 +162,17 @@ module _ (holds : List ℕ → List ℕ → Type 0) (lacks : List ℕ → Type 0
       input_held = second;
       sources_held = All-nil _;
       sources_named = λ value is. absurd (none value is);
-      so = (policy_ends e policy input None 0 63 fails, policy_at e policy input r place why no_source no_input);
+      so = (policy_ends e policy input None 0 63 fails, policy_at e policy input r own place why no_source no_input);
     };
   })
 
   -- the policy is refused by a check
   pub refuses_policy : (e : PolicyFault) (r : Refused) (request : CheckRequest) (policy input : List ℕ)
       → holds request.policy.now policy → IsInput holds request.input input → Fails e (policy_of policy)
-      → r.failure ≡ failure.Fault (of_policy e) → IsPlaceAt (of_policy e) policy r.line r.column → IsReasonAt (of_policy e) policy r.reason → r.source ≡ None → r.input ≡ None
+      → r.failure ≡ failure.Fault (of_policy e) → IfSome r.policy (λ p. p.text.items ≡ policy) → IsPlaceAt (of_policy e) policy (place_told r.policy) → IsReasonAt (of_policy e) policy r.reason → r.source ≡ None → r.input ≡ None
       → RefusesCheck r holds lacks request
-  refuses_policy e r request policy input first second fails is place why no_source no_input =
-      refuses_policy_by e r request policy input (bad_or_memory e policy fails) first second fails is place why no_source no_input
+  refuses_policy e r request policy input first second fails is own place why no_source no_input =
+      refuses_policy_by e r request policy input (bad_or_memory e policy fails) first second fails is own place why no_source no_input
 
   -- want of memory
   pub memory_refuses : (request : CheckRequest) → RefusesCheck (plain (failure.Fault fault.Memory)) holds lacks request
@@ -212,9 +225,9 @@ module _ (holds : List ℕ → List ℕ → Type 0) (lacks : List ℕ → Type 0
       → s ≡ t → i ≡ input
       → EndsBy f (inputs_under value s i 0 63) old new 0
       → r.failure ≡ failure.Fault f → IsSourceAt f (texts_seen texts) r.source → IsInputAt f input r.input
-      → IfSome r.input (λ i. i.cause ≡ cause) → IsCauseOf f value.pages input cause → r.reason ≡ None → r.line ≡ None → r.column ≡ None
+      → IfSome r.input (λ i. i.cause ≡ cause) → IsCauseOf f value.pages input cause → r.reason ≡ None → r.policy ≡ None
       → RefusesCheck r holds lacks request
-  run_refuses later r request policy input texts s t i value f cause old new first second kept found names read lent e e2 ends is source_at input_at told so no_why no_line no_column = inr (record {
+  run_refuses later r request policy input texts s t i value f cause old new first second kept found names read lent e e2 ends is source_at input_at told so no_why no_policy = inr (record {
     fault = f;
     is = is;
     so = record {
@@ -227,7 +240,7 @@ module _ (holds : List ℕ → List ℕ → Type 0) (lacks : List ℕ → Type 0
       sources_named = λ v is. names_held texts t (sources_of v.pages) lent (names ∙ ap (λ (x : PolicyValue). sources_of x.pages) (same_value (policy_of policy) value v read is));
       so = (
         ends_anyhow f (inputs policy t input 0 63) old new 0 (of_texts (λ made. EndsBy f made old new 0) value policy s t i input 0 63 read e e2 ends),
-        texts_at f r policy input value t (texts_seen texts) cause (λ k rule. no_rule_ends value s i 0 63 f old new k ends rule) read lent source_at input_at told so no_why no_line no_column,
+        texts_at f r policy input value t (texts_seen texts) cause read lent source_at input_at told so no_why no_policy,
       );
     };
   })

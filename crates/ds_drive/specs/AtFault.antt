@@ -1,7 +1,8 @@
 -- Which source, which input and which place in a policy are told of a check that is refused.
-use Rattle.std.specs.Prelude.{◌≡◌, ◌≤◌, ℕ, List, Option, None, Some, Ok, length, map, option_map, ⊤}
+use Rattle.std.specs.Prelude.{◌≡◌, ◌≤◌, ℕ, List, Option, None, Some, Ok, IfSome, length, map, option_map, ⊤}
 use Rattle.ds_asm.specs.Faults.{all_faults}
-use Rattle.ds_check.specs.Places.{place_at, rule_line}
+use Rattle.ds_check.specs.declared.places.Place.{Place}
+use Rattle.ds_check.specs.Places.{place_at}
 use Rattle.ds_policy.specs.PolicyText.{policy_of}
 use Rattle.ds_policy.specs.Value.{PolicyValue}
 use Rattle.ds_policy.specs.declared.policy.PolicyPage.{PolicyPage}
@@ -14,9 +15,11 @@ use Rattle.ds_station.specs.declared.fault.Fault.{Fault}
 use Rattle.ds_station.specs.declared.fault.Fault.TheVariants as fault
 use Rattle.ds_drive.specs.declared.failure.Failure.{Failure}
 use Rattle.ds_drive.specs.declared.refused.FaultyInput.{FaultyInput}
+use Rattle.ds_drive.specs.declared.refused.FaultyPolicy.{FaultyPolicy}
 use Rattle.ds_drive.specs.declared.refused.FaultySource.{FaultySource}
 use Rattle.ds_drive.specs.declared.refused.Refused.{Refused}
 use Rattle.ds_drive.specs.declared.run.SourceText.{SourceText}
+use Rattle.ds_drive.specs.PolicyPlaces.{place_of}
 
 -- each source's name and text
 abbrev pub texts_seen : List SourceText → Sources
@@ -24,7 +27,7 @@ texts_seen texts = map (λ s. (s.name, s.text.items)) texts
 
 -- a failure of which nothing is told besides
 abbrev pub plain : Failure → Refused
-plain f = record { failure = f; source = None; input = None; reason = None; line = None; column = None }
+plain f = record { failure = f; source = None; input = None; reason = None; policy = None }
 
 -- the source that is told is the one that the fault names, with all its faults; where memory is wanting for them, none is told
 abbrev pub IsSourceAt : Fault → Sources → Option FaultySource → Type 0
@@ -39,11 +42,16 @@ IsInputAt (fault.InputFault line) text (Some i) = (i.text.items ≡ text) × (i.
 IsInputAt f text None = ⊤
 IsInputAt f text (Some i) = ⊥
 
--- a line of a policy is told where the fault is a rule's: the one in which that rule begins; and a line and a column where the policy is no document: those of some place in its text
-abbrev pub IsPlaceAt : Fault → List ℕ → Option ℕ → Option ℕ → Type 0
-IsPlaceAt (fault.BadRule number) policy line column = (line ≡ rule_line policy number) × (column ≡ None)
-IsPlaceAt fault.BadToml policy (Some line) (Some column) = (n : ℕ) × (n ≤ length policy) × (record { line = line; column = column } ≡ place_at policy n)
-IsPlaceAt f policy line column = (line ≡ None) × (column ≡ None)
+-- the place that is told of a policy that is at fault
+abbrev pub place_told : Option FaultyPolicy → Option Place
+place_told told = option_map (λ p. p.place) told
+
+-- where the fault is the policy's, the place that its reason names is told; where the policy is no document, some place in its text, unless memory is wanting; and of another fault none
+abbrev pub IsPlaceAt : Fault → List ℕ → Option Place → Type 0
+IsPlaceAt (fault.BadRule number) policy place = place ≡ place_of policy (policy_reason policy)
+IsPlaceAt (fault.Limit key) policy place = place ≡ place_of policy (policy_reason policy)
+IsPlaceAt fault.BadToml policy place = IfSome place (λ p. (n : ℕ) × (n ≤ length policy) × (p ≡ place_at policy n))
+IsPlaceAt f policy place = place ≡ None
 
 -- where the fault is the policy's its reason is told, and nowhere else
 abbrev pub IsReasonAt : Fault → List ℕ → Option PolicyReason → Type 0
@@ -70,6 +78,7 @@ IsCauseAt pages (Some i) = i.cause ≡ cause_of pages i.text.items
 pub record IsAtFault (f : Fault) (r : Refused) (policy : List ℕ) (sources : Sources) (input : List ℕ) : Type 0 where
   pub source_at : IsSourceAt f sources r.source
   pub input_at : IsInputAt f input r.input
-  pub place_at : IsPlaceAt f policy r.line r.column
+  pub policy_at : IfSome r.policy (λ p. p.text.items ≡ policy)
+  pub place_at : IsPlaceAt f policy (place_told r.policy)
   pub reason_at : IsReasonAt f policy r.reason
   pub cause_at : (value : PolicyValue) → policy_of policy ≡ Ok value → IsCauseAt value.pages r.input

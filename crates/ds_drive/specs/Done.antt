@@ -21,21 +21,23 @@ use Rattle.ds_drive.specs.Statuses.{fault_status}
 use Rattle.ds_drive.specs.BareRuns.{RunsBare, CutsBare, BareFailsBy, HasBareFaults}
 use Rattle.ds_drive.specs.Checked.{Explains, CutsExplanation, ChecksBy, HasNotes}
 use Rattle.ds_drive.specs.Listed.{ListsFile, CutsListing, FailsBy, HasFaults}
-use Rattle.ds_words.specs.Words.{AsksForBare, AsksForDemo, AsksForRun, AsksForList, AsksForCheck}
+use Rattle.ds_drive.specs.TraceRuns.{TracesFiles, CutsTrace, TraceStopsBy}
+use Rattle.ds_words.specs.Words.{AsksForBare, AsksForDemo, AsksForRun, AsksForList, AsksForCheck, AsksForTrace}
 
 -- what the words ask for was run, listed or explained, and its text is written; a run is under a
--- policy or on the bare machine
+-- policy, with its trace or without, or on the bare machine
 abbrev pub IsDone : List Text → (List ℕ → List ℕ → Type 0) → Option (List ℕ) → Option (List ℕ) → Type 0
 IsDone words holds old new =
     (AsksForDemo words × Begins demo_inputs (Writes old new 100))
     ⊎ (((request : Request) × AsksForRun words request × RunsFiles holds request old new)
     ⊎ (((request : ListRequest) × AsksForList words request × ListsFile holds request old new)
     ⊎ (((request : CheckRequest) × AsksForCheck words request × Explains holds request old new)
-    ⊎ ((request : BareRequest) × AsksForBare words request × RunsBare holds request old new))))
+    ⊎ (((request : BareRequest) × AsksForBare words request × RunsBare holds request old new)
+    ⊎ ((request : Request) × AsksForTrace words request × TracesFiles holds request old new)))))
 
 -- nothing is written; or what the words ask for was run, and a front of the text of a run that was
 -- cut short between two turns, or has ended, is written and nothing else; or a front of
--- a listing, of what is explained, or of a run on the bare machine
+-- a listing, of what is explained, of a run on the bare machine, or of a trace
 abbrev pub IsCutShort : List Text → (List ℕ → List ℕ → Type 0) → Option (List ℕ) → Option (List ℕ) → Type 0
 IsCutShort words holds old new =
     Keeps old new
@@ -43,7 +45,8 @@ IsCutShort words holds old new =
     ⊎ (((request : Request) × AsksForRun words request × CutsFiles holds request old new)
     ⊎ (((request : ListRequest) × AsksForList words request × CutsListing holds request old new)
     ⊎ (((request : CheckRequest) × AsksForCheck words request × CutsExplanation holds request old new)
-    ⊎ ((request : BareRequest) × AsksForBare words request × CutsBare holds request old new)))))
+    ⊎ (((request : BareRequest) × AsksForBare words request × CutsBare holds request old new)
+    ⊎ ((request : Request) × AsksForTrace words request × CutsTrace holds request old new))))))
 
 -- what a writer held before, and what it holds now, where that is known
 pub record Stream : Type 0 where
@@ -112,7 +115,8 @@ IsStopped status words holds lacks out err =
     ⊎ (((request : Request) × AsksForRun words request × FailsWith status err (λ f. StopsBy f holds lacks request out.old out.new))
     ⊎ (((request : ListRequest) × AsksForList words request × (FailsWith status err (λ f. FailsBy f holds lacks request out.old out.new) ⊎ IsFaulty status holds request out err))
     ⊎ (((request : CheckRequest) × AsksForCheck words request × (RefusesWith status err (λ r. ChecksBy r holds lacks request out.old out.new) ⊎ IsNoted status holds request out err))
-    ⊎ ((request : BareRequest) × AsksForBare words request × (FailsWith status err (λ f. BareFailsBy f holds lacks request out.old out.new) ⊎ IsFaultyBare status holds request out err)))))
+    ⊎ (((request : BareRequest) × AsksForBare words request × (FailsWith status err (λ f. BareFailsBy f holds lacks request out.old out.new) ⊎ IsFaultyBare status holds request out err))
+    ⊎ ((request : Request) × AsksForTrace words request × FailsWith status err (λ f. TraceStopsBy f holds lacks request out.old out.new))))))
 
 -- nothing is written, and want of memory was told
 abbrev pub WantsMemory : Stream → Stream → Type 0

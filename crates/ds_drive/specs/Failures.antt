@@ -7,7 +7,7 @@ use Rattle.ds_policy.specs.Value.{PolicyValue}
 use Rattle.ds_pagemap.specs.Machine.{State}
 use Rattle.ds_pagemap.specs.Inputs.{Refusal, Sources, inputs}
 use Rattle.ds_station.specs.Faults.{number_of}
-use Rattle.ds_station.specs.Headline.{Begins, Writes, WritesPart, EndsBy}
+use Rattle.ds_station.specs.Headline.{Begins, Writes, WritesPart, EndsBy, Refuses}
 use Rattle.ds_station.specs.declared.fault.Fault.{Fault}
 use Rattle.ds_station.specs.declared.fault.Fault.TheVariants.{Memory}
 use Rattle.ds_words.specs.declared.words.Request.{Request}
@@ -59,20 +59,32 @@ pub record OfHeld (holds : List ℕ → List ℕ → Type 0) (request : Request)
   pub held : AreHeld holds request policy sources input
   pub so : P (inputs policy sources input request.most_time request.random)
 
+-- they hold a policy of this value, the sources that it names and this input
+pub record HoldsInputs (holds : List ℕ → List ℕ → Type 0) (request : Request) (value : PolicyValue) (sources : Sources) (input : List ℕ) : Type 0 where
+  pub policy : List ℕ
+  pub read : policy_of policy ≡ Ok value
+  pub held : AreHeld holds request policy sources input
+
+-- why not all that a run is made of is read: a file is lacking, memory ran out, or what was read is refused
+abbrev pub IsUnreadRun : Failure → (List ℕ → List ℕ → Type 0) → (List ℕ → Type 0) → Request → Type 0
+IsUnreadRun (failure.UnreadableFile name) holds lacks request = ((name.now ≡ request.policy.now) ⊎ (name.now ≡ request.input.now)) × lacks name.now
+IsUnreadRun (failure.UnreadableSource name) holds lacks request = NamesSource holds request.policy.now name × lacks name
+IsUnreadRun (failure.Fault fault) holds lacks request = (fault ≡ Memory) ⊎ OfHeld holds request (λ read. Refuses fault read)
+
+-- why each failure comes of what is done with the files of a run, and what it leaves: nothing is written before all files are read, and without a run want of memory alone is told of as a fault; a run ends by a fault as `ends` has it
+abbrev pub FilesStop : (Fault → Result State Refusal → Type 0) → Failure → (List ℕ → List ℕ → Type 0) → (List ℕ → Type 0) → Request → Option (List ℕ) → Option (List ℕ) → Type 0
+FilesStop ends (failure.UnreadableFile name) holds lacks request old new = ((name.now ≡ request.policy.now) ⊎ (name.now ≡ request.input.now)) × lacks name.now × Keeps old new
+FilesStop ends (failure.UnreadableSource name) holds lacks request old new = NamesSource holds request.policy.now name × lacks name × Keeps old new
+FilesStop ends (failure.Fault fault) holds lacks request old new = ((fault ≡ Memory) × Keeps old new) ⊎ OfHeld holds request (λ read. ends fault read)
+
 -- they were run, and the text of that run is written
 abbrev pub RunsFiles : (List ℕ → List ℕ → Type 0) → Request → Option (List ℕ) → Option (List ℕ) → Type 0
 RunsFiles holds request old new = OfHeld holds request (λ read. Begins read (Writes old new request.most_time))
-
--- their run was refused or ended by a fault
-abbrev pub StopsFiles : Fault → (List ℕ → List ℕ → Type 0) → Request → Option (List ℕ) → Option (List ℕ) → Type 0
-StopsFiles fault holds request old new = OfHeld holds request (λ read. EndsBy fault read old new request.most_time)
 
 -- their run was cut short between two turns or ended, and a front of its text is written
 abbrev pub CutsFiles : (List ℕ → List ℕ → Type 0) → Request → Option (List ℕ) → Option (List ℕ) → Type 0
 CutsFiles holds request old new = OfHeld holds request (λ read. Begins read (WritesPart old new request.most_time))
 
--- why each failure comes, and what it leaves: nothing is written before all files are read, and without a run want of memory alone is told of as a fault
+-- why each failure of a run comes, and what it leaves
 abbrev pub StopsBy : Failure → (List ℕ → List ℕ → Type 0) → (List ℕ → Type 0) → Request → Option (List ℕ) → Option (List ℕ) → Type 0
-StopsBy (failure.UnreadableFile name) holds lacks request old new = ((name.now ≡ request.policy.now) ⊎ (name.now ≡ request.input.now)) × lacks name.now × Keeps old new
-StopsBy (failure.UnreadableSource name) holds lacks request old new = NamesSource holds request.policy.now name × lacks name × Keeps old new
-StopsBy (failure.Fault fault) holds lacks request old new = ((fault ≡ Memory) × Keeps old new) ⊎ StopsFiles fault holds request old new
+StopsBy f holds lacks request old new = FilesStop (λ fault read. EndsBy fault read old new request.most_time) f holds lacks request old new

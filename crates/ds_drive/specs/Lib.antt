@@ -6,6 +6,8 @@ pub mod Checked
 pub mod Done
 pub mod Failures
 pub mod Noted
+pub mod PolicyPlaces
 pub mod Statuses
 pub mod Told
+pub mod TraceRuns
 pub mod Worked

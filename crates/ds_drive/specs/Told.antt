@@ -2,10 +2,13 @@
 use Rattle.std.specs.Prelude.{ℕ, ◌-◌, List, [], ◌∷◌, ◌++◌, Option, None, Some, codes, decimal, option_map, slice_get, take}
 use Rattle.ds_asm.specs.declared.fault.SourceFault.{SourceFault}
 use Rattle.ds_asm.specs.Assembling.{source_fault_line, source_fault_name, source_fault_number}
-use Rattle.ds_check.specs.Carets.{caret_line}
+use Rattle.ds_check.specs.declared.places.Place.{Place}
+use Rattle.ds_check.specs.Carets.{caret_line, place_shown}
 use Rattle.ds_check.specs.Lines.{line_at, shown_line}
 use Rattle.ds_check.specs.Mending.{mended}
 use Rattle.ds_source_reasons.specs.declared.fault.FaultyLines.{FaultyLines}
+use Rattle.ds_policy_reasons.specs.CausePlaces.{cause_place}
+use Rattle.ds_policy_reasons.specs.declared.input_cause.InputCause.{InputCause}
 use Rattle.ds_policy_reasons.specs.Texts.{input_cause_text, policy_reason_text}
 use Rattle.ds_policy_reasons.specs.declared.reason.PolicyReason.{PolicyReason}
 use Rattle.ds_policy_reasons.specs.declared.reason.PolicyReason.TheVariants as reason
@@ -17,6 +20,7 @@ use Rattle.ds_station.specs.declared.fault.Fault.TheVariants as fault
 use Rattle.ds_drive.specs.declared.failure.Failure.{Failure}
 use Rattle.ds_drive.specs.declared.failure.Failure.TheVariants as failure
 use Rattle.ds_drive.specs.declared.refused.FaultyInput.{FaultyInput}
+use Rattle.ds_drive.specs.declared.refused.FaultyPolicy.{FaultyPolicy}
 use Rattle.ds_drive.specs.declared.refused.FaultySource.{FaultySource}
 use Rattle.ds_drive.specs.declared.refused.Refused.{Refused}
 use Rattle.ds_drive.specs.Failures.{failure_number}
@@ -116,11 +120,14 @@ failure_words (failure.Fault f) = fault_words f
 abbrev pub failure_line : Failure → List ℕ
 failure_line f = codes "dsmon: " ++ (failure_words f ++ codes "\n")
 
--- the line that tells of a place in a policy, where one is known
-abbrev pub place_line : Option ℕ → Option ℕ → List ℕ
-place_line (Some line) (Some column) = codes "in line " ++ (decimal line ++ (codes ", column " ++ (decimal column ++ codes " of the policy\n")))
-place_line (Some line) None = codes "in line " ++ (decimal line ++ codes " of the policy\n")
-place_line None column = []
+-- the line that tells of a place in a policy
+abbrev pub place_line : Place → List ℕ
+place_line p = codes "in line " ++ (decimal p.line ++ (codes ", column " ++ (decimal p.column ++ codes " of the policy\n")))
+
+-- where a policy is at fault, and its line with a caret there, where it is
+abbrev pub policy_shown : Option FaultyPolicy → List ℕ
+policy_shown None = []
+policy_shown (Some policy) = place_line policy.place ++ place_shown policy.text.items policy.place
 
 -- the source's line of a first fault with the caret below it, where there is one
 abbrev pub fault_shown : List ℕ → Option SourceFault → List ℕ
@@ -142,10 +149,19 @@ abbrev pub others_shown : Option FaultySource → List ℕ
 others_shown None = []
 others_shown (Some source) = others_told source.text.items source.faults.items
 
--- the line of an input that is at fault, where it is
+-- a caret below what is wrong with a line of an input, where that has a place
+abbrev pub cause_below : List ℕ → Option InputCause → List ℕ
+cause_below line None = []
+cause_below line (Some cause) = caret_below line (cause_place cause line)
+
+-- the line of an input with this number, and the caret below it
+abbrev pub cause_shown : List ℕ → ℕ → Option InputCause → List ℕ
+cause_shown text number cause = shown_line text number ++ cause_below (line_at text number) cause
+
+-- the line of an input that is at fault with the caret below it, where it is
 abbrev pub input_shown : Option FaultyInput → List ℕ
 input_shown None = []
-input_shown (Some input) = shown_line input.text.items input.line
+input_shown (Some input) = cause_shown input.text.items input.line input.cause
 
 -- the reason of the first fault of a source, where there is one
 abbrev pub first_reason : List ℕ → Option SourceFault → Option FaultReason
@@ -185,7 +201,7 @@ text_or_none (Some text) = text
 abbrev pub why_told : Refused → List ℕ
 why_told r = text_or_none (or_next (reason_told r) (mended (failure_number r.failure)))
 
--- what is told of a check that is refused: the failure's line, the place in the policy, the line of the source with a caret or that of the input, the reason and how it is mended, and the other faults of the source
+-- what is told of a check that is refused: the failure's line; the place in the policy, and the line of the policy, of the source or of the input with a caret; the reason and how it is mended; and the other faults of the source
 abbrev pub refused_text : Refused → List ℕ
 refused_text r = failure_line r.failure
-    ++ (place_line r.line r.column ++ (source_shown r.source ++ (input_shown r.input ++ (why_told r ++ others_shown r.source))))
+    ++ (policy_shown r.policy ++ (source_shown r.source ++ (input_shown r.input ++ (why_told r ++ others_shown r.source))))

@@ -76,7 +76,7 @@ fn read_good<'a, F: Files>(
         Ok(policy) => policy,
         Err(fault) => {
             let reason = policy_reason(alloc, &text)?;
-            return Err(Refused::of_policy(alloc, Fault::from(fault), &text, reason));
+            return Err(Refused::of_policy(alloc, Fault::from(fault), text, reason));
         }
     };
     let texts = source_texts(alloc, files, policy.sources())?;

@@ -170,7 +170,11 @@ fn push_below<'s>(
 }
 
 /// Adds a caret below a place of a line, where there is one.
-fn push_caret_at(sheet: &mut Vec<u8>, line: &[u8], place: Option<usize>) -> Result<(), AllocError>
+pub(crate) fn push_caret_at(
+    sheet: &mut Vec<u8>,
+    line: &[u8],
+    place: Option<usize>,
+) -> Result<(), AllocError>
     ensures { OnOk result (sheet.new.items ≡ sheet.old.items ++ caret_below line.now place) }
 {
     match place {

@@ -17,6 +17,7 @@ use crate::notes::tell_notes;
 use crate::run::run_request;
 use crate::status::{DONE, WORDS_REFUSED};
 use crate::told::{tell, tell_refused};
+use crate::trace::trace_request;
 use ds_log::send;
 use ds_station::Fault;
 use ds_words::{Wish, wish_of};
@@ -26,7 +27,7 @@ use std::io::{ErrorKind, Write};
 /// Does what the words ask for, the program's own name first, and answers the status: 0 done; 1 the
 /// words were refused for another cause than memory, or ask for help; 2 refused input; 3 a fault of
 /// the run. What was refused is told on `err`; that a write there fails changes no status.
-#[tactic(auto, using(ds_words::proofs::WordLemmas::alone, crate::proofs::Cuts::nothing_written, crate::proofs::Cuts::demo_cut, crate::proofs::Cuts::run_cut, crate::proofs::Cuts::list_cut, crate::proofs::Cuts::check_cut, crate::proofs::BareLemmas::bare_cut, crate::proofs::BareLemmas::bare_stopped, crate::proofs::BareLemmas::bare_faulty, crate::proofs::Stops::demo_stopped, crate::proofs::Stops::run_stopped, crate::proofs::Stops::list_stopped, crate::proofs::Stops::list_faulty, crate::proofs::Stops::check_stopped, crate::proofs::Noting::check_noted, crate::proofs::Stops::wants_memory))]
+#[tactic(auto, using(ds_words::proofs::WordLemmas::alone, crate::proofs::Cuts::nothing_written, crate::proofs::Cuts::demo_cut, crate::proofs::Cuts::run_cut, crate::proofs::Cuts::list_cut, crate::proofs::Cuts::check_cut, crate::proofs::BareLemmas::bare_cut, crate::proofs::BareLemmas::bare_stopped, crate::proofs::BareLemmas::bare_faulty, crate::proofs::Stops::demo_stopped, crate::proofs::Stops::run_stopped, crate::proofs::Stops::list_stopped, crate::proofs::Stops::list_faulty, crate::proofs::Stops::check_stopped, crate::proofs::Noting::check_noted, crate::proofs::Stops::wants_memory, crate::proofs::TraceLemmas::trace_cut, crate::proofs::TraceLemmas::trace_done, crate::proofs::TraceLemmas::trace_stopped))]
 pub fn drive<F: Files, W: Write, E: Write>(
     alloc: Global,
     words: &[String],
@@ -66,6 +67,10 @@ pub fn drive<F: Files, W: Write, E: Write>(
             Err(fault) => tell(err, &Failure::Fault(fault)),
         },
         Ok(Some(Wish::Run(request))) => match run_request(alloc, &request, files, out) {
+            Ok(()) => DONE,
+            Err(failure) => tell(err, &failure),
+        },
+        Ok(Some(Wish::Trace(request))) => match trace_request(alloc, &request, files, out) {
             Ok(()) => DONE,
             Err(failure) => tell(err, &failure),
         },

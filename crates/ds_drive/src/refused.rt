@@ -1,14 +1,15 @@
 //! What a check refuses, and what is at fault then.
 ghost use Rattle.std.specs.Prelude.{◌≡◌, ◌<◌, ◌≤◌, ℕ, List, length, None, IfOk, IfSome, position, bytes_eq};
 ghost use Rattle.ds_policy_reasons.specs.Policies.{policy_reason};
-ghost use Rattle.ds_drive.specs.AtFault.{IsCauseOf, IsInputAt, IsPlaceAt, IsReasonAt, IsSourceAt, plain, texts_seen};
+ghost use Rattle.ds_drive.specs.AtFault.{IsCauseOf, IsInputAt, IsPlaceAt, IsReasonAt, IsSourceAt, place_told, plain, texts_seen};
 ghost use Rattle.ds_drive.specs.Failures.{memory_failure};
 ghost use Rattle.ds_drive.specs.declared.failure.Failure.TheVariants as failure;
 
 use crate::failure::Failure;
+use crate::policy_place::reason_place;
 use crate::run::SourceText;
 use ds_asm::{SourceFault, all_faults};
-use ds_check::{rule_line, toml_place};
+use ds_check::{Place, toml_place};
 use ds_policy::{OutOfMemory, Policy};
 use ds_policy_reasons::{InputCause, PolicyReason, input_reason};
 use ds_station::Fault;
@@ -34,6 +35,15 @@ pub struct FaultyInput {
     pub cause: Option<InputCause>,
 }
 
+/// A policy that is at fault.
+#[derive(Drop)]
+pub struct FaultyPolicy {
+    /// Its text.
+    pub text: Vec<u8>,
+    /// Where the fault is.
+    pub place: Place,
+}
+
 /// What a check refuses.
 #[derive(Drop)]
 pub struct Refused<'a> {
@@ -45,10 +55,8 @@ pub struct Refused<'a> {
     pub input: Option<FaultyInput>,
     /// Why the policy is refused, where it is.
     pub reason: Option<PolicyReason>,
-    /// The line of the policy's text that is at fault, from 1, where it is known.
-    pub line: Option<u64>,
-    /// The column there, from 1, where it is known.
-    pub column: Option<u64>,
+    /// The policy that is at fault, where it is and the place in it is known.
+    pub policy: Option<FaultyPolicy>,
 }
 
 impl<'a> Refused<'a> {
@@ -61,8 +69,7 @@ impl<'a> Refused<'a> {
             source: None,
             input: None,
             reason: None,
-            line: None,
-            column: None,
+            policy: None,
         }
     }
 
@@ -70,25 +77,26 @@ impl<'a> Refused<'a> {
     pub(crate) fn of_policy(
         alloc: Global,
         fault: Fault,
-        text: &[u8],
+        text: Vec<u8>,
         reason: Option<PolicyReason>,
     ) -> Refused<'a>
-        requires { length text.now ≤ 16777216 }
+        requires { length text.items ≤ 16777216 }
         ensures failure { result.failure ≡ failure.Fault fault }
-        ensures place { IsPlaceAt fault text.now result.line result.column }
-        ensures reason { (reason ≡ policy_reason text.now)
-            → IsReasonAt fault text.now result.reason }
+        ensures policy { IfSome result.policy (λ p. p.text.items ≡ text.items) }
+        ensures place { (reason ≡ policy_reason text.items)
+            → IsPlaceAt fault text.items (place_told result.policy) }
+        ensures reason { (reason ≡ policy_reason text.items)
+            → IsReasonAt fault text.items result.reason }
         ensures others { (result.source ≡ None) × (result.input ≡ None) }
     {
-        let (line, column) = place_in(alloc, &fault, text);
+        let policy = faulty_policy(alloc, &fault, text, reason);
         let reason = reason_for(&fault, reason);
         Refused {
             failure: Failure::Fault(fault),
             source: None,
             input: None,
             reason,
-            line,
-            column,
+            policy,
         }
     }
 
@@ -105,7 +113,7 @@ impl<'a> Refused<'a> {
         ensures source { IsSourceAt fault (texts_seen texts.items) result.source }
         ensures input { IsInputAt fault input.items result.input }
         ensures cause { IfSome result.input (λ i. i.cause ≡ cause) }
-        ensures others { (result.reason ≡ None) × (result.line ≡ None) × (result.column ≡ None) }
+        ensures others { (result.reason ≡ None) × (result.policy ≡ None) }
     {
         let source = faulty_source(alloc, &fault, texts);
         let input = faulty_input(&fault, input, cause);
@@ -114,24 +122,49 @@ impl<'a> Refused<'a> {
             source,
             input,
             reason: None,
-            line: None,
-            column: None,
+            policy: None,
         }
     }
 }
 
-/// The line and the column of the policy's text that are at fault, where they are known.
-fn place_in(alloc: Global, fault: &Fault, text: &[u8]) -> (Option<u64>, Option<u64>)
+/// The policy that has this text, if it is at fault in a place that is known.
+fn faulty_policy(
+    alloc: Global,
+    fault: &Fault,
+    text: Vec<u8>,
+    reason: Option<PolicyReason>,
+) -> Option<FaultyPolicy>
+    requires { length text.items ≤ 16777216 }
+    ensures text { IfSome result (λ p. p.text.items ≡ text.items) }
+    ensures place { (reason ≡ policy_reason text.items)
+        → IsPlaceAt fault.now text.items (place_told result) }
+{
+    match place_in(alloc, fault, &text, reason) {
+        Some(place) => Some(FaultyPolicy { text, place }),
+        None => None,
+    }
+}
+
+/// Where in its text a policy is at fault, where that is known.
+fn place_in(
+    alloc: Global,
+    fault: &Fault,
+    text: &[u8],
+    reason: Option<PolicyReason>,
+) -> Option<Place>
     requires { length text.now ≤ 16777216 }
-    ensures { IsPlaceAt fault.now text.now result.0 result.1 }
+    ensures { (reason ≡ policy_reason text.now) → IsPlaceAt fault.now text.now result }
 {
     match fault {
         Fault::BadToml => match toml_place(alloc, text) {
-            Ok(Some(place)) => (Some(place.line), Some(place.column)),
-            _ => (None, None),
+            Ok(place) => place,
+            Err(OutOfMemory) => None,
         },
-        Fault::BadRule(number) => (rule_line(text, *number), None),
-        _ => (None, None),
+        Fault::BadRule(_) | Fault::Limit(_) => match reason {
+            Some(reason) => reason_place(text, reason),
+            None => None,
+        },
+        _ => None,
     }
 }
 

@@ -1,7 +1,8 @@
 //! A run of files: the policy, the input, and the sources that the policy names.
 ghost use Rattle.std.specs.Prelude.{◌≡◌, ◌≤◌, ℕ, List, IfErr, IfOk, OnOk, All, length, map};
 ghost use Rattle.ds_station.specs.Headline.{sources_seen};
-ghost use Rattle.ds_drive.specs.Failures.{AreUnread, IsUnread, RunsFiles, StopsBy};
+ghost use Rattle.ds_drive.specs.AtFault.{texts_seen};
+ghost use Rattle.ds_drive.specs.Failures.{AreUnread, HoldsInputs, IsUnread, IsUnreadRun, RunsFiles, StopsBy};
 
 use crate::failure::Failure;
 use crate::files::{FileFault, Files};
@@ -18,9 +19,17 @@ pub(crate) struct SourceText {
     pub(crate) text: Vec<u8>,
 }
 
+/// A policy, the texts of the sources that it names, and an input.
+#[derive(Drop)]
+pub(crate) struct Inputs {
+    pub(crate) policy: Policy,
+    pub(crate) texts: Vec<SourceText>,
+    pub(crate) input: Vec<u8>,
+}
+
 /// Reads the policy, then the input, then, where the policy is good, each source by its name, and
 /// runs them. Nothing is written before all of them are read.
-#[tactic(auto, using(crate::proofs::Stops::policy_unread, crate::proofs::Stops::input_unread, crate::proofs::Stops::source_unread, crate::proofs::Stops::memory_stops, crate::proofs::Stops::policy_stops))]
+#[tactic(auto, using(crate::proofs::Stops::run_unread, crate::proofs::Stops::memory_stops))]
 pub fn run_request<'a, F: Files, W: Write>(
     alloc: Global,
     request: &Request<'a>,
@@ -36,19 +45,13 @@ pub fn run_request<'a, F: Files, W: Write>(
         → F.holds files.old file bytes }
     ensures lacked { (file : List ℕ) → F.lacks files.new file → F.lacks files.old file }
 {
-    let policy_text = named_file(alloc, files, request.policy)?;
-    let input = named_file(alloc, files, request.input)?;
-    let policy = match Policy::read(alloc, policy_text.as_slice()) {
-        Ok(policy) => policy,
-        Err(fault) => return Err(Failure::Fault(Fault::from(fault))),
-    };
-    let texts = source_texts(alloc, files, policy.sources())?;
-    let sources = lent(alloc, texts.as_slice())?;
+    let inputs = read_inputs(alloc, request, files)?;
+    let sources = lent(alloc, inputs.texts.as_slice())?;
     match run_policy(
         alloc,
-        &policy,
+        &inputs.policy,
         sources.as_slice(),
-        input.as_slice(),
+        inputs.input.as_slice(),
         request.most_time,
         request.random,
         out,
@@ -56,6 +59,35 @@ pub fn run_request<'a, F: Files, W: Write>(
         Ok(()) => Ok(()),
         Err(fault) => Err(Failure::Fault(fault)),
     }
+}
+
+/// Reads the policy, then the input, then, where the policy is good, each source by its name.
+#[tactic(auto, using(crate::proofs::Stops::policy_unread, crate::proofs::Stops::input_unread, crate::proofs::Stops::source_unread, crate::proofs::Stops::policy_unsound))]
+pub(crate) fn read_inputs<'a, F: Files>(
+    alloc: Global,
+    request: &Request<'a>,
+    files: &mut F,
+) -> Result<Inputs, Failure<'a>>
+    ensures ok { IfOk result (λ inputs. HoldsInputs (F.holds files.old) request.now
+        inputs.policy (texts_seen inputs.texts.items) inputs.input.items) }
+    ensures err { IfErr result
+        (λ f. IsUnreadRun f (F.holds files.old) (F.lacks files.old) request.now) }
+    ensures kept { (file bytes : List ℕ) → F.holds files.new file bytes
+        → F.holds files.old file bytes }
+    ensures lacked { (file : List ℕ) → F.lacks files.new file → F.lacks files.old file }
+{
+    let policy_text = named_file(alloc, files, request.policy)?;
+    let input = named_file(alloc, files, request.input)?;
+    let policy = match Policy::read(alloc, policy_text.as_slice()) {
+        Ok(policy) => policy,
+        Err(fault) => return Err(Failure::Fault(Fault::from(fault))),
+    };
+    let texts = source_texts(alloc, files, policy.sources())?;
+    Ok(Inputs {
+        policy,
+        texts,
+        input,
+    })
 }
 
 /// The bytes of a file that the words name.

@@ -2,24 +2,25 @@
 ghost use Rattle.std.specs.Prelude.{◌≡◌, ◌++◌, OnErr, OnOk, Some, codes, flat_map};
 ghost use Rattle.ds_asm.specs.Assembling.{source_fault_line};
 ghost use Rattle.std.specs.Io.KnownBytes.{Appends};
-ghost use Rattle.ds_check.specs.Lines.{shown_line};
+ghost use Rattle.ds_check.specs.Carets.{place_shown};
 ghost use Rattle.ds_drive.specs.Failures.{failure_number};
 ghost use Rattle.ds_drive.specs.Statuses.{fault_status};
-ghost use Rattle.ds_drive.specs.Told.{failure_line, fault_words, input_shown, none_passed, others_shown, others_told, pass, passed_in, place_line, reason_after, refused_text, shown_in, source_fault_words, source_shown, why_told};
+ghost use Rattle.ds_drive.specs.Told.{cause_below, cause_shown, failure_line, fault_words, input_shown, none_passed, others_shown, others_told, pass, passed_in, place_line, policy_shown, reason_after, refused_text, shown_in, source_fault_words, source_shown, why_told};
 ghost use Rattle.ds_log.specs.Sent.{AppendsPart};
 
 use crate::failure::Failure;
-use crate::faults::{Untold, Wording, push_shown, tell_lines};
-use crate::refused::{FaultyInput, FaultySource, Refused};
+use crate::faults::{Untold, Wording, push_caret_at, push_shown, tell_lines};
+use crate::refused::{FaultyInput, FaultyPolicy, FaultySource, Refused};
 use crate::status::status_of;
 use crate::why::{first_reason, push_mending, push_reason_told};
 use ds_asm::SourceFault;
-use ds_check::Lines;
+use ds_check::{Lines, Place, push_place};
 use ds_log::{WriteFailed, send};
+use ds_policy_reasons::{InputCause, cause_place};
 use ds_source_reasons::FaultyLines;
 use ds_station::Fault;
 use itoa::Buffer;
-use std::alloc::Global;
+use std::alloc::{AllocError, Global};
 use std::io::Write;
 
 /// Tells of a failure in one line, and answers the status. Where the writer fails, the rest is not
@@ -34,9 +35,9 @@ pub fn tell<'a, E: Write>(err: &mut E, failure: &Failure<'a>) -> u8
     status_of(failure.number())
 }
 
-/// Tells of a refusal as a run does, and below it where it is, the line of the source or of the
-/// input, the reason and how it is mended, and the other faults of the source; and answers the
-/// status. Where the writer fails, or memory runs out, the rest is not told.
+/// Tells of a refusal as a run does, and below it where it is: the line of the policy, of the source
+/// or of the input, with a caret; the reason and how it is mended; and the other faults of the
+/// source. Answers the status. Where the writer fails, or memory runs out, the rest is not told.
 #[tactic(auto, using(crate::proofs::Tellings::told_either))]
 pub fn tell_refused<'a, E: Write>(alloc: Global, err: &mut E, refused: &Refused<'a>) -> u8
     ensures status { result ≡ fault_status (failure_number refused.now.failure) }
@@ -59,7 +60,7 @@ fn send_refused<'a, E: Write>(
         (refused_text refused.now)) }
 {
     send_failure(err, &refused.failure)?;
-    send_place(err, refused.line, refused.column)?;
+    send_policy(alloc, err, &refused.policy)?;
     send_source(alloc, err, &refused.source)?;
     send_input(alloc, err, &refused.input)?;
     send_why(alloc, err, refused)?;
@@ -167,34 +168,46 @@ fn send_all<W: Write>(out: &mut W, pieces: &[&[u8]]) -> Result<(), WriteFailed>
     Ok(())
 }
 
-/// Hands the line that tells of a place in the policy to the writer, where one is known.
-fn send_place<E: Write>(err: &mut E, line: Option<u64>, column: Option<u64>) -> Result<(), Untold>
+/// Tells where a policy is at fault and shows its line with a caret, where it is.
+fn send_policy<E: Write>(
+    alloc: Global,
+    err: &mut E,
+    policy: &Option<FaultyPolicy>,
+) -> Result<(), Untold>
     ensures all { OnOk result (Appends (E.contents err.old) (E.contents err.new)
-        (place_line line column)) }
+        (policy_shown policy.now)) }
     ensures front { OnErr result (AppendsPart (E.contents err.old) (E.contents err.new)
-        (place_line line column)) }
+        (policy_shown policy.now)) }
 {
-    match (line, column) {
-        (Some(line), Some(column)) => Ok(send_all(
-            err,
-            &[
-                b"in line ",
-                Buffer::new().format(line).as_bytes(),
-                b", column ",
-                Buffer::new().format(column).as_bytes(),
-                b" of the policy\n",
-            ],
-        )?),
-        (Some(line), None) => Ok(send_all(
-            err,
-            &[
-                b"in line ",
-                Buffer::new().format(line).as_bytes(),
-                b" of the policy\n",
-            ],
-        )?),
-        (None, _) => Ok(()),
+    match policy {
+        Some(policy) => show_place(alloc, err, &policy.text, policy.place),
+        None => Ok(()),
     }
+}
+
+/// Tells a place of a policy's text and shows its line with a caret.
+fn show_place<E: Write>(alloc: Global, err: &mut E, text: &[u8], place: Place) -> Result<(), Untold>
+    ensures all { OnOk result (Appends (E.contents err.old) (E.contents err.new)
+        (place_line place ++ place_shown text.now place)) }
+    ensures front { OnErr result (AppendsPart (E.contents err.old) (E.contents err.new)
+        (place_line place ++ place_shown text.now place)) }
+{
+    let mut shown = Vec::new(alloc);
+    push_place_line(&mut shown, place)?;
+    push_place(&mut shown, text, place)?;
+    send(err, &shown)?;
+    Ok(())
+}
+
+/// Adds the line that tells a place of the policy.
+fn push_place_line(sheet: &mut Vec<u8>, place: Place) -> Result<(), AllocError>
+    ensures { OnOk result (sheet.new.items ≡ sheet.old.items ++ place_line place) }
+{
+    sheet.extend_from_slice(b"in line ")?;
+    sheet.extend_from_slice(Buffer::new().format(place.line).as_bytes())?;
+    sheet.extend_from_slice(b", column ")?;
+    sheet.extend_from_slice(Buffer::new().format(place.column).as_bytes())?;
+    sheet.extend_from_slice(b" of the policy\n")
 }
 
 /// Shows the line of the first fault of a source that is at fault, with a caret below it, where one
@@ -293,7 +306,7 @@ fn after_first<'s>(text: &'s [u8], first: &SourceFault) -> FaultyLines<'s>
     reasons
 }
 
-/// Shows the line of an input that is at fault, where it is.
+/// Shows the line of an input that is at fault with a caret below it, where it is.
 fn send_input<E: Write>(
     alloc: Global,
     err: &mut E,
@@ -305,23 +318,44 @@ fn send_input<E: Write>(
         (input_shown input.now)) }
 {
     match input {
-        Some(input) => show_line(alloc, err, &input.text, input.line),
+        Some(input) => show_line(alloc, err, &input.text, input.line, input.cause),
         None => Ok(()),
     }
 }
 
-/// Shows the line of this number of a text.
-fn show_line<E: Write>(alloc: Global, err: &mut E, text: &[u8], number: u64) -> Result<(), Untold>
+/// Shows the line of this number of an input, with a caret below what is wrong there.
+fn show_line<E: Write>(
+    alloc: Global,
+    err: &mut E,
+    text: &[u8],
+    number: u64,
+    cause: Option<InputCause>,
+) -> Result<(), Untold>
     ensures all { OnOk result (Appends (E.contents err.old) (E.contents err.new)
-        (shown_line text.now number)) }
+        (cause_shown text.now number cause)) }
     ensures front { OnErr result (AppendsPart (E.contents err.old) (E.contents err.new)
-        (shown_line text.now number)) }
+        (cause_shown text.now number cause)) }
 {
     let mut lines = Lines::of(text);
     let mut shown = Vec::new(alloc);
     lines.push(&mut shown, number)?;
+    push_cause_below(&mut shown, lines.line(number), cause)?;
     send(err, &shown)?;
     Ok(())
+}
+
+/// Adds a caret below what is wrong with a line of an input, where that has a place.
+fn push_cause_below(
+    sheet: &mut Vec<u8>,
+    line: &[u8],
+    cause: Option<InputCause>,
+) -> Result<(), AllocError>
+    ensures { OnOk result (sheet.new.items ≡ sheet.old.items ++ cause_below line.now cause) }
+{
+    match cause {
+        Some(cause) => push_caret_at(sheet, line, cause_place(cause, line)),
+        None => Ok(()),
+    }
 }
 
 /// Tells why a check is refused with what to write; where no reason is known, how it is mended.

@@ -1,5 +1,5 @@
 -- When the cases of a table are as expected.
-use Rattle.std.specs.Prelude.{◌≡◌, ◌≢◌, ℕ, List, [], ◌∷◌, ◌++◌, All, Option, Some, None, codes, string_bytes}
+use Rattle.std.specs.Prelude.{◌≡◌, ◌≢◌, ℕ, List, [], ◌∷◌, ◌++◌, All, Option, Some, None, codes}
 use Rattle.std.specs.Str.Lines.{lines}
 use Rattle.ds_cases.specs.Words.{words_of}
 use Rattle.ds_drive.specs.Done.{IsDone}
@@ -16,16 +16,16 @@ abbrev pub IsPut : Option Put → List ℕ → List ℕ → Type 0
 IsPut None file text = ⊥
 IsPut (Some put) file text = (put.name.now ≡ file) × (put.text.now ≡ text)
 
--- the line on standard error that tells of a refusal
-abbrev pub refusal_line : List ℕ → List ℕ
-refusal_line refusal = codes "dsmon: " ++ (refusal ++ codes "\n")
+-- what tells of a refusal on standard error, in one or more lines
+abbrev pub refusal_told : List ℕ → List ℕ
+refusal_told refusal = codes "dsmon: " ++ refusal
 
 -- a command is as expected
 abbrev pub Meets : Option Expected → Came → Type 0
 Meets None came = ⊥
 Meets (Some expected.Done) came = IsExpected came (codes "0") came.told.items
 Meets (Some (expected.Writes text)) came = IsExpected came (codes "0") text.items
-Meets (Some (expected.Refused refusal)) came = IsExpected came (codes "2") (refusal_line (string_bytes refusal))
+Meets (Some (expected.Refused refusal)) came = IsExpected came (codes "2") (refusal_told refusal.items)
 
 -- a case is as expected
 abbrev pub CameAs : Case → Came → Type 0

@@ -201,8 +201,10 @@ fn case_outcome(alloc: Global, case: &Case, came: &Came) -> Result<Outcome, Allo
     match &case.expected {
         None => Ok(Outcome::NoForm),
         Some(Expected::Refused(refusal)) => {
-            let line = format!(in alloc; "dsmon: {refusal}\n")?;
-            came.compared(alloc, "2", line.as_bytes())
+            let mut told = Vec::new(alloc);
+            told.extend_from_slice(b"dsmon: ")?;
+            told.extend_from_slice(refusal)?;
+            came.compared(alloc, "2", &told)
         }
         Some(Expected::Done) => came.compared(alloc, "0", came.told.as_slice()),
         Some(Expected::Writes(text)) => came.compared(alloc, "0", text.as_slice()),

@@ -34,6 +34,7 @@ pub fn stations_write<F: Files + Drop>(
         Ok(Some(Wish::List(_))) => true,
         Ok(Some(Wish::Check(_))) => true,
         Ok(Some(Wish::Bare(_))) => true,
+        Ok(Some(Wish::Trace(_))) => true,
         _ => false,
     }
 }

@@ -151,11 +151,6 @@ module _ (n : ℕ) (h new : Held) (text more : List ℕ) (b c : Before) (s : Has
 
 pub halts : (f : Fault) (h new : Held) → RefusesStep f h → IsFew new.own → new ≡ with_failure h → h.own.failed ≡ false → (f ≡ fault.Memory) × (new.own.spent ≡ 0)
 halts fault.Memory h new r few still working = (refl, ap (λ (x : Held). x.own.spent) still ∙ r.1)
-halts fault.Stuck h new r few still working =
-    let same : new.own.spent ≡ h.own.spent = ap (λ (x : Held). x.own.spent) still in
-    let most : new.own.spent ≤ 61 = few.spent in
-    let is : h.own.spent ≡ 64 = r.1 in
-    absurd (omega (arith, same, most, is))
 halts fault.Failed h new r few still working = absurd (let no : true ≡ false = sym r ∙ working in cc)
 halts f h new r few still working = absurd r
 
@@ -227,9 +222,9 @@ process_more h p count line new s pc whole within before adds is at =
     ∙ (sym (ap (λ (n : ℕ). line ++ processes_held h p n) left) ∙ before))
 
 -- a prefix of the trace
-pub cut_trace : (a d : Option (List ℕ)) (text end more behind : List ℕ) → more ≡ text ++ end → AppendsPart a d more → AppendsPart a d (text ++ end ++ behind)
-cut_trace a d text end more behind is part = part_before a d (text ++ end) behind (subst (AppendsPart a d) is part)
+pub cut_trace : (a d : Option (List ℕ)) (text end more rest : List ℕ) → more ≡ text ++ end → AppendsPart a d more → AppendsPart a d (text ++ end ++ rest)
+cut_trace a d text end more rest is part = part_before a d (text ++ end) rest (subst (AppendsPart a d) is part)
 
 -- or the trace, and a prefix of the text
-pub cut_text : (a d e : Option (List ℕ)) (text end more behind : List ℕ) → more ≡ text ++ end → Appends a d more → AppendsPart d e behind → AppendsPart a e (text ++ end ++ behind)
-cut_text a d e text end more behind is all part = part_behind a d e (text ++ end) behind (subst (Appends a d) is all) part
+pub cut_text : (a d e : Option (List ℕ)) (text end more rest : List ℕ) → more ≡ text ++ end → Appends a d more → AppendsPart d e rest → AppendsPart a e (text ++ end ++ rest)
+cut_text a d e text end more rest is all part = part_behind a d e (text ++ end) rest (subst (Appends a d) is all) part

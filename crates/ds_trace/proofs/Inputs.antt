@@ -42,7 +42,7 @@ begun_not read P r b e = let no : Ok b.0 ≡ Err r = sym b.1 ∙ e in cc
 ends_refused : (f : Fault) (read : Result State Refusal) (old new : Option (List ℕ)) (n : ℕ) (r : Refusal) → read ≡ Err r → TraceEndsBy f read old new n → Refuses f read × Keeps old new
 ends_refused fault.Memory read old new n r e (inl k) = (tt, k)
 ends_refused fault.Memory read old new n r e (inr w) = absurd (begun_not read _ r w e)
-ends_refused fault.Stuck read old new n r e w = absurd (begun_not read _ r w e)
+ends_refused fault.Stuck read old new n r e w = absurd w
 ends_refused fault.WriteFault read old new n r e w = absurd (begun_not read _ r w e)
 ends_refused fault.Failed read old new n r e w = absurd w
 ends_refused f read old new n r e w = w

@@ -91,8 +91,8 @@ told_same n m h new a d rest b s told = record {
 
 -- A half turn with its lines.
 
--- a touch before a half turn, and one behind it
-half_is : (x m t : State) (early : Bool) → m ≡ touched early x → HalfTo m t → (d : Bool) × (behind : Bool) × (t ≡ touched behind (half_turn d x))
+-- a touch before a half turn, and one after it
+half_is : (x m t : State) (early : Bool) → m ≡ touched early x → HalfTo m t → (d : Bool) × (late : Bool) × (t ≡ touched late (half_turn d x))
 half_is x m t early is half =
     let d = half_after_touch half.0 early x in
     (d.0, half.1, half.2 ∙ ap (touched half.1) (ap (half_turn half.0) is ∙ d.1))
@@ -102,18 +102,18 @@ module _ (n : ℕ) (m : State) (h new : Held) (a d : Option (List ℕ)) (rest mo
   at = after n told.choices m
 
   -- by the half turn that leads from where the run was
-  told_half : (t : State) (touch behind owed : Bool) → goes_on n at ≡ true → t ≡ touched behind (half_turn touch at) → Stands new t → owed ≡ is_some t.owed → is_user new.core.system ≡ true
+  told_half : (t : State) (touch late owed : Bool) → goes_on n at ≡ true → t ≡ touched late (half_turn touch at) → Stands new t → owed ≡ is_some t.owed → is_user new.core.system ≡ true
       → ((s : Start) → b.start ≡ Some s → general_held new s.process ≡ general_of t s.process) → more ≡ rest ++ half_held b new → c ≡ before_held owed new → IsTold n m new a d more c
   unfolding after
-  told_half t touch behind owed on is k owes user same adds looks =
+  told_half t touch late owed on is k owes user same adds looks =
       let next = after_more n touch told.choices m on in
       let line : half_held b new ≡ half_text at (half_turn touch at) =
       half_stands new t k b same
-      ∙ (ap (half_after b) is ∙ (half_touched b behind (half_turn touch at) ∙ ap (λ (x : Before). half_after x (half_turn touch at)) told.looked)) in record {
+      ∙ (ap (half_after b) is ∙ (half_touched b late (half_turn touch at) ∙ ap (λ (x : Before). half_after x (half_turn touch at)) told.looked)) in record {
         choices = touch ∷ told.choices;
-        early = behind;
-        stands = subst (Stands new) (is ∙ ap (touched behind) (sym next)) k;
-        looked = looks ∙ (before_stands new t k owed owes user ∙ (ap before_of is ∙ (before_touched behind (half_turn touch at) ∙ ap before_of (sym next))));
+        early = late;
+        stands = subst (Stands new) (is ∙ ap (touched late) (sym next)) k;
+        looked = looks ∙ (before_stands new t k owed owes user ∙ (ap before_of is ∙ (before_touched late (half_turn touch at) ∙ ap before_of (sym next))));
         sent = told.sent;
         appends = told.appends;
         told = ap (λ (l : List ℕ). told.sent ++ l) (adds ∙ ap (λ (l : List ℕ). rest ++ l) line)
@@ -248,7 +248,7 @@ idle_text x owed none =
     ∙ (ap (λ (l : List ℕ). l ++ switch_text (x.time + 1) (first x.ready) (first x.ready)) (drop-length (log_of x))
     ∙ ap (λ (queue : List ℕ). [] ++ switch_text (x.time + 1) (first queue) (first queue)) none)
 
--- and its boundary tells what is behind both
+-- and its boundary tells what is after both
 idle_boundary : (x v : State) → x.owed ≡ None → x.ready ≡ [] → half_after (before_of x) v ≡ half_text (idle_after x) v
 idle_boundary x v owed none = ap (λ (s : Option Start). told_text s (drop (length (log_of x)) (log_of v)) (general_of v) ++ switch_text v.time (first x.ready) (first v.ready)) (idle_start x owed none)
 
@@ -257,17 +257,17 @@ module _ (n : ℕ) (m : State) (h new : Held) (a d : Option (List ℕ)) (rest mo
   from = after n told.choices m
 
   -- both half turns, by their touches
-  told_idle : (t : State) (first_touch touch behind : Bool) → from.owed ≡ None → from.ready ≡ [] → t ≡ touched behind (half_turn touch (half_turn first_touch from)) → Stands new t → t.owed ≡ None → is_user new.core.system ≡ true
+  told_idle : (t : State) (first_touch touch late : Bool) → from.owed ≡ None → from.ready ≡ [] → t ≡ touched late (half_turn touch (half_turn first_touch from)) → Stands new t → t.owed ≡ None → is_user new.core.system ≡ true
       → more ≡ rest ++ half_held b new → c ≡ before_held false new → IsTold n m new a d more c
-  told_idle t first_touch touch behind owed none is k unowed user adds looks =
+  told_idle t first_touch touch late owed none is k unowed user adds looks =
       let between : after n (first_touch ∷ told.choices) m ≡ idle_after from = after_more n first_touch told.choices m on ∙ idle_turn from first_touch owed none in
       let goes : goes_on n (after n (first_touch ∷ told.choices) m) ≡ true = ap (goes_on n) between in
       let last : State = half_turn touch (idle_after from) in
       let next : after n (touch ∷ first_touch ∷ told.choices) m ≡ last = after_more n touch (first_touch ∷ told.choices) m goes ∙ ap (half_turn touch) between in
-      let came : t ≡ touched behind last = is ∙ ap (λ (x : State). touched behind (half_turn touch x)) (idle_turn from first_touch owed none) in
+      let came : t ≡ touched late last = is ∙ ap (λ (x : State). touched late (half_turn touch x)) (idle_turn from first_touch owed none) in
       let line : half_held b new ≡ half_text (idle_after from) last =
       half_stands new t k b (λ s starts. absurd (let no : None ≡ Some s = sym (idle_start from owed none) ∙ (sym (ap (λ (x : Before). x.start) told.looked) ∙ starts) in cc))
-      ∙ (ap (half_after b) came ∙ (half_touched b behind last ∙ (ap (λ (x : Before). half_after x last) told.looked ∙ idle_boundary from last owed none))) in
+      ∙ (ap (half_after b) came ∙ (half_touched b late last ∙ (ap (λ (x : Before). half_after x last) told.looked ∙ idle_boundary from last owed none))) in
       let first_line : trace_along n (first_touch ∷ told.choices) m ≡ trace_along n told.choices m =
       along_more n first_touch told.choices m on
       ∙ (ap (λ (x : State). trace_along n told.choices m ++ half_text from x) (idle_turn from first_touch owed none)
@@ -277,9 +277,9 @@ module _ (n : ℕ) (m : State) (h new : Held) (a d : Option (List ℕ)) (rest mo
       ∙ (ap (λ (x : State). trace_along n (first_touch ∷ told.choices) m ++ half_text x (half_turn touch x)) between
       ∙ ap (λ (l : List ℕ). l ++ half_text (idle_after from) last) first_line) in record {
         choices = touch ∷ first_touch ∷ told.choices;
-        early = behind;
-        stands = subst (Stands new) (came ∙ ap (touched behind) (sym next)) k;
-        looked = looks ∙ (before_stands new t k false (sym (owes_none t.owed unowed)) user ∙ (ap before_of came ∙ (before_touched behind last ∙ ap before_of (sym next))));
+        early = late;
+        stands = subst (Stands new) (came ∙ ap (touched late) (sym next)) k;
+        looked = looks ∙ (before_stands new t k false (sym (owes_none t.owed unowed)) user ∙ (ap before_of came ∙ (before_touched late last ∙ ap before_of (sym next))));
         sent = told.sent;
         appends = told.appends;
         told = ap (λ (l : List ℕ). told.sent ++ l) (adds ∙ ap (λ (l : List ℕ). rest ++ l) line)

@@ -43,12 +43,12 @@ front_text time p pc w = decimal time ++ codes " " ++ decimal p ++ codes " " ++ 
 abbrev pub result_text : Bool → List ℕ → ℕ → List ℕ
 result_text done general w = if done then register_text general (register_of w) else []
 
--- the line of the instruction at an address, behind so many blanks, where it was fetched
+-- the line of the instruction at an address, after so many blanks, where it was fetched
 abbrev pub instruction_line : List ℕ → ℕ → ℕ → ℕ → Option ℕ → Bool → List ℕ → List ℕ
 instruction_line blanks time p pc None done general = []
 instruction_line blanks time p pc (Some w) done general = blanks ++ front_text time p pc w ++ result_text done general w ++ codes "\n"
 
--- the line of a unit, and behind a branch that of its slot
+-- the line of a unit, and after that of a branch the line of its slot
 abbrev pub unit_text : Start → Bool → List ℕ → List ℕ
 unit_text s done general =
     instruction_line [] s.time s.process s.address s.word done general

@@ -42,7 +42,7 @@ pub record WritesTracePart (old new : Option (List ℕ)) (n : ℕ) (first : Stat
 -- when each fault comes, and what is written then: nothing where it refuses the inputs
 abbrev pub TraceEndsBy : Fault → Result State Refusal → Option (List ℕ) → Option (List ℕ) → ℕ → Type 0
 TraceEndsBy fault.Memory read old new n = Keeps old new ⊎ Begins read (WritesTracePart old new n)
-TraceEndsBy fault.Stuck read old new n = Begins read (WritesTracePart old new n)
+TraceEndsBy fault.Stuck read old new n = ⊥
 TraceEndsBy fault.WriteFault read old new n = Begins read (WritesTracePart old new n)
 TraceEndsBy fault.Failed read old new n = ⊥
 TraceEndsBy f read old new n = Refuses f read × Keeps old new

@@ -12,6 +12,3 @@ mod trace;
 
 pub use files::{trace_files, trace_policy};
 pub use laws::{a_boundary_leaves_registers, a_touch_changes_no_line};
-
-#[cfg(test)]
-mod tests;

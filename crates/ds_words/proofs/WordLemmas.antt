@@ -23,7 +23,8 @@ taken words (inl demo) = demo.taken
 taken words (inr (inl run)) = run.1.taken
 taken words (inr (inr (inl list))) = list.1.taken
 taken words (inr (inr (inr (inl check)))) = check.1.taken
-taken words (inr (inr (inr (inr bare)))) = bare.1.taken
+taken words (inr (inr (inr (inr (inl bare))))) = bare.1.taken
+taken words (inr (inr (inr (inr (inr trace))))) = trace.1.taken
 
 -- where the words ask for something, clap fails for memory alone
 pub only_memory_fails : (words : List Text) (e : Error) → AsksForSomething words
@@ -59,7 +60,8 @@ asks_run words rows named none (inl demo) = let e : 114 ≡ 100 = ap first_lette
 asks_run words rows named none (inr (inl run)) = none run.0 (subst (λ (x : List Row). NamesRun x run.0) (sym (ap rows_in (sym named ∙ run.1.named))) run.1.names)
 asks_run words rows named none (inr (inr (inl list))) = let e : 114 ≡ 108 = ap first_letter (sym named ∙ list.1.named) in omega (arith, e)
 asks_run words rows named none (inr (inr (inr (inl check)))) = let e : 114 ≡ 99 = ap first_letter (sym named ∙ check.1.named) in omega (arith, e)
-asks_run words rows named none (inr (inr (inr (inr bare)))) = let e : 114 ≡ 98 = ap first_letter (sym named ∙ bare.1.named) in omega (arith, e)
+asks_run words rows named none (inr (inr (inr (inr (inl bare))))) = let e : 114 ≡ 98 = ap first_letter (sym named ∙ bare.1.named) in omega (arith, e)
+asks_run words rows named none (inr (inr (inr (inr (inr trace))))) = let e : 114 ≡ 116 = ap first_letter (sym named ∙ trace.1.named) in omega (arith, e)
 
 pub asks_list : (words : List Text) (rows : List Row) → subcommand_of dsmon_app words ≡ Some (codes "list", rows)
     → ((request : ListRequest) → NamesList rows request → ⊥) → AsksForSomething words → ⊥
@@ -67,7 +69,8 @@ asks_list words rows named none (inl demo) = let e : 108 ≡ 100 = ap first_lett
 asks_list words rows named none (inr (inl run)) = let e : 108 ≡ 114 = ap first_letter (sym named ∙ run.1.named) in omega (arith, e)
 asks_list words rows named none (inr (inr (inl list))) = none list.0 (subst (λ (x : List Row). NamesList x list.0) (sym (ap rows_in (sym named ∙ list.1.named))) list.1.names)
 asks_list words rows named none (inr (inr (inr (inl check)))) = let e : 108 ≡ 99 = ap first_letter (sym named ∙ check.1.named) in omega (arith, e)
-asks_list words rows named none (inr (inr (inr (inr bare)))) = let e : 108 ≡ 98 = ap first_letter (sym named ∙ bare.1.named) in omega (arith, e)
+asks_list words rows named none (inr (inr (inr (inr (inl bare))))) = let e : 108 ≡ 98 = ap first_letter (sym named ∙ bare.1.named) in omega (arith, e)
+asks_list words rows named none (inr (inr (inr (inr (inr trace))))) = let e : 108 ≡ 116 = ap first_letter (sym named ∙ trace.1.named) in omega (arith, e)
 
 pub asks_check : (words : List Text) (rows : List Row) → subcommand_of dsmon_app words ≡ Some (codes "check", rows)
     → ((request : CheckRequest) → NamesCheck rows request → ⊥) → AsksForSomething words → ⊥
@@ -75,7 +78,8 @@ asks_check words rows named none (inl demo) = let e : 99 ≡ 100 = ap first_lett
 asks_check words rows named none (inr (inl run)) = let e : 99 ≡ 114 = ap first_letter (sym named ∙ run.1.named) in omega (arith, e)
 asks_check words rows named none (inr (inr (inl list))) = let e : 99 ≡ 108 = ap first_letter (sym named ∙ list.1.named) in omega (arith, e)
 asks_check words rows named none (inr (inr (inr (inl check)))) = none check.0 (subst (λ (x : List Row). NamesCheck x check.0) (sym (ap rows_in (sym named ∙ check.1.named))) check.1.names)
-asks_check words rows named none (inr (inr (inr (inr bare)))) = let e : 99 ≡ 98 = ap first_letter (sym named ∙ bare.1.named) in omega (arith, e)
+asks_check words rows named none (inr (inr (inr (inr (inl bare))))) = let e : 99 ≡ 98 = ap first_letter (sym named ∙ bare.1.named) in omega (arith, e)
+asks_check words rows named none (inr (inr (inr (inr (inr trace))))) = let e : 99 ≡ 116 = ap first_letter (sym named ∙ trace.1.named) in omega (arith, e)
 
 pub asks_bare : (words : List Text) (rows : List Row) → subcommand_of dsmon_app words ≡ Some (codes "bare", rows)
     → ((request : BareRequest) → NamesBare rows request → ⊥) → AsksForSomething words → ⊥
@@ -83,14 +87,25 @@ asks_bare words rows named none (inl demo) = let e : 98 ≡ 100 = ap first_lette
 asks_bare words rows named none (inr (inl run)) = let e : 98 ≡ 114 = ap first_letter (sym named ∙ run.1.named) in omega (arith, e)
 asks_bare words rows named none (inr (inr (inl list))) = let e : 98 ≡ 108 = ap first_letter (sym named ∙ list.1.named) in omega (arith, e)
 asks_bare words rows named none (inr (inr (inr (inl check)))) = let e : 98 ≡ 99 = ap first_letter (sym named ∙ check.1.named) in omega (arith, e)
-asks_bare words rows named none (inr (inr (inr (inr bare)))) = none bare.0 (subst (λ (x : List Row). NamesBare x bare.0) (sym (ap rows_in (sym named ∙ bare.1.named))) bare.1.names)
+asks_bare words rows named none (inr (inr (inr (inr (inl bare))))) = none bare.0 (subst (λ (x : List Row). NamesBare x bare.0) (sym (ap rows_in (sym named ∙ bare.1.named))) bare.1.names)
+asks_bare words rows named none (inr (inr (inr (inr (inr trace))))) = let e : 98 ≡ 116 = ap first_letter (sym named ∙ trace.1.named) in omega (arith, e)
 
--- words that name no command of the five ask for nothing
+pub asks_trace : (words : List Text) (rows : List Row) → subcommand_of dsmon_app words ≡ Some (codes "trace", rows)
+    → ((request : Request) → NamesRun rows request → ⊥) → AsksForSomething words → ⊥
+asks_trace words rows named none (inl demo) = let e : 116 ≡ 100 = ap first_letter_of (sym (ap name_in named) ∙ demo.named) in omega (arith, e)
+asks_trace words rows named none (inr (inl run)) = let e : 116 ≡ 114 = ap first_letter (sym named ∙ run.1.named) in omega (arith, e)
+asks_trace words rows named none (inr (inr (inl list))) = let e : 116 ≡ 108 = ap first_letter (sym named ∙ list.1.named) in omega (arith, e)
+asks_trace words rows named none (inr (inr (inr (inl check)))) = let e : 116 ≡ 99 = ap first_letter (sym named ∙ check.1.named) in omega (arith, e)
+asks_trace words rows named none (inr (inr (inr (inr (inl bare))))) = let e : 116 ≡ 98 = ap first_letter (sym named ∙ bare.1.named) in omega (arith, e)
+asks_trace words rows named none (inr (inr (inr (inr (inr trace))))) = none trace.0 (subst (λ (x : List Row). NamesRun x trace.0) (sym (ap rows_in (sym named ∙ trace.1.named))) trace.1.names)
+
+-- words that name no command of the six ask for nothing
 pub asks_nothing : (words : List Text) (named : Option Text) → command_named words ≡ named
-    → (named ≡ Some (codes "demo") → ⊥) → (named ≡ Some (codes "run") → ⊥) → (named ≡ Some (codes "check") → ⊥) → (named ≡ Some (codes "list") → ⊥) → (named ≡ Some (codes "bare") → ⊥)
+    → (named ≡ Some (codes "demo") → ⊥) → (named ≡ Some (codes "run") → ⊥) → (named ≡ Some (codes "check") → ⊥) → (named ≡ Some (codes "list") → ⊥) → (named ≡ Some (codes "bare") → ⊥) → (named ≡ Some (codes "trace") → ⊥)
     → AsksForSomething words → ⊥
-asks_nothing words named is demo run check list bare (inl asked) = demo (sym is ∙ asked.named)
-asks_nothing words named is demo run check list bare (inr (inl asked)) = run (sym is ∙ ap name_in asked.1.named)
-asks_nothing words named is demo run check list bare (inr (inr (inl asked))) = list (sym is ∙ ap name_in asked.1.named)
-asks_nothing words named is demo run check list bare (inr (inr (inr (inl asked)))) = check (sym is ∙ ap name_in asked.1.named)
-asks_nothing words named is demo run check list bare (inr (inr (inr (inr asked)))) = bare (sym is ∙ ap name_in asked.1.named)
+asks_nothing words named is demo run check list bare trace (inl asked) = demo (sym is ∙ asked.named)
+asks_nothing words named is demo run check list bare trace (inr (inl asked)) = run (sym is ∙ ap name_in asked.1.named)
+asks_nothing words named is demo run check list bare trace (inr (inr (inl asked))) = list (sym is ∙ ap name_in asked.1.named)
+asks_nothing words named is demo run check list bare trace (inr (inr (inr (inl asked)))) = check (sym is ∙ ap name_in asked.1.named)
+asks_nothing words named is demo run check list bare trace (inr (inr (inr (inr (inl asked))))) = bare (sym is ∙ ap name_in asked.1.named)
+asks_nothing words named is demo run check list bare trace (inr (inr (inr (inr (inr asked))))) = trace (sym is ∙ ap name_in asked.1.named)

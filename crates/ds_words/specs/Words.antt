@@ -25,10 +25,21 @@ random_rule = record (new_rule (codes "R")) {
   defaults = codes "63" ∷ [];
 }
 
+-- with `POLICY INPUT`
+abbrev pub of_files : App → App
+of_files app = with_rule (with_rule app (required_rule (codes "POLICY"))) (required_rule (codes "INPUT"))
+
+-- with `POLICY INPUT N [--random R]`
+abbrev pub of_run : App → App
+of_run app = with_rule (with_rule (of_files app) time_rule) random_rule
+
 -- `run POLICY INPUT N [--random R]`
 abbrev pub run_app : App
-run_app = with_rule (with_rule (with_rule (with_rule (new_app (codes "run"))
-    (required_rule (codes "POLICY"))) (required_rule (codes "INPUT"))) time_rule) random_rule
+run_app = of_run (new_app (codes "run"))
+
+-- `trace POLICY INPUT N [--random R]`
+abbrev pub trace_app : App
+trace_app = of_run (new_app (codes "trace"))
 
 -- `--words`
 abbrev pub words_rule : Rule
@@ -44,7 +55,7 @@ bare_app = record { top = record (new_app (codes "dsmon")).top { has_version = t
 
 -- the command line with the commands that read files
 abbrev pub files_app : App
-files_app = with_subcommand (with_subcommand bare_app run_app.top) list_app.top
+files_app = with_subcommand (with_subcommand (with_subcommand bare_app run_app.top) trace_app.top) list_app.top
 
 -- `--notes-as-faults`
 abbrev pub notes_rule : Rule
@@ -85,7 +96,7 @@ abbrev pub IsNumber : ℕ → Option Text → ℕ → Type 0
 IsNumber bits None n = ⊥
 IsNumber bits (Some text) n = IsNumeral 10 (without_leading_plus text) × (digits_value 10 (without_leading_plus text) ≡ n) × (n < 2 ^ bits)
 
--- what stands after `run` names the files and the numbers
+-- what stands after `run` or `trace` names the files and the numbers
 pub record NamesRun (rows : List Row) (request : Request) : Type 0 where
   pub policy : first_of (codes "POLICY") rows ≡ Some request.policy.now
   pub input : first_of (codes "INPUT") rows ≡ Some request.input.now
@@ -97,6 +108,13 @@ pub record AsksForRun (words : List Text) (request : Request) : Type 0 where
   pub taken : fault_of dsmon_app words ≡ []
   pub rows : List Row
   pub named : subcommand_of dsmon_app words ≡ Some (codes "run", rows)
+  pub names : NamesRun rows request
+
+-- clap takes the words, and they ask for the trace of a run of these files and numbers
+pub record AsksForTrace (words : List Text) (request : Request) : Type 0 where
+  pub taken : fault_of dsmon_app words ≡ []
+  pub rows : List Row
+  pub named : subcommand_of dsmon_app words ≡ Some (codes "trace", rows)
   pub names : NamesRun rows request
 
 -- what stands after `list` names the file, and says whether it holds words
@@ -144,11 +162,12 @@ pub record AsksForBare (words : List Text) (request : BareRequest) : Type 0 wher
   pub named : subcommand_of dsmon_app words ≡ Some (codes "bare", rows)
   pub names : NamesBare rows request
 
--- the words ask for the demonstration, for a run of files, for a listing, for a check or for a run
--- on the bare machine
+-- the words ask for the demonstration, for a run of files, for a listing, for a check, for a run
+-- on the bare machine or for the trace of a run of files
 abbrev pub AsksForSomething : List Text → Type 0
 AsksForSomething words =
     AsksForDemo words ⊎ (((request : Request) × AsksForRun words request)
     ⊎ (((request : ListRequest) × AsksForList words request)
     ⊎ (((request : CheckRequest) × AsksForCheck words request)
-    ⊎ ((request : BareRequest) × AsksForBare words request))))
+    ⊎ (((request : BareRequest) × AsksForBare words request)
+    ⊎ ((request : Request) × AsksForTrace words request)))))

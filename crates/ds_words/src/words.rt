@@ -2,7 +2,7 @@
 ghost use Rattle.std.specs.Prelude.{◌≡◌, ◌↔◌, IfOk, IfSome, None, Some, codes, false, map, string_bytes};
 ghost use Rattle.clap.specs.Words.{FailsBy, app_of, fault_of, found_of, new_app, new_rule, rows_of, rule_of, subcommand_name_of, subcommand_of, subcommand_rows_of, with_rule, with_subcommand};
 ghost use Rattle.clap.specs.declared.builder.command.Command.TheViews.{out-Command as fields_of};
-ghost use Rattle.ds_words.specs.Words.{AsksForBare, AsksForCheck, AsksForList, AsksForRun, AsksForSomething, NamesBare, NamesCheck, NamesList, NamesRun, bare_app, check_app, command_named, dsmon_app, files_app, keys_rule, list_app, machine_app, notes_rule, quiet_rule, random_rule, required_rule, run_app, time_rule, words_rule};
+ghost use Rattle.ds_words.specs.Words.{AsksForBare, AsksForCheck, AsksForList, AsksForRun, AsksForSomething, AsksForTrace, NamesBare, NamesCheck, NamesList, NamesRun, bare_app, check_app, command_named, dsmon_app, files_app, keys_rule, list_app, machine_app, notes_rule, of_files, of_run, quiet_rule, random_rule, required_rule, run_app, time_rule, trace_app, words_rule};
 
 use clap::builder::ValueParser;
 use clap::{Arg, ArgAction, ArgMatches, Command, Error};
@@ -10,7 +10,7 @@ use std::alloc::{AllocError, Global};
 use std::rt::Env;
 use std::{env, io};
 
-/// A run of files that the words ask for.
+/// A run of files that the words ask for, or ask for the trace of.
 #[derive(Clone, Copy, Debug, PartialEq, Eq)]
 pub struct Request<'a> {
     /// The name of the policy's file.
@@ -71,6 +71,8 @@ pub enum Wish<'a> {
     Check(CheckRequest<'a>),
     /// A run of a source on the bare machine.
     Bare(BareRequest<'a>),
+    /// The trace of a run of files.
+    Trace(Request<'a>),
 }
 
 /// The words that the program was started with, its own name first.
@@ -83,6 +85,7 @@ const HELP: &str = "Examples:
   dsmon list guest.s
   dsmon check policy.toml input.txt
   dsmon run policy.toml input.txt 1000
+  dsmon trace policy.toml input.txt 1000
   dsmon bare handler.s 300
 
 The status is 0 where all was done, 1 where the words are wrong or ask for help,
@@ -98,6 +101,22 @@ an input in which nothing happens.
 
 Example:
   dsmon run policy.toml input.txt 1000 --random 40";
+
+/// What stands at the end of the help of `trace`.
+const TRACE_HELP: &str =
+    "The files are read as a run reads them. What happened is written unit by unit, with the register that
+each instruction left, what was logged, and which process runs from when on; then how each process
+stands; and then what the run writes.
+
+Example:
+  dsmon trace policy.toml input.txt 1000
+    0 1 00400000 addiu $4,$0,65  $4=00000041
+    1 1 00400004 addiu $2,$0,1  $2=00000001
+    2 1 00400008 syscall  $2=00000000
+    ..
+    process 1 ended 00400014
+    console 0 1
+    ..";
 
 /// What stands at the end of the help of `check`.
 const CHECK_HELP: &str =
@@ -202,12 +221,21 @@ fn run_described<'a>(alloc: Global) -> Command<'a>
         .after_help(RUN_HELP)
 }
 
-fn run_of_files<'a>(alloc: Global) -> Result<Command<'a>, AllocError>
-    ensures app { IfOk result (λ c. app_of c ≡ with_rule (with_rule (new_app (codes "run"))
-        (required_rule (codes "POLICY"))) (required_rule (codes "INPUT"))) }
+fn trace_described<'a>(alloc: Global) -> Command<'a>
+    ensures app { app_of result ≡ new_app (codes "trace") }
+    ensures local { (fields_of result).has_globals ≡ false }
+{
+    Command::new(alloc, "trace")
+        .about("Tells what happens in a run, unit by unit, and then what the run writes")
+        .after_help(TRACE_HELP)
+}
+
+fn with_files<'a>(alloc: Global, described: Command<'a>) -> Result<Command<'a>, AllocError>
+    requires { (fields_of described).has_globals ≡ false }
+    ensures app { IfOk result (λ c. app_of c ≡ of_files (app_of described.entry)) }
     ensures local { IfOk result (λ c. (fields_of c).has_globals ≡ false) }
 {
-    run_described(alloc)
+    described
         .arg(file_argument(alloc, "POLICY", "The file of the policy, in TOML"))?
         .arg(file_argument(
             alloc,
@@ -216,13 +244,28 @@ fn run_of_files<'a>(alloc: Global) -> Result<Command<'a>, AllocError>
         ))
 }
 
+fn with_numbers<'a>(alloc: Global, described: Command<'a>) -> Result<Command<'a>, AllocError>
+    requires { (fields_of described).has_globals ≡ false }
+    ensures app { IfOk result (λ c. app_of c ≡ of_run (app_of described.entry)) }
+    ensures local { IfOk result (λ c. (fields_of c).has_globals ≡ false) }
+{
+    with_files(alloc, described)?
+        .arg(time_argument(alloc))?
+        .arg(random_argument(alloc))
+}
+
 fn run_command<'a>(alloc: Global) -> Result<Command<'a>, AllocError>
     ensures app { IfOk result (λ c. app_of c ≡ run_app) }
     ensures local { IfOk result (λ c. (fields_of c).has_globals ≡ false) }
 {
-    run_of_files(alloc)?
-        .arg(time_argument(alloc))?
-        .arg(random_argument(alloc))
+    with_numbers(alloc, run_described(alloc))
+}
+
+fn trace_command<'a>(alloc: Global) -> Result<Command<'a>, AllocError>
+    ensures app { IfOk result (λ c. app_of c ≡ trace_app) }
+    ensures local { IfOk result (λ c. (fields_of c).has_globals ≡ false) }
+{
+    with_numbers(alloc, trace_described(alloc))
 }
 
 fn input_argument<'a>(alloc: Global) -> Arg<'a>
@@ -343,11 +386,19 @@ fn with_run<'a>(alloc: Global) -> Result<Command<'a>, AllocError>
     bare_command(alloc).subcommand(run)
 }
 
+fn with_trace<'a>(alloc: Global) -> Result<Command<'a>, AllocError>
+    ensures { IfOk result (λ c. app_of c ≡ with_subcommand
+        (with_subcommand bare_app run_app.top) trace_app.top) }
+{
+    let trace = trace_command(alloc)?;
+    with_run(alloc)?.subcommand(trace)
+}
+
 fn files_command<'a>(alloc: Global) -> Result<Command<'a>, AllocError>
     ensures { IfOk result (λ c. app_of c ≡ files_app) }
 {
     let list = list_command(alloc)?;
-    with_run(alloc)?.subcommand(list)
+    with_trace(alloc)?.subcommand(list)
 }
 
 fn with_check<'a>(alloc: Global) -> Result<Command<'a>, AllocError>
@@ -389,7 +440,7 @@ fn read_words<'a>(alloc: Global, words: &'a [String]) -> Result<ArgMatches<'a>, 
     command(alloc)?.try_get_matches_from(words)
 }
 
-/// What the words after `run` ask for.
+/// What the words after `run` or `trace` ask for.
 fn request_of<'a>(found: &ArgMatches<'a>) -> Option<Request<'a>>
     ensures some { IfSome result (λ request. NamesRun (rows_of (found_of found.now)) request) }
     ensures none { result ≡ None → (request : Request) → ¬ NamesRun (rows_of (found_of found.now)) request }
@@ -457,6 +508,8 @@ pub fn wish_of<'a>(alloc: Global, words: &'a [String]) -> Result<Option<Wish<'a>
     ensures bare { IfOk result (λ wish. (request : BareRequest)
         → wish ≡ Some (Wish.Bare request)
         → AsksForBare (map string_bytes words.entry.now) request) }
+    ensures trace { IfOk result (λ wish. (request : Request) → wish ≡ Some (Wish.Trace request)
+        → AsksForTrace (map string_bytes words.entry.now) request) }
     ensures none { IfOk result (λ wish. wish ≡ None
         → ¬ AsksForSomething (map string_bytes words.entry.now)) }
 {
@@ -464,6 +517,7 @@ pub fn wish_of<'a>(alloc: Global, words: &'a [String]) -> Result<Option<Wish<'a>
     match matches.subcommand() {
         Some(("demo", _)) => Ok(Some(Wish::Demo)),
         Some(("run", found)) => Ok(request_of(found).map(Wish::Run)),
+        Some(("trace", found)) => Ok(request_of(found).map(Wish::Trace)),
         Some(("check", found)) => Ok(check_request_of(found).map(Wish::Check)),
         Some(("list", found)) => Ok(list_request_of(found).map(Wish::List)),
         Some(("bare", found)) => Ok(bare_request_of(found).map(Wish::Bare)),

@@ -2,7 +2,7 @@ use Rattle.std.proofs.Common.{◌∙◌, map, ap, refl, subst, sym, rules, ℕ, 
 use Rattle.ds_policy_reasons.specs.Policies.{policy_reason}
 use Rattle.ds_station.specs.Headline.{sources_seen}
 use Rattle.ds_drive.specs.declared.run.SourceText.{SourceText}
-use Rattle.ds_drive.specs.AtFault.{IsPlaceAt, IsReasonAt, texts_seen}
+use Rattle.ds_drive.specs.AtFault.{IsPlaceAt, IsReasonAt, place_told, texts_seen}
 use Rattle.ds_station.specs.declared.fault.Fault.{Fault}
 use Rattle.ds_drive.specs.declared.failure.Failure.TheVariants as failure
 use Rattle.ds_drive.proofs.HeldFiles.{all_held, names_held, input_kept, begins_over}
@@ -32,15 +32,14 @@ returns-in-Err-clause-refused g c =
     let holds = g.F.Files.holds c.args.files.now in
     let lacks = g.F.Files.lacks c.args.files.now in
     let told = c.of_policy.result in
+    let known = c.in_ok-reason-in-Err.ensures ∙ ap policy_reason c.deref-in-Err.ensures.value in
     refuses_policy holds lacks c.in-Err.fault told c.args.request.now c.in_ok-text.text.items c.in_ok-input.input.items c.in_ok-text.ensures.found
     (input_kept holds (g.F.Files.holds c.named_file.new.files) c.args.request.now.input c.in_ok-input.input.items c.in_ok-text.ensures.kept c.in_ok-input.ensures.found)
     (search rules)
     (c.of_policy.ensures.failure ∙ ap failure.Fault c.from.ensures)
-    (subst (λ (f : Fault). IsPlaceAt f c.in_ok-text.text.items told.line told.column) c.from.ensures
-    (subst (λ (t : List ℕ). IsPlaceAt c.from.result t told.line told.column) c.deref-in-Err-2.ensures.value c.of_policy.ensures.place))
-    (subst (λ (f : Fault). IsReasonAt f c.in_ok-text.text.items told.reason) c.from.ensures
-    (subst (λ (t : List ℕ). IsReasonAt c.from.result t told.reason) c.deref-in-Err-2.ensures.value
-    (c.of_policy.ensures.reason (c.in_ok-reason-in-Err.ensures ∙ ap policy_reason (c.deref-in-Err.ensures.value ∙ sym c.deref-in-Err-2.ensures.value)))))
+    c.of_policy.ensures.policy
+    (subst (λ (f : Fault). IsPlaceAt f c.in_ok-text.text.items (place_told told.policy)) c.from.ensures (c.of_policy.ensures.place known))
+    (subst (λ (f : Fault). IsReasonAt f c.in_ok-text.text.items told.reason) c.from.ensures (c.of_policy.ensures.reason known))
     c.of_policy.ensures.others.0 c.of_policy.ensures.others.1
 
 pub returns-in-Err-run_policy-clause-refused : goal.returns-in-Err-run_policy-clause-refused
@@ -55,4 +54,4 @@ returns-in-Err-run_policy-clause-refused g c =
     c.in_ok-texts.ensures.found
     (c.in_ok-texts.ensures.names ∙ c.sources.ensures.all)
     (search rules) lent (ap sources_seen c.as_slice-2.ensures.value) c.as_slice-3.ensures.value c.in-Err-run_policy.ensures.err
-    c.of_texts.ensures.failure c.of_texts.ensures.source c.of_texts.ensures.input c.of_texts.ensures.cause (search rules) c.of_texts.ensures.others.0 c.of_texts.ensures.others.1 c.of_texts.ensures.others.2
+    c.of_texts.ensures.failure c.of_texts.ensures.source c.of_texts.ensures.input c.of_texts.ensures.cause (search rules) c.of_texts.ensures.others.0 c.of_texts.ensures.others.1

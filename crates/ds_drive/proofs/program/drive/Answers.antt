@@ -5,9 +5,10 @@ use Rattle.ds_drive.specs.Checked.{Checks}
 use Rattle.ds_drive.specs.Listed.{Lists}
 use Rattle.ds_drive.specs.BareRuns.{RunsOrIsFaulty}
 use Rattle.ds_drive.proofs.BareLemmas.{bare_cut, bare_faulty}
-use Rattle.ds_drive.proofs.Cuts.{demo_cut, list_cut, run_cut}
+use Rattle.ds_drive.proofs.Cuts.{check_cut, demo_cut, list_cut, run_cut}
 use Rattle.ds_drive.proofs.Noting.{check_noted}
 use Rattle.ds_drive.proofs.Stops.{list_faulty}
+use Rattle.ds_drive.proofs.TraceLemmas.{trace_cut}
 use Rattle.ds_words.proofs.WordLemmas.{alone, fails_for_memory, only_memory_fails}
 use Rattle.ds_drive.proofs.program.drive.Goals as goal
 
@@ -23,9 +24,17 @@ pub returns-in-Err-list_file-clause-cut : goal.returns-in-Err-list_file-clause-c
 returns-in-Err-list_file-clause-cut g c three =
     list_cut _ (g.F.Files.holds c.args.files.now) (g.F.Files.lacks c.args.files.now) _ c.in-Err-list_file.unlisted (g.W.Write.contents c.args.out.now) (g.W.Write.contents c.list_file.new.out) (search rules) c.in-Err-list_file.ensures.err
 
+pub returns-in-Err-check_files-clause-cut : goal.returns-in-Err-check_files-clause-cut
+returns-in-Err-check_files-clause-cut g c three =
+    check_cut _ (g.F.Files.holds c.args.files.now) (g.F.Files.lacks c.args.files.now) _ c.in-Err-check_files.refused (g.W.Write.contents c.args.out.now) (g.W.Write.contents c.check_files.new.out) (search rules) c.in-Err-check_files.ensures.err
+
 pub returns-in-Err-bare_file-clause-cut : goal.returns-in-Err-bare_file-clause-cut
 returns-in-Err-bare_file-clause-cut g c three =
     bare_cut _ (g.F.Files.holds c.args.files.now) (g.F.Files.lacks c.args.files.now) _ c.in-Err-bare_file.failure (g.W.Write.contents c.args.out.now) (g.W.Write.contents c.bare_file.new.out) (search rules) c.in-Err-bare_file.ensures.err
+
+pub returns-in-Err-trace_request-clause-cut : goal.returns-in-Err-trace_request-clause-cut
+returns-in-Err-trace_request-clause-cut g c three =
+    trace_cut _ (g.F.Files.holds c.args.files.now) (g.F.Files.lacks c.args.files.now) _ c.in-Err-trace_request.failure (g.W.Write.contents c.args.out.now) (g.W.Write.contents c.trace_request.new.out) (search rules) c.in-Err-trace_request.ensures.err
 
 pub returns-in-Err-2-clause-alone : goal.returns-in-Err-2-clause-alone
 returns-in-Err-2-clause-alone g c program same =

@@ -1,0 +1,67 @@
+-- Why there is no trace of a run of files, and what it leaves.
+use Rattle.std.proofs.Common.{◌≡◌, ◌⊎◌, inl, inr, ℕ, List, refl}
+use Rattle.std.specs.Prelude.{Option, Result}
+use Rattle.std.specs.Io.KnownBytes.{Keeps}
+use Rattle.clap.specs.Words.{Text}
+use Rattle.ds_log.specs.Sent.{AppendsPart}
+use Rattle.ds_pagemap.specs.Machine.{State}
+use Rattle.ds_pagemap.specs.Inputs.{Refusal}
+use Rattle.ds_station.specs.Headline.{Begins, Refuses}
+use Rattle.ds_station.specs.declared.fault.Fault.{Fault}
+use Rattle.ds_station.specs.declared.fault.Fault.TheVariants as fault
+use Rattle.ds_station.proofs.Headlines.{keeps_same}
+use Rattle.ds_trace.specs.Traces.{TraceEndsBy, WritesTracePart}
+use Rattle.ds_trace.proofs.Inputs.{refused_untold}
+use Rattle.ds_words.specs.declared.words.Request.{Request}
+use Rattle.ds_words.specs.Words.{AsksForTrace}
+use Rattle.ds_drive.specs.declared.failure.Failure.{Failure}
+use Rattle.ds_drive.specs.declared.failure.Failure.TheVariants as failure
+use Rattle.ds_drive.specs.Done.{IsCutShort, IsDone, IsStopped, stream}
+use Rattle.ds_drive.specs.Failures.{IsUnreadRun, failure_number}
+use Rattle.ds_drive.specs.Statuses.{fault_status}
+use Rattle.ds_drive.specs.Told.{failure_line}
+use Rattle.ds_drive.specs.TraceRuns.{CutsTrace, TracesFiles, TraceStopsBy}
+use Rattle.ds_drive.proofs.Cuts.{files_cut_by}
+use Rattle.ds_drive.proofs.Stops.{unread_stops}
+
+module _ (holds : List ℕ → List ℕ → Type 0) (lacks : List ℕ → Type 0) (request : Request) where
+  -- not all that the run is made of was read
+  pub trace_unread : (f : Failure) (known : Option (List ℕ)) → IsUnreadRun f holds lacks request → TraceStopsBy f holds lacks request known known
+  trace_unread f known unread =
+      unread_stops holds lacks (λ refused read. TraceEndsBy refused read known known request.most_time) request f known
+      (λ refused read r. refused_untold refused read known known request.most_time r (keeps_same known)) unread
+
+  -- want of memory before the run
+  pub memory_stops : (known : Option (List ℕ)) → TraceStopsBy (failure.Fault fault.Memory) holds lacks request known known
+  memory_stops known = inl (refl, keeps_same known)
+
+-- whatever the fault, nothing is written, or a front of the trace and the text of a run
+leaves_part : (f : Fault) (read : Result State Refusal) (old new : Option (List ℕ)) (n : ℕ) → TraceEndsBy f read old new n → Keeps old new ⊎ Begins read (WritesTracePart old new n)
+leaves_part fault.Memory read old new n ends = ends
+leaves_part fault.Stuck read old new n none = absurd none
+leaves_part fault.WriteFault read old new n part = inr part
+leaves_part fault.Failed read old new n none = absurd none
+leaves_part f read old new n refused = inl refused.1
+
+trace_leaves : (f : Failure) (holds : List ℕ → List ℕ → Type 0) (lacks : List ℕ → Type 0) (request : Request) (old new : Option (List ℕ)) → TraceStopsBy f holds lacks request old new → Keeps old new ⊎ CutsTrace holds request old new
+trace_leaves f holds lacks request old new stops =
+    files_cut_by (λ e read. TraceEndsBy e read old new request.most_time) (λ read. Begins read (WritesTracePart old new request.most_time)) f holds lacks request old new
+    (λ e read ends. leaves_part e read old new request.most_time ends) stops
+
+-- whatever the failure
+pub trace_cut : (words : List Text) (holds : List ℕ → List ℕ → Type 0) (lacks : List ℕ → Type 0) (request : Request) (f : Failure) (old new : Option (List ℕ)) → AsksForTrace words request → TraceStopsBy f holds lacks request old new → IsCutShort words holds old new
+trace_cut words holds lacks request f old new asks stops = elim (trace_leaves f holds lacks request old new stops) [
+  | inl kept ↦ inl kept
+  | inr cut ↦ inr (inr (inr (inr (inr (inr (request, asks, cut))))))
+]
+
+-- the trace that the words ask for
+pub trace_done : (words : List Text) (holds : List ℕ → List ℕ → Type 0) (request : Request) (old new : Option (List ℕ)) → AsksForTrace words request → TracesFiles holds request old new → IsDone words holds old new
+trace_done words holds request old new asks traces = inr (inr (inr (inr (inr (request, asks, traces)))))
+
+-- What the program says of it.
+pub trace_stopped : (words : List Text) (holds : List ℕ → List ℕ → Type 0) (lacks : List ℕ → Type 0) (status : ℕ) (old new err_old err_new : Option (List ℕ)) (request : Request) (f : Failure)
+    → fault_status (failure_number f) ≡ status → AsksForTrace words request → TraceStopsBy f holds lacks request old new
+    → AppendsPart err_old err_new (failure_line f) → IsStopped status words holds lacks (stream old new) (stream err_old err_new)
+trace_stopped words holds lacks status old new err_old err_new request f has asks stops told =
+    inr (inr (inr (inr (inr (request, asks, record { failure = f; has = has; so = stops; told = told })))))

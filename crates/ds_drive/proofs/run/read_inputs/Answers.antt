@@ -1,0 +1,29 @@
+use Rattle.std.proofs.Common.{◌∙◌, ap, refl, rules, sym, subst}
+use Rattle.ds_drive.specs.declared.failure.Failure.{Failure}
+use Rattle.ds_drive.specs.declared.failure.Failure.TheVariants as failure
+use Rattle.ds_drive.specs.Failures.{IsUnreadRun}
+use Rattle.ds_drive.proofs.HeldFiles.{are_held}
+use Rattle.ds_drive.proofs.Stops.{policy_unsound}
+use Rattle.ds_drive.proofs.run.read_inputs.Goals as goal
+
+pub returns-clause-ok : goal.returns-clause-ok
+returns-clause-ok g c = record {
+  policy = c.in_ok-policy_text.policy_text.items;
+  read = search rules;
+  held = are_held (g.F.Files.holds c.args.files.now) (g.F.Files.holds c.named_file-2.new.files) c.args.request.now _ _ c.in_ok-texts.texts.items _ c.in-Ok.policy
+      c.in_ok-policy_text.ensures.found
+      (c.in_ok-policy_text.ensures.kept _ _ c.in_ok-input.ensures.found)
+      (λ file bytes h. c.in_ok-policy_text.ensures.kept file bytes (c.in_ok-input.ensures.kept file bytes h))
+      c.in_ok-texts.ensures.found
+      (c.in_ok-texts.ensures.names ∙ c.sources.ensures.all)
+      (search rules)
+      refl;
+}
+
+pub returns-in-Err-clause-err : goal.returns-in-Err-clause-err
+returns-in-Err-clause-err g c =
+    let holds = g.F.Files.holds c.args.files.now in
+    let lacks = g.F.Files.lacks c.args.files.now in
+    subst (λ (f : Failure). IsUnreadRun f holds lacks c.args.request.now) (sym (ap failure.Fault c.from.ensures))
+    (policy_unsound holds lacks c.in-Err.fault c.args.request.now c.in_ok-policy_text.policy_text.items c.in_ok-input.input.items c.in_ok-policy_text.ensures.found
+    (c.in_ok-policy_text.ensures.kept _ _ c.in_ok-input.ensures.found) (search rules))

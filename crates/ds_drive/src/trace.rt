@@ -1,0 +1,45 @@
+//! The trace of a run of files.
+ghost use Rattle.std.specs.Prelude.{ℕ, List, IfErr, OnOk};
+ghost use Rattle.ds_drive.specs.TraceRuns.{TracesFiles, TraceStopsBy};
+
+use crate::failure::Failure;
+use crate::files::Files;
+use crate::run::{lent, read_inputs};
+use ds_trace::trace_policy;
+use ds_words::Request;
+use std::alloc::Global;
+use std::io::Write;
+
+/// Reads the files of a run as `run_request` does, runs them, and writes the trace of the run before
+/// its text. Nothing is written before all of them are read.
+#[tactic(auto, using(crate::proofs::TraceLemmas::trace_unread, crate::proofs::TraceLemmas::memory_stops))]
+pub fn trace_request<'a, F: Files, W: Write>(
+    alloc: Global,
+    request: &Request<'a>,
+    files: &mut F,
+    out: &mut W,
+) -> Result<(), Failure<'a>>
+    ensures ok { OnOk result
+        (TracesFiles (F.holds files.old) request.now (W.contents out.old) (W.contents out.new)) }
+    ensures err { IfErr result
+        (λ f. TraceStopsBy f (F.holds files.old) (F.lacks files.old) request.now
+        (W.contents out.old) (W.contents out.new)) }
+    ensures kept { (file bytes : List ℕ) → F.holds files.new file bytes
+        → F.holds files.old file bytes }
+    ensures lacked { (file : List ℕ) → F.lacks files.new file → F.lacks files.old file }
+{
+    let inputs = read_inputs(alloc, request, files)?;
+    let sources = lent(alloc, inputs.texts.as_slice())?;
+    match trace_policy(
+        alloc,
+        &inputs.policy,
+        sources.as_slice(),
+        inputs.input.as_slice(),
+        request.most_time,
+        request.random,
+        out,
+    ) {
+        Ok(()) => Ok(()),
+        Err(fault) => Err(Failure::Fault(fault)),
+    }
+}
