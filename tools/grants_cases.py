@@ -13,7 +13,7 @@ sys.dont_write_bytecode = True
 
 from grants_model import Model, answer, is_page  # noqa: E402
 
-CALLS = ["grant", "give", "take", "drop", "revoke", "narrow", "end"]
+CALLS = ["grant", "give", "take", "drop", "revoke", "narrow", "end", "split"]
 CRATE = Path(__file__).resolve().parent.parent / "crates" / "part_cases"
 DATA = CRATE / "data" / "grants"
 OUTPUT = CRATE / "stdout"
@@ -26,6 +26,7 @@ class File:
         self.lines = [f"# {line}" for line in head] + ["# Written by tools/grants_cases.py."]
         self.model = Model(0, 0, 0)
         self.reasons = []  # of each refusal: its call, and all that speaks against it
+        self.splits = []  # of copies.txt: of each store, whether its page is marked, and whether it moves
         self.changes = []  # of spaces.txt: each call, its process's kind, and whether the buffer has what changes
 
     def ask(self, asked, told=False):
@@ -120,6 +121,13 @@ def refusals():
     return file
 
 
+def ask_pages(file, pages):
+    """Which bytes these pages have, and where they lie."""
+    for page in pages:
+        file.ask(f"byte {page}")
+        file.ask(f"frame {page}")
+
+
 def ask_all(file, processes):
     """All entries, live bytes, and what the buffer has for each process."""
     addresses = set()
@@ -128,8 +136,7 @@ def ask_all(file, processes):
         for at in file.model.row(p):
             file.ask(f"entry {p} {at:08x}")
             addresses.add(at)
-    for page in file.model.live_pages()[:200]:
-        file.ask(f"byte {page}")
+    ask_pages(file, file.model.live_pages()[:200])
     for p in processes:
         file.ask(f"space {p}")
         for at in sorted(addresses):
@@ -146,14 +153,26 @@ def free_places(model, p, places):
     return [at for at in places if is_page(at) and model.at(p, at)[0] == "nothing" and not model.is_fifth(p, at)]
 
 
+def random_split(model, rng):
+    """A page that may be written somewhere gets a frame of its own; more often than not one that may share its frame."""
+    writers = [(p, at) for p, row in model.entries.items() for at, entry in row.items() if entry[0] == "write"]
+    marked = [(p, at) for p, at in writers if model.at(p, at)[1] in model.marked]
+    if not writers:
+        return None
+    p, at = mostly(rng, marked, writers)
+    return f"split {p} {at:08x}"
+
+
 def random_call(model, rng, processes, places):
     """A call or command, which more often than not isn't refused."""
     alive = [p for p in processes if model.lives(p)]
     p, q = mostly(rng, alive, processes), mostly(rng, alive, processes)
-    verb = rng.choices(["grant", "give", "take", "drop", "revoke", "narrow", "write", "fill", "end"],
-                       [20, 34, 10, 10, 5, 5, 10, 14, 0.2])[0]
+    verb = rng.choices(["grant", "give", "take", "drop", "revoke", "narrow", "write", "fill", "split", "end"],
+                       [20, 34, 10, 10, 5, 5, 10, 14, 8, 0.2])[0]
     if verb == "fill" and p not in alive:
         p = alive[0]
+    if verb == "split":
+        return random_split(model, rng) or f"fill {alive[0]} {rng.choice(places):08x}"
     held = [at for at, entry in model.row(p).items() if entry[1] is not None]
     at = mostly(rng, held, places)
     if verb == "grant":
@@ -168,7 +187,8 @@ def random_call(model, rng, processes, places):
         at = mostly(rng, [at for at, entry in model.row(q).items() if entry[4]], places)
         return f"take {mostly(rng, [model.at(q, at)[4] or p], processes)} {q} {at:08x}"
     if verb == "write":
-        return f"write {rng.choice(model.live_pages())} {rng.randrange(256)}"
+        own = [page for page in model.live_pages() if page not in model.marked]
+        return f"write {rng.choice(own)} {rng.randrange(256)}" if own else f"fill {alive[0]} {at:08x}"
     last = {"drop": [rng.choice(["own", "command"])], "revoke": [str(rng.randrange(1000))]}.get(verb, [])
     return " ".join([verb, str(p)] + ([] if verb == "end" else [f"{at:08x}"]) + last)
 
@@ -299,8 +319,156 @@ def spaces():
     return file
 
 
-WRITTEN = {"refusals.txt": refusals, "sequences.txt": sequences, "many.txt": many, "spaces.txt": spaces}
-REPLAYED = ("refusals.txt", "stories.txt", "sequences.txt", "many.txt", "spaces.txt")
+def store(file, p, at, byte):
+    """A process stores to its page: that gets a frame of its own first, if it shares one."""
+    page = file.model.at(p, at)[1]
+    is_marked, frame = page in file.model.marked, file.model.lies[page]
+    file.ask(f"split {p} {at:08x}")
+    file.splits.append((is_marked, file.model.lies[page] != frame))
+    file.ask(f"write {page} {byte}")
+
+
+def ask_holders(file):
+    """Where each page that is held lies, its bytes, and what the buffer has of it for each of its holders."""
+    ask_pages(file, file.model.live_pages())
+    for p, row in file.model.entries.items():
+        for at in row:
+            file.ask(f"translation {p} {at:08x}")
+
+
+def copies_of_copies(file):
+    """A page, its copy, a copy of that and a copy of this are stored to, in each order; every holder has each in the buffer."""
+    for order in itertools.permutations(range(1, 5)):
+        file.ask("start 4 4 1")
+        file.ask("write 0 10")
+        file.ask("grant 1 00001000 0 write give 1")
+        for p in range(1, 4):
+            file.ask(f"give {p} 00001000 {p + 1} 00001000 3")
+        for p in range(1, 5):
+            file.ask(f"fill {p} 00001000")
+        ask_holders(file)
+        for p in order:
+            store(file, p, 0x1000, 20 + p)
+            ask_holders(file)
+        store(file, order[0], 0x1000, 30)  # once more
+        ask_holders(file)
+
+
+def originals_that_go(file):
+    """The page of which copies were made goes before one of them is stored to; its number is used again."""
+    for gone in ("drop 2 00001000 own", "drop 2 00001000 command", "take 1 2 00001000", "revoke 2 00001000 5", "end 2"):
+        file.ask("start 4 5 1")
+        file.ask("write 0 10")
+        file.ask("grant 1 00001000 0 write give 1")
+        file.ask("give 1 00001000 2 00001000 3")
+        store(file, 2, 0x1000, 11)  # page 1, which lies in frame 1
+        file.ask("give 2 00001000 3 00001000 3")
+        file.ask("give 2 00001000 3 00002000 3")
+        for at in (0x1000, 0x2000):
+            file.ask(f"fill 3 {at:08x}")
+        file.ask(gone)
+        ask_holders(file)
+        file.ask("give 1 00001000 4 00001000 3")  # page 1 anew, which lies in frame 0
+        file.ask("fill 4 00001000")
+        ask_holders(file)
+        store(file, 4, 0x1000, 12)
+        ask_holders(file)
+        store(file, 3, 0x2000, 13)
+        ask_holders(file)
+        store(file, 3, 0x1000, 14)  # alone in its frame
+        ask_holders(file)
+        store(file, 1, 0x1000, 15)
+        ask_holders(file)
+
+
+def frames_that_are_used(file):
+    """Pages that live are counted, and not frames: a copy of the last is refused while all lie in one frame, or in all frames."""
+    for stored in range(5):
+        file.ask("start 2 4 1")
+        file.ask("grant 1 00001000 0 write give 1")
+        for k in range(1, 4):
+            file.ask(f"give 1 00001000 2 {0x1000 * k:08x} 3")
+        for k in range(stored):
+            store(file, *((1, 0x1000) if k == 3 else (2, 0x1000 * (k + 1))), 40 + k)
+        ask_holders(file)
+        file.ask("give 1 00001000 2 00008000 3", told=True)
+        file.ask("drop 2 00002000 own")
+        file.ask("give 2 00001000 2 00008000 3")  # its number is used again, and lies with page 1
+        ask_holders(file)
+        store(file, 2, 0x8000, 50)
+        ask_holders(file)
+
+
+def copies_of_one(file):
+    """Of all 1,024 pages 1,023 are copies of one; then each gets a frame of its own, in some order."""
+    rng = random.Random(1024)
+    file.ask("start 5 1024 1")
+    file.ask("write 0 7")
+    file.ask("grant 1 00001000 0 write give 1")
+    holders = [(1, 0x1000)]
+    for k in range(1, 1024):
+        p, at = k % 5 + 1, 0x40_0000 * (k % 4) + 0x1000 * (k // 5 + 2)
+        file.ask(f"give 1 00001000 {p} {at:08x} 3")
+        holders.append((p, at))
+    file.ask("give 1 00001000 2 7ffff000 3", told=True)
+    rng.shuffle(holders)
+    for n, (p, at) in enumerate(holders):
+        if n % 16 == 0:
+            file.ask(f"fill {p} {at:08x}")
+        store(file, p, at, n % 256)
+        file.ask(f"frame {file.model.at(p, at)[1]}")
+        if n % 16 == 0:
+            file.ask(f"translation {p} {at:08x}")
+    for page in file.model.live_pages():
+        file.ask(f"byte {page}")
+
+
+def holders_elsewhere(file):
+    """A page has holders that have a number, had one before a flush, or never had one; some may only read. It is copied, and
+    one of them stores to it. What the buffer has of it moves for all; what it has of others by the same numbers stays."""
+    for storer in (1, 30, 64, 70):
+        file.ask("start 70 40 3")
+        file.ask("write 0 60")
+        file.ask("write 1 61")
+        for p in (1, 2, 30, 64, 65, 70):
+            file.ask(f"grant {p} 00001000 0 write give 1")
+            file.ask(f"grant {p} 00400000 0 read give 1")
+            file.ask(f"grant {p} 00002000 {p % 2 + 1} write give 1")
+        file.ask("grant 66 00001000 1 write give 1")
+        for places, first, last in ((0x1000, 1, 63), (0x2000, 64, 69)):
+            file.ask(f"fill 1 {places:08x}")
+            file.ask(f"enter {first} {last}")
+        for p in (2, 30, 64, 65, 66):
+            for at in (0x1000, 0x40_0000, 0x2000):
+                file.ask(f"fill {p} {at:08x}")
+        file.ask("give 2 00400000 3 00005000 3")
+        ask_holders(file)
+        store(file, storer, 0x1000, 62)
+        ask_holders(file)
+        file.ask("enter 1 70")
+        for p in (1, 70, 3):
+            for at in (0x1000, 0x40_0000, 0x5000):
+                file.ask(f"fill {p} {at:08x}")
+        ask_holders(file)
+        store(file, 3, 0x5000, 63)
+        ask_holders(file)
+
+
+def copies():
+    """Copies that lie in the frame of their page until one of them is stored to."""
+    file = File(["Copies, and what lies where before and after the first store to each: copies of copies, pages that go before their",
+                 "copies are stored to, 1,023 copies of one page, pages for which no number is left, and holders that have numbers or none.",
+                 "split PROCESS ADDRESS gives the page there a frame of its own; translation answers the number of a frame."])
+    copies_of_copies(file)
+    originals_that_go(file)
+    frames_that_are_used(file)
+    copies_of_one(file)
+    holders_elsewhere(file)
+    return file
+
+
+WRITTEN = {"refusals.txt": refusals, "sequences.txt": sequences, "many.txt": many, "spaces.txt": spaces, "copies.txt": copies}
+REPLAYED = ("refusals.txt", "stories.txt", "sequences.txt", "many.txt", "spaces.txt", "copies.txt")
 
 
 def wanted_output(texts):

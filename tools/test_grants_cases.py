@@ -6,7 +6,7 @@ from itertools import combinations
 
 sys.dont_write_bytecode = True
 
-from grants_cases import DATA, files, refusals, spaces  # noqa: E402
+from grants_cases import DATA, copies, files, refusals, spaces  # noqa: E402
 from grants_model import Model, answer  # noqa: E402
 
 TOGETHER = {  # what can speak against a call together
@@ -50,6 +50,18 @@ class Tests(unittest.TestCase):
         asked = [line for line in spaces().lines if line.startswith(("start", "space"))]
         firsts = [line.split()[-1] == "1" for line in asked]
         self.assertGreater(sum(firsts), 8)
+
+    def test_pages_move_where_they_share_a_frame_and_stay_where_they_are_alone(self):
+        made = copies()
+        self.assertEqual(set(made.splits), {(True, True), (True, False), (False, False)})
+
+    def test_a_page_and_its_copy_have_other_bytes_only_in_other_frames(self):
+        model = Model(1, 4, 1)
+        for asked in ("write 0 5", "grant 1 00001000 0 write give 1", "give 1 00001000 1 00002000 3", "split 1 00001000", "write 0 6"):
+            self.assertEqual(answer(model, asked)[1], "ok")
+        self.assertEqual((model.bytes[0], model.bytes[1]), (6, 5))
+        self.assertEqual((model.lies[0], model.lies[1]), (1, 0))
+        self.assertEqual(model.marked, {1})
 
     def test_the_files_are_as_they_are_written(self):
         for path, text in files().items():

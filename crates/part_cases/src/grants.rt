@@ -2,6 +2,7 @@
 //! `tools/grants_cases.py` writes the files, from a model of its own.
 
 mod answers;
+mod frames;
 mod page_words;
 mod replay;
 mod report;

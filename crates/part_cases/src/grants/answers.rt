@@ -1,7 +1,8 @@
 //! What steps answer.
 
+use crate::grants::frames::FIRST_FRAME;
 use crate::grants::page_words::fits_after;
-use crate::grants::replay::{FIRST_FRAME, Replay};
+use crate::grants::replay::Replay;
 use crate::machine::memory::{MIXED, fill, filled};
 use crate::machine::told::said;
 use ds_grants::GrantFault;
@@ -18,17 +19,15 @@ pub fn answer<L: Lookaside>(
     operands: &[u32],
 ) -> Result<Option<String>, AllocError> {
     match (verb, operands) {
-        ("write", [page, byte]) => match fill(&mut replay.memory, frame_of(*page), *byte) {
-            Some(_) => said(alloc, "ok"),
-            None => Ok(None),
-        },
+        ("write", [page, byte]) => written(alloc, replay, *page, *byte),
         ("fill", [process, address]) => {
             let is_filled = replay.fill(*process, *address);
             said(alloc, if is_filled { "filled" } else { "nothing" })
         }
         ("entry", [process, address]) => told_entry(alloc, replay.entry(*process, *address)),
         ("addresses", [process]) => addresses(alloc, replay, *process),
-        ("byte", [page]) => told_byte(alloc, filled(&replay.memory, frame_of(*page))),
+        ("byte", [page]) => told_byte(alloc, byte_of(replay, *page)),
+        ("frame", [page]) => told_frame(alloc, replay.frame(*page)),
         ("enter", [first, last]) => entered(alloc, replay, *first, *last),
         ("space", [process]) => told_space(alloc, replay.space_of(*process)),
         ("translation", [process, address]) => translation(alloc, replay, *process, *address),
@@ -68,9 +67,33 @@ fn told_number(alloc: Global, number: u32) -> Result<Option<String>, AllocError>
     Ok(Some(format!(in alloc; "{number}")?))
 }
 
-/// The frame of a page. There may be none of that number.
-fn frame_of(page: u32) -> u32 {
-    page.saturating_add(FIRST_FRAME)
+/// Fills the frame in which a page lies.
+fn written<L: Lookaside>(
+    alloc: Global,
+    replay: &mut Replay<L>,
+    page: u32,
+    byte: u32,
+) -> Result<Option<String>, AllocError> {
+    let Some(frame) = replay.lying.frame(page) else {
+        return Ok(None);
+    };
+    match fill(&mut replay.memory, frame, byte) {
+        Some(_) => said(alloc, "ok"),
+        None => Ok(None),
+    }
+}
+
+/// What the frame of a page is filled with, if there is such a page.
+fn byte_of<L: Lookaside>(replay: &Replay<L>, page: u32) -> Option<u32> {
+    filled(&replay.memory, replay.lying.frame(page)?)
+}
+
+/// The number of a frame among those of pages.
+fn told_frame(alloc: Global, frame: Option<u32>) -> Result<Option<String>, AllocError> {
+    match frame {
+        Some(frame) => told_number(alloc, frame),
+        None => Ok(None),
+    }
 }
 
 /// What a page's frame is filled with.
@@ -153,8 +176,9 @@ fn told_space(alloc: Global, number: Option<u8>) -> Result<Option<String>, Alloc
     }
 }
 
-/// The page to which the buffer leads an access of this kind in an address space, if to one.
-fn page_of<L: Lookaside>(buffer: &mut L, kind: Kind, address: u32, asid: u8) -> Option<u32> {
+/// The number among the frames of pages of that to which the buffer leads an access of this kind in
+/// an address space, if to one.
+fn frame_of<L: Lookaside>(buffer: &mut L, kind: Kind, address: u32, asid: u8) -> Option<u32> {
     let vpn = address >> 12;
     let base = match buffer.recalled(kind, vpn, asid) {
         Some(base) => base,
@@ -163,7 +187,7 @@ fn page_of<L: Lookaside>(buffer: &mut L, kind: Kind, address: u32, asid: u8) -> 
     (base / 4096).checked_sub(FIRST_FRAME)
 }
 
-/// What the buffer answers to a process: the page that it may read, or also write. A process that
+/// What the buffer answers to a process: the frame that it may read, or also write. A process that
 /// has no address space is answered nothing.
 fn translation<L: Lookaside>(
     alloc: Global,
@@ -174,20 +198,20 @@ fn translation<L: Lookaside>(
     let Some(asid) = replay.space_of(process) else {
         return said(alloc, "none");
     };
-    let fetched = page_of(&mut replay.buffer, Kind::Fetch, address, asid);
-    let loaded = page_of(&mut replay.buffer, Kind::Load, address, asid);
-    let stored = page_of(&mut replay.buffer, Kind::Store, address, asid);
+    let fetched = frame_of(&mut replay.buffer, Kind::Fetch, address, asid);
+    let loaded = frame_of(&mut replay.buffer, Kind::Load, address, asid);
+    let stored = frame_of(&mut replay.buffer, Kind::Store, address, asid);
     match (loaded, stored) {
         (None, None) if fetched.is_none() => said(alloc, "none"),
-        (Some(page), None) if fetched == loaded => told_page(alloc, "read", page),
-        (Some(page), Some(_)) if fetched == loaded && stored == loaded => {
-            told_page(alloc, "write", page)
+        (Some(frame), None) if fetched == loaded => told_lookup(alloc, "read", frame),
+        (Some(frame), Some(_)) if fetched == loaded && stored == loaded => {
+            told_lookup(alloc, "write", frame)
         }
         _ => said(alloc, "mixed"),
     }
 }
 
-/// A page, and what may be done with it.
-fn told_page(alloc: Global, right: &str, page: u32) -> Result<Option<String>, AllocError> {
-    Ok(Some(format!(in alloc; "{right} {page}")?))
+/// A frame, and what may be done with it.
+fn told_lookup(alloc: Global, right: &str, frame: u32) -> Result<Option<String>, AllocError> {
+    Ok(Some(format!(in alloc; "{right} {frame}")?))
 }

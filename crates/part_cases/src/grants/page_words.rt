@@ -1,8 +1,7 @@
 //! The page-table words that go with what is granted, by a plain rule: after each call they are
 //! compared with those that lie in memory.
 
-use crate::grants::replay::{FIRST_FRAME, Replay};
-use ds_policy::{Grant, Right};
+use crate::grants::replay::{PROCESSES, Replay};
 use ds_tlb::Lookaside;
 
 /// The pages of a region.
@@ -10,25 +9,6 @@ const PAGES: usize = 1024;
 
 /// The regions of a user.
 const REGIONS: u32 = 512;
-
-/// V of EntryLo: the page may be read.
-const VALID: u32 = 0x200;
-
-/// D of EntryLo: the page may be written.
-const DIRTY: u32 = 0x400;
-
-/// The word of a grant.
-fn word_of(grant: Grant) -> u32 {
-    let flags = match grant.right {
-        Right::Nothing => return 0,
-        Right::Read => VALID,
-        Right::Write => VALID | DIRTY,
-    };
-    match grant.page {
-        Some(page) => page.saturating_add(FIRST_FRAME).wrapping_mul(4096) | flags,
-        None => 0,
-    }
-}
 
 /// The words of a process's pages of a region.
 fn words_of<L: Lookaside>(replay: &Replay<L>, process: u32, region: u32) -> [u32; PAGES] {
@@ -38,7 +18,7 @@ fn words_of<L: Lookaside>(replay: &Replay<L>, process: u32, region: u32) -> [u32
     }
     for entry in replay.grants.table().entries(process) {
         if entry.address >> 22 == region {
-            words[(entry.address >> 12) as usize % PAGES] = word_of(entry.grant);
+            words[(entry.address >> 12) as usize % PAGES] = replay.lying.word_of(entry.grant);
         }
     }
     words
@@ -66,10 +46,38 @@ fn fits_all<L: Lookaside>(replay: &Replay<L>, process: u32) -> bool {
     true
 }
 
+/// Whether the words of all of a process's entries lie in memory.
+fn fits_entries<L: Lookaside>(replay: &Replay<L>, process: u32) -> bool {
+    if !replay.is_within(process) {
+        return true;
+    }
+    for entry in replay.grants.table().entries(process) {
+        let word = replay.tables.entry(&replay.memory, process, entry.address);
+        if word != replay.lying.word_of(entry.grant) {
+            return false;
+        }
+    }
+    true
+}
+
+/// Whether the words of all entries of all processes lie in memory.
+fn fits_everywhere<L: Lookaside>(replay: &Replay<L>) -> bool {
+    for process in 1..=PROCESSES {
+        if !fits_entries(replay, process) {
+            return false;
+        }
+    }
+    true
+}
+
 /// Whether the words that a call may have changed lie in memory: those of a region of one process,
-/// or all of its words where it has ended.
+/// all of its words where it has ended, and those of whoever holds a page where it was copied or
+/// has a frame of its own now.
 pub fn fits_after<L: Lookaside>(replay: &Replay<L>, verb: &str, operands: &[u32]) -> bool {
     match (verb, operands) {
+        ("give", [_, _, process, address, 3]) | ("split", [process, address]) => {
+            fits(replay, *process, *address >> 22) && fits_everywhere(replay)
+        }
         ("give", [_, _, process, address, _]) | ("take", [_, process, address]) => {
             fits(replay, *process, *address >> 22)
         }

@@ -1,7 +1,9 @@
 //! The grants on which a file is replayed, with the memory, the page tables in it, the address spaces
 //! and the translation buffer beside them.
-ghost use Rattle.std.specs.Prelude.{◌≡◌, ◌<◌, ◌≤◌, true, length};
+ghost use Rattle.std.specs.Prelude.{◌≡◌, ◌<◌, ◌≤◌, true, length, IfSome, Some};
+ghost use Rattle.ds_policy.specs.Pages.{entry_at};
 
+use crate::grants::frames::{FIRST_FRAME, Frames, PAGES, named_pages, note_pages};
 use ds_asid::Asids;
 use ds_grants::{GrantFault, Grants};
 use ds_mem::{Memory, OutOfMemory};
@@ -10,14 +12,11 @@ use ds_tables::Tables;
 use ds_tlb::{Entry, Lookaside};
 use std::alloc::Global;
 
-/// The first frame that holds a page.
-pub const FIRST_FRAME: u32 = 402;
-
 /// The most processes.
-const PROCESSES: u32 = 100;
+pub const PROCESSES: u32 = 100;
 
-/// The most pages.
-const PAGES: u32 = 1024;
+/// The mode of a give by which the receiver gets a copy.
+const COPY: u32 = 3;
 
 /// Where Random starts.
 const RANDOM: usize = 63;
@@ -26,11 +25,14 @@ const RANDOM: usize = 63;
 #[derive(Drop)]
 pub struct Replay<L> {
     pub grants: Grants,
+    frames: u32,
     named: u32,
+    pub lying: Frames,
     pub memory: Memory,
     pub tables: Tables,
     pub spaces: Asids,
     pub buffer: L,
+    ghost places: { grants.frames ≡ frames },
     ghost names: { grants.named ≡ named },
 }
 
@@ -47,11 +49,13 @@ impl<L: Lookaside> Replay<L> {
         requires wired { L.WIRED ≡ 8 }
     {
         let processes = processes.min(PROCESSES) as usize;
-        let frames = frames.min(PAGES);
+        let frames = frames.min(PAGES as u32);
         let named = named.min(frames);
         Ok(Replay {
             grants: Grants::empty(alloc, processes, frames, named)?,
+            frames,
             named,
+            lying: Frames::new(),
             memory: Memory::new(alloc)?,
             tables: Tables::new(processes),
             spaces: Asids::new(),
@@ -77,6 +81,7 @@ impl<L: Lookaside> Replay<L> {
     ///     revoke PROCESS ADDRESS RULE
     ///     narrow PROCESS ADDRESS
     ///     end PROCESS
+    ///     split PROCESS ADDRESS
     pub fn call(&mut self, verb: &str, operands: &[u32]) -> Option<Result<(), GrantFault>> {
         match (verb, operands) {
             ("give", [caller, address, receiver, to, mode]) => {
@@ -94,6 +99,7 @@ impl<L: Lookaside> Replay<L> {
                 self.drop_page(*process, *address, *by_command == 1)
             }
             ("end", [process]) => self.end(*process),
+            ("split", [process, address]) => self.split(*process, *address),
             _ => self.call_anyhow(verb, operands),
         }
     }
@@ -136,7 +142,40 @@ impl<L: Lookaside> Replay<L> {
         let outcome = self.grants.give(
             caller, address, receiver, to, mode, memory, tables, spaces, buffer,
         );
+        if mode == COPY && outcome.is_ok() {
+            self.note_copy(caller, address, receiver, to);
+        }
         Some(outcome)
+    }
+
+    /// The page at an address was copied to another.
+    fn note_copy(&mut self, caller: u32, address: u32, receiver: u32, to: u32) {
+        if let (Some(page), Some(copy)) = (self.page(caller, address), self.page(receiver, to)) {
+            self.lying.copy(page, copy);
+        }
+    }
+
+    /// The page at an address gets a frame of its own, before the first store to it; none where the
+    /// process may not store there.
+    fn split(&mut self, process: u32, address: u32) -> Option<Result<(), GrantFault>> {
+        let grant = self.entry(process, address)?;
+        match grant.right {
+            Right::Write => {}
+            Right::Nothing | Right::Read => return None,
+        }
+        if let Some(page) = grant.page {
+            let live = self.live_pages();
+            self.lying.split(page, &live);
+        }
+        self.grants.break_copy(
+            process,
+            address,
+            &mut self.memory,
+            &mut self.tables,
+            &mut self.spaces,
+            &mut self.buffer,
+        );
+        Some(Ok(()))
     }
 
     /// The operator grants a page that has a name.
@@ -211,8 +250,35 @@ impl<L: Lookaside> Replay<L> {
         Some(number)
     }
 
+    /// The frame in which the grants say that a page lies, if there is such a page.
+    pub fn frame(&self, page: u32) -> Option<u32> {
+        if page >= self.frames {
+            return None;
+        }
+        self.grants.frame_of_page(page).checked_sub(FIRST_FRAME)
+    }
+
+    /// Which pages live: those that have names, and those that entries name.
+    fn live_pages(&self) -> [bool; PAGES] {
+        let mut live = named_pages(self.named);
+        for process in 1..=PROCESSES {
+            if self.is_within(process) {
+                note_pages(&mut live, self.grants.table().entries(process));
+            }
+        }
+        live
+    }
+
+    /// The page at an address of a process, if there is one.
+    fn page(&self, process: u32, address: u32) -> Option<u32> {
+        self.entry(process, address)?.page
+    }
+
     /// What is granted to a process at an address.
-    pub fn entry(&self, process: u32, address: u32) -> Option<Grant> {
+    pub fn entry(&self, process: u32, address: u32) -> Option<Grant>
+        ensures { IfSome result (λ grant. (0 < process)
+            × (entry_at self.now.grants.table process address ≡ Some grant)) }
+    {
         if !self.is_within(process) {
             return None;
         }
@@ -229,21 +295,12 @@ impl<L: Lookaside> Replay<L> {
         let Some(grant) = self.entry(process, address) else {
             return false;
         };
-        let Some(page) = grant.page else {
-            return false;
-        };
-        if self.buffer.find(vpn, asid).is_some() {
+        if grant.page.is_none() || self.buffer.find(vpn, asid).is_some() {
             return false;
         }
-        self.buffer.write_random(Entry {
-            vpn,
-            asid,
-            pfn: page.saturating_add(FIRST_FRAME),
-            n: false,
-            d: grant.right == Right::Write,
-            v: true,
-            g: false,
-        });
+        let hi = vpn.wrapping_mul(4096) | (u32::from(asid) << 6);
+        let entry = Entry::of_words(hi, self.lying.word_of(grant));
+        self.buffer.write_random(entry);
         self.buffer.tick();
         true
     }

@@ -14,12 +14,13 @@ use std::rt::Files;
 use std::{fs, io};
 
 /// The files.
-const FILES: [&str; 5] = [
+const FILES: [&str; 6] = [
     "grants/refusals.txt",
     "grants/stories.txt",
     "grants/sequences.txt",
     "grants/many.txt",
     "grants/spaces.txt",
+    "grants/copies.txt",
 ];
 
 /// How many lines that differ are told.
@@ -65,12 +66,13 @@ fn parts_of(line: &str) -> (&str, &str) {
 /// Does what a line asks for, by its verb and operands, and answers it. Beside calls there are
 ///
 ///     start PROCESSES FRAMES NAMED    anew, with no entries
-///     write PAGE BYTE                 fills the page's frame
+///     write PAGE BYTE                 fills the page's frame, which no other may share
 ///     enter FIRST LAST                these processes come on the processor, one after the other
 ///     fill PROCESS ADDRESS            the process comes on the processor, and a miss of it there
 ///     entry PROCESS ADDRESS           what is granted there
 ///     addresses PROCESS               those of all its entries, in the order in which they came
 ///     byte PAGE                       what the page's frame is filled with
+///     frame PAGE                      the number of its frame among those of pages
 ///     space PROCESS                   the number of its address space
 ///     translation PROCESS ADDRESS     what the buffer answers it
 fn answered<L: Lookaside>(
@@ -119,7 +121,7 @@ fn text_of(came: &Option<String>) -> &str {
 fn is_call(asked: &str) -> bool {
     let (verb, _) = step_of(asked);
     match verb {
-        "grant" | "give" | "take" | "drop" | "revoke" | "narrow" | "end" => true,
+        "grant" | "give" | "take" | "drop" | "revoke" | "narrow" | "end" | "split" => true,
         _ => false,
     }
 }
