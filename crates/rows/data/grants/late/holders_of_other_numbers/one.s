@@ -1,0 +1,188 @@
+# A page is copied while four processes have it in their address spaces; one stores to it, then one to the copy.
+p1:
+        lui   $8,0x41
+        ori   $8,$8,0x0
+        addiu $9,$0,97
+        sb    $9,0($8)
+        lui   $8,0x41
+        ori   $8,$8,0x0
+        lbu   $4,0($8)
+        addiu $2,$0,1
+        syscall
+        addiu $2,$0,3
+        syscall
+        lui   $8,0x41
+        ori   $8,$8,0x0
+        lbu   $4,0($8)
+        addiu $2,$0,1
+        syscall
+        addiu $2,$0,3
+        syscall
+        addiu $2,$0,3
+        syscall
+        lui   $8,0x41
+        ori   $8,$8,0x0
+        lbu   $4,0($8)
+        addiu $2,$0,1
+        syscall
+        lui   $8,0x41
+        ori   $8,$8,0x0
+        addiu $9,$0,102
+        sb    $9,0($8)
+        addiu $2,$0,3
+        syscall
+        lui   $8,0x41
+        ori   $8,$8,0x0
+        lbu   $4,0($8)
+        addiu $2,$0,1
+        syscall
+        addiu $2,$0,0
+        syscall
+p2:
+        lui   $8,0x41
+        ori   $8,$8,0x0
+        lbu   $4,0($8)
+        addiu $2,$0,1
+        syscall
+        addiu $2,$0,3
+        syscall
+        lui   $4,0x41
+        ori   $4,$4,0x0
+        addiu $5,$0,4
+        lui   $6,0x41
+        ori   $6,$6,0x3000
+        addiu $7,$0,3
+        addiu $2,$0,6
+        syscall
+        lui   $8,0x41
+        ori   $8,$8,0x0
+        addiu $9,$0,98
+        sb    $9,0($8)
+        lui   $8,0x41
+        ori   $8,$8,0x0
+        lbu   $4,0($8)
+        addiu $2,$0,1
+        syscall
+        addiu $2,$0,3
+        syscall
+        lui   $8,0x41
+        ori   $8,$8,0x0
+        lbu   $4,0($8)
+        addiu $2,$0,1
+        syscall
+        addiu $2,$0,3
+        syscall
+        lui   $8,0x41
+        ori   $8,$8,0x0
+        lbu   $4,0($8)
+        addiu $2,$0,1
+        syscall
+        addiu $2,$0,0
+        syscall
+p3:
+        lui   $8,0x41
+        ori   $8,$8,0x0
+        lbu   $4,0($8)
+        addiu $2,$0,1
+        syscall
+        lui   $8,0x41
+        ori   $8,$8,0x3000
+        lbu   $4,0($8)
+        addiu $2,$0,1
+        syscall
+        addiu $2,$0,3
+        syscall
+        lui   $8,0x41
+        ori   $8,$8,0x0
+        lbu   $4,0($8)
+        addiu $2,$0,1
+        syscall
+        lui   $8,0x41
+        ori   $8,$8,0x3000
+        lbu   $4,0($8)
+        addiu $2,$0,1
+        syscall
+        addiu $2,$0,3
+        syscall
+        lui   $8,0x41
+        ori   $8,$8,0x0
+        lbu   $4,0($8)
+        addiu $2,$0,1
+        syscall
+        lui   $8,0x41
+        ori   $8,$8,0x3000
+        lbu   $4,0($8)
+        addiu $2,$0,1
+        syscall
+        addiu $2,$0,3
+        syscall
+        lui   $8,0x41
+        ori   $8,$8,0x0
+        lbu   $4,0($8)
+        addiu $2,$0,1
+        syscall
+        lui   $8,0x41
+        ori   $8,$8,0x3000
+        lbu   $4,0($8)
+        addiu $2,$0,1
+        syscall
+        addiu $2,$0,0
+        syscall
+p4:
+        lui   $8,0x41
+        ori   $8,$8,0x0
+        lbu   $4,0($8)
+        addiu $2,$0,1
+        syscall
+        addiu $2,$0,3
+        syscall
+        lui   $8,0x41
+        ori   $8,$8,0x0
+        lbu   $4,0($8)
+        addiu $2,$0,1
+        syscall
+        lui   $8,0x41
+        ori   $8,$8,0x3000
+        lbu   $4,0($8)
+        addiu $2,$0,1
+        syscall
+        lui   $8,0x41
+        ori   $8,$8,0x3000
+        addiu $9,$0,103
+        sb    $9,0($8)
+        lui   $8,0x41
+        ori   $8,$8,0x0
+        lbu   $4,0($8)
+        addiu $2,$0,1
+        syscall
+        lui   $8,0x41
+        ori   $8,$8,0x3000
+        lbu   $4,0($8)
+        addiu $2,$0,1
+        syscall
+        addiu $2,$0,3
+        syscall
+        lui   $8,0x41
+        ori   $8,$8,0x0
+        lbu   $4,0($8)
+        addiu $2,$0,1
+        syscall
+        lui   $8,0x41
+        ori   $8,$8,0x3000
+        lbu   $4,0($8)
+        addiu $2,$0,1
+        syscall
+        addiu $2,$0,3
+        syscall
+        lui   $8,0x41
+        ori   $8,$8,0x0
+        lbu   $4,0($8)
+        addiu $2,$0,1
+        syscall
+        lui   $8,0x41
+        ori   $8,$8,0x3000
+        lbu   $4,0($8)
+        addiu $2,$0,1
+        syscall
+        addiu $2,$0,0
+        syscall

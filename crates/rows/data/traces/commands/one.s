@@ -1,0 +1,3 @@
+# Does nothing; an operator stops it.
+        nop
+        nop
