@@ -130,6 +130,20 @@ class Budget(unittest.TestCase):
                 self.assertIn(f"BAD EDIT: upper/three.not_there.edit: {why}", self.said)
                 self.assertEqual(("", before), (self.checks, Path(self.room.name, "tools/wrong_bodies.record").read_bytes()))
 
+    def test_an_edit_whose_text_does_not_parse_is_told_before_anything_is_tried(self):
+        self.change("upper/wrong/two.one.edit", "new: one()", "new: one(")
+        self.assertEqual("0 refused, 0 stale, 1 not refused", self.run_for(None, status=1))
+        self.assertIn("BAD EDIT: upper/two.one.edit: it does not parse", self.said)
+        self.assertEqual("", self.checks)
+
+    def test_a_run_that_only_reads_tries_nothing(self):
+        self.change("lower/src/lib.rt", "    1", "    1 + 0")
+        self.change("lower/wrong/one.two.edit", "old:     1", "old:     1 + 0")
+        self.assertEqual("1 read, 0 not read", self.run_for(None, "--read"))
+        self.change("lower/wrong/one.two.edit", "new:     2", "new:     2)")
+        self.assertEqual("0 read, 1 not read", self.run_for(None, "--read", status=1))
+        self.assertEqual("", self.checks)
+
     def test_a_damaged_record_is_told_and_left(self):
         record = Path(self.room.name, "tools/wrong_bodies.record")
         for line in ("upper", "  public two.one", "upper own=1 rest=2 kit=3", "<<<<<<< HEAD"):

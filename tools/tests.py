@@ -14,11 +14,13 @@ TOP = Path(__file__).resolve().parent.parent
 COMMANDS = [  # those that take longest first
     ["tools/refused_memory.py"],
     ["tools/test_wrong_bodies.py"],
+    ["tools/wrong_bodies.py", "--read", "--all"],
     ["tools/test_wrong_bodies_record.py"],
     ["tools/test_elf_to_policy.py"],
     ["tools/test_reading_cases.py"],
     ["tools/test_grants_cases.py"],
     ["tools/test_turns_cases.py"],
+    ["tools/test_late_cases.py"],
     ["tools/test_reason_cases.py"],
     ["tools/test_refused_memory.py"],
     ["tools/test_unit_course.py"],

@@ -12,6 +12,7 @@ from .crates import Repository
 from .laws import KINDS, read_turned, try_turned
 from .order import tasks_of
 from .prover import How
+from .reading import read_all
 from .record import Damaged, Record, Today
 from .trying import Tried, try_crate
 
@@ -21,6 +22,9 @@ USES = """Tries the wrong bodies of the crates, crates/NAME/wrong/*.edit: the pr
 name CRATE/EDIT one edit. What is found is noted in the record. With --minutes M a run ends after so many minutes, and what it did not
 reach stays stale: the record says of each edit over which texts it was refused. First come the edits that ask for it, then those whose own crate
 changed, then those that are stale only since something below is stated otherwise, the longest untried first. docs/gate.md says more.
+
+Before anything is tried, each edit is applied and the edited text is read; one that cannot be is told, and the run ends. With --read it ends there
+in any case, and its last line is 'N read, M not read'.
 
 The last line is 'N refused, M stale, K not refused': those that the record has are counted among the N, and those that could not be tried
 among the K. The status is 0 where K is 0."""
@@ -39,6 +43,7 @@ def arguments(words):
     parser.add_argument("names", metavar="CRATE", nargs="*", help="try the wrong bodies of this crate, or with CRATE/EDIT one of them")
     parser.add_argument("--all", action="store_true", help="try those of every crate")
     parser.add_argument("--changed", action="store_true", help="try those that the record does not have over the texts of today")
+    parser.add_argument("--read", action="store_true", help="only apply the edits and read the texts, and prove nothing")
     parser.add_argument("--minutes", metavar="M", help="end after so many minutes of the clock")
     parser.add_argument("--proved", action="store_true", help="every crate was just proved, as by rt ci: do not check them without edits first")
     parser.add_argument("--lanes", metavar="N", type=int, default=len(os.sched_getaffinity(0)), help="use so many processors (all)")
@@ -90,7 +95,10 @@ def main(words, clock=None):
     except Damaged as error:
         print(error)
         return 1
-    unreadable = [it for it in edits if it.unreadable]
+    unreadable = read_all(edits, given.lanes)
+    if given.read:
+        print("\n".join([*map(str, unreadable), f"{len(edits) - len(unreadable)} read, {len(unreadable)} not read"]))
+        return 1 if unreadable else 0
     if unreadable:
         print("\n".join([*map(str, unreadable), f"0 refused, 0 stale, {len(unreadable)} not refused"]))
         return 1
