@@ -36,25 +36,25 @@ line_length n find at (Some line) more h = optional_length n find at line.statem
 pub one_more : (xs more tail rest whole : List SourceFault) → rest ≡ more ++ tail → xs ++ rest ≡ whole → (xs ++ more) ++ tail ≡ whole
 one_more xs more tail rest whole e h = append_assoc xs more tail ∙ (ap (λ ys. xs ++ ys) (sym e) ∙ h)
 
-pub first_good : (n : ℕ) (m next : Layout) (text line behind : List ℕ) → lines_of text ≡ line ∷ lines_of behind → with_line n (line_of line) m ≡ Ok next
-    → first_faults n m (lines_of text) ≡ first_faults (n + 1) next (lines_of behind)
-first_good n m next text line behind first said =
+pub first_good : (n : ℕ) (m next : Layout) (text line after : List ℕ) → lines_of text ≡ line ∷ lines_of after → with_line n (line_of line) m ≡ Ok next
+    → first_faults n m (lines_of text) ≡ first_faults (n + 1) next (lines_of after)
+first_good n m next text line after first said =
     ap (first_faults n m) first
-    ∙ ap (λ r. option_to_list (fault_in r) ++ first_faults (n + 1) (layout_past r (labels_past n (line_of line) m)) (lines_of behind)) said
+    ∙ ap (λ r. option_to_list (fault_in r) ++ first_faults (n + 1) (layout_past r (labels_past n (line_of line) m)) (lines_of after)) said
 
-pub first_bad : (n : ℕ) (m : Layout) (fault : SourceFault) (text line behind : List ℕ) → lines_of text ≡ line ∷ lines_of behind → with_line n (line_of line) m ≡ Err fault
-    → first_faults n m (lines_of text) ≡ fault ∷ [] ++ first_faults (n + 1) (record { labels = labels_past n (line_of line) m; size = 0 }) (lines_of behind)
-first_bad n m fault text line behind first said =
+pub first_bad : (n : ℕ) (m : Layout) (fault : SourceFault) (text line after : List ℕ) → lines_of text ≡ line ∷ lines_of after → with_line n (line_of line) m ≡ Err fault
+    → first_faults n m (lines_of text) ≡ fault ∷ [] ++ first_faults (n + 1) (record { labels = labels_past n (line_of line) m; size = 0 }) (lines_of after)
+first_bad n m fault text line after first said =
     ap (first_faults n m) first
-    ∙ ap (λ r. option_to_list (fault_in r) ++ first_faults (n + 1) (layout_past r (labels_past n (line_of line) m)) (lines_of behind)) said
+    ∙ ap (λ r. option_to_list (fault_in r) ++ first_faults (n + 1) (layout_past r (labels_past n (line_of line) m)) (lines_of after)) said
 
 pub first_end : (n : ℕ) (m : Layout) (text : List ℕ) → length text ≡ 0 → first_faults n m (lines_of text) ≡ []
 first_end n m [] none = refl
 first_end n m (x ∷ xs) none = absurd (omega arith)
 
-pub second_step : (n : ℕ) (find : List ℕ → Option ℕ) (at : ℕ) (text line behind : List ℕ) → lines_of text ≡ line ∷ lines_of behind
-    → second_faults n find at (lines_of text) ≡ option_to_list (fault_in (line_bytes n find at (line_of line))) ++ second_faults (n + 1) find (at + size_in (line_of line)) (lines_of behind)
-second_step n find at text line behind first = ap (second_faults n find at) first
+pub second_step : (n : ℕ) (find : List ℕ → Option ℕ) (at : ℕ) (text line after : List ℕ) → lines_of text ≡ line ∷ lines_of after
+    → second_faults n find at (lines_of text) ≡ option_to_list (fault_in (line_bytes n find at (line_of line))) ++ second_faults (n + 1) find (at + size_in (line_of line)) (lines_of after)
+second_step n find at text line after first = ap (second_faults n find at) first
 
 pub second_end : (n : ℕ) (find : List ℕ → Option ℕ) (at : ℕ) (text : List ℕ) → length text ≡ 0 → second_faults n find at (lines_of text) ≡ []
 second_end n find at [] none = refl

@@ -46,14 +46,14 @@ first_of p x xs = elim (cases_Bool (nat_lt (position_or_len p (x ∷ xs)) (lengt
 ]
 
 -- a text that isn't empty has its first line, and those of the text after it
-pub lines_of-first : (text line behind : List ℕ) → (length text == 0) ≡ false → line ≡ before_first (λ b. b == 10) text → behind ≡ after_first (λ b. b == 10) text → lines_of text ≡ line ∷ lines_of behind
-lines_of-first [] line behind h p q = cc
-lines_of-first (x ∷ xs) line behind h p q = rw (p, q) (first_of (λ b. b == 10) x xs)
+pub lines_of-first : (text line after : List ℕ) → (length text == 0) ≡ false → line ≡ before_first (λ b. b == 10) text → after ≡ after_first (λ b. b == 10) text → lines_of text ≡ line ∷ lines_of after
+lines_of-first [] line after h p q = cc
+lines_of-first (x ∷ xs) line after h p q = rw (p, q) (first_of (λ b. b == 10) x xs)
 
 -- what follows the first line is shorter
-pub behind_within : (n m : ℕ) (text behind : List ℕ) → behind ≡ after_first (λ b. b == 10) text → (length text == 0) ≡ false → n + length text ≤ m → n + 1 + length behind ≤ m
-behind_within n m [] behind q some within = cc
-behind_within n m (x ∷ xs) behind q some within = rw q (omega (arith, length-drop (position_or_len (λ b. b == 10) (x ∷ xs) + 1) (x ∷ xs)))
+pub after_within : (n m : ℕ) (text after : List ℕ) → after ≡ after_first (λ b. b == 10) text → (length text == 0) ≡ false → n + length text ≤ m → n + 1 + length after ≤ m
+after_within n m [] after q some within = cc
+after_within n m (x ∷ xs) after q some within = rw q (omega (arith, length-drop (position_or_len (λ b. b == 10) (x ∷ xs) + 1) (x ∷ xs)))
 
 -- a fault stays the fault, whatever would follow
 pub fails_bind : {A B : Type 0} (e : AsmFault) (r : Result A SourceFault) (f : A → Result B SourceFault) → Fails e r → Fails e (r >>= f)
@@ -61,26 +61,26 @@ fails_bind (asm.Source fault) r f p = ap (λ x. x >>= f) p
 fails_bind asm.Memory r f p = tt
 
 -- The first pass.
-pub layout_good : (n : ℕ) (m next : Layout) (text line behind : List ℕ) → lines_of text ≡ line ∷ lines_of behind → with_line n (line_of line) m ≡ Ok next
-    → with_lines n m (lines_of text) ≡ with_lines (n + 1) next (lines_of behind)
-layout_good n m next text line behind first said = ap (with_lines n m) first ∙ ap (λ r. r >>= (λ more. with_lines (n + 1) more (lines_of behind))) said
+pub layout_good : (n : ℕ) (m next : Layout) (text line after : List ℕ) → lines_of text ≡ line ∷ lines_of after → with_line n (line_of line) m ≡ Ok next
+    → with_lines n m (lines_of text) ≡ with_lines (n + 1) next (lines_of after)
+layout_good n m next text line after first said = ap (with_lines n m) first ∙ ap (λ r. r >>= (λ more. with_lines (n + 1) more (lines_of after))) said
 
-pub layout_bad : (e : AsmFault) (n : ℕ) (m : Layout) (text line behind : List ℕ) → lines_of text ≡ line ∷ lines_of behind → Fails e (with_line n (line_of line) m)
+pub layout_bad : (e : AsmFault) (n : ℕ) (m : Layout) (text line after : List ℕ) → lines_of text ≡ line ∷ lines_of after → Fails e (with_line n (line_of line) m)
     → Fails e (with_lines n m (lines_of text))
-layout_bad e n m text line behind first said = rw first (fails_bind e (with_line n (line_of line) m) (λ more. with_lines (n + 1) more (lines_of behind)) said)
+layout_bad e n m text line after first said = rw first (fails_bind e (with_line n (line_of line) m) (λ more. with_lines (n + 1) more (lines_of after)) said)
 
 pub layout_end : (n : ℕ) (m : Layout) (text : List ℕ) → length text ≡ 0 → with_lines n m (lines_of text) ≡ Ok m
 layout_end n m [] none = refl
 layout_end n m (x ∷ xs) none = absurd (omega arith)
 
 -- The second pass.
-pub bytes_good : (n : ℕ) (find : List ℕ → Option ℕ) (bytes more text line behind : List ℕ) → lines_of text ≡ line ∷ lines_of behind → line_bytes n find (length bytes) (line_of line) ≡ Ok more
-    → bytes_from n find bytes (lines_of text) ≡ bytes_from (n + 1) find (bytes ++ more) (lines_of behind)
-bytes_good n find bytes more text line behind first said = ap (bytes_from n find bytes) first ∙ ap (λ r. r >>= (λ m. bytes_from (n + 1) find (bytes ++ m) (lines_of behind))) said
+pub bytes_good : (n : ℕ) (find : List ℕ → Option ℕ) (bytes more text line after : List ℕ) → lines_of text ≡ line ∷ lines_of after → line_bytes n find (length bytes) (line_of line) ≡ Ok more
+    → bytes_from n find bytes (lines_of text) ≡ bytes_from (n + 1) find (bytes ++ more) (lines_of after)
+bytes_good n find bytes more text line after first said = ap (bytes_from n find bytes) first ∙ ap (λ r. r >>= (λ m. bytes_from (n + 1) find (bytes ++ m) (lines_of after))) said
 
-pub bytes_bad : (e : AsmFault) (n : ℕ) (find : List ℕ → Option ℕ) (bytes text line behind : List ℕ) → lines_of text ≡ line ∷ lines_of behind → Fails e (line_bytes n find (length bytes) (line_of line))
+pub bytes_bad : (e : AsmFault) (n : ℕ) (find : List ℕ → Option ℕ) (bytes text line after : List ℕ) → lines_of text ≡ line ∷ lines_of after → Fails e (line_bytes n find (length bytes) (line_of line))
     → Fails e (bytes_from n find bytes (lines_of text))
-bytes_bad e n find bytes text line behind first said = rw first (fails_bind e (line_bytes n find (length bytes) (line_of line)) (λ m. bytes_from (n + 1) find (bytes ++ m) (lines_of behind)) said)
+bytes_bad e n find bytes text line after first said = rw first (fails_bind e (line_bytes n find (length bytes) (line_of line)) (λ m. bytes_from (n + 1) find (bytes ++ m) (lines_of after)) said)
 
 pub bytes_end : (n : ℕ) (find : List ℕ → Option ℕ) (bytes text : List ℕ) → length text ≡ 0 → bytes_from n find bytes (lines_of text) ≡ Ok bytes
 bytes_end n find bytes [] none = refl

@@ -1,9 +1,9 @@
 -- A form that is found by its name, as it is written.
-use Rattle.std.proofs.Common.{◌≡◌, ◌∙◌, ap, sym, refl, inl, inr, ℕ, false, ◌==◌, bytes_eq, List, [], ◌∷◌, length, map, Option, Some, None, Bor, option_map, arith}
+use Rattle.std.proofs.Common.{◌≡◌, ◌∙◌, ap, sym, refl, inl, inr, ℕ, ◌<◌, ◌≤◌, false, bytes_eq, List, [], ◌∷◌, length, slice_index, map, Option, Some, None, Bor, option_map, arith}
 use Rattle.std.specs.List.{filter, find}
-use Rattle.std.proofs.lemmas.Bool.{cases_Bool, and_right}
+use Rattle.std.proofs.lemmas.Bool.{cases_Bool}
 use Rattle.ds_asm.specs.declared.form.Form.{Form}
-use Rattle.ds_asm.specs.Forms.{Written, written_of, written_forms, form_named}
+use Rattle.ds_asm.specs.Forms.{Written, written_of, written_forms, begins_with, forms_with, form_named}
 
 find_written : (name : List ℕ) (fs : List Form) → option_map written_of (find (λ f. bytes_eq f.name.now name) fs) ≡ find (λ f. bytes_eq f.name name) (map written_of fs)
 find_written name [] = refl
@@ -20,34 +20,29 @@ seen_among : (r : Option (Bor Form)) (name : List ℕ) (fs : List Form) (ws : Li
 seen_among None name fs ws h e = ap (option_map written_of) h ∙ named_among name fs ws e
 seen_among (Some f) name fs ws h e = ap (option_map written_of) h ∙ named_among name fs ws e
 
-pub seen_form : (r : Option (Bor Form)) (name : List ℕ) (fs : List Form) → option_map (λ f. f.now) r ≡ find (λ f. bytes_eq f.name.now name) fs → map written_of fs ≡ written_forms
-    → option_map (λ f. written_of f.now) r ≡ form_named name
-unfolding form_named
-seen_form r name fs h e = seen_among r name fs written_forms h e
+-- A name is among the names that begin as it does.
+pub begins_otherwise : (c : ℕ) (cs name : List ℕ) → begins_with c name ≡ false → bytes_eq name (c ∷ cs) ≡ false
+begins_otherwise c cs [] e = refl
+begins_otherwise c cs (x ∷ xs) e = rw e refl
 
--- A name of one letter is among the names of one letter.
-longer : (name : List ℕ) (c : ℕ) → (length name == 1) ≡ false → bytes_eq name (c ∷ []) ≡ false
-longer [] c e = refl
-longer (x ∷ []) c e = cc
-longer (x ∷ y ∷ ys) c e = and_right (x == c) false refl
-
-find_letter : (c : ℕ) (ws : List Written) → find (λ f. bytes_eq f.name (c ∷ [])) ws ≡ find (λ f. bytes_eq f.name (c ∷ [])) (filter (λ f. length f.name == 1) ws)
-find_letter c [] = refl
-find_letter c (w ∷ ws) = elim (cases_Bool (length w.name == 1)) [
-  | inl one ↦ rw one (elim (cases_Bool (bytes_eq w.name (c ∷ []))) [
+find_with : (c : ℕ) (cs : List ℕ) (ws : List Written) → find (λ f. bytes_eq f.name (c ∷ cs)) ws ≡ find (λ f. bytes_eq f.name (c ∷ cs)) (filter (λ f. begins_with c f.name) ws)
+find_with c cs [] = refl
+find_with c cs (w ∷ ws) = elim (cases_Bool (begins_with c w.name)) [
+  | inl one ↦ rw one (elim (cases_Bool (bytes_eq w.name (c ∷ cs))) [
     | inl e ↦ rw e refl
-    | inr e ↦ rw e (find_letter c ws)
+    | inr e ↦ rw e (find_with c cs ws)
   ])
-  | inr more ↦ rw (more, longer w.name c more) (find_letter c ws)
+  | inr more ↦ rw (more, begins_otherwise c cs w.name more) (find_with c cs ws)
 ]
 
--- the one that is a letter alone
-abbrev pub letters : List Written
-letters = filter (λ f. length f.name == 1) written_forms
-
-pub seen_letter : (r : Option (Bor Form)) (name : List ℕ) (fs : List Form) → length name ≡ 1 → option_map (λ f. f.now) r ≡ find (λ f. bytes_eq f.name.now name) fs → map written_of fs ≡ letters
+pub seen_with : (r : Option (Bor Form)) (name : List ℕ) (fs : List Form) → 1 ≤ length name → option_map (λ f. f.now) r ≡ find (λ f. bytes_eq f.name.now name) fs → map written_of fs ≡ forms_with (slice_index name 0)
     → option_map (λ f. written_of f.now) r ≡ form_named name
 unfolding form_named
-seen_letter r [] fs one h e = absurd (omega arith)
-seen_letter r (c ∷ []) fs one h e = seen_among r (c ∷ []) fs letters h e ∙ sym (find_letter c written_forms)
-seen_letter r (c ∷ d ∷ cs) fs one h e = absurd (omega arith)
+seen_with r [] fs some h e = absurd (omega arith)
+seen_with r (c ∷ cs) fs some h e = seen_among r (c ∷ cs) fs (forms_with c) h e ∙ sym (find_with c cs written_forms)
+
+-- No form has an empty name.
+pub nothing_named : (name : List ℕ) → length name < 1 → None ≡ form_named name
+unfolding form_named
+nothing_named [] none = refl
+nothing_named (c ∷ cs) none = absurd (omega arith)

@@ -1,6 +1,6 @@
 -- The forms of instructions in a source, which are columns of the table of instructions.
-use Rattle.std.specs.Prelude.{codes, ℕ, bytes_eq, List, [], ◌∷◌, map, Option}
-use Rattle.std.specs.List.{find}
+use Rattle.std.specs.Prelude.{codes, ℕ, Bool, false, ◌==◌, bytes_eq, List, [], ◌∷◌, map, Option}
+use Rattle.std.specs.List.{filter, find}
 use Rattle.ds_isa.specs.Fields as fields
 use Rattle.ds_isa.specs.Fields.{Field}
 use Rattle.ds_isa.specs.Instruction.{Row, rows, word_of}
@@ -31,6 +31,15 @@ written_forms = nop ∷ map of_row rows
 -- the form of a name
 unfoldable pub form_named : List ℕ → Option Written
 form_named name = find (λ f. bytes_eq f.name name) written_forms
+
+-- whether a text begins with a character
+abbrev pub begins_with : ℕ → List ℕ → Bool
+begins_with c [] = false
+begins_with c (first ∷ rest) = first == c
+
+-- the forms whose names begin with a character
+abbrev pub forms_with : ℕ → List Written
+forms_with c = filter (λ f. begins_with c f.name) written_forms
 
 -- The same of the code's types.
 

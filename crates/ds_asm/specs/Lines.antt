@@ -3,7 +3,7 @@ use Rattle.std.specs.Prelude.{codes, ℕ, bytes_eq, if◌then◌else◌, List, [
 use Rattle.std.specs.List.{position_or_len, before_first}
 use Rattle.ds_word.specs.OptionBinding.{◌>>=◌}
 use Rattle.ds_asm.specs.declared.number.Number.{Number}
-use Rattle.ds_asm.specs.Characters.{is_blank, is_name, without_front_blanks, trimmed, until, behind}
+use Rattle.ds_asm.specs.Characters.{is_blank, is_name, without_front_blanks, trimmed, until, after}
 use Rattle.ds_asm.specs.Numbers.{number_of}
 use Rattle.ds_asm.specs.Forms.{form_named}
 use Rattle.ds_asm.specs.Operands.{Instruction, bare, with_operands}
@@ -26,8 +26,8 @@ abbrev pub mnemonic_of : List ℕ → List ℕ
 mnemonic_of text = before_first is_blank text
 
 -- what stands after the mnemonic and its blanks, if anything does
-abbrev pub behind_mnemonic : List ℕ → Option (List ℕ)
-behind_mnemonic text = unless_empty (without_front_blanks (drop (position_or_len is_blank text) text))
+abbrev pub after_mnemonic : List ℕ → Option (List ℕ)
+after_mnemonic text = unless_empty (without_front_blanks (drop (position_or_len is_blank text) text))
 
 -- a number, or else a label
 abbrev pub label_word : List ℕ → Option Statement
@@ -52,7 +52,7 @@ statement_named name left =
 
 -- the statement that a text is, if it is one
 abbrev pub statement_of : List ℕ → Option Statement
-statement_of text = statement_named (mnemonic_of text) (behind_mnemonic text)
+statement_of text = statement_named (mnemonic_of text) (after_mnemonic text)
 
 -- the statement of a text; an empty text has none, and is no fault
 abbrev pub statement_in : List ℕ → Option (Option Statement)
@@ -75,7 +75,7 @@ with_label text (Some rest) = if is_name (until 58 text) then with_statement (So
 
 -- the label and the statement of a text, which a colon parts
 abbrev pub line_parts : List ℕ → Option Line
-line_parts text = with_label text (behind 58 text)
+line_parts text = with_label text (after 58 text)
 
 -- a line that says nothing
 abbrev pub nothing : Line

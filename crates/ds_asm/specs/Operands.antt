@@ -5,7 +5,7 @@ use Rattle.ds_word.specs.OptionBinding.{◌>>=◌}
 use Rattle.ds_word.specs.Word.{word}
 use Rattle.ds_isa.specs.Fields.{Field, rd, Operand, Register, LinkRegister, SystemRegister, Number, Code, Signed, Branch, Jump, Indexed}
 use Rattle.ds_asm.specs.declared.number.Number as code
-use Rattle.ds_asm.specs.Characters.{is_name, trimmed, until, behind}
+use Rattle.ds_asm.specs.Characters.{is_name, trimmed, until, after}
 use Rattle.ds_asm.specs.Numbers.{number_of, is_within, as_word}
 use Rattle.ds_asm.specs.RegisterNames.{register_of, system_register_of}
 
@@ -61,7 +61,7 @@ before_close text = if slice_index text (length text - 1) == 41 then Some (take 
 -- an offset, and in parentheses after it the register of the base
 unfoldable pub with_indexed : Field → Field → List ℕ → Instruction → Option Instruction
 with_indexed base offset text i = do
-  rest ← behind 40 text
+  rest ← after 40 text
   inner ← before_close rest
   register ← register_of (trimmed inner)
   with_signed offset (trimmed (until 40 text)) (with_value base register i)
@@ -94,7 +94,7 @@ has_comma text = nat_lt (position_or_len (λ b. b == 44) text) (length text)
 
 -- with what stands before the first comma; what stands after it is left
 abbrev pub with_first : Operand → List ℕ → Instruction → Option (Option (List ℕ) × Instruction)
-with_first o text i = option_map (λ next. (behind 44 text, next)) (with_operand o (trimmed (until 44 text)) i)
+with_first o text i = option_map (λ next. (after 44 text, next)) (with_operand o (trimmed (until 44 text)) i)
 
 -- with one operand of what is left of a statement's text, if anything is. A code may be left out, and
 -- a link register, where only one operand is left

@@ -1,7 +1,7 @@
 //! Characters of a source, and the parts of a line.
 ghost use Rattle.std.specs.Prelude.{◌≡◌, ◌≤◌, ◌<◌, ◌==◌, ◌||◌, length, map, option_map};
 ghost use Rattle.std.specs.List.{list_all, prefix_len, suffix_len, position_or_len, before_first, after_first};
-ghost use Rattle.ds_asm.specs.Characters.{is_blank, is_letter, is_digit, is_name, without_front_blanks, without_back_blanks, trimmed, until, behind};
+ghost use Rattle.ds_asm.specs.Characters.{is_blank, is_letter, is_digit, is_name, without_front_blanks, without_back_blanks, trimmed, until, after};
 
 /// How many characters a name has at most.
 const MOST_NAME: usize = 32;
@@ -101,7 +101,7 @@ pub fn until(c: u8, text: &[u8]) -> &[u8]
 /// What stands before the first character `c`, and after it if there is one.
 pub fn split_at_first(c: u8, text: &[u8]) -> (&[u8], Option<&[u8]>)
     ensures front { result.0.now ≡ until c text.now }
-    ensures back { option_map (λ t. t.now) result.1 ≡ behind c text.now }
+    ensures back { option_map (λ t. t.now) result.1 ≡ after c text.now }
 {
     let place = place_of(c, text);
     if place < text.len() {

@@ -78,7 +78,7 @@ fn first_pass(alloc: Global, text: &[u8]) -> Result<FirstPass<'_>, AllocError>
     let mut number = 0u64;
     let mut rest = text;
     while !rest.is_empty() {
-        let (line, behind) = first_line(rest);
+        let (line, after) = first_line(rest);
         number += 1;
         match layout.add_line(number, line) {
             Ok(()) => {}
@@ -88,7 +88,7 @@ fn first_pass(alloc: Global, text: &[u8]) -> Result<FirstPass<'_>, AllocError>
             }
             Err(AsmFault::Memory) => return Err(AllocError),
         }
-        rest = behind;
+        rest = after;
     }
     Ok(FirstPass { layout, faults })
 }
@@ -108,11 +108,11 @@ fn second_faults<'a>(
     let mut number = 0u64;
     let mut rest = text;
     while !rest.is_empty() {
-        let (line, behind) = first_line(rest);
+        let (line, after) = first_line(rest);
         number += 1;
         push_fault(&mut faults, second_fault(number, labels, place, line))?;
         place += source_line(line).size;
-        rest = behind;
+        rest = after;
     }
     Ok(faults)
 }

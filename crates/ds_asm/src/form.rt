@@ -1,7 +1,7 @@
 //! The forms of instructions in a source.
 ghost use Rattle.std.specs.Prelude.{◌≡◌, ◌*◌, ◌%◌, ◌^◌, ◌-◌, bytes_eq, option_map, map};
 ghost use Rattle.std.specs.List.{find};
-ghost use Rattle.ds_asm.specs.Forms.{form_named, written_of, written_forms, field_of, operand_of};
+ghost use Rattle.ds_asm.specs.Forms.{form_named, forms_with, written_of, field_of, operand_of};
 ghost use Rattle.ds_asm.specs.Operands.{is_code, is_link};
 
 use ds_isa::instruction_table;
@@ -90,19 +90,42 @@ macro_rules! form_rows {
 }
 
 /// The forms: `nop`, and those of the table of instructions in its order.
-static FORMS: [Form; 66] = instruction_table!(form_rows);
+const FORMS: [Form; 66] = instruction_table!(form_rows);
 
-/// Where the form of `j` stands among these. No other name is one letter alone.
-const JUMP: usize = 33;
+/// The forms at these places of the table.
+macro_rules! placed {
+    ($($place:literal)*) => { &[$(FORMS[$place]),*] };
+}
 
 /// The form of a name.
 pub fn form_named(name: &[u8]) -> Option<&'static Form>
     ensures { option_map (λ f. written_of f.now) result ≡ form_named name.now }
 {
-    if name.len() == 1 {
-        return find_form(&FORMS[JUMP..JUMP + 1], name);
+    match name {
+        [] => None,
+        [first, ..] => find_form(forms_with(*first), name),
     }
-    find_form(FORMS.as_slice(), name)
+}
+
+/// The forms whose names begin with a character.
+fn forms_with(first: u8) -> &'static [Form]
+    ensures { map written_of result.now ≡ forms_with first }
+{
+    match first {
+        b'a' => placed!(19 20 23 39 40 43),
+        b'b' => placed!(10 29 30 31 32 35 36 37 38),
+        b'd' => placed!(17 18),
+        b'j' => placed!(7 8 33 34),
+        b'l' => placed!(46 47 48 49 50 51 52 53),
+        b'm' => placed!(11 12 13 14 15 16 59 60),
+        b'n' => placed!(0 26),
+        b'o' => placed!(24 44),
+        b'r' => placed!(65),
+        b's' => placed!(1 2 3 4 5 6 9 21 22 27 28 41 42 54 55 56 57 58),
+        b't' => placed!(61 62 63 64),
+        b'x' => placed!(25 45),
+        _ => &[],
+    }
 }
 
 /// The first form of a name.

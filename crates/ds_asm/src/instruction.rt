@@ -69,7 +69,7 @@ impl<'a> Instruction<'a> {
                 Some(_) => None,
             },
             [operand, more @ ..] => match self.with_next(*operand, left) {
-                Some((behind, next)) => next.with_operands(more, behind),
+                Some((after, next)) => next.with_operands(more, after),
                 None => None,
             },
         }
@@ -111,9 +111,9 @@ impl<'a> Instruction<'a> {
         ensures { option_map (λ p. (option_map (λ t. t.now) p.0, plain_instruction p.1)) result
             ≡ with_first (operand_of operand) text.now (plain_instruction self.entry) }
     {
-        let (front, behind) = split_at_first(b',', text);
+        let (front, after) = split_at_first(b',', text);
         match self.with_operand(operand, trimmed(front)) {
-            Some(next) => Some((behind, next)),
+            Some(next) => Some((after, next)),
             None => None,
         }
     }
@@ -153,8 +153,8 @@ impl<'a> Instruction<'a> {
         ensures { option_map plain_instruction result
             ≡ with_indexed rs imm text.now (plain_instruction self.entry) }
     {
-        let (offset, behind) = split_at_first(b'(', text);
-        let inner = before_close(behind?)?;
+        let (offset, after) = split_at_first(b'(', text);
+        let inner = before_close(after?)?;
         let base = register_of(trimmed(inner))?;
         self.with_value(Place::Rs, base)
             .with_signed(trimmed(offset))
@@ -217,8 +217,8 @@ impl<'a> Instruction<'a> {
 pub fn has_comma(text: &[u8]) -> bool
     ensures { result ≡ has_comma text.now }
 {
-    let (_, behind) = split_at_first(b',', text);
-    behind.is_some()
+    let (_, after) = split_at_first(b',', text);
+    after.is_some()
 }
 
 /// What stands before the parenthesis at the end.

@@ -31,10 +31,10 @@ pub(crate) fn layout_of(alloc: Global, text: &[u8]) -> Result<Layout<'_>, AsmFau
     let mut number = 0u64;
     let mut rest = text;
     while !rest.is_empty() {
-        let (line, behind) = first_line(rest);
+        let (line, after) = first_line(rest);
         number += 1;
         match layout.add_line(number, line) {
-            Ok(()) => rest = behind,
+            Ok(()) => rest = after,
             Err(fault) => return Err(fault),
         }
     }

@@ -3,7 +3,7 @@ ghost use Rattle.std.specs.Prelude.{◌≡◌, ◌≤◌, option_map, length};
 ghost use Rattle.std.specs.List.{position_or_len};
 ghost use Rattle.ds_asm.specs.Characters.{is_blank};
 ghost use Rattle.ds_asm.specs.Numbers.{number_of};
-ghost use Rattle.ds_asm.specs.Lines.{mnemonic_of, behind_mnemonic, number_word, instruction_named, statement_named, statement_of, statement_in, with_statement, line_parts, line_of};
+ghost use Rattle.ds_asm.specs.Lines.{mnemonic_of, after_mnemonic, number_word, instruction_named, statement_named, statement_of, statement_in, with_statement, line_parts, line_of};
 ghost use Rattle.ds_asm.specs.Assembly.{is_reserved_word, is_in_range, is_aligned, size_of};
 ghost use Rattle.ds_asm.specs.Plain.{plain_instruction, plain_statement, plain_line};
 
@@ -98,8 +98,8 @@ pub(crate) fn line_of(line: &[u8]) -> Option<Line<'_>>
 fn line_parts(text: &[u8]) -> Option<Line<'_>>
     ensures { option_map plain_line result ≡ line_parts text.now }
 {
-    let (name, behind) = split_at_first(b':', text);
-    match behind {
+    let (name, after) = split_at_first(b':', text);
+    match after {
         None => with_statement(None, text),
         Some(rest) => {
             if is_name(name) {
@@ -138,15 +138,11 @@ fn statement_of(text: &[u8]) -> Option<Statement<'_>>
 /// The mnemonic of a statement, and what stands after it, if anything does.
 fn split_mnemonic(text: &[u8]) -> (&[u8], Option<&[u8]>)
     ensures name { result.0.now ≡ mnemonic_of text.now }
-    ensures left { option_map (λ t. t.now) result.1 ≡ behind_mnemonic text.now }
+    ensures left { option_map (λ t. t.now) result.1 ≡ after_mnemonic text.now }
 {
     let end = mnemonic_len(text);
-    let behind = without_front_blanks(&text[end..]);
-    let left = if behind.is_empty() {
-        None
-    } else {
-        Some(behind)
-    };
+    let after = without_front_blanks(&text[end..]);
+    let left = if after.is_empty() { None } else { Some(after) };
     (&text[..end], left)
 }
 

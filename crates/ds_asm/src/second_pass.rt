@@ -29,10 +29,10 @@ pub(crate) fn bytes_of<'a>(
     let mut number = 0u64;
     let mut rest = text;
     while !rest.is_empty() {
-        let (line, behind) = first_line(rest);
+        let (line, after) = first_line(rest);
         number += 1;
         match add_line(&mut bytes, number, labels, line) {
-            Ok(()) => rest = behind,
+            Ok(()) => rest = after,
             Err(fault) => return Err(fault),
         }
     }

@@ -47,7 +47,7 @@ fn optional_size(statement: Option<Statement<'_>>) -> u64
 /// A text's first line without its line feed, and what stands after that.
 pub fn first_line(text: &[u8]) -> (&[u8], &[u8])
     ensures line { result.0.now ≡ before_first (λ b. b == 10) text.now }
-    ensures behind { result.1.now ≡ after_first (λ b. b == 10) text.now }
+    ensures after { result.1.now ≡ after_first (λ b. b == 10) text.now }
 {
     let end = place_of(b'\n', text);
     if end < text.len() {

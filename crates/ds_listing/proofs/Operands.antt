@@ -7,13 +7,13 @@ use Rattle.std.proofs.Math.Seq.{take-append_seam, get_or-append_seam}
 use Rattle.ds_word.specs.Word.{word}
 use Rattle.ds_word.specs.OptionBinding.{◌>>=◌}
 use Rattle.ds_isa.specs.Fields.{Field, rd, Operand, Register, LinkRegister, SystemRegister, Number, Code, Signed, Branch, Jump, Indexed, places, filled}
-use Rattle.ds_asm.specs.Characters.{is_blank, trimmed, until, behind}
+use Rattle.ds_asm.specs.Characters.{is_blank, trimmed, until, after}
 use Rattle.ds_asm.specs.Numbers.{number_of}
 use Rattle.ds_asm.specs.Operands.{bare, with_value, with_number, with_register, with_signed, with_unsigned, with_indexed, with_operand, with_operands, with_first, before_close, is_link, has_comma}
 use Rattle.ds_asm.specs.RegisterNames.{register_of}
 use Rattle.ds_listing.specs.Texts.{hex4, hex8, register_text, signed_text, unsigned_text, distance_text, operand_text, others_text}
 use Rattle.ds_listing.proofs.Numbers.{decimal_all, hex4_all, hex8_all}
-use Rattle.ds_listing.proofs.Parts.{all_weaker, all_both, is_other, until_seam, until_none, behind_seam, behind_none, seam_there, trimmed_dense}
+use Rattle.ds_listing.proofs.Parts.{all_weaker, all_both, is_other, until_seam, until_none, after_some, after_none, seam_there, trimmed_dense}
 use Rattle.ds_listing.proofs.Values.{IsRead, read_signed, read_decimal, read_half, register_read, system_register_read, signed_all, register_all}
 
 -- a character that ends no operand, no statement and no line
@@ -75,7 +75,7 @@ closed xs =
     rw (size, get_or-append_seam xs 41 [] 0, take-append_seam xs (41 ∷ [])) refl
 
 -- an offset and a base, where the parts of their text are known
-indexed_by : (base offset : Field) (text rest inner front : List ℕ) (w n : ℕ) → behind 40 text ≡ Some rest → before_close rest ≡ Some inner → register_of (trimmed inner) ≡ Some n → trimmed (until 40 text) ≡ front
+indexed_by : (base offset : Field) (text rest inner front : List ℕ) (w n : ℕ) → after 40 text ≡ Some rest → before_close rest ≡ Some inner → register_of (trimmed inner) ≡ Some n → trimmed (until 40 text) ≡ front
     → with_indexed base offset text (bare w) ≡ with_signed offset front (with_value base n (bare w))
 unfolding with_indexed
 indexed_by base offset text rest inner front w n a b c d =
@@ -94,7 +94,7 @@ indexed_taken base offset at w fit b o =
     let dense = signed_all (λ c. not (is_blank c)) refl refl (at offset) (omega arith) in
     let close = register_all (λ c. not (is_blank c)) refl refl (at base) (omega arith) in
     indexed_by base offset (signed_text (at offset) ++ 40 ∷ behind_offset) behind_offset (register_text (at base)) (signed_text (at offset)) w (at base)
-    (behind_seam 40 (signed_text (at offset)) behind_offset front refl)
+    (after_some 40 (signed_text (at offset)) behind_offset front refl)
     (closed (register_text (at base)))
     (ap register_of (trimmed_all (register_text (at base)) close) ∙ register_read (at base) (omega arith))
     (ap trimmed (until_seam 40 (signed_text (at offset)) behind_offset front refl) ∙ trimmed_all (signed_text (at offset)) dense)
@@ -179,12 +179,12 @@ operand_clear (Indexed base offset) at fit =
     (all_both is_clear (register_text (at base)) (41 ∷ []) (register_all is_clear refl refl (at base) (omega arith)) refl)
 
 -- the first operand of a text, where a comma stands after it and where none does
-first_taken : (o : Operand) (at : Field → ℕ) (w : ℕ) (text : List ℕ) (left : Option (List ℕ)) → Fit at → AreWords at → is_plain o ≡ true → until 44 text ≡ operand_text at o → behind 44 text ≡ left
+first_taken : (o : Operand) (at : Field → ℕ) (w : ℕ) (text : List ℕ) (left : Option (List ℕ)) → Fit at → AreWords at → is_plain o ≡ true → until 44 text ≡ operand_text at o → after 44 text ≡ left
     → with_first o text (bare w) ≡ Some (left, bare (added (places o) at w))
 first_taken o at w text left fit words h u b =
-    ap (λ t. option_map (λ next. (behind 44 text, next)) (with_operand o (trimmed t) (bare w))) u
-    ∙ (ap (λ t. option_map (λ next. (behind 44 text, next)) (with_operand o t (bare w))) (trimmed_all (operand_text at o) (all_weaker is_clear (λ c. not (is_blank c)) clear_dense (operand_text at o) (operand_clear o at words)))
-    ∙ (ap (option_map (λ next. (behind 44 text, next))) (operand_taken o at w fit h)
+    ap (λ t. option_map (λ next. (after 44 text, next)) (with_operand o (trimmed t) (bare w))) u
+    ∙ (ap (λ t. option_map (λ next. (after 44 text, next)) (with_operand o t (bare w))) (trimmed_all (operand_text at o) (all_weaker is_clear (λ c. not (is_blank c)) clear_dense (operand_text at o) (operand_clear o at words)))
+    ∙ (ap (option_map (λ next. (after 44 text, next))) (operand_taken o at w fit h)
     ∙ ap (λ t. Some (t, bare (added (places o) at w))) b))
 
 comma_there : (xs ys : List ℕ) → list_all (is_other 44) xs ≡ true → has_comma (xs ++ 44 ∷ ys) ≡ true
@@ -200,7 +200,7 @@ operands_taken o [] at w fit words h =
     let clear : list_all (is_other 44) text ≡ true = all_both (is_other 44) (operand_text at o) [] (all_weaker is_clear (is_other 44) clear_other (operand_text at o) (operand_clear o at words)) refl in
     let link : is_link o && not (has_comma text) ≡ false = and_left (is_link o) _ (not-true (is_link o) b) in
     ap (λ c. (if c then Some (Some text, with_value rd 31 (bare w)) else with_first o text (bare w)) >>= (λ p. with_operands [] p.0 p.1)) link
-    ∙ (ap (λ r. r >>= (λ p. with_operands [] p.0 p.1)) (first_taken o at w text None fit words a (until_none 44 text clear ∙ append-nil (operand_text at o)) (behind_none 44 text clear))
+    ∙ (ap (λ r. r >>= (λ p. with_operands [] p.0 p.1)) (first_taken o at w text None fit words a (until_none 44 text clear ∙ append-nil (operand_text at o)) (after_none 44 text clear))
     ∙ ap (λ fs. Some (bare (added fs at w))) (sym (append-nil (places o))))
 operands_taken o (p ∷ os) at w fit words h =
     let (a, b) = and_parts (is_plain o) (are_plain (p ∷ os)) h in
@@ -209,7 +209,7 @@ operands_taken o (p ∷ os) at w fit words h =
     let clear : list_all (is_other 44) (operand_text at o) ≡ true = all_weaker is_clear (is_other 44) clear_other (operand_text at o) (operand_clear o at words) in
     let link : is_link o && not (has_comma text) ≡ false = and_right (is_link o) _ (ap not (comma_there (operand_text at o) rest clear)) in
     ap (λ c. (if c then Some (Some text, with_value rd 31 (bare w)) else with_first o text (bare w)) >>= (λ q. with_operands (p ∷ os) q.0 q.1)) link
-    ∙ (ap (λ r. r >>= (λ q. with_operands (p ∷ os) q.0 q.1)) (first_taken o at w text (Some rest) fit words a (until_seam 44 (operand_text at o) rest clear refl) (behind_seam 44 (operand_text at o) rest clear refl))
+    ∙ (ap (λ r. r >>= (λ q. with_operands (p ∷ os) q.0 q.1)) (first_taken o at w text (Some rest) fit words a (until_seam 44 (operand_text at o) rest clear refl) (after_some 44 (operand_text at o) rest clear refl))
     ∙ (operands_taken p os at (added (places o) at w) fit words b
     ∙ ap (λ v. Some (bare v)) (sym (added-append (places o) (flat_map places (p ∷ os)) at w))))
 

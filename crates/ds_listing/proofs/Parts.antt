@@ -5,7 +5,7 @@ use Rattle.std.proofs.lemmas.Bool.{and_parts, and_from, lt-ltb, le-ltb, not-true
 use Rattle.std.proofs.lemmas.List.{take_all, reverse-append}
 use Rattle.std.proofs.lemmas.List.Folds.{list_all-append}
 use Rattle.std.proofs.Math.Seq.{take-append_seam, drop-append-add}
-use Rattle.ds_asm.specs.Characters.{is_blank, without_front_blanks, without_back_blanks, trimmed, until, behind}
+use Rattle.ds_asm.specs.Characters.{is_blank, without_front_blanks, without_back_blanks, trimmed, until, after}
 use Rattle.ds_asm.specs.Lines.{statement_of, with_label, line_parts, line_of}
 use Rattle.ds_listing.specs.Laws.{alone}
 
@@ -38,8 +38,8 @@ is_other c b = not (b == c)
 pub until_seam : (c : ℕ) (xs ys : List ℕ) → list_all (is_other c) xs ≡ true → (c == c) ≡ true → until c (xs ++ c ∷ ys) ≡ xs
 until_seam c xs ys h itself = rw (stops (is_other c) xs ys c h (ap not itself)) (take-append_seam xs (c ∷ ys))
 
-pub behind_seam : (c : ℕ) (xs ys : List ℕ) → list_all (is_other c) xs ≡ true → (c == c) ≡ true → behind c (xs ++ c ∷ ys) ≡ Some ys
-behind_seam c xs ys h itself =
+pub after_some : (c : ℕ) (xs ys : List ℕ) → list_all (is_other c) xs ≡ true → (c == c) ≡ true → after c (xs ++ c ∷ ys) ≡ Some ys
+after_some c xs ys h itself =
     let long : nat_lt (length xs) (length (xs ++ c ∷ ys)) ≡ true = lt-ltb _ _ (omega (arith, length-append xs (c ∷ ys))) in
     rw (stops (is_other c) xs ys c h (ap not itself), long) (ap (λ zs. Some zs) (drop-append-add xs (c ∷ ys) 1))
 
@@ -55,8 +55,8 @@ seam_there c xs ys h itself =
 pub until_none : (c : ℕ) (xs : List ℕ) → list_all (is_other c) xs ≡ true → until c xs ≡ xs
 until_none c xs h = rw (passes (is_other c) xs h) (take_all (length xs) xs (omega arith))
 
-pub behind_none : (c : ℕ) (xs : List ℕ) → list_all (is_other c) xs ≡ true → behind c xs ≡ None
-behind_none c xs h = let short : nat_lt (length xs) (length xs) ≡ false = le-ltb _ _ (omega arith) in rw (passes (is_other c) xs h, short) refl
+pub after_none : (c : ℕ) (xs : List ℕ) → list_all (is_other c) xs ≡ true → after c xs ≡ None
+after_none c xs h = let short : nat_lt (length xs) (length xs) ≡ false = le-ltb _ _ (omega arith) in rw (passes (is_other c) xs h, short) refl
 
 -- no blanks stand at the end after a text without them
 pub no_back_blanks : (xs : List ℕ) (y : ℕ) (ys : List ℕ) → list_all (λ c. not (is_blank c)) (y ∷ ys) ≡ true → suffix_len is_blank (xs ++ y ∷ ys) ≡ 0
@@ -99,7 +99,7 @@ pub record IsBody (text : List ℕ) : Type 0 where
   pub no_label : list_all (is_other 58) text ≡ true
 
 parts_of : (c : ℕ) (cs : List ℕ) → list_all (is_other 58) (c ∷ cs) ≡ true → line_parts (c ∷ cs) ≡ alone (statement_of (c ∷ cs))
-parts_of c cs h = ap (with_label (c ∷ cs)) (behind_none 58 (c ∷ cs) h)
+parts_of c cs h = ap (with_label (c ∷ cs)) (after_none 58 (c ∷ cs) h)
 
 -- a line says what its statement says
 pub body_line : (text : List ℕ) → IsBody text → line_of text ≡ alone (statement_of text)

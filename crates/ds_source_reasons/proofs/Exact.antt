@@ -4,12 +4,12 @@ use Rattle.std.proofs.lemmas.Bool.{cases_Bool}
 use Rattle.ds_word.specs.OptionBinding.{◌>>=◌}
 use Rattle.ds_isa.specs.Fields as fields
 use Rattle.ds_isa.specs.Fields.{Field, rd}
-use Rattle.ds_asm.specs.Characters.{is_name, trimmed, until, behind}
+use Rattle.ds_asm.specs.Characters.{is_name, trimmed, until, after}
 use Rattle.ds_asm.specs.Numbers.{number_of}
 use Rattle.ds_asm.specs.RegisterNames.{register_of, system_register_of}
 use Rattle.ds_asm.specs.Forms.{Written, form_named}
 use Rattle.ds_asm.specs.Operands.{Instruction, is_code, is_link, bare, before_close, has_comma, with_indexed, with_operand, with_operands, with_signed, with_value}
-use Rattle.ds_asm.specs.Lines.{Statement, Encoded, Byte, Space, mnemonic_of, behind_mnemonic, number_word, instruction_named, statement_named, statement_of, statement_in, with_statement, with_label, line_of}
+use Rattle.ds_asm.specs.Lines.{Statement, Encoded, Byte, Space, mnemonic_of, after_mnemonic, number_word, instruction_named, statement_named, statement_of, statement_in, with_statement, with_label, line_of}
 use Rattle.ds_source_reasons.specs.declared.reason.Wanted.{Wanted}
 use Rattle.ds_source_reasons.specs.declared.reason.Wanted.TheVariants as wanted
 use Rattle.ds_source_reasons.specs.Operands.{is_base, is_address, fits, wanted_by}
@@ -46,7 +46,7 @@ rest_taken base offset front i (Some r) = inner_taken base offset front i (befor
 
 address_taken : (base offset : Field) (text : List ℕ) (i : Instruction) → is_some (with_indexed base offset text i) ≡ is_address text
 unfolding with_indexed
-address_taken base offset text i = rest_taken base offset (trimmed (until 40 text)) i (behind 40 text)
+address_taken base offset text i = rest_taken base offset (trimmed (until 40 text)) i (after 40 text)
 
 operand_taken : (o : fields.Operand) (text : List ℕ) (i : Instruction) → is_some (with_operand o text i) ≡ fits (wanted_by o) text
 unfolding with_operand fits
@@ -77,8 +77,8 @@ operands_taken (o ∷ os) k None i = elim (cases_Bool (is_code o)) [
 ]
 operands_taken (o ∷ os) k (Some text) i = elim (cases_Bool (is_link o && not (has_comma text))) [
   | inl e ↦ rw e (operands_taken os k (Some text) (with_value rd 31 i))
-  | inr e ↦ rw e (first_taken (misfit k (wanted_by o) (trimmed (until 44 text))) (operands_reason (k + 1) os (behind 44 text)) (behind 44 text) (with_operands os)
-      (with_operand o (trimmed (until 44 text)) i) (fits (wanted_by o) (trimmed (until 44 text))) (operand_taken o (trimmed (until 44 text)) i) (operands_taken os (k + 1) (behind 44 text)))
+  | inr e ↦ rw e (first_taken (misfit k (wanted_by o) (trimmed (until 44 text))) (operands_reason (k + 1) os (after 44 text)) (after 44 text) (with_operands os)
+      (with_operand o (trimmed (until 44 text)) i) (fits (wanted_by o) (trimmed (until 44 text))) (operand_taken o (trimmed (until 44 text)) i) (operands_taken os (k + 1) (after 44 text)))
 ]
 
 -- A statement has a reason where it can't be read.
@@ -115,7 +115,7 @@ statement_taken name left = elim (cases_Bool (bytes_eq name (codes ".word"))) [
 
 text_taken : (label : Option (List ℕ)) (text : List ℕ) → is_some (text_reason text) ≡ not (is_some (with_statement label text))
 text_taken label [] = refl
-text_taken label (c ∷ cs) = statement_taken (mnemonic_of (c ∷ cs)) (behind_mnemonic (c ∷ cs)) ∙ ap not (sym (mapped _ (statement_in (c ∷ cs)) ∙ mapped _ (statement_of (c ∷ cs))))
+text_taken label (c ∷ cs) = statement_taken (mnemonic_of (c ∷ cs)) (after_mnemonic (c ∷ cs)) ∙ ap not (sym (mapped _ (statement_in (c ∷ cs)) ∙ mapped _ (statement_of (c ∷ cs))))
 
 -- A line has one where it can't be read.
 labelled_taken : (label : Option (List ℕ)) (text : List ℕ) → is_some (labelled_reason text) ≡ not (is_some (with_statement label text))
@@ -134,4 +134,4 @@ parts_taken text (Some rest) = elim (cases_Bool (is_name (until 58 text))) [
 -- a line has a reason exactly where the assembler reads nothing from it
 pub reason_exact : (line : List ℕ) → is_some (reason_of line) ≡ not (is_some (line_of line))
 unfolding reason_of line_of
-reason_exact line = let text = trimmed (until 35 line) in mapped (first_reason text) (parts_reason text (behind 58 text)) ∙ parts_taken text (behind 58 text)
+reason_exact line = let text = trimmed (until 35 line) in mapped (first_reason text) (parts_reason text (after 58 text)) ∙ parts_taken text (after 58 text)

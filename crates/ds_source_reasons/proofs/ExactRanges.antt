@@ -3,12 +3,12 @@ use Rattle.std.proofs.Common.{◌≡◌, ◌∙◌, sym, ap, refl, inl, inr, ℕ
 use Rattle.std.proofs.lemmas.Bool.{cases_Bool}
 use Rattle.ds_word.specs.OptionBinding.{◌>>=◌}
 use Rattle.ds_isa.specs.Fields.{Field, rd, Operand, Register, LinkRegister, SystemRegister, Number, Code, Signed, Branch, Jump, Indexed}
-use Rattle.ds_asm.specs.Characters.{is_name, trimmed, until, behind}
+use Rattle.ds_asm.specs.Characters.{is_name, trimmed, until, after}
 use Rattle.ds_asm.specs.Numbers.{number_of, is_within}
 use Rattle.ds_asm.specs.RegisterNames.{register_of, system_register_of}
 use Rattle.ds_asm.specs.Forms.{Written, form_named}
 use Rattle.ds_asm.specs.Operands.{Instruction, Target, BranchTo, JumpTo, bare, before_close, has_comma, is_code, is_link, with_indexed, with_number, with_operand, with_operands, with_register, with_signed, with_target, with_value}
-use Rattle.ds_asm.specs.Lines.{Statement, Encoded, Byte, Space, mnemonic_of, behind_mnemonic, number_word, statement_named, statement_of, with_statement, with_label, line_of}
+use Rattle.ds_asm.specs.Lines.{Statement, Encoded, Byte, Space, mnemonic_of, after_mnemonic, number_word, statement_named, statement_of, with_statement, with_label, line_of}
 use Rattle.ds_asm.specs.Assembly.{is_reserved_word}
 use Rattle.ds_asm.specs.declared.number.Number as code
 use Rattle.ds_source_reasons.specs.Reasons.{or_next}
@@ -75,7 +75,7 @@ operand_in (Code f) text i = number_in f _ _ text i (number_of text)
 operand_in (Signed f) text i = number_in f _ _ text i (number_of text)
 operand_in (Branch f) text i = label_in (BranchTo text) i (is_name text)
 operand_in (Jump f) text i = label_in (JumpTo text) i (is_name text)
-operand_in (Indexed base offset) text i = rest_in base offset (trimmed (until 40 text)) i (behind 40 text)
+operand_in (Indexed base offset) text i = rest_in base offset (trimmed (until 40 text)) i (after 40 text)
 
 -- operands one after the other
 both_in : (b : Bool) (a more : Option RangeReason) → ((b && not (is_some a)) && not (is_some more)) ≡ (b && not (is_some (or_next a more)))
@@ -101,8 +101,8 @@ operands_in (o ∷ os) None i = elim (cases_Bool (is_code o)) [
 ]
 operands_in (o ∷ os) (Some text) i = elim (cases_Bool (is_link o && not (has_comma text))) [
   | inl e ↦ rw e (operands_in os (Some text) (with_value rd 31 i))
-  | inr e ↦ rw e (first_in i.in_range (operand_range o (trimmed (until 44 text))) (operands_range os (behind 44 text)) (behind 44 text) (with_operands os)
-      (with_operand o (trimmed (until 44 text)) i) (operand_in o (trimmed (until 44 text)) i) (operands_in os (behind 44 text)))
+  | inr e ↦ rw e (first_in i.in_range (operand_range o (trimmed (until 44 text))) (operands_range os (after 44 text)) (after 44 text) (with_operands os)
+      (with_operand o (trimmed (until 44 text)) i) (operand_in o (trimmed (until 44 text)) i) (operands_in os (after 44 text)))
 ]
 
 -- Statements.
@@ -193,7 +193,7 @@ line_at at label (Some s) = refl
 
 text_in : (at : ℕ) (label : Option (List ℕ)) (text : List ℕ) → is_some (text_range at text) ≡ is_out_of_range at (with_statement label text)
 text_in at label [] = refl
-text_in at label (c ∷ cs) = named_in at (mnemonic_of (c ∷ cs)) (behind_mnemonic (c ∷ cs)) ∙ line_at at label (statement_of (c ∷ cs))
+text_in at label (c ∷ cs) = named_in at (mnemonic_of (c ∷ cs)) (after_mnemonic (c ∷ cs)) ∙ line_at at label (statement_of (c ∷ cs))
 
 parts_in : (at : ℕ) (text : List ℕ) (rest : Option (List ℕ)) → is_some (parts_range at text rest) ≡ is_out_of_range at (with_label text rest)
 parts_in at text None = text_in at None text
@@ -205,4 +205,4 @@ parts_in at text (Some rest) = elim (cases_Bool (is_name (until 58 text))) [
 -- a line's statement has a reason exactly where the assembler refuses it at its place
 pub range_exact : (at : ℕ) (line : List ℕ) → is_some (range_reason_of at line) ≡ is_out_of_range at (line_of line)
 unfolding range_reason_of line_of
-range_exact at line = let text = trimmed (until 35 line) in parts_in at text (behind 58 text)
+range_exact at line = let text = trimmed (until 35 line) in parts_in at text (after 58 text)

@@ -2,7 +2,7 @@
 use Rattle.std.specs.Prelude.{ℕ, Bool, false, not, ◌&&◌, ◌||◌, List, count_by, Option, Some, None, option_map, is_some}
 use Rattle.ds_word.specs.OptionBinding.{◌>>=◌}
 use Rattle.ds_isa.specs.Fields as fields
-use Rattle.ds_asm.specs.Characters.{is_name, trimmed, until, behind}
+use Rattle.ds_asm.specs.Characters.{is_name, trimmed, until, after}
 use Rattle.ds_asm.specs.Numbers.{number_of}
 use Rattle.ds_asm.specs.RegisterNames.{register_of, system_register_of}
 use Rattle.ds_asm.specs.Operands.{before_close, is_code, is_link}
@@ -11,7 +11,7 @@ use Rattle.ds_source_reasons.specs.declared.reason.Wanted.TheVariants as wanted
 
 -- what stands in the parentheses at the end of an address
 abbrev pub base_of : List ℕ → Option (List ℕ)
-base_of text = option_map trimmed (behind 40 text >>= before_close)
+base_of text = option_map trimmed (after 40 text >>= before_close)
 
 -- whether there is a base, and it is a register
 abbrev pub is_base : Option (List ℕ) → Bool

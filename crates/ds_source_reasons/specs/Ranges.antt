@@ -1,13 +1,13 @@
 -- Why a statement that can be read may not stand where it stands.
 use Rattle.std.specs.Prelude.{codes, ℕ, ◌-◌, ◌%◌, ◌^◌, Bool, true, false, not, ◌&&◌, ◌==◌, bytes_eq, if◌then◌else◌, List, [], ◌∷◌, Option, Some, None, option_map}
 use Rattle.ds_isa.specs.Fields.{Operand, Register, LinkRegister, SystemRegister, Number, Code, Signed, Branch, Jump, Indexed}
-use Rattle.ds_asm.specs.Characters.{is_name, trimmed, until, behind}
+use Rattle.ds_asm.specs.Characters.{is_name, trimmed, until, after}
 use Rattle.ds_asm.specs.declared.number.Number as code
 use Rattle.ds_asm.specs.Numbers.{number_of, is_within}
 use Rattle.ds_asm.specs.Forms.{Written, form_named}
 use Rattle.ds_asm.specs.Operands as operands
 use Rattle.ds_asm.specs.Operands.{has_comma, is_link}
-use Rattle.ds_asm.specs.Lines.{Statement, Encoded, WordNumber, WordLabel, Byte, Space, Line, mnemonic_of, behind_mnemonic, statement_named, line_of}
+use Rattle.ds_asm.specs.Lines.{Statement, Encoded, WordNumber, WordLabel, Byte, Space, Line, mnemonic_of, after_mnemonic, statement_named, line_of}
 use Rattle.ds_asm.specs.Assembly.{is_reserved_word, is_in_range, is_aligned}
 use Rattle.ds_source_reasons.specs.declared.shape.Shape.{Shape}
 use Rattle.ds_source_reasons.specs.declared.shape.Shape.TheVariants as shape
@@ -57,7 +57,7 @@ operands_range [] left = None
 operands_range (o ∷ os) None = operands_range os None
 operands_range (o ∷ os) (Some text) =
     if is_link o && not (has_comma text) then operands_range os (Some text)
-    else or_next (operand_range o (trimmed (until 44 text))) (operands_range os (behind 44 text))
+    else or_next (operand_range o (trimmed (until 44 text))) (operands_range os (after 44 text))
 
 -- the reason of the number of a directive
 abbrev pub datum_range : ℕ → ℕ → Option (List ℕ) → Option RangeReason
@@ -115,7 +115,7 @@ named_range at name left = shaped_range at name (number_range name left) (option
 -- the reason of the text of a statement
 abbrev pub text_range : ℕ → List ℕ → Option RangeReason
 text_range at [] = None
-text_range at (c ∷ cs) = named_range at (mnemonic_of (c ∷ cs)) (behind_mnemonic (c ∷ cs))
+text_range at (c ∷ cs) = named_range at (mnemonic_of (c ∷ cs)) (after_mnemonic (c ∷ cs))
 
 -- the reason of a text, which a colon parts into a label and a statement
 abbrev pub parts_range : ℕ → List ℕ → Option (List ℕ) → Option RangeReason
@@ -124,7 +124,7 @@ parts_range at text (Some rest) = if is_name (until 58 text) then text_range at 
 
 -- why the statement of a line may not stand at a place of the image
 unfoldable pub range_reason_of : ℕ → List ℕ → Option RangeReason
-range_reason_of at line = parts_range at (trimmed (until 35 line)) (behind 58 (trimmed (until 35 line)))
+range_reason_of at line = parts_range at (trimmed (until 35 line)) (after 58 (trimmed (until 35 line)))
 
 -- Targets.
 

@@ -1,11 +1,11 @@
 -- Why a line of a source can't be read.
 use Rattle.std.specs.Prelude.{codes, ℕ, ◌+◌, Bool, false, not, ◌&&◌, ◌||◌, ◌==◌, nat_le, bytes_eq, if◌then◌else◌, List, [], ◌∷◌, length, take, drop, count_by, Option, Some, None, option_map, is_some}
 use Rattle.std.specs.List.{find, list_any, position_or_len}
-use Rattle.ds_asm.specs.Characters.{is_blank, is_letter, is_digit, is_name, without_front_blanks, without_back_blanks, trimmed, until, behind}
+use Rattle.ds_asm.specs.Characters.{is_blank, is_letter, is_digit, is_name, without_front_blanks, without_back_blanks, trimmed, until, after}
 use Rattle.ds_isa.specs.Fields.{Operand}
 use Rattle.ds_asm.specs.Forms.{Written, form_named}
 use Rattle.ds_asm.specs.Operands.{has_comma, is_code, is_link}
-use Rattle.ds_asm.specs.Lines.{mnemonic_of, behind_mnemonic}
+use Rattle.ds_asm.specs.Lines.{mnemonic_of, after_mnemonic}
 use Rattle.ds_asm.specs.RegisterNames.{register_of}
 use Rattle.ds_source_reasons.specs.declared.reason.Wanted.{Wanted}
 use Rattle.ds_source_reasons.specs.declared.reason.Wanted.TheVariants as wanted
@@ -76,7 +76,7 @@ operands_reason k [] (Some text) = Some (TextAfter text)
 operands_reason k (o ∷ os) None = if is_code o then operands_reason (k + 1) os None else Some (WrongOperand k (wanted_by o) [])
 operands_reason k (o ∷ os) (Some text) =
     if is_link o && not (has_comma text) then operands_reason k os (Some text)
-    else or_next (operand_reason k (wanted_by o) (trimmed (until 44 text))) (operands_reason (k + 1) os (behind 44 text))
+    else or_next (operand_reason k (wanted_by o) (trimmed (until 44 text))) (operands_reason (k + 1) os (after 44 text))
 
 -- how many operands a text has, which commas part
 abbrev pub operand_count : Option (List ℕ) → ℕ
@@ -123,7 +123,7 @@ statement_reason name left =
 -- the reason of the text of a statement; an empty one has none
 abbrev pub text_reason : List ℕ → Option Reason
 text_reason [] = None
-text_reason (c ∷ cs) = statement_reason (mnemonic_of (c ∷ cs)) (behind_mnemonic (c ∷ cs))
+text_reason (c ∷ cs) = statement_reason (mnemonic_of (c ∷ cs)) (after_mnemonic (c ∷ cs))
 
 -- Lines.
 
@@ -189,13 +189,13 @@ return_reason text = if has_byte 13 text then Some CarriageReturn else None
 abbrev pub first_reason : List ℕ → Reason → Reason
 first_reason text why =
     or_reason (mark_reason text)
-    (or_reason (word_reason (mnemonic_of (statement_text text (behind 58 text))))
+    (or_reason (word_reason (mnemonic_of (statement_text text (after 58 text))))
     (or_reason (byte_reason text)
     (or_reason (return_reason text) why)))
 
 -- why what a line says up to its comment can't be read
 abbrev pub said_reason : List ℕ → Option Reason
-said_reason text = option_map (first_reason text) (parts_reason text (behind 58 text))
+said_reason text = option_map (first_reason text) (parts_reason text (after 58 text))
 
 -- why a line can't be read
 unfoldable pub reason_of : List ℕ → Option Reason

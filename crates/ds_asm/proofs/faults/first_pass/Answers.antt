@@ -1,7 +1,7 @@
 use Rattle.std.proofs.Common.{◌≡◌, ◌+◌, ◌∙◌, sym, ap, refl, length, arith, [], ◌∷◌, ◌++◌, rules}
 use Rattle.ds_asm.specs.Faults.{labels_past}
 use Rattle.ds_asm.specs.Lines.{line_of}
-use Rattle.ds_asm.proofs.SourceLines.{lines_of-first, behind_within, layout_good, layout_end}
+use Rattle.ds_asm.proofs.SourceLines.{lines_of-first, after_within, layout_good, layout_end}
 use Rattle.ds_asm.proofs.AllFaults.{one_more, none_with, first_good, first_bad}
 use Rattle.ds_asm.proofs.faults.first_pass.Goals as goal
 
@@ -9,7 +9,7 @@ pub loop-rest-preserved-in-Ok : goal.loop-rest-preserved-in-Ok
 loop-rest-preserved-in-Ok c =
     let (m, laid, same, good) = c.loop-rest.invariant.same in
     let (next, said, laid_next) = c.in-Ok.ensures.said m laid in
-    let first = lines_of-first c.loop-rest.rest.now c.first_line.result.0.now c.first_line.result.1.now (sym c.loop-rest-test.ensures) c.first_line.ensures.line c.first_line.ensures.behind in
+    let first = lines_of-first c.loop-rest.rest.now c.first_line.result.0.now c.first_line.result.1.now (sym c.loop-rest-test.ensures) c.first_line.ensures.line c.first_line.ensures.after in
     let step = first_good (c.loop-rest.number + 1) m next c.loop-rest.rest.now c.first_line.result.0.now c.first_line.result.1.now first said in
     record {
       same = (
@@ -19,7 +19,7 @@ loop-rest-preserved-in-Ok c =
         (λ none. sym (layout_good (c.loop-rest.number + 1) m next c.loop-rest.rest.now c.first_line.result.0.now c.first_line.result.1.now first said) ∙ good none),
       );
       fits = c.in-Ok.ensures.fits;
-      within = behind_within c.loop-rest.number (length c.args.text.now) c.loop-rest.rest.now c.first_line.result.1.now c.first_line.ensures.behind (sym c.loop-rest-test.ensures) c.loop-rest.invariant.within;
+      within = after_within c.loop-rest.number (length c.args.text.now) c.loop-rest.rest.now c.first_line.result.1.now c.first_line.ensures.after (sym c.loop-rest-test.ensures) c.loop-rest.invariant.within;
     }
 
 pub loop-rest-preserved : goal.loop-rest-preserved
@@ -28,7 +28,7 @@ loop-rest-preserved c =
     let said = rw c.in-Err-Source.field-0-is at (c.in-Err-Source.ensures.said m laid) in
     let held = rw c.in-Err-Source.field-0-is at c.in-Err-Source.ensures.left in
     let added : c.push.new.self.items ≡ c.loop-rest.faults.items ++ c.in-Err-Source.fault ∷ [] = c.in_ok-push-in-Err-Source.ensures.items in
-    let first = lines_of-first c.loop-rest.rest.now c.first_line.result.0.now c.first_line.result.1.now (sym c.loop-rest-test.ensures) c.first_line.ensures.line c.first_line.ensures.behind in
+    let first = lines_of-first c.loop-rest.rest.now c.first_line.result.0.now c.first_line.result.1.now (sym c.loop-rest-test.ensures) c.first_line.ensures.line c.first_line.ensures.after in
     let step = first_bad (c.loop-rest.number + 1) m c.in-Err-Source.fault c.loop-rest.rest.now c.first_line.result.0.now c.first_line.result.1.now first said in
     record {
       same = (
@@ -38,7 +38,7 @@ loop-rest-preserved c =
         (λ none. absurd (none_with c.loop-rest.faults.items c.in-Err-Source.fault (sym added ∙ none))),
       );
       fits = omega arith;
-      within = behind_within c.loop-rest.number (length c.args.text.now) c.loop-rest.rest.now c.first_line.result.1.now c.first_line.ensures.behind (sym c.loop-rest-test.ensures) c.loop-rest.invariant.within;
+      within = after_within c.loop-rest.number (length c.args.text.now) c.loop-rest.rest.now c.first_line.result.1.now c.first_line.ensures.after (sym c.loop-rest-test.ensures) c.loop-rest.invariant.within;
     }
 
 pub returns-clause-laid : goal.returns-clause-laid

@@ -4,14 +4,14 @@ use Rattle.ds_word.proofs.ResultBinding.{bind_ok}
 use Rattle.ds_asm.specs.Assembly.{with_line, with_lines, lines_of}
 use Rattle.ds_asm.specs.Assembling.{held_address}
 use Rattle.ds_asm.specs.Lines.{line_of}
-use Rattle.ds_asm.proofs.SourceLines.{lines_of-first, behind_within}
+use Rattle.ds_asm.proofs.SourceLines.{lines_of-first, after_within}
 use Rattle.ds_asm.proofs.AllFaults.{laid_size, one_more, second_step}
 use Rattle.ds_asm.proofs.faults.second_faults.Goals as goal
 
 pub overflow_add-place : goal.overflow_add-place
 overflow_add-place c =
     let (m, last, size, said) = c.loop-rest.invariant.laid in
-    let first = lines_of-first c.loop-rest.rest.now c.first_line.result.0.now c.first_line.result.1.now (sym c.loop-rest-test.ensures) c.first_line.ensures.line c.first_line.ensures.behind in
+    let first = lines_of-first c.loop-rest.rest.now c.first_line.result.0.now c.first_line.result.1.now (sym c.loop-rest-test.ensures) c.first_line.ensures.line c.first_line.ensures.after in
     let (next, a, b) = bind_ok (with_line (c.loop-rest.number + 1) (line_of c.first_line.result.0.now) m) (λ more. with_lines (c.loop-rest.number + 1 + 1) more (lines_of c.first_line.result.1.now)) last (subst (λ ls. with_lines (c.loop-rest.number + 1) m ls ≡ Ok last) first said) in
     let (grown, room) = laid_size (c.loop-rest.number + 1) m next (line_of c.first_line.result.0.now) (omega (arith, c.loop-rest.invariant.fits)) a in
     omega (arith, c.source_line.ensures.size, c.loop-rest.invariant.fits)
@@ -19,7 +19,7 @@ overflow_add-place c =
 pub loop-rest-preserved : goal.loop-rest-preserved
 loop-rest-preserved c =
     let (m, last, size, said) = c.loop-rest.invariant.laid in
-    let first = lines_of-first c.loop-rest.rest.now c.first_line.result.0.now c.first_line.result.1.now (sym c.loop-rest-test.ensures) c.first_line.ensures.line c.first_line.ensures.behind in
+    let first = lines_of-first c.loop-rest.rest.now c.first_line.result.0.now c.first_line.result.1.now (sym c.loop-rest-test.ensures) c.first_line.ensures.line c.first_line.ensures.after in
     let (next, a, b) = bind_ok (with_line (c.loop-rest.number + 1) (line_of c.first_line.result.0.now) m) (λ more. with_lines (c.loop-rest.number + 1 + 1) more (lines_of c.first_line.result.1.now)) last (subst (λ ls. with_lines (c.loop-rest.number + 1) m ls ≡ Ok last) first said) in
     let (grown, room) = laid_size (c.loop-rest.number + 1) m next (line_of c.first_line.result.0.now) (omega (arith, c.loop-rest.invariant.fits)) a in
     let added : c.push_fault.new.faults.items ≡ c.loop-rest.faults.items ++ option_to_list c.second_fault.result = c.in_ok-push_fault.ensures in
@@ -28,5 +28,5 @@ loop-rest-preserved c =
       same = rw (added, c.second_fault.ensures, c.source_line.ensures.size) (one_more c.loop-rest.faults.items _ _ _ _ step c.loop-rest.invariant.same);
       laid = (next, last, omega (arith, c.source_line.ensures.size), b);
       fits = omega (arith, c.source_line.ensures.size, c.loop-rest.invariant.fits);
-      within = behind_within c.loop-rest.number (length c.args.text.now) c.loop-rest.rest.now c.first_line.result.1.now c.first_line.ensures.behind (sym c.loop-rest-test.ensures) c.loop-rest.invariant.within;
+      within = after_within c.loop-rest.number (length c.args.text.now) c.loop-rest.rest.now c.first_line.result.1.now c.first_line.ensures.after (sym c.loop-rest-test.ensures) c.loop-rest.invariant.within;
     }

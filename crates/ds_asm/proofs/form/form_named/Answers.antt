@@ -1,10 +1,8 @@
-use Rattle.std.proofs.Common.{ap, map, rules}
-use Rattle.ds_asm.specs.Forms.{written_of}
-use Rattle.ds_asm.proofs.WrittenForms.{seen_form, seen_letter}
+use Rattle.ds_asm.proofs.WrittenForms.{nothing_named, seen_with}
 use Rattle.ds_asm.proofs.form.form_named.Goals as goal
 
-pub returns-then-name-eq1 : goal.returns-then-name-eq1
-returns-then-name-eq1 c = search (rules, seen_letter)
+pub returns-in-empty : goal.returns-in-empty
+returns-in-empty c = nothing_named c.args.name.now c.in-empty.len_below
 
-pub returns : goal.returns
-returns c = seen_form c.find_form-2.result c.args.name.now _ c.find_form-2.ensures (ap (map written_of) c.as_slice.ensures)
+pub returns-in-len1-up : goal.returns-in-len1-up
+returns-in-len1-up c = seen_with c.find_form.result c.args.name.now c.forms_with.result.now c.in-len1-up.len_at_least c.find_form.ensures c.forms_with.ensures

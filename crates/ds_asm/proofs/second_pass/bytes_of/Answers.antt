@@ -1,20 +1,20 @@
 use Rattle.std.proofs.Common.{◌+◌, ◌∙◌, sym, subst, length, rules}
 use Rattle.ds_asm.specs.Assembling.{Fails, held_address}
-use Rattle.ds_asm.proofs.SourceLines.{lines_of-first, behind_within, bytes_good, bytes_bad, bytes_end}
+use Rattle.ds_asm.proofs.SourceLines.{lines_of-first, after_within, bytes_good, bytes_bad, bytes_end}
 use Rattle.ds_asm.proofs.second_pass.bytes_of.Goals as goal
 
 pub returns-in-Err : goal.returns-in-Err
 returns-in-Err c =
-    let first = lines_of-first c.loop-rest.rest.now c.first_line.result.0.now c.first_line.result.1.now (sym c.loop-rest-test.ensures) c.first_line.ensures.line c.first_line.ensures.behind in
+    let first = lines_of-first c.loop-rest.rest.now c.first_line.result.0.now c.first_line.result.1.now (sym c.loop-rest-test.ensures) c.first_line.ensures.line c.first_line.ensures.after in
     subst (Fails c.in-Err.fault) c.loop-rest.invariant.same (bytes_bad c.in-Err.fault (c.loop-rest.number + 1) (held_address c.args.labels.now) c.loop-rest.bytes.items c.loop-rest.rest.now c.first_line.result.0.now c.first_line.result.1.now first c.in-Err.ensures)
 
 pub loop-rest-preserved : goal.loop-rest-preserved
 loop-rest-preserved c =
     let (more, said, added) = c.in-Ok.ensures in
-    let first = lines_of-first c.loop-rest.rest.now c.first_line.result.0.now c.first_line.result.1.now (sym c.loop-rest-test.ensures) c.first_line.ensures.line c.first_line.ensures.behind in
+    let first = lines_of-first c.loop-rest.rest.now c.first_line.result.0.now c.first_line.result.1.now (sym c.loop-rest-test.ensures) c.first_line.ensures.line c.first_line.ensures.after in
     record {
       same = rw added (sym (bytes_good (c.loop-rest.number + 1) (held_address c.args.labels.now) c.loop-rest.bytes.items more c.loop-rest.rest.now c.first_line.result.0.now c.first_line.result.1.now first said) ∙ c.loop-rest.invariant.same);
-      within = behind_within c.loop-rest.number (length c.args.text.now) c.loop-rest.rest.now c.first_line.result.1.now c.first_line.ensures.behind (sym c.loop-rest-test.ensures) c.loop-rest.invariant.within;
+      within = after_within c.loop-rest.number (length c.args.text.now) c.loop-rest.rest.now c.first_line.result.1.now c.first_line.ensures.after (sym c.loop-rest-test.ensures) c.loop-rest.invariant.within;
     }
 
 pub returns : goal.returns

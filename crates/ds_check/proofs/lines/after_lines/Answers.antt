@@ -1,13 +1,13 @@
 use Rattle.std.proofs.Common.{◌∙◌, sym, length, arith}
-use Rattle.ds_asm.proofs.SourceLines.{behind_within, lines_of-first}
+use Rattle.ds_asm.proofs.SourceLines.{after_within, lines_of-first}
 use Rattle.ds_check.proofs.LineSteps.{one_less}
 use Rattle.ds_check.proofs.lines.after_lines.Goals as goal
 
 pub loop-left-preserved : goal.loop-left-preserved
 loop-left-preserved c = record {
   lines = one_less c.loop-left.left c.loop-left.rest.now c.first_line.result.0.now c.first_line.result.1.now
-      (lines_of-first c.loop-left.rest.now c.first_line.result.0.now c.first_line.result.1.now (sym c.if-not-is_empty.ensures) c.first_line.ensures.line c.first_line.ensures.behind)
+      (lines_of-first c.loop-left.rest.now c.first_line.result.0.now c.first_line.result.1.now (sym c.if-not-is_empty.ensures) c.first_line.ensures.line c.first_line.ensures.after)
       (omega (arith, c.loop-left-test.true))
       ∙ c.loop-left.invariant.lines;
-  within = omega (arith, behind_within 0 (length c.args.text.now) c.loop-left.rest.now c.first_line.result.1.now c.first_line.ensures.behind (sym c.if-not-is_empty.ensures) (omega (arith, c.loop-left.invariant.within)));
+  within = omega (arith, after_within 0 (length c.args.text.now) c.loop-left.rest.now c.first_line.result.1.now c.first_line.ensures.after (sym c.if-not-is_empty.ensures) (omega (arith, c.loop-left.invariant.within)));
 }

@@ -10,7 +10,7 @@ loop-at-init c = record {
 
 pub loop-at-preserved : goal.loop-at-preserved
 loop-at-preserved c = record {
-  stands = at_next c.args.pages.now c.args.text.now c.args.number c.loop-at.latest _ c.loop-at.at c.loop-at.left.now _ _ c.loop-at.invariant.stands (omega arith) c.first_line.ensures.line c.first_line.ensures.behind c.latest_after-latest.ensures;
+  stands = at_next c.args.pages.now c.args.text.now c.args.number c.loop-at.latest _ c.loop-at.at c.loop-at.left.now _ _ c.loop-at.invariant.stands (omega arith) c.first_line.ensures.line c.first_line.ensures.after c.latest_after-latest.ensures;
   within = omega arith;
 }
 
