@@ -28,6 +28,7 @@ class File:
         self.reasons = []  # of each refusal: its call, and all that speaks against it
         self.splits = []  # of copies.txt: of each store, whether its page is marked, and whether it moves
         self.changes = []  # of spaces.txt: each call, its process's kind, and whether the buffer has what changes
+        self.reached = []  # of families.txt: of each call that is done, how many entries descended from its own, and how many stood above
 
     def ask(self, asked, told=False):
         self.model, answered = answer(self.model, asked)
@@ -89,9 +90,9 @@ def undone(file, asked, p, at):
 
 def restored(file, p, at, entry):
     """Puts back an entry that was there."""
-    right, page, rule, give, giver = entry
-    if giver:
-        file.ask(f"give {giver} {at:08x} {p} {at:08x} 1")
+    right, page, rule, give, giver, parent = entry
+    if parent:
+        file.ask(f"give {giver} {parent[1]:08x} {p} {at:08x} 1")
     else:
         had = "write" if right == "nothing" else right
         file.ask(f"grant {p} {at:08x} {page or 0} {had} {'give' if give else 'keep'} {rule}")
@@ -150,42 +151,44 @@ def mostly(rng, good, every):
 
 def free_places(model, p, places):
     """Where a process has room for an entry."""
-    return [at for at in places if is_page(at) and model.at(p, at)[0] == "nothing" and not model.is_fifth(p, at)]
+    return [at for at in places if is_page(at) and model.at(p, at).right == "nothing" and not model.is_fifth(p, at)]
 
 
 def random_split(model, rng):
     """A page that may be written somewhere gets a frame of its own; more often than not one that may share its frame."""
-    writers = [(p, at) for p, row in model.entries.items() for at, entry in row.items() if entry[0] == "write"]
-    marked = [(p, at) for p, at in writers if model.at(p, at)[1] in model.marked]
+    writers = [(p, at) for p, row in model.entries.items() for at, entry in row.items() if entry.right == "write"]
+    marked = [(p, at) for p, at in writers if model.at(p, at).page in model.marked]
     if not writers:
         return None
     p, at = mostly(rng, marked, writers)
     return f"split {p} {at:08x}"
 
 
-def random_call(model, rng, processes, places):
+USUAL = {"grant": 20, "give": 34, "take": 10, "drop": 10, "revoke": 5, "narrow": 5, "write": 10, "fill": 14, "split": 8, "end": 0.2}
+
+
+def random_call(model, rng, processes, places, often=USUAL, modes=(1, 2, 3, 3)):
     """A call or command, which more often than not isn't refused."""
     alive = [p for p in processes if model.lives(p)]
     p, q = mostly(rng, alive, processes), mostly(rng, alive, processes)
-    verb = rng.choices(["grant", "give", "take", "drop", "revoke", "narrow", "write", "fill", "split", "end"],
-                       [20, 34, 10, 10, 5, 5, 10, 14, 8, 0.2])[0]
+    verb = rng.choices(list(often), list(often.values()))[0]
     if verb == "fill" and p not in alive:
         p = alive[0]
     if verb == "split":
         return random_split(model, rng) or f"fill {alive[0]} {rng.choice(places):08x}"
-    held = [at for at, entry in model.row(p).items() if entry[1] is not None]
+    held = [at for at, entry in model.row(p).items() if entry.page is not None]
     at = mostly(rng, held, places)
     if verb == "grant":
         right, give = rng.choice(["read", "write", "write"]), rng.choice(["give", "give", "give", "keep"])
         at = mostly(rng, free_places(model, p, places), places)
         return f"grant {p} {at:08x} {rng.randrange(model.named)} {right} {give} {rng.randrange(1000)}"
     if verb == "give":
-        at = mostly(rng, [at for at in held if model.at(p, at)[3]], places)
+        at = mostly(rng, [at for at in held if model.at(p, at).give], places)
         to = mostly(rng, free_places(model, q, places), places)
-        return f"give {p} {at:08x} {q} {to:08x} {mostly(rng, [1, 2, 3, 3], [0, 4])}"
+        return f"give {p} {at:08x} {q} {to:08x} {mostly(rng, modes, [0, 4])}"
     if verb == "take":
-        at = mostly(rng, [at for at, entry in model.row(q).items() if entry[4]], places)
-        return f"take {mostly(rng, [model.at(q, at)[4] or p], processes)} {q} {at:08x}"
+        at = mostly(rng, [at for at, entry in model.row(q).items() if entry.giver], places)
+        return f"take {mostly(rng, [model.at(q, at).giver or p], processes)} {q} {at:08x}"
     if verb == "write":
         own = [page for page in model.live_pages() if page not in model.marked]
         return f"write {rng.choice(own)} {rng.randrange(256)}" if own else f"fill {alive[0]} {at:08x}"
@@ -250,15 +253,15 @@ def change_of(model, rng, p):
     """A call or command that changes an entry of this process, and where."""
     row, others = model.row(p), [q for q in model.entries if model.lives(q)]
     at = rng.choice([at for at in SPACE_PLACES if model.held(p, at) is not None] or SPACE_PLACES)
-    _, page, _, _, giver = model.at(p, at)
-    if at not in row or page is None:
+    entry = model.at(p, at)
+    if at not in row or entry.page is None:
         q = rng.choice(others)
-        sources = [a for a, (_, page, _, give, _) in model.row(q).items() if page is not None and give]
+        sources = [a for a, source in model.row(q).items() if source.page is not None and source.give]
         if at not in row and sources and rng.random() < 0.75:
             return f"give {q} {rng.choice(sources):08x} {p} {at:08x} {rng.choice([1, 1, 3])}", at
         return f"grant {p} {at:08x} {rng.randrange(model.named)} {rng.choice(['read', 'write'])} give 2", at
-    if giver and rng.random() < 0.875:
-        return f"take {giver} {p} {at:08x}", at
+    if entry.giver and rng.random() < 0.875:
+        return f"take {entry.giver} {p} {at:08x}", at
     return rng.choice([f"narrow {p} {at:08x}", f"narrow {p} {at:08x}", f"revoke {p} {at:08x} 3",
                        f"drop {p} {at:08x} own", f"drop {p} {at:08x} command"]), at
 
@@ -321,7 +324,7 @@ def spaces():
 
 def store(file, p, at, byte):
     """A process stores to its page: that gets a frame of its own first, if it shares one."""
-    page = file.model.at(p, at)[1]
+    page = file.model.at(p, at).page
     is_marked, frame = page in file.model.marked, file.model.lies[page]
     file.ask(f"split {p} {at:08x}")
     file.splits.append((is_marked, file.model.lies[page] != frame))
@@ -416,7 +419,7 @@ def copies_of_one(file):
         if n % 16 == 0:
             file.ask(f"fill {p} {at:08x}")
         store(file, p, at, n % 256)
-        file.ask(f"frame {file.model.at(p, at)[1]}")
+        file.ask(f"frame {file.model.at(p, at).page}")
         if n % 16 == 0:
             file.ask(f"translation {p} {at:08x}")
     for page in file.model.live_pages():
@@ -467,8 +470,190 @@ def copies():
     return file
 
 
-WRITTEN = {"refusals.txt": refusals, "sequences.txt": sequences, "many.txt": many, "spaces.txt": spaces, "copies.txt": copies}
-REPLAYED = ("refusals.txt", "stories.txt", "sequences.txt", "many.txt", "spaces.txt", "copies.txt")
+def places_of(model):
+    return [(p, at) for p, row in model.entries.items() for at in row]
+
+
+def above(model, place):
+    """How many entries stand above the one at a place."""
+    parent = model.at(*place).parent
+    return 0 if parent is None else 1 + above(model, parent)
+
+
+def relatives(model, asked):
+    """How many descend from the entry of a call, and how many stand above it; at the end of a process, the most of one of its."""
+    verb, *words = asked.split()
+    if verb == "end":
+        changed = [(int(words[0]), at) for at in model.row(int(words[0]))]
+    else:
+        p, at = words[1:3] if verb == "take" else words[:2]
+        changed = [(int(p), int(at, 16))]
+    return max((len(model.family(place)) - 1 for place in changed), default=0), max((above(model, place) for place in changed), default=0)
+
+
+def reach(file, asked):
+    """A call; then every entry that stood before it or stands now is asked, and what the buffer has where it had something."""
+    model, places, reached = file.model, places_of(file.model), relatives(file.model, asked)
+    held = [place for place in places if model.held(*place) is not None]
+    if file.ask(asked) == "ok":
+        file.reached.append((asked.split()[0], *reached))
+    for p, at in places + [place for place in places_of(model) if place not in places]:
+        file.ask(f"entry {p} {at:08x}")
+    for p, at in held:
+        file.ask(f"translation {p} {at:08x}")
+    for p, row in model.entries.items():
+        if row:
+            file.ask(f"addresses {p}")
+
+
+def share(file, places, mode=2, fill=True):
+    """Each process shares what it has with the next, from the place where the first was granted a page on."""
+    file.ask(f"grant {places[0][0]} {places[0][1]:08x} 0 write give 1")
+    for (p, at), (q, to) in itertools.pairwise(places):
+        file.ask(f"give {p} {at:08x} {q} {to:08x} {mode}")
+    for p, at in places if fill else []:
+        file.ask(f"fill {p} {at:08x}")
+
+
+def told(place):
+    return f"{place[0]} {place[1]:08x}"
+
+
+def long_chains(file):
+    """A page that two processes share with each other, 255 times one after the other."""
+    places = [(k % 2 + 1, 0x1000 * (k // 2 + 1)) for k in range(256)]
+    changes = [
+        [f"give {told(places[255])} {told(places[0])} 2", f"give {told(places[255])} {told(places[100])} 1",  # back to those above
+         f"drop {told(places[101])} own", f"take {places[101][0]} {told(places[102])}", f"take {places[99][0]} {told(places[100])}"],
+        ["end 2", f"revoke {told(places[0])} 9"],
+        [f"narrow {told(places[50])}", f"take {places[0][0]} {told(places[1])}", f"give {told(places[0])} {told(places[1])} 2"],
+        [f"revoke {told(places[128])} 9", f"drop {told(places[128])} command", f"drop {told(places[64])} command", f"revoke {told(places[0])} 10",
+         f"grant {told(places[3])} 0 write give 11"],
+        ["end 1"]]
+    for asked in changes:
+        file.ask("start 2 4 1")
+        share(file, places, fill=False)
+        for p, at in places[::4] + places[1::4]:
+            file.ask(f"fill {p} {at:08x}")
+        for line in asked:
+            reach(file, line)
+
+
+def families_of_a_hundred(file):
+    """A page that each of 100 processes shares with the next; that one shares with all others; and that each shares with two."""
+    for asked in (["end 50", "revoke 1 00001000 9"], ["drop 50 00001000 own", "take 50 51 00001000", "take 48 49 00001000"],
+                  ["end 49", "end 50", "end 51", "take 48 52 00001000", "take 47 48 00001000", "take 1 2 00001000"], ["end 1", "revoke 2 00001000 9"]):
+        file.ask("start 100 4 1")
+        share(file, [(p, 0x1000) for p in range(1, 101)])
+        for line in asked:
+            reach(file, line)
+    for asked in (["take 1 7 00001000", "end 8", "revoke 1 00001000 9"], ["drop 1 00001000 own", "revoke 9 00001000 9"], ["end 1"]):
+        file.ask("start 100 4 1")
+        file.ask("grant 1 00001000 0 write give 1")
+        for p in range(2, 101):
+            file.ask(f"give 1 00001000 {p} 00001000 2")
+            file.ask(f"give {p} 00001000 {p % 100 + 1} 00002000 1")
+        for p in range(1, 101):
+            file.ask(f"fill {p} 00001000")
+        for line in asked:
+            reach(file, line)
+    for asked in (["drop 3 00001000 own", "end 12", "take 1 2 00001000", "revoke 1 00001000 9"], ["take 1 3 00001000", "take 2 4 00001000", "end 5", "end 1"]):
+        file.ask("start 100 4 1")
+        file.ask("grant 1 00001000 0 write give 1")
+        for p in range(2, 101):
+            file.ask(f"give {p // 2} 00001000 {p} 00001000 {1 if p > 50 else 2}")
+        for p in range(38, 101):
+            file.ask(f"fill {p} 00001000")
+        for line in asked:
+            reach(file, line)
+
+
+def families_with_copies(file):
+    """A share is copied, and the copy shared on: what becomes of the copy and of what was shared from it, and of its page."""
+    for asked in ("take 1 2 00001000", "revoke 1 00001000 9", "revoke 2 00001000 9", "drop 2 00001000 own", "end 2", "end 1",
+                  "take 2 3 00001000", "revoke 3 00001000 9", "drop 3 00001000 command", "end 3", "take 3 4 00001000", "narrow 3 00001000"):
+        file.ask("start 5 3 1")
+        share(file, [(1, 0x1000), (2, 0x1000)])
+        file.ask("write 0 10")
+        file.ask("give 2 00001000 3 00001000 3")
+        file.ask("give 3 00001000 4 00001000 2")
+        file.ask("give 4 00001000 5 00002000 1")
+        file.ask("give 2 00001000 5 00001000 1")
+        for p, at in places_of(file.model):
+            file.ask(f"fill {p} {at:08x}")
+        reach(file, asked)
+        ask_holders(file)
+        for p in range(1, 5):  # by which numbers copies go from now on
+            file.ask(f"give {p} 00001000 {p} 00005000 3")
+            file.ask(f"entry {p} 00005000")
+
+
+def places_used_again(file):
+    """An entry goes, and another is put where it was: what was shared from the first doesn't come of the second."""
+    for gone, left in (("drop 2 00001000 own", ""), ("drop 2 00001000 command", ""), ("take 1 2 00001000", ""), ("revoke 2 00001000 8", ""),
+                       ("end 2", ""), ("drop 1 00001000 own", "grant 1 00001000 0 write give 7")):
+        for asked in ("revoke 2 00001000 9", "drop 2 00001000 command", "take 1 2 00001000", "revoke 1 00001000 9", "take 2 3 00001000", "end 2"):
+            file.ask("start 4 4 2")
+            share(file, [(1, 0x1000), (2, 0x1000), (3, 0x1000), (4, 0x1000)])
+            reach(file, gone)
+            if left:
+                file.ask(left)
+            file.ask("grant 2 00001000 1 write give 6")
+            file.ask("give 2 00001000 3 00002000 2")
+            file.ask("give 2 00001000 3 00001000 2")
+            reach(file, asked)
+
+
+def families_within(file):
+    """Entries of one process above each other, with those of others between."""
+    chains = ([(1, 0x1000), (1, 0x2000), (1, 0x3000), (2, 0x1000)], [(1, 0x1000), (2, 0x1000), (1, 0x2000), (3, 0x1000)],
+              [(2, 0x1000), (1, 0x1000), (2, 0x2000), (1, 0x2000), (2, 0x3000), (3, 0x1000)])
+    for places in chains:
+        for place in places:
+            p = place[0]
+            for asked in (f"end {p}", f"drop {told(place)} own", f"revoke {told(place)} 9", f"narrow {told(place)}", "take"):
+                file.ask("start 3 4 1")
+                share(file, places)
+                giver = file.model.at(*place).giver
+                if asked == "take" and not giver:
+                    continue
+                reach(file, f"take {giver} {told(place)}" if asked == "take" else asked)
+                reach(file, f"revoke {told(places[0])} 8")
+                reach(file, f"end {places[-1][0]}")
+
+
+SHARING = {"grant": 8, "give": 50, "take": 8, "drop": 10, "revoke": 3, "narrow": 4, "fill": 14, "end": 1}
+
+
+def random_families(file):
+    """Random calls, most of which share on what was shared."""
+    places = [0x1000, 0x2000, 0x3000, 0x40_0000, 0x40_1000, 0x80_0000]
+    for seed, (processes, frames, named) in enumerate([(3, 6, 2), (5, 9, 2), (8, 12, 1), (4, 6, 1)]):
+        rng = random.Random(1000 + seed)
+        file.ask(f"start {processes} {frames} {named}")
+        for _ in range(400):
+            asked = random_call(file.model, rng, list(range(1, processes + 1)), places, SHARING, (1, 2, 2, 2, 3))
+            if asked.split()[0] in ("take", "drop", "revoke", "narrow", "end") and any(relatives(file.model, asked)):
+                reach(file, asked)
+            else:
+                file.ask(asked)
+            if len(file.model.ended) >= processes - 1:
+                file.ask(f"start {processes} {frames} {named}")
+
+
+def families():
+    """Shares of shares, and what becomes of them where one of those above goes."""
+    file = File(["Shares of shares: chains of 255, families over 100 processes, copies among them, places that are used again, entries of one",
+                 "process above each other, and random calls. After each change every entry is asked, and what the buffer has where it had any.",
+                 "entry answers the process and the address of the parent after from, where there is one."])
+    for made in (long_chains, families_of_a_hundred, families_with_copies, places_used_again, families_within, random_families):
+        made(file)
+    return file
+
+
+WRITTEN = {"refusals.txt": refusals, "sequences.txt": sequences, "many.txt": many, "spaces.txt": spaces, "copies.txt": copies,
+           "families.txt": families}
+REPLAYED = ("refusals.txt", "stories.txt", "sequences.txt", "many.txt", "spaces.txt", "copies.txt", "families.txt")
 
 
 def wanted_output(texts):

@@ -91,7 +91,7 @@ class Row:
     def run(self):
         rules = [(guest.number, START, "read", 0, False) for guest in self.guests]
         rules += [(p, at, right, page, True) for p, at, right, page in self.rules]
-        run = Run(assemble(self.source, START), [(self.start_of(guest), k % 4) for k, guest in enumerate(self.guests)],
+        run = Run({0: assemble(self.source, START)}, [(self.start_of(guest), k % 4) for k, guest in enumerate(self.guests)],
                   [bytes(4096)] * self.frames, self.named, self.frames, rules, 0)
         run.run(self.n)
         return run

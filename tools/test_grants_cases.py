@@ -1,12 +1,14 @@
 #!/usr/bin/env python3
 """Tests of tools/grants_model.py: by the stories, whose answers are written by hand, and of what the files hold."""
+import copy
+import random
 import sys
 import unittest
 from itertools import combinations
 
 sys.dont_write_bytecode = True
 
-from grants_cases import DATA, copies, files, refusals, spaces  # noqa: E402
+from grants_cases import DATA, SHARING, copies, families, files, random_call, refusals, spaces  # noqa: E402
 from grants_model import Model, answer  # noqa: E402
 
 TOGETHER = {  # what can speak against a call together
@@ -62,6 +64,33 @@ class Tests(unittest.TestCase):
         self.assertEqual((model.bytes[0], model.bytes[1]), (6, 5))
         self.assertEqual((model.lies[0], model.lies[1]), (1, 0))
         self.assertEqual(model.marked, {1})
+
+    def test_each_call_meets_entries_with_others_above_them_and_below(self):
+        made = families()
+        each = {(below, above) for below in range(3) for above in range(3)} - {(0, 0)}
+        for call, wanted in {"take": {pair for pair in each if pair[1]}, "drop": each, "revoke": each, "narrow": each,
+                             "end": {(0, 1), (1, 0), (1, 1), (2, 2)}}.items():
+            met = {(min(below, 2), min(above, 2)) for verb, below, above in made.reached if verb == call}
+            self.assertLessEqual(wanted, met, call)
+        self.assertEqual(max(below for _, below, _ in made.reached), 255)
+        self.assertEqual(max(above for _, _, above in made.reached), 255)
+
+    def test_an_end_comes_to_drops_one_after_the_other_in_any_order(self):
+        rng, met = random.Random(15), 0
+        for _ in range(60):
+            model = answer(None, "start 3 9 1")[0]
+            for _ in range(60):
+                model = answer(model, random_call(model, rng, [1, 2, 3], [0x1000, 0x2000, 0x3000, 0x4000], {**SHARING, "end": 0}, (1, 2)))[0]
+            for p in (1, 2, 3):
+                ended, dropped = copy.deepcopy(model), copy.deepcopy(model)
+                ended.end(p)
+                order = list(model.row(p))
+                rng.shuffle(order)
+                for at in order:
+                    dropped.remove((p, at))
+                self.assertEqual(ended.entries, dropped.entries)
+                met += any(entry.parent in [(p, at) for at in order] for at, entry in model.row(p).items())
+        self.assertGreater(met, 20)
 
     def test_the_files_are_as_they_are_written(self):
         for path, text in files().items():

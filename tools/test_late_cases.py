@@ -15,7 +15,7 @@ class Tests(unittest.TestCase):
     def test_the_example_comes_to_what_is_told_of_it(self):
         code = assemble((EXAMPLES / "late_copy.s").read_text(), START)
         rules = [(p, START, "read", 0, False) for p in (1, 2, 3)] + [(1, DATA, "write", 1, True)]
-        run = Run(code, [(START, 0), (START + 0x54, 1), (START + 0x80, 2)], [bytes(4096)] * 5, 2, 5, rules, 0)
+        run = Run({0: code}, [(START, 0), (START + 0x54, 1), (START + 0x80, 2)], [bytes(4096)] * 5, 2, 5, rules, 0)
         run.run(100)
         self.assertEqual(run.text(), (EXAMPLES / "late_copy.expected").read_bytes())
         self.assertEqual([bytes(it) for it in run.consoles], [b"b", b"ac", b"b", b""])

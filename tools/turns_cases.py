@@ -43,7 +43,7 @@ class Made(Run):
         pages = 1 + self.plans + count
         rules = [rule for p in range(1, count + 1) for rule in self.rules_of(p)]
         super().__init__(
-            assemble((DATA / "turns.s").read_text(), START), [(self.start_of(p), p % 4) for p in range(1, count + 1)],
+            {0: assemble((DATA / "turns.s").read_text(), START)}, [(self.start_of(p), p % 4) for p in range(1, count + 1)],
             [bytes(4096)] * (pages + SPARE), pages, pages + SPARE, rules, rate)
 
     def start_of(self, p):
@@ -108,16 +108,18 @@ class Made(Run):
         return word_of(11, address, 0, letter(p), 3) if is_store else word_of(10, address, 0, 0, 3)
 
     def gift(self, p):
-        """Something for a process of some kind, which mostly has nothing there."""
+        """Something that the process has, for a process of some kind, which mostly has nothing there."""
         rng = self.rng
         to = rng.choice([GIVEN, GIVEN, FAR])
         free = [q for q in self.some_kind() if (q, to) not in self.table]
-        return word_of(6, rng.choice([OWN, OWN, NEXT]), rng.choice(free or self.alive()), to, rng.choice([1, 1, 2, 2, 3]))
+        shared = [at for at in (GIVEN, FAR) if self.has_right(p, at) and self.entry(p, at).give]
+        return word_of(6, rng.choice(shared or [OWN, OWN, NEXT]), rng.choice(free or self.alive()), to, rng.choice([1, 1, 2, 2, 3]))
 
     def taken_back(self, p):
-        """An entry that the process gave, to a process of some kind, and whose it is; now and then another."""
-        given = {}
-        for q, address in [at for at, entry in self.table.items() if entry[4] == p]:
+        """An entry that the process gave, to a process of some kind, and whose it is, first one that was shared on; now and then another."""
+        given, places = {}, [place for place, entry in self.table.items() if entry.giver == p]
+        shared_on = [place for place in places if len(self.family(place)) > 1]
+        for q, address in shared_on or places:
             given.setdefault(self.kind(q), []).append((address, q))
         if given and self.rng.random() < 0.9:
             return self.rng.choice(given[self.rng.choice(sorted(given))])
@@ -137,7 +139,7 @@ class Made(Run):
         return kinds[self.rng.choice(sorted(kinds))]
 
     def allows(self, p, address, is_store):
-        return self.table.get((p, address), ("none",))[0] in (("write",) if is_store else ("read", "write"))
+        return self.entry(p, address).right in (("write",) if is_store else ("read", "write"))
 
     # Commands.
 

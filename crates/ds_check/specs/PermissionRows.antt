@@ -26,6 +26,6 @@ three_processes = record {
 
 pub entries_by_their_processes : table_text three_processes
     ≡ codes "process 1\n  00400000 read  code, part 12 of one.s, rule 1\n  0041A000 none  rule 3\n"
-    ++ codes "process 2\n  7FFFF000 write data, zero, rule 2, give\nprocess 3\n"
+    ++ codes "process 2\n  7FFFF000 write data, zero, rule 2, give (take and revoke reach what is shared on)\nprocess 3\n"
 unfolding hex4 hex8 digits
 entries_by_their_processes = refl

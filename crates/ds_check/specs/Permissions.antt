@@ -42,7 +42,7 @@ granted_text pages (Some n) = found_text (slice_get pages n)
 
 -- whether the process may give it on; the end of the line
 abbrev pub give_text : Bool → List ℕ
-give_text true = codes ", give\n"
+give_text true = codes ", give (take and revoke reach what is shared on)\n"
 give_text false = codes "\n"
 
 -- the line of an entry: address, right, page, rule, give

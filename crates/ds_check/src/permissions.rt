@@ -138,5 +138,9 @@ fn right_word(right: Right) -> &'static [u8]
 fn give_word(give: bool) -> &'static [u8]
     ensures { result.now ≡ give_text give }
 {
-    if give { b", give\n" } else { b"\n" }
+    if give {
+        b", give (take and revoke reach what is shared on)\n"
+    } else {
+        b"\n"
+    }
 }

@@ -1,5 +1,5 @@
 -- Tests that don't hold, in front of the tests that follow.
-use Rattle.std.proofs.Common.{arith, ◌≡◌, ℕ, ◌&&◌, nat_le, nat_lt, ◌≤◌, ◌||◌, length, is_some, unwrap_or, subst, ◌==◌, Bool, true, false, not, List, Option, Some, Result, Ok, Err, IfErr, OnOk, refl, sym, ap, ◌∙◌}
+use Rattle.std.proofs.Common.{arith, ◌≡◌, ℕ, ◌&&◌, nat_le, nat_lt, ◌≤◌, ◌||◌, length, is_some, unwrap_or, subst, ◌==◌, Bool, true, false, not, List, Option, Some, None, Result, Ok, Err, IfErr, OnOk, refl, sym, ap, ◌∙◌}
 use Rattle.std.proofs.lemmas.Bool.{false≢true}
 use Rattle.std.proofs.lemmas.Bool.Decides.{nat_tests}
 use Rattle.ds_policy.specs.declared.grant.Grant.{Grant}
@@ -42,10 +42,10 @@ lives_err (Err x) lives rest is h = λ memory next. passed 12 (not lives) (rest 
 -- the outcome of a grant is that of the test of room, where the other tests don't hold
 module _ (g : GrantsState) (p a : ℕ) (lives : lives_in g p ≡ true) (page : is_no_page a ≡ false) (free : has_right (entry_at g.table p a) ≡ false) where
   granted_as : (memory : List ℕ) (q : ℕ) (right : Right) (may_give : Bool) (rule : ℕ) (result : Result PageState ℕ)
-      → (table_full (page_state g memory) p a or_else fifth_region (page_state g memory) p a or_else Ok (granted (page_state g memory) p a (record { right = right; page = Some q; rule = rule; give = may_give; giver = 0 }))) ≡ result
+      → (table_full (page_state g memory) p a or_else fifth_region (page_state g memory) p a or_else Ok (granted (page_state g memory) p a (record { right = right; page = Some q; rule = rule; give = may_give; giver = 0; parent = None }))) ≡ result
       → grant (lives_in g) (page_state g memory) p a q right may_give rule ≡ result
   granted_as memory q right may_give rule result is =
-      let room = table_full (page_state g memory) p a or_else fifth_region (page_state g memory) p a or_else Ok (granted (page_state g memory) p a (record { right = right; page = Some q; rule = rule; give = may_give; giver = 0 })) in
+      let room = table_full (page_state g memory) p a or_else fifth_region (page_state g memory) p a or_else Ok (granted (page_state g memory) p a (record { right = right; page = Some q; rule = rule; give = may_give; giver = 0; parent = None })) in
       passed 12 (not (lives_in g p)) (not_page a or_else refused 16 (has_right (entry_at g.table p a)) or_else room) result (denied (lives_in g p) lives)
       (passed 13 (is_no_page a) (refused 16 (has_right (entry_at g.table p a)) or_else room) result page
       (passed 16 (has_right (entry_at g.table p a)) room result free is))
@@ -58,7 +58,7 @@ module _ (g : GrantsState) (p a : ℕ) (lives : lives_in g p ≡ true) (page : i
 
   pub room_ok : {T : Type 0} (r : Result T GrantFault)
       → OnOk r ((memory : List ℕ) (next : Result PageState ℕ) → (table_full (page_state g memory) p a or_else fifth_region (page_state g memory) p a or_else next) ≡ next)
-      → OnOk r ((memory : List ℕ) (q : ℕ) (right : Right) (may_give : Bool) (rule : ℕ) → grant (lives_in g) (page_state g memory) p a q right may_give rule ≡ Ok (granted (page_state g memory) p a (record { right = right; page = Some q; rule = rule; give = may_give; giver = 0 })))
+      → OnOk r ((memory : List ℕ) (q : ℕ) (right : Right) (may_give : Bool) (rule : ℕ) → grant (lives_in g) (page_state g memory) p a q right may_give rule ≡ Ok (granted (page_state g memory) p a (record { right = right; page = Some q; rule = rule; give = may_give; giver = 0; parent = None })))
   room_ok (Ok x) h = λ memory q right may_give rule. granted_as memory q right may_give rule _ (h memory _)
   room_ok (Err x) h = tt
 
@@ -71,7 +71,7 @@ module _ (g : GrantsState) (caller addr receiver to mode : ℕ) (lives : lives_i
   what = unwrap_or (entry_at g.table caller addr) no_grant
 
   abbrev last : Result PageState ℕ
-  last = no_frames (page_state g memory) mode or_else Ok (given (page_state g memory) caller (unwrap_or (entry_at g.table caller addr) no_grant) receiver to mode)
+  last = no_frames (page_state g memory) mode or_else Ok (given (page_state g memory) caller addr (unwrap_or (entry_at g.table caller addr) no_grant) receiver to mode)
 
   abbrev room : Result PageState ℕ
   room = table_full (page_state g memory) receiver to or_else fifth_region (page_state g memory) receiver to or_else last
@@ -104,9 +104,9 @@ module _ (g : GrantsState) (caller addr receiver to mode : ℕ) (lives : lives_i
   pub last_err : ((mode == 3) && nat_le (length (pages_in g memory)) (count_live (pages_in g memory))) ≡ true → last ≡ Err 18
   last_err lacks = rw lacks refl
 
-  pub last_ok : (grant : Grant) → entry_at g.table caller addr ≡ Some grant → ((mode == 3) && nat_le (length (pages_in g memory)) (count_live (pages_in g memory))) ≡ false → last ≡ Ok (given (page_state g memory) caller grant receiver to mode)
-  last_ok grant is has = passed 18 ((mode == 3) && nat_le (length (pages_in g memory)) (count_live (pages_in g memory))) (Ok (given (page_state g memory) caller (unwrap_or (entry_at g.table caller addr) no_grant) receiver to mode)) _ has
-      (ap (λ (o : Option Grant). as_done (given (page_state g memory) caller (unwrap_or o no_grant) receiver to mode)) is)
+  pub last_ok : (grant : Grant) → entry_at g.table caller addr ≡ Some grant → ((mode == 3) && nat_le (length (pages_in g memory)) (count_live (pages_in g memory))) ≡ false → last ≡ Ok (given (page_state g memory) caller addr grant receiver to mode)
+  last_ok grant is has = passed 18 ((mode == 3) && nat_le (length (pages_in g memory)) (count_live (pages_in g memory))) (Ok (given (page_state g memory) caller addr (unwrap_or (entry_at g.table caller addr) no_grant) receiver to mode)) _ has
+      (ap (λ (o : Option Grant). as_done (given (page_state g memory) caller addr (unwrap_or o no_grant) receiver to mode)) is)
 
 -- a call or a command that is refused leaves the page state
 pub refused_by : {T : Type 0} (s : PageState) (r : Result T GrantFault) (e : GrantFault) (meant : Result PageState ℕ) → r ≡ Err e → meant ≡ Err (number_of e) → Does s s r meant

@@ -1,9 +1,9 @@
 -- The first page that is free, and the page state with a copy that lies in the frame of its page.
-use Rattle.std.proofs.Common.{zero, suc, ◌≡◌, ◌≢◌, ◌⊎◌, ℕ, ◌+◌, ◌*◌, ◌<◌, ◌≤◌, ◌==◌, Bool, true, false, cond, nat_lt, nat_le, List, [], ◌∷◌, length, map, get_or, is_some, Option, Some, None, refl, sym, ap, subst, ◌∙◌, inl, inr, arith, slice_set, length-set, IfSome, IsNone, is_none, not, drop, take}
+use Rattle.std.proofs.Common.{zero, suc, ◌≡◌, ◌≢◌, ◌⊎◌, ℕ, ◌+◌, ◌*◌, ◌<◌, ◌≤◌, ◌==◌, Bool, true, false, cond, nat_lt, nat_le, List, [], ◌∷◌, length, map, get_or, is_some, Option, Some, None, refl, sym, ap, subst, ◌∙◌, inl, inr, arith, slice_set, length-set, IfSome, IsNone, is_none, not, drop}
 use Rattle.std.specs.List.{range_with_len}
 use Rattle.std.proofs.lemmas.Bool.{cases_Bool, cases_eq, cases_lt, false≢true}
 use Rattle.std.proofs.lemmas.Bool.Decides.{nat_tests}
-use Rattle.std.proofs.lemmas.List.{same_lists, get_or-set_same, get_or-set_other, length-take, length-take-le, length-drop}
+use Rattle.std.proofs.lemmas.List.{same_lists, get_or-set_same, get_or-set_other, length-take-le, length-drop}
 use Rattle.std.proofs.lemmas.List.FromFn.{length-map-range_with_len, get_or-map-range_with_len}
 use Rattle.ds_mem.specs.Memory.{frame_of, with_frame}
 use Rattle.ds_mem.proofs.Frames.{frame_of-with_frame_apart}
@@ -156,13 +156,13 @@ module _ (g : GrantsState) (p a : ℕ) (grant : Grant) (n : ℕ) (low : 0 < p) (
 -- the page state with a copy
 pub copied_state : (g : GrantsState) (p a : ℕ) (grant : Grant) (k n caller : ℕ) (memory : List ℕ) → 0 < p → p ≤ length g.table → entry_at g.table p a ≡ None
     → grant.page ≡ Some k → k < g.frames → is_live g k ≡ true → IsFirstFree g n → length g.lies ≡ g.frames
-    → page_state (with_grant (with_copy g k n) p a (record grant { right = Write; page = Some n; giver = caller })) memory
-    ≡ granted (copied (page_state g memory) grant.page) p a (record grant { right = Write; page = Some (fresh (pages_in g memory)); giver = caller })
+    → page_state (with_grant (with_copy g k n) p a (record grant { right = Write; page = Some n; giver = caller; parent = None })) memory
+    ≡ granted (copied (page_state g memory) grant.page) p a (record grant { right = Write; page = Some (fresh (pages_in g memory)); giver = caller; parent = None })
 copied_state g p a grant k n caller memory low high none named source lives free all =
     let number = fresh_is g memory n free in
-    let pages = pages_copied g (with_grant (with_copy g k n) p a (record grant { right = Write; page = Some n; giver = caller })) memory k n refl refl all source lives free.within
-    (born_lives g p a (record grant { right = Write; page = Some n; giver = caller }) n low high none refl) (others_live g p a (record grant { right = Write; page = Some n; giver = caller }) n low high none refl) in
-    rw (number, named) (ap (λ (ps : Pages). granted (record { pages = ps; table = g.table; named = g.named }) p a (record grant { right = Write; page = Some n; giver = caller })) pages)
+    let pages = pages_copied g (with_grant (with_copy g k n) p a (record grant { right = Write; page = Some n; giver = caller; parent = None })) memory k n refl refl all source lives free.within
+    (born_lives g p a (record grant { right = Write; page = Some n; giver = caller; parent = None }) n low high none refl) (others_live g p a (record grant { right = Write; page = Some n; giver = caller; parent = None }) n low high none refl) in
+    rw (number, named) (ap (λ (ps : Pages). granted (record { pages = ps; table = g.table; named = g.named }) p a (record grant { right = Write; page = Some n; giver = caller; parent = None })) pages)
 
 -- there is none
 pub none_there : (o : Option Grant) → IsNone o → o ≡ None

@@ -1,6 +1,7 @@
 -- All entries of a process go: their regions have no tables, and what the buffer has of it is nobody's.
 use Rattle.std.proofs.Common.{◌≡◌, ◌≢◌, ◌∙◌, refl, sym, ap, subst, ℕ, ◌+◌, ◌-◌, ◌*◌, ◌^◌, ◌<◌, ◌≤◌, ◌==◌, Bool, true, false, List, [], ◌∷◌, length, length-set, get_or, drop, map, replicate, None, inl, inr, arith}
 use Rattle.std.specs.Prelude.{slice_set, ◌||◌, is_some}
+use Rattle.std.specs.List.{All}
 use Rattle.std.proofs.lemmas.Bool.{cases_Bool, cases_eq}
 use Rattle.std.proofs.lemmas.List.{at_drop_more, drop_all, get_or-set_same}
 use Rattle.ds_word.specs.Bytes.{word_at}
@@ -8,6 +9,7 @@ use Rattle.ds_tlb.specs.declared.entry.Entry.{Entry}
 use Rattle.ds_tlb.specs.Words.{entry_of}
 use Rattle.ds_policy.specs.declared.grant.Entry as granted
 use Rattle.ds_policy.specs.Pages.{found, entries_of, entry_at}
+use Rattle.ds_policy.specs.Families.{without_entries}
 use Rattle.ds_policy.specs.Grants.{end_process, count_distinct}
 use Rattle.ds_pagemap.proofs.Entries.{entry_at-set_other}
 use Rattle.ds_asid.specs.Spaces.{Spaces, number_of, given_up}
@@ -21,6 +23,10 @@ use Rattle.ds_grants.specs.Words.{word_of_grant, granted_word, regions_taken, Wo
 use Rattle.ds_grants.specs.Buffer.{hi_of, lo_of, read_only, IsMapped, BufferHolds}
 use Rattle.ds_grants.specs.Changes.{all_closed}
 use Rattle.ds_grants.specs.Represented.{IsRepresented}
+use Rattle.ds_grants.specs.Sound.{IsGoodRow}
+use Rattle.ds_grants.proofs.Bare.{alike_holders}
+use Rattle.ds_grants.proofs.Parents.{alike_represented}
+use Rattle.ds_grants.proofs.Emptying.{end_alike}
 use Rattle.ds_grants.proofs.HolderCounts.{holders_fewer}
 use Rattle.ds_grants.proofs.Living.{fewer_state}
 use Rattle.ds_grants.proofs.FifthRegion.{same_number, itself, either}
@@ -28,12 +34,19 @@ use Rattle.ds_grants.proofs.Puts.{used, none_is, foreign_row, closed_distinct, s
 use Rattle.ds_grants.proofs.Fields.{user_lo, table_lo}
 use Rattle.ds_grants.proofs.Kept.{closed_places}
 
--- the grants after the end of a process
-abbrev pub without_process : GrantsState → ℕ → GrantsState
+-- the grants with no entry of a process that has ended, and with all others as they were
+abbrev without_process : GrantsState → ℕ → GrantsState
 without_process g p = record g { table = slice_set g.table (p - 1) []; ended = slice_set g.ended (p - 1) true }
 
-pub ended_state : (g : GrantsState) (p : ℕ) (memory : List ℕ) → 0 < p → p ≤ length g.table → page_state (without_process g p) memory ≡ end_process (page_state g memory) p
-ended_state g p memory low high = fewer_state g (slice_set g.table (p - 1) []) memory (λ q. holders_fewer g.table p q low high)
+-- the grants after the end of a process: what was shared from its entries has other parents
+abbrev pub ended_grants : GrantsState → ℕ → GrantsState
+ended_grants g p = record g { table = without_entries g.table p (entries_of g.table p); ended = slice_set g.ended (p - 1) true }
+
+pub ended_state : (g : GrantsState) (p : ℕ) (memory : List ℕ) → 0 < p → p ≤ length g.table → All IsGoodRow g.table → page_state (ended_grants g p) memory ≡ end_process (page_state g memory) p
+ended_state g p memory low high good = fewer_state g (without_entries g.table p (entries_of g.table p)) memory (λ q.
+    let fewer = holders_fewer g.table p q low high in
+    let same = alike_holders (slice_set g.table (p - 1) []) (without_entries g.table p (entries_of g.table p)) q (end_alike g.table p low high good) in
+    omega arith)
 
 -- the regions of the entries from a place on are closed one after another
 pub close_step : (t : Places) (p : ℕ) (es : List granted.Entry) (i : ℕ) (d : granted.Entry) → i < length es
@@ -175,11 +188,15 @@ module _ (g : GrantsState) (t : Places) (p : ℕ) (low : 0 < p) (high : p ≤ le
       same = all_closed_long es t p low ∙ (k.same ∙ sym (length-set g.table (p - 1) []));
     }
 
-  pub end_represented : (entries : List Entry) (memory : List ℕ) (s : Spaces) → IsRepresented entries memory t s g → IsRepresented entries memory u (given_up s p) h
-  end_represented entries memory s k = record {
+  emptied_represented : (entries : List Entry) (memory : List ℕ) (s : Spaces) → IsRepresented entries memory t s g → IsRepresented entries memory u (given_up s p) h
+  emptied_represented entries memory s k = record {
     buffer = buffer_ended entries s k.buffer;
     words = words_ended memory k.empty k.words;
     places = all_closed_places es t p low (subst (λ (n : ℕ). p ≤ n) (sym k.words.same) high) k.places;
     empty = k.empty;
     spaces = given_up_apart s p k.spaces;
   }
+
+  pub end_represented : (entries : List Entry) (memory : List ℕ) (s : Spaces) → All IsGoodRow g.table → IsRepresented entries memory t s g → IsRepresented entries memory u (given_up s p) (ended_grants g p)
+  end_represented entries memory s good k =
+      alike_represented entries memory u (given_up s p) h (without_entries g.table p (entries_of g.table p)) (end_alike g.table p low high good) (emptied_represented entries memory s k)

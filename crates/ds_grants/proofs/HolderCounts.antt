@@ -7,7 +7,7 @@ use Rattle.std.proofs.lemmas.Bool.{cases_Bool}
 use Rattle.std.proofs.lemmas.Bool.Decides.{nat_tests}
 use Rattle.ds_policy.specs.declared.grant.Entry.{Entry}
 use Rattle.ds_policy.specs.declared.grant.Grant.{Grant}
-use Rattle.ds_policy.specs.Pages.{Table, names, found, put, entries_of, entry_at, with_entry, without_entry, is_named_by}
+use Rattle.ds_policy.specs.Pages.{Table, names, found, put, entries_of, entry_at, with_entry, erased_entry, is_named_by}
 use Rattle.ds_grants.specs.Sound.{AreCounted, IsGoodRow}
 use Rattle.ds_grants.specs.Counts.{one_if_named, page_of, page_at, holders_in, holders_of, holders_at, AreOneMore, AreOneFewer}
 
@@ -48,8 +48,8 @@ holders_filter q (e ∷ es) a = elim (cases_Bool (e.address == a)) [
   | inr there ↦ rw there (let rest = holders_filter q es a in omega arith)
 ]
 
-pub holders_without : (t : Table) (p a q : ℕ) → p - 1 < length t → holders_of (without_entry t p a) q + holders_at q a (entries_of t p) ≡ holders_of t q
-holders_without t p a q within =
+pub holders_erased : (t : Table) (p a q : ℕ) → p - 1 < length t → holders_of (erased_entry t p a) q + holders_at q a (entries_of t p) ≡ holders_of t q
+holders_erased t p a q within =
     let row = holders_filter q (entries_of t p) a in
     let all = holders_set t (p - 1) q (filter (λ (e : Entry). not (e.address == a)) (entries_of t p)) within in
     omega arith
@@ -208,11 +208,11 @@ few_held t o (Some q) old middle good few counted fewer =
     omega arith
 
 -- what a removal leaves of the counts
-pub remove_counts : (t : Table) (p a : ℕ) (old new : List ℕ) → 0 < p → p ≤ length t → AreCounted t old → ((q : ℕ) → slice_index new q + holders_at q a (entries_of t p) ≡ slice_index old q) → AreCounted (without_entry t p a) new
-remove_counts t p a old new low high counted fewer q =
+pub erase_counts : (t : Table) (p a : ℕ) (old new : List ℕ) → 0 < p → p ≤ length t → AreCounted t old → ((q : ℕ) → slice_index new q + holders_at q a (entries_of t p) ≡ slice_index old q) → AreCounted (erased_entry t p a) new
+erase_counts t p a old new low high counted fewer q =
     let here = counted q in
     let one = fewer q in
-    let all = holders_without t p a q (omega (arith, low, high)) in
+    let all = holders_erased t p a q (omega (arith, low, high)) in
     omega arith
 
 -- what an end of a process leaves of the counts

@@ -13,9 +13,9 @@ use Rattle.ds_tlb.specs.declared.entry.Entry.{Entry}
 use Rattle.ds_policy.specs.declared.grant.Grant.{Grant}
 use Rattle.ds_policy.specs.declared.grant.Right.{Right}
 use Rattle.ds_policy.specs.declared.grant.Right.TheVariants.{Nothing, Read, Write}
-use Rattle.ds_policy.specs.Pages.{entries_of, entry_at, with_entry, without_entry}
-use Rattle.ds_pagemap.proofs.Entries.{entry_at-with_entry, entry_at-without_entry}
-use Rattle.ds_grants.specs.State.{GrantsState, is_shared, with_grant, without_grant}
+use Rattle.ds_policy.specs.Pages.{entries_of, entry_at, with_entry, erased_entry}
+use Rattle.ds_pagemap.proofs.Entries.{entry_at-with_entry, entry_at-erased_entry}
+use Rattle.ds_grants.specs.State.{GrantsState, is_shared, with_grant, erased_grant}
 use Rattle.ds_grants.specs.Sound.{AreLaidOut}
 use Rattle.ds_tables.specs.Places.{Places, ArePlaces, region_of, place_of, free_place, has_place, frame_of_place, page_of_table, table_frame, opened, closed, with_place, freed, places_of}
 use Rattle.ds_asid.specs.Spaces.{Spaces, number_held}
@@ -117,17 +117,17 @@ module _ (entries : List Entry) (memory : List ℕ) (t : Places) (s : Spaces) (g
       room_for (inl region) = turned (has_place t p (region_of a)) (sym (fifth_by_places t p (region_of a) (entries_of g.table p) (four_places t p k.places low high_places) (k.words.distinct p) (λ s. k.words.regions p s low)) ∙ region)
       room_for (inr there) = ap (λ (b : Bool). b || is_some (free_place t p)) (k.words.regions p (region_of a) low ∙ found_used (entries_of g.table p) a there)
 
-  pub remove_represented : IsRepresented (both_forgotten entries a (number_held s p)) (memory_without memory t g p a) (places_without t g p a) s (without_grant g p a)
+  pub remove_represented : IsRepresented (both_forgotten entries a (number_held s p)) (memory_without memory t g p a) (places_without t g p a) s (erased_grant g p a)
   remove_represented =
-      let changed : IsChangedAt g (without_grant g p a) t (places_without t g p a) p a = record {
-        words = λ q vpn live other. same_word g (without_entry g.table p a) g.ended (entry_at (without_entry g.table p a) q (vpn * 2 ^ 12)) ∙ ap (word_of_grant g) (entry_at-without_entry g.table p a q (vpn * 2 ^ 12) low live (λ own. elsewhere vpn (other own)));
-        tables = λ q r live other. by_used (is_used (without_grant g p a) p (region_of a)) q r (λ own same. other own same);
+      let changed : IsChangedAt g (erased_grant g p a) t (places_without t g p a) p a = record {
+        words = λ q vpn live other. same_word g (erased_entry g.table p a) g.ended (entry_at (erased_entry g.table p a) q (vpn * 2 ^ 12)) ∙ ap (word_of_grant g) (entry_at-erased_entry g.table p a q (vpn * 2 ^ 12) low live (λ own. elsewhere vpn (other own)));
+        tables = λ q r live other. by_used (is_used (erased_grant g p a) p (region_of a)) q r (λ own same. other own same);
       } in
       record {
-        buffer = buffer_changed g (without_grant g p a) t (places_without t g p a) p a changed entries s k.buffer;
+        buffer = buffer_changed g (erased_grant g p a) t (places_without t g p a) p a changed entries s k.buffer;
         words = removed_holds memory t g p a k.words k.places long k.empty low high page;
-        places = places_by (is_used (without_grant g p a) p (region_of a));
-        empty = empty_by (is_used (without_grant g p a) p (region_of a));
+        places = places_by (is_used (erased_grant g p a) p (region_of a));
+        empty = empty_by (is_used (erased_grant g p a) p (region_of a));
         spaces = k.spaces;
       }
     where
@@ -144,7 +144,7 @@ module _ (entries : List Entry) (memory : List ℕ) (t : Places) (s : Spaces) (g
       empty_by false = k.empty
 
 -- a region that stays open had a table
-pub still_open : (memory : List ℕ) (t : Places) (g : GrantsState) (p a : ℕ) → WordsHold memory t g → 0 < p → p ≤ length g.table → is_used (without_grant g p a) p (region_of a) ≡ true → opened t p (region_of a) ≡ t
+pub still_open : (memory : List ℕ) (t : Places) (g : GrantsState) (p a : ℕ) → WordsHold memory t g → 0 < p → p ≤ length g.table → is_used (erased_grant g p a) p (region_of a) ≡ true → opened t p (region_of a) ≡ t
 still_open memory t g p a k low high stays =
     let there = some_is (place_of t p (region_of a)) (k.regions p (region_of a) low ∙ used_before g.table p a low high stays) in
     opened_old t p (region_of a) there.0 there.1
@@ -180,7 +180,7 @@ low_put memory t p a w are long = (as_long (has_place t p (region_of a)), λ f a
     as_long false = refl
 
 pub low_removed : (memory : List ℕ) (t : Places) (g : GrantsState) (p a : ℕ) → ArePlaces t → 2 ^ 23 ≤ length memory → IsLow memory (memory_without memory t g p a)
-low_removed memory t g p a are long = by_used (is_used (without_grant g p a) p (region_of a))
+low_removed memory t g p a are long = by_used (is_used (erased_grant g p a) p (region_of a))
   where
     by_used : (b : Bool) → IsLow memory (cond b (tables.with_entry memory t p a 0) memory)
     by_used true = low_put memory t p a 0 are long

@@ -1,5 +1,5 @@
 -- Where pages lie, when entries are put and removed, and when a copy is laid in the frame of its page.
-use Rattle.std.proofs.Common.{◌≡◌, ◌≢◌, ◌⊎◌, ℕ, ◌+◌, ◌-◌, ◌<◌, ◌≤◌, ◌||◌, Bool, true, false, nat_lt, List, length, length-set, replicate, Option, Some, None, refl, sym, ap, subst, ◌∙◌, inl, inr, arith, IfSome}
+use Rattle.std.proofs.Common.{◌≡◌, ◌≢◌, ◌⊎◌, ℕ, ◌+◌, ◌<◌, ◌≤◌, ◌||◌, Bool, true, false, nat_lt, List, length, length-set, replicate, Option, Some, None, refl, sym, ap, subst, ◌∙◌, inl, inr, arith, IfSome}
 use Rattle.std.specs.Prelude.{slice_index, slice_index_or, slice_set}
 use Rattle.std.specs.List.{range_with_len}
 use Rattle.std.proofs.lemmas.Bool.{cases_Bool, cases_eq, cases_lt, false≢true}

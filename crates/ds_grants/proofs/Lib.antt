@@ -1,7 +1,13 @@
+pub mod Bare
 pub mod Chains
+pub mod ChildRows
+pub mod ChildSteps
+pub mod Children
 pub mod Copies
+pub mod Emptying
 pub mod Endings
 pub mod EntriesAnew
+pub mod FamilyStates
 pub mod Fields
 pub mod FifthRegion
 pub mod Fills
@@ -18,6 +24,7 @@ pub mod Living
 pub mod Lying
 pub mod OwnFrames
 pub mod PageAnew
+pub mod Parents
 pub mod Puts
 pub mod RegionsSeen
 pub mod RuleWords

@@ -9,12 +9,14 @@ use Rattle.std.proofs.lemmas.List.FromFn.{length-map-range_with_len, get_or-map-
 use Rattle.ds_mem.specs.Memory.{frame_of}
 use Rattle.ds_policy.specs.declared.grant.Grant.{Grant}
 use Rattle.ds_policy.specs.declared.grant.Right.TheVariants.{Read}
-use Rattle.ds_policy.specs.Pages.{Table, Pages, names, entry_at, entries_of, with_entry, without_entry, is_named_by, kept}
+use Rattle.ds_policy.specs.Pages.{Table, Pages, names, entry_at, entries_of, with_entry, erased_entry, is_named_by, kept}
+use Rattle.ds_policy.specs.Families.{parent_of, without_entry}
 use Rattle.ds_policy.specs.Grants.{granted, removed, live_only}
 use Rattle.ds_grants.specs.State.{GrantsState, is_live, page_in, pages_in, page_state, with_grant, without_grant}
 use Rattle.ds_grants.specs.Represented.{IsLow}
 use Rattle.ds_grants.specs.Counts.{one_if_named, page_of, holders_of}
-use Rattle.ds_grants.proofs.HolderCounts.{holders_with, holders_without, named_by_holders, found_holds, row_holders}
+use Rattle.ds_grants.proofs.Bare.{alike_holders, handed_alike}
+use Rattle.ds_grants.proofs.HolderCounts.{holders_with, holders_erased, named_by_holders, found_holds, row_holders}
 
 -- pages are the same where the same pages live
 pages_from_same : (g g' : GrantsState) (memory : List ℕ) (at n : ℕ) → g'.lies ≡ g.lies → ((q : ℕ) → is_live g' q ≡ is_live g q) → map (page_in g' memory) (range_with_len at n) ≡ map (page_in g memory) (range_with_len at n)
@@ -136,7 +138,10 @@ fewer_state g t memory fewer =
 
 pub removed_state : (g : GrantsState) (p a : ℕ) (memory : List ℕ) → 0 < p → p ≤ length g.table → page_state (without_grant g p a) memory ≡ removed (page_state g memory) p a
 removed_state g p a memory low high =
-    fewer_state g (without_entry g.table p a) memory (λ q. let all = holders_without g.table p a q (omega (arith, low, high)) in omega arith)
+    fewer_state g (without_entry g.table p a) memory (λ q.
+    let all = holders_erased g.table p a q (omega (arith, low, high)) in
+    let same = alike_holders (erased_entry g.table p a) (without_entry g.table p a) q (handed_alike (erased_entry g.table p a) p a (parent_of (entry_at g.table p a))) in
+    omega arith)
 
 -- an entry without a page leaves fewer holders
 pub revoked_state : (g : GrantsState) (p a : ℕ) (grant : Grant) (memory : List ℕ) → 0 < p → p ≤ length g.table → grant.page ≡ None → page_state (with_grant g p a grant) memory ≡ live_only (granted (page_state g memory) p a grant)

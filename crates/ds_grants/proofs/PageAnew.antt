@@ -17,7 +17,6 @@ use Rattle.ds_policy.specs.declared.grant.Entry as granted
 use Rattle.ds_policy.specs.declared.grant.Grant.{Grant}
 use Rattle.ds_policy.specs.declared.grant.Right.{Right}
 use Rattle.ds_policy.specs.declared.grant.Right.TheVariants.{Nothing, Read, Write}
-use Rattle.ds_policy.specs.Pages as pages
 use Rattle.ds_policy.specs.Pages.{Table, entries_of, entry_at, found, names}
 use Rattle.ds_policy.specs.Grants.{is_some_right, is_write}
 use Rattle.ds_asid.specs.Spaces.{Spaces, number_of, number_held}

@@ -8,13 +8,13 @@ use Rattle.std.proofs.lemmas.List.{get_or-set_same, get_or-set_other}
 use Rattle.ds_policy.specs.declared.grant.Grant.{Grant}
 use Rattle.ds_policy.specs.declared.grant.Right.{Right}
 use Rattle.ds_policy.specs.declared.grant.Entry.{Entry}
-use Rattle.ds_policy.specs.Pages.{Table, entries_of, found, put, entry_at, with_entry, without_entry}
+use Rattle.ds_policy.specs.Pages.{Table, entries_of, found, put, entry_at, with_entry, erased_entry}
 use Rattle.ds_policy.specs.Grants.{is_some_right, is_write, count_distinct}
 use Rattle.ds_policy.proofs.DistinctCounts.{count_insert}
-use Rattle.ds_pagemap.proofs.Entries.{entry_at-with_entry, entry_at-without_entry}
+use Rattle.ds_pagemap.proofs.Entries.{entry_at-with_entry, entry_at-erased_entry}
 use Rattle.ds_word.specs.Word.{bit}
 use Rattle.ds_grants.specs.declared.layout.Place.{Place}
-use Rattle.ds_grants.specs.State.{GrantsState, place_of_page, with_grant, without_grant}
+use Rattle.ds_grants.specs.State.{GrantsState, place_of_page, with_grant, erased_grant}
 use Rattle.ds_tables.specs.Places.{Places, ArePlaces, freed, region_of, places_of, place_of, free_place, has_place, opened, closed, with_place}
 use Rattle.ds_tables.specs.Tables as tables
 use Rattle.ds_tables.specs.Tables.{HasEmptyTable, entry_word}
@@ -100,7 +100,7 @@ found_used es a there = elim (cases_Bool (used (region_of a) es)) [
 entries_put : (t : Table) (p a : ℕ) (g : Grant) → 0 < p → p ≤ length t → entries_of (with_entry t p a g) p ≡ put (entries_of t p) a g
 entries_put t p a g low high = get_or-set_same t (p - 1) (put (entries_of t p) a g) [] (omega arith)
 
-entries_gone : (t : Table) (p a : ℕ) → 0 < p → p ≤ length t → entries_of (without_entry t p a) p ≡ filter (λ (e : Entry). not (e.address == a)) (entries_of t p)
+entries_gone : (t : Table) (p a : ℕ) → 0 < p → p ≤ length t → entries_of (erased_entry t p a) p ≡ filter (λ (e : Entry). not (e.address == a)) (entries_of t p)
 entries_gone t p a low high = get_or-set_same t (p - 1) (filter (λ (e : Entry). not (e.address == a)) (entries_of t p)) [] (omega arith)
 
 pub foreign_row : (t : Table) (p q : ℕ) (row : List Entry) → 0 < p → 0 < q → q ≢ p → entries_of (slice_set t (p - 1) row) q ≡ entries_of t q
@@ -294,7 +294,7 @@ used_by_rest a (x ∷ es) e = elim (cases_Bool (x.address == a)) [
       ])
 ]
 
-pub used_before : (t : Table) (p a : ℕ) → 0 < p → p ≤ length t → used (region_of a) (entries_of (without_entry t p a) p) ≡ true → used (region_of a) (entries_of t p) ≡ true
+pub used_before : (t : Table) (p a : ℕ) → 0 < p → p ≤ length t → used (region_of a) (entries_of (erased_entry t p a) p) ≡ true → used (region_of a) (entries_of t p) ≡ true
 used_before t p a low high stays = used_by_rest a (entries_of t p) (sym (ap (used (region_of a)) (entries_gone t p a low high)) ∙ stays)
 
 -- The words after a change of the entry of a process at an address.
@@ -350,23 +350,23 @@ module _ (memory : List ℕ) (t : Places) (g : GrantsState) (p a : ℕ) (k : Wor
   -- Removed.
 
   abbrev less : GrantsState
-  less = without_grant g p a
+  less = erased_grant g p a
 
-  gone : entry_at (without_entry g.table p a) p a ≡ None
+  gone : entry_at (erased_entry g.table p a) p a ≡ None
   gone = ap (λ (es : List Entry). found es a) (entries_gone g.table p a low high) ∙ found_gone (entries_of g.table p) a
 
-  used_less : (q s : ℕ) → 0 < q → (q ≡ p → (region_of a == s) ≡ false) → used s (entries_of (without_entry g.table p a) q) ≡ used s (entries_of g.table q)
+  used_less : (q s : ℕ) → 0 < q → (q ≡ p → (region_of a == s) ≡ false) → used s (entries_of (erased_entry g.table p a) q) ≡ used s (entries_of g.table q)
   used_less q s live apart = elim (cases_eq q p) [
-    | inl own ↦ ap (λ (n : ℕ). used s (entries_of (without_entry g.table p a) n)) own ∙ (ap (used s) (entries_gone g.table p a low high) ∙ (used_gone s (entries_of g.table p) a (apart own) ∙ sym (ap (λ (n : ℕ). used s (entries_of g.table n)) own)))
+    | inl own ↦ ap (λ (n : ℕ). used s (entries_of (erased_entry g.table p a) n)) own ∙ (ap (used s) (entries_gone g.table p a low high) ∙ (used_gone s (entries_of g.table p) a (apart own) ∙ sym (ap (λ (n : ℕ). used s (entries_of g.table n)) own)))
     | inr foreign ↦ ap (used s) (foreign_row g.table p q (filter (λ (e : Entry). not (e.address == a)) (entries_of g.table p)) low live foreign)
   ]
 
   less_words : (q vpn : ℕ) → 0 < q → ((q == p) && (vpn * 2 ^ 12 / 2 ^ 12 == a / 2 ^ 12)) ≡ false → granted_word g q vpn ≡ granted_word less q vpn
   less_words q vpn live miss =
-      sym (same_word g (without_entry g.table p a) g.ended (entry_at g.table q (vpn * 2 ^ 12))) ∙ sym (ap (word_of_grant less) (entry_at-without_entry g.table p a q (vpn * 2 ^ 12) low live (elsewhere q vpn miss)))
+      sym (same_word g (erased_entry g.table p a) g.ended (entry_at g.table q (vpn * 2 ^ 12))) ∙ sym (ap (word_of_grant less) (entry_at-erased_entry g.table p a q (vpn * 2 ^ 12) low live (elsewhere q vpn miss)))
 
   -- its region has other entries, and keeps its table
-  keeps_table : used (region_of a) (entries_of (without_entry g.table p a) p) ≡ true → WordsHold (tables.with_entry memory t p a 0) t less
+  keeps_table : used (region_of a) (entries_of (erased_entry g.table p a) p) ≡ true → WordsHold (tables.with_entry memory t p a 0) t less
   keeps_table stays =
       let used_first : used (region_of a) (entries_of g.table p) ≡ true = used_before g.table p a low high stays in
       let placed = some_is (place_of t p (region_of a)) (k.regions p (region_of a) low ∙ used_first) in
@@ -378,14 +378,14 @@ module _ (memory : List ℕ) (t : Places) (g : GrantsState) (p a : ℕ) (k : Wor
             ∙ elim (cases_Bool ((q == p) && (vpn * 2 ^ 12 / 2 ^ 12 == a / 2 ^ 12))) [
               | inl hit ↦
                   let at = at_address q vpn hit in
-                  rw hit (sym (ap (word_of_grant less) (ap₂ (λ (x y : ℕ). entry_at (without_entry g.table p a) x y) at.0 at.1 ∙ gone)))
+                  rw hit (sym (ap (word_of_grant less) (ap₂ (λ (x y : ℕ). entry_at (erased_entry g.table p a) x y) at.0 at.1 ∙ gone)))
               | inr miss ↦ rw miss (k.words q vpn live user ∙ less_words q vpn live miss)
             ]);
         regions = λ q s live. elim (cases_Bool (region_of a == s)) [
           | inl here ↦ elim (cases_eq q p) [
             | inl own ↦
                 let is : region_of a ≡ s = same_number (region_of a) s here in
-                ap₂ (λ (x y : ℕ). is_some (place_of t x y)) own (sym is) ∙ (ap is_some placed.1 ∙ sym (ap₂ (λ (x y : ℕ). used y (entries_of (without_entry g.table p a) x)) own (sym is) ∙ stays))
+                ap₂ (λ (x y : ℕ). is_some (place_of t x y)) own (sym is) ∙ (ap is_some placed.1 ∙ sym (ap₂ (λ (x y : ℕ). used y (entries_of (erased_entry g.table p a) x)) own (sym is) ∙ stays))
             | inr foreign ↦ k.regions q s live ∙ sym (used_less q s live (λ own. absurd (foreign own)))
           ]
           | inr other ↦ k.regions q s live ∙ sym (used_less q s live (λ own. other))
@@ -395,21 +395,21 @@ module _ (memory : List ℕ) (t : Places) (g : GrantsState) (p a : ℕ) (k : Wor
       }
 
   -- it was the region's last, which is closed
-  closes_table : used (region_of a) (entries_of (without_entry g.table p a) p) ≡ false → WordsHold memory (closed t p (region_of a)) less
+  closes_table : used (region_of a) (entries_of (erased_entry g.table p a) p) ≡ false → WordsHold memory (closed t p (region_of a)) less
   closes_table last = record {
     words = λ q vpn live user. closed_words memory t p (region_of a) q (vpn * 2 ^ 12) empty
         ∙ elim (cases_Bool ((q == p) && (region_of (vpn * 2 ^ 12) == region_of a))) [
           | inl hit ↦
               let both = both_true (q == p) (region_of (vpn * 2 ^ 12) == region_of a) hit in
-              let none : entry_at (without_entry g.table p a) q (vpn * 2 ^ 12) ≡ None =
-              ap (λ (n : ℕ). entry_at (without_entry g.table p a) n (vpn * 2 ^ 12)) (same_number q p both.0) ∙ none_found (entries_of (without_entry g.table p a) p) (vpn * 2 ^ 12) (region_of a) last (same_number (region_of (vpn * 2 ^ 12)) (region_of a) both.1) in
+              let none : entry_at (erased_entry g.table p a) q (vpn * 2 ^ 12) ≡ None =
+              ap (λ (n : ℕ). entry_at (erased_entry g.table p a) n (vpn * 2 ^ 12)) (same_number q p both.0) ∙ none_found (entries_of (erased_entry g.table p a) p) (vpn * 2 ^ 12) (region_of a) last (same_number (region_of (vpn * 2 ^ 12)) (region_of a) both.1) in
               rw hit (sym (ap (word_of_grant less) none))
           | inr miss ↦ rw miss (k.words q vpn live user ∙ less_words q vpn live (outside q vpn miss))
         ];
     regions = λ q s live. closed_some t p (region_of a) q s ∙ elim (cases_Bool ((q == p) && (region_of a == s))) [
       | inl hit ↦
           let both = both_true (q == p) (region_of a == s) hit in
-          rw hit (sym (ap₂ (λ (x y : ℕ). used y (entries_of (without_entry g.table p a) x)) (same_number q p both.0) (sym (same_number (region_of a) s both.1)) ∙ last))
+          rw hit (sym (ap₂ (λ (x y : ℕ). used y (entries_of (erased_entry g.table p a) x)) (same_number q p both.0) (sym (same_number (region_of a) s both.1)) ∙ last))
       | inr miss ↦ rw miss (k.regions q s live ∙ sym (used_less q s live (λ own. other_region q s own miss)))
     ];
     distinct = closed_distinct t p (region_of a) low (subst (λ (n : ℕ). p ≤ n) (sym k.same) high) k.distinct;

@@ -8,17 +8,21 @@ use Rattle.std.proofs.lemmas.List.Elements.{All-nil, All-head, All-tail, All-con
 use Rattle.std.proofs.lemmas.List.Sums.{length-filter, count_by-le-length}
 use Rattle.ds_policy.specs.declared.grant.Entry.{Entry}
 use Rattle.ds_policy.specs.declared.grant.Grant.{Grant}
-use Rattle.ds_policy.specs.Pages.{Table, names, found, put, entries_of, entry_at, with_entry, without_entry}
+use Rattle.ds_policy.specs.Pages.{Table, names, found, put, entries_of, entry_at, with_entry, erased_entry}
+use Rattle.ds_policy.specs.Families.{without_entries}
 use Rattle.ds_policy.specs.Grants.{is_some_right, has_right}
-use Rattle.ds_grants.specs.State.{GrantsState, LayoutState, with_grant, without_grant}
+use Rattle.ds_grants.specs.State.{GrantsState, LayoutState, with_grant, erased_grant}
 use Rattle.ds_grants.specs.Sound.{AreCounted, IsWhole, IsAtPage, has_same_address, IsGoodRow, AreLaidOut, IsSound}
+use Rattle.ds_grants.specs.Parents.{AreAlike}
 use Rattle.ds_grants.specs.Copies.{IsMarked}
 use Rattle.ds_grants.specs.Order.{is_no_page}
 use Rattle.ds_grants.specs.Counts.{one_if_named, page_of, holders_in, holders_at, AreOneMore, AreOneFewer}
 use Rattle.ds_grants.proofs.FifthRegion.{either, same_number}
-use Rattle.ds_grants.proofs.HolderCounts.{put_counts, remove_counts, end_counts, holders_without, holders_fewer, itself, found_holds, row_holders, counted_within}
+use Rattle.ds_grants.proofs.HolderCounts.{put_counts, erase_counts, end_counts, holders_erased, holders_fewer, itself, found_holds, row_holders, counted_within}
 use Rattle.ds_grants.proofs.Living.{one_named, found_lives}
 use Rattle.ds_grants.proofs.Laying.{live_below, live_marked, laid_fewer, live_fewer, laid_put}
+use Rattle.ds_grants.proofs.Parents.{alike_counted, alike_sound, alike_laid}
+use Rattle.ds_grants.proofs.Emptying.{end_alike}
 use Rattle.ds_grants.specs.Free.{HasPage}
 
 -- an entry in the place of another leaves as many, and one at the end has room
@@ -108,8 +112,8 @@ sound_put g p a grant low high room whole page sound =
       frames = sound.frames;
     }
 
-pub sound_without : (g : GrantsState) (p a : ℕ) → 0 < p → p ≤ length g.table → IsSound g → IsSound (without_grant g p a)
-sound_without g p a low high sound =
+pub sound_erased : (g : GrantsState) (p a : ℕ) → 0 < p → p ≤ length g.table → IsSound g → IsSound (erased_grant g p a)
+sound_erased g p a low high sound =
     let others : Entry → Bool = λ e. not (e.address == a) in
     let row = good_row g.table p low high sound.rows in
     let size = length-set g.table (p - 1) (filter others (entries_of g.table p)) in
@@ -144,15 +148,23 @@ kept_as t holders new named ended layout size counted sound laid = (
   subst (λ n. AreLaidOut (record { table = t; frames = n; named = named; ended = ended; lies = layout.lies; shared = layout.shared })) (sym size) laid,
 )
 
--- when an entry was removed
-pub removed_sound : (t : Table) (holders new : List ℕ) (named : ℕ) (ended : List Bool) (layout : LayoutState) (p a : ℕ) → 0 < p → p ≤ length t
+-- what is kept is kept where entries have other parents
+pub alike_kept : (t u : Table) (holders : List ℕ) (named : ℕ) (ended : List Bool) (layout : LayoutState) → AreAlike u t → AreKept t holders named ended layout → AreKept u holders named ended layout
+alike_kept t u holders named ended layout alike known = (
+  alike_counted t u holders alike known.0,
+  alike_sound (held t holders named ended layout) u alike known.1,
+  alike_laid (held t holders named ended layout) u alike known.2,
+)
+
+-- when an entry was erased
+pub erased_sound : (t : Table) (holders new : List ℕ) (named : ℕ) (ended : List Bool) (layout : LayoutState) (p a : ℕ) → 0 < p → p ≤ length t
     → AreKept t holders named ended layout
     → ((q : ℕ) → slice_index new q + holders_at q a (entries_of t p) ≡ slice_index holders q) → length new ≡ length holders
-    → AreKept (without_entry t p a) new named ended layout
-removed_sound t holders new named ended layout p a low high known fewer size =
-    kept_as (without_entry t p a) holders new named ended layout size (remove_counts t p a holders new low high known.0 fewer)
-    (sound_without (held t holders named ended layout) p a low high known.1)
-    (laid_fewer (held t holders named ended layout) (without_entry t p a) ended (live_fewer (held t holders named ended layout) (without_entry t p a) ended (λ q. let all = holders_without t p a q (omega (arith, low, high)) in omega (arith, all))) known.2)
+    → AreKept (erased_entry t p a) new named ended layout
+erased_sound t holders new named ended layout p a low high known fewer size =
+    kept_as (erased_entry t p a) holders new named ended layout size (erase_counts t p a holders new low high known.0 fewer)
+    (sound_erased (held t holders named ended layout) p a low high known.1)
+    (laid_fewer (held t holders named ended layout) (erased_entry t p a) ended (live_fewer (held t holders named ended layout) (erased_entry t p a) ended (λ q. let all = holders_erased t p a q (omega (arith, low, high)) in omega (arith, all))) known.2)
 
 sound_end : (g : GrantsState) (p : ℕ) → IsSound g → IsSound (record g { table = slice_set g.table (p - 1) []; ended = slice_set g.ended (p - 1) true })
 sound_end g p sound =
@@ -170,11 +182,12 @@ sound_end g p sound =
 pub ended_sound : (t : Table) (holders new : List ℕ) (named : ℕ) (ended : List Bool) (layout : LayoutState) (p : ℕ) → 0 < p → p ≤ length t
     → AreKept t holders named ended layout
     → ((q : ℕ) → slice_index new q + holders_in q (entries_of t p) ≡ slice_index holders q) → length new ≡ length holders
-    → AreKept (slice_set t (p - 1) []) new named (slice_set ended (p - 1) true) layout
+    → AreKept (without_entries t p (entries_of t p)) new named (slice_set ended (p - 1) true) layout
 ended_sound t holders new named ended layout p low high known fewer size =
-    kept_as (slice_set t (p - 1) []) holders new named (slice_set ended (p - 1) true) layout size (end_counts t p holders new low high known.0 fewer)
+    alike_kept (slice_set t (p - 1) []) (without_entries t p (entries_of t p)) new named (slice_set ended (p - 1) true) layout (end_alike t p low high known.1.rows)
+    (kept_as (slice_set t (p - 1) []) holders new named (slice_set ended (p - 1) true) layout size (end_counts t p holders new low high known.0 fewer)
     (sound_end (held t holders named ended layout) p known.1)
-    (laid_fewer (held t holders named ended layout) (slice_set t (p - 1) []) (slice_set ended (p - 1) true) (live_fewer (held t holders named ended layout) (slice_set t (p - 1) []) (slice_set ended (p - 1) true) (λ q. holders_fewer t p q low high)) known.2)
+    (laid_fewer (held t holders named ended layout) (slice_set t (p - 1) []) (slice_set ended (p - 1) true) (live_fewer (held t holders named ended layout) (slice_set t (p - 1) []) (slice_set ended (p - 1) true) (λ q. holders_fewer t p q low high)) known.2))
 
 -- when an entry was put
 pub put_sound : (t : Table) (holders middle new : List ℕ) (named : ℕ) (ended : List Bool) (layout : LayoutState) (p a : ℕ) (grant : Grant) → 0 < p → p ≤ length t

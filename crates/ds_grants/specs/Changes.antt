@@ -1,11 +1,15 @@
 -- What a change of one entry makes of memory, places and the buffer.
-use Rattle.std.specs.Prelude.{◌≡◌, ◌≢◌, ◌<◌, ℕ, ◌+◌, ◌/◌, ◌^◌, ◌==◌, Bool, if◌then◌else◌, List, [], ◌∷◌, slice_set, Option, Some, None}
+use Rattle.std.specs.Prelude.{◌≡◌, ◌≢◌, ◌<◌, ℕ, ◌+◌, ◌/◌, ◌^◌, ◌==◌, Bool, if◌then◌else◌, List, [], ◌∷◌, ◌++◌, not, map, filter, slice_set, Option, Some, None}
 use Rattle.std.specs.List.{list_any}
 use Rattle.ds_tlb.specs.declared.entry.Entry.{Entry}
 use Rattle.ds_tlb.specs.Entries.{find, empty_entry}
+use Rattle.ds_asid.specs.Spaces.{Spaces, number_held}
 use Rattle.ds_policy.specs.declared.grant.Entry as granted
-use Rattle.ds_policy.specs.Pages.{entries_of}
-use Rattle.ds_grants.specs.State.{GrantsState, without_grant}
+use Rattle.ds_policy.specs.declared.grant.EntryPlace.{EntryPlace}
+use Rattle.ds_policy.specs.declared.grant.Grant.{Grant}
+use Rattle.ds_policy.specs.Pages.{Table, entries_of}
+use Rattle.ds_policy.specs.Families.{is_child, descends}
+use Rattle.ds_grants.specs.State.{GrantsState, erased_grant}
 use Rattle.ds_tables.specs.Places.{Places, region_of, page_of_table, closed}
 use Rattle.ds_tables.specs.Tables.{with_entry}
 use Rattle.ds_grants.specs.Words.{granted_word}
@@ -17,12 +21,12 @@ is_used g p r = list_any (λ (e : granted.Entry). region_of e.address == r) (ent
 -- memory once an entry is removed: its word is 0, or else its region has no table any more
 abbrev pub memory_without : List ℕ → Places → GrantsState → ℕ → ℕ → List ℕ
 memory_without memory t g p a =
-    if is_used (without_grant g p a) p (region_of a) then with_entry memory t p a 0 else memory
+    if is_used (erased_grant g p a) p (region_of a) then with_entry memory t p a 0 else memory
 
 -- the places once an entry is removed: its region is closed where it was the last one there
 abbrev pub places_without : Places → GrantsState → ℕ → ℕ → Places
 places_without t g p a =
-    if is_used (without_grant g p a) p (region_of a) then t else closed t p (region_of a)
+    if is_used (erased_grant g p a) p (region_of a) then t else closed t p (region_of a)
 
 -- the slot holds what it held at the start, if there is one
 abbrev pub cleared : List Entry → Option ℕ → List Entry
@@ -40,6 +44,36 @@ both_forgotten entries address None = entries
 both_forgotten entries address (Some asid) =
     forgotten (forgotten entries (address / 2 ^ 12) asid)
     (0xC0000 + region_of address) asid
+
+-- the same for the entries at these places, one after the other
+abbrev pub all_forgotten : List Entry → Spaces → List EntryPlace → List Entry
+all_forgotten entries s [] = entries
+all_forgotten entries s (place ∷ rest) =
+    all_forgotten (both_forgotten entries place.address (number_held s place.process)) s rest
+
+-- the entries that were not shared from that of process p at an address
+abbrev pub without_children : ℕ → ℕ → List granted.Entry → List granted.Entry
+without_children p address es = filter (λ e. not (is_child p address e)) es
+
+-- the entries, with this grant in each that was shared from that of process p at an address
+abbrev pub children_granted : ℕ → ℕ → Grant → List granted.Entry → List granted.Entry
+children_granted p address g es =
+    map (λ e. if is_child p address e then record e { grant = g } else e) es
+
+-- where those entries of process q stand for which a test holds
+abbrev pub places_in : (granted.Entry → Bool) → ℕ → List granted.Entry → List EntryPlace
+places_in test q es = map (λ e. record { process = q; address = e.address }) (filter test es)
+
+-- the same of each process, one after the other, of which the first is q
+abbrev pub all_places : (granted.Entry → Bool) → ℕ → Table → List EntryPlace
+all_places test q [] = []
+all_places test q (es ∷ rest) = places_in test q es ++ all_places test (q + 1) rest
+
+-- where all stands that descends from the entry of process p at an address, process by process, and
+-- then that entry itself
+abbrev pub family_places : Table → ℕ → ℕ → List EntryPlace
+family_places table p address =
+    all_places (descends table p address) 1 table ++ record { process = p; address = address } ∷ []
 
 -- the places once the regions of these entries of a process have no tables
 abbrev pub all_closed : Places → ℕ → List granted.Entry → Places

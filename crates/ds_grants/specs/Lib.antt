@@ -1,6 +1,7 @@
 pub mod State
 pub mod Free
 pub mod Sound
+pub mod Parents
 pub mod Counts
 pub mod Words
 pub mod Buffer

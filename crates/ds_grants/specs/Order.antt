@@ -1,9 +1,9 @@
 -- The one order in which what is asked of the grants is tested.
-use Rattle.std.specs.Prelude.{◌≡◌, ℕ, ◌%◌, ◌^◌, Bool, false, not, ◌&&◌, ◌||◌, nat_lt, nat_le, ◌==◌, ◌∷◌, length, map, Some, Result, Ok, is_some, unwrap_or}
+use Rattle.std.specs.Prelude.{◌≡◌, ℕ, ◌%◌, ◌^◌, Bool, false, not, ◌&&◌, ◌||◌, nat_lt, nat_le, ◌==◌, ◌∷◌, length, map, Some, None, Result, Ok, is_some, unwrap_or}
 use Rattle.ds_policy.specs.declared.grant.Right.{Right}
 use Rattle.ds_policy.specs.declared.grant.Right.TheVariants.{Read}
 use Rattle.ds_policy.specs.Pages.{entries_of, entry_at, count_live}
-use Rattle.ds_policy.specs.Grants.{PageState, ◌or_else◌, refused, has_right, no_grant, region, count_distinct, may_not_give, granted, given, removed, live_only, give, take, drop_own, grant, narrow, revoke, drop_by_command}
+use Rattle.ds_policy.specs.Grants.{PageState, ◌or_else◌, refused, has_right, no_grant, region, count_distinct, may_not_give, granted, given, removed, cut, forbidden, give, take, drop_own, grant, narrow, revoke, drop_by_command}
 
 -- the argument checks of a call or a command, as refusals
 pub record Tests : Type 0 where
@@ -113,10 +113,10 @@ pub record HaveOneOrder (lives : ℕ → Bool) (s : PageState) : Type 0 where
   pub of_give : (caller address receiver to mode : ℕ)
       → give lives s caller address receiver to mode
       ≡ first_refusal (tests_of_give lives s caller address receiver to mode)
-      (Ok (given s caller (unwrap_or (entry_at s.table caller address) no_grant) receiver to mode))
+      (Ok (given s caller address (unwrap_or (entry_at s.table caller address) no_grant) receiver to mode))
   pub of_take : (caller p address : ℕ)
       → take lives s caller p address
-      ≡ first_refusal (tests_of_take lives s caller p address) (Ok (removed s p address))
+      ≡ first_refusal (tests_of_take lives s caller p address) (Ok (cut s p address))
   pub of_drop_own : (caller address : ℕ)
       → drop_own s caller address
       ≡ first_refusal (tests_of_drop_own s caller address) (Ok (removed s caller address))
@@ -124,7 +124,7 @@ pub record HaveOneOrder (lives : ℕ → Bool) (s : PageState) : Type 0 where
       → grant lives s p address page right may_give rule
       ≡ first_refusal (tests_of_grant lives s p address)
       (Ok (granted s p address
-      (record { right = right; page = Some page; rule = rule; give = may_give; giver = 0 })))
+      (record { right = right; page = Some page; rule = rule; give = may_give; giver = 0; parent = None })))
   pub of_narrow : (p address : ℕ)
       → narrow lives s p address
       ≡ first_refusal (tests_of_change lives s p address)
@@ -133,7 +133,7 @@ pub record HaveOneOrder (lives : ℕ → Bool) (s : PageState) : Type 0 where
   pub of_revoke : (p address rule : ℕ)
       → revoke lives s p address rule
       ≡ first_refusal (tests_of_change lives s p address)
-      (Ok (live_only (granted s p address (record no_grant { rule = rule }))))
+      (Ok (forbidden s p address rule))
   pub of_drop_by_command : (p address : ℕ)
       → drop_by_command lives s p address
       ≡ first_refusal (tests_of_drop lives s p address) (Ok (removed s p address))

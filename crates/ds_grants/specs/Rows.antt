@@ -7,19 +7,22 @@ use Rattle.ds_policy.specs.declared.grant.Entry as granted
 use Rattle.ds_policy.specs.declared.grant.Grant.{Grant}
 use Rattle.ds_policy.specs.declared.grant.Right.{Right}
 use Rattle.ds_policy.specs.declared.grant.Right.TheVariants.{Nothing, Read, Write}
-use Rattle.ds_grants.specs.State.{GrantsState}
+use Rattle.ds_policy.specs.Pages.{Table}
+use Rattle.ds_policy.specs.Families.{with_parent}
+use Rattle.ds_grants.specs.State.{GrantsState, erased_grant, without_grant}
+use Rattle.ds_grants.specs.Parents.{AreAlike}
 use Rattle.ds_grants.specs.First.{no_grants}
 use Rattle.ds_grants.specs.Copies.{with_copy, with_own_frame}
 use Rattle.ds_tables.specs.Places.{Places}
 use Rattle.ds_tables.specs.Tables.{with_entry}
 use Rattle.ds_grants.specs.Words.{word_of_right, granted_word, regions_taken}
 use Rattle.ds_grants.specs.Buffer.{hi_of, lo_of}
-use Rattle.ds_grants.specs.Changes.{is_used, memory_without, places_without, both_forgotten}
+use Rattle.ds_grants.specs.Changes.{is_used, memory_without, places_without, both_forgotten, family_places, all_forgotten}
 use Rattle.ds_grants.specs.Represented.{HasRegion}
 
 -- a grant of a page by rule 1
 abbrev pub grant : Right → Option ℕ → Grant
-grant right page = record { right = right; page = page; rule = 1; give = false; giver = 0 }
+grant right page = record { right = right; page = page; rule = 1; give = false; giver = 0; parent = None }
 
 abbrev pub entry : ℕ → Right → Option ℕ → granted.Entry
 entry address right page = record { address = address; grant = grant right page }
@@ -139,3 +142,53 @@ a_region_is_used_by_its_own_process = refl
 
 pub a_fourth_region_may_be_used : HasRegion grants 2 0x01000000
 a_fourth_region_may_be_used = refl
+
+-- Families.
+
+-- process 1 shared its page at 00410000 with process 2, which shared it back
+abbrev pub family : Table
+family =
+    (entry 0x00410000 Write (Some 3) ∷ shared 2 0x00400000 (entry 0x00800000 Read (Some 3))
+    ∷ entry 0x00C00000 Read (Some 0) ∷ [])
+    ∷ (entry 0x00C00000 Read (Some 3) ∷ shared 1 0x00410000 (entry 0x00400000 Read (Some 3)) ∷ [])
+    ∷ []
+  where
+    shared : ℕ → ℕ → granted.Entry → granted.Entry
+    shared p address e = with_parent (Some (record { process = p; address = address })) e
+
+pub a_family_stands_process_by_process_and_then_its_first : family_places family 1 0x00410000
+    ≡ record { process = 1; address = 0x00800000 } ∷ record { process = 2; address = 0x00400000 }
+    ∷ record { process = 1; address = 0x00410000 } ∷ []
+a_family_stands_process_by_process_and_then_its_first = refl
+
+pub a_share_of_a_share_has_no_other_above_it : family_places family 2 0x00400000
+    ≡ record { process = 1; address = 0x00800000 } ∷ record { process = 2; address = 0x00400000 } ∷ []
+a_share_of_a_share_has_no_other_above_it = refl
+
+-- process 1 has address space 1, and process 2 has 2
+pub each_place_is_forgotten_of_its_own_process : map {B = ℕ × Bool} (λ (e : Entry). (e.vpn, e.v)) (all_forgotten entries (record { numbers = 0 ∷ 1 ∷ 2 ∷ []; next = 3 }) (record { process = 1; address = 0x00400000 } ∷ record { process = 2; address = 0x00410000 } ∷ []))
+    ≡ (0x80000, false) ∷ (0x410, true) ∷ (0x80002, false) ∷ (0x80003, false) ∷ []
+each_place_is_forgotten_of_its_own_process = refl
+
+-- Parents.
+
+-- process 1 shared page 3 with process 2, which shared it with process 3
+abbrev pub shared_twice : GrantsState
+shared_twice = record (no_grants 3 1024 4) {
+  table = (entry 0x00410000 Write (Some 3) ∷ [])
+      ∷ (with_parent (Some (record { process = 1; address = 0x00410000 })) (entry 0x00500000 Read (Some 3)) ∷ [])
+      ∷ (with_parent (Some (record { process = 2; address = 0x00500000 })) (entry 0x00600000 Read (Some 3)) ∷ []) ∷ [];
+}
+
+pub a_share_of_what_is_removed_has_its_parent : (without_grant shared_twice 2 0x00500000).table
+    ≡ (entry 0x00410000 Write (Some 3) ∷ []) ∷ []
+    ∷ (with_parent (Some (record { process = 1; address = 0x00410000 })) (entry 0x00600000 Read (Some 3)) ∷ []) ∷ []
+a_share_of_what_is_removed_has_its_parent = refl
+
+pub a_share_of_what_is_erased_keeps_it : (erased_grant shared_twice 2 0x00500000).table
+    ≡ (entry 0x00410000 Write (Some 3) ∷ []) ∷ []
+    ∷ (with_parent (Some (record { process = 2; address = 0x00500000 })) (entry 0x00600000 Read (Some 3)) ∷ []) ∷ []
+a_share_of_what_is_erased_keeps_it = refl
+
+pub the_two_are_alike : AreAlike (without_grant shared_twice 2 0x00500000).table (erased_grant shared_twice 2 0x00500000).table
+the_two_are_alike = refl

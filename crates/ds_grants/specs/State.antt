@@ -3,7 +3,8 @@ use Rattle.std.specs.Prelude.{◌≡◌, ℕ, ◌+◌, ◌-◌, Bool, true, fals
 use Rattle.std.specs.List.{range_with_len}
 use Rattle.ds_mem.specs.Memory.{frame_of}
 use Rattle.ds_policy.specs.declared.grant.Grant.{Grant}
-use Rattle.ds_policy.specs.Pages.{Table, Pages, is_named_by, with_entry, without_entry}
+use Rattle.ds_policy.specs.Pages.{Table, Pages, is_named_by, with_entry, erased_entry}
+use Rattle.ds_policy.specs.Families.{without_entry}
 use Rattle.ds_policy.specs.Grants.{PageState}
 use Rattle.ds_grants.specs.declared.fault.GrantFault.{GrantFault}
 use Rattle.ds_grants.specs.declared.layout.Place.{Place}
@@ -67,7 +68,11 @@ lives_in g process = nat_lt 0 process && not (slice_index_or g.ended (process - 
 abbrev pub with_grant : GrantsState → ℕ → ℕ → Grant → GrantsState
 with_grant g process address grant = record g { table = with_entry g.table process address grant }
 
--- without the entry of a process at an address
+-- without the entry of a process at an address, all others as they are
+abbrev pub erased_grant : GrantsState → ℕ → ℕ → GrantsState
+erased_grant g process address = record g { table = erased_entry g.table process address }
+
+-- without the entry of a process at an address; what was shared from it has its parent
 abbrev pub without_grant : GrantsState → ℕ → ℕ → GrantsState
 without_grant g process address = record g { table = without_entry g.table process address }
 

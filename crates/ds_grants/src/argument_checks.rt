@@ -189,6 +189,7 @@ impl Grants {
               rule = rule;
               give = may_give;
               giver = 0;
+              parent = None;
             }))) }
         ensures free { OnOk result (page_of (entry_at self.now.table process addr) ≡ None) }
         ensures named { OnOk result (self.now.named ≤ self.now.frames) }
@@ -238,7 +239,7 @@ impl Grants {
             ≡ Err (number_of r)) }
         ensures ok { IfOk result (λ g. (memory : List ℕ)
             → give (lives_in self.now) (page_state self.now memory) caller addr receiver to mode
-            ≡ Ok (given (page_state self.now memory) caller g receiver to mode)) }
+            ≡ Ok (given (page_state self.now memory) caller addr g receiver to mode)) }
         ensures there { IfOk result (λ g. entry_at self.now.table caller addr ≡ Some g) }
         ensures right { IfOk result (λ g. is_some_right g.right ≡ true) }
         ensures names { IfOk result (λ g. HasPage self.now g) }

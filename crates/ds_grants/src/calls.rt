@@ -1,15 +1,15 @@
 //! What a process may do with what it was granted: give it, take back what it gave, and drop it.
-ghost use Rattle.std.specs.Prelude.{◌≡◌, ◌≢◌, ℕ, ◌<◌, ◌≤◌, ◌^◌, List, true, false, length, if◌then◌else◌, Some, IsNone, OnErr, OnOk};
+ghost use Rattle.std.specs.Prelude.{◌≡◌, ◌≢◌, ℕ, ◌<◌, ◌≤◌, ◌^◌, List, true, false, length, if◌then◌else◌, Some, None, IsNone, OnErr, OnOk};
 ghost use Rattle.ds_tlb.specs.declared.entry.Entry.{Entry};
 ghost use Rattle.ds_policy.specs.declared.grant.Right.TheVariants.{Write};
 ghost use Rattle.ds_policy.specs.Pages.{entries_of, entry_at, fresh};
-ghost use Rattle.ds_policy.specs.Grants.{is_some_right, granted, copied, give, take, drop_own, drop_by_command};
+ghost use Rattle.ds_policy.specs.Grants.{is_some_right, granted, shared_from, copied, give, take, drop_own, drop_by_command};
 ghost use Rattle.ds_grants.specs.State.{Does, IsAsLarge, lives_in, page_state, pages_in};
 ghost use Rattle.ds_grants.specs.Copies.{AreRewritten};
 ghost use Rattle.ds_grants.specs.Free.{HasPage, IsFirstFree};
 ghost use Rattle.ds_grants.specs.Order.{is_no_page};
 ghost use Rattle.ds_asid.specs.Spaces.{number_held};
-ghost use Rattle.ds_grants.specs.Changes.{both_forgotten};
+ghost use Rattle.ds_grants.specs.Changes.{both_forgotten, family_places, all_forgotten};
 ghost use Rattle.ds_grants.specs.Represented.{IsLow, HasRegion, Keeps};
 
 use crate::fault::GrantFault;
@@ -17,14 +17,15 @@ use crate::grants::Grants;
 use crate::rewords::reword_page;
 use ds_asid::Asids;
 use ds_mem::Memory;
-use ds_policy::{Grant, Right};
+use ds_policy::{EntryPlace, Grant, Right};
 use ds_tables::Tables;
 use ds_tlb::Lookaside;
 
 impl Grants {
     /// Gives what a process has at an address to another process: by mode 1 the page for reading,
     /// by 2 for writing, by 3 a copy of it, which lies in the page's frame until one of the
-    /// two is first stored to. Refused, nothing changes.
+    /// two is first stored to. What is shared has the caller's entry as its parent, and a copy has
+    /// none. Refused, nothing changes.
     pub fn give<L: Lookaside>(
         &mut self,
         caller: u32,
@@ -64,6 +65,7 @@ impl Grants {
                 grant,
                 Right::Read,
                 caller,
+                addr,
                 receiver,
                 to,
                 memory,
@@ -75,6 +77,7 @@ impl Grants {
                 grant,
                 Right::Write,
                 caller,
+                addr,
                 receiver,
                 to,
                 memory,
@@ -87,12 +90,13 @@ impl Grants {
         Ok(())
     }
 
-    /// Gives a page that a process has, with this right.
+    /// Gives a page that a process has at an address, with this right.
     fn share<L: Lookaside>(
         &mut self,
         grant: Grant,
         right: Right,
         caller: u32,
+        addr: u32,
         receiver: u32,
         to: u32,
         memory: &mut Memory,
@@ -110,7 +114,7 @@ impl Grants {
         requires names { HasPage self.old grant }
         ensures state { page_state self.new memory.new
             ≡ granted (page_state self.old memory.old) receiver to
-            (record grant { right = right; giver = caller }) }
+            (shared_from caller addr grant right) }
         ensures low { IsLow memory.old memory.new }
         ensures same { IsAsLarge self.old self.new }
         ensures ended { self.new.ended ≡ self.old.ended }
@@ -125,6 +129,10 @@ impl Grants {
         let shared = Grant {
             right,
             giver: caller,
+            parent: Some(EntryPlace {
+                process: caller,
+                address: addr,
+            }),
             ..grant
         };
         self.put(receiver, to, shared, memory, tables, spaces, tlb);
@@ -158,6 +166,7 @@ impl Grants {
               page = Some
                   (fresh (pages_in self.old memory.old));
               giver = caller;
+              parent = None;
             }) }
         ensures same { IsAsLarge self.old self.new }
         ensures ended { self.new.ended ≡ self.old.ended }
@@ -179,13 +188,15 @@ impl Grants {
                 right: Right::Write,
                 page: Some(free),
                 giver: caller,
+                parent: None,
                 ..grant
             };
             self.put(receiver, to, copy, memory, tables, spaces, tlb);
         }
     }
 
-    /// Takes back from a process what the caller gave it at an address. Refused, nothing changes.
+    /// Takes back from a process what the caller gave it at an address, with all that descends from
+    /// it. Refused, nothing changes.
     pub fn take<L: Lookaside>(
         &mut self,
         caller: u32,
@@ -205,8 +216,8 @@ impl Grants {
             × (tables.new ≡ tables.old) × (L.entries tlb.new ≡ L.entries tlb.old)) }
         ensures spaces { spaces.new ≡ spaces.old }
         ensures entries { OnOk result
-            (L.entries tlb.new
-            ≡ both_forgotten (L.entries tlb.old) addr (number_held spaces.old process)) }
+            (L.entries tlb.new ≡ all_forgotten (L.entries tlb.old) spaces.old
+            (family_places self.old.table process addr)) }
         ensures keeps { Keeps
             (L.entries tlb.old) memory.old tables.old spaces.old self.old
             (L.entries tlb.new) memory.new tables.new spaces.new self.new }
@@ -216,12 +227,13 @@ impl Grants {
         if grant.giver != caller {
             return Err(GrantFault::NotGiven);
         }
-        self.remove(process, addr, memory, tables, spaces, tlb);
+        self.cut(process, addr, memory, tables, spaces, tlb);
         Ok(())
     }
 
     /// Drops an entry of a process: by a command of the operator's also one whose right is none, or
-    /// else by the process itself. Refused, nothing changes.
+    /// else by the process itself. What was shared from it has its parent from now on. Refused, nothing
+    /// changes.
     pub fn drop_page<L: Lookaside>(
         &mut self,
         process: u32,

@@ -4,7 +4,7 @@ ghost use Rattle.ds_policy.specs.Pages.{entries_of};
 ghost use Rattle.ds_policy.specs.Grants.{is_some_right, grant, narrow, revoke, end_process};
 ghost use Rattle.ds_grants.specs.State.{Does, IsAsLarge, lives_in, page_state};
 ghost use Rattle.ds_asid.specs.Spaces.{number_held, given_up};
-ghost use Rattle.ds_grants.specs.Changes.{both_forgotten, all_closed};
+ghost use Rattle.ds_grants.specs.Changes.{both_forgotten, family_places, all_forgotten, all_closed};
 ghost use Rattle.ds_grants.specs.Represented.{IsLow, Keeps};
 
 use crate::fault::GrantFault;
@@ -58,6 +58,7 @@ impl Grants {
             rule,
             give,
             giver: 0,
+            parent: None,
         };
         self.put(process, addr, grant, memory, tables, spaces, tlb);
         Ok(())
@@ -98,8 +99,8 @@ impl Grants {
         Ok(())
     }
 
-    /// Takes all right from what a process has at an address, by this rule. Refused, nothing
-    /// changes.
+    /// Takes all right from what a process has at an address, and from all that descends from it, by
+    /// this rule. Refused, nothing changes.
     pub fn revoke<L: Lookaside>(
         &mut self,
         process: u32,
@@ -119,27 +120,21 @@ impl Grants {
             × (tables.new ≡ tables.old) × (L.entries tlb.new ≡ L.entries tlb.old)) }
         ensures spaces { spaces.new ≡ spaces.old }
         ensures entries { OnOk result
-            (L.entries tlb.new
-            ≡ both_forgotten (L.entries tlb.old) addr (number_held spaces.old process)) }
+            (L.entries tlb.new ≡ all_forgotten (L.entries tlb.old) spaces.old
+            (family_places self.old.table process addr)) }
         ensures keeps { Keeps
             (L.entries tlb.old) memory.old tables.old spaces.old self.old
             (L.entries tlb.new) memory.new tables.new spaces.new self.new }
         ensures random { L.random_place tlb.new ≡ L.random_place tlb.old }
     {
         self.granted_to(process, addr)?;
-        let revoked = Grant {
-            right: Right::Nothing,
-            page: None,
-            rule,
-            give: false,
-            giver: 0,
-        };
-        self.put(process, addr, revoked, memory, tables, spaces, tlb);
+        self.forbid(process, addr, rule, memory, tables, spaces, tlb);
         Ok(())
     }
 
-    /// Removes all entries of a process, which has ended from now on. What it gave stays. It gives
-    /// its address space number up, so what the buffer has of it answers to nobody.
+    /// Removes all entries of a process, which has ended from now on. What it gave stays, and what was
+    /// shared from its entries has the parents of theirs that stay. It gives its address space number
+    /// up, so what the buffer has of it answers to nobody.
     pub fn end_process<L: Lookaside>(
         &mut self,
         process: u32,

@@ -7,6 +7,7 @@ mod argument_checks;
 mod buffer_laws;
 mod calls;
 mod commands;
+mod families;
 mod fault;
 mod first;
 mod first_tables;
@@ -32,6 +33,6 @@ pub use grants::Grants;
 pub use order::refusals_have_one_order;
 pub use represented::{
     a_change_keeps_what_is_represented, a_number_is_handed_out, pages_leave_tables_as_they_are,
-    tables_leave_pages_as_they_are,
+    parents_leave_what_is_represented, tables_leave_pages_as_they_are,
 };
 pub use table_words::{a_fifth_region_has_no_place, words_hold_after_a_change};

@@ -4,12 +4,14 @@ ghost use Rattle.ds_word.specs.Bytes.{with_word};
 ghost use Rattle.ds_tlb.specs.declared.entry.Entry.{Entry};
 ghost use Rattle.ds_tlb.specs.Entries.{empty_entries};
 ghost use Rattle.ds_policy.specs.declared.grant.Grant.{Grant};
-ghost use Rattle.ds_grants.specs.State.{GrantsState, with_grant, without_grant};
+ghost use Rattle.ds_policy.specs.Pages.{Table};
+ghost use Rattle.ds_grants.specs.State.{GrantsState, with_grant, erased_grant};
 ghost use Rattle.ds_tables.specs.Places.{Places, ArePlaces, region_of, opened};
 ghost use Rattle.ds_tables.specs.Tables.{with_entry};
 ghost use Rattle.ds_asid.specs.Spaces.{Spaces, number_held, after_take};
 ghost use Rattle.ds_grants.specs.Words.{word_of_grant};
 ghost use Rattle.ds_grants.specs.Changes.{both_forgotten, memory_without, places_without};
+ghost use Rattle.ds_grants.specs.Parents.{AreAlike};
 ghost use Rattle.ds_grants.specs.Represented.{IsRepresented, Keeps, IsLow, IsHigh, HasPlace};
 
 /// What is granted stays represented when an entry of a process is put with its word, or removed, and
@@ -30,7 +32,7 @@ pub fn a_change_keeps_what_is_represented()
         → a % 2 ^ 12 ≡ 0
         → Keeps entries memory t s g
         (both_forgotten entries a (number_held s p))
-        (memory_without memory t g p a) (places_without t g p a) s (without_grant g p a) }
+        (memory_without memory t g p a) (places_without t g p a) s (erased_grant g p a) }
 {}
 
 /// A word that is put into a page table, and one that is taken out, change no page.
@@ -58,4 +60,12 @@ pub fn a_number_is_handed_out()
         → IsRepresented entries memory t s g
         → IsRepresented (if nat_lt s.next 64 then entries else empty_entries slots) memory t
         (after_take s p) g }
+{}
+
+/// What is granted stays represented where entries have other parents.
+pub fn parents_leave_what_is_represented()
+    ensures { (entries : List Entry) (memory : List ℕ) (t : Places) (s : Spaces)
+        (g : GrantsState) (table : Table) → AreAlike table g.table
+        → IsRepresented entries memory t s g
+        → IsRepresented entries memory t s (record g { table = table }) }
 {}

@@ -4,7 +4,7 @@ ghost use Rattle.std.specs.List.{list_any};
 ghost use Rattle.ds_policy.specs.declared.grant.Entry.{Entry};
 ghost use Rattle.ds_policy.specs.declared.grant.Grant.{Grant};
 ghost use Rattle.ds_policy.specs.Grants.{region, count_distinct};
-ghost use Rattle.ds_grants.specs.State.{GrantsState, with_grant, without_grant};
+ghost use Rattle.ds_grants.specs.State.{GrantsState, with_grant, erased_grant};
 ghost use Rattle.ds_tables.specs.Places.{Places, ArePlaces, region_of, places_of, place_of, has_place, opened};
 ghost use Rattle.ds_tables.specs.Tables.{HasEmptyTable, with_entry};
 ghost use Rattle.ds_grants.specs.Words.{regions_taken, word_of_grant, WordsHold};
@@ -30,5 +30,5 @@ pub fn words_hold_after_a_change()
     ensures removed { (memory : List ℕ) (t : Places) (g : GrantsState) (p a : ℕ)
         → WordsHold memory t g → ArePlaces t → 2 ^ 23 ≤ length memory → HasEmptyTable memory
         → 0 < p → p ≤ length g.table → a % 2 ^ 12 ≡ 0
-        → WordsHold (memory_without memory t g p a) (places_without t g p a) (without_grant g p a) }
+        → WordsHold (memory_without memory t g p a) (places_without t g p a) (erased_grant g p a) }
 {}

@@ -16,7 +16,7 @@ at_most_two n a b early (inl one) = omega arith
 at_most_two n a b early (inr two) = omega arith
 
 -- a run that goes on where no boundary is owed has time left
-has_time : (owed : Bool) (n : ℕ) (t : State) → owed ≡ false → (owed || (nat_lt t.time n && not (is_over t))) ≡ true → t.time < n
+pub has_time : (owed : Bool) (n : ℕ) (t : State) → owed ≡ false → (owed || (nat_lt t.time n && not (is_over t))) ≡ true → t.time < n
 has_time true n t is on = absurd (false_is_not_true (sym is))
   where
     false_is_not_true : false ≡ true → ⊥

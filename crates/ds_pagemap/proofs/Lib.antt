@@ -4,7 +4,12 @@ pub mod Runs
 pub mod Units
 pub mod Processes
 pub mod Entries
+pub mod Descent
+pub mod Ancestors
+pub mod Remaining
+pub mod OtherRows
 pub mod Refusals
 pub mod Isolation
 pub mod Boundaries
 pub mod Growth
+pub mod Turns

@@ -1,30 +1,27 @@
 -- What a change that may be refused keeps of the table: nothing is changed where it is refused.
 use Rattle.std.proofs.Common.{◌≡◌, ℕ, ◌<◌, nat_lt, not, ◌&&◌, Bool, true, false, if◌then◌else◌, Option, Some, None, Result, Ok, Err, refl, sym, ltb-true}
-use Rattle.ds_policy.specs.declared.grant.Grant.{Grant}
-use Rattle.ds_policy.specs.Pages.{Table, entry_at}
+use Rattle.ds_policy.specs.Pages.{Table}
 use Rattle.ds_policy.specs.Grants.{PageState, ◌or_else◌, refused}
 use Rattle.ds_pagemap.specs.Machine.{State, lives}
 
--- What process q has at b.
-module _ (q b : ℕ) (e : Option Grant) where
-  abbrev pub Keeps : Table → Type 0
-  Keeps t = entry_at t q b ≡ e
+-- What holds of the table.
+module _ (P : Table → Type 0) where
+  -- it holds of the table that a change leaves, if it is done
+  abbrev pub IfDone : Result PageState ℕ → Type 0
+  IfDone (Ok s) = P s.table
+  IfDone (Err number) = Unit {0}
 
-  abbrev pub KeepsIfDone : Result PageState ℕ → Type 0
-  KeepsIfDone (Ok s) = Keeps s.table
-  KeepsIfDone (Err number) = Unit {0}
+  pub if_or_else : (o : Option ℕ) (r : Result PageState ℕ) → IfDone r → IfDone (o or_else r)
+  if_or_else None r k = k
+  if_or_else (Some number) r k = tt
 
-  pub keeps_or_else : (o : Option ℕ) (r : Result PageState ℕ) → KeepsIfDone r → KeepsIfDone (o or_else r)
-  keeps_or_else None r k = k
-  keeps_or_else (Some number) r k = tt
+  pub if_unless : (number : ℕ) (bad : Bool) (r : Result PageState ℕ) → (bad ≡ false → IfDone r) → IfDone (refused number bad or_else r)
+  if_unless number true r k = tt
+  if_unless number false r k = k refl
 
-  pub keeps_unless : (number : ℕ) (bad : Bool) (r : Result PageState ℕ) → (bad ≡ false → KeepsIfDone r) → KeepsIfDone (refused number bad or_else r)
-  keeps_unless number true r k = tt
-  keeps_unless number false r k = k refl
-
-  pub keeps_if : (test : Bool) (s t : PageState) → Keeps s.table → Keeps t.table → Keeps (if test then s else t).table
-  keeps_if true s t k l = k
-  keeps_if false s t k l = l
+  pub if_either : (test : Bool) (s t : PageState) → P s.table → P t.table → P (if test then s else t).table
+  if_either true s t k l = k
+  if_either false s t k l = l
 
 pub not_true : (b : Bool) → not b ≡ false → b ≡ true
 not_true true e = refl

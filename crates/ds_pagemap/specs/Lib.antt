@@ -10,3 +10,5 @@ pub mod Laws
 pub mod Store
 pub mod Rows
 pub mod Guests
+pub mod ShareRows
+pub mod LawRows

@@ -28,7 +28,7 @@ use Rattle.ds_pagemap.specs.Inputs.{Sources, Refusal, Limit, NoSource, InSource,
 use Rattle.ds_pagemap.specs.First.{first_state}
 
 -- lines as a text
-abbrev source : List String → List ℕ
+abbrev pub source : List String → List ℕ
 source lines = flat_map (λ line. codes line ++ 10 ∷ []) lines
 
 -- Runs.
@@ -39,7 +39,7 @@ unfolding half_turn unit boundary instruction after asm_on_literals
 run_on_literals = tt
 
 -- the image, empty where a source has none
-abbrev image_or_none : Result (List ℕ) SourceFault → List ℕ
+abbrev pub image_or_none : Result (List ℕ) SourceFault → List ℕ
 image_or_none (Ok image) = image
 image_or_none (Err fault) = []
 

@@ -1,5 +1,5 @@
 -- Runs.
-use Rattle.std.specs.Prelude.{None, is_some, ◌||◌, ◌≡◌, ℕ, Bool, false, not, ◌&&◌, nat_lt, if◌then◌else◌, List, [], ◌∷◌}
+use Rattle.std.specs.Prelude.{None, is_some, ◌||◌, ◌≡◌, ℕ, ◌+◌, ◌-◌, ◌*◌, ◌≤◌, Bool, false, not, ◌&&◌, nat_lt, if◌then◌else◌, List, [], ◌∷◌, length}
 use Rattle.std.specs.List.{list_all}
 use Rattle.ds_pagemap.specs.Machine.{State, has_ended, touched}
 use Rattle.ds_pagemap.specs.Unit.{unit}
@@ -31,6 +31,12 @@ pub record Reaches (n : ℕ) (m t : State) : Type 0 where
   pub choices : List Bool
   pub early : Bool
   pub comes_to : t ≡ touched early (after n choices m)
+
+-- in half turns no more than there may be: two of them a tick, a unit and the boundary after it, and
+-- first the boundary that is owed
+pub record ReachesInTime (n : ℕ) (m t : State) : Type 0 where
+  pub reached : Reaches n m t
+  pub few : length reached.choices ≤ 2 * (n - m.time) + (if is_some m.owed then 1 else 0)
 
 -- and is over there
 pub record Ends (n : ℕ) (m t : State) : Type 0 where

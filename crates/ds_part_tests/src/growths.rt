@@ -1,7 +1,7 @@
 //! Want of memory. These tests pass whichever growth is refused: `rt try --test --fail-alloc N`.
 ghost use Rattle.std.specs.Prelude.{◌≤◌, length};
 
-use crate::table::is_filled;
+use crate::table::{is_filled, is_free};
 use ds_mem::Memory;
 use ds_policy::{
     Character, Command, EventList, Events, EventsFault, Grant, Policy, PolicyRule, Right, Table,
@@ -69,14 +69,16 @@ fn takes_256(table: &mut Table) -> bool
         rule: 1001,
         give: false,
         giver: 0,
+        parent: None,
     };
     let none = table.entry(1, 0).is_none();
     let filled = is_filled(table, grant, 256);
-    let refused = table.set(1, 256 * 4096, grant).is_err();
+    let refused = is_free(table, 1, 256 * 4096) && table.set(1, 256 * 4096, grant).is_err();
     let last = table.entry(1, 255 * 4096) == Some(grant);
     let removed = table.remove(1, 0).is_ok();
     table.clear(1);
-    none && filled && refused && last && removed && table.entry(1, 255 * 4096).is_none()
+    let cleared = table.processes() == 1 && table.entry(1, 255 * 4096).is_none();
+    none && filled && refused && last && removed && cleared
 }
 
 /// Whether there is a table that does so, or no memory for it.
@@ -94,7 +96,7 @@ fn has_table(alloc: Global) -> bool {
     }
 }
 
-/// There are 12 growths: 11 of the policy, and 1 of the table, where `Table::new` is refused. A
+/// There are 13 growths: 11 of the policy, and 2 of the table, where `Table::new` is refused. A
 /// change of the table has none.
 #[test]
 fn for_want_of_memory_there_is_no_table(rt: HostRuntime) {

@@ -13,6 +13,8 @@ mod bus;
 #[cfg(test)]
 mod explained;
 #[cfg(test)]
+mod families;
+#[cfg(test)]
 mod faults;
 #[cfg(test)]
 mod growths;

@@ -1,7 +1,8 @@
 -- The entry at an address, by the place where it is.
-use Rattle.std.proofs.Common.{◌≡◌, ap, refl, ℕ, suc, ◌+◌, ◌<◌, ◌≤◌, Bool, ◌==◌, cond, nat_lt, List, [], ◌∷◌, ◌++◌, length, get_or, set, position, Option, Some, None, inl, inr, arith, append-nil, length-set}
+use Rattle.std.proofs.Common.{◌≡◌, ap, sym, refl, ℕ, suc, ◌+◌, ◌<◌, ◌≤◌, Bool, ◌==◌, cond, nat_lt, List, [], ◌∷◌, ◌++◌, length, get_or, set, position, Option, Some, None, inl, inr, arith, append-nil, length-set}
 use Rattle.std.proofs.lemmas.List.{drop_all, take_all}
 use Rattle.std.specs.List.{refill, position_or_len}
+use Rattle.std.specs.Prelude.{MatchOption}
 use Rattle.std.proofs.lemmas.Bool.{cases_Bool}
 use Rattle.std.proofs.lemmas.Bool.Decides.{nat_tests}
 use Rattle.ds_policy.specs.declared.grant.Entry.{Entry}
@@ -57,6 +58,14 @@ placed es a i g d h =
 
 pub unplaced : (es : List Entry) (a : ℕ) (g : Grant) → position (is_at a) es ≡ None → (found es a ≡ None) × (put es a g ≡ es ++ entry a g ∷ [])
 unplaced es a g h = at_none es a g (place_none (position_or_len (is_at a) es) (length es) h)
+
+-- where the entry at an address stands
+pub found_place : (es : List Entry) (a : ℕ) (d : Entry) (o : Option ℕ) → length es ≤ 256 → o ≡ position (is_at a) es → MatchOption o (found es a ≡ None) (λ i. (found es a ≡ Some (get_or es i d).grant) × (i < length es) × (i < 256))
+found_place es a d None few h = (unplaced es a d.grant (sym h)).0
+found_place es a d (Some i) few h =
+    let at = placed es a i d.grant d (sym h) in
+    let inside : i < length es = at.2 in
+    (at.0, inside, omega arith)
 
 pub refill_set : {A : Type 0} (xs : List A) (i : ℕ) (x : A) → refill (length xs) xs (set xs i x) ≡ set xs i x
 refill_set xs i x = rw (length-set xs i x, drop_all (length xs) xs (omega arith), append-nil (set xs i x)) (take_all (length xs) (set xs i x) (omega (arith, length-set xs i x)))

@@ -17,3 +17,7 @@ pub mod PolicyRead
 pub mod InputLineSteps
 pub mod GoodInput
 pub mod FirstEntries
+pub mod Rows
+pub mod Families
+pub mod Marks
+pub mod Descents

@@ -1,5 +1,5 @@
 -- Which page a name is of, where pages come one by one.
-use Rattle.std.proofs.Common.{◌≡◌, ◌∙◌, sym, ap, subst, refl, ℕ, ◌+◌, suc, Bool, true, false, bytes_eq, List, [], ◌∷◌, ◌++◌, length, Option, Some, None, is_some, option_map, inl, inr, arith, if◌then◌else◌, ◌||◌, append-nil, nat_lt, cond}
+use Rattle.std.proofs.Common.{◌≡◌, ◌∙◌, sym, ap, subst, refl, ℕ, ◌+◌, suc, Bool, true, false, bytes_eq, List, [], ◌∷◌, ◌++◌, length, Option, Some, None, is_some, option_map, inl, inr, arith, if◌then◌else◌, nat_lt}
 use Rattle.std.specs.List.{position, position_or_len, list_any}
 use Rattle.std.proofs.lemmas.Bool.{cases_Bool}
 use Rattle.std.proofs.lemmas.Bool.Decides.{nat_tests}
@@ -9,7 +9,7 @@ use Rattle.toml.specs.Data.{Data}
 use Rattle.ds_policy.specs.declared.policy.PolicyPage.{PolicyPage}
 use Rattle.ds_policy.specs.Document.{is_among}
 use Rattle.ds_policy.specs.PolicyParts.{page_named, page_of, new_page}
-use Rattle.ds_policy.specs.Names.{held_number, AreNamed, AreHeld}
+use Rattle.ds_policy.specs.Names.{held_number, AreNamed}
 use Rattle.ds_policy.specs.declared.names.Names.{Names}
 
 one_more : (k : ℕ) → 1 + k ≡ suc k

@@ -1,5 +1,5 @@
 -- Whether there may be one more rule is told by the rules of its process.
-use Rattle.std.proofs.Common.{◌≡◌, ◌∙◌, sym, ap, refl, ℕ, ◌+◌, ◌-◌, ◌<◌, ◌≤◌, ◌==◌, ◌||◌, ◌&&◌, not, nat_lt, nat_le, Bool, true, false, List, [], ◌∷◌, ◌++◌, length, map, filter, count_by, Some, None, inl, inr, arith, set, get_or, slice_set, slice_index_or, if◌then◌else◌, append-nil}
+use Rattle.std.proofs.Common.{◌≡◌, ◌∙◌, sym, ap, refl, ℕ, ◌-◌, ◌≤◌, ◌==◌, ◌||◌, nat_lt, nat_le, true, List, [], ◌∷◌, ◌++◌, length, map, count_by, Some, None, inl, inr, arith, set, get_or, if◌then◌else◌, append-nil}
 use Rattle.std.specs.List.{list_any}
 use Rattle.std.proofs.lemmas.Bool.{cases_Bool}
 use Rattle.std.proofs.lemmas.Bool.Decides.{nat_tests}

@@ -1,10 +1,11 @@
 -- What changes of the permission table do to the page state, and when they are refused.
-use Rattle.std.specs.Prelude.{ℕ, ◌+◌, ◌-◌, ◌/◌, ◌%◌, ◌^◌, Bool, true, false, not, ◌&&◌, ◌||◌, nat_lt, nat_le, ◌==◌, if◌then◌else◌, List, [], ◌∷◌, length, map, slice_set, Option, Some, None, Result, Ok, Err, is_some, unwrap_or}
+use Rattle.std.specs.Prelude.{ℕ, ◌+◌, ◌/◌, ◌%◌, ◌^◌, Bool, true, false, not, ◌&&◌, ◌||◌, nat_lt, nat_le, ◌==◌, if◌then◌else◌, List, [], ◌∷◌, length, map, slice_set, Option, Some, None, Result, Ok, Err, is_some, unwrap_or}
 use Rattle.std.specs.List.{list_any}
 use Rattle.ds_policy.specs.declared.grant.Right.{Right}
 use Rattle.ds_policy.specs.declared.grant.Right.TheVariants.{Nothing, Read, Write}
 use Rattle.ds_policy.specs.declared.grant.Grant.{Grant}
-use Rattle.ds_policy.specs.Pages.{Pages, Table, entries_of, entry_at, with_entry, without_entry, bytes_of, count_live, fresh, kept}
+use Rattle.ds_policy.specs.Pages.{Pages, Table, entries_of, entry_at, with_entry, bytes_of, count_live, fresh, kept}
+use Rattle.ds_policy.specs.Families.{without_entry, without_entries, cut_entry, forbid_entry}
 
 -- the pages that live, and the permission table over them
 pub record PageState : Type 0 where
@@ -42,7 +43,7 @@ has_right (Some g) = is_some_right g.right
 
 -- what stands for an entry where there is none: no right, no page, rule 0
 abbrev pub no_grant : Grant
-no_grant = record { right = Nothing; page = None; rule = 0; give = false; giver = 0 }
+no_grant = record { right = Nothing; page = None; rule = 0; give = false; giver = 0; parent = None }
 
 -- The conditions of the refusals, by their names.
 abbrev pub not_page : ℕ → Option ℕ
@@ -89,20 +90,40 @@ granted s p address g = record s { table = with_entry s.table p address g }
 abbrev pub removed : PageState → ℕ → ℕ → PageState
 removed s p address = live_only (record s { table = without_entry s.table p address })
 
+-- the same without all that descends from the entry
+abbrev pub cut : PageState → ℕ → ℕ → PageState
+cut s p address = live_only (record s { table = cut_entry s.table p address })
+
+-- what is left of an entry whose right was taken by a rule: the rule alone
+abbrev pub forbidden_by : ℕ → Grant
+forbidden_by rule = record no_grant { rule = rule }
+
+-- without a right for the entry and for all that descends from it, by this rule
+abbrev pub forbidden : PageState → ℕ → ℕ → ℕ → PageState
+forbidden s p address rule =
+    live_only (record s { table = forbid_entry s.table p address (forbidden_by rule) })
+
 -- no such mode, no leave to give, or to be shared for writing with the right to read alone
 abbrev pub may_not_give : Grant → ℕ → Bool
 may_not_give g mode = (not (nat_lt 0 mode && nat_lt mode 4) || not g.give) || ((mode == 2) && not (is_write g.right))
+
+-- what is shared of a grant that the caller has at an address, with this right
+abbrev pub shared_from : ℕ → ℕ → Grant → Right → Grant
+shared_from caller address g right =
+    record g { right = right; giver = caller; parent = Some (record { process = caller; address = address }) }
 
 -- with a new page of the same bytes, under the least number that no live page has
 abbrev pub copied : PageState → Option ℕ → PageState
 copied s page = record s { pages = slice_set s.pages (fresh s.pages) (Some (bytes_of s.pages (unwrap_or page 0))) }
 
--- what is given: by mode 1 the page for reading, by 2 for writing, by 3 a copy
-abbrev pub given : PageState → ℕ → Grant → ℕ → ℕ → ℕ → PageState
-given s caller g receiver to mode =
-    if mode == 1 then granted s receiver to (record g { right = Read; giver = caller })
-    else if mode == 2 then granted s receiver to (record g { right = Write; giver = caller })
-    else granted (copied s g.page) receiver to (record g { right = Write; page = Some (fresh s.pages); giver = caller })
+-- what is given of the entry of the caller at an address: by mode 1 the page for reading, by 2 for
+-- writing, by 3 a copy, which comes of no entry
+abbrev pub given : PageState → ℕ → ℕ → Grant → ℕ → ℕ → ℕ → PageState
+given s caller address g receiver to mode =
+    if mode == 1 then granted s receiver to (shared_from caller address g Read)
+    else if mode == 2 then granted s receiver to (shared_from caller address g Write)
+    else granted (copied s g.page) receiver to
+    (record g { right = Write; page = Some (fresh s.pages); giver = caller; parent = None })
 
 -- Each of these takes first which processes there are that haven't ended.
 abbrev pub give : (ℕ → Bool) → PageState → ℕ → ℕ → ℕ → ℕ → ℕ → Result PageState ℕ
@@ -117,16 +138,16 @@ give lives s caller address receiver to mode =
     table_full s receiver to or_else
     fifth_region s receiver to or_else
     no_frames s mode or_else
-    Ok (given s caller g receiver to mode)
+    Ok (given s caller address g receiver to mode)
 
--- the giver takes back what it gave
+-- the giver takes back what it gave, with what was shared on
 abbrev pub take : (ℕ → Bool) → PageState → ℕ → ℕ → ℕ → Result PageState ℕ
 take lives s caller p address =
     refused 12 (not (lives p)) or_else
     not_page address or_else
     no_right s p address or_else
     refused 19 (not ((unwrap_or (entry_at s.table p address) no_grant).giver == caller)) or_else
-    Ok (removed s p address)
+    Ok (cut s p address)
 
 -- a process drops an entry of its own
 abbrev pub drop_own : PageState → ℕ → ℕ → Result PageState ℕ
@@ -140,7 +161,7 @@ grant lives s p address page right may_give rule =
     refused 16 (has_right (entry_at s.table p address)) or_else
     table_full s p address or_else
     fifth_region s p address or_else
-    Ok (granted s p address (record { right = right; page = Some page; rule = rule; give = may_give; giver = 0 }))
+    Ok (granted s p address (record { right = right; page = Some page; rule = rule; give = may_give; giver = 0; parent = None }))
 
 -- the operator narrows an entry to reading
 abbrev pub narrow : (ℕ → Bool) → PageState → ℕ → ℕ → Result PageState ℕ
@@ -148,11 +169,12 @@ narrow lives s p address =
     refused 12 (not (lives p)) or_else not_page address or_else no_right s p address or_else
     Ok (granted s p address (record (unwrap_or (entry_at s.table p address) no_grant) { right = Read }))
 
--- the operator takes an entry's right, and leaves the entry with the command's rule
+-- the operator takes the right of an entry and of what was shared on, and leaves them with the
+-- command's rule
 abbrev pub revoke : (ℕ → Bool) → PageState → ℕ → ℕ → ℕ → Result PageState ℕ
 revoke lives s p address rule =
     refused 12 (not (lives p)) or_else not_page address or_else no_right s p address or_else
-    Ok (live_only (granted s p address (record no_grant { rule = rule })))
+    Ok (forbidden s p address rule)
 
 -- the operator's drop removes an entry with right none too
 abbrev pub drop_by_command : (ℕ → Bool) → PageState → ℕ → ℕ → Result PageState ℕ
@@ -160,6 +182,6 @@ drop_by_command lives s p address =
     refused 12 (not (lives p)) or_else not_page address or_else no_entry s p address or_else
     Ok (removed s p address)
 
--- all entries of a process go; what it gave stays
+-- all entries of a process go, one after the other; what it gave stays, with the parents handed on
 abbrev pub end_process : PageState → ℕ → PageState
-end_process s p = live_only (record s { table = slice_set s.table (p - 1) [] })
+end_process s p = live_only (record s { table = without_entries s.table p (entries_of s.table p) })

@@ -1,4 +1,6 @@
 pub mod Pages
+pub mod Families
+pub mod Marks
 pub mod Grants
 pub mod Value
 pub mod Document

@@ -43,9 +43,9 @@ entry_at table p address = found (entries_of table p) address
 abbrev pub with_entry : Table → ℕ → ℕ → Grant → Table
 with_entry table p address g = slice_set table (p - 1) (put (entries_of table p) address g)
 
--- the table without an entry of process p at an address
-abbrev pub without_entry : Table → ℕ → ℕ → Table
-without_entry table p address = slice_set table (p - 1) (filter (λ e. not (e.address == address)) (entries_of table p))
+-- the table without an entry of process p at an address, all others as they are
+abbrev pub erased_entry : Table → ℕ → ℕ → Table
+erased_entry table p address = slice_set table (p - 1) (filter (λ e. not (e.address == address)) (entries_of table p))
 
 -- it names this page
 abbrev pub names : ℕ → Option ℕ → Bool

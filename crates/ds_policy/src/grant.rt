@@ -8,6 +8,13 @@ pub enum Right {
     Write,
 }
 
+/// Where an entry stands: the process that has it, and its page address.
+#[derive(Clone, Copy, Debug, PartialEq, Eq)]
+pub struct EntryPlace {
+    pub process: u32,
+    pub address: u32,
+}
+
 /// What a process was granted at a page address.
 #[derive(Clone, Copy, Debug, PartialEq, Eq)]
 pub struct Grant {
@@ -20,6 +27,9 @@ pub struct Grant {
     pub give: bool,
     /// The process that gave it, or 0 for the policy and the operator.
     pub giver: u32,
+    /// The entry that it was shared from, or the nearest above that one which stands; none of what the
+    /// policy or the operator granted, and of a copy.
+    pub parent: Option<EntryPlace>,
 }
 
 /// An entry of the table: a page address and what is granted there.

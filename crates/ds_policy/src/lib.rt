@@ -3,14 +3,18 @@
 
 mod access;
 mod command;
+mod descent;
 mod events;
+mod family;
 mod fault;
 mod grant;
+mod mark;
 mod memory;
 mod names;
 mod policy;
 mod reading;
 mod row;
+mod row_family;
 mod table;
 mod table_fault;
 mod text;
@@ -20,7 +24,7 @@ pub use command::{Character, Command, TimedCommand};
 pub use ds_isa::{Kind, Size};
 pub use events::{Characters, EventList, Events, EventsFault, MOST_TICKS, address_of};
 pub use fault::PolicyFault;
-pub use grant::{Entry, Grant, Right};
+pub use grant::{Entry, EntryPlace, Grant, Right};
 pub use memory::OutOfMemory;
 pub use policy::{Policy, PolicyPage, PolicyProcess, PolicyRule, Source};
 pub use table::Table;

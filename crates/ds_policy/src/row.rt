@@ -1,7 +1,8 @@
 //! The entries of one process.
-ghost use Rattle.std.specs.Prelude.{◌≡◌, ◌==◌, ◌<◌, ◌≤◌, position, [], IsNone, length, filter, not};
+ghost use Rattle.std.specs.Prelude.{◌≡◌, ◌==◌, ◌<◌, ◌≤◌, position, [], IsNone, length, filter, not, MatchOption, None, Some, slice_index_or};
 ghost use Rattle.ds_policy.specs.Pages.{found, put};
 ghost use Rattle.ds_policy.specs.Grants.{no_grant};
+ghost use Rattle.ds_policy.specs.Marks.{no_entry_there};
 
 use crate::grant::{Entry, Grant, Right};
 use arrayvec::ArrayVec;
@@ -23,6 +24,7 @@ impl Default for Entry {
                 rule: 0,
                 give: false,
                 giver: 0,
+                parent: None,
             },
         }
     }
@@ -31,7 +33,7 @@ impl Default for Entry {
 /// The entries of a process in the order in which they came, no more than 256.
 #[derive(Drop)]
 pub(crate) struct Row {
-    entries: ArrayVec<Entry, MOST>,
+    pub(crate) entries: ArrayVec<Entry, MOST>,
 }
 
 impl Model for Row {
@@ -76,6 +78,15 @@ impl Row {
         grant_at(self.entries.as_slice(), address)
     }
 
+    /// Where the entry of an address stands.
+    pub(crate) fn find(&self, address: u32) -> Option<usize>
+        ensures { MatchOption result (found self.now address ≡ None)
+            (λ i. (found self.now address ≡ Some (slice_index_or self.now i no_entry_there).grant)
+            × (i < length self.now) × (i < 256)) }
+    {
+        place(self.entries.as_slice(), address)
+    }
+
     /// Puts an entry in the place of the one at its address, or else at the end.
     pub(crate) fn set(&mut self, address: u32, grant: Grant)
         requires { IsNone (found self.old address) → length self.old < 256 }
@@ -87,13 +98,6 @@ impl Row {
             }
             None => self.entries.push(Entry { address, grant }),
         }
-    }
-
-    /// Removes all entries.
-    pub(crate) fn clear(&mut self)
-        ensures { self.new ≡ [] }
-    {
-        self.entries.clear();
     }
 
     /// Removes the entry at an address.

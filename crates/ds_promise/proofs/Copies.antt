@@ -36,7 +36,8 @@ use Rattle.ds_promise.proofs.Granted.{allowed_holds, lets_something}
 use Rattle.ds_promise.proofs.Stores.{none_is_not_some, set_cases, fresh_is_free, IsGive, give_or_not, served_shrinks, boundary_pages, touched_memory, touched_owed, half_only_stores}
 use Rattle.ds_promise.proofs.Histories.{bytes_outside}
 use Rattle.ds_promise.proofs.Lines.{field_stays_after}
-use Rattle.ds_promise.proofs.WholePages.{OfDone, IsCopyOf, IsGiven, set_same, give_whole, found_put_same}
+use Rattle.ds_promise.proofs.Entries.{found_put_same}
+use Rattle.ds_promise.proofs.WholePages.{OfDone, IsCopyOf, IsGiven, set_same, give_whole}
 use Rattle.ds_promise.proofs.WholeStates.{touched_whole, along_whole}
 
 -- A copy.
@@ -66,7 +67,7 @@ living m p e = (above p (length m.processes) (not (has_ended (process_of m p).st
 -- what a copy leaves
 copied_there : (m : State) (p pc address receiver to : ℕ) (s : PageState) → length m.memory.table ≡ length m.processes → lives m receiver ≡ true → IsCopyOf m.memory s p address receiver to → IsCopied m (or_denied m p pc address (Ok s)) p address receiver to
 copied_there m p pc address receiver to s long there c =
-    let g : Grant = record c.grant { right = Write; page = Some (fresh m.memory.pages); giver = p } in
+    let g : Grant = record c.grant { right = Write; page = Some (fresh m.memory.pages); giver = p; parent = None } in
     let l = living m receiver there in
     record {
       bytes = c.bytes;

@@ -29,9 +29,11 @@ use Rattle.ds_pagemap.specs.First.{source_bytes, image_named, first_state}
 use Rattle.ds_pagemap.specs.Inputs.{Limit, BadRandom, Sources, check, input_read, images_from, inputs, inputs_under, inputs_under_by}
 use Rattle.ds_pagemap_laws.proofs.FirstStates.{made}
 use Rattle.ds_promise.specs.Stores.{page_at}
+use Rattle.ds_promise.specs.Families.{HaveOwnAddresses, AllHaveOwnAddresses}
 use Rattle.ds_promise.specs.Whole.{Lives, HasWholePages}
 use Rattle.ds_promise.proofs.Stores.{none_is_not_some}
-use Rattle.ds_promise.proofs.WholePages.{AllGrants, with_entry_all, false_is_not_true}
+use Rattle.ds_promise.proofs.Entries.{false_is_not_true}
+use Rattle.ds_promise.proofs.Tables.{AllGrants, with_entry_all, with_entry_table}
 
 -- Bytes.
 
@@ -105,6 +107,15 @@ no_entry_yet (suc n) zero a g e = none e
     none e = cc
 no_entry_yet (suc n) (suc i) a g e = no_entry_yet n i a g e
 
+none_twice : (n i : ℕ) → HaveOwnAddresses (slice_index_or (replicate n []) i [])
+none_twice zero i = tt
+none_twice (suc n) zero = tt
+none_twice (suc n) (suc i) = none_twice n i
+
+rules_once : (t : Table) (n : ℕ) (rules : List PolicyRule) → AllHaveOwnAddresses t → AllHaveOwnAddresses (with_rules t n rules)
+rules_once t n [] own = own
+rules_once t n (r ∷ rest) own = rules_once (with_rule t n r) (n + 1) rest (with_entry_table t r.process r.address (granted_by n r) own)
+
 -- First states.
 
 pub first_whole : (policy : PolicyValue) (images : List (List ℕ)) (events : InputValue) → All (IsGoodRule (length policy.processes) (length policy.pages)) policy.rules → AreGoodCommands (length policy.pages) events.commands → HasWholePages (first_state policy images events)
@@ -118,6 +129,7 @@ first_whole policy images events rules commands =
         granted = λ p a g e right.
             let one = rules_name (length policy.processes) (length policy.pages) (replicate (length policy.processes) []) 1 policy.rules rules (λ q b h f. absurd (no_entry_yet (length policy.processes) (q - 1) b h f)) p a g e right in
             record { page = one.page; names = one.names; lives = listed_lives names images policy.pages more one.page one.below };
+        places = rules_once (replicate (length policy.processes) []) 1 policy.rules (λ q. none_twice (length policy.processes) (q - 1));
       };
       commands = commands;
     }

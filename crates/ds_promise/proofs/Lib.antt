@@ -1,3 +1,7 @@
+pub mod Entries
+pub mod Families
+pub mod Reach
+pub mod Tables
 pub mod Granted
 pub mod Stores
 pub mod Histories
@@ -12,3 +16,5 @@ pub mod WholeStates
 pub mod FirstPages
 pub mod Copies
 pub mod WholeRows
+pub mod Shares
+pub mod FamilyRows

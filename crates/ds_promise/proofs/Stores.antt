@@ -19,7 +19,7 @@ use Rattle.ds_policy.specs.declared.command.Command.TheVariants as command
 use Rattle.ds_policy.specs.declared.command.TimedCommand.{TimedCommand}
 use Rattle.ds_policy.specs.declared.grant.Right.TheVariants.{Read, Write}
 use Rattle.ds_policy.specs.Pages.{Pages, Table, decide, bytes_of, fresh, kept, is_named_by, entry_at}
-use Rattle.ds_policy.specs.Grants.{PageState, ◌or_else◌, refused, not_page, no_right, no_entry, has_right, table_full, fifth_region, no_frames, may_not_give, no_grant, granted, copied, given, give, take as take_back, drop_own, grant, narrow, revoke, drop_by_command}
+use Rattle.ds_policy.specs.Grants.{PageState, ◌or_else◌, refused, not_page, no_right, no_entry, has_right, table_full, fifth_region, no_frames, may_not_give, no_grant, granted, shared_from, copied, given, give, take as take_back, drop_own, grant, narrow, revoke, drop_by_command}
 use Rattle.ds_pagemap.specs.declared.turn.Turn.{Turn}
 use Rattle.ds_pagemap.specs.Machine.{State, first, process_of, is_parked, lives, made_ready, touch_first, touched}
 use Rattle.ds_pagemap.specs.Calls.{served, answered, or_number, or_denied, after_get, after_wait, queue_of, after_command, or_logged, refuse_command, ended}
@@ -127,6 +127,7 @@ give_comes : (alive : ℕ → Bool) (s : PageState) (caller address receiver to 
 give_comes alive s caller address receiver to mode =
     let Q = KeepsOrComes s.pages in
     let g = unwrap_or (entry_at s.table caller address) no_grant in
+    let copy = granted (copied s g.page) receiver to (record g { right = Write; page = Some (fresh s.pages); giver = caller; parent = None }) in
     let keep = same_or_come s.pages s.pages (same_pages s.pages) in
     done_or_else Q (refused 12 (not (alive receiver))) _ (
     done_or_else Q (not_page address) _ (
@@ -136,9 +137,9 @@ give_comes alive s caller address receiver to mode =
     done_or_else Q (refused 16 (is_some (entry_at s.table receiver to))) _ (
     done_or_else Q (table_full s receiver to) _ (
     done_or_else Q (fifth_region s receiver to) _ (
-    done_or_else Q (no_frames s mode) (Ok (given s caller g receiver to mode)) (
-    if_pages Q (mode == 1) (granted s receiver to (record g { right = Read; giver = caller })) (cond (mode == 2) (granted s receiver to (record g { right = Write; giver = caller })) (granted (copied s g.page) receiver to (record g { right = Write; page = Some (fresh s.pages); giver = caller }))) keep
-    (if_pages Q (mode == 2) (granted s receiver to (record g { right = Write; giver = caller })) (granted (copied s g.page) receiver to (record g { right = Write; page = Some (fresh s.pages); giver = caller })) keep
+    done_or_else Q (no_frames s mode) (Ok (given s caller address g receiver to mode)) (
+    if_pages Q (mode == 1) (granted s receiver to (shared_from caller address g Read)) (cond (mode == 2) (granted s receiver to (shared_from caller address g Write)) copy) keep
+    (if_pages Q (mode == 2) (granted s receiver to (shared_from caller address g Write)) copy keep
     (copy_comes s (Some (bytes_of s.pages (unwrap_or g.page 0))))))))))))))
 
 take_shrinks : (alive : ℕ → Bool) (s : PageState) (caller p address : ℕ) → IfDone (Shrinks s.pages) (take_back alive s caller p address)

@@ -1,5 +1,5 @@
 -- Changes of the table leave pages whole.
-use Rattle.std.proofs.Common.{◌≡◌, ◌≢◌, ℕ, zero, suc, ◌+◌, ◌-◌, ◌<◌, Bool, true, false, cond, not, ◌||◌, ◌==◌, List, [], ◌∷◌, filter, length, Option, Some, None, Result, Ok, Err, ◌⊎◌, inl, inr, refl, sym, ap, ◌∙◌, subst, arith}
+use Rattle.std.proofs.Common.{◌≡◌, ◌≢◌, ℕ, zero, suc, ◌+◌, ◌-◌, ◌<◌, Bool, true, false, cond, not, ◌||◌, ◌==◌, List, [], ◌∷◌, length, Option, Some, None, Result, Ok, Err, inl, inr, refl, sym, ap, ◌∙◌, subst, arith}
 use Rattle.std.specs.Prelude.{◌&&◌, nat_lt, nat_le, is_some, unwrap_or, slice_set, slice_index_or}
 use Rattle.std.specs.List.{list_any}
 use Rattle.std.proofs.lemmas.Bool.{cases_Bool, cases_eq}
@@ -9,104 +9,21 @@ use Rattle.ds_policy.specs.declared.grant.Right.{Right}
 use Rattle.ds_policy.specs.declared.grant.Right.TheVariants.{Read, Write}
 use Rattle.ds_policy.specs.declared.grant.Grant.{Grant}
 use Rattle.ds_policy.specs.declared.grant.Entry.{Entry}
-use Rattle.ds_policy.specs.Pages.{Pages, Table, entries_of, found, put, entry_at, with_entry, without_entry, names, is_named_by, bytes_of, count_live, fresh, kept}
-use Rattle.ds_policy.specs.Grants.{PageState, ◌or_else◌, refused, not_page, is_some_right, has_right, no_right, no_entry, no_grant, table_full, fifth_region, no_frames, may_not_give, live_only, granted, removed, copied, given, give, take as take_back, drop_own, grant, narrow, revoke, drop_by_command, end_process}
+use Rattle.ds_policy.specs.declared.grant.EntryPlace.{EntryPlace}
+use Rattle.ds_policy.specs.Pages.{Pages, Table, entries_of, found, entry_at, names, is_named_by, bytes_of, count_live, fresh, kept}
+use Rattle.ds_policy.specs.Families.{without_entry, without_entries, cut_entry, forbid_entry}
+use Rattle.ds_policy.specs.Grants.{PageState, ◌or_else◌, refused, not_page, is_some_right, has_right, no_right, no_entry, no_grant, table_full, fifth_region, no_frames, may_not_give, live_only, granted, removed, cut, forbidden_by, forbidden, shared_from, copied, given, give, take as take_back, drop_own, grant, narrow, revoke, drop_by_command, end_process}
 use Rattle.ds_promise.specs.Stores.{page_at}
+use Rattle.ds_promise.specs.Families.{AllHaveOwnAddresses}
 use Rattle.ds_promise.specs.Whole.{Lives, NamesLiving, ArePagesWhole}
+use Rattle.ds_promise.proofs.Entries.{false_is_not_true, or_first, or_second, one_grant, no_grant_found}
+use Rattle.ds_promise.proofs.Tables.{AllGrants, with_entry_table, without_entry_table, without_entries_table, cut_table, forbid_table, with_entry_all, without_entry_all, without_entries_all, cut_all, forbid_all}
 use Rattle.ds_promise.proofs.Stores.{set_cases, set_lives, none_is_not_some, fresh_is_free, kept_was, bytes_of_lives}
-
--- Entries.
-
-pub false_is_not_true : {X : Type 0} → false ≡ true → X
-false_is_not_true e = absurd (no_such e)
-  where
-    no_such : false ≡ true → ⊥
-    no_such e = cc
-
-one_grant : (g h : Grant) → ◌≡◌ {A = Option Grant} (Some g) (Some h) → h ≡ g
-one_grant g h e = cc
-
-no_grant_found : {X : Type 0} (h : Grant) → ◌≡◌ {A = Option Grant} None (Some h) → X
-no_grant_found h e = absurd (no_such h e)
-  where
-    no_such : (h : Grant) → ◌≡◌ {A = Option Grant} None (Some h) → ⊥
-    no_such h e = cc
-
-pub found_put_same : (es : List Entry) (a : ℕ) (g : Grant) → found (put es a g) a ≡ Some g
-found_put_same [] a g = grind arith
-found_put_same (e ∷ rest) a g = grind (arith, found_put_same rest a g)
-
-found_put_other : (es : List Entry) (a b : ℕ) (g : Grant) → b ≢ a → found (put es a g) b ≡ found es b
-found_put_other [] a b g apart = grind arith
-found_put_other (e ∷ rest) a b g apart = grind (arith, found_put_other rest a b g apart)
-
--- what is found once a grant is put is that grant, or was found before
-put_cases : (es : List Entry) (a b : ℕ) (g h : Grant) → found (put es a g) b ≡ Some h → (h ≡ g) ⊎ (found es b ≡ Some h)
-put_cases es a b g h e = elim (cases_eq b a) [
-  | inl is ↦ inl (one_grant g h (sym (found_put_same es a g) ∙ subst (λ (place : ℕ). found (put es a g) place ≡ Some h) is e))
-  | inr other ↦ inr (sym (found_put_other es a b g other) ∙ e)
-]
-
-found_gone : (es : List Entry) (a : ℕ) → found (filter (λ e. not (e.address == a)) es) a ≡ None
-found_gone [] a = refl
-found_gone (e ∷ rest) a = grind (arith, found_gone rest a)
-
-found_left : (es : List Entry) (a b : ℕ) → b ≢ a → found (filter (λ e. not (e.address == a)) es) b ≡ found es b
-found_left [] a b apart = refl
-found_left (e ∷ rest) a b apart = grind (arith, found_left rest a b apart)
-
--- what is found once an entry is gone was found before
-gone_cases : (es : List Entry) (a b : ℕ) (h : Grant) → found (filter (λ e. not (e.address == a)) es) b ≡ Some h → found es b ≡ Some h
-gone_cases es a b h e = elim (cases_eq b a) [
-  | inl is ↦ no_grant_found h (sym (found_gone es a) ∙ subst (λ (place : ℕ). found (filter (λ e. not (e.address == a)) es) place ≡ Some h) is e)
-  | inr other ↦ sym (found_left es a b other) ∙ e
-]
-
--- what is found once a row is put stands in it, or was found before
-row_cases : (t : Table) (i j b : ℕ) (es : List Entry) (h : Grant) → found (slice_index_or (slice_set t i es) j []) b ≡ Some h → (found es b ≡ Some h) ⊎ (found (slice_index_or t j []) b ≡ Some h)
-row_cases [] i j b es h e = inr e
-row_cases (row ∷ t) zero zero b es h e = inl e
-row_cases (row ∷ t) zero (suc j) b es h e = inr e
-row_cases (row ∷ t) (suc i) zero b es h e = inr e
-row_cases (row ∷ t) (suc i) (suc j) b es h e = row_cases t i j b es h e
-
--- all that a table grants meets P
-abbrev pub AllGrants : (Grant → Type 0) → Table → Type 0
-AllGrants P t = (p address : ℕ) (g : Grant) → entry_at t p address ≡ Some g → P g
-
-pub with_entry_all : (P : Grant → Type 0) (t : Table) (p a : ℕ) (g : Grant) → AllGrants P t → P g → AllGrants P (with_entry t p a g)
-with_entry_all P t p a g all new q b h e = elim (row_cases t (p - 1) (q - 1) b (put (entries_of t p) a g) h e) [
-  | inl here ↦ elim (put_cases (entries_of t p) a b g h here) [
-    | inl is ↦ subst P (sym is) new
-    | inr before ↦ all p b h before
-  ]
-  | inr there ↦ all q b h there
-]
-
-without_entry_all : (P : Grant → Type 0) (t : Table) (p a : ℕ) → AllGrants P t → AllGrants P (without_entry t p a)
-without_entry_all P t p a all q b h e = elim (row_cases t (p - 1) (q - 1) b (filter (λ e. not (e.address == a)) (entries_of t p)) h e) [
-  | inl here ↦ all p b h (gone_cases (entries_of t p) a b h here)
-  | inr there ↦ all q b h there
-]
-
-no_entries_all : (P : Grant → Type 0) (t : Table) (p : ℕ) → AllGrants P t → AllGrants P (slice_set t (p - 1) [])
-no_entries_all P t p all q b h e = elim (row_cases t (p - 1) (q - 1) b [] h e) [
-  | inl here ↦ no_grant_found h here
-  | inr there ↦ all q b h there
-]
 
 -- Pages that an entry names.
 
 same_number : (page : ℕ) → (page == page) ≡ true
 same_number page = grind (arith, nat_tests)
-
-or_first : (a b : Bool) → a ≡ true → (a || b) ≡ true
-or_first true b e = refl
-or_first false b e = false_is_not_true e
-
-or_second : (a b : Bool) → b ≡ true → (a || b) ≡ true
-or_second true b e = refl
-or_second false b e = e
 
 names_it : (page : ℕ) (o : Option ℕ) → o ≡ Some page → names page o ≡ true
 names_it page o e = ap (names page) e ∙ same_number page
@@ -161,6 +78,10 @@ module _ (s : PageState) (k : ArePagesWhole s) where
   abbrev Good : Grant → Type 0
   Good g = is_some_right g.right ≡ true → NamesLiving s.pages g
 
+  -- whatever the parent
+  any_parent : (g : Grant) (parent : Option EntryPlace) → Good g → Good (record g { parent = parent })
+  any_parent g parent good = λ right. let l = good right in record { page = l.page; names = l.names; lives = l.lives }
+
   all_good : AllGrants Good s.table
   all_good p address g e right = k.granted p address g e right
 
@@ -168,11 +89,11 @@ module _ (s : PageState) (k : ArePagesWhole s) where
   unchanged = record { named = refl; whole = k }
 
   granted_whole : (p a : ℕ) (g : Grant) → Good g → StaysWhole s (granted s p a g)
-  granted_whole p a g good = record { named = refl; whole = record { sizes = k.sizes; named = k.named; granted = with_entry_all Good s.table p a g all_good good } }
+  granted_whole p a g good = record { named = refl; whole = record { sizes = k.sizes; named = k.named; granted = with_entry_all Good s.table p a g all_good good; places = with_entry_table s.table p a g k.places } }
 
   -- where a table grants no more, the pages that it or the policy names stay
-  fewer_whole : (t : Table) → AllGrants Good t → StaysWhole s (live_only (record s { table = t }))
-  fewer_whole t all = record {
+  fewer_whole : (t : Table) → AllHaveOwnAddresses t → AllGrants Good t → StaysWhole s (live_only (record s { table = t }))
+  fewer_whole t own all = record {
     named = refl;
     whole = record {
       sizes = λ page bytes e. k.sizes page bytes (kept_was s.pages t s.named 0 page bytes e);
@@ -180,17 +101,25 @@ module _ (s : PageState) (k : ArePagesWhole s) where
       granted = λ p address g e right.
           let l = all p address g e right in
           record { page = l.page; names = l.names; lives = (l.lives.0, kept_lives s.pages t s.named 0 l.page l.lives.0 l.lives.1 (from_zero t s.named l.page (or_second (nat_lt l.page s.named) (is_named_by t l.page) (table_names t (p - 1) address l.page g e l.names)))) };
+      places = own;
     };
   }
 
   removed_whole : (p a : ℕ) → StaysWhole s (removed s p a)
-  removed_whole p a = fewer_whole (without_entry s.table p a) (without_entry_all Good s.table p a all_good)
+  removed_whole p a = fewer_whole (without_entry s.table p a) (without_entry_table s.table p a k.places) (without_entry_all Good any_parent s.table p a all_good)
 
-  revoked_whole : (p a rule : ℕ) → StaysWhole s (live_only (granted s p a (record no_grant { rule = rule })))
-  revoked_whole p a rule = fewer_whole (with_entry s.table p a (record no_grant { rule = rule })) (with_entry_all Good s.table p a (record no_grant { rule = rule }) all_good (λ right. false_is_not_true right))
+  cut_whole : (p a : ℕ) → StaysWhole s (cut s p a)
+  cut_whole p a = fewer_whole (cut_entry s.table p a) (cut_table s.table p a k.places) (cut_all Good any_parent s.table p a k.places all_good)
+
+  forbidden_whole : (p a rule : ℕ) → StaysWhole s (forbidden s p a rule)
+  forbidden_whole p a rule =
+      let g = forbidden_by rule in
+      fewer_whole (forbid_entry s.table p a g) (forbid_table s.table p a g k.places) (forbid_all Good s.table p a g all_good (λ right. false_is_not_true right))
 
   pub ended_whole : (p : ℕ) → StaysWhole s (end_process s p)
-  ended_whole p = fewer_whole (slice_set s.table (p - 1) []) (no_entries_all Good s.table p all_good)
+  ended_whole p =
+      let es = entries_of s.table p in
+      fewer_whole (without_entries s.table p es) (without_entries_table p es s.table k.places) (without_entries_all Good any_parent p es s.table all_good)
 
 -- Copies.
 
@@ -233,6 +162,7 @@ module _ (s : PageState) (k : ArePagesWhole s) (bytes : List ℕ) (size : length
     granted = λ p address g e right.
         let l = k.granted p address g e right in
         record { page = l.page; names = l.names; lives = (l.lives.0, set_stays s.pages (fresh s.pages) l.page (Some bytes) l.lives.0 (fresh_is_free s.pages) l.lives.1) };
+    places = k.places;
   }
 
 -- Refusals.
@@ -254,7 +184,7 @@ not_refused number true e = absurd (no_such number e)
     no_such number e = cc
 not_refused number false e = refl
 
-not_true : (b : Bool) → not b ≡ false → b ≡ true
+pub not_true : (b : Bool) → not b ≡ false → b ≡ true
 not_true true e = refl
 not_true false e = false_is_not_true (sym e)
 
@@ -279,7 +209,7 @@ pub take_whole : (alive : ℕ → Bool) (s : PageState) (caller p a : ℕ) → A
 take_whole alive s caller p a k =
     let P = StaysWhole s in
     unless_refused P (refused 12 (not (alive p))) _ (λ _. unless_refused P (not_page a) _ (λ _. unless_refused P (no_right s p a) _ (λ _.
-    unless_refused P (refused 19 (not ((unwrap_or (entry_at s.table p a) no_grant).giver == caller))) (Ok (removed s p a)) (λ _. removed_whole s k p a))))
+    unless_refused P (refused 19 (not ((unwrap_or (entry_at s.table p a) no_grant).giver == caller))) (Ok (cut s p a)) (λ _. cut_whole s k p a))))
 
 pub drop_whole : (s : PageState) (caller a : ℕ) → ArePagesWhole s → OfDone (StaysWhole s) (drop_own s caller a)
 drop_whole s caller a k =
@@ -289,7 +219,7 @@ drop_whole s caller a k =
 pub grant_whole : (alive : ℕ → Bool) (s : PageState) (p a page : ℕ) (right : Right) (leave : Bool) (rule : ℕ) → ArePagesWhole s → page < s.named → OfDone (StaysWhole s) (grant alive s p a page right leave rule)
 grant_whole alive s p a page right leave rule k below =
     let P = StaysWhole s in
-    let g : Grant = record { right = right; page = Some page; rule = rule; give = leave; giver = 0 } in
+    let g : Grant = record { right = right; page = Some page; rule = rule; give = leave; giver = 0; parent = None } in
     unless_refused P (refused 12 (not (alive p))) _ (λ _. unless_refused P (not_page a) _ (λ _. unless_refused P (refused 16 (has_right (entry_at s.table p a))) _ (λ _.
     unless_refused P (table_full s p a) _ (λ _. unless_refused P (fifth_region s p a) (Ok (granted s p a g)) (λ _.
     granted_whole s k p a g (λ some. record { page = page; names = refl; lives = k.named page below }))))))
@@ -307,7 +237,7 @@ pub revoke_whole : (alive : ℕ → Bool) (s : PageState) (p a rule : ℕ) → A
 revoke_whole alive s p a rule k =
     let P = StaysWhole s in
     unless_refused P (refused 12 (not (alive p))) _ (λ _. unless_refused P (not_page a) _ (λ _.
-    unless_refused P (no_right s p a) (Ok (live_only (granted s p a (record no_grant { rule = rule })))) (λ _. revoked_whole s k p a rule)))
+    unless_refused P (no_right s p a) (Ok (forbidden s p a rule)) (λ _. forbidden_whole s k p a rule)))
 
 pub drop_command_whole : (alive : ℕ → Bool) (s : PageState) (p a : ℕ) → ArePagesWhole s → OfDone (StaysWhole s) (drop_by_command alive s p a)
 drop_command_whole alive s p a k =
@@ -327,7 +257,7 @@ pub record IsCopyOf (s t : PageState) (caller a receiver to : ℕ) : Type 0 wher
   pub bytes : List ℕ
   pub holds : page_at s.pages page ≡ Some bytes
   pub room : fresh s.pages < length s.pages
-  pub is : t ≡ granted (record s { pages = slice_set s.pages (fresh s.pages) (Some bytes) }) receiver to (record grant { right = Write; page = Some (fresh s.pages); giver = caller })
+  pub is : t ≡ granted (record s { pages = slice_set s.pages (fresh s.pages) (Some bytes) }) receiver to (record grant { right = Write; page = Some (fresh s.pages); giver = caller; parent = None })
 
 -- what a give does: by mode 3 a copy, and by the others nothing to the pages
 pub record IsGiven (alive : ℕ → Bool) (s t : PageState) (caller a receiver to mode : ℕ) : Type 0 where
@@ -360,9 +290,9 @@ module _ (alive : ℕ → Bool) (s : PageState) (k : ArePagesWhole s) (caller a 
   names_page = k.granted caller a has.grant has.is has.right
 
   -- the giver's page with another right
-  shared_given : (right : Right) → mode ≢ 3 → IsGiven alive s (granted s receiver to (record own { right = right; giver = caller })) caller a receiver to mode
+  shared_given : (right : Right) → mode ≢ 3 → IsGiven alive s (granted s receiver to (shared_from caller a own right)) caller a receiver to mode
   shared_given right apart = record {
-    whole = granted_whole s k receiver to (record own { right = right; giver = caller }) (λ some. record { page = names_page.page; names = ap (λ (g : Grant). g.page) has.same ∙ names_page.names; lives = names_page.lives });
+    whole = granted_whole s k receiver to (shared_from caller a own right) (λ some. record { page = names_page.page; names = ap (λ (g : Grant). g.page) has.same ∙ names_page.names; lives = names_page.lives });
     there = there;
     others = λ _. refl;
     copies = λ (is : ◌≡◌ {A = ℕ} mode 3). absurd (apart is);
@@ -370,7 +300,7 @@ module _ (alive : ℕ → Bool) (s : PageState) (k : ArePagesWhole s) (caller a 
 
   -- the grant of the new page
   abbrev new_grant : Grant → Grant
-  new_grant g = record g { right = Write; page = Some (fresh s.pages); giver = caller }
+  new_grant g = record g { right = Write; page = Some (fresh s.pages); giver = caller; parent = None }
 
   abbrev with_copy : List ℕ → PageState
   with_copy bytes = record s { pages = slice_set s.pages (fresh s.pages) (Some bytes) }
@@ -396,7 +326,7 @@ module _ (alive : ℕ → Bool) (s : PageState) (k : ArePagesWhole s) (caller a 
   }
 
   given_by : (one two : Bool) → (one ≡ true → mode ≢ 3) → (two ≡ true → mode ≢ 3) → (one ≡ false → two ≡ false → mode ≡ 3) → (mode ≡ 3 → fresh s.pages < length s.pages)
-      → IsGiven alive s (cond one (granted s receiver to (record own { right = Read; giver = caller })) (cond two (granted s receiver to (record own { right = Write; giver = caller })) (granted (copied s own.page) receiver to (new_grant own)))) caller a receiver to mode
+      → IsGiven alive s (cond one (granted s receiver to (shared_from caller a own Read)) (cond two (granted s receiver to (shared_from caller a own Write)) (granted (copied s own.page) receiver to (new_grant own)))) caller a receiver to mode
   given_by true two first second third room = shared_given Read (first refl)
   given_by false true first second third room = shared_given Write (second refl)
   given_by false false first second third room = copy_given (third refl refl) (room (third refl refl))
@@ -408,6 +338,6 @@ give_whole alive s caller a receiver to mode k =
     unless_refused P (refused 12 (not (alive receiver))) _ (λ living. unless_refused P (not_page a) _ (λ _. unless_refused P (not_page to) _ (λ _.
     unless_refused P (no_right s caller a) _ (λ has. unless_refused P (refused 15 (may_not_give g mode)) _ (λ leave.
     unless_refused P (refused 16 (is_some (entry_at s.table receiver to))) _ (λ _. unless_refused P (table_full s receiver to) _ (λ _.
-    unless_refused P (fifth_region s receiver to) _ (λ _. unless_refused P (no_frames s mode) (Ok (given s caller g receiver to mode)) (λ room.
+    unless_refused P (fifth_region s receiver to) _ (λ _. unless_refused P (no_frames s mode) (Ok (given s caller a g receiver to mode)) (λ room.
     given_by alive s k caller a receiver to mode (not_true (alive receiver) (not_refused 12 _ living)) (right_there s caller a has) (mode == 1) (mode == 2)
     (not_third 1 mode (omega arith)) (not_third 2 mode (omega arith)) (third_mode mode (not g.give) _ (not_refused 15 _ leave)) (λ third. room_there s mode third room))))))))))

@@ -179,6 +179,7 @@ stored_whole m p size address page offset value k allowed =
         ];
         named = λ q below. still_lives m.memory.pages page q new l.lives.0 lives (k.memory.named q below);
         granted = λ q a g e right. let n = k.memory.granted q a g e right in record { page = n.page; names = n.names; lives = still_lives m.memory.pages page n.page new l.lives.0 lives n.lives };
+        places = k.memory.places;
       };
       commands = k.commands;
     }

@@ -1,4 +1,5 @@
 pub mod Stores
+pub mod Families
 pub mod Whole
 pub mod Seen
 pub mod Lines

@@ -99,7 +99,7 @@ it_was_stored = record {
     value = λ w. 0x00410000;
     fetches = record { page = 0; offset = 4; fetched = refl; does = refl };
     allowed = refl;
-    granted = record { grant = record { right = Write; page = Some 1; rule = 2; give = false; giver = 0 }; held = refl; right = refl; names = refl };
+    granted = record { grant = record { right = Write; page = Some 1; rule = 2; give = false; giver = 0; parent = None }; held = refl; right = refl; names = refl };
     word = refl;
   });
 }
@@ -142,7 +142,7 @@ by_the_entry_of_the_one_that_stored = record {
     value = λ w. 0x00410000;
     fetches = record { page = 0; offset = 4; fetched = refl; does = refl };
     allowed = refl;
-    granted = record { grant = record { right = Write; page = Some 1; rule = 2; give = false; giver = 0 }; held = refl; right = refl; names = refl };
+    granted = record { grant = record { right = Write; page = Some 1; rule = 2; give = false; giver = 0; parent = None }; held = refl; right = refl; names = refl };
     word = refl;
   });
 }
@@ -171,7 +171,7 @@ pub the_copy_has_the_bytes : page_at given_away.memory.pages 2 ≡ Some (replica
 unfolding run_on_literals
 the_copy_has_the_bytes = refl
 
-pub the_receiver_may_write_the_copy : entry_at given_away.memory.table 2 0x00500000 ≡ Some (record { right = Write; page = Some 2; rule = 2; give = true; giver = 1 })
+pub the_receiver_may_write_the_copy : entry_at given_away.memory.table 2 0x00500000 ≡ Some (record { right = Write; page = Some 2; rule = 2; give = true; giver = 1; parent = None })
 unfolding run_on_literals
 the_receiver_may_write_the_copy = refl
 
@@ -195,7 +195,7 @@ the_unit_copies = record {
   receiver = 2;
   to = 0x00500000;
   gives = refl;
-  given = record { grant = record { right = Write; page = Some 1; rule = 2; give = true; giver = 0 }; held = refl; right = refl; page = 1; names = refl; holds = refl };
+  given = record { grant = record { right = Write; page = Some 1; rule = 2; give = true; giver = 0; parent = None }; held = refl; right = refl; page = 1; names = refl; holds = refl };
 }
 
 -- Answers.

@@ -11,6 +11,7 @@ use Rattle.ds_pagemap.specs.Machine.{State, process_of, touched}
 use Rattle.ds_pagemap.specs.Unit.{Called, instruction}
 use Rattle.ds_pagemap.specs.Run.{after}
 use Rattle.ds_promise.specs.Stores.{page_at, UnitStores}
+use Rattle.ds_promise.specs.Families.{AllHaveOwnAddresses}
 
 -- the page lives
 abbrev pub Lives : Pages → ℕ → Type 0
@@ -22,11 +23,13 @@ pub record NamesLiving (pages : Pages) (g : Grant) : Type 0 where
   pub names : g.page ≡ Some page
   pub lives : Lives pages page
 
--- each page that lives has 4096 bytes; each page of the policy lives, and so does each page that is granted
+-- each page that lives has 4096 bytes; each page of the policy lives, and so does each page that is
+-- granted; no process has two entries at one address
 pub record ArePagesWhole (s : PageState) : Type 0 where
   pub sizes : (page : ℕ) (bytes : List ℕ) → page_at s.pages page ≡ Some bytes → length bytes ≡ 4096
   pub named : (page : ℕ) → page < s.named → Lives s.pages page
   pub granted : (p address : ℕ) (g : Grant) → entry_at s.table p address ≡ Some g → is_some_right g.right ≡ true → NamesLiving s.pages g
+  pub places : AllHaveOwnAddresses s.table
 
 -- and the commands that are still to come grant pages of the policy
 pub record HasWholePages (m : State) : Type 0 where
@@ -57,7 +60,7 @@ pub record IsCopied (m t : State) (p address receiver to : ℕ) : Type 0 where
   pub copy : ℕ
   pub new : page_at m.memory.pages copy ≡ None
   pub same : page_at t.memory.pages copy ≡ Some bytes
-  pub entry : entry_at t.memory.table receiver to ≡ Some (record given.grant { right = Write; page = Some copy; giver = p })
+  pub entry : entry_at t.memory.table receiver to ≡ Some (record given.grant { right = Write; page = Some copy; giver = p; parent = None })
 
 -- no boundary is owed, and the first ready process gives a copy of a page of its own with these bytes
 pub record UnitCopies (m : State) (bytes : List ℕ) : Type 0 where

@@ -4,6 +4,7 @@
 
 mod laws;
 mod pages;
+mod sharing;
 
 pub use laws::{
     a_guest_sees_nothing_but_what_it_was_granted, an_instruction_stops_exactly_where_it_is_denied,
@@ -12,4 +13,9 @@ pub use laws::{
 };
 pub use pages::{
     a_copy_has_the_bytes_of_that_moment, pages_change_only_as_granted, pages_stay_whole,
+};
+pub use sharing::{
+    a_copy_is_not_reached, a_drop_hands_shares_to_the_one_above,
+    an_end_hands_shares_to_the_nearest_that_stays, what_is_revoked_is_out_of_reach,
+    what_is_taken_back_is_out_of_reach,
 };

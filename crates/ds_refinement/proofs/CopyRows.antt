@@ -1,6 +1,6 @@
 -- A store that waits for a copy, and accesses that don't: each row is a theorem about the definitions alone.
 use Rattle.std.proofs.Common.{◌≡◌, ℕ, inl, inr, true, false, List, [], ◌∷◌, refl, ap, ◌∙◌, arith}
-use Rattle.std.specs.Prelude.{Some, slice_index, slice_index_or}
+use Rattle.std.specs.Prelude.{Some, None, slice_index, slice_index_or}
 use Rattle.ds_isa.specs.declared.instr.Size.TheVariants.{Word}
 use Rattle.ds_isa.specs.declared.instr.Kind.TheVariants.{Store}
 use Rattle.ds_tlb.specs.declared.entry.Entry.{Entry}
@@ -21,7 +21,7 @@ use Rattle.ds_refinement.specs.StationRows.{kept, page, other, core_at, served, 
 
 -- a page, for writing
 abbrev writing : ℕ → Grant
-writing number = record { right = Write; page = Some number; rule = 1; give = false; giver = 0 }
+writing number = record { right = Write; page = Some number; rule = 1; give = false; giver = 0; parent = None }
 
 -- process 1 may write page 0 at 00400000, and process 2 its copy there, page 1, which lies in the same frame
 abbrev grants : GrantsState

@@ -1,12 +1,14 @@
 -- No new pair of a user's page and an address space comes into a buffer.
-use Rattle.std.proofs.Common.{◌≡◌, ℕ, ◌+◌, ◌/◌, ◌^◌, ◌<◌, ◌≤◌, List, length, get_or, Option, Some, None, refl, sym, ap, subst, ◌∙◌, arith, inl, inr}
+use Rattle.std.proofs.Common.{◌≡◌, ℕ, ◌+◌, ◌/◌, ◌^◌, ◌<◌, ◌≤◌, List, [], ◌∷◌, length, get_or, Option, Some, None, refl, sym, ap, subst, ◌∙◌, arith, inl, inr}
 use Rattle.std.specs.Prelude.{slice_get, slice_set}
 use Rattle.std.proofs.lemmas.Option.{slice_get_within, slice_get-get_or, get_or_from_slice_get}
 use Rattle.std.proofs.lemmas.List.FromFn.{length-map-range_with_len, get_or-map-range_with_len}
 use Rattle.ds_tlb.specs.declared.entry.Entry.{Entry}
 use Rattle.ds_tlb.specs.Entries.{find, empty_entry, empty_entries}
+use Rattle.ds_policy.specs.declared.grant.EntryPlace.{EntryPlace}
+use Rattle.ds_asid.specs.Spaces.{Spaces, number_held}
 use Rattle.ds_tables.specs.Places.{region_of}
-use Rattle.ds_grants.specs.Changes.{cleared, forgotten, both_forgotten}
+use Rattle.ds_grants.specs.Changes.{cleared, forgotten, both_forgotten, all_forgotten}
 use Rattle.ds_grants.specs.Copies.{AreRewritten}
 use Rattle.ds_grants.proofs.Translations.{at_set}
 use Rattle.ds_refinement.specs.Pairs.{HasNoNewPairs}
@@ -51,6 +53,13 @@ forgotten_pairs old address (Some asid) =
     let between : List Entry = forgotten old (address / 2 ^ 12) asid in
     joined_pairs old between (both_forgotten old address (Some asid)) (cleared_pairs old (find old (address / 2 ^ 12) asid))
     (cleared_pairs between (find between (0xC0000 + region_of address) asid))
+
+pub all_forgotten_pairs : (old : List Entry) (s : Spaces) (places : List EntryPlace) → HasNoNewPairs old (all_forgotten old s places)
+all_forgotten_pairs old s [] = same_pairs old
+all_forgotten_pairs old s (place ∷ rest) =
+    let between : List Entry = both_forgotten old place.address (number_held s place.process) in
+    joined_pairs old between (all_forgotten between s rest) (forgotten_pairs old place.address (number_held s place.process))
+    (all_forgotten_pairs between s rest)
 
 -- entries that are rewritten keep their pairs
 pub rewritten_pairs : (old new : List Entry) → AreRewritten old new → HasNoNewPairs old new

@@ -1,5 +1,6 @@
 -- Steps and runs that are not done.
 use Rattle.std.proofs.Common.{◌≡◌, ◌≢◌, ℕ, ◌<◌, ◌^◌, None, true, false, Bool, List, [], ◌∷◌, refl, sym, ap, subst, ◌∙◌}
+use Rattle.ds_pagemap.proofs.Turns.{reaches_in_time}
 use Rattle.ds_refinement.specs.declared.step.Step.{Step}
 use Rattle.ds_refinement.specs.declared.step.Step.TheVariants.{Inside, Unit, Boundary, Over}
 use Rattle.ds_tlb.specs.Singles.{IsSingle}
@@ -10,7 +11,7 @@ use Rattle.ds_refinement.specs.Stands.{IsSound}
 use Rattle.ds_refinement.specs.Steps.{Moves, Stays}
 use Rattle.ds_refinement.specs.Services.{with_failure}
 use Rattle.ds_refinement.specs.Real.{IsNoBusError, Through}
-use Rattle.ds_refinement.specs.Runs.{RunsTo, RunsWithin, held_goes_on}
+use Rattle.ds_refinement.specs.Runs.{RunsTo, RunsWithin, RunsInTime, held_goes_on}
 use Rattle.ds_refinement.proofs.Stages.{no_bus_error}
 use Rattle.ds_refinement.specs.Counts.{IsFew}
 use Rattle.ds_refinement.specs.Written.{KeepsWritten}
@@ -63,6 +64,17 @@ path_keeps old new (last ∷ before) t = step_keeps t.0.0 last new t.0.2 ∙ pat
 pub ran_to : (n : ℕ) (old new : Held) → HasRun n old new → held_goes_on n new ≡ false → RunsTo n old new
 ran_to n old new r over = to_end n old new r.within over
 
+-- and takes a turn a tick at most
+in_time : (n : ℕ) (old new : Held) → RunsWithin n old new → RunsInTime n old new
+in_time n old new within = record {
+  runs = λ m stood.
+      let reached = within.runs m stood in
+      (reached.0, reaches_in_time n m reached.0 reached.1, reached.2);
+}
+
+pub ran_in_time : (n : ℕ) (old new : Held) → HasRun n old new → RunsInTime n old new
+ran_in_time n old new r = in_time n old new r.within
+
 -- A run that was cut short.
 
 -- each state that the station stood for, it stands for as one that has failed
@@ -75,3 +87,6 @@ module _ (n : ℕ) (h : Halt) (old new : Held) (w : WasCut n h old new) where
 
   pub cut_within : RunsWithin n old new
   cut_within = subst (RunsWithin n old) (sym w.marked) (within_stays n old w.last (with_failure w.last) w.ran.within (stands_still w.last))
+
+  pub cut_in_time : RunsInTime n old new
+  cut_in_time = in_time n old new cut_within

@@ -34,7 +34,7 @@ ghost use Rattle.ds_refinement.specs.Steps.{Follows, Stays, Moves};
 ghost use Rattle.ds_refinement.specs.Real.{IsNoBusError, IsReal, RealPath};
 ghost use Rattle.ds_refinement.specs.Services.{with_failure};
 ghost use Rattle.ds_refinement.specs.Written.{KeepsWritten};
-ghost use Rattle.ds_refinement.specs.Runs.{RunsTo, RunsWithin, held_goes_on};
+ghost use Rattle.ds_refinement.specs.Runs.{RunsTo, RunsInTime, RunsWithin, held_goes_on};
 ghost use Rattle.ds_station.specs.Faults.{IsFaultAfter, IsStartFault, RefusesStep};
 ghost use Rattle.ds_station.specs.Runs.{IsCut};
 ghost use Rattle.ds_quiet.specs.Quiet.{IsQuiet};
@@ -183,9 +183,9 @@ impl<L: Lookaside> Station<L> {
     }
 
     /// Does the boundary that is owed, if one is, and then runs until the time is n or all processes
-    /// have ended. After a failure it answers `Failed`, and nothing changes. No two entries of the
-    /// buffer match the same page.
-    #[tactic(auto, using(crate::proofs::Runs::sound_single, crate::proofs::Runs::ran_to, crate::proofs::Runs::cut_within, crate::proofs::Runs::cut_after, crate::proofs::Guarded::run_guarded, crate::proofs::Guarded::cut_guarded))]
+    /// have ended: at most a turn for each tick that is left. After a failure it answers `Failed`, and
+    /// nothing changes. No two entries of the buffer match the same page.
+    #[tactic(auto, using(crate::proofs::Runs::sound_single, crate::proofs::Runs::ran_to, crate::proofs::Runs::ran_in_time, crate::proofs::Runs::cut_in_time, crate::proofs::Runs::cut_within, crate::proofs::Runs::cut_after, crate::proofs::Guarded::run_guarded, crate::proofs::Guarded::cut_guarded))]
     pub fn run(&mut self, n: u64) -> Result<(), Fault>
         requires { n ≤ 1000000000 }
         ensures ok { OnOk result (RunsTo n self.old self.new) }
@@ -195,6 +195,7 @@ impl<L: Lookaside> Station<L> {
         ensures unit { OnOk result (((self.old.own.spent ≡ 0) ⊎ (self.old.kept.state.time < n))
             → self.new.own.spent ≡ 0) }
         ensures err { OnErr result (RunsWithin n self.old self.new) }
+        ensures turns { RunsInTime n self.old self.new }
         ensures cut { IfErr result (λ f. IsCut f self.old self.new) }
         ensures going { self.old.own.failed ≡ false
             → OnErr result (held_goes_on n self.new ≡ true) }

@@ -1,7 +1,7 @@
 //! Runs, a step at a time.
 ghost use Rattle.std.specs.Prelude.{◌≡◌, ◌+◌, ◌≤◌, ℕ, [], Bool, true};
 ghost use Rattle.ds_pagemap.specs.Machine.{State, touched};
-ghost use Rattle.ds_pagemap.specs.Run.{after, goes_on, half_turn, Reaches};
+ghost use Rattle.ds_pagemap.specs.Run.{after, goes_on, half_turn, Reaches, ReachesInTime};
 ghost use Rattle.ds_pagemap.specs.Laws.{Extends};
 
 /// A run that has made no choice has gone nowhere.
@@ -31,4 +31,10 @@ pub fn a_run_is_at_most_a_tick_late()
 /// What was logged stays.
 pub fn a_log_only_grows()
     ensures { (n : ℕ) (m t : State) → Reaches n m t → Extends m.log t.log }
+{}
+
+/// A run for n takes no more turns than there are ticks left until n: each has a unit and the boundary
+/// after it, and the boundary that was owed comes first.
+pub fn a_run_takes_a_turn_a_tick_at_most()
+    ensures { (n : ℕ) (m t : State) → Reaches n m t → ReachesInTime n m t }
 {}

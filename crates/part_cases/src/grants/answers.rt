@@ -1,13 +1,13 @@
 //! What steps answer.
 
 use crate::grants::frames::FIRST_FRAME;
-use crate::grants::page_words::fits_after;
+use crate::grants::page_words::{fits_after, fits_at, standing};
 use crate::grants::replay::Replay;
 use crate::machine::memory::{MIXED, fill, filled};
 use crate::machine::told::said;
 use ds_grants::GrantFault;
 use ds_isa::Kind;
-use ds_policy::{Grant, Right};
+use ds_policy::{EntryPlace, Grant, Right};
 use ds_tlb::Lookaside;
 use std::alloc::{AllocError, Global};
 
@@ -42,8 +42,12 @@ fn called<L: Lookaside>(
     verb: &str,
     operands: &[u32],
 ) -> Result<Option<String>, AllocError> {
+    let stood = match verb {
+        "take" | "revoke" | "drop" | "end" => standing(alloc, replay)?,
+        _ => Vec::new(alloc),
+    };
     let outcome = replay.call(verb, operands);
-    if fits_after(replay, verb, operands) {
+    if fits_after(replay, verb, operands) && fits_at(replay, stood.as_slice()) {
         told_call(alloc, outcome)
     } else {
         said(alloc, "other words")
@@ -114,6 +118,14 @@ fn word_of(right: Right) -> &'static str {
     }
 }
 
+/// Adds where an entry was shared from, if it was.
+fn push_parent(text: &mut String, parent: Option<EntryPlace>) -> Result<(), AllocError> {
+    match parent {
+        Some(EntryPlace { process, address }) => write!(text, " from {process} {address:08x}"),
+        None => Ok(()),
+    }
+}
+
 /// An entry in words.
 fn told_entry(alloc: Global, grant: Option<Grant>) -> Result<Option<String>, AllocError> {
     let Some(grant) = grant else {
@@ -121,10 +133,11 @@ fn told_entry(alloc: Global, grant: Option<Grant>) -> Result<Option<String>, All
     };
     let (right, rule, giver) = (word_of(grant.right), grant.rule, grant.giver);
     let give = if grant.give { "give" } else { "keep" };
-    let text = match grant.page {
+    let mut text = match grant.page {
         Some(page) => format!(in alloc; "{right} {page} {rule} {give} {giver}")?,
         None => format!(in alloc; "{right} - {rule} {give} {giver}")?,
     };
+    push_parent(&mut text, grant.parent)?;
     Ok(Some(text))
 }
 

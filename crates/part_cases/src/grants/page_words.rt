@@ -2,7 +2,9 @@
 //! compared with those that lie in memory.
 
 use crate::grants::replay::{PROCESSES, Replay};
+use ds_policy::EntryPlace;
 use ds_tlb::Lookaside;
+use std::alloc::{AllocError, Global};
 
 /// The pages of a region.
 const PAGES: usize = 1024;
@@ -70,9 +72,56 @@ fn fits_everywhere<L: Lookaside>(replay: &Replay<L>) -> bool {
     true
 }
 
+/// Adds where entries of a process stand.
+fn push_places<L: Lookaside>(
+    places: &mut Vec<EntryPlace>,
+    replay: &Replay<L>,
+    process: u32,
+) -> Result<(), AllocError> {
+    if !replay.is_within(process) {
+        return Ok(());
+    }
+    for entry in replay.grants.table().entries(process) {
+        places.push(EntryPlace {
+            process,
+            address: entry.address,
+        })?;
+    }
+    Ok(())
+}
+
+/// Where entries stand.
+pub fn standing<L: Lookaside>(
+    alloc: Global,
+    replay: &Replay<L>,
+) -> Result<Vec<EntryPlace>, AllocError> {
+    let mut places = Vec::new(alloc);
+    for process in 1..=PROCESSES {
+        push_places(&mut places, replay, process)?;
+    }
+    Ok(places)
+}
+
+/// Whether the words of what is granted at these places lie in memory, 0 where nothing is.
+pub fn fits_at<L: Lookaside>(replay: &Replay<L>, places: &[EntryPlace]) -> bool {
+    for place in places {
+        let wanted = match replay.entry(place.process, place.address) {
+            Some(grant) => replay.lying.word_of(grant),
+            None => 0,
+        };
+        let word = replay
+            .tables
+            .entry(&replay.memory, place.process, place.address);
+        if word != wanted {
+            return false;
+        }
+    }
+    true
+}
+
 /// Whether the words that a call may have changed lie in memory: those of a region of one process,
 /// all of its words where it has ended, and those of whoever holds a page where it was copied or
-/// has a frame of its own now.
+/// has a frame of its own now. What else goes with an entry is at places where entries stood.
 pub fn fits_after<L: Lookaside>(replay: &Replay<L>, verb: &str, operands: &[u32]) -> bool {
     match (verb, operands) {
         ("give", [_, _, process, address, 3]) | ("split", [process, address]) => {

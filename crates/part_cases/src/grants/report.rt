@@ -14,13 +14,14 @@ use std::rt::Files;
 use std::{fs, io};
 
 /// The files.
-const FILES: [&str; 6] = [
+const FILES: [&str; 7] = [
     "grants/refusals.txt",
     "grants/stories.txt",
     "grants/sequences.txt",
     "grants/many.txt",
     "grants/spaces.txt",
     "grants/copies.txt",
+    "grants/families.txt",
 ];
 
 /// How many lines that differ are told.
@@ -69,7 +70,7 @@ fn parts_of(line: &str) -> (&str, &str) {
 ///     write PAGE BYTE                 fills the page's frame, which no other may share
 ///     enter FIRST LAST                these processes come on the processor, one after the other
 ///     fill PROCESS ADDRESS            the process comes on the processor, and a miss of it there
-///     entry PROCESS ADDRESS           what is granted there
+///     entry PROCESS ADDRESS           what is granted there, and where it was shared from
 ///     addresses PROCESS               those of all its entries, in the order in which they came
 ///     byte PAGE                       what the page's frame is filled with
 ///     frame PAGE                      the number of its frame among those of pages

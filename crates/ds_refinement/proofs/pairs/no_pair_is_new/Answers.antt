@@ -1,4 +1,4 @@
-use Rattle.ds_refinement.proofs.NoNewPairs.{same_pairs, joined_pairs, flushed_pairs, forgotten_pairs, written_pairs, rewritten_pairs}
+use Rattle.ds_refinement.proofs.NoNewPairs.{all_forgotten_pairs, same_pairs, joined_pairs, flushed_pairs, forgotten_pairs, written_pairs, rewritten_pairs}
 use Rattle.ds_refinement.proofs.pairs.no_pair_is_new.Goals as goal
 
 pub returns-clause-same : goal.returns-clause-same
@@ -18,3 +18,6 @@ returns-clause-written c = written_pairs
 
 pub returns-clause-rewritten : goal.returns-clause-rewritten
 returns-clause-rewritten c = rewritten_pairs
+
+pub returns-clause-family : goal.returns-clause-family
+returns-clause-family c = all_forgotten_pairs

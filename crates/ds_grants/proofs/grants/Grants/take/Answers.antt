@@ -2,7 +2,8 @@ use Rattle.std.proofs.Common.{rules, ◌∙◌, Ok, refl, sym, ap}
 use Rattle.ds_policy.specs.Grants.{PageState}
 use Rattle.ds_grants.specs.State.{GrantsState, page_state}
 use Rattle.ds_grants.proofs.Chains.{refused_by, not_given, was_given}
-use Rattle.ds_grants.proofs.Living.{low_pages, removed_state}
+use Rattle.ds_grants.proofs.Living.{low_pages}
+use Rattle.ds_grants.proofs.FamilyStates.{cut_state}
 use Rattle.ds_grants.proofs.grants.Grants.take.Goals as goal
 
 pub returns-in_err-grant-clause-does : goal.returns-in_err-grant-clause-does
@@ -17,7 +18,6 @@ returns-then-grant-caller-clause-does g c = (
 
 pub returns-clause-does : goal.returns-clause-does
 returns-clause-does g c =
-    let within = c.in_ok-grant.ensures.within in
     c.in_ok-grant.ensures.ok c.args.memory.now _
     ∙ was_given (page_state c.args.self.now c.args.memory.now) c.args.caller c.args.process c.args.addr c.in_ok-grant.grant _ c.in_ok-grant.ensures.there (search rules)
-    ∙ ap (λ (s : PageState). Ok s) (sym (low_pages c.remove.new.self c.args.memory.now c.remove.new.memory c.remove.ensures.low ∙ ap (λ (s : GrantsState). page_state s c.args.memory.now) c.remove.ensures.value ∙ removed_state c.args.self.now c.args.process c.args.addr c.args.memory.now within.0 within.1))
+    ∙ ap (λ (s : PageState). Ok s) (sym (low_pages c.cut.new.self c.args.memory.now c.cut.new.memory c.cut.ensures.low ∙ ap (λ (s : GrantsState). page_state s c.args.memory.now) c.cut.ensures.value ∙ cut_state c.args.self.now c.args.process c.args.addr c.args.memory.now))

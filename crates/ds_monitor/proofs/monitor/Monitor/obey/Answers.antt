@@ -3,6 +3,7 @@ use Rattle.ds_policy.specs.declared.command.Command.{Command}
 use Rattle.ds_policy.specs.declared.command.Command.TheVariants as command
 use Rattle.ds_policy.specs.Grants.{grant, narrow, revoke, drop_by_command}
 use Rattle.ds_log.specs.declared.line.Line.{Line}
+use Rattle.ds_grants.specs.Changes.{family_places}
 use Rattle.ds_grants.specs.State.{lives_in, page_state}
 use Rattle.ds_pagemap.specs.Machine.{lives}
 use Rattle.ds_pagemap.specs.Calls.{or_logged}
@@ -10,7 +11,7 @@ use Rattle.ds_refinement.specs.Held.{whole}
 use Rattle.ds_monitor.specs.Kept.{kept_of}
 use Rattle.ds_monitor.specs.Commands.{Obeys}
 use Rattle.ds_monitor.proofs.Commanding.{grants_obey}
-use Rattle.ds_monitor.proofs.Forgetting.{answered_pairs}
+use Rattle.ds_monitor.proofs.Forgetting.{answered_pairs, family_pairs}
 use Rattle.ds_monitor.proofs.Living.{lives_as, grant_as, narrow_as, revoke_as, drop_as}
 use Rattle.ds_monitor.proofs.monitor.Monitor.obey.Goals as goal
 
@@ -80,7 +81,7 @@ returns-in-Narrow-clause-pairs g c =
 
 pub returns-in-Revoke-clause-pairs : goal.returns-in-Revoke-clause-pairs
 returns-in-Revoke-clause-pairs g c =
-    answered_pairs _ _ _ c.revoke.result (g.L.Lookaside.entries c.args.tlb.now) (g.L.Lookaside.entries c.revoke.new.tlb) c.in-Revoke.address _ c.revoke.ensures.entries c.revoke.ensures.refused
+    family_pairs _ _ _ c.revoke.result (g.L.Lookaside.entries c.args.tlb.now) (g.L.Lookaside.entries c.revoke.new.tlb) c.args.self.now.spaces (family_places c.args.self.now.grants.table c.in-Revoke.process c.in-Revoke.address) c.revoke.ensures.entries c.revoke.ensures.refused
 
 pub returns-in-Drop-clause-pairs : goal.returns-in-Drop-clause-pairs
 returns-in-Drop-clause-pairs g c =

@@ -1,6 +1,7 @@
 use Rattle.std.proofs.Common.{sym, subst, refl}
 use Rattle.ds_procs.specs.declared.call.Call.TheVariants as call
 use Rattle.ds_policy.specs.Grants.{take}
+use Rattle.ds_grants.specs.Changes.{family_places}
 use Rattle.ds_grants.specs.State.{lives_in, page_state}
 use Rattle.ds_pagemap.specs.Machine.{State, lives}
 use Rattle.ds_pagemap.specs.Calls.{served}
@@ -8,7 +9,7 @@ use Rattle.ds_refinement.specs.Held.{Kept}
 use Rattle.ds_refinement.specs.Services.{Serves}
 use Rattle.ds_monitor.specs.Kept.{kept_of}
 use Rattle.ds_monitor.proofs.Granting.{takes, number_serves}
-use Rattle.ds_monitor.proofs.Forgetting.{answered_pairs}
+use Rattle.ds_monitor.proofs.Forgetting.{family_pairs}
 use Rattle.ds_monitor.proofs.monitor.Monitor.take_back.Goals as goal
 
 pub returns-clause-serves : goal.returns-clause-serves
@@ -24,4 +25,4 @@ returns-clause-serves g c = λ pc.
 
 pub returns-clause-pairs : goal.returns-clause-pairs
 returns-clause-pairs g c =
-    answered_pairs _ _ _ c.take-done.result (g.L.Lookaside.entries c.args.tlb.now) (g.L.Lookaside.entries c.take-done.new.tlb) c.args.address _ c.take-done.ensures.entries c.take-done.ensures.refused
+    family_pairs _ _ _ c.take-done.result (g.L.Lookaside.entries c.args.tlb.now) (g.L.Lookaside.entries c.take-done.new.tlb) c.args.self.now.spaces (family_places c.args.self.now.grants.table c.args.holder c.args.address) c.take-done.ensures.entries c.take-done.ensures.refused

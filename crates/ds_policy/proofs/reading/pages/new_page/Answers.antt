@@ -1,4 +1,4 @@
-use Rattle.std.proofs.Common.{◌≡◌, ◌∙◌, sym, ap, true, false, is_some, option_map, Some}
+use Rattle.std.proofs.Common.{◌≡◌, ◌∙◌, sym, ap, is_some, option_map, Some}
 use Rattle.toml.specs.View.{view}
 use Rattle.ds_policy.specs.Names.{held_number}
 use Rattle.ds_policy.specs.PolicyParts.{page_of}

@@ -1,5 +1,4 @@
-use Rattle.std.proofs.Common.{◌≡◌, ◌∙◌, sym, ap, codes, arith, option_map, is_some, Some, None, length, vec_len}
-use Rattle.toml.specs.View.{view}
+use Rattle.std.proofs.Common.{◌≡◌, ◌∙◌, sym, ap, codes, arith, option_map, is_some, None, length}
 use Rattle.ds_policy.specs.Refusal.{limit}
 use Rattle.ds_policy.specs.PolicyParts.{new_page}
 use Rattle.ds_policy.specs.Names.{held_number}

@@ -1,4 +1,4 @@
-use Rattle.std.proofs.Common.{rules, ◌≡◌, ◌∙◌, sym, ap, arith, [], ◌-◌, ◌+◌, Some, None, false, true, if◌then◌else◌}
+use Rattle.std.proofs.Common.{rules, ◌≡◌, ◌∙◌, sym, ap, arith, [], ◌-◌, Some, None, false, true, if◌then◌else◌}
 use Rattle.std.proofs.lemmas.List.{get_or_default}
 use Rattle.toml.specs.View.{view}
 use Rattle.ds_policy.specs.PolicyParts.{rule_of}

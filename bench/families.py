@@ -1,0 +1,88 @@
+#!/usr/bin/env python3
+"""How long a take, a revoke and the end of a process take where all of 25,600 entries are of one family.
+
+    bench/families.py [PROGRAM]      seconds of processor time of one call, for each family and call
+    bench/families.py --count        host instructions in place of seconds, by callgrind (valgrind)
+
+PROGRAM is part_cases, as `(cd crates/part_cases && rt run)` proves and builds it. It replays two files over both buffers: the
+shares, and the shares with a call after them; a call is half of the difference, of the least of nine runs each, which may be wrong by
+20 milliseconds. What the program compares after each call, the page-table words of all 25,600 places, is a part of it. 100
+processes have 256 entries each:
+
+    chain      each entry was shared from the one before it, process by process in the order of their numbers
+    zigzag     each was shared from one of the next process, so that a walk over the processes meets the last one first
+    fan        all were shared from one
+"""
+import os
+import re
+import resource
+import subprocess
+import sys
+import tempfile
+from pathlib import Path
+
+TOP = Path(__file__).resolve().parent.parent
+PROGRAM = TOP / "crates" / "part_cases" / "out" / "part_cases"
+DATA = TOP / "crates" / "part_cases" / "data"
+PROCESSES, ENTRIES, RUNS = 100, 256, 9
+
+
+def places(family):
+    """The places of all entries: that of the policy's first, and then the shares in the order in which they are made."""
+    if family == "zigzag":
+        return [(PROCESSES - k % PROCESSES, 0x1000 * (k // PROCESSES + 1)) for k in range(PROCESSES * ENTRIES)]
+    return [(k // ENTRIES + 1, 0x1000 * (k % ENTRIES + 1)) for k in range(PROCESSES * ENTRIES)]
+
+
+def shares(family):
+    """The lines that make a family; its first entry is granted, and all others descend from the second."""
+    all_places = places(family)
+    yield f"start {PROCESSES} 4 1"
+    yield "grant {} {:08x} 0 write give 1".format(*all_places[0])
+    for k in range(1, len(all_places)):
+        above = all_places[k - 1] if family != "fan" else all_places[min(k - 1, 1)]
+        yield "give {} {:08x} {} {:08x} 2".format(*above, *all_places[k])
+
+
+def calls(family):
+    first, second = places(family)[:2]
+    yield "take", "take {} {} {:08x}".format(first[0], *second)
+    yield "revoke", "revoke {} {:08x} 2".format(*first)
+    yield "end", f"end {second[0]}"
+
+
+def replayed(program, lines, words=()):
+    """Replays a file, with all others empty; what it took, by the system's count or by callgrind's."""
+    with tempfile.TemporaryDirectory() as folder:
+        for file in DATA.rglob("*"):
+            if file.is_file() and file.parts[-2] != "programs":
+                there = Path(folder) / file.relative_to(DATA)
+                there.parent.mkdir(parents=True, exist_ok=True)
+                there.write_text("")
+        (Path(folder) / "grants" / "families.txt").write_text("\n".join(lines) + "\n")
+        before = resource.getrusage(resource.RUSAGE_CHILDREN).ru_utime
+        ran = subprocess.run([*words, program], cwd=folder, capture_output=True, text=True)
+        took = resource.getrusage(resource.RUSAGE_CHILDREN).ru_utime - before
+    told = re.findall(r"grants/families.txt, \w+ buffer: \d+ calls, \d+ other lines, (\d+) differ", ran.stdout)
+    if told != ["0", "0"]:
+        sys.exit(f"{program}: {ran.stdout[-2000:]}{ran.stderr[-2000:]}")
+    counted = re.search(r"Collected : (\d+)", ran.stderr)
+    return int(counted[1]) if counted else took
+
+
+def main(arguments):
+    is_counted = "--count" in arguments
+    program = os.path.abspath(next((it for it in arguments if it != "--count"), PROGRAM))
+    words = ["valgrind", "--tool=callgrind", "--callgrind-out-file=/dev/null"] if is_counted else []
+    for family in ("chain", "zigzag", "fan"):
+        made, took = list(shares(family)), {}
+        for _ in range(1 if is_counted else RUNS):  # by turns, so that what else goes on slows all of them alike
+            for name, line in [("none", ""), *calls(family)]:
+                took.setdefault(name, []).append(replayed(program, [*made, line], words))
+        for name, _ in calls(family):
+            call = (min(took[name]) - min(took["none"])) / 2
+            print(f"{family:8}{name:8}{call:,.0f} instructions" if is_counted else f"{family:8}{name:8}{call * 1000:.1f} milliseconds", flush=True)
+
+
+if __name__ == "__main__":
+    main(sys.argv[1:])

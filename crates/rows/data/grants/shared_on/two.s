@@ -1,0 +1,11 @@
+# Shares on what it was given, yields, and loads from there.
+        lui   $8,0x41
+        addu  $4,$8,$0
+        addiu $5,$0,3
+        addu  $6,$8,$0
+        addiu $7,$0,2           # to write
+        addiu $2,$0,6
+        syscall
+        addiu $2,$0,3
+        syscall
+        lw    $9,0($8)
