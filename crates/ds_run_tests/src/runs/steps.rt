@@ -9,14 +9,25 @@ use std::test::Fail;
 
 /// A station at the beginning of a run of a source.
 fn station_of(alloc: Global, policy: &str, source: &str) -> Result<Station<Tlb<64, 8>>, Fail> {
+    station_with(alloc, policy, source, "", 63)
+}
+
+/// The same with an input, and a start of Random.
+fn station_with(
+    alloc: Global,
+    policy: &str,
+    source: &str,
+    input: &str,
+    start: usize,
+) -> Result<Station<Tlb<64, 8>>, Fail> {
     let policy = Policy::read(alloc, policy.as_bytes())?;
     let mut images = Vec::new(alloc);
     images.push(assemble(alloc, source.as_bytes())?)?;
-    let events = Events::read(alloc, b"", &policy)?;
+    let events = Events::read(alloc, input.as_bytes(), &policy)?;
     if images.len() != policy.sources().len() {
         Err("an image for each source")?;
     }
-    let station = Station::new(alloc, &policy, &images, events, 63)?;
+    let station = Station::new(alloc, &policy, &images, events, start)?;
     Ok(station)
 }
 
@@ -225,5 +236,83 @@ fn a_run_begins_with_the_boundary_that_is_owed(rt: HostRuntime) -> Result<(), Fa
     let at_once = station.time() == 1 && station.step()? == Step::Unit;
     station.run(100)?;
     assert!(rt; at_once && has_put_a(&station));
+    Ok(())
+}
+
+/// The process and its pages of the row `runs/longest_unit`.
+const FOUR_REGIONS: &str = "version = 1
+frames = 16
+process = [{ start = 0x007FFED8, line = 0 }]
+page = [
+    { name = \"code\", source = \"one.s\", part = 0 },
+    { name = \"more\", source = \"one.s\", part = 1 },
+    { name = \"first\" },
+    { name = \"beside\" },
+    { name = \"data\" },
+]
+rule = [
+    { process = 1, address = 0x007FF000, right = \"read\", page = \"code\" },
+    { process = 1, address = 0x00800000, right = \"read\", page = \"more\" },
+    { process = 1, address = 0x00C00000, right = \"write\", page = \"first\" },
+    { process = 1, address = 0x00C01000, right = \"read\", page = \"beside\" },
+    { process = 1, address = 0x00000000, right = \"write\", page = \"data\", give = true },
+]
+";
+
+/// The program of that row, which says what each part is for. Space is instructions that do nothing.
+const LONGEST: &str = ".space 3800
+addiu $4,$0,0
+addiu $5,$0,1
+addiu $6,$0,0x1000
+addiu $7,$0,3
+addiu $2,$0,6
+syscall
+lui $8,0x80
+lui $10,0xC0
+.space 16
+lw $11,0x1000($10)
+.space 116
+lw $12,0($8)
+.space 116
+lui $26,0xC0
+beq $0,$0,on
+sw $9,0x100($26)
+on: addiu $2,$0,0
+syscall
+";
+
+/// The commands of that row, which take pages of page tables out of the buffer.
+const FORGOTTEN: &str = "60 grant 1 00420000 beside read\n60 grant 1 00820000 beside read\n";
+
+/// The most instructions that are counted between two steps, whether an instruction and no service
+/// ends the unit after them, and the ticks that the unit takes.
+fn most_counted(station: &mut Station<Tlb<64, 8>>) -> Result<(u32, bool, u64), Fault> {
+    let (mut most, mut ends, mut ticks) = (0, false, 0);
+    for _ in 0..1000 {
+        let (time, spent) = (station.time(), station.spent());
+        if time >= MOST_TICKS {
+            break;
+        }
+        let step = station.step()?;
+        if spent >= most {
+            ends = step == Step::Unit;
+            (most, ticks) = (spent, station.time().wrapping_sub(time));
+        }
+        if step == Step::Over {
+            break;
+        }
+    }
+    Ok((most, ends, ticks))
+}
+
+/// Its longest unit counts 60 instructions, and then the one in the slot ends it: the 61st.
+#[test]
+fn the_longest_unit_takes_61_instructions(rt: HostRuntime) -> Result<(), Fail> {
+    let mut right = true;
+    for start in [8, 21, 42, 63] {
+        let mut station = station_with(rt.alloc(), FOUR_REGIONS, LONGEST, FORGOTTEN, start)?;
+        right = most_counted(&mut station)? == (60, true, 2) && right;
+    }
+    assert!(rt; right);
     Ok(())
 }

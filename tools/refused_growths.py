@@ -1,0 +1,180 @@
+#!/usr/bin/env python3
+"""Refuses each growth of memory of proved programs, alone and with all after it, and looks at what they answer.
+
+    tools/refused_growths.py                                 takes the programs that `rt ci` built in crates/*/out
+    tools/refused_growths.py --dsmon FILE --tests FILE..     takes others
+
+A run of dsmon for which a growth is refused before its first turn writes nothing. One that is cut short writes the text of some number
+of whole turns. Both end with status 3 and the line of want of memory. Where a growth alone is refused, the program may ask for less
+instead, and then the run is whole. The tests whose names begin with `for_want_of_memory` or `after_want_of_memory` pass whichever
+growths are refused. Which growth is refused says tools/refuse.c, a library that a C compiler makes: where there is no compiler, or a
+program was not built, this is said, nothing is tried there, and the status is 0. It is 1 where an answer is wrong.
+"""
+import argparse
+import os
+import shutil
+import subprocess
+import sys
+import tempfile
+from concurrent.futures import ThreadPoolExecutor
+from pathlib import Path
+from typing import NamedTuple
+
+sys.dont_write_bytecode = True
+
+from refused_memory import GUEST, KNOWN, POLICY, TICKS, Wrong  # noqa: E402
+
+TOP = Path(__file__).resolve().parent.parent
+DATA = TOP / "crates" / "rows" / "data"
+NOTHING = str(DATA / "nothing.input")
+MEMORY, TOLD = 3, b"dsmon: 25 Memory\n"
+SECONDS = 60  # of one run
+ABOUT_MEMORY = ("for_want_of_memory", "after_want_of_memory")
+
+
+class Run(NamedTuple):
+    """How a run ended, and what it wrote."""
+
+    status: int
+    out: bytes
+    err: bytes
+
+
+class Program:
+    """A program that is run with the library in place."""
+
+    def __init__(self, library, path):
+        self.library, self.path = library, str(Path(path).resolve())
+
+    def run(self, words, cwd=None, refuse=None, growths=None):
+        env = {"LD_PRELOAD": self.library}
+        env |= {"REFUSE": refuse} if refuse else {}
+        env |= {"GROWTHS": growths} if growths else {}
+        done = subprocess.run([self.path, *words], cwd=cwd, env=env, stdin=subprocess.DEVNULL, capture_output=True, timeout=SECONDS)
+        return Run(done.returncode, done.stdout, done.stderr)
+
+    def counted(self, words, cwd=None):
+        """A run without a refusal, and how many growths it has."""
+        with tempfile.NamedTemporaryFile() as file:
+            run = self.run(words, cwd, growths=file.name)
+            return run, int(file.read() or 0)
+
+
+class Row(NamedTuple):
+    """A run of dsmon: its name, its folder, its policy, its ticks, and the times whose texts are known."""
+
+    name: str
+    folder: str
+    policy: str
+    ticks: int
+    times: tuple
+
+    def words(self, ticks):
+        return ["run", self.policy, NOTHING, str(ticks)]
+
+
+def rows(folder):
+    """The rows, and a guest that grows its console and the log after many turns."""
+    (Path(folder) / "guest.toml").write_text(POLICY)
+    (Path(folder) / "guest.s").write_text(GUEST)
+    shared = str(DATA / "policies" / "code.toml")
+    return [Row("put_a", str(DATA / "runs" / "put_a"), shared, 100, tuple(range(7))),
+            Row("copied", str(DATA / "grants" / "copied"), "policy.toml", 100, tuple(range(29))),
+            Row("share_and_copy", str(DATA / "grants" / "share_and_copy"), "policy.toml", 100, tuple(range(31))),
+            Row("guest", folder, "guest.toml", TICKS, tuple(KNOWN))]
+
+
+def judged(run, growth, on, before, whole, known):
+    """The place of a text among those that are known, none where nothing was written, or Wrong."""
+    if run == Run(0, whole, b"") and not on:
+        return len(known) - 1
+    if run.status != MEMORY or run.err != TOLD:
+        raise Wrong(f"the status is {run.status}, and it said {run.err!r} and wrote {run.out!r}")
+    if growth <= before:
+        if run.out:
+            raise Wrong(f"before the run it wrote {run.out!r}")
+        return None
+    if run.out not in known:
+        raise Wrong(f"this is no text of whole turns: {run.out!r}")
+    return known.index(run.out)
+
+
+def tried(program, row, lanes):
+    """Tries each growth of a row both ways: how many there are, how many of them in the run, and how often the run was whole all the same."""
+    whole, growths = program.counted(row.words(row.ticks), row.folder)
+    before = program.counted(row.words(0), row.folder)[1]
+    known = [it.out for it in lanes.map(lambda n: program.run(row.words(n), row.folder), row.times)]
+    if whole.status or whole.out != known[-1] or not 0 < before < growths:
+        raise Wrong(f"{row.name}: without a refusal it ends with {whole.status}, and has {before} growths before the run and {growths} in all")
+    wholes = 0
+    for on in (False, True):
+        marks = [f"{growth}{'..' if on else ''}" for growth in range(1, growths + 1)]
+        runs = list(lanes.map(lambda mark: program.run(row.words(row.ticks), row.folder, mark), marks))
+        places = []
+        for growth, run in enumerate(runs, 1):
+            try:
+                place = judged(run, growth, on, before, whole.out, known)
+            except Wrong as wrong:
+                raise Wrong(f"{row.name}, growth {marks[growth - 1]} of {growths}: {wrong}") from None
+            wholes += run.status == 0
+            places += [place] if run.status and place is not None else []
+        if places != sorted(places):
+            raise Wrong(f"{row.name}: a later growth was refused earlier: {places}")
+    return growths, growths - before, wholes
+
+
+def tests_of(program):
+    """The names of a program's tests about want of memory."""
+    lines = program.run(["--list"]).out.decode().splitlines()
+    names = [it.partition(": ")[0] for it in lines]
+    return [it for it in names if it.split("::")[-1].startswith(ABOUT_MEMORY)]
+
+
+def passed(program, name, lanes):
+    """How many growths a test has, where it passes whichever are refused."""
+    run, growths = program.counted([name])
+    marks = [f"{growth}{on}" for growth in range(1, growths + 1) for on in ("", "..")]
+    for mark, it in zip(["none", *marks], [run, *lanes.map(lambda mark: program.run([name], refuse=mark), marks)]):
+        if it.status:
+            raise Wrong(f"test {name}, growth {mark} of {growths}: the status is {it.status}, and it said {(it.out + it.err)!r}")
+    return growths
+
+
+def compiled(folder):
+    """The library, or none where there is no compiler."""
+    compiler = shutil.which("cc")
+    library = str(Path(folder) / "refuse.so")
+    if not compiler or subprocess.run([compiler, "-O1", "-shared", "-fPIC", str(TOP / "tools" / "refuse.c"), "-o", library]).returncode:
+        return None
+    return library
+
+
+def main(words):
+    parser = argparse.ArgumentParser(description=__doc__, formatter_class=argparse.RawDescriptionHelpFormatter)
+    parser.add_argument("--dsmon", default=str(TOP / "crates/dsmon/out/dsmon"))
+    parser.add_argument("--tests", nargs="*", default=[str(TOP / f"crates/{it}/out/{it}_tests") for it in ("ds_run_tests", "ds_part_tests")])
+    given = parser.parse_args(words)
+    with tempfile.TemporaryDirectory(prefix="refused-growths-") as folder, ThreadPoolExecutor(len(os.sched_getaffinity(0))) as lanes:
+        library = compiled(folder)
+        if not library:
+            print("refused_growths: there is no C compiler, and nothing was tried")
+            return 0
+        for path in (given.dsmon, *given.tests):
+            if not Path(path).is_file():
+                print(f"refused_growths: {path} was not built, and was not tried")
+        try:
+            for row in rows(folder) if Path(given.dsmon).is_file() else []:
+                growths, inside, wholes = tried(Program(library, given.dsmon), row, lanes)
+                print(f"{row.name}: each of {growths} growths refused, {inside} of them in the run; asked otherwise {wholes} times")
+            for path in filter(os.path.isfile, given.tests):
+                program = Program(library, path)
+                for name in tests_of(program):
+                    print(f"{name}: passes whichever of {passed(program, name, lanes)} growths is refused")
+        except Wrong as wrong:
+            print(f"refused_growths: wrong: {wrong}")
+            return 1
+    return 0
+
+
+if __name__ == "__main__":
+    sys.exit(main(sys.argv[1:]))

@@ -1,0 +1,122 @@
+#!/usr/bin/env python3
+"""Tests of the verdicts that tools/refused_growths.py gives, over programs that a small model plays, and of its library over a command of the system."""
+import contextlib
+import io
+import subprocess
+import sys
+import tempfile
+import unittest
+from concurrent.futures import ThreadPoolExecutor
+
+sys.dont_write_bytecode = True
+
+from refused_growths import MEMORY, TOLD, Program, Row, Run, Wrong, compiled, main, passed, tests_of, tried  # noqa: E402
+
+BEFORE, ALL = 6, 9  # the growths before a run, and in all; each of the others comes a turn later
+WHOLE = b"time 3\n"
+AGAIN = 2  # a growth that is asked for again
+
+
+def mark_of(refuse):
+    return (int(refuse.rstrip(".")), refuse.endswith("..")) if refuse else (ALL + 1, False)
+
+
+class Played:
+    """A program that answers as it has to, but where it is told to answer otherwise."""
+
+    def __init__(self, **other):
+        self.other = {mark.replace("on", "..").lstrip("_"): it for mark, it in other.items()}
+
+    def answer(self, ticks, refuse):
+        growth, on = mark_of(refuse)
+        end = min(ticks, 3)
+        last = BEFORE + end
+        if growth > last or growth == AGAIN and not on:
+            return Run(0, b"time %d\n" % end, b"")
+        return Run(MEMORY, b"" if growth <= BEFORE else b"time %d\n" % (growth - BEFORE - 1), TOLD)
+
+    def run(self, words, cwd=None, refuse=None, growths=None):
+        return self.other.get(refuse) or self.answer(int(words[-1]), refuse)
+
+    def counted(self, words, cwd=None):
+        return self.run(words), BEFORE + min(int(words[-1]), 3)
+
+
+class Tested:
+    """A program of tests, of which one has four growths and may fail."""
+
+    def __init__(self, fails=()):
+        self.fails = fails
+
+    def run(self, words, cwd=None, refuse=None, growths=None):
+        if words == ["--list"]:
+            return Run(0, b"a::for_want_of_memory_it_stays: test\na::it_stays: test\nb::after_want_of_memory_it_stays: test\n", b"")
+        return Run(1 if refuse in self.fails else 0, b"", b"")
+
+    def counted(self, words, cwd=None):
+        return self.run(words), 4
+
+
+ROW = Row("a row", "/", "policy", 3, (0, 1, 2, 3))
+
+
+class Tests(unittest.TestCase):
+    def setUp(self):
+        self.lanes = ThreadPoolExecutor(2)
+        self.addCleanup(self.lanes.shutdown)
+
+    def assert_wrong(self, why, **other):
+        with self.assertRaisesRegex(Wrong, why):
+            tried(Played(**other), ROW, self.lanes)
+
+    def test_each_growth_is_counted_where_all_is_right(self):
+        self.assertEqual(tried(Played(), ROW, self.lanes), (ALL, ALL - BEFORE, 1))
+
+    def test_a_text_before_the_run_is_wrong(self):
+        self.assert_wrong("growth 6 of 9: before the run it wrote", _6=Run(MEMORY, b"time 0\n", TOLD))
+
+    def test_a_text_that_is_none_of_whole_turns_is_wrong(self):
+        for text in (b"", b"time 0", b"time 9\n"):
+            self.assert_wrong("growth 7.. of 9: this is no text of whole turns", _7on=Run(MEMORY, text, TOLD))
+
+    def test_a_run_that_goes_on_without_memory_is_wrong(self):
+        self.assert_wrong("growth 3.. of 9: the status is 0", _3on=Run(0, WHOLE, b""))
+        self.assert_wrong("growth 2 of 9: the status is 0", _2=Run(0, b"time 2\n", b""))
+
+    def test_another_status_or_line_is_wrong(self):
+        for run in (Run(1, b"", TOLD), Run(-11, b"", b""), Run(MEMORY, b"", b""), Run(MEMORY, b"", b"dsmon: 23 WriteFault\n")):
+            self.assert_wrong("growth 4 of 9: the status is", _4=run)
+
+    def test_a_later_growth_that_is_refused_earlier_is_wrong(self):
+        self.assert_wrong("a later growth was refused earlier", _7=Run(MEMORY, b"time 2\n", TOLD))
+
+    def test_the_tests_about_memory_pass_whichever_growth_is_refused(self):
+        self.assertEqual(tests_of(Tested()), ["a::for_want_of_memory_it_stays", "b::after_want_of_memory_it_stays"])
+        self.assertEqual(passed(Tested(), "a", self.lanes), 4)
+        for mark in ("3", "2.."):
+            with self.assertRaisesRegex(Wrong, f"test a, growth {mark} of 4"):
+                passed(Tested([mark]), "a", self.lanes)
+
+    def test_the_library_counts_growths_and_refuses_them(self):
+        with tempfile.TemporaryDirectory() as folder:
+            library = compiled(folder)
+            if not library:
+                self.skipTest("no C compiler")
+            source, program = f"{folder}/three.c", f"{folder}/three"
+            with open(source, "w") as file:
+                file.write("#include <stdlib.h>\nint main(void) { int is = 0; void *volatile a;\n"
+                           "for (int k = 0; k < 3; k++) { a = k == 1 ? realloc(a, 90) : malloc(40); is = 2 * is + !a; } return is; }\n")
+            subprocess.run(["cc", "-O0", source, "-o", program], check=True)
+            three = Program(library, program)
+            self.assertEqual(three.counted([]), (Run(0, b"", b""), 3))
+            self.assertEqual([three.run([], refuse=it).status for it in ("1", "2", "3", "1..", "2..", "3..", "4")], [4, 2, 1, 7, 3, 1, 0])
+
+    def test_what_was_not_built_is_told(self):
+        said = io.StringIO()
+        with contextlib.redirect_stdout(said):
+            self.assertEqual(main(["--dsmon", "/no/dsmon", "--tests", "/no/tests"]), 0)
+        self.assertRegex(said.getvalue(), "/no/dsmon was not built|no C compiler")
+
+
+if __name__ == "__main__":
+    unittest.main()
