@@ -1,5 +1,6 @@
 pub mod WrittenForms
 pub mod Pages
+pub mod Places
 pub mod SourceLines
 pub mod ImageSizes
 pub mod AllFaults

@@ -3,6 +3,8 @@ ghost use Rattle.std.specs.Prelude.{◌≡◌, ◌≤◌, ◌<◌, ◌==◌, ◌
 ghost use Rattle.std.specs.List.{list_all, prefix_len, suffix_len, position_or_len, before_first, after_first};
 ghost use Rattle.ds_asm.specs.Characters.{is_blank, is_letter, is_digit, is_name, without_front_blanks, without_back_blanks, trimmed, until, after};
 
+use memchr::memchr;
+
 /// How many characters a name has at most.
 const MOST_NAME: usize = 32;
 
@@ -87,7 +89,7 @@ pub(crate) fn place_of(c: u8, text: &[u8]) -> usize
     ensures exact { result ≡ position_or_len (λ b. b == c) text.now }
     ensures within { result ≤ length text.now }
 {
-    text.iter().take_while(|b| **b != c).count()
+    memchr(c, text).unwrap_or(text.len())
 }
 
 /// What stands before the first character `c`, or the whole text.
