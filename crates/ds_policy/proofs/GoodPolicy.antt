@@ -1,5 +1,5 @@
 -- What is true of each policy that was read.
-use Rattle.std.proofs.Common.{◌≡◌, subst, refl, ℕ, ◌+◌, ◌<◌, ◌≤◌, ◌==◌, ◌||◌, ◌%◌, ◌^◌, ◌-◌, not, codes, nat_lt, nat_le, cond, true, false, Bool, bytes_eq, List, [], ◌∷◌, ◌++◌, length, filter, count_by, Option, Some, IfSome, is_some, Ok, arith, append-nil, inl, inr}
+use Rattle.std.proofs.Common.{◌≡◌, subst, refl, ℕ, ◌+◌, ◌<◌, ◌≤◌, ◌==◌, ◌||◌, ◌%◌, ◌^◌, ◌-◌, not, codes, nat_lt, nat_le, cond, true, false, Bool, bytes_eq, List, [], ◌∷◌, ◌++◌, length, filter, count_by, Option, Some, None, IfSome, is_some, Ok, option_map, arith, append-nil, inl, inr}
 use Rattle.std.specs.List.{list_any, All, AllByRecursion, IsDistinct}
 use Rattle.std.proofs.lemmas.Bool.{cases_Bool}
 use Rattle.std.proofs.lemmas.List.{map-append}
@@ -16,12 +16,12 @@ use Rattle.ds_policy.specs.declared.grant.Right.{Right}
 use Rattle.ds_policy.specs.declared.grant.Right.TheVariants.{Nothing, Read, Write}
 use Rattle.ds_policy.specs.Refusal.{limit, bad_rule}
 use Rattle.ds_policy.specs.Grants.{is_some_right, region, count_distinct}
-use Rattle.ds_policy.specs.Document.{when, has_only, number_at, text_at}
-use Rattle.ds_policy.specs.PolicyParts.{process_of, is_name, is_source_name, source_of, page_of, new_page, right_named, page_named, flag_of, grant_of, has_same_name, regions_of, rule_of, has_same_place, new_rule}
+use Rattle.ds_policy.specs.Document.{when, has_only, number_in, number_at, text_at}
+use Rattle.ds_policy.specs.PolicyParts.{process_of, is_name, is_source_name, source_of, page_of, new_page, right_named, page_named, flag_of, until_of, rule_keys, grant_of, has_same_name, regions_of, rule_of, has_same_place, new_rule}
 use Rattle.ds_policy.specs.PolicyText.{processes_from, pages_from, rules_from}
 use Rattle.ds_policy.specs.PolicyFacts.{IsGoodProcess, IsGoodSource, IsGoodPage, IsGoodRule, AreGoodPages, AreGoodRules, HasFewRules, HasFewRegions}
 use Rattle.ds_policy.proofs.DistinctCounts.{count_last}
-use Rattle.ds_policy.proofs.Binds.{bind_some, when_true, when_false, number_at_range, each_keeps}
+use Rattle.ds_policy.proofs.Binds.{bind_some, when_true, when_false, number_in_range, number_at_range, each_keeps}
 
 pub process_good : (d : Data) (p : PolicyProcess) → process_of d ≡ Some p → IsGoodProcess p
 unfolding process_of
@@ -102,26 +102,39 @@ pub page_within : (pages : List PolicyPage) (name : List ℕ) (n : ℕ) → page
 page_within [] name n h = cc
 page_within (p ∷ pages) name n h = (position-Some (λ (q : PolicyPage). bytes_eq q.name name) (p ∷ pages) n p h).0
 
-abbrev grants : ℕ → Right → Option ℕ × Bool → Type 0
-grants pages right g = IfSome g.0 (λ n. n < pages) × (is_some g.0 ≡ is_some_right right)
+-- an end in its range
+abbrev IsEnd : ℕ → Type 0
+IsEnd n = (1 ≤ n) × (n ≤ 1000000000)
 
-page_granted : (pages : List PolicyPage) (ms : Members) (g : Option ℕ × Bool) → grant_of pages Read ms ≡ Some g → grants (length pages) Read g
+until_within : (found : Option Data) (until : Option ℕ) → until_of found ≡ Some until → IfSome until IsEnd
+until_within None until h = subst (λ (o : Option (Option ℕ)). IfSome o (λ u. IfSome u IsEnd)) h tt
+until_within (Some d) until h = by (number_in 1 1000000000 d) refl h
+  where
+    by : (o : Option ℕ) → number_in 1 1000000000 d ≡ o → option_map (λ end. Some end) o ≡ Some until → IfSome until IsEnd
+    by None is h = absurd cc
+    by (Some n) is h = subst (λ (o : Option (Option ℕ)). IfSome o (λ u. IfSome u IsEnd)) h (number_in_range 1 1000000000 d n is)
+
+abbrev grants : ℕ → Right → Option ℕ × Bool × Option ℕ → Type 0
+grants pages right g = IfSome g.0 (λ n. n < pages) × (is_some g.0 ≡ is_some_right right) × IfSome g.2 IsEnd
+
+page_granted : (version : ℕ) (pages : List PolicyPage) (ms : Members) (g : Option ℕ × Bool × Option ℕ) → grant_of version pages Read ms ≡ Some g → grants (length pages) Read g
 unfolding grant_of
-page_granted pages ms g h =
-    let (known, h1, a) = bind_some (when (has_only (codes "process" ∷ codes "address" ∷ codes "right" ∷ codes "page" ∷ codes "give" ∷ []) ms)) _ g h in
+page_granted version pages ms g h =
+    let (known, h1, a) = bind_some (when (has_only (rule_keys version) ms)) _ g h in
     let (name, h2, b) = bind_some (text_at (codes "page") ms) _ g a in
     let (page, h3, c) = bind_some (page_named pages name) _ g b in
-    let (give, h4, q) = bind_some (flag_of (get_member (codes "give") ms)) _ g c in
+    let (give, h4, e) = bind_some (flag_of (get_member (codes "give") ms)) _ g c in
+    let (until, h5, q) = bind_some (until_of (get_member (codes "until") ms)) _ g e in
     let at = page_within pages name page h3 in
-    subst (λ (o : Option (Option ℕ × Bool)). IfSome o (grants (length pages) Read)) q (at, refl)
+    subst (λ (o : Option (Option ℕ × Bool × Option ℕ)). IfSome o (grants (length pages) Read)) q (at, refl, until_within (get_member (codes "until") ms) until h5)
 
-grant_good : (pages : List PolicyPage) (right : Right) (ms : Members) (g : Option ℕ × Bool) → grant_of pages right ms ≡ Some g → grants (length pages) right g
+grant_good : (version : ℕ) (pages : List PolicyPage) (right : Right) (ms : Members) (g : Option ℕ × Bool × Option ℕ) → grant_of version pages right ms ≡ Some g → grants (length pages) right g
 unfolding grant_of
-grant_good pages Nothing ms g h =
+grant_good version pages Nothing ms g h =
     let (known, h1, q) = bind_some (when (has_only (codes "process" ∷ codes "address" ∷ codes "right" ∷ []) ms)) _ g h in
-    subst (λ (o : Option (Option ℕ × Bool)). IfSome o (grants (length pages) Nothing)) q (tt, refl)
-grant_good pages Read ms g h = page_granted pages ms g h
-grant_good pages Write ms g h = page_granted pages ms g h
+    subst (λ (o : Option (Option ℕ × Bool × Option ℕ)). IfSome o (grants (length pages) Nothing)) q (tt, refl, tt)
+grant_good version pages Read ms g h = page_granted version pages ms g h
+grant_good version pages Write ms g h = page_granted version pages ms g h
 
 equal : (a b : ℕ) → (a == b) ≡ true → a ≡ b
 equal a b h = grind (arith, nat_tests)
@@ -129,24 +142,25 @@ equal a b h = grind (arith, nat_tests)
 below_kernel : (a : ℕ) → a ≤ 2 ^ 31 - 1 → a < 2 ^ 31
 below_kernel a h = omega arith
 
-rule_good : (n : ℕ) (pages : List PolicyPage) (d : Data) (r : PolicyRule) → rule_of n pages d ≡ Some r → IsGoodRule n (length pages) r
+rule_good : (version n : ℕ) (pages : List PolicyPage) (d : Data) (r : PolicyRule) → rule_of version n pages d ≡ Some r → IsGoodRule n (length pages) r
 unfolding rule_of
-rule_good n pages d r h =
+rule_good version n pages d r h =
     let (ms, h1, a) = bind_some (as_table d) _ r h in
     let (process, h2, b) = bind_some (number_at (codes "process") 1 n ms) _ r a in
     let (address, h3, c) = bind_some (number_at (codes "address") 0 (2 ^ 31 - 1) ms) _ r b in
     let (aligned, h4, e) = bind_some (when (address % 4096 == 0)) _ r c in
     let (named, h5, f) = bind_some (text_at (codes "right") ms) _ r e in
     let (right, h6, g) = bind_some (right_named named) _ r f in
-    let (grant, h8, q) = bind_some (grant_of pages right ms) _ r g in
+    let (grant, h8, q) = bind_some (grant_of version pages right ms) _ r g in
     let within = number_at_range (codes "address") 0 (2 ^ 31 - 1) ms address h3 in
-    let granted = grant_good pages right ms grant h8 in
+    let granted = grant_good version pages right ms grant h8 in
     subst (λ (o : Option PolicyRule). IfSome o (IsGoodRule n (length pages))) q (record {
       process = number_at_range (codes "process") 1 n ms process h2;
       aligned = equal (address % 4096) 0 (when_true _ aligned h4);
       user = below_kernel address within.1;
       page = granted.0;
       right = granted.1;
+      until = granted.2;
     })
 
 -- a rule beside those before it
@@ -155,15 +169,15 @@ record IsBeside (before : List PolicyRule) (r : PolicyRule) : Type 0 where
   pub room : nat_lt (count_by (λ (s : PolicyRule). s.process == r.process) before) 256 ≡ true
   pub near : nat_le (count_distinct (region r.address ∷ regions_of r.process before)) 4 ≡ true
 
-new_rule_good : (n : ℕ) (pages : List PolicyPage) (before : List PolicyRule) (d : Data) (r : PolicyRule) → new_rule n pages before d ≡ Some r → IsGoodRule n (length pages) r × IsBeside before r
+new_rule_good : (version n : ℕ) (pages : List PolicyPage) (before : List PolicyRule) (d : Data) (r : PolicyRule) → new_rule version n pages before d ≡ Some r → IsGoodRule n (length pages) r × IsBeside before r
 unfolding new_rule
-new_rule_good n pages before d r h =
-    let (rule, h1, a) = bind_some (rule_of n pages d) _ r h in
+new_rule_good version n pages before d r h =
+    let (rule, h1, a) = bind_some (rule_of version n pages d) _ r h in
     let (other, h2, b) = bind_some (when (not (list_any (λ (s : PolicyRule). has_same_place s rule) before))) _ r a in
     let (room, h3, c) = bind_some (when (nat_lt (count_by (λ (s : PolicyRule). s.process == rule.process) before) 256)) _ r b in
     let (near, h4, q) = bind_some (when (nat_le (count_distinct (region rule.address ∷ regions_of rule.process before)) 4)) _ r c in
     subst (λ (o : Option PolicyRule). IfSome o (λ r. IsGoodRule n (length pages) r × IsBeside before r)) q
-    (rule_good n pages d rule h1, record { fresh = when_false _ other h2; room = when_true _ room h3; near = when_true _ near h4 })
+    (rule_good version n pages d rule h1, record { fresh = when_false _ other h2; room = when_true _ room h3; near = when_true _ near h4 })
 
 at_most_one_more : (b : Bool) (n m : ℕ) → m ≡ n + cond b 1 0 → (b ≡ true → nat_lt n 256 ≡ true) → n ≤ 256 → m ≤ 256
 at_most_one_more true n m e room few = grind (arith, nat_tests, room refl)
@@ -194,10 +208,10 @@ unfolding IsDistinct
 no_rules n pages = record { good = λ k d h. absurd (omega arith); places = tt; few = λ p. omega arith; regions = λ p. omega arith }
 
 -- the rules of a policy
-pub rules_good : (n : ℕ) (pages : List PolicyPage) (ds : Items) (rules : List PolicyRule) → rules_from n pages ds ≡ Ok rules → AreGoodRules n (length pages) rules
-rules_good n pages ds rules e =
-    each_keeps (new_rule n pages) (λ before. bad_rule (length before + 1)) (AreGoodRules n (length pages))
-    (λ before d r good is. let (one, beside) = new_rule_good n pages before d r is in record {
+pub rules_good : (version n : ℕ) (pages : List PolicyPage) (ds : Items) (rules : List PolicyRule) → rules_from version n pages ds ≡ Ok rules → AreGoodRules n (length pages) rules
+rules_good version n pages ds rules e =
+    each_keeps (new_rule version n pages) (λ before. bad_rule (length before + 1)) (AreGoodRules n (length pages))
+    (λ before d r good is. let (one, beside) = new_rule_good version n pages before d r is in record {
       good = All-push (IsGoodRule n (length pages)) before r good.good one;
       places = distinct_more has_same_place before r good.places beside.fresh;
       few = few_more before r beside.room good.few;

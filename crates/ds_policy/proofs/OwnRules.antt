@@ -36,10 +36,10 @@ count_own p rules =
 regions_own : (p : ℕ) (rules : List PolicyRule) → regions_of p (own_rules p rules) ≡ regions_of p rules
 regions_own p rules = ap (map (λ (r : PolicyRule). region r.address)) (own_twice p rules)
 
-pub rule_found : (n : ℕ) (pages : List PolicyPage) (before : List PolicyRule) (d : Data) (r : PolicyRule) → rule_of n pages d ≡ Some r
-    → new_rule n pages before d ≡ (if leaves_room (own_rules r.process before) r then Some r else None)
+pub rule_found : (version n : ℕ) (pages : List PolicyPage) (before : List PolicyRule) (d : Data) (r : PolicyRule) → rule_of version n pages d ≡ Some r
+    → new_rule version n pages before d ≡ (if leaves_room (own_rules r.process before) r then Some r else None)
 unfolding new_rule
-rule_found n pages before d r is = rw (is, any_own r before, count_own r.process before, regions_own r.process before)
+rule_found version n pages before d r is = rw (is, any_own r before, count_own r.process before, regions_own r.process before)
     (elim (cases_Bool (list_any (λ (s : PolicyRule). has_same_place s r) before)) [
       | inl taken ↦ rw taken refl
       | inr free ↦ rw free (elim (cases_Bool (nat_lt (count_by (λ (s : PolicyRule). s.process == r.process) before) 256)) [
@@ -51,9 +51,9 @@ rule_found n pages before d r is = rw (is, any_own r before, count_own r.process
       ])
     ])
 
-pub rule_missing : (n : ℕ) (pages : List PolicyPage) (before : List PolicyRule) (d : Data) → rule_of n pages d ≡ None → new_rule n pages before d ≡ None
+pub rule_missing : (version n : ℕ) (pages : List PolicyPage) (before : List PolicyRule) (d : Data) → rule_of version n pages d ≡ None → new_rule version n pages before d ≡ None
 unfolding new_rule
-rule_missing n pages before d is = rw is refl
+rule_missing version n pages before d is = rw is refl
 
 -- one more rule, in the list of its process
 pub by_process_more : (owns : List (List PolicyRule)) (rules : List PolicyRule) (r : PolicyRule) → 1 ≤ r.process → r.process ≤ length owns → AreByProcess owns rules

@@ -32,13 +32,13 @@ pages_said frames found pages h =
     let count = each_counts new_page (λ before. limit (codes "page")) [] ds pages h2 in
     (omega (arith, within, count), pages_good ds pages h2)
 
-rules_said : (n : ℕ) (pages : List PolicyPage) (found : Option Data) (rules : List PolicyRule) → rules_of n pages found ≡ Ok rules → (length rules ≤ 999) × AreGoodRules n (length pages) rules
+rules_said : (version n : ℕ) (pages : List PolicyPage) (found : Option Data) (rules : List PolicyRule) → rules_of version n pages found ≡ Ok rules → (length rules ≤ 999) × AreGoodRules n (length pages) rules
 unfolding rules_of
-rules_said n pages found rules h =
+rules_said version n pages found rules h =
     let (ds, h1, h3) = bind_ok (or_else (items_if 999 found) (limit (codes "rule"))) _ rules h in
     let within = items_if_within 999 found ds (or_else_ok _ _ ds h1) in
-    let count = each_counts (new_rule n pages) (λ before. bad_rule (length before + 1)) [] ds rules h3 in
-    (omega (arith, within, count), rules_good n pages ds rules h3)
+    let count = each_counts (new_rule version n pages) (λ before. bad_rule (length before + 1)) [] ds rules h3 in
+    (omega (arith, within, count), rules_good version n pages ds rules h3)
 
 rate_said : (found : Option Data) (rate : ℕ) → rate_of found ≡ Some rate → (rate ≤ 15) × (0 < rate → 3 ≤ rate)
 rate_said None rate h = let same : 0 ≡ rate = cc in (omega (arith, same), λ pos. omega (arith, same, pos))
@@ -52,15 +52,15 @@ pub says_good : (ms : Members) (v : PolicyValue) → says ms ≡ Ok v → IsGood
 unfolding says
 says_good ms v h =
     let (known, h1, a) = bind_ok (check (has_only (codes "version" ∷ codes "frames" ∷ codes "rate" ∷ codes "process" ∷ codes "page" ∷ codes "rule" ∷ []) ms) (limit (codes "key"))) _ v h in
-    let (version, h2, b) = bind_ok (or_else (number_at (codes "version") 1 1 ms) (limit (codes "version"))) _ v a in
+    let (version, h2, b) = bind_ok (or_else (number_at (codes "version") 1 2 ms) (limit (codes "version"))) _ v a in
     let (frames, h3, c) = bind_ok (or_else (number_at (codes "frames") 1 1024 ms) (limit (codes "frames"))) _ v b in
     let (rate, h4, d) = bind_ok (or_else (rate_of (get_member (codes "rate") ms)) (limit (codes "rate"))) _ v c in
     let (processes, h6, f) = bind_ok (processes_of (get_member (codes "process") ms)) _ v d in
     let (pages, h8, i) = bind_ok (pages_of frames (get_member (codes "page") ms)) _ v f in
-    let (rules, h10, q) = bind_ok (rules_of (length processes) pages (get_member (codes "rule") ms)) _ v i in
+    let (rules, h10, q) = bind_ok (rules_of version (length processes) pages (get_member (codes "rule") ms)) _ v i in
     let of_processes = processes_said (get_member (codes "process") ms) processes h6 in
     let of_pages = pages_said frames (get_member (codes "page") ms) pages h8 in
-    let of_rules = rules_said (length processes) pages (get_member (codes "rule") ms) rules h10 in
+    let of_rules = rules_said version (length processes) pages (get_member (codes "rule") ms) rules h10 in
     subst (λ r. IfOk r IsGoodPolicy) q (record {
       frames = number_at_range (codes "frames") 1 1024 ms frames (or_else_ok _ _ frames h3);
       rate = rate_said (get_member (codes "rate") ms) rate (or_else_ok _ _ rate h4);

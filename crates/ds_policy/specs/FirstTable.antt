@@ -10,7 +10,7 @@ use Rattle.ds_policy.specs.Value.{PolicyValue}
 
 -- what rule n grants
 abbrev pub granted_by : ℕ → PolicyRule → Grant
-granted_by n r = record { right = r.right; page = r.page; rule = n; give = r.give; giver = 0; parent = None }
+granted_by n r = record { right = r.right; page = r.page; rule = n; give = r.give; giver = 0; parent = None; until = r.until }
 
 -- a table and the entry of rule n
 abbrev pub with_rule : Table → ℕ → PolicyRule → Table

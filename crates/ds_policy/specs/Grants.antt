@@ -43,7 +43,7 @@ has_right (Some g) = is_some_right g.right
 
 -- what stands for an entry where there is none: no right, no page, rule 0
 abbrev pub no_grant : Grant
-no_grant = record { right = Nothing; page = None; rule = 0; give = false; giver = 0; parent = None }
+no_grant = record { right = Nothing; page = None; rule = 0; give = false; giver = 0; parent = None; until = None }
 
 -- The conditions of the refusals, by their names.
 abbrev pub not_page : ℕ → Option ℕ
@@ -123,7 +123,7 @@ given s caller address g receiver to mode =
     if mode == 1 then granted s receiver to (shared_from caller address g Read)
     else if mode == 2 then granted s receiver to (shared_from caller address g Write)
     else granted (copied s g.page) receiver to
-    (record g { right = Write; page = Some (fresh s.pages); giver = caller; parent = None })
+    (record g { right = Write; page = Some (fresh s.pages); giver = caller; parent = None; until = None })
 
 -- Each of these takes first which processes there are that haven't ended.
 abbrev pub give : (ℕ → Bool) → PageState → ℕ → ℕ → ℕ → ℕ → ℕ → Result PageState ℕ
@@ -161,7 +161,7 @@ grant lives s p address page right may_give rule =
     refused 16 (has_right (entry_at s.table p address)) or_else
     table_full s p address or_else
     fifth_region s p address or_else
-    Ok (granted s p address (record { right = right; page = Some page; rule = rule; give = may_give; giver = 0; parent = None }))
+    Ok (granted s p address (record { right = right; page = Some page; rule = rule; give = may_give; giver = 0; parent = None; until = None }))
 
 -- the operator narrows an entry to reading
 abbrev pub narrow : (ℕ → Bool) → PageState → ℕ → ℕ → Result PageState ℕ

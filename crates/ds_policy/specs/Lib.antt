@@ -2,6 +2,8 @@ pub mod Pages
 pub mod Families
 pub mod Marks
 pub mod Grants
+pub mod Ends
+pub mod EndRows
 pub mod Value
 pub mod Document
 pub mod Names

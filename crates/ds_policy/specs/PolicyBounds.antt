@@ -93,7 +93,7 @@ rules_at (place ∷ places) = item (rule_at place) (rules_at places)
 
 -- how many rules there are, where two processes and one page are named, or which is refused
 abbrev rules : List (ℕ × ℕ) → Result ℕ PolicyRefusal
-rules places = count (rules_from 2 data_page (rules_at places))
+rules places = count (rules_from 1 2 data_page (rules_at places))
 
 -- one page after the other, so many
 abbrev places_from : ℕ → ℕ → List (ℕ × ℕ)
@@ -119,21 +119,26 @@ pub no_two_rules_have_one_process_and_address : map (λ second. rules ((1, 4096)
 unfolding grant_of rule_of new_rule each_of
 no_two_rules_have_one_process_and_address = refl
 
--- the page and the flag that keys say under a right
-abbrev granted : Right → List ℕ → Option (Option ℕ × Bool)
-granted right keys = option_and_then (grant_of data_page right) (parse_document keys)
+-- the page, the flag and the end that keys say under a right in a version
+abbrev granted : ℕ → Right → List ℕ → Option (Option ℕ × Bool × Option ℕ)
+granted version right keys = option_and_then (grant_of version data_page right) (parse_document keys)
 
-pub a_rule_without_a_right_has_no_page : map (granted Nothing) (codes "right = \"none\"" ∷ codes "page = \"data\"" ∷ codes "give = false" ∷ [])
-    ≡ Some (None, false) ∷ None ∷ None ∷ []
+pub a_rule_without_a_right_has_no_page : map (granted 2 Nothing) (codes "right = \"none\"" ∷ codes "page = \"data\"" ∷ codes "give = false" ∷ codes "until = 1" ∷ [])
+    ≡ Some (None, false, None) ∷ None ∷ None ∷ None ∷ []
 unfolding toml_on_literals grant_of
 a_rule_without_a_right_has_no_page = refl
 
-pub a_rule_to_read_has_a_page : map (granted Read) (codes "page = \"data\"" ∷ codes "page = \"data\"\ngive = false" ∷ codes "page = \"data\"\ngive = 1" ∷ codes "page = \"more\"" ∷ codes "page = \"data\"\nuntil = 1" ∷ [])
-    ≡ Some (Some 0, false) ∷ Some (Some 0, false) ∷ None ∷ None ∷ None ∷ []
+pub a_rule_to_read_has_a_page : map (granted 1 Read) (codes "page = \"data\"" ∷ codes "page = \"data\"\ngive = false" ∷ codes "page = \"data\"\ngive = 1" ∷ codes "page = \"more\"" ∷ codes "page = \"data\"\nuntil = 1" ∷ [])
+    ≡ Some (Some 0, false, None) ∷ Some (Some 0, false, None) ∷ None ∷ None ∷ None ∷ []
 unfolding toml_on_literals grant_of
 a_rule_to_read_has_a_page = refl
 
-pub a_rule_to_write_has_a_page : map (granted Write) (codes "page = \"data\"\ngive = true" ∷ codes "give = true" ∷ [])
-    ≡ Some (Some 0, true) ∷ None ∷ []
+pub a_rule_to_write_has_a_page : map (granted 1 Write) (codes "page = \"data\"\ngive = true" ∷ codes "give = true" ∷ [])
+    ≡ Some (Some 0, true, None) ∷ None ∷ []
 unfolding toml_on_literals grant_of
 a_rule_to_write_has_a_page = refl
+
+pub a_rule_of_version_2_may_have_an_end : map (λ end. granted 2 Write (codes "page = \"data\"\nuntil = " ++ end)) (codes "1" ∷ codes "1000000000" ∷ codes "0" ∷ codes "1000000001" ∷ codes "-1" ∷ codes "true" ∷ [])
+    ≡ Some (Some 0, false, Some 1) ∷ Some (Some 0, false, Some 1000000000) ∷ None ∷ None ∷ None ∷ None ∷ []
+unfolding toml_on_literals grant_of
+a_rule_of_version_2_may_have_an_end = refl

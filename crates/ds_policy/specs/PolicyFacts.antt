@@ -31,6 +31,7 @@ pub record IsGoodRule (processes pages : ℕ) (r : PolicyRule) : Type 0 where
   pub user : r.address < 2 ^ 31
   pub page : IfSome r.page (λ n. n < pages)
   pub right : is_some r.page ≡ is_some_right r.right
+  pub until : IfSome r.until (λ n. (1 ≤ n) × (n ≤ 1000000000))
 
 -- at most 256 rules of each process
 abbrev pub HasFewRules : List PolicyRule → Type 0

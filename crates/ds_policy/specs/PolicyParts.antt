@@ -1,5 +1,5 @@
 -- What the parts of a policy's document mean.
-use Rattle.std.specs.Prelude.{codes, ℕ, pos, Bool, false, not, ◌&&◌, ◌||◌, ◌==◌, ◌%◌, ◌^◌, ◌-◌, nat_le, nat_lt, bytes_eq, List, [], ◌∷◌, ◌++◌, length, map, filter, Option, Some, None, count_by, position, if◌then◌else◌}
+use Rattle.std.specs.Prelude.{codes, ℕ, pos, Bool, false, not, ◌&&◌, ◌||◌, ◌==◌, ◌%◌, ◌^◌, ◌-◌, nat_le, nat_lt, bytes_eq, List, [], ◌∷◌, ◌++◌, length, map, filter, Option, Some, None, count_by, position, option_map, if◌then◌else◌}
 use Rattle.std.specs.List.{list_any, list_all}
 use Rattle.ds_word.specs.OptionBinding.{◌>>=◌}
 use Rattle.toml.specs.Data.{Data, integer, Members, get_member, as_table, as_bool}
@@ -91,42 +91,53 @@ abbrev pub flag_of : Option Data → Option Bool
 flag_of None = Some false
 flag_of (Some d) = as_bool d
 
--- the page and the flag of a rule with this right
-unfoldable pub grant_of : List PolicyPage → Right → Members → Option (Option ℕ × Bool)
-grant_of pages Nothing ms = do
+-- an end that may be absent
+abbrev pub until_of : Option Data → Option (Option ℕ)
+until_of None = Some None
+until_of (Some d) = option_map (λ end. Some end) (number_in 1 1000000000 d)
+
+-- the keys of a rule with a right; version 2 has ends
+abbrev pub rule_keys : ℕ → List (List ℕ)
+rule_keys version =
+    codes "process" ∷ codes "address" ∷ codes "right" ∷ codes "page" ∷ codes "give" ∷ (if version == 2 then codes "until" ∷ [] else [])
+
+-- the page, the flag and the end of a rule with this right
+unfoldable pub grant_of : ℕ → List PolicyPage → Right → Members → Option (Option ℕ × Bool × Option ℕ)
+grant_of version pages Nothing ms = do
   known ← when (has_only (codes "process" ∷ codes "address" ∷ codes "right" ∷ []) ms)
-  Some (None, false)
-grant_of pages right ms = do
-  known ← when (has_only (codes "process" ∷ codes "address" ∷ codes "right" ∷ codes "page" ∷ codes "give" ∷ []) ms)
+  Some (None, false, None)
+grant_of version pages right ms = do
+  known ← when (has_only (rule_keys version) ms)
   name ← text_at (codes "page") ms
   page ← page_named pages name
   give ← flag_of (get_member (codes "give") ms)
-  Some (Some page, give)
+  until ← until_of (get_member (codes "until") ms)
+  Some (Some page, give, until)
 
 -- the regions of a process's rules
 abbrev pub regions_of : ℕ → List PolicyRule → List ℕ
 regions_of process rules = map (λ (r : PolicyRule). region r.address) (filter (λ (r : PolicyRule). r.process == process) rules)
 
 -- a rule of the policy, by itself
-unfoldable pub rule_of : ℕ → List PolicyPage → Data → Option PolicyRule
-rule_of processes pages d = do
+unfoldable pub rule_of : ℕ → ℕ → List PolicyPage → Data → Option PolicyRule
+rule_of version processes pages d = do
   ms ← as_table d
   process ← number_at (codes "process") 1 processes ms
   address ← number_at (codes "address") 0 (2 ^ 31 - 1) ms
   aligned ← when (address % 4096 == 0)
   named ← text_at (codes "right") ms
   right ← right_named named
-  grant ← grant_of pages right ms
-  Some (record { process = process; address = address; right = right; page = grant.0; give = grant.1 })
+  grant ← grant_of version pages right ms
+  Some (record { process = process; address = address; right = right; page = grant.0; give = grant.1; until = grant.2 })
 
 -- two rules are about one process and one address
 abbrev pub has_same_place : PolicyRule → PolicyRule → Bool
 has_same_place r s = r.process == s.process && r.address == s.address
 
 -- a rule at a place that none of those before it has, that is not the 257th of its process and opens no fifth region
-unfoldable pub new_rule : ℕ → List PolicyPage → List PolicyRule → Data → Option PolicyRule
-new_rule processes pages before d = do
-  r ← rule_of processes pages d
+unfoldable pub new_rule : ℕ → ℕ → List PolicyPage → List PolicyRule → Data → Option PolicyRule
+new_rule version processes pages before d = do
+  r ← rule_of version processes pages d
   other ← when (not (list_any (λ (s : PolicyRule). has_same_place s r) before))
   room ← when (nat_lt (count_by (λ (s : PolicyRule). s.process == r.process) before) 256)
   near ← when (nat_le (count_distinct (region r.address ∷ regions_of r.process before)) 4)

@@ -1,5 +1,5 @@
 -- Worked rows of the reading of a policy, from the document on: the texts are in ASCII.
-use Rattle.std.specs.Prelude.{codes, refl, ◌≡◌, ℕ, pos, false, List, [], ◌∷◌, ◌++◌, replicate, Some, None, Result, Ok, Err}
+use Rattle.std.specs.Prelude.{codes, refl, ◌≡◌, ℕ, pos, false, List, [], ◌∷◌, ◌++◌, length, drop, replicate, Some, None, Result, Ok, Err}
 use Rattle.toml.specs.Data.{Data, string, integer, table, member, no_members}
 use Rattle.toml.specs.Parse.{parse_document}
 use Rattle.toml.proofs.OnLiterals.{toml_on_literals}
@@ -36,12 +36,29 @@ pub off_a_page : said (sample ++ rule_at (codes "0x00400004")) ≡ Err (bad_rule
 unfolding toml_on_literals process_of source_of page_of new_page grant_of rule_of new_rule each_of processes_of pages_of rules_of says
 off_a_page = refl
 
+-- the sample in a version, with a second rule, whose right ends
+abbrev ends : List ℕ → List ℕ → Result PolicyValue PolicyRefusal
+ends version until =
+    said (codes "version = " ++ version ++ drop (length (codes "version = 1")) sample ++ rule_at (codes "0x00400000") ++ rule_at (codes "0x00410000") ++ codes "until = " ++ until)
+
+pub version_1_has_no_end : ends (codes "1") (codes "2") ≡ Err (bad_rule 2)
+unfolding toml_on_literals process_of source_of page_of new_page grant_of rule_of new_rule each_of processes_of pages_of rules_of says
+version_1_has_no_end = refl
+
+pub no_right_ends_at_0 : ends (codes "2") (codes "0") ≡ Err (bad_rule 2)
+unfolding toml_on_literals process_of source_of page_of new_page grant_of rule_of new_rule each_of processes_of pages_of rules_of says
+no_right_ends_at_0 = refl
+
+pub there_is_no_version_3 : ends (codes "3") (codes "2") ≡ Err (limit (codes "version"))
+unfolding toml_on_literals says
+there_is_no_version_3 = refl
+
 pub one_rule : said (sample ++ rule_at (codes "0x00400000")) ≡ Ok (record {
   frames = 16;
   rate = 0;
   processes = record { start = 4194304; line = 0 } ∷ [];
   pages = record { name = codes "code"; source = Some (record { name = codes "one.s"; part = 0 }) } ∷ record { name = codes "data"; source = None } ∷ [];
-  rules = record { process = 1; address = 4194304; right = Read; page = Some 0; give = false } ∷ [];
+  rules = record { process = 1; address = 4194304; right = Read; page = Some 0; give = false; until = None } ∷ [];
 })
 unfolding toml_on_literals process_of source_of page_of new_page grant_of rule_of new_rule each_of processes_of pages_of rules_of says
 one_rule = refl
@@ -52,7 +69,7 @@ data_page = record { name = codes "data"; source = None } ∷ []
 
 -- the rule that lets process 1 read page 0 at an address
 abbrev rule_for : ℕ → PolicyRule
-rule_for address = record { process = 1; address = address; right = Read; page = Some 0; give = false }
+rule_for address = record { process = 1; address = address; right = Read; page = Some 0; give = false; until = None }
 
 -- rules of process 1 in four regions
 abbrev four_regions : List PolicyRule
@@ -62,23 +79,23 @@ four_regions = rule_for 0 ∷ rule_for 0x400000 ∷ rule_for 0x800000 ∷ rule_f
 abbrev rule_data : ℕ → Data
 rule_data address = table (member (codes "process") (integer (pos 1)) (member (codes "address") (integer (pos address)) (member (codes "right") (string (codes "read")) (member (codes "page") (string (codes "data")) no_members))))
 
-pub same_place : new_rule 1 data_page four_regions (rule_data 0) ≡ None
+pub same_place : new_rule 1 1 data_page four_regions (rule_data 0) ≡ None
 unfolding grant_of rule_of new_rule
 same_place = refl
 
-pub fourth_region : new_rule 1 data_page four_regions (rule_data 0xC01000) ≡ Some (rule_for 0xC01000)
+pub fourth_region : new_rule 1 1 data_page four_regions (rule_data 0xC01000) ≡ Some (rule_for 0xC01000)
 unfolding grant_of rule_of new_rule
 fourth_region = refl
 
-pub fifth_region : new_rule 1 data_page four_regions (rule_data 0x1000000) ≡ None
+pub fifth_region : new_rule 1 1 data_page four_regions (rule_data 0x1000000) ≡ None
 unfolding grant_of rule_of new_rule
 fifth_region = refl
 
-pub rule_256 : new_rule 1 data_page (replicate 255 (rule_for 0)) (rule_data 4096) ≡ Some (rule_for 4096)
+pub rule_256 : new_rule 1 1 data_page (replicate 255 (rule_for 0)) (rule_data 4096) ≡ Some (rule_for 4096)
 unfolding grant_of rule_of new_rule
 rule_256 = refl
 
-pub rule_257 : new_rule 1 data_page (replicate 256 (rule_for 0)) (rule_data 4096) ≡ None
+pub rule_257 : new_rule 1 1 data_page (replicate 256 (rule_for 0)) (rule_data 4096) ≡ None
 unfolding grant_of rule_of new_rule
 rule_257 = refl
 

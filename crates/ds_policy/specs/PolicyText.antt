@@ -32,25 +32,25 @@ unfoldable pub pages_of : ℕ → Option Data → Result (List PolicyPage) Polic
 pages_of frames found = or_else (items_if frames found) (limit (codes "page")) >>= pages_from
 
 -- the rules, or the number of the first that isn't good, from 1
-abbrev pub rules_from : ℕ → List PolicyPage → Items → Result (List PolicyRule) PolicyRefusal
-rules_from processes pages ds = each_of (new_rule processes pages) (λ before. bad_rule (length before + 1)) [] ds
+abbrev pub rules_from : ℕ → ℕ → List PolicyPage → Items → Result (List PolicyRule) PolicyRefusal
+rules_from version processes pages ds = each_of (new_rule version processes pages) (λ before. bad_rule (length before + 1)) [] ds
 
 -- at most 999 rules
-unfoldable pub rules_of : ℕ → List PolicyPage → Option Data → Result (List PolicyRule) PolicyRefusal
-rules_of processes pages found = do
+unfoldable pub rules_of : ℕ → ℕ → List PolicyPage → Option Data → Result (List PolicyRule) PolicyRefusal
+rules_of version processes pages found = do
   ds ← or_else (items_if 999 found) (limit (codes "rule"))
-  rules_from processes pages ds
+  rules_from version processes pages ds
 
 -- what a document says
 unfoldable pub says : Members → Result PolicyValue PolicyRefusal
 says ms = do
   known ← check (has_only (codes "version" ∷ codes "frames" ∷ codes "rate" ∷ codes "process" ∷ codes "page" ∷ codes "rule" ∷ []) ms) (limit (codes "key"))
-  version ← or_else (number_at (codes "version") 1 1 ms) (limit (codes "version"))
+  version ← or_else (number_at (codes "version") 1 2 ms) (limit (codes "version"))
   frames ← or_else (number_at (codes "frames") 1 1024 ms) (limit (codes "frames"))
   rate ← or_else (rate_of (get_member (codes "rate") ms)) (limit (codes "rate"))
   processes ← processes_of (get_member (codes "process") ms)
   pages ← pages_of frames (get_member (codes "page") ms)
-  rules ← rules_of (length processes) pages (get_member (codes "rule") ms)
+  rules ← rules_of version (length processes) pages (get_member (codes "rule") ms)
   Ok (record { frames = frames; rate = rate; processes = processes; pages = pages; rules = rules })
 
 -- what a text says

@@ -1,4 +1,6 @@
 //! Entries of the permission table.
+ghost use Rattle.std.specs.Prelude.{◌≡◌};
+ghost use Rattle.ds_policy.specs.Grants.{forbidden_by};
 
 /// What an entry allows.
 #[derive(Clone, Copy, Debug, PartialEq, Eq)]
@@ -30,6 +32,8 @@ pub struct Grant {
     /// The entry that it was shared from, or the nearest above that one which stands; none of what the
     /// policy or the operator granted, and of a copy.
     pub parent: Option<EntryPlace>,
+    /// The time, in ticks, at which its right ends, if it does by itself.
+    pub until: Option<u32>,
 }
 
 /// An entry of the table: a page address and what is granted there.
@@ -37,4 +41,19 @@ pub struct Grant {
 pub struct Entry {
     pub address: u32,
     pub grant: Grant,
+}
+
+/// What is left of an entry whose right was taken by a rule: the rule alone.
+pub fn forbidden_by(rule: u32) -> Grant
+    ensures { result ≡ forbidden_by rule }
+{
+    Grant {
+        right: Right::Nothing,
+        page: None,
+        rule,
+        give: false,
+        giver: 0,
+        parent: None,
+        until: None,
+    }
 }

@@ -35,6 +35,8 @@ pub struct PolicyRule {
     pub right: Right,
     pub page: Option<u32>,
     pub give: bool,
+    /// The time, in ticks, at which its entry's right ends, from 1 to 1,000,000,000; none where it stays.
+    pub until: Option<u32>,
 }
 
 /// A policy.

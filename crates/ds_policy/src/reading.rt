@@ -42,13 +42,13 @@ impl Policy {
         if !has_only(table, KEYS.as_slice()) {
             return Err(PolicyFault::Limit("key"));
         }
-        required(number_of(table, "version", 1, 1), "version")?;
+        let version = required(number_of(table, "version", 1, 2), "version")?;
         let frames = required(number_of(table, "frames", 1, 1024), "frames")?;
         let rate = required(rate_of(value_at(table, "rate")), "rate")?;
         let processes = processes_of(alloc, value_at(table, "process"))?;
         let pages = pages_of(alloc, frames, value_at(table, "page"))?;
         let count = processes.len() as u32;
-        let rules = rules_of(alloc, count, &pages, value_at(table, "rule"))?;
+        let rules = rules_of(alloc, version, count, &pages, value_at(table, "rule"))?;
         let sources = sources_of(alloc, &pages)?;
         Ok(Policy {
             frames,

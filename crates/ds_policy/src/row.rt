@@ -25,6 +25,7 @@ impl Default for Entry {
                 give: false,
                 giver: 0,
                 parent: None,
+                until: None,
             },
         }
     }

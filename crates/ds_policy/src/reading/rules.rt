@@ -3,8 +3,9 @@ ghost use Rattle.std.specs.Prelude.{◌≡◌, ◌≤◌, ◌==◌, ◌+◌, ◌
 ghost use Rattle.std.specs.List.{list_any};
 ghost use Rattle.toml.specs.View.{view, table_view, items_view};
 ghost use Rattle.ds_policy.specs.Refusal.{Gives};
+ghost use Rattle.ds_policy.specs.Document.{has_only};
 ghost use Rattle.ds_policy.specs.Grants.{region, count_distinct};
-ghost use Rattle.ds_policy.specs.PolicyParts.{right_named, flag_of, grant_of, rule_of, has_same_place, new_rule, regions_of};
+ghost use Rattle.ds_policy.specs.PolicyParts.{right_named, flag_of, until_of, rule_keys, grant_of, rule_of, has_same_place, new_rule, regions_of};
 ghost use Rattle.ds_policy.specs.PolicyText.{rules_from, rules_of};
 ghost use Rattle.ds_policy.specs.OwnRules.{AreByProcess, leaves_room};
 ghost use Rattle.ds_policy.specs.declared.policy.PolicyRule.{PolicyRule};
@@ -13,7 +14,7 @@ use crate::fault::PolicyFault;
 use crate::grant::Right;
 use crate::names::NamedPages;
 use crate::policy::{PolicyPage, PolicyRule};
-use crate::reading::document::{has_only, items_between, number_of, text_at, value_at};
+use crate::reading::document::{has_only, items_between, number, number_of, text_at, value_at};
 use crate::reading::own::{OwnRules, no_rules};
 use std::alloc::{AllocError, Global};
 use toml::{Table, Value};
@@ -22,19 +23,20 @@ use toml::{Table, Value};
 #[tactic(auto, unfolding(crate::specs::PolicyText::rules_of, crate::specs::PolicyText::each_of))]
 pub fn rules_of(
     alloc: Global,
+    version: u32,
     processes: u32,
     pages: &[PolicyPage],
     found: Option<&Value>,
 ) -> Result<Vec<PolicyRule>, PolicyFault>
     requires { length pages.now ≤ 1024 }
     ensures { Gives (λ v. v.items) result
-        (rules_of processes pages.now (option_map (λ v. view v.now) found.entry)) }
+        (rules_of version processes pages.now (option_map (λ v. view v.now) found.entry)) }
 {
     match found {
         Some(value) => match items_between(value, 0, 999) {
             Some(values) => {
                 let pages = NamedPages::of(alloc, pages)?;
-                rules_in(alloc, processes, &pages, values)
+                rules_in(alloc, version, processes, &pages, values)
             }
             None => Err(PolicyFault::Limit("rule")),
         },
@@ -44,18 +46,19 @@ pub fn rules_of(
 
 fn rules_in(
     alloc: Global,
+    version: u32,
     processes: u32,
     pages: &NamedPages<'_>,
     values: &[Value],
 ) -> Result<Vec<PolicyRule>, PolicyFault>
     requires pages_fit { length pages.now ≤ 1024 }
     requires values_fit { length values.now ≤ 999 }
-    ensures { Gives (λ v. v.items) result (rules_from processes pages.now (items_view values.now)) }
+    ensures { Gives (λ v. v.items) result (rules_from version processes pages.now (items_view values.now)) }
 {
     let mut rules = Vec::new(alloc);
     let mut owns = no_rules(alloc, processes as usize)?;
     for value in values {
-        match new_rule(processes, pages, &owns, value) {
+        match new_rule(version, processes, pages, &owns, value) {
             Some(rule) => {
                 add_to(&mut owns, rule)?;
                 rules.push(rule)?;
@@ -81,6 +84,7 @@ fn add_to(owns: &mut Vec<OwnRules>, rule: PolicyRule) -> Result<(), AllocError>
 
 /// The rule that a value is, where those of its process leave room for it.
 fn new_rule(
+    version: u32,
     processes: u32,
     pages: &NamedPages<'_>,
     owns: &[OwnRules],
@@ -89,10 +93,10 @@ fn new_rule(
     requires pages_fit { length pages.now ≤ 1024 }
     requires each { length owns.now ≡ processes }
     ensures exact { (before : List PolicyRule) → AreByProcess owns.now before
-        → result ≡ new_rule processes pages.now before (view value.now) }
+        → result ≡ new_rule version processes pages.now before (view value.now) }
     ensures within { IfSome result (λ r. (1 ≤ r.process) × (r.process ≤ processes)) }
 {
-    let rule = rule_of(processes, pages, value)?;
+    let rule = rule_of(version, processes, pages, value)?;
     if !leaves_room(owns[rule.process as usize - 1].rules(), &rule) {
         return None;
     }
@@ -113,9 +117,14 @@ fn leaves_room(own: &[PolicyRule], rule: &PolicyRule) -> bool
 }
 
 #[tactic(auto, unfolding(crate::specs::PolicyParts::rule_of))]
-fn rule_of(processes: u32, pages: &NamedPages<'_>, value: &Value) -> Option<PolicyRule>
+fn rule_of(
+    version: u32,
+    processes: u32,
+    pages: &NamedPages<'_>,
+    value: &Value,
+) -> Option<PolicyRule>
     requires { length pages.now ≤ 1024 }
-    ensures exact { result ≡ rule_of processes pages.now (view value.now) }
+    ensures exact { result ≡ rule_of version processes pages.now (view value.now) }
     ensures within { IfSome result (λ r. (1 ≤ r.process) × (r.process ≤ processes)) }
 {
     let table = value.as_table()?;
@@ -125,13 +134,14 @@ fn rule_of(processes: u32, pages: &NamedPages<'_>, value: &Value) -> Option<Poli
         return None;
     }
     let right = right_named(text_at(table, "right")?)?;
-    let (page, give) = grant_of(pages, right, table)?;
+    let (page, give, until) = grant_of(version, pages, right, table)?;
     Some(PolicyRule {
         process,
         address,
         right,
         page,
         give,
+        until,
     })
 }
 
@@ -150,26 +160,56 @@ fn right_named(text: &str) -> Option<Right>
 }
 
 #[tactic(auto, unfolding(crate::specs::PolicyParts::grant_of))]
-fn grant_of(pages: &NamedPages<'_>, right: Right, table: &Table) -> Option<(Option<u32>, bool)>
+fn grant_of(
+    version: u32,
+    pages: &NamedPages<'_>,
+    right: Right,
+    table: &Table,
+) -> Option<(Option<u32>, bool, Option<u32>)>
     requires { length pages.now ≤ 1024 }
-    ensures { result ≡ grant_of pages.now right (table_view table.now) }
+    ensures { result ≡ grant_of version pages.now right (table_view table.now) }
 {
     match right {
         Right::Nothing => {
             if !has_only(table, &["process", "address", "right"]) {
                 return None;
             }
-            Some((None, false))
+            Some((None, false, None))
         }
         Right::Read | Right::Write => {
-            if !has_only(table, &["process", "address", "right", "page", "give"]) {
+            if !has_rule_keys(version, table) {
                 return None;
             }
             let name = text_at(table, "page")?;
             let page = pages.number_of(name.as_bytes())?;
             let give = flag_of(value_at(table, "give"))?;
-            Some((Some(page as u32), give))
+            let until = until_of(value_at(table, "until"))?;
+            Some((Some(page as u32), give, until))
         }
+    }
+}
+
+/// Whether each key is one of a rule with a right. From version 2 on it may have an end.
+fn has_rule_keys(version: u32, table: &Table) -> bool
+    ensures { result ≡ has_only (rule_keys version) (table_view table.now) }
+{
+    if version == 2 {
+        has_only(
+            table,
+            &["process", "address", "right", "page", "give", "until"],
+        )
+    } else {
+        has_only(table, &["process", "address", "right", "page", "give"])
+    }
+}
+
+/// The end of a right, which may be absent.
+fn until_of(found: Option<&Value>) -> Option<Option<u32>>
+    ensures { result ≡ until_of (option_map (λ v. view v.now) found.entry) }
+{
+    match found {
+        None => Some(None),
+        Some(value) => Some(Some(number(value, 1, 1_000_000_000)?)),
     }
 }
 

@@ -9,11 +9,11 @@ pub returns-in-None : goal.returns-in-None
 returns-in-None c =
     let same_len : vec_len c.loop-value.rules ≡ length c.loop-value.rules.items = omega (arith, c.loop-value.rules.ok.0) in
     rw (c.len.ensures, same_len) (sym c.loop-value.invariant.same
-    ∙ each_refused (new_rule c.args.processes c.args.pages.now) (λ before. bad_rule (length before + 1)) c.loop-value.rules.items c.args.values.now c.loop-value.value-index c.value-item.result (omega arith) c.value-item.is (sym (c.new_rule.ensures.exact c.loop-value.rules.items (subst (λ os. AreByProcess os c.loop-value.rules.items) (sym c.deref.ensures.value) c.loop-value.invariant.by)) ∙ c.in-None.is))
+    ∙ each_refused (new_rule c.args.version c.args.processes c.args.pages.now) (λ before. bad_rule (length before + 1)) c.loop-value.rules.items c.args.values.now c.loop-value.value-index c.value-item.result (omega arith) c.value-item.is (sym (c.new_rule.ensures.exact c.loop-value.rules.items (subst (λ os. AreByProcess os c.loop-value.rules.items) (sym c.deref.ensures.value) c.loop-value.invariant.by)) ∙ c.in-None.is))
 
 pub loop-value-preserved : goal.loop-value-preserved
 loop-value-preserved c =
-    let step = each_more (new_rule c.args.processes c.args.pages.now) (λ before. bad_rule (length before + 1)) c.loop-value.rules.items c.args.values.now c.loop-value.value-index c.value-item.result c.in-Some.rule (omega arith) c.value-item.is (sym (c.new_rule.ensures.exact c.loop-value.rules.items (subst (λ os. AreByProcess os c.loop-value.rules.items) (sym c.deref.ensures.value) c.loop-value.invariant.by)) ∙ c.in-Some.is) in
+    let step = each_more (new_rule c.args.version c.args.processes c.args.pages.now) (λ before. bad_rule (length before + 1)) c.loop-value.rules.items c.args.values.now c.loop-value.value-index c.value-item.result c.in-Some.rule (omega arith) c.value-item.is (sym (c.new_rule.ensures.exact c.loop-value.rules.items (subst (λ os. AreByProcess os c.loop-value.rules.items) (sym c.deref.ensures.value) c.loop-value.invariant.by)) ∙ c.in-Some.is) in
     record {
       same = rw c.in_ok-push-in-Some.ensures.items (sym step ∙ c.loop-value.invariant.same);
       counted = omega (arith, c.in_ok-push-in-Some.ensures.len);
@@ -24,4 +24,4 @@ loop-value-preserved c =
 pub returns : goal.returns
 returns c =
     sym c.loop-value.invariant.same
-    ∙ each_end (new_rule c.args.processes c.args.pages.now) (λ before. bad_rule (length before + 1)) c.loop-value.rules.items c.args.values.now c.loop-value.value-index (omega arith)
+    ∙ each_end (new_rule c.args.version c.args.processes c.args.pages.now) (λ before. bad_rule (length before + 1)) c.loop-value.rules.items c.args.values.now c.loop-value.value-index (omega arith)
