@@ -42,10 +42,10 @@ lives_err (Err x) lives rest is h = λ memory next. passed 12 (not lives) (rest 
 -- the outcome of a grant is that of the test of room, where the other tests don't hold
 module _ (g : GrantsState) (p a : ℕ) (lives : lives_in g p ≡ true) (page : is_no_page a ≡ false) (free : has_right (entry_at g.table p a) ≡ false) where
   granted_as : (memory : List ℕ) (q : ℕ) (right : Right) (may_give : Bool) (rule : ℕ) (result : Result PageState ℕ)
-      → (table_full (page_state g memory) p a or_else fifth_region (page_state g memory) p a or_else Ok (granted (page_state g memory) p a (record { right = right; page = Some q; rule = rule; give = may_give; giver = 0; parent = None }))) ≡ result
+      → (table_full (page_state g memory) p a or_else fifth_region (page_state g memory) p a or_else Ok (granted (page_state g memory) p a (record { right = right; page = Some q; rule = rule; give = may_give; giver = 0; parent = None; until = None }))) ≡ result
       → grant (lives_in g) (page_state g memory) p a q right may_give rule ≡ result
   granted_as memory q right may_give rule result is =
-      let room = table_full (page_state g memory) p a or_else fifth_region (page_state g memory) p a or_else Ok (granted (page_state g memory) p a (record { right = right; page = Some q; rule = rule; give = may_give; giver = 0; parent = None })) in
+      let room = table_full (page_state g memory) p a or_else fifth_region (page_state g memory) p a or_else Ok (granted (page_state g memory) p a (record { right = right; page = Some q; rule = rule; give = may_give; giver = 0; parent = None; until = None })) in
       passed 12 (not (lives_in g p)) (not_page a or_else refused 16 (has_right (entry_at g.table p a)) or_else room) result (denied (lives_in g p) lives)
       (passed 13 (is_no_page a) (refused 16 (has_right (entry_at g.table p a)) or_else room) result page
       (passed 16 (has_right (entry_at g.table p a)) room result free is))
@@ -58,7 +58,7 @@ module _ (g : GrantsState) (p a : ℕ) (lives : lives_in g p ≡ true) (page : i
 
   pub room_ok : {T : Type 0} (r : Result T GrantFault)
       → OnOk r ((memory : List ℕ) (next : Result PageState ℕ) → (table_full (page_state g memory) p a or_else fifth_region (page_state g memory) p a or_else next) ≡ next)
-      → OnOk r ((memory : List ℕ) (q : ℕ) (right : Right) (may_give : Bool) (rule : ℕ) → grant (lives_in g) (page_state g memory) p a q right may_give rule ≡ Ok (granted (page_state g memory) p a (record { right = right; page = Some q; rule = rule; give = may_give; giver = 0; parent = None })))
+      → OnOk r ((memory : List ℕ) (q : ℕ) (right : Right) (may_give : Bool) (rule : ℕ) → grant (lives_in g) (page_state g memory) p a q right may_give rule ≡ Ok (granted (page_state g memory) p a (record { right = right; page = Some q; rule = rule; give = may_give; giver = 0; parent = None; until = None })))
   room_ok (Ok x) h = λ memory q right may_give rule. granted_as memory q right may_give rule _ (h memory _)
   room_ok (Err x) h = tt
 

@@ -156,13 +156,13 @@ module _ (g : GrantsState) (p a : ℕ) (grant : Grant) (n : ℕ) (low : 0 < p) (
 -- the page state with a copy
 pub copied_state : (g : GrantsState) (p a : ℕ) (grant : Grant) (k n caller : ℕ) (memory : List ℕ) → 0 < p → p ≤ length g.table → entry_at g.table p a ≡ None
     → grant.page ≡ Some k → k < g.frames → is_live g k ≡ true → IsFirstFree g n → length g.lies ≡ g.frames
-    → page_state (with_grant (with_copy g k n) p a (record grant { right = Write; page = Some n; giver = caller; parent = None })) memory
-    ≡ granted (copied (page_state g memory) grant.page) p a (record grant { right = Write; page = Some (fresh (pages_in g memory)); giver = caller; parent = None })
+    → page_state (with_grant (with_copy g k n) p a (record grant { right = Write; page = Some n; giver = caller; parent = None; until = None })) memory
+    ≡ granted (copied (page_state g memory) grant.page) p a (record grant { right = Write; page = Some (fresh (pages_in g memory)); giver = caller; parent = None; until = None })
 copied_state g p a grant k n caller memory low high none named source lives free all =
     let number = fresh_is g memory n free in
-    let pages = pages_copied g (with_grant (with_copy g k n) p a (record grant { right = Write; page = Some n; giver = caller; parent = None })) memory k n refl refl all source lives free.within
-    (born_lives g p a (record grant { right = Write; page = Some n; giver = caller; parent = None }) n low high none refl) (others_live g p a (record grant { right = Write; page = Some n; giver = caller; parent = None }) n low high none refl) in
-    rw (number, named) (ap (λ (ps : Pages). granted (record { pages = ps; table = g.table; named = g.named }) p a (record grant { right = Write; page = Some n; giver = caller; parent = None })) pages)
+    let pages = pages_copied g (with_grant (with_copy g k n) p a (record grant { right = Write; page = Some n; giver = caller; parent = None; until = None })) memory k n refl refl all source lives free.within
+    (born_lives g p a (record grant { right = Write; page = Some n; giver = caller; parent = None; until = None }) n low high none refl) (others_live g p a (record grant { right = Write; page = Some n; giver = caller; parent = None; until = None }) n low high none refl) in
+    rw (number, named) (ap (λ (ps : Pages). granted (record { pages = ps; table = g.table; named = g.named }) p a (record grant { right = Write; page = Some n; giver = caller; parent = None; until = None })) pages)
 
 -- there is none
 pub none_there : (o : Option Grant) → IsNone o → o ≡ None

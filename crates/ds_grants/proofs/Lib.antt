@@ -6,6 +6,7 @@ pub mod Children
 pub mod Copies
 pub mod Emptying
 pub mod Endings
+pub mod Expired
 pub mod EntriesAnew
 pub mod FamilyStates
 pub mod Fields
@@ -13,6 +14,7 @@ pub mod FifthRegion
 pub mod Fills
 pub mod FirstGrants
 pub mod FirstPages
+pub mod FirstWhere
 pub mod Forgets
 pub mod Handing
 pub mod HeldByAll

@@ -262,4 +262,4 @@ written_as {memory} {n} {t} {u} {table} e f k = subst (λ (m : List ℕ). HasWor
 pub more_pages : (processes pages : ℕ) (rs : List PolicyRule) → pages ≤ 1024 → All (IsGoodRule processes pages) rs → All (IsGoodRule processes 1024) rs
 more_pages processes pages rs few good = λ i d within.
     let it = good i d within in
-    record { process = it.process; aligned = it.aligned; user = it.user; page = few_pages (get_or rs i d).page pages few it.page; right = it.right }
+    record { process = it.process; aligned = it.aligned; user = it.user; page = few_pages (get_or rs i d).page pages few it.page; right = it.right; until = it.until }

@@ -55,10 +55,14 @@ all_forgotten entries s (place ∷ rest) =
 abbrev pub without_children : ℕ → ℕ → List granted.Entry → List granted.Entry
 without_children p address es = filter (λ e. not (is_child p address e)) es
 
+-- the entries, with another grant in each for which a test holds
+abbrev pub changed_where : (granted.Entry → Bool) → (granted.Entry → Grant) → List granted.Entry → List granted.Entry
+changed_where test grant_of es =
+    map (λ e. if test e then record e { grant = grant_of e } else e) es
+
 -- the entries, with this grant in each that was shared from that of process p at an address
 abbrev pub children_granted : ℕ → ℕ → Grant → List granted.Entry → List granted.Entry
-children_granted p address g es =
-    map (λ e. if is_child p address e then record e { grant = g } else e) es
+children_granted p address g es = changed_where (is_child p address) (λ e. g) es
 
 -- where those entries of process q stand for which a test holds
 abbrev pub places_in : (granted.Entry → Bool) → ℕ → List granted.Entry → List EntryPlace

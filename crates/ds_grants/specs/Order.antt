@@ -124,7 +124,7 @@ pub record HaveOneOrder (lives : ℕ → Bool) (s : PageState) : Type 0 where
       → grant lives s p address page right may_give rule
       ≡ first_refusal (tests_of_grant lives s p address)
       (Ok (granted s p address
-      (record { right = right; page = Some page; rule = rule; give = may_give; giver = 0; parent = None })))
+      (record { right = right; page = Some page; rule = rule; give = may_give; giver = 0; parent = None; until = None })))
   pub of_narrow : (p address : ℕ)
       → narrow lives s p address
       ≡ first_refusal (tests_of_change lives s p address)

@@ -22,7 +22,7 @@ use Rattle.ds_grants.specs.Represented.{HasRegion}
 
 -- a grant of a page by rule 1
 abbrev pub grant : Right → Option ℕ → Grant
-grant right page = record { right = right; page = page; rule = 1; give = false; giver = 0; parent = None }
+grant right page = record { right = right; page = page; rule = 1; give = false; giver = 0; parent = None; until = None }
 
 abbrev pub entry : ℕ → Right → Option ℕ → granted.Entry
 entry address right page = record { address = address; grant = grant right page }

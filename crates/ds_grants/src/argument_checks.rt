@@ -190,6 +190,7 @@ impl Grants {
               give = may_give;
               giver = 0;
               parent = None;
+              until = None;
             }))) }
         ensures free { OnOk result (page_of (entry_at self.now.table process addr) ≡ None) }
         ensures named { OnOk result (self.now.named ≤ self.now.frames) }

@@ -167,6 +167,7 @@ impl Grants {
                   (fresh (pages_in self.old memory.old));
               giver = caller;
               parent = None;
+              until = None;
             }) }
         ensures same { IsAsLarge self.old self.new }
         ensures ended { self.new.ended ≡ self.old.ended }
@@ -189,6 +190,7 @@ impl Grants {
                 page: Some(free),
                 giver: caller,
                 parent: None,
+                until: None,
                 ..grant
             };
             self.put(receiver, to, copy, memory, tables, spaces, tlb);

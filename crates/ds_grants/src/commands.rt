@@ -59,6 +59,7 @@ impl Grants {
             give,
             giver: 0,
             parent: None,
+            until: None,
         };
         self.put(process, addr, grant, memory, tables, spaces, tlb);
         Ok(())

@@ -7,6 +7,7 @@ mod argument_checks;
 mod buffer_laws;
 mod calls;
 mod commands;
+mod ends;
 mod families;
 mod fault;
 mod first;

@@ -26,7 +26,7 @@ may_run_ahead p limit good commands order owed ready user spent early = record {
   mode = user_status_of (held p) good.sound user;
   spent = spent;
   fresh = good.orderly.fresh (omega (arith, spent));
-  quiet = quiet_until (p.monitor.time + limit + 1) (held p).kept good.orderly.ticked (nothing_due p.monitor (p.monitor.time + limit + 1) p.monitor.owed commands order good.next early good.orderly.kept.lawful);
+  quiet = quiet_until (p.monitor.time + limit + 1) (held p).kept good.orderly.ticked (nothing_due p.monitor (p.monitor.time + limit + 1) p.monitor.owed commands order good.next early good.orderly.kept);
 }
 
 below_both : (a b t : ℕ) → t < a → t < b → t < min a b
@@ -35,18 +35,19 @@ below_both a b t x y = elim (nat_le a b) as (λ (r : Bool). nat_le a b ≡ r →
   | false ↦ λ e. (let l : b ≤ a = grind (arith, nat_tests) in subst (λ (n : ℕ). t < n) (sym (min-eq_right l)) y)
 ] refl
 
--- where two instructions may run ahead, nothing comes up to the boundary after them
-pub goes_two : {L : Type 0} (p : Parts L) → IsGood p → MayRunAhead 2 (held p) → p.monitor.time + 2 + 1 < p.monitor.quiet_until
-goes_two p good goes =
+-- where two instructions may run ahead, and the time before which no right ends is not reached, nothing comes up to the boundary after them
+pub goes_two : {L : Type 0} (p : Parts L) → IsGood p → p.monitor.time + 2 + 1 < p.monitor.ends → MayRunAhead 2 (held p) → p.monitor.time + 2 + 1 < p.monitor.quiet_until
+goes_two p good none goes =
     let early : p.monitor.time ≤ 1000000001 = good.orderly.early in
     let last = p.monitor.time + 2 + 1 in
     let q = goes.quiet.quiet last (omega arith) (omega arith) in
     let ordered = due_later has_time last p.monitor.due.commands (omega (arith, early)) q.commands in
     let first = due_later comes_at last p.monitor.due.characters (omega (arith, early)) q.characters in
-    let ends = passed_later p.monitor.rate p.monitor.ticked last (omega (arith, early)) q.period in
+    let passes = passed_later p.monitor.rate p.monitor.ticked last (omega (arith, early)) q.period in
     subst (λ (n : ℕ). last < n) (sym good.next)
+    (below_both (min (first_event p.monitor.due) (period_end p.monitor.rate p.monitor.ticked)) p.monitor.ends last
     (below_both (first_event p.monitor.due) (period_end p.monitor.rate p.monitor.ticked) last
-    (below_both (first_time has_time p.monitor.due.commands) (first_time comes_at p.monitor.due.characters) last ordered first) ends)
+    (below_both (first_time has_time p.monitor.due.commands) (first_time comes_at p.monitor.due.characters) last ordered first) passes) none)
 
 -- the time at which the last boundary of a block comes
 pub within_quiet : (time n q end : ℕ) → end ≡ min n (q - 2) → time + 1 < end → time + (end - time - 1) + 1 < q

@@ -301,6 +301,7 @@ module _ (h : Held) (p : ℕ) (rest : List ℕ) (asked : Call) (answer : ℕ) (q
           };
           ended = o.kept.ended;
           commands = o.kept.commands;
+          ends = o.kept.ends;
         };
       }
 
@@ -338,8 +339,8 @@ module _ {L : Type 0} (p answer : ℕ) (asked : Call) (queues consoles : List (L
 
   none : IsQuiet (owing_of h p answer queues consoles new.bus).kept
   none =
-      let n = nothing_due old.monitor (old.monitor.time + 1) (Some (record { began = old.monitor.time; runner = Some p })) commands order good.next waits.early good.orderly.kept.lawful in
-      record { commands = n.commands; characters = n.characters; asleep = by.asleep good.orderly.kept.lawful.asleep; period = n.period }
+      let n = nothing_due old.monitor (old.monitor.time + 1) (Some (record { began = old.monitor.time; runner = Some p })) commands order good.next waits.early good.orderly.kept in
+      record { commands = n.commands; characters = n.characters; asleep = by.asleep good.orderly.kept.lawful.asleep; period = n.period; ends = n.ends }
 
   ready : IsReady (whole (kept_of old.monitor) [] []) p
   ready = first_ready (kept_of old.monitor) p waits.busy.first good.orderly.kept.lawful

@@ -22,7 +22,7 @@ use Rattle.ds_refinement.specs.Units.{user_status, is_general, has_left_user}
 use Rattle.ds_refinement.specs.Stands.{IsSound, RunningBy, OnProcessor, AreResting}
 use Rattle.ds_refinement.specs.Services.{Serves, seated_process, with_first_seated}
 use Rattle.ds_refinement.proofs.Boundaries.{owed_is, kernel_owes}
-use Rattle.ds_monitor.specs.Commands.{commanded}
+use Rattle.ds_monitor.specs.Commands.{with_ends, commanded}
 use Rattle.ds_kernel.specs.Devices.{typed, emptied, interrupted}
 use Rattle.ds_kernel.specs.Attended.{to_come, bus_at, read_out, unowed, ruled}
 use Rattle.ds_kernel.proofs.Characters.{as_received, silo_of, emptied_all, typed_alike, first_typed}
@@ -96,7 +96,7 @@ unseen f a k x y v ticked s = record { lines = s.lines; state = s.state; bare = 
 -- what comes in counts by the queues that it leaves
 pub ruled_alike : (now : ℕ) (cs ds : List Character) (passed : Bool) (runner : Option ℕ) (m : State) → ((queues : List (List ℕ)) → all_queued queues cs ≡ all_queued queues ds) → ruled now cs passed runner m ≡ ruled now ds passed runner m
 ruled_alike now cs ds passed runner m same =
-    let done : State = commanded now m in
+    let done : State = commanded now (with_ends now m) in
     ap (λ (queues : List (List ℕ)). cond passed (rotated (woken (record done { queues = queues }) 1 (length done.processes)) runner) (woken (record done { queues = queues }) 1 (length done.processes))) (same done.queues)
 
 -- The devices.

@@ -1,15 +1,14 @@
 -- Boundaries with nothing to do and boundaries that are served, as steps of a station.
 use Rattle.std.proofs.Common.{◌≡◌, ◌≢◌, inl, inr, ℕ, zero, suc, ◌+◌, ◌<◌, ◌≤◌, true, false, [], length, Option, None, refl, sym, ap, subst, ◌∙◌, arith}
-use Rattle.std.specs.Prelude.{IsSome, ◌==◌}
+use Rattle.std.specs.Prelude.{IsSome, ◌==◌, min}
 use Rattle.std.specs.List.Sorted.{IsNonDecreasingBy}
 use Rattle.std.proofs.Math.Nat.{min-le_left, min-le_right}
 use Rattle.ds_word.specs.Word.{bits}
 use Rattle.ds_policy.specs.InputFacts.{has_time, comes_at}
 use Rattle.ds_pagemap.specs.declared.turn.Turn.{Turn}
 use Rattle.ds_pagemap.specs.Run.{is_over}
-use Rattle.ds_pagemap_laws.specs.Lawful.{IsLawful}
 use Rattle.ds_refinement.specs.declared.step.Step.TheVariants.{Boundary}
-use Rattle.ds_refinement.specs.Held.{Held, whole}
+use Rattle.ds_refinement.specs.Held.{Held}
 use Rattle.ds_refinement.specs.Stands.{IsSound}
 use Rattle.ds_refinement.specs.Services.{with_boundary, with_idle_turn}
 use Rattle.ds_refinement.specs.Steps.{Moves}
@@ -24,6 +23,7 @@ use Rattle.ds_refinement.proofs.Counting.{boundary_moves, idle_moves}
 use Rattle.ds_refinement.proofs.Attended.{boundary_served, idle_served, served_moves, idle_served_moves}
 use Rattle.ds_monitor.specs.Coming.{first_time, first_event, period_end, next_due}
 use Rattle.ds_monitor.specs.Kept.{kept_of}
+use Rattle.ds_monitor.specs.Orderly as monitor
 use Rattle.ds_monitor.specs.Room.{HasBoundaryRoom, HasTurnRoom}
 use Rattle.ds_monitor.specs.declared.monitor.Monitor.{Monitor}
 use Rattle.ds_kernel.specs.declared.parts.Parts.{Parts}
@@ -39,19 +39,23 @@ use Rattle.ds_kernel.proofs.Rooms.{turn_room_still, boundary_room}
 use Rattle.ds_kernel.proofs.Stepping.{none_is_not_some, sound_behind}
 
 -- before the time at which something next comes, a boundary has nothing to do
-pub nothing_due : (m : Monitor) (time : ℕ) (owed : Option Turn) → IsNonDecreasingBy has_time m.due.commands → IsNonDecreasingBy comes_at m.due.characters → m.quiet_until ≡ next_due (kept_of m) → time < m.quiet_until → IsLawful (whole (kept_of m) [] [])
+pub nothing_due : (m : Monitor) (time : ℕ) (owed : Option Turn) → IsNonDecreasingBy has_time m.due.commands → IsNonDecreasingBy comes_at m.due.characters → m.quiet_until ≡ next_due (kept_of m) → time < m.quiet_until → monitor.IsOrderly (kept_of m)
     → IsQuiet (record (kept_of m) { state = record (kept_of m).state { time = time; owed = owed } })
-nothing_due m time owed commands order next early lawful =
+nothing_due m time owed commands order next early kept =
     let before : time < next_due (kept_of m) = subst (λ (n : ℕ). time < n) next early in
-    let first : next_due (kept_of m) ≤ first_event m.due = min-le_left (first_event m.due) (period_end m.rate m.ticked) in
-    let last : next_due (kept_of m) ≤ period_end m.rate m.ticked = min-le_right (first_event m.due) (period_end m.rate m.ticked) in
+    let comes : ℕ = min (first_event m.due) (period_end m.rate m.ticked) in
+    let soonest : next_due (kept_of m) ≤ comes = min-le_left comes m.ends in
+    let ends : next_due (kept_of m) ≤ m.ends = min-le_right comes m.ends in
+    let first : comes ≤ first_event m.due = min-le_left (first_event m.due) (period_end m.rate m.ticked) in
+    let last : comes ≤ period_end m.rate m.ticked = min-le_right (first_event m.due) (period_end m.rate m.ticked) in
     let command : first_event m.due ≤ first_time has_time m.due.commands = min-le_left (first_time has_time m.due.commands) (first_time comes_at m.due.characters) in
     let character : first_event m.due ≤ first_time comes_at m.due.characters = min-le_right (first_time has_time m.due.commands) (first_time comes_at m.due.characters) in
     record {
-      commands = none_due has_time time m.due.commands commands (omega (arith, before, first, command));
-      characters = none_due comes_at time m.due.characters order (omega (arith, before, first, character));
-      asleep = lawful.asleep;
-      period = none_passed m.rate m.ticked time (omega (arith, before, last));
+      commands = none_due has_time time m.due.commands commands (omega (arith, before, soonest, first, command));
+      characters = none_due comes_at time m.due.characters order (omega (arith, before, soonest, first, character));
+      asleep = kept.lawful.asleep;
+      period = none_passed m.rate m.ticked time (omega (arith, before, soonest, last));
+      ends = kept.ends time (omega (arith, before, ends));
     }
 
 -- A boundary that is owed.

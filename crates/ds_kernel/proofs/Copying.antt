@@ -5,6 +5,7 @@ use Rattle.ds_tlb.specs.declared.entry.Entry.{Entry}
 use Rattle.ds_mem.specs.Memory.{frame_of}
 use Rattle.ds_dev.specs.Bus.{BusState}
 use Rattle.ds_core.specs.Core.{CoreState}
+use Rattle.ds_policy.specs.Grants.{PageState}
 use Rattle.ds_policy.specs.Pages.{entry_at, page_address}
 use Rattle.ds_grants.specs.Counts.{page_of}
 use Rattle.ds_grants.specs.State.{GrantsState, IsAsLarge, page_state}
@@ -75,10 +76,11 @@ module _ {L : Type 0} (p : ℕ) (old lies counted new : Parts L)
       ∙ ap (λ (m : Monitor). record (with_counts_of new old) { core = new.core; bus = new.bus; monitor = m }) lying)))))
 
   -- what is kept is orderly
-  pub copy_orderly : IsAsLarge old.monitor.grants lies.monitor.grants → lies.monitor.grants.ended ≡ old.monitor.grants.ended → monitor.IsOrderly (kept_of old.monitor)
+  pub copy_orderly : IsAsLarge old.monitor.grants lies.monitor.grants → lies.monitor.grants.ended ≡ old.monitor.grants.ended
+      → page_state lies.monitor.grants lies.bus.memory ≡ page_state old.monitor.grants old.bus.memory → monitor.IsOrderly (kept_of old.monitor)
       → monitor.IsOrderly (record (kept_of old.monitor) { grants = new.monitor.grants })
-  copy_orderly same ended it =
-      lying_orderly (kept_of old.monitor) new.monitor.grants (ap (λ (g : GrantsState). length g.table) grants ∙ same.processes)
+  copy_orderly same ended pages it =
+      lying_orderly (kept_of old.monitor) new.monitor.grants (ap (λ (g : GrantsState). g.table) grants ∙ ap (λ (s : PageState). s.table) pages)
       (ap (λ (g : GrantsState). g.named) grants ∙ same.named) (ap (λ (g : GrantsState). g.ended) grants ∙ ended) it
 
   -- and the copy is made

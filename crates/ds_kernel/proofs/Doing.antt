@@ -20,7 +20,7 @@ use Rattle.ds_policy.specs.Pages.{Table, decide, entry_at, page_address, address
 use Rattle.ds_policy.specs.Grants.{PageState}
 use Rattle.ds_grants.specs.State.{page_state}
 use Rattle.ds_core.specs.Core.{CoreState}
-use Rattle.ds_pagemap.specs.Machine.{State}
+use Rattle.ds_pagemap.specs.Machine.{State, first}
 use Rattle.ds_pagemap.specs.Unit.{Stop, denied_as, fault}
 use Rattle.ds_refinement.specs.declared.cause.Cause.{Cause}
 use Rattle.ds_refinement.specs.declared.cause.Cause.TheVariants as cause
@@ -58,6 +58,13 @@ use Rattle.ds_kernel.proofs.Keeping.{first_rest}
 -- where the monitor is to serve, the processor is in kernel mode
 pub kernel_of : (c : CoreState) → is_served c ≡ true → is_user c.system ≡ false
 kernel_of c served = (served_parts (is_user c.system) (is_general c) served).0
+
+-- where it is to serve whoever is first, in a unit that was begun before the end of a run, that process's unit goes on
+pub busy_served : {L : Type 0} (p n : ℕ) (x : Parts L) → IsGood x → x.failed ≡ false → n ≤ 1000000000 → (0 < x.spent → x.monitor.time < n) → first x.monitor.ready ≡ Some p → is_served x.core ≡ true → IsBusy p x
+busy_served p n x good working few before first served =
+    let begun : 0 < x.spent = good.orderly.raised (kernel_of x.core served) in
+    let soon : x.monitor.time < n = before begun in
+    record { good = good; first = first; begun = begun; working = working; early = omega (arith, soon, few) }
 
 -- who is ready is somebody
 pub some_ready : (queue : List ℕ) (p : ℕ) (rest : List ℕ) → queue ≡ p ∷ rest → queue ≢ []

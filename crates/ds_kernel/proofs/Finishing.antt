@@ -46,7 +46,7 @@ spaces_unseen f a k x y v s = record { lines = s.lines; state = s.state; bare = 
 
 -- and what is kept is orderly
 pub spaces_orderly : (k : Kept) (v : Spaces) → monitor.IsOrderly k → monitor.IsOrderly (record k { spaces = v })
-spaces_orderly k v it = record { lawful = lawful_elsewhere k [] [] [] [] it.lawful; ended = it.ended; commands = it.commands }
+spaces_orderly k v it = record { lawful = lawful_elsewhere k [] [] [] [] it.lawful; ended = it.ended; commands = it.commands; ends = it.ends }
 
 -- the turn of a process that began at a time
 abbrev turn_of : ℕ → ℕ → Option Turn

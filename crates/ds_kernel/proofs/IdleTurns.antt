@@ -7,6 +7,8 @@ use Rattle.std.specs.Prelude.{is_some, min, ◌||◌, ◌&&◌, nat_lt}
 use Rattle.ds_word.specs.Word.{truth}
 use Rattle.ds_policy.specs.declared.command.TimedCommand.{TimedCommand}
 use Rattle.ds_policy.specs.declared.command.Character.{Character}
+use Rattle.ds_policy.specs.Ends.{has_some_expired, expired}
+use Rattle.ds_policy.specs.Grants.{PageState}
 use Rattle.ds_policy.specs.InputFacts.{has_time, comes_at}
 use Rattle.ds_dev.specs.Clock.{ClockState}
 use Rattle.ds_core.specs.Core.{CoreState}
@@ -27,6 +29,7 @@ use Rattle.ds_refinement.specs.Runs.{held_goes_on}
 use Rattle.ds_refinement.proofs.Ending.{half_unit}
 use Rattle.ds_refinement.proofs.Boundaries.{beside, kept_later, half_boundary, owed_is, unit_rests, over_too, waited, resting_tallied}
 use Rattle.ds_refinement.proofs.NoNewPairs.{same_pairs}
+use Rattle.ds_refinement.proofs.Quieter.{expired_earlier}
 use Rattle.ds_monitor.specs.Coming.{first_time, first_event, next_due}
 use Rattle.ds_monitor.specs.Kept.{kept_of}
 use Rattle.ds_monitor.specs.Orderly as monitor
@@ -57,6 +60,7 @@ awake turn m =
     let commands = filter (λ (c : TimedCommand). nat_le c.time m.time) m.commands in
     let characters = filter (λ (c : Character). nat_le c.time m.time) m.characters in
     let later = record m {
+      memory = expired m.memory m.time;
       commands = filter (λ (c : TimedCommand). not (nat_le c.time m.time)) m.commands;
       characters = filter (λ (c : Character). not (nat_le c.time m.time)) m.characters;
       owed = None;
@@ -128,6 +132,9 @@ module _ (h : Held) (may : MayIdle (h.kept.state.time + 1) h) where
       characters = ap (λ (s : State). come (record s { time = s.time + 1 })) beside_is ∙ none_characters;
       asleep = asleep_there m h.kept.state bare_is may.asleep;
       period = none_since m.rate (m.time + 1);
+      ends =
+          ap (λ (s : State). has_some_expired (s.time + 1) m.memory.table) beside_is
+          ∙ (ap (λ (s : PageState). has_some_expired later s.table) k.kept.pages ∙ may.ends);
     }
 
     turn_is : half_turn false (half_turn false m) ≡ there
@@ -199,6 +206,9 @@ idle_goes_on : (n : ℕ) (h : Held) → h.kept.state.owed ≡ None → h.kept.st
 idle_goes_on n h owed soon going =
     ap (λ (o : Option Turn). is_some o || (nat_lt h.kept.state.time n && not (is_over h.kept.state))) owed ∙ before_end h.kept.state.time n (is_over h.kept.state) soon going
 
+one_more : (t k : ℕ) → t + 1 + k ≡ t + suc k
+one_more t k = omega arith
+
 -- the first of some more turns may be done
 first_of : (k : ℕ) (h : Held) → MayIdle (h.kept.state.time + suc k) h → MayIdle (h.kept.state.time + 1) h
 first_of k h may = let early = may.early in record {
@@ -209,6 +219,7 @@ first_of k h may = let early = may.early in record {
   commands = may.commands;
   characters = may.characters;
   early = omega (arith, early);
+  ends = expired_earlier (h.kept.state.time + 1) (h.kept.state.time + suc k) h.kept.grants.table (omega arith) may.ends;
 }
 
 -- and after it the others
@@ -221,10 +232,8 @@ others_of k h may = let early = may.early in record {
   commands = may.commands;
   characters = may.characters;
   early = omega (arith, early);
+  ends = subst (λ (t : ℕ). has_some_expired t h.kept.grants.table ≡ false) (sym (one_more h.kept.state.time k)) may.ends;
 }
-
-one_more : (t k : ℕ) → t + 1 + k ≡ t + suc k
-one_more t k = omega arith
 
 -- what is reached, and that the station stands for some state there
 record Reached (n time : ℕ) (h : Held) : Type 0 where
@@ -276,17 +285,20 @@ still_going true false e = refl
 still_going false over e = absurd (cc)
 
 pub may_idle : {L : Type 0} (n end : ℕ) (p : Parts L) → IsGood p → held_goes_on n (held p) ≡ true → p.monitor.owed ≡ None → p.monitor.ready ≡ []
-    → IsNonDecreasingBy has_time p.monitor.due.commands → IsNonDecreasingBy comes_at p.monitor.due.characters → end ≡ min n (first_event p.monitor.due - 1) → p.monitor.time < end → MayIdle end (held p)
-may_idle n end p good going owed ready commands characters is soon = record {
-  owed = owed;
-  ready = ready;
-  going = still_going (nat_lt p.monitor.time n) (is_over (held p).kept.state)
-      (sym (ap (λ (o : Option Turn). is_some o || (nat_lt p.monitor.time n && not (is_over (held p).kept.state))) owed) ∙ going);
-  asleep = good.orderly.kept.lawful.asleep;
-  commands = commands;
-  characters = characters;
-  early = before_event n (first_event p.monitor.due) end is (omega (arith, soon));
-}
+    → IsNonDecreasingBy has_time p.monitor.due.commands → IsNonDecreasingBy comes_at p.monitor.due.characters → end ≡ min n (min (first_event p.monitor.due) p.monitor.ends - 1) → p.monitor.time < end → MayIdle end (held p)
+may_idle n end p good going owed ready commands characters is soon =
+    let first : ℕ = first_event p.monitor.due in
+    let before : end < min first p.monitor.ends = before_event n (min first p.monitor.ends) end is (omega (arith, soon)) in record {
+      owed = owed;
+      ready = ready;
+      going = still_going (nat_lt p.monitor.time n) (is_over (held p).kept.state)
+          (sym (ap (λ (o : Option Turn). is_some o || (nat_lt p.monitor.time n && not (is_over (held p).kept.state))) owed) ∙ going);
+      asleep = good.orderly.kept.lawful.asleep;
+      commands = commands;
+      characters = characters;
+      early = least_left end (min first p.monitor.ends) first before (min-le_left first p.monitor.ends);
+      ends = good.orderly.kept.ends end (least_left end (min first p.monitor.ends) p.monitor.ends before (min-le_right first p.monitor.ends));
+    }
 
 -- Parts that went so far.
 
@@ -314,7 +326,7 @@ module _ {L : Type 0} (n end : ℕ) (old new : Parts L) (good : IsGood old) (may
   kept_orderly : monitor.IsOrderly (idled end (held old)).kept
   kept_orderly =
       let o = turn_orderly (held old).kept end (held old).kept.state.owed good.orderly.kept in
-      record { lawful = o.lawful; ended = o.ended; commands = o.commands }
+      record { lawful = o.lawful; ended = o.ended; commands = o.commands; ends = o.ends }
 
   marks : IsOrderly (idled end (held old))
   marks =

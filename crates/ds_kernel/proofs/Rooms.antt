@@ -1,5 +1,6 @@
 -- Room for what a unit and the commands after it may write.
 use Rattle.std.proofs.Common.{◌≡◌, ℕ, ◌+◌, ◌<◌, ◌≤◌, Option, sym, ap, subst, arith}
+use Rattle.std.specs.Prelude.{min}
 use Rattle.std.proofs.Math.Nat.{min-le_left}
 use Rattle.ds_policy.specs.Value.{InputValue}
 use Rattle.ds_policy.specs.InputFacts.{has_time, comes_at}
@@ -22,9 +23,11 @@ unit_room m r = record { consoles = r.consoles; log = fewer_lines 1 (1 + command
 -- before anything is due it is the same
 pub turn_room : (m : Monitor) → HasRoom 1 m → m.quiet_until ≡ next_due (kept_of m) → m.time + 2 < m.quiet_until → HasTurnRoom m
 turn_room m r next early =
-    let first : next_due (kept_of m) ≤ first_event m.due = min-le_left (first_event m.due) (period_end m.rate m.ticked) in
+    let comes : ℕ = min (first_event m.due) (period_end m.rate m.ticked) in
+    let soonest : next_due (kept_of m) ≤ comes = min-le_left comes m.ends in
+    let first : comes ≤ first_event m.due = min-le_left (first_event m.due) (period_end m.rate m.ticked) in
     let command : first_event m.due ≤ first_time has_time m.due.commands = min-le_left (first_time has_time m.due.commands) (first_time comes_at m.due.characters) in
-    let none : commands_by (m.time + 2) m.due.commands ≡ 0 = by_none (m.time + 2) m.due.commands (omega (arith, early, next, first, command)) in
+    let none : commands_by (m.time + 2) m.due.commands ≡ 0 = by_none (m.time + 2) m.due.commands (omega (arith, early, next, soonest, first, command)) in
     let one : 1 + commands_by (m.time + 2) m.due.commands ≡ 1 = omega (arith, none) in
     subst (λ (n : ℕ). HasRoom n m) (sym one) r
 

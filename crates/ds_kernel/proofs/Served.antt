@@ -60,6 +60,7 @@ arrived_orderly k n is it = subst monitor.IsOrderly (sym is) (record {
   };
   ended = it.ended;
   commands = it.commands;
+  ends = it.ends;
 })
 
 module _ {L : Type 0} (old came served new : Parts L) (ahead : Monitor) (turn : Turn) (sound : IsSound (held old)) (owed : old.monitor.owed ≡ Some turn) (before : old.monitor.ticked ≤ old.monitor.time)
@@ -86,6 +87,7 @@ module _ {L : Type 0} (old came served new : Parts L) (ahead : Monitor) (turn : 
         log = served.monitor.log;
         lines = served.monitor.lines;
         owed = served.monitor.owed;
+        ends = served.monitor.ends;
         due = record came.monitor.due { commands = served.monitor.due.commands };
       };
     })
@@ -200,6 +202,7 @@ module _ {L : Type 0} (old came served new : Parts L) (ahead : Monitor) (turn : 
     log = served.monitor.log;
     lines = served.monitor.lines;
     owed = served.monitor.owed;
+    ends = served.monitor.ends;
     due = record { commands = served.monitor.due.commands; characters = to_come k.state };
     quiet_until = until;
   }
@@ -217,6 +220,7 @@ module _ {L : Type 0} (old came served new : Parts L) (ahead : Monitor) (turn : 
         log = served.monitor.log;
         lines = served.monitor.lines;
         owed = served.monitor.owed;
+        ends = served.monitor.ends;
         due = record p.monitor.due { commands = served.monitor.due.commands };
       }) comes
 

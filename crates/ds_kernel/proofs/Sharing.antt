@@ -7,6 +7,7 @@ use Rattle.std.specs.List.{All}
 use Rattle.std.proofs.lemmas.List.{get_or-map, length-map}
 use Rattle.std.proofs.lemmas.List.Elements.{All-head}
 use Rattle.ds_policy.specs.declared.command.Character.{Character}
+use Rattle.ds_policy.specs.Ends.{NoneEndsBefore}
 use Rattle.ds_policy.specs.Grants.{PageState}
 use Rattle.ds_log.specs.declared.line.Line.{Line}
 use Rattle.ds_pagemap.specs.declared.turn.Turn.{Turn}
@@ -18,7 +19,7 @@ use Rattle.ds_pagemap_laws.specs.Due.{come}
 use Rattle.ds_grants.specs.State.{page_state}
 use Rattle.ds_refinement.specs.Held.{Kept, whole}
 use Rattle.ds_refinement.specs.Services.{IsBare, Serves}
-use Rattle.ds_monitor.specs.Commands.{commanded}
+use Rattle.ds_monitor.specs.Commands.{with_ends, commanded}
 use Rattle.ds_monitor.proofs.Serving.{serves_then}
 use Rattle.ds_monitor.proofs.Called.{by_kept}
 use Rattle.ds_dev.specs.declared.serial.Character.{Character as Received}
@@ -63,16 +64,16 @@ pub boundary_ruled : (m : State) (turn : Turn) → m.owed ≡ Some turn
 unfolding boundary
 boundary_ruled m turn owed = ap (λ (o : Option Turn). owed_boundary o m) owed
 
--- commands that are done and then what is shared are the rest of a boundary
-pub rules : (now : ℕ) (silo read : List Received) (flag passed : Bool) (owed runner : Option ℕ) (a b n : Kept) (x y : List ℕ) → read ≡ silo → passed ≡ flag → runner ≡ owed
-    → Serves (commanded now) a x b y → IsBare b.state → n ≡ kept_after (shared (map typed read) passed runner) b → Serves (ruled now (map typed silo) flag owed) a x n y
-rules now silo read flag passed owed runner a b n x y same told ran s bare is =
+-- rights that end, commands that are done and then what is shared are the rest of a boundary
+pub rules : (now : ℕ) (silo read : List Received) (flag passed : Bool) (owed runner : Option ℕ) (a e b n : Kept) (x z y : List ℕ) → read ≡ silo → passed ≡ flag → runner ≡ owed
+    → Serves (with_ends now) a x e z → Serves (commanded now) e z b y → IsBare b.state → n ≡ kept_after (shared (map typed read) passed runner) b → Serves (ruled now (map typed silo) flag owed) a x n y
+rules now silo read flag passed owed runner a e b n x z y same told ran ends s bare is =
     let f : State → State = shared (map typed silo) flag owed in
     let by : n ≡ kept_after f b =
     is
     ∙ (ap (λ (cs : List Received). kept_after (shared (map typed cs) passed runner) b) same
     ∙ ap₂ (λ (p : Bool) (r : Option ℕ). kept_after (shared (map typed silo) p r) b) told ran) in
-    serves_then (commanded now) f a b n x y y s (by_kept f b n y (shared_blind (map typed silo) flag owed) bare by)
+    serves_then (λ (m : State). commanded now (with_ends now m)) f a b n x y y (serves_then (with_ends now) (commanded now) a e b x z y ends s) (by_kept f b n y (shared_blind (map typed silo) flag owed) bare by)
 
 -- What it leaves is lawful.
 
@@ -182,6 +183,7 @@ woken_orderly k between n cs drained woke it = record {
       ∙ (ap (λ (x : Kept). marks_of x.state) drained ∙ (it.ended ∙ sym (ap (λ (x : Kept). x.grants.ended) woke ∙ ap (λ (x : Kept). x.grants.ended) drained))));
   commands = good_as n.grants.named k.grants.named n.state.commands k.state.commands (ap (λ (x : Kept). x.grants.named) woke ∙ ap (λ (x : Kept). x.grants.named) drained)
       (ap (λ (x : Kept). x.state.commands) woke ∙ (commands_woken (length between.state.processes) 1 between.state ∙ ap (λ (x : Kept). x.state.commands) drained)) it.commands;
+  ends = subst (λ (x : Kept). NoneEndsBefore x.ends x.grants.table) (sym woke) (subst (λ (x : Kept). NoneEndsBefore x.ends x.grants.table) (sym drained) it.ends);
 }
 
 -- and after the rotation
@@ -190,4 +192,5 @@ rotated_orderly runner k n is it = record {
   lawful = rotated_kept runner k n is it.lawful;
   ended = ap (λ (x : Kept). marks_of x.state) is ∙ (marks_rotated runner k.state it.lawful.formed.ready ∙ (it.ended ∙ sym (ap (λ (x : Kept). x.grants.ended) is)));
   commands = good_as n.grants.named k.grants.named n.state.commands k.state.commands (ap (λ (x : Kept). x.grants.named) is) (ap (λ (x : Kept). x.state.commands) is ∙ commands_rotated runner k.state) it.commands;
+  ends = subst (λ (x : Kept). NoneEndsBefore x.ends x.grants.table) (sym is) it.ends;
 }

@@ -13,7 +13,7 @@ use Rattle.ds_refinement.specs.Quiet.{IsQuiet}
 use Rattle.ds_refinement.specs.Services.{EndsBy, with_boundary, with_none_spent}
 use Rattle.ds_monitor.specs.Coming.{next_due}
 use Rattle.ds_monitor.specs.Kept.{kept_of}
-use Rattle.ds_monitor.specs.Commands.{commanded}
+use Rattle.ds_monitor.specs.Commands.{with_ends, commanded}
 use Rattle.ds_monitor.specs.Orderly as monitor
 use Rattle.ds_kernel.specs.declared.parts.Parts.{Parts}
 use Rattle.ds_kernel.specs.Parts.{held}
@@ -51,9 +51,9 @@ shared cs passed runner m =
     let awake : State = woken typed 1 (length typed.processes) in
     if passed then rotated awake runner else awake
 
--- The commands that are due at a time are done, and then the rest of the boundary.
+-- The rights that have ended by a time end, the commands that are due are done, and then the rest of the boundary.
 abbrev pub ruled : ℕ → List Character → Bool → Option ℕ → State → State
-ruled now cs passed runner m = shared cs passed runner (commanded now m)
+ruled now cs passed runner m = shared cs passed runner (commanded now (with_ends now m))
 
 -- The boundary.
 

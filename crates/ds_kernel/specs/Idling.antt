@@ -1,6 +1,7 @@
 -- Turns in which no process runs, many at once.
 use Rattle.std.specs.Prelude.{◌≡◌, ℕ, ◌%◌, ◌<◌, ◌^◌, false, [], None}
 use Rattle.std.specs.List.Sorted.{IsNonDecreasingBy}
+use Rattle.ds_policy.specs.Ends.{has_some_expired}
 use Rattle.ds_policy.specs.InputFacts.{has_time, comes_at}
 use Rattle.ds_pagemap.specs.Run.{is_over}
 use Rattle.ds_pagemap_laws.specs.Due.{NobodyWakes}
@@ -14,7 +15,7 @@ idled time h = record h {
   kept = record h.kept { state = record h.kept.state { time = time }; ticked = time };
 }
 
--- Nobody is ready, somebody has not ended, nobody waits for a character that is there, and the first event comes after a time.
+-- Nobody is ready, somebody has not ended, nobody waits for a character that is there, and up to a time no event comes and no right ends.
 pub record MayIdle (time : ℕ) (h : Held) : Type 0 where
   pub owed : h.kept.state.owed ≡ None
   pub ready : h.kept.state.ready ≡ []
@@ -23,3 +24,4 @@ pub record MayIdle (time : ℕ) (h : Held) : Type 0 where
   pub commands : IsNonDecreasingBy has_time h.kept.state.commands
   pub characters : IsNonDecreasingBy comes_at h.kept.state.characters
   pub early : time < first_event (record { commands = h.kept.state.commands; characters = h.kept.state.characters })
+  pub ends : has_some_expired time h.kept.grants.table ≡ false

@@ -56,8 +56,9 @@ impl<L: Lookaside> Parts<L> {
         ensures some { IfSome result (λ limit. 1 ≤ limit) }
         ensures end { IfSome result (λ limit. self.now.monitor.time + limit + 1
             ≡ min n (self.now.monitor.quiet_until - 2)) }
-        ensures any { self.now.monitor.time + 1 < n → MayRunAhead 2 (held self.now)
-            → IsSome result }
+        ensures any { self.now.monitor.time + 1 < n
+            → self.now.monitor.time + 3 < self.now.monitor.ends
+            → MayRunAhead 2 (held self.now) → IsSome result }
     {
         if !self.is_user() {
             return None;

@@ -4,7 +4,7 @@ ghost use Rattle.ds_grants.specs.Represented.{IsLow, Keeps};
 ghost use Rattle.ds_refinement.specs.Pairs.{HasNoNewPairs};
 ghost use Rattle.ds_refinement.specs.Services.{Serves, seated};
 ghost use Rattle.ds_monitor.specs.Kept.{kept_of, kept_after};
-ghost use Rattle.ds_monitor.specs.Commands.{commanded};
+ghost use Rattle.ds_monitor.specs.Commands.{with_ends, commanded};
 ghost use Rattle.ds_monitor.specs.Orderly as monitor;
 ghost use Rattle.ds_monitor.specs.Room.{HasBoundaryRoom};
 ghost use Rattle.ds_kernel.specs.Parts.{held};
@@ -70,6 +70,34 @@ impl<L: Lookaside> Parts<L> {
         }
     }
 
+    /// The rights that have ended by now end.
+    fn expire(&mut self)
+        requires orderly { monitor.IsOrderly (kept_of self.old.monitor) }
+        ensures serves { Serves (with_ends self.old.monitor.time)
+            (kept_of self.old.monitor) self.old.bus.memory
+            (kept_of self.new.monitor) self.new.bus.memory }
+        ensures low { IsLow self.old.bus.memory self.new.bus.memory }
+        ensures orderly { monitor.IsOrderly (kept_of self.new.monitor) }
+        ensures keeps { Keeps
+            self.old.core.entries self.old.bus.memory self.old.monitor.tables
+            self.old.monitor.spaces self.old.monitor.grants
+            self.new.core.entries self.new.bus.memory self.new.monitor.tables
+            self.new.monitor.spaces self.new.monitor.grants }
+        ensures pairs { HasNoNewPairs self.old.core.entries self.new.core.entries }
+        ensures random { self.new.core.random ≡ self.old.core.random }
+        ensures rest { self.new ≡ record self.old {
+          core = record self.old.core { entries = self.new.core.entries };
+          bus = record self.old.bus { memory = self.new.bus.memory };
+          monitor = record self.old.monitor {
+            grants = self.new.monitor.grants;
+            tables = self.new.monitor.tables;
+            ends = self.new.monitor.ends;
+          };
+        } }
+    {
+        self.monitor.expire(self.bus.memory(), &mut self.core.tlb);
+    }
+
     /// The commands that are due are done.
     fn command(&mut self)
         requires orderly { monitor.IsOrderly (kept_of self.old.monitor) }
@@ -110,8 +138,9 @@ impl<L: Lookaside> Parts<L> {
         self.monitor.commands(self.bus.memory(), &mut self.core.tlb);
     }
 
-    /// The turn whose boundary is owed is over: who ran is in its seat, the commands that are due
-    /// are done, and what was received and the clock's flags are read and served.
+    /// The turn whose boundary is owed is over: who ran is in its seat, the rights that have ended by
+    /// now end, the commands that are due are done, and what was received and the clock's flags are
+    /// read and served.
     fn serve_turn(&mut self)
         requires lines { All IsOfLine self.old.bus.serial.silo }
         requires orderly { monitor.IsOrderly (kept_of self.old.monitor) }
@@ -149,6 +178,7 @@ impl<L: Lookaside> Parts<L> {
             log = self.new.monitor.log;
             lines = self.new.monitor.lines;
             owed = self.new.monitor.owed;
+            ends = self.new.monitor.ends;
             due = record self.old.monitor.due {
               commands = self.new.monitor.due.commands;
             };
@@ -157,6 +187,7 @@ impl<L: Lookaside> Parts<L> {
     {
         self.leave_first();
         let runner = runner_of(self.monitor.take_owed());
+        self.expire();
         self.command();
         let passed = read_clock(&mut self.bus);
         self.share(passed, runner);

@@ -24,7 +24,7 @@ pub fn turns_of_nobody_are_one_step()
 
 impl<L: Lookaside> Parts<L> {
     /// The time to which a run for n may go at once where nobody is ready: n, or before the next
-    /// command or character comes.
+    /// command or character comes or a right may end.
     fn idle_until(&self, n: u64) -> Option<u64>
         requires good { IsGood self.now }
         requires few { n ≤ 1000000000 }
@@ -37,7 +37,8 @@ impl<L: Lookaside> Parts<L> {
             return None;
         }
         self.monitor.due.look_at_order();
-        let end = n.min(self.monitor.due.next_time().saturating_sub(1));
+        let comes = self.monitor.due.next_time().min(self.monitor.ends);
+        let end = n.min(comes.saturating_sub(1));
         if self.monitor.time < end {
             Some(end)
         } else {

@@ -10,6 +10,7 @@ use Rattle.ds_policy.specs.PolicyFacts.{IsGoodProcess}
 use Rattle.ds_policy.specs.InputFacts.{AreGoodCommands}
 use Rattle.ds_policy.specs.declared.policy.PolicyProcess.{PolicyProcess}
 use Rattle.ds_policy.specs.Pages.{Pages}
+use Rattle.ds_policy.specs.Ends.{NoneEndsBefore}
 use Rattle.ds_procs.specs.Queue.{without}
 use Rattle.ds_grants.specs.State.{GrantsState, pages_in}
 use Rattle.ds_grants.specs.First.{first_grants}
@@ -57,8 +58,8 @@ none_has_ended [] = refl
 none_has_ended (p ∷ ps) = ap (λ (bs : List Bool). false ∷ bs) (none_has_ended ps)
 
 -- what a monitor keeps at time 0
-abbrev pub beginning : List Process → List ℕ → List (List ℕ) → List (List ℕ) → List ℕ → ℕ → List TimedCommand → List Character → GrantsState → Places → Spaces → Kept
-beginning processes ready queues consoles log rate commands characters grants tables spaces = record {
+abbrev pub beginning : List Process → List ℕ → List (List ℕ) → List (List ℕ) → List ℕ → ℕ → List TimedCommand → List Character → GrantsState → Places → Spaces → ℕ → Kept
+beginning processes ready queues consoles log rate commands characters grants tables spaces ends = record {
   state = record {
     memory = no_memory;
     rate = rate;
@@ -78,19 +79,20 @@ beginning processes ready queues consoles log rate commands characters grants ta
   lines = 0;
   spaces = spaces;
   ticked = 0;
+  ends = ends;
 }
 
-pub begins : (policy : PolicyValue) (images : List (List ℕ)) (input : InputValue) (processes : List Process) (ready : List ℕ) (queues consoles : List (List ℕ)) (log : List ℕ) (rate : ℕ) (commands : List TimedCommand) (characters : List Character) (grants : GrantsState) (tables : Places) (spaces : Spaces)
+pub begins : (policy : PolicyValue) (images : List (List ℕ)) (input : InputValue) (processes : List Process) (ready : List ℕ) (queues consoles : List (List ℕ)) (log : List ℕ) (rate : ℕ) (commands : List TimedCommand) (characters : List Character) (grants : GrantsState) (tables : Places) (spaces : Spaces) (ends : ℕ)
     → processes ≡ map first_process policy.processes → ready ≡ numbers (length policy.processes) 1 → queues ≡ replicate 4 [] → consoles ≡ [] ∷ [] ∷ [] ∷ [] ∷ []
-    → log ≡ [] → rate ≡ policy.rate → commands ≡ input.commands → characters ≡ input.characters → grants ≡ first_grants policy → spaces ≡ taken at_start 1 → beginning processes ready queues consoles log rate commands characters grants tables spaces ≡ first_kept policy images input tables
-begins policy images input processes ready queues consoles log rate commands characters grants tables spaces a b c d e f i h g j =
-    let seats : Kept = beginning (map first_process policy.processes) (numbers (length policy.processes) 1) (replicate 4 []) (replicate 4 []) [] policy.rate input.commands input.characters (first_grants policy) tables (taken at_start 1) in
-    let all : beginning processes ready queues consoles log rate commands characters grants tables spaces ≡ seats = rw (a, b, c, d, e, f, i, h, g, j) refl in
-    all ∙ ap (λ (ps : List Process). beginning ps (numbers (length policy.processes) 1) (replicate 4 []) (replicate 4 []) [] policy.rate input.commands input.characters (first_grants policy) tables (taken at_start 1)) (sym (settled_first policy.processes))
+    → log ≡ [] → rate ≡ policy.rate → commands ≡ input.commands → characters ≡ input.characters → grants ≡ first_grants policy → spaces ≡ taken at_start 1 → beginning processes ready queues consoles log rate commands characters grants tables spaces ends ≡ first_kept policy images input tables ends
+begins policy images input processes ready queues consoles log rate commands characters grants tables spaces ends a b c d e f i h g j =
+    let seats : Kept = beginning (map first_process policy.processes) (numbers (length policy.processes) 1) (replicate 4 []) (replicate 4 []) [] policy.rate input.commands input.characters (first_grants policy) tables (taken at_start 1) ends in
+    let all : beginning processes ready queues consoles log rate commands characters grants tables spaces ends ≡ seats = rw (a, b, c, d, e, f, i, h, g, j) refl in
+    all ∙ ap (λ (ps : List Process). beginning ps (numbers (length policy.processes) 1) (replicate 4 []) (replicate 4 []) [] policy.rate input.commands input.characters (first_grants policy) tables (taken at_start 1) ends) (sym (settled_first policy.processes))
 
 -- nobody is on the processor, and all is kept of the first state
-pub first_is_kept : (policy : PolicyValue) (images : List (List ℕ)) (input : InputValue) (tables : Places) (memory : List ℕ) → pages_in (first_grants policy) memory ≡ first_pages policy images → IsKept (first_kept policy images input tables) memory (first_state policy images input)
-first_is_kept policy images input tables memory pages = record {
+pub first_is_kept : (policy : PolicyValue) (images : List (List ℕ)) (input : InputValue) (tables : Places) (ends : ℕ) (memory : List ℕ) → pages_in (first_grants policy) memory ≡ first_pages policy images → IsKept (first_kept policy images input tables ends) memory (first_state policy images input)
+first_is_kept policy images input tables ends memory pages = record {
   state = refl;
   pages = ap (λ (ps : Pages). record { pages = ps; table = (first_grants policy).table; named = (first_grants policy).named }) (sym pages);
   log = refl;
@@ -98,10 +100,11 @@ first_is_kept policy images input tables memory pages = record {
 }
 
 -- the first state is one that runs have
-pub first_orderly : (policy : PolicyValue) (images : List (List ℕ)) (input : InputValue) (tables : Places) → length policy.processes ≤ 100 → All IsGoodProcess policy.processes → AreGoodCommands (length policy.pages) input.commands → IsOrderly (first_kept policy images input tables)
-first_orderly policy images input tables few good commands =
+pub first_orderly : (policy : PolicyValue) (images : List (List ℕ)) (input : InputValue) (tables : Places) (ends : ℕ) → length policy.processes ≤ 100 → All IsGoodProcess policy.processes → AreGoodCommands (length policy.pages) input.commands
+    → NoneEndsBefore ends (first_grants policy).table → IsOrderly (first_kept policy images input tables ends)
+first_orderly policy images input tables ends few good commands before =
     let l = first_lawful policy images input few good in
-    let k = first_kept policy images input tables in
+    let k = first_kept policy images input tables ends in
     let lawful : IsLawful (record (whole k [] []) { processes = map first_process policy.processes }) = record {
       formed = record { ready = l.formed.ready; processes = l.formed.processes; sizes = record { processes = l.formed.sizes.processes; queues = l.formed.sizes.queues; consoles = l.formed.sizes.consoles; table = l.formed.sizes.table } };
       asleep = l.asleep;
@@ -110,4 +113,5 @@ first_orderly policy images input tables few good commands =
       lawful = subst (λ (ps : List Process). IsLawful (record (whole k [] []) { processes = ps })) (sym (settled_first policy.processes)) lawful;
       ended = ap (map (λ (q : Process). has_ended q.standing)) (settled_first policy.processes) ∙ none_has_ended policy.processes;
       commands = commands;
+      ends = before;
     }

@@ -14,7 +14,10 @@ use Rattle.ds_policy.specs.declared.command.Command.{Command}
 use Rattle.ds_policy.specs.InputFacts.{IsGoodCommand, AreGoodCommands}
 use Rattle.std.proofs.lemmas.List.Elements.{All-tail}
 use Rattle.ds_grants.specs.State.{GrantsState, page_state}
+use Rattle.ds_tables.specs.Places.{Places}
+use Rattle.ds_policy.specs.Pages.{Table}
 use Rattle.ds_policy.specs.Grants.{PageState, give, take, drop_own}
+use Rattle.ds_policy.specs.Ends.{NoneEndsBefore}
 use Rattle.ds_log.specs.declared.line.Line.{Line}
 use Rattle.ds_pagemap.specs.declared.turn.Turn.{Turn}
 use Rattle.ds_pagemap.specs.Machine.{State, Process, no_process, process_of, with_process, lives, has_ended, made_unready}
@@ -26,6 +29,7 @@ use Rattle.ds_pagemap_laws.proofs.Formed.{put_formed, formed_with}
 use Rattle.ds_pagemap_laws.proofs.Asleep.{put_asleep}
 use Rattle.ds_pagemap_laws.proofs.LawfulUnits.{parked_lawful, after_call_lawful}
 use Rattle.ds_pagemap_laws.proofs.LawfulCalls.{command_lawful}
+use Rattle.ds_pagemap_laws.proofs.Ends.{no_call_makes_an_end, no_command_makes_an_end}
 use Rattle.ds_refinement.specs.Held.{Kept, whole}
 use Rattle.ds_refinement.specs.Units.{ends_in_stop, ends_in_call}
 use Rattle.ds_refinement.specs.Services.{Serves}
@@ -135,35 +139,44 @@ marks_stopped p unit pc stop m above within alive =
 pub good_as : (n k : ℕ) (cs ds : List TimedCommand) → n ≡ k → cs ≡ ds → AreGoodCommands k ds → AreGoodCommands n cs
 good_as n k cs ds named commands good = subst (λ (x : ℕ). AreGoodCommands x cs) (sym named) (subst (λ (xs : List TimedCommand). AreGoodCommands k xs) (sym commands) good)
 
+-- a service that makes no end leaves the time before which there is none
+ends_behind : (f : State → State) (a b : Kept) (x y : List ℕ) → Serves f a x b y → b.ends ≡ a.ends → (NoneEndsBefore a.ends a.grants.table → NoneEndsBefore a.ends (f (whole a x [])).memory.table)
+    → NoneEndsBefore a.ends a.grants.table → NoneEndsBefore b.ends b.grants.table
+ends_behind f a b x y s ends keeps it =
+    subst (λ (n : ℕ). NoneEndsBefore n b.grants.table) (sym ends) (subst (λ (m : State). NoneEndsBefore a.ends m.memory.table) (s.state []) (keeps it))
+
 -- a call leaves it orderly
 pub call_orderly : (p pc : ℕ) (a b : Kept) (x y : List ℕ) → 0 < p → p ≤ length a.state.processes → IsAlive a.state p → Serves (ends_in_call p pc) a x b y
-    → b.grants.ended ≡ ended_behind (asked_at p pc (whole a x [])) p a.grants.ended → b.grants.named ≡ a.grants.named → b.state.commands ≡ a.state.commands → IsOrderly a → IsOrderly b
-call_orderly p pc a b x y above within alive s ended named commands it =
+    → b.grants.ended ≡ ended_behind (asked_at p pc (whole a x [])) p a.grants.ended → b.grants.named ≡ a.grants.named → b.state.commands ≡ a.state.commands → b.ends ≡ a.ends → IsOrderly a → IsOrderly b
+call_orderly p pc a b x y above within alive s ended named commands ends it =
     let m = whole a x [] in
     record {
       lawful = lawful_behind (ends_in_call p pc) a b x y s (λ l. lawful_whenever (after_call m p pc) (after_call m p pc).time (Some (record { began = m.time; runner = Some p })) (after_call_lawful m p pc above within l)) it.lawful;
       ended = sym (ap (λ (n : State). marks_of n) (s.state [])) ∙ (marks_called p pc m above within alive ∙ (ap (ended_behind (asked_at p pc m) p) it.ended ∙ sym ended));
       commands = good_as b.grants.named a.grants.named b.state.commands a.state.commands named commands it.commands;
+      ends = ends_behind (ends_in_call p pc) a b x y s ends (no_call_makes_an_end a.ends (at_pc (settle m p) p (word (pc + 4))) p pc (asked_at p pc m)) it.ends;
     }
 
 -- a stop leaves it orderly
 pub stop_orderly : (p unit pc : ℕ) (stop : Stop) (a b : Kept) (x y : List ℕ) → 0 < p → p ≤ length a.state.processes → IsAlive a.state p → Serves (ends_in_stop p unit pc stop) a x b y
-    → b.grants.ended ≡ a.grants.ended → b.grants.named ≡ a.grants.named → b.state.commands ≡ a.state.commands → IsOrderly a → IsOrderly b
-stop_orderly p unit pc stop a b x y above within alive s ended named commands it =
+    → b.grants.ended ≡ a.grants.ended → b.grants.named ≡ a.grants.named → b.state.commands ≡ a.state.commands → b.ends ≡ a.ends → IsOrderly a → IsOrderly b
+stop_orderly p unit pc stop a b x y above within alive s ended named commands ends it =
     let m = whole a x [] in
     record {
       lawful = lawful_behind (ends_in_stop p unit pc stop) a b x y s (λ l. lawful_whenever (parked m p unit pc stop) (parked m p unit pc stop).time (Some (record { began = m.time; runner = Some p })) (parked_lawful m p unit pc stop above l)) it.lawful;
       ended = sym (ap (λ (n : State). marks_of n) (s.state [])) ∙ (marks_stopped p unit pc stop m above within alive ∙ (it.ended ∙ sym ended));
       commands = good_as b.grants.named a.grants.named b.state.commands a.state.commands named commands it.commands;
+      ends = ends_behind (ends_in_stop p unit pc stop) a b x y s ends (λ before. before) it.ends;
     }
 
 -- a command leaves it orderly
 pub command_orderly : (n : ℕ) (c : Command) (a b : Kept) (x y : List ℕ) → Serves (λ (m : State). after_command m n c) a x b y
-    → marks_of b.state ≡ b.grants.ended → b.grants.named ≡ a.grants.named → b.state.commands ≡ a.state.commands → IsOrderly a → IsOrderly b
-command_orderly n c a b x y s ended named commands it = record {
+    → marks_of b.state ≡ b.grants.ended → b.grants.named ≡ a.grants.named → b.state.commands ≡ a.state.commands → b.ends ≡ a.ends → IsOrderly a → IsOrderly b
+command_orderly n c a b x y s ended named commands ends it = record {
   lawful = lawful_behind (λ (m : State). after_command m n c) a b x y s (λ l. command_lawful (whole a x []) n c l) it.lawful;
   ended = ended;
   commands = good_as b.grants.named a.grants.named b.state.commands a.state.commands named commands it.commands;
+  ends = ends_behind (λ (m : State). after_command m n c) a b x y s ends (no_command_makes_an_end a.ends (whole a x []) n c) it.ends;
 }
 
 -- and so does one that is taken out of those to come
@@ -175,6 +188,7 @@ taken_orderly k c rest is it = record {
   };
   ended = it.ended;
   commands = All-tail (λ (x : TimedCommand). IsGoodCommand k.grants.named x.command) c rest (subst (λ (cs : List TimedCommand). AreGoodCommands k.grants.named cs) is it.commands);
+  ends = it.ends;
 }
 
 -- What is kept where the processor's registers go to a seat, or a turn ends.
@@ -192,19 +206,27 @@ seat_orderly k p pc r good it =
       };
       ended = marks_same k.state p q refl ∙ it.ended;
       commands = it.commands;
+      ends = it.ends;
     }
 
 -- a turn that is done
 pub turn_orderly : (k : Kept) (time : ℕ) (owed : Option Turn) → IsOrderly k → IsOrderly (record k { state = record k.state { time = time; owed = owed } })
-turn_orderly k time owed it = record { lawful = lawful_whenever (whole k [] []) time owed it.lawful; ended = it.ended; commands = it.commands }
+turn_orderly k time owed it = record { lawful = lawful_whenever (whole k [] []) time owed it.lawful; ended = it.ended; commands = it.commands; ends = it.ends }
 
--- Where pages lie otherwise.
-pub lying_orderly : (k : Kept) (g : GrantsState) → length g.table ≡ length k.grants.table → g.named ≡ k.grants.named → g.ended ≡ k.grants.ended → IsOrderly k → IsOrderly (record k { grants = g })
-lying_orderly k g table named ended it = record {
+-- Other grants of as many processes and pages, under which no right ends before a time.
+pub granted_orderly : (k : Kept) (g : GrantsState) (t : Places) (ends : ℕ) → length g.table ≡ length k.grants.table → g.named ≡ k.grants.named → g.ended ≡ k.grants.ended → NoneEndsBefore ends g.table
+    → IsOrderly k → IsOrderly (record k { grants = g; tables = t; ends = ends })
+granted_orderly k g t ends table named ended before it = record {
   lawful = record {
     formed = formed_with (whole k [] []) (page_state g []) k.state.queues k.state.consoles [] k.state.time k.state.commands k.state.characters k.state.owed table refl refl it.lawful.formed;
     asleep = it.lawful.asleep;
   };
   ended = it.ended ∙ sym ended;
   commands = subst (λ (n : ℕ). AreGoodCommands n k.state.commands) (sym named) it.commands;
+  ends = before;
 }
+
+-- Where pages lie otherwise, under the same table.
+pub lying_orderly : (k : Kept) (g : GrantsState) → g.table ≡ k.grants.table → g.named ≡ k.grants.named → g.ended ≡ k.grants.ended → IsOrderly k → IsOrderly (record k { grants = g })
+lying_orderly k g table named ended it =
+    granted_orderly k g k.tables k.ends (ap (λ (t : Table). length t) table) named ended (subst (NoneEndsBefore k.ends) (sym table) it.ends) it

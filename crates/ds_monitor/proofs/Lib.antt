@@ -5,6 +5,7 @@ pub mod Stops
 pub mod Called
 pub mod Beginning
 pub mod Lawful
+pub mod Expiring
 pub mod Forgetting
 pub mod Living
 pub mod Granting

@@ -21,6 +21,7 @@ first_event i = min (first_time has_time i.commands) (first_time comes_at i.char
 abbrev pub period_end : ℕ → ℕ → ℕ
 period_end rate time = if rate == 0 then never else (time / 2 ^ (rate + 2) + 1) * 2 ^ (rate + 2)
 
--- when an event comes, or a period ends since the clock was ticked
+-- when an event comes, a period ends since the clock was ticked, or a right may end
 abbrev pub next_due : Kept → ℕ
-next_due k = min (first_event (record { commands = k.state.commands; characters = k.state.characters })) (period_end k.state.rate k.ticked)
+next_due k =
+    min (min (first_event (record { commands = k.state.commands; characters = k.state.characters })) (period_end k.state.rate k.ticked)) k.ends

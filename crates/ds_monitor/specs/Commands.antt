@@ -2,6 +2,7 @@
 use Rattle.std.specs.Prelude.{◌≡◌, ℕ, ◌+◌, ◌++◌, not, nat_le, filter, List, Result, Ok, Err}
 use Rattle.ds_policy.specs.declared.command.Command.{Command}
 use Rattle.ds_policy.specs.declared.command.TimedCommand.{TimedCommand}
+use Rattle.ds_policy.specs.Ends.{expired}
 use Rattle.ds_policy.specs.InputFacts.{has_time}
 use Rattle.ds_log.specs.declared.line.Line.{Line}
 use Rattle.ds_log.specs.declared.line.Line.TheVariants.{Refused}
@@ -14,6 +15,10 @@ use Rattle.ds_pagemap.specs.Boundary.{after_commands}
 use Rattle.ds_pagemap_laws.specs.Due.{due_count}
 use Rattle.ds_refinement.specs.Held.{Kept, whole}
 use Rattle.ds_refinement.specs.Services.{Serves}
+
+-- the rights that have ended by a time end
+abbrev pub with_ends : ℕ → State → State
+with_ends now m = record m { memory = expired m.memory now }
 
 -- the commands that are due at a time are done, in their order, and the others are still to come
 abbrev pub commanded : ℕ → State → State

@@ -27,6 +27,7 @@ kept_of m = record {
   log = m.log.items;
   lines = m.lines;
   ticked = m.ticked;
+  ends = m.ends;
 }
 
 -- what is kept where this is done to its state

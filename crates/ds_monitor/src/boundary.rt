@@ -131,6 +131,6 @@ impl Monitor {
         ensures { self.new ≡ record self.old { quiet_until = next_due (kept_of self.old) } }
     {
         let comes = self.due.next_time();
-        self.quiet_until = comes.min(period_end(self.rate, self.ticked));
+        self.quiet_until = comes.min(period_end(self.rate, self.ticked)).min(self.ends);
     }
 }

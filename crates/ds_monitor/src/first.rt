@@ -15,6 +15,7 @@ ghost use Rattle.ds_monitor.specs.Orderly.{IsOrderly};
 
 use crate::consoles::Consoles;
 use crate::due::Due;
+use crate::ends::end_or_never;
 use crate::line_queue::LineQueue;
 use crate::monitor::Monitor;
 use crate::seat::Seat;
@@ -85,7 +86,7 @@ impl Monitor {
         requires commands { AreGoodCommands (length policy.now.pages) events.commands }
         requires images { length images.now ≡ length (sources_of policy.now.pages) }
         ensures first { IfOk result (λ m. kept_of m
-            ≡ first_kept policy.now images.now events m.tables) }
+            ≡ first_kept policy.now images.now events m.tables m.ends) }
         ensures kept { IfOk result (λ m. IsKept (kept_of m) memory.new
             (first_state policy.now images.now events)) }
         ensures orderly { IfOk result (λ m. IsOrderly (kept_of m)) }
@@ -107,6 +108,7 @@ impl Monitor {
         spaces.take(1, tlb);
         // The commands are of this policy.
         let _orders = events.commands();
+        let ends = end_or_never(grants.table().next_end());
         let mut monitor = Monitor {
             grants,
             tables,
@@ -121,6 +123,7 @@ impl Monitor {
             rate: policy.rate(),
             owed: None,
             ticked: 0,
+            ends,
             due: Due::new(events),
             quiet_until: 0,
         };

@@ -8,6 +8,7 @@ mod calls;
 mod commands;
 mod consoles;
 mod due;
+mod ends;
 mod first;
 mod gifts;
 mod laws;

@@ -39,6 +39,8 @@ pub struct Monitor {
     pub owed: Option<Turn>,
     /// The time to which the clock was brought.
     pub ticked: u64,
+    /// A time before which no right ends.
+    pub ends: u64,
     /// The characters that have not come in yet.
     pub due: Due,
     /// The time before which no boundary has anything to do.

@@ -13,6 +13,7 @@ use Rattle.ds_policy.specs.declared.grant.Right.TheVariants.{Read}
 use Rattle.ds_policy.specs.Pages.{Table, entries_of, entry_at, with_entry}
 use Rattle.ds_policy.specs.Families.{parent_of, is_place, comes_from, count_entries, forbid_entry}
 use Rattle.ds_policy.specs.Grants.{PageState, no_grant, refused, not_page, no_right, no_entry, has_right, table_full, fifth_region, removed, forbidden_by, forbidden, grant, narrow, revoke, drop_by_command}
+use Rattle.ds_policy.specs.Ends.{has_expired, has_some_expired, expired}
 use Rattle.ds_pagemap.specs.declared.turn.Turn.{Turn}
 use Rattle.ds_pagemap.specs.Machine.{State, first, process_of, is_parked, lives, made_ready}
 use Rattle.ds_pagemap.specs.Calls.{after_command, or_logged, refuse_command, ended}
@@ -21,7 +22,8 @@ use Rattle.ds_pagemap.specs.Laws.{but_parent, KeepsAllButParent, is_held_by, pro
 use Rattle.ds_pagemap.proofs.Lists.{extends_itself, extends_again}
 use Rattle.ds_pagemap.proofs.Refusals.{IfDone, if_or_else, if_unless, alive_above}
 use Rattle.ds_pagemap.proofs.Entries.{entry_at-set_other}
-use Rattle.ds_pagemap.proofs.Descent.{Above, within_itself, within_with_entry, within_forbid_entry}
+use Rattle.ds_pagemap.proofs.Ends.{expired_ends, expired_stays, expired_none, expired_same, table_of_expired}
+use Rattle.ds_pagemap.proofs.Descent.{Above, Within, within_itself, within_with_entry, within_forbid_entry, within_expired}
 use Rattle.ds_pagemap.proofs.Ancestors.{descends_from_above}
 use Rattle.ds_pagemap.proofs.Remaining.{Stays, Follows, stays_same, follows_same, follows_again, removed_follows, ended_follows, forbidden_same, removed_none, ended_none, forbidden_none}
 
@@ -300,12 +302,13 @@ after_commands-log m (c ∷ rest) =
 -- the state that a boundary's commands find
 abbrev found_by : State → State
 found_by m = record m {
+  memory = expired m.memory m.time;
   commands = filter (λ c. not (nat_le c.time m.time)) m.commands;
   characters = filter (λ c. not (nat_le c.time m.time)) m.characters;
   owed = None;
 }
 
--- but for its commands a boundary changes no memory, no time and no turn
+-- but for its commands, and for rights that end, a boundary changes no memory, no time and no turn
 boundary_after-same : (turn : Turn) (m : State) → SameState (after_commands (found_by m) (due m)) (boundary_after turn m)
 boundary_after-same turn m =
     let served = after_commands (found_by m) (due m) in
@@ -324,20 +327,36 @@ owed_boundary-owed : (owed : Option Turn) (m : State) → m.owed ≡ owed → (o
 owed_boundary-owed None m is = is
 owed_boundary-owed (Some turn) m is = (boundary_after-same turn m).owed ∙ (after_commands-time (found_by m) (due m)).owed
 
-owed_boundary-memory : (owed : Option Turn) (m : State) → due m ≡ [] → (owed_boundary owed m).memory ≡ m.memory
-owed_boundary-memory None m none = refl
-owed_boundary-memory (Some turn) m none = (boundary_after-same turn m).memory ∙ ap (λ cs. (after_commands (found_by m) cs).memory) none
+owed_boundary-ended : (turn : Turn) (m : State) → due m ≡ [] → (boundary_after turn m).memory ≡ expired m.memory m.time
+owed_boundary-ended turn m none = (boundary_after-same turn m).memory ∙ ap (λ cs. (after_commands (found_by m) cs).memory) none
 
-owed_boundary-left : (owed : Option Turn) (m : State) (q : ℕ) (e : Entry) → 0 < q → NoneNames q (due m) → NoneRevokesAbove m.memory.table e (due m) → entry_at m.memory.table q e.address ≡ Some e.grant
+owed_boundary-memory : (owed : Option Turn) (m : State) → due m ≡ [] → has_some_expired m.time m.memory.table ≡ false → (owed_boundary owed m).memory ≡ m.memory
+owed_boundary-memory None m none on = refl
+owed_boundary-memory (Some turn) m none on = owed_boundary-ended turn m none ∙ expired_same m.memory m.time on
+
+-- an entry whose right has not ended is left as it was, and all that is above it in what is left was above it
+found_by-leaves : (m : State) (q : ℕ) (e : Entry) → has_expired m.time e ≡ false → entry_at m.memory.table q e.address ≡ Some e.grant → entry_at (found_by m).memory.table q e.address ≡ Some e.grant
+found_by-leaves m q e on has = ap (λ t. entry_at t q e.address) (table_of_expired m.memory m.time) ∙ expired_stays m.time m.memory.table q e.address e.grant has on
+
+found_by-within : (m : State) → Within (found_by m).memory.table m.memory.table
+found_by-within m = subst (λ t. Within t m.memory.table) (sym (table_of_expired m.memory m.time)) (within_expired m.time m.memory.table)
+
+owed_boundary-left : (owed : Option Turn) (m : State) (q : ℕ) (e : Entry) → 0 < q → NoneNames q (due m) → NoneRevokesAbove m.memory.table e (due m) → has_expired m.time e ≡ false
+    → entry_at m.memory.table q e.address ≡ Some e.grant
     → Stays (list_any (λ c. removes_parent e.grant.parent c.command) (due m)) e.grant (entry_at (owed_boundary owed m).memory.table q e.address)
-owed_boundary-left None m q e q_above none leave has = stays_same (list_any (λ c. removes_parent e.grant.parent c.command) (due m)) e.grant (entry_at m.memory.table q e.address) has
-owed_boundary-left (Some turn) m q e q_above none leave has =
+owed_boundary-left None m q e q_above none leave on has = stays_same (list_any (λ c. removes_parent e.grant.parent c.command) (due m)) e.grant (entry_at m.memory.table q e.address) has
+owed_boundary-left (Some turn) m q e q_above none leave on has =
+    let parent = e.grant.parent in
+    let fewer : AllLeaveAbove (found_by m).memory.table parent (due m) =
+    all_leave_fewer m.memory.table (found_by m).memory.table parent parent (λ r c above. (found_by-within m).up r c parent above) (due m) (all_leave_told m.memory.table q e has (due m) leave) in
     subst (λ s. Stays (list_any (λ c. removes_parent e.grant.parent c.command) (due m)) e.grant (entry_at s.table q e.address)) (sym (boundary_after-same turn m).memory)
-    (after_commands-left q e.address q_above (due m) (found_by m) e.grant has none (all_leave_told m.memory.table q e has (due m) leave)).stays
+    (after_commands-left q e.address q_above (due m) (found_by m) e.grant (found_by-leaves m q e on has) none fewer).stays
 
 owed_boundary-none : (owed : Option Turn) (m : State) (q b : ℕ) → 0 < q → NoneNames q (due m) → entry_at m.memory.table q b ≡ None → entry_at (owed_boundary owed m).memory.table q b ≡ None
 owed_boundary-none None m q b q_above none bare = bare
-owed_boundary-none (Some turn) m q b q_above none bare = ap (λ s. entry_at s.table q b) (boundary_after-same turn m).memory ∙ after_commands-none q b q_above (due m) (found_by m) bare none
+owed_boundary-none (Some turn) m q b q_above none bare =
+    let found : entry_at (found_by m).memory.table q b ≡ None = ap (λ t. entry_at t q b) (table_of_expired m.memory m.time) ∙ expired_none m.time m.memory.table q b bare in
+    ap (λ s. entry_at s.table q b) (boundary_after-same turn m).memory ∙ after_commands-none q b q_above (due m) (found_by m) found none
 
 -- a boundary takes no time
 pub boundary_time : (m : State) → (boundary m).time ≡ m.time
@@ -354,22 +373,31 @@ pub boundary_owed : (m : State) → (boundary m).owed ≡ None
 unfolding boundary
 boundary_owed m = owed_boundary-owed m.owed m refl
 
--- where no command is due, it changes no page and no entry
-pub boundary_memory : (m : State) → due m ≡ [] → (boundary m).memory ≡ m.memory
+-- where no command is due and no right has ended, it changes no page and no entry
+pub boundary_memory : (m : State) → due m ≡ [] → has_some_expired m.time m.memory.table ≡ false → (boundary m).memory ≡ m.memory
 unfolding boundary
-boundary_memory m none = owed_boundary-memory m.owed m none
+boundary_memory m none on = owed_boundary-memory m.owed m none on
 
--- a process that no due command names keeps an entry but for its parent, where none revokes one above it
-pub boundary_entry : (m : State) (q : ℕ) (e : Entry) → 0 < q → NoneNames q (due m) → NoneRevokesAbove m.memory.table e (due m) → entry_at m.memory.table q e.address ≡ Some e.grant
+-- where no command is due, a right that has ended leaves its rule
+pub boundary_ends : (m : State) (turn : Turn) (q address : ℕ) (g : Grant) → m.owed ≡ Some turn → due m ≡ [] → entry_at m.memory.table q address ≡ Some g → has_expired m.time (record { address = address; grant = g }) ≡ true
+    → entry_at (boundary m).memory.table q address ≡ Some (forbidden_by g.rule)
+unfolding boundary
+boundary_ends m turn q address g owed none has over =
+    ap (λ o. entry_at (owed_boundary o m).memory.table q address) owed
+    ∙ (ap (λ s. entry_at s.table q address) (owed_boundary-ended turn m none)
+    ∙ (ap (λ t. entry_at t q address) (table_of_expired m.memory m.time) ∙ expired_ends m.time m.memory.table q address g has over))
+
+-- a process that no due command names keeps an entry whose right has not ended but for its parent, where none revokes one above it
+pub boundary_entry : (m : State) (q : ℕ) (e : Entry) → 0 < q → NoneNames q (due m) → NoneRevokesAbove m.memory.table e (due m) → has_expired m.time e ≡ false → entry_at m.memory.table q e.address ≡ Some e.grant
     → KeepsAllButParent (Some e.grant) (entry_at (boundary m).memory.table q e.address)
 unfolding boundary
-boundary_entry m q e q_above none leave has = let left = owed_boundary-left m.owed m q e q_above none leave has in ap but_parent left.is ∙ left.but_parent
+boundary_entry m q e q_above none leave on has = let left = owed_boundary-left m.owed m q e q_above none leave on has in ap but_parent left.is ∙ left.but_parent
 
 -- and with its parent, where none removes that
-pub boundary_parent : (m : State) (q : ℕ) (e : Entry) → 0 < q → NoneNames q (due m) → NoneRevokesAbove m.memory.table e (due m) → NoneRemovesParent e.grant.parent (due m)
+pub boundary_parent : (m : State) (q : ℕ) (e : Entry) → 0 < q → NoneNames q (due m) → NoneRevokesAbove m.memory.table e (due m) → NoneRemovesParent e.grant.parent (due m) → has_expired m.time e ≡ false
     → entry_at m.memory.table q e.address ≡ Some e.grant → entry_at (boundary m).memory.table q e.address ≡ Some e.grant
 unfolding boundary
-boundary_parent m q e q_above none leave kept has = let left = owed_boundary-left m.owed m q e q_above none leave has in left.is ∙ ap Some (left.same kept)
+boundary_parent m q e q_above none leave kept on has = let left = owed_boundary-left m.owed m q e q_above none leave on has in left.is ∙ ap Some (left.same kept)
 
 -- and gets none
 pub boundary_none : (m : State) (q address : ℕ) → 0 < q → NoneNames q (due m) → entry_at m.memory.table q address ≡ None → entry_at (boundary m).memory.table q address ≡ None

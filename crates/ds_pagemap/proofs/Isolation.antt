@@ -56,7 +56,7 @@ module _ (m : State) (p q b : ℕ) (g : Grant) (p_above : 0 < p) (q_above : 0 < 
       let giver = unwrap_or (entry_at s.table p address) no_grant in
       let put : (x : Grant) → Keeps (with_entry s.table receiver to x) = λ x.
       whole (with_entry s.table receiver to x) (entry_at-with_entry s.table receiver to x q b (alive_above m receiver alive) q_above (apart_from_free s.table q b receiver to g has free) ∙ has) in
-      let copy : Grant = record giver { right = Write; page = Some (fresh s.pages); giver = p; parent = None } in
+      let copy : Grant = record giver { right = Write; page = Some (fresh s.pages); giver = p; parent = None; until = None } in
       if_either Keeps (mode == 1) (granted s receiver to (shared_from p address giver Read))
       (if mode == 2 then granted s receiver to (shared_from p address giver Write) else granted (copied s giver.page) receiver to copy)
       (put (shared_from p address giver Read))

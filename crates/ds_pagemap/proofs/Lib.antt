@@ -4,6 +4,7 @@ pub mod Runs
 pub mod Units
 pub mod Processes
 pub mod Entries
+pub mod Ends
 pub mod Descent
 pub mod Ancestors
 pub mod Remaining

@@ -2,6 +2,7 @@
 use Rattle.std.specs.Prelude.{ℕ, zero, suc, ◌+◌, ◌/◌, ◌^◌, Bool, false, not, ◌&&◌, nat_lt, nat_le, ◌==◌, if◌then◌else◌, List, [], ◌∷◌, ◌++◌, length, take, filter, slice_set, slice_index_or, Option, Some, None}
 use Rattle.ds_pagemap.specs.declared.turn.Turn.{Turn}
 use Rattle.ds_pagemap.specs.Machine.{State, first, process_of, is_waiting, made_ready}
+use Rattle.ds_policy.specs.Ends.{expired}
 use Rattle.ds_policy.specs.declared.command.TimedCommand.{TimedCommand}
 use Rattle.ds_policy.specs.declared.command.Character.{Character}
 use Rattle.ds_pagemap.specs.Calls.{after_command, queue_of}
@@ -51,6 +52,7 @@ boundary_after turn m =
     let commands = filter (λ c. nat_le c.time m.time) m.commands in
     let characters = filter (λ c. nat_le c.time m.time) m.characters in
     let later = record m {
+      memory = expired m.memory m.time;
       commands = filter (λ c. not (nat_le c.time m.time)) m.commands;
       characters = filter (λ c. not (nat_le c.time m.time)) m.characters;
       owed = None;

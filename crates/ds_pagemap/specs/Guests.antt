@@ -190,7 +190,7 @@ over_two_pages = record {
   rate = 0;
   processes = record { start = 0x00400FF8; line = 0 } ∷ [];
   pages = record { name = codes "code"; source = Some (record { name = codes "one.s"; part = 0 }) } ∷ record { name = codes "more"; source = Some (record { name = codes "one.s"; part = 1 }) } ∷ record { name = codes "data"; source = None } ∷ [];
-  rules = record { process = 1; address = 0x00400000; right = Read; page = Some 0; give = false } ∷ record { process = 1; address = 0x00401000; right = Read; page = Some 1; give = false } ∷ record { process = 1; address = 0x00410000; right = Read; page = Some 2; give = false } ∷ [];
+  rules = record { process = 1; address = 0x00400000; right = Read; page = Some 0; give = false; until = None } ∷ record { process = 1; address = 0x00401000; right = Read; page = Some 1; give = false; until = None } ∷ record { process = 1; address = 0x00410000; right = Read; page = Some 2; give = false; until = None } ∷ [];
 }
 
 pub a_slot_may_stand_on_the_next_page : (touch : Bool) → shown 10 8 touch (first over_two_pages (".space 4088" ∷ "lui $8,0x41" ∷ "beq $0,$0,on" ∷ "lw $9,0($8)" ∷ "on: addiu $2,$0,0" ∷ "syscall" ∷ []) []) ≡ (false, on_line_0 [], [], 5)

@@ -15,7 +15,7 @@ entry_of process = record { process = process; address = 0x00410000 }
 
 -- what this process gave, shared from that entry
 abbrev pub shared : ℕ → Option EntryPlace → Grant
-shared giver parent = record { right = Read; page = Some 3; rule = 4; give = true; giver = giver; parent = parent }
+shared giver parent = record { right = Read; page = Some 3; rule = 4; give = true; giver = giver; parent = parent; until = None }
 
 -- the same as an entry
 abbrev pub entry : ℕ → Option EntryPlace → Entry

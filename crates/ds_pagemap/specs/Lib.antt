@@ -11,4 +11,5 @@ pub mod Store
 pub mod Rows
 pub mod Guests
 pub mod ShareRows
+pub mod EndRows
 pub mod LawRows

@@ -50,12 +50,12 @@ policy start further = record {
   rate = 0;
   processes = record { start = start; line = 0 } ∷ [];
   pages = record { name = codes "code"; source = Some (record { name = codes "one.s"; part = 0 }) } ∷ record { name = codes "data"; source = None } ∷ [];
-  rules = record { process = 1; address = 0x00400000; right = Read; page = Some 0; give = false } ∷ further;
+  rules = record { process = 1; address = 0x00400000; right = Read; page = Some 0; give = false; until = None } ∷ further;
 }
 
 -- a rule over the page of data
 abbrev pub data_at : ℕ → Right → PolicyRule
-data_at address right = record { process = 1; address = address; right = right; page = Some 1; give = false }
+data_at address right = record { process = 1; address = address; right = right; page = Some 1; give = false; until = None }
 
 -- the first state of that policy, a source and timed commands
 abbrev pub first : PolicyValue → List String → List TimedCommand → State
@@ -229,7 +229,7 @@ two rate = record {
   rate = rate;
   processes = record { start = 0x00400000; line = 0 } ∷ record { start = 0x00400000; line = 0 } ∷ [];
   pages = record { name = codes "a"; source = Some (record { name = codes "a.s"; part = 0 }) } ∷ record { name = codes "b"; source = Some (record { name = codes "b.s"; part = 0 }) } ∷ [];
-  rules = record { process = 1; address = 0x00400000; right = Read; page = Some 0; give = false } ∷ record { process = 2; address = 0x00400000; right = Read; page = Some 1; give = false } ∷ [];
+  rules = record { process = 1; address = 0x00400000; right = Read; page = Some 0; give = false; until = None } ∷ record { process = 2; address = 0x00400000; right = Read; page = Some 1; give = false; until = None } ∷ [];
 }
 
 -- so many nop, and a character put; the character is a digit from 1

@@ -3,10 +3,13 @@ use Rattle.std.proofs.Common.{◌≡◌, ℕ, zero, suc, ◌+◌, Bool, true, fa
 use Rattle.std.proofs.lemmas.List.{length-map}
 use Rattle.ds_policy.specs.declared.command.TimedCommand.{TimedCommand}
 use Rattle.ds_policy.specs.declared.command.Character.{Character}
+use Rattle.ds_policy.specs.Grants.{PageState}
+use Rattle.ds_policy.specs.Ends.{expired}
 use Rattle.ds_pagemap.specs.declared.turn.Turn.{Turn}
 use Rattle.ds_pagemap.specs.Machine.{State, made_ready, first}
 use Rattle.ds_pagemap.specs.Boundary.{after_commands, all_queued, wakes, woken, has_passed, is_first, rotated, boundary_after, owed_boundary, boundary}
 use Rattle.ds_pagemap.specs.Laws.{due}
+use Rattle.ds_pagemap.proofs.Ends.{expired_same}
 use Rattle.ds_pagemap_laws.specs.Settled.{settled_process, all_settled}
 use Rattle.ds_pagemap_laws.specs.Due.{come, HasNothingToDo}
 use Rattle.ds_pagemap_laws.proofs.Processes.{wakes_settles, if_ready_settles}
@@ -40,9 +43,9 @@ behind_settles turn rate now characters m =
     last_settles (has_passed rate turn.began now) (woken typed 1 (length typed.processes)) turn.runner
     ∙ ap (λ (s : State). cond (has_passed rate turn.began now) (rotated s turn.runner) s) (woken_settles typed 1 (length typed.processes) ∙ ap (λ (n : ℕ). woken (all_settled typed) 1 n) (sym count))
 
--- the state at a boundary without the events that are due
+-- the state at a boundary without the rights that have ended and the events that are due
 abbrev waits : State → State
-waits m = record m { commands = filter (λ c. not (nat_le c.time m.time)) m.commands; characters = filter (λ c. not (nat_le c.time m.time)) m.characters; owed = None }
+waits m = record m { memory = expired m.memory m.time; commands = filter (λ c. not (nat_le c.time m.time)) m.commands; characters = filter (λ c. not (nat_le c.time m.time)) m.characters; owed = None }
 
 after_settles : (turn : Turn) (m : State) → all_settled (boundary_after turn m) ≡ boundary_after turn (all_settled m)
 after_settles turn m =
@@ -71,19 +74,20 @@ all_later p (x ∷ xs) e = step (p x) x (filter p xs) xs (filter (λ y. not (p y
     step true x kept rest others e more = absurd cc
     step false x kept rest others e more = ap (λ l. x ∷ l) (more e)
 
--- Nothing is due, nobody wakes and no period has ended: the boundary owes nothing more, and that is all.
+-- Nothing is due, no right has ended, nobody wakes and no period has ended: the boundary owes nothing more, and that is all.
 pub quiet_boundary : (m : State) (turn : Turn) → m.owed ≡ Some turn → HasNothingToDo turn m → boundary m ≡ record m { owed = None }
 unfolding boundary
 quiet_boundary m turn o nothing =
     ap (λ (x : Option Turn). owed_boundary x m) o
-    ∙ (ap₂ (λ (cs : List TimedCommand) (ls : List TimedCommand). by cs ls (come m) (filter (λ c. not (nat_le c.time m.time)) m.characters)) nothing.commands (all_later (λ c. nat_le c.time m.time) m.commands nothing.commands)
-    ∙ (ap₂ (λ (xs ys : List Character). by [] m.commands xs ys) nothing.characters (all_later (λ c. nat_le c.time m.time) m.characters nothing.characters)
+    ∙ (ap (λ (s : PageState). by s (due m) (filter (λ c. not (nat_le c.time m.time)) m.commands) (come m) (filter (λ c. not (nat_le c.time m.time)) m.characters)) (expired_same m.memory m.time nothing.ends)
+    ∙ (ap₂ (λ (cs : List TimedCommand) (ls : List TimedCommand). by m.memory cs ls (come m) (filter (λ c. not (nat_le c.time m.time)) m.characters)) nothing.commands (all_later (λ c. nat_le c.time m.time) m.commands nothing.commands)
+    ∙ (ap₂ (λ (xs ys : List Character). by m.memory [] m.commands xs ys) nothing.characters (all_later (λ c. nat_le c.time m.time) m.characters nothing.characters)
     ∙ (ap (λ (b : Bool). cond b (rotated (woken (record m { owed = None }) 1 (length m.processes)) turn.runner) (woken (record m { owed = None }) 1 (length m.processes))) nothing.period
-    ∙ still (record m { owed = None }) 1 (length m.processes) nothing.asleep)))
+    ∙ still (record m { owed = None }) 1 (length m.processes) nothing.asleep))))
   where
-    by : List TimedCommand → List TimedCommand → List Character → List Character → State
-    by cs ls xs ys =
-        let served = after_commands (record m { commands = ls; characters = ys; owed = None }) cs in
+    by : PageState → List TimedCommand → List TimedCommand → List Character → List Character → State
+    by s cs ls xs ys =
+        let served = after_commands (record m { memory = s; commands = ls; characters = ys; owed = None }) cs in
         let typed = record served { queues = all_queued served.queues (take 64 xs) } in
         let awake = woken typed 1 (length typed.processes) in
         cond (has_passed m.rate turn.began m.time) (rotated awake turn.runner) awake

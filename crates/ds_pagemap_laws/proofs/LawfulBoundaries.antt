@@ -8,6 +8,7 @@ use Rattle.std.proofs.lemmas.List.{get_or_past}
 use Rattle.std.proofs.lemmas.List.Elements.{All-head}
 use Rattle.ds_procs.specs.declared.process.Standing.TheVariants.{Ready}
 use Rattle.ds_policy.specs.declared.command.Character.{Character}
+use Rattle.ds_policy.specs.Ends.{expired}
 use Rattle.ds_pagemap.specs.declared.turn.Turn.{Turn}
 use Rattle.ds_pagemap.specs.Machine.{State, Process, no_process, process_of, made_ready, first}
 use Rattle.ds_pagemap.specs.Boundary.{after_commands, queued, all_queued, wakes, woken, has_passed, is_first, rotated, boundary_after, owed_boundary, boundary}
@@ -16,8 +17,17 @@ use Rattle.ds_pagemap_laws.specs.Due.{come, NobodyWakes}
 use Rattle.ds_pagemap_laws.specs.Lawful.{IsReady, IsWellFormed, IsLawful}
 use Rattle.ds_pagemap_laws.proofs.Sets.{here}
 use Rattle.ds_pagemap_laws.proofs.Formed.{as_many, formed_with, ready_formed}
+use Rattle.ds_pagemap_laws.proofs.Tables.{expired_long}
 use Rattle.ds_pagemap_laws.proofs.Asleep.{has_woken, still_asleep, ready_asleep}
 use Rattle.ds_pagemap_laws.proofs.LawfulCalls.{commands_lawful}
+
+-- Rights that end.
+
+pub expired_lawful : (m : State) (now : ℕ) → IsLawful m → IsLawful (record m { memory = expired m.memory now })
+expired_lawful m now k = record {
+  formed = formed_with m (expired m.memory now) m.queues m.consoles m.log m.time m.commands m.characters m.owed (expired_long m.memory now) refl refl k.formed;
+  asleep = k.asleep;
+}
 
 -- Characters.
 
@@ -129,8 +139,10 @@ woken_lawful m w = record { formed = woken_formed m 1 (length m.processes) (omeg
 
 after_lawful : (turn : Turn) (m : State) → IsLawful m → IsLawful (boundary_after turn m)
 after_lawful turn m k =
-    let waits : State = record m { commands = filter (λ c. not (nat_le c.time m.time)) m.commands; characters = filter (λ c. not (nat_le c.time m.time)) m.characters; owed = None } in
-    let waiting : IsLawful waits = record { formed = formed_with m m.memory m.queues m.consoles m.log m.time waits.commands waits.characters None refl refl refl k.formed; asleep = k.asleep } in
+    let now : State = record m { memory = expired m.memory m.time } in
+    let stands : IsLawful now = expired_lawful m m.time k in
+    let waits : State = record now { commands = filter (λ c. not (nat_le c.time m.time)) m.commands; characters = filter (λ c. not (nat_le c.time m.time)) m.characters; owed = None } in
+    let waiting : IsLawful waits = record { formed = formed_with now now.memory m.queues m.consoles m.log m.time waits.commands waits.characters None refl refl refl stands.formed; asleep = stands.asleep } in
     let served = commands_lawful waits (due m) waiting in
     let typed = typed_formed (after_commands waits (due m)) (take 64 (come m)) served.formed in
     last_lawful (has_passed m.rate turn.began m.time) _ turn.runner (woken_lawful (record (after_commands waits (due m)) { queues = all_queued (after_commands waits (due m)).queues (take 64 (come m)) }) typed)

@@ -1,17 +1,21 @@
 -- States that are lawful, and states that are not: each row is a theorem about the definitions alone.
-use Rattle.std.proofs.Common.{◌≡◌, ℕ, zero, suc, ◌-◌, ◌<◌, ◌≤◌, true, false, List, [], ◌∷◌, length, codes, refl, sym, subst, arith}
-use Rattle.std.specs.Prelude.{replicate, slice_index_or, None}
+use Rattle.std.proofs.Common.{◌≡◌, ℕ, zero, suc, ◌-◌, ◌<◌, ◌≤◌, ◌||◌, true, false, List, [], ◌∷◌, length, codes, refl, sym, ap, subst, arith}
+use Rattle.std.specs.Prelude.{replicate, slice_index_or, Some, None}
 use Rattle.std.specs.List.{All}
+use Rattle.std.proofs.lemmas.Bool.{lt-leb}
 use Rattle.std.proofs.lemmas.List.Elements.{All-nil, All-cons}
 use Rattle.ds_isa.specs.Registers.{zero_registers}
 use Rattle.ds_procs.specs.declared.process.Standing.{Standing}
 use Rattle.ds_procs.specs.declared.process.Standing.TheVariants.{Ready, Waiting, Ended}
 use Rattle.ds_policy.specs.declared.command.Command.TheVariants.{Stop}
 use Rattle.ds_policy.specs.declared.command.TimedCommand.{TimedCommand}
+use Rattle.ds_policy.specs.declared.grant.Right.TheVariants.{Read}
+use Rattle.ds_policy.specs.Ends.{NoneEndsBefore}
 use Rattle.ds_policy.specs.Value.{PolicyValue}
+use Rattle.ds_pagemap.specs.declared.turn.Turn.{Turn}
 use Rattle.ds_pagemap.specs.Machine.{State, Process, no_process, process_of}
 use Rattle.ds_pagemap.specs.First.{first_state}
-use Rattle.ds_pagemap_laws.specs.Due.{IsInOrder}
+use Rattle.ds_pagemap_laws.specs.Due.{HasNothingToDo, IsInOrder}
 use Rattle.ds_pagemap_laws.specs.Lawful.{AreRegisters, IsProcess, IsReady, HasSizes, IsLawful}
 use Rattle.ds_pagemap_laws.specs.Rows.{resting, loading, state_of}
 use Rattle.ds_pagemap_laws.proofs.Asleep.{has_woken}
@@ -190,3 +194,35 @@ commands_come_in_order h =
     let last : 2 < 3 = omega arith in
     let order : 5 ≤ 3 = h.commands 1 2 (stop_at 0) next last in
     absurd (omega arith)
+
+-- Rights that end.
+
+-- process 1 may read a page until time 5, at this time
+abbrev until_5 : ℕ → State
+until_5 now = record (state_of [] [] []) {
+  time = now;
+  memory = record {
+    pages = [];
+    table = (record { address = 0x00410000; grant = record { right = Read; page = Some 0; rule = 1; give = false; giver = 0; parent = None; until = Some 5 } } ∷ []) ∷ [];
+    named = 1;
+  };
+}
+
+-- nobody ran
+abbrev idle : Turn
+idle = record { began = 0; runner = None }
+
+pub before_an_end_there_may_be_nothing_to_do : HasNothingToDo idle (until_5 4)
+before_an_end_there_may_be_nothing_to_do = record { commands = refl; characters = refl; ends = refl; asleep = λ p. refl; period = refl }
+
+pub at_an_end_there_is_something_to_do : HasNothingToDo idle (until_5 5) → ⊥
+at_an_end_there_is_something_to_do h = let over : true ≡ false = h.ends in absurd cc
+
+pub it_does_not_end_before_5 : NoneEndsBefore 5 (until_5 0).memory.table
+it_does_not_end_before_5 = λ t early. ap (λ b. (b || false) || false) (lt-leb 5 t (omega (arith, early)))
+
+pub it_ends_before_6 : NoneEndsBefore 6 (until_5 0).memory.table → ⊥
+it_ends_before_6 none =
+    let before : 5 < 6 = omega arith in
+    let over : true ≡ false = none 5 before in
+    absurd cc

@@ -3,6 +3,7 @@ pub mod Calls
 pub mod Boundaries
 pub mod Sets
 pub mod Tables
+pub mod Ends
 pub mod Formed
 pub mod Asleep
 pub mod LawfulCalls

@@ -6,6 +6,7 @@ use Rattle.ds_policy.specs.declared.command.Command.{Command}
 use Rattle.ds_policy.specs.declared.command.Command.TheVariants as command
 use Rattle.ds_policy.specs.declared.command.TimedCommand.{TimedCommand}
 use Rattle.ds_policy.specs.InputFacts.{has_time, comes_at}
+use Rattle.ds_policy.specs.Ends.{expired}
 use Rattle.ds_policy.specs.Grants.{PageState, grant, narrow, revoke, drop_by_command}
 use Rattle.ds_pagemap.specs.declared.turn.Turn.{Turn}
 use Rattle.ds_pagemap.specs.Machine.{State, first, process_of, lives, is_parked, made_ready}
@@ -62,7 +63,7 @@ rotated_same m (Some p) = ready_same (is_first (first m.ready) p) m p
 -- a boundary leaves the events that come later
 after_same : (turn : Turn) (m : State) → SameEvents (record m { commands = filter (λ c. not (nat_le c.time m.time)) m.commands; characters = filter (λ c. not (nat_le c.time m.time)) m.characters }) (boundary_after turn m)
 after_same turn m =
-    let waits : State = record m { commands = filter (λ c. not (nat_le c.time m.time)) m.commands; characters = filter (λ c. not (nat_le c.time m.time)) m.characters; owed = None } in
+    let waits : State = record m { memory = expired m.memory m.time; commands = filter (λ c. not (nat_le c.time m.time)) m.commands; characters = filter (λ c. not (nat_le c.time m.time)) m.characters; owed = None } in
     let served : State = after_commands waits (due m) in
     let typed : State = record served { queues = all_queued served.queues (take 64 (come m)) } in
     let awake : State = woken typed 1 (length typed.processes) in

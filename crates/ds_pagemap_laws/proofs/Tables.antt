@@ -1,5 +1,5 @@
 -- What changes of pages and table keep: as many processes have entries.
-use Rattle.std.proofs.Common.{◌≡◌, ℕ, ◌-◌, ◌==◌, Bool, true, false, not, is_some, unwrap_or, if◌then◌else◌, List, [], ◌∷◌, length, map, filter, length-set, Option, Some, None, Result, Ok, Err, refl, ◌∙◌}
+use Rattle.std.proofs.Common.{◌≡◌, ℕ, ◌-◌, ◌==◌, Bool, true, false, not, is_some, unwrap_or, if◌then◌else◌, List, [], ◌∷◌, length, map, filter, length-set, Option, Some, None, Result, Ok, Err, refl, ap, ◌∙◌}
 use Rattle.std.proofs.lemmas.List.{length-map}
 use Rattle.ds_policy.specs.declared.grant.Grant.{Grant}
 use Rattle.ds_policy.specs.declared.grant.Entry.{Entry}
@@ -9,6 +9,8 @@ use Rattle.ds_policy.specs.declared.grant.Right.TheVariants.{Read, Write}
 use Rattle.ds_policy.specs.Pages.{Table, entries_of, entry_at, put, erased_entry, fresh}
 use Rattle.ds_policy.specs.Families.{parent_of, handed_on, all_handed_on, without_entry, without_entries, descends, forbidden_entry}
 use Rattle.ds_policy.specs.Grants.{PageState, ◌or_else◌, refused, not_page, no_right, no_entry, has_right, table_full, fifth_region, no_frames, may_not_give, no_grant, granted, removed, cut, forbidden_by, forbidden, shared_from, copied, given, give, take, drop_own, grant, narrow, revoke, drop_by_command, end_process}
+use Rattle.ds_policy.specs.Ends.{expired_entry, expired}
+use Rattle.ds_pagemap.proofs.Ends.{table_of_expired}
 
 -- as many lists of entries
 abbrev pub IsAsLong : PageState → PageState → Type 0
@@ -57,7 +59,7 @@ given_long : (s : PageState) (caller address : ℕ) (g : Grant) (receiver to mod
 given_long s caller address g receiver to mode =
     let read : Grant = shared_from caller address g Read in
     let write : Grant = shared_from caller address g Write in
-    let copy : Grant = record g { right = Write; page = Some (fresh s.pages); giver = caller; parent = None } in
+    let copy : Grant = record g { right = Write; page = Some (fresh s.pages); giver = caller; parent = None; until = None } in
     either_way (mode == 1) s (granted s receiver to read) (if mode == 2 then granted s receiver to write else granted (copied s g.page) receiver to copy)
     (granted_long s receiver to read)
     (either_way (mode == 2) s (granted s receiver to write) (granted (copied s g.page) receiver to copy) (granted_long s receiver to write) (granted_long (copied s g.page) receiver to copy))
@@ -89,7 +91,7 @@ drop_own_long s caller address =
 
 pub grant_long : (lives : ℕ → Bool) (s : PageState) (p address page : ℕ) (right : Right) (may : Bool) (rule : ℕ) → IsAsLongIfDone s (grant lives s p address page right may rule)
 grant_long lives s p address page right may rule =
-    let g : Grant = record { right = right; page = Some page; rule = rule; give = may; giver = 0; parent = None } in
+    let g : Grant = record { right = right; page = Some page; rule = rule; give = may; giver = 0; parent = None; until = None } in
     or_refused s (refused 12 (not (lives p))) _ (
     or_refused s (not_page address) _ (
     or_refused s (refused 16 (has_right (entry_at s.table p address))) _ (
@@ -114,6 +116,9 @@ drop_long lives s p address =
     or_refused s (refused 12 (not (lives p))) _ (
     or_refused s (not_page address) _ (
     or_refused s (no_entry s p address) (Ok (removed s p address)) (removed_long s p address)))
+
+pub expired_long : (s : PageState) (time : ℕ) → IsAsLong s (expired s time)
+expired_long s time = ap length (table_of_expired s time) ∙ length-map s.table (map (expired_entry time))
 
 pub end_long : (s : PageState) (p : ℕ) → IsAsLong s (end_process s p)
 end_long s p = all_without_long p (entries_of s.table p) s.table

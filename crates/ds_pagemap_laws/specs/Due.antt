@@ -3,6 +3,7 @@ use Rattle.std.specs.Prelude.{◌≡◌, ℕ, List, [], false, not, filter, take
 use Rattle.std.specs.List.{prefix_len}
 use Rattle.std.specs.List.Sorted.{IsNonDecreasingBy}
 use Rattle.ds_policy.specs.InputFacts.{has_time, comes_at}
+use Rattle.ds_policy.specs.Ends.{has_some_expired}
 use Rattle.ds_policy.specs.declared.command.Character.{Character}
 use Rattle.ds_pagemap.specs.declared.turn.Turn.{Turn}
 use Rattle.ds_pagemap.specs.Machine.{State}
@@ -20,6 +21,8 @@ NobodyWakes m = (p : ℕ) → wakes m p ≡ false
 -- the boundary after this turn has nothing to do
 pub record HasNothingToDo (turn : Turn) (m : State) : Type 0 where
   pub commands : due m ≡ []
+  -- no right has ended
+  pub ends : has_some_expired m.time m.memory.table ≡ false
   pub characters : come m ≡ []
   pub asleep : NobodyWakes m
   pub period : has_passed m.rate turn.began m.time ≡ false

@@ -6,6 +6,7 @@ use Rattle.ds_policy.specs.declared.command.Command.TheVariants as command
 use Rattle.ds_policy.specs.declared.command.TimedCommand.{TimedCommand}
 use Rattle.ds_policy.specs.declared.command.Character.{Character}
 use Rattle.ds_policy.specs.Grants.{PageState, grant, narrow, revoke, drop_by_command}
+use Rattle.ds_policy.specs.Ends.{expired}
 use Rattle.ds_log.specs.declared.line.Line.TheVariants.{Refused}
 use Rattle.ds_procs.specs.declared.process.Standing.{Standing}
 use Rattle.ds_pagemap.specs.declared.turn.Turn.{Turn}
@@ -91,7 +92,7 @@ after_turn : (m : State) (qs : List Process) (turn : Turn) → AreTwins m.proces
 after_turn m qs turn t =
     let due = filter (λ (c : TimedCommand). nat_le c.time m.time) m.commands in
     let characters = filter (λ (c : Character). nat_le c.time m.time) m.characters in
-    let later : State = record m { commands = filter (λ (c : TimedCommand). not (nat_le c.time m.time)) m.commands; characters = filter (λ (c : Character). not (nat_le c.time m.time)) m.characters; owed = None } in
+    let later : State = record m { memory = expired m.memory m.time; commands = filter (λ (c : TimedCommand). not (nat_le c.time m.time)) m.commands; characters = filter (λ (c : Character). not (nat_le c.time m.time)) m.characters; owed = None } in
     passed_by _ _ turn.runner (has_passed m.rate turn.began m.time)
     (all_woken _ _ (typed_alike _ _ (take 64 characters) (commands_alike later (twin later qs) due (same later qs t))))
 

@@ -115,7 +115,7 @@ slot_told_by s at code is event =
 
 -- what is quiet is so with a boundary owed too
 quiet_owed : (k : Kept) (owed : Option Turn) → IsQuiet k → IsQuiet (record k { state = record k.state { owed = owed } })
-quiet_owed k owed q = record { commands = q.commands; characters = q.characters; asleep = q.asleep; period = q.period }
+quiet_owed k owed q = record { commands = q.commands; characters = q.characters; asleep = q.asleep; period = q.period; ends = q.ends }
 
 -- Many instructions, from h on.
 module _ (h : Held) (owed : h.kept.state.owed ≡ None) (ready : h.kept.state.ready ≢ []) (mode : h.core.system.status ≡ user_status) (spent : h.own.spent ≡ owed_tick h.core.slot) (unmet : IsFresh h.own) (last : ℕ) (calm_until : IsQuietUntil last h.kept) (end : ℕ) (P : Held → Type 0) (carries : Carries end P) (begun : P h) where

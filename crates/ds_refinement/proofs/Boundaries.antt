@@ -5,6 +5,8 @@ use Rattle.std.specs.List.{list_all}
 use Rattle.std.proofs.lemmas.Bool.{and_parts}
 use Rattle.std.proofs.lemmas.Bool.Decides.{nat_tests}
 use Rattle.std.proofs.lemmas.Nat.{pow_pos, le-div}
+use Rattle.ds_policy.specs.Ends.{has_some_expired}
+use Rattle.ds_policy.specs.Grants.{PageState}
 use Rattle.ds_procs.specs.declared.process.Standing.{Standing}
 use Rattle.ds_procs.specs.declared.process.Standing.TheVariants.{Ready}
 use Rattle.ds_cp0.specs.System.{is_user}
@@ -107,6 +109,9 @@ nothing_to_do h m turn k owed quiet =
       characters = ap come b ∙ quiet.characters;
       asleep = asleep_too h.kept.state.ready m h.kept.state k.kept.state (runner_ready h.kept.state.ready h.core h.kept m k.running) quiet.asleep;
       period = ap (λ (s : State). has_passed s.rate turn.began s.time) b ∙ passed_later h.kept.state.rate h.kept.ticked turn.began h.kept.state.time since quiet.period;
+      ends =
+          ap (λ (s : State). has_some_expired s.time m.memory.table) b
+          ∙ (ap (λ (x : PageState). has_some_expired h.kept.state.time x.table) k.kept.pages ∙ quiet.ends);
     }
 
 boundary_of : (h : Held) (m : State) (turn : Turn) → Agrees h m → h.kept.state.owed ≡ Some turn → IsQuiet h.kept → half_turn false m ≡ record m { owed = None }

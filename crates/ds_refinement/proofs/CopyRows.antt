@@ -21,7 +21,7 @@ use Rattle.ds_refinement.specs.StationRows.{kept, page, other, core_at, served, 
 
 -- a page, for writing
 abbrev writing : ℕ → Grant
-writing number = record { right = Write; page = Some number; rule = 1; give = false; giver = 0; parent = None }
+writing number = record { right = Write; page = Some number; rule = 1; give = false; giver = 0; parent = None; until = None }
 
 -- process 1 may write page 0 at 00400000, and process 2 its copy there, page 1, which lies in the same frame
 abbrev grants : GrantsState

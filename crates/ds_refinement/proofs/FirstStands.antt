@@ -51,12 +51,12 @@ first_tallied : (queue : List ℕ) (c : CoreState) (own : Own) (k : Kept) (m : S
 first_tallied [] c own k m user outside none ranges = (none, ranges)
 first_tallied (p ∷ rest) c own k m user outside none ranges = none_tallied c own (may_write k p) (pages_of m p) user outside none ranges
 
-module _ (policy : PolicyValue) (images : List (List ℕ)) (input : InputValue) (start : ℕ) (memory : List ℕ) (tables : Places) where
+module _ (policy : PolicyValue) (images : List (List ℕ)) (input : InputValue) (start : ℕ) (memory : List ℕ) (tables : Places) (ends : ℕ) where
   abbrev m : State
   m = first_state policy images input
 
   abbrev k : Kept
-  k = first_kept policy images input tables
+  k = first_kept policy images input tables ends
 
   kept : m.memory ≡ page_state (first_grants policy) memory → KeptIs k.state.ready k memory m
   kept pages = record { ready = refl; state = vacated_bare m.ready m; pages = pages; log = refl; lines = refl }
@@ -82,7 +82,8 @@ first_stands policy images input start h some named low high f =
     let memory : List ℕ = h.bus.memory in
     let t : Places = h.kept.tables in
     let core : CoreState = first_core (empty_entries 64) start (process_of (first_state policy images input) 1).pc in
-    let k : Kept = first_kept policy images input t in
+    let ends : ℕ = h.kept.ends in
+    let k : Kept = first_kept policy images input t ends in
     record {
       agrees = record {
         represented = record {
@@ -96,10 +97,10 @@ first_stands policy images input start h some named low high f =
         base = subst (λ (c : CoreState). HasBase c.system) (sym f.core) (record { tables = refl; whole = refl });
         grants = subst (λ (x : Kept). NamesPages x.grants) (sym f.kept) named;
         size = f.size;
-        kept = subst (λ (x : Kept). KeptIs x.state.ready x memory (first_state policy images input)) (sym f.kept) (kept policy images input start memory t f.pages);
+        kept = subst (λ (x : Kept). KeptIs x.state.ready x memory (first_state policy images input)) (sym f.kept) (kept policy images input start memory t ends f.pages);
         running = subst (λ (x : Kept). RunningBy x.state.ready h.core x (first_state policy images input)) (sym f.kept)
-            (subst (λ (c : CoreState). RunningBy k.state.ready c k (first_state policy images input)) (sym f.core) (running policy images input start memory t policy.processes some refl));
-        devices = subst (λ (x : Kept). AreResting h.bus x) (sym f.kept) (subst (λ (b : BusState). AreResting b k) (sym f.bus) (resting policy images input start memory t));
+            (subst (λ (c : CoreState). RunningBy k.state.ready c k (first_state policy images input)) (sym f.core) (running policy images input start memory t ends policy.processes some refl));
+        devices = subst (λ (x : Kept). AreResting h.bus x) (sym f.kept) (subst (λ (b : BusState). AreResting b k) (sym f.bus) (resting policy images input start memory t ends));
       };
       counted = first_tallied h.kept.state.ready h.core h.own h.kept (first_state policy images input)
           (ap (λ (c : CoreState). is_user c.system) f.core) (ap (λ (c : CoreState). c.slot) f.core) (subst HasNone (sym f.own) refl)

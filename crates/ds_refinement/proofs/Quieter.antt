@@ -1,10 +1,16 @@
 -- A boundary that has nothing to do at a later time has nothing to do at an earlier one.
 use Rattle.std.proofs.Common.{◌≡◌, ℕ, ◌+◌, ◌/◌, ◌≤◌, ◌^◌, Bool, true, false, cond, List, [], ◌∷◌, refl, ap, subst, arith, div-mul-le_self, le_trans}
-use Rattle.std.specs.Prelude.{◌&&◌, ◌==◌, not, nat_lt, nat_le, filter, Option, None}
+use Rattle.std.specs.Prelude.{◌&&◌, ◌==◌, not, nat_lt, nat_le, filter, Option, Some, None}
+use Rattle.std.specs.List.{list_any}
+use Rattle.std.proofs.lemmas.Bool.{or_parts, or_from}
 use Rattle.std.proofs.lemmas.Bool.Decides.{nat_tests}
 use Rattle.std.proofs.lemmas.Nat.{pow_pos, le-div}
 use Rattle.ds_policy.specs.declared.command.TimedCommand.{TimedCommand}
 use Rattle.ds_policy.specs.declared.command.Character.{Character}
+use Rattle.ds_policy.specs.declared.grant.Entry.{Entry}
+use Rattle.ds_policy.specs.Grants.{is_some_right}
+use Rattle.ds_policy.specs.Pages.{Table}
+use Rattle.ds_policy.specs.Ends.{is_reached, has_expired, has_some_expired}
 use Rattle.ds_cp0.specs.System.{is_user}
 use Rattle.ds_core.specs.Core.{CoreState}
 use Rattle.ds_pagemap.specs.declared.turn.Turn.{Turn}
@@ -47,6 +53,31 @@ not_passed rate began now later le none = by (not (rate == 0)) none
     by true e = further (began / 2 ^ (rate + 2)) (now / 2 ^ (rate + 2)) (later / 2 ^ (rate + 2)) grows e
     by false e = refl
 
+-- an end that isn't reached by then isn't reached before
+reached_earlier : (now later : ℕ) (end : Option ℕ) → now ≤ later → is_reached later end ≡ false → is_reached now end ≡ false
+reached_earlier now later None le none = refl
+reached_earlier now later (Some end) le none = grind (arith, nat_tests)
+
+entry_earlier : (now later : ℕ) (e : Entry) → now ≤ later → has_expired later e ≡ false → has_expired now e ≡ false
+entry_earlier now later e le none = by (is_some_right e.grant.right) none
+  where
+    by : (on : Bool) → (on && is_reached later e.grant.until) ≡ false → (on && is_reached now e.grant.until) ≡ false
+    by true none = reached_earlier now later e.grant.until le none
+    by false none = refl
+
+-- where no element passes a test, none passes a stricter one
+none_stricter : {X : Type 0} (weak strict : X → Bool) → ((x : X) → weak x ≡ false → strict x ≡ false) → (xs : List X) → list_any weak xs ≡ false → list_any strict xs ≡ false
+none_stricter weak strict less [] none = refl
+none_stricter weak strict less (x ∷ rest) none =
+    let parts = or_parts (weak x) (list_any weak rest) none in
+    or_from (strict x) (list_any strict rest) (less x parts.0) (none_stricter weak strict less rest parts.1)
+
+-- and where no right has ended by then, none has before
+pub expired_earlier : (now later : ℕ) (table : Table) → now ≤ later → has_some_expired later table ≡ false → has_some_expired now table ≡ false
+expired_earlier now later table le none =
+    none_stricter (λ (es : List Entry). list_any (has_expired later) es) (λ (es : List Entry). list_any (has_expired now) es)
+    (λ es. none_stricter (has_expired later) (has_expired now) (λ e. entry_earlier now later e le) es) table none
+
 -- so the last boundary decides
 pub quiet_until : (last : ℕ) (k : Kept) → k.ticked ≤ k.state.time → IsQuiet (at_time last k) → IsQuietUntil last k
 quiet_until last k ticked q = record {
@@ -56,6 +87,7 @@ quiet_until last k ticked q = record {
     characters = none_before (λ (c : Character). c.time) time last upto k.state.characters q.characters;
     asleep = q.asleep;
     period = not_passed k.state.rate k.ticked time last upto q.period;
+    ends = expired_earlier time last k.grants.table upto q.ends;
   };
 }
 

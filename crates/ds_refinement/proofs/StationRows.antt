@@ -138,7 +138,7 @@ who_is_first_has_a_unit = (refl, λ none. absurd cc)
 
 -- page 0, for reading
 abbrev reading : Grant
-reading = record { right = Read; page = Some 0; rule = 1; give = false; giver = 0; parent = None }
+reading = record { right = Read; page = Some 0; rule = 1; give = false; giver = 0; parent = None; until = None }
 
 -- process 1 is granted it at 00400000
 abbrev grants : GrantsState

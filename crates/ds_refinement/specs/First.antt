@@ -47,9 +47,9 @@ first_bus memory rate = record {
   system = 2 ^ 7;
 }
 
--- what is kept of the first state of a policy, with page tables at these places; process 1 runs, in address space 1
-abbrev pub first_kept : PolicyValue → List (List ℕ) → InputValue → Places → Kept
-first_kept policy images input tables = record {
+-- what is kept of the first state of a policy, with page tables at these places, and a time before which no right ends; process 1 runs, in address space 1
+abbrev pub first_kept : PolicyValue → List (List ℕ) → InputValue → Places → ℕ → Kept
+first_kept policy images input tables ends = record {
   state = bare (first_state policy images input);
   grants = first_grants policy;
   tables = tables;
@@ -57,6 +57,7 @@ first_kept policy images input tables = record {
   lines = 0;
   spaces = taken at_start 1;
   ticked = 0;
+  ends = ends;
 }
 
 -- the station is at the beginning of a run of a policy with these images and this input; Random is the start
@@ -65,7 +66,7 @@ pub record IsFirst (policy : PolicyValue) (images : List (List ℕ)) (input : In
   pub bus : h.bus ≡ first_bus h.bus.memory policy.rate
   pub pages : (first_state policy images input).memory ≡ page_state (first_grants policy) h.bus.memory
   pub size : length h.bus.memory ≡ 2 ^ 23
-  pub kept : h.kept ≡ first_kept policy images input h.kept.tables
+  pub kept : h.kept ≡ first_kept policy images input h.kept.tables h.kept.ends
   pub tables : HasWords h.bus.memory h.kept.tables (first_grants policy)
   pub vectors : handler.HasWords h.bus.memory
   pub own : h.own ≡ record { failed = false; spent = 0; written = []; since = 0; wired = 0; tables = 0; services = 0 }

@@ -25,6 +25,8 @@ pub record Kept : Type 0 where
   pub spaces : Spaces
   -- the time to which the clock was brought
   pub ticked : ℕ
+  -- a time before which no right in the table ends
+  pub ends : ℕ
 
 -- the station's own marks, and what it counts of the unit that goes on
 pub record Own : Type 0 where

@@ -1,5 +1,5 @@
 -- What a small station holds and what is made of it: each row is a theorem about the definitions alone.
-use Rattle.std.specs.Prelude.{◌≡◌, refl, ℕ, ◌+◌, true, false, List, [], ◌∷◌, map, replicate, slice_index, slice_set, Some, None}
+use Rattle.std.specs.Prelude.{◌≡◌, refl, ℕ, ◌+◌, ◌^◌, true, false, List, [], ◌∷◌, map, replicate, slice_index, slice_set, Some, None}
 use Rattle.ds_word.specs.Word.{word}
 use Rattle.ds_isa.specs.declared.instr.Size.TheVariants.{Byte, Word}
 use Rattle.ds_isa.specs.Registers.{Registers}
@@ -32,7 +32,7 @@ two = state_of (loading ∷ resting ∷ []) (1 ∷ 2 ∷ []) []
 
 -- what is kept beside the processor, which has process 1
 abbrev pub kept : Kept
-kept = record { state = two; grants = no_grants 2 4 0; tables = replicate 2 (replicate 4 None); log = []; lines = 0; spaces = taken spaces.at_start 1; ticked = 5 }
+kept = record { state = two; grants = no_grants 2 4 0; tables = replicate 2 (replicate 4 None); log = []; lines = 0; spaces = taken spaces.at_start 1; ticked = 5; ends = 2 ^ 63 }
 
 -- page 00400000 in frame 402, which may not be written
 abbrev pub page : Entry

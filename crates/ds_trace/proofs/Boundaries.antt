@@ -6,6 +6,7 @@ use Rattle.ds_procs.specs.declared.process.Standing.TheVariants.{Ready, Ended}
 use Rattle.ds_policy.specs.declared.command.Command.{Command}
 use Rattle.ds_policy.specs.declared.command.Command.TheVariants as command
 use Rattle.ds_policy.specs.declared.command.TimedCommand.{TimedCommand}
+use Rattle.ds_policy.specs.Ends.{expired}
 use Rattle.ds_policy.specs.Grants.{PageState, grant, narrow, revoke, drop_by_command}
 use Rattle.ds_pagemap.specs.declared.turn.Turn.{Turn}
 use Rattle.ds_pagemap.specs.Machine.{State, Process, no_process, process_of, with_process, lives, is_parked, first, made_ready}
@@ -64,6 +65,7 @@ module _ {Y : Type 0} (g : Process → Y) (keeps : (q : Process) (s : Standing) 
       let commands = filter (λ c. nat_le c.time m.time) m.commands in
       let characters = filter (λ c. nat_le c.time m.time) m.characters in
       let later : State = record m {
+        memory = expired m.memory m.time;
         commands = filter (λ c. not (nat_le c.time m.time)) m.commands;
         characters = filter (λ c. not (nat_le c.time m.time)) m.characters;
         owed = None;

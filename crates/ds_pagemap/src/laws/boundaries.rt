@@ -1,5 +1,6 @@
 //! What a boundary does to the time and the pages.
-ghost use Rattle.std.specs.Prelude.{◌≡◌, [], None};
+ghost use Rattle.std.specs.Prelude.{◌≡◌, [], None, false};
+ghost use Rattle.ds_policy.specs.Ends.{has_some_expired};
 ghost use Rattle.ds_pagemap.specs.Machine.{State};
 ghost use Rattle.ds_pagemap.specs.Boundary.{boundary};
 ghost use Rattle.ds_pagemap.specs.Laws.{due};
@@ -16,8 +17,9 @@ pub fn a_boundary_is_done_once()
     ensures { (m : State) → (boundary m).owed ≡ None }
 {}
 
-/// Where no command is due, a boundary changes no page and no entry.
+/// Where no command is due and no right has ended, a boundary changes no page and no entry.
 #[tactic(auto, using(crate::proofs::Boundaries::boundary_memory))]
-pub fn a_boundary_without_commands_leaves_the_pages()
-    ensures { (m : State) → due m ≡ [] → (boundary m).memory ≡ m.memory }
+pub fn a_boundary_without_commands_and_ends_leaves_the_pages()
+    ensures { (m : State) → due m ≡ [] → has_some_expired m.time m.memory.table ≡ false →
+        (boundary m).memory ≡ m.memory }
 {}

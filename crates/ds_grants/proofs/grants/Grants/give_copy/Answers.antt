@@ -16,7 +16,7 @@ returns-in-Some-Some-clause-state g c =
     let same : names.page ≡ c.in-Some-Some.page = (let both : Some names.page ≡ Some c.in-Some-Some.page = sym names.named ∙ c.in-Some-Some.is-0 in cc) in
     low_pages c.put.new.self c.reword_page.new.memory c.put.new.memory c.put.ensures.low
     ∙ (low_pages c.put.new.self c.args.memory.now c.reword_page.new.memory c.reword_page.ensures.low
-    ∙ (ap (λ (s : GrantsState). page_state s c.args.memory.now) (c.put.ensures.value ∙ ap (λ (s : GrantsState). with_grant s c.args.receiver c.args.to (record c.args.grant { right = Write; page = Some c.in-Some-Some.free; giver = c.args.caller; parent = None })) c.lay_copy.ensures.value)
+    ∙ (ap (λ (s : GrantsState). page_state s c.args.memory.now) (c.put.ensures.value ∙ ap (λ (s : GrantsState). with_grant s c.args.receiver c.args.to (record c.args.grant { right = Write; page = Some c.in-Some-Some.free; giver = c.args.caller; parent = None; until = None })) c.lay_copy.ensures.value)
     ∙ copied_state c.args.self.now c.args.receiver c.args.to c.args.grant c.in-Some-Some.page c.in-Some-Some.free c.args.caller c.args.memory.now c.requires.low c.requires.high
     (none_there _ c.requires.free) c.in-Some-Some.is-0
     (subst (λ q. q < c.args.self.now.frames) same names.within) (subst (λ q. is_live c.args.self.now q ≡ true) same names.lives)

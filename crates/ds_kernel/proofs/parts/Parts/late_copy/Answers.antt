@@ -44,6 +44,6 @@ returns-clause-good g c =
     let gives = c.give_own_frame.ensures in
     back_good c.args.process old new new.monitor.grants c.requires.busy (ap (λ (x : CoreState). x.slot) copied.core)
     (monitor_is c.args.process old c.give_own_frame.new.self c.count_copy.new.self new gives.rest c.count_copy.ensures.rest c.go_back.ensures)
-    (copy_orderly c.args.process old c.give_own_frame.new.self c.count_copy.new.self new gives.rest c.count_copy.ensures.rest c.go_back.ensures gives.same gives.ended c.requires.busy.good.orderly.kept)
+    (copy_orderly c.args.process old c.give_own_frame.new.self c.count_copy.new.self new gives.rest c.count_copy.ensures.rest c.go_back.ensures gives.same gives.ended gives.pages c.requires.busy.good.orderly.kept)
     (ap (λ (o : Own). o.spent) copied.own) (ap (λ (x : Parts g.row.L.Denot). x.failed) rest)
     (ap (λ (x : CoreState). is_user x.system) copied.core) (returns-clause-does g c)

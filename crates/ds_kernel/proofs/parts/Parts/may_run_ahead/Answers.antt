@@ -5,13 +5,13 @@ use Rattle.ds_kernel.proofs.Ahead.{may_run_ahead, goes_two, within_quiet, no_end
 use Rattle.ds_kernel.proofs.parts.Parts.may_run_ahead.Goals as goal
 
 pub returns-then-not-is_user-clause-any : goal.returns-then-not-is_user-clause-any
-returns-then-not-is_user-clause-any g c = λ soon goes.
+returns-then-not-is_user-clause-any g c = λ soon none goes.
     let no : true ≡ false = sym (ap (λ (n : ℕ). bits n 1 1 == 1) goes.mode) ∙ (sym c.is_user.ensures ∙ c.if-not-is_user.true) in absurd (cc)
 
 pub returns-then-end-self-clause-any : goal.returns-then-end-self-clause-any
-returns-then-end-self-clause-any g c = λ soon goes.
+returns-then-end-self-clause-any g c = λ soon none goes.
     let m = c.args.self.now.monitor in
-    absurd (no_end m.time c.args.n m.quiet_until c.min-end.result (c.min-end.ensures ∙ ap (λ (q : ℕ). min c.args.n q) c.saturating_sub.ensures) c.if-end-self.true soon (goes_two c.args.self.now c.requires.good goes))
+    absurd (no_end m.time c.args.n m.quiet_until c.min-end.result (c.min-end.ensures ∙ ap (λ (q : ℕ). min c.args.n q) c.saturating_sub.ensures) c.if-end-self.true soon (goes_two c.args.self.now c.requires.good (omega (arith, none)) goes))
 
 pub returns-then-is_some-2-clause-ahead : goal.returns-then-is_some-2-clause-ahead
 returns-then-is_some-2-clause-ahead g c =

@@ -1,9 +1,9 @@
-use Rattle.std.proofs.Common.{◌∙◌, ◌<◌, sym, subst, arith}
+use Rattle.std.proofs.Common.{◌∙◌, sym, subst}
 use Rattle.ds_kernel.specs.declared.parts.Parts.{Parts}
 use Rattle.ds_kernel.specs.Parts.{held}
 use Rattle.ds_kernel.specs.Good.{IsBusy}
 use Rattle.ds_kernel.specs.Going.{GoesOn}
-use Rattle.ds_kernel.proofs.Doing.{kernel_of}
+use Rattle.ds_kernel.proofs.Doing.{kernel_of, busy_served}
 use Rattle.ds_kernel.proofs.Running.{goes_join}
 use Rattle.ds_kernel.proofs.parts.Parts.serve_raised.Goals as goal
 
@@ -26,16 +26,18 @@ returns-else-answer_at_once-clause-goes g c = λ start before.
 pub returns-in_default-clause-goes : goal.returns-in_default-clause-goes
 returns-in_default-clause-goes g c = λ start before. c.refill_missed.ensures.goes c.args.n start c.requires.begun before
 
+pub answer_at_once-requires-clause-busy : goal.answer_at_once-requires-clause-busy
+answer_at_once-requires-clause-busy g c =
+    busy_served c.in-Some.process c.args.n c.args.self.now c.requires.good c.requires.working c.requires.few c.requires.begun
+    (sym c.first_ready.ensures ∙ c.in-Some.is) (c.requires.called c.if-called.true).served
+
 pub serve_waiting-requires-clause-busy : goal.serve_waiting-requires-clause-busy
 serve_waiting-requires-clause-busy g c =
-    let kernel = kernel_of c.args.self.now.core (c.requires.called c.if-called.true).served in
-    let begun = c.requires.good.orderly.raised kernel in
-    let before : c.args.self.now.monitor.time < c.args.n = c.requires.begun begun in
-    let few = c.requires.few in
-    subst (IsBusy c.in-Some.process) (sym (c.answer_at_once.ensures.still c.if-answer_at_once.false)) (record {
-      good = c.requires.good;
-      first = sym c.first_ready.ensures ∙ c.in-Some.is;
-      begun = begun;
-      working = c.requires.working;
-      early = omega (arith, before, few);
-    })
+    subst (IsBusy c.in-Some.process) (sym (c.answer_at_once.ensures.still c.if-answer_at_once.false))
+    (busy_served c.in-Some.process c.args.n c.args.self.now c.requires.good c.requires.working c.requires.few c.requires.begun
+    (sym c.first_ready.ensures ∙ c.in-Some.is) (c.requires.called c.if-called.true).served)
+
+pub serve_waiting-requires-in-Some-2-clause-busy : goal.serve_waiting-requires-in-Some-2-clause-busy
+serve_waiting-requires-in-Some-2-clause-busy g c =
+    busy_served c.in-Some.process c.args.n c.args.self.now c.requires.good c.requires.working c.requires.few c.requires.begun
+    (sym c.first_ready.ensures ∙ c.in-Some.is) (sym c.is_served.ensures ∙ c.if-is_served.true)

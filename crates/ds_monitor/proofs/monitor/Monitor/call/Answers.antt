@@ -76,7 +76,9 @@ returns-clause-orderly g c = λ it alive.
     ap (λ (z : Kept). z.grants.named) c.end_turn.ensures.kept ∙ (c.serve.ensures.same.named ∙ ap (λ (z : Kept). z.grants.named) c.go_to.ensures.kept) in
     let commands : (kept_of c.end_turn.new.self).state.commands ≡ k.state.commands =
     ap (λ (z : Kept). z.state.commands) c.end_turn.ensures.kept ∙ (ap (λ (z : Monitor). z.due.commands) c.serve.ensures.rest ∙ ap (λ (z : Kept). z.state.commands) c.go_to.ensures.kept) in
-    call_orderly p pc k (kept_of c.end_turn.new.self) x c.serve.new.bus.memory c.requires.above c.requires.within alive (returns-clause-serves g c) ended named commands it
+    let ends : (kept_of c.end_turn.new.self).ends ≡ k.ends =
+    ap (λ (z : Kept). z.ends) c.end_turn.ensures.kept ∙ (ap (λ (z : Monitor). z.ends) c.serve.ensures.rest ∙ ap (λ (z : Kept). z.ends) c.go_to.ensures.kept) in
+    call_orderly p pc k (kept_of c.end_turn.new.self) x c.serve.new.bus.memory c.requires.above c.requires.within alive (returns-clause-serves g c) ended named commands ends it
 
 pub returns-clause-bus : goal.returns-clause-bus
 returns-clause-bus g c =

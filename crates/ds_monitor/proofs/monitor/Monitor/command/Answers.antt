@@ -28,4 +28,4 @@ returns-in-Err-clause-room g c = λ n h. c.refuse.ensures.room n (subst (HasLogR
 pub returns-in_default-clause-orderly : goal.returns-in_default-clause-orderly
 returns-in_default-clause-orderly g c =
     command_orderly c.args.order.number c.args.order.command (kept_of c.args.self.now) (kept_of c.obey.new.self) c.args.memory.now c.obey.new.memory c.in_default.ensures.obeys
-    c.obey.ensures.marks c.obey.ensures.same.named (ap (λ (m : Monitor). m.due.commands) c.obey.ensures.rest) c.requires.orderly
+    c.obey.ensures.marks c.obey.ensures.same.named (ap (λ (m : Monitor). m.due.commands) c.obey.ensures.rest) (ap (λ (m : Monitor). m.ends) c.obey.ensures.rest) c.requires.orderly

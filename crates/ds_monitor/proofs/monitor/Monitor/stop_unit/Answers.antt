@@ -34,6 +34,7 @@ returns-clause-orderly c = λ it alive.
     (ap (λ (x : Kept). x.grants.ended) c.end_turn.ensures.kept ∙ (ap (λ (x : Kept). x.grants.ended) c.log_line.ensures.kept ∙ (ap (λ (x : Kept). x.grants.ended) c.go_to.ensures.kept ∙ ap (λ (x : Kept). x.grants.ended) c.make_unready.ensures.kept)))
     (ap (λ (x : Kept). x.grants.named) c.end_turn.ensures.kept ∙ (ap (λ (x : Kept). x.grants.named) c.log_line.ensures.kept ∙ (ap (λ (x : Kept). x.grants.named) c.go_to.ensures.kept ∙ ap (λ (x : Kept). x.grants.named) c.make_unready.ensures.kept)))
     (ap (λ (x : Kept). x.state.commands) c.end_turn.ensures.kept ∙ (ap (λ (x : Kept). x.state.commands) c.log_line.ensures.kept ∙ (ap (λ (x : Kept). x.state.commands) c.go_to.ensures.kept ∙ ap (λ (x : Kept). x.state.commands) c.make_unready.ensures.kept)))
+    (ap (λ (x : Kept). x.ends) c.end_turn.ensures.kept ∙ (ap (λ (x : Kept). x.ends) c.log_line.ensures.kept ∙ (ap (λ (x : Kept). x.ends) c.go_to.ensures.kept ∙ ap (λ (x : Kept). x.ends) c.make_unready.ensures.kept)))
     it
 
 pub returns-clause-room : goal.returns-clause-room

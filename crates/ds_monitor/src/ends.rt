@@ -1,0 +1,55 @@
+//! Rights that end by themselves.
+ghost use Rattle.std.specs.Prelude.{◌≡◌, ◌<◌, ℕ};
+ghost use Rattle.ds_policy.specs.Pages.{Table};
+ghost use Rattle.ds_policy.specs.Ends.{is_reached, has_some_expired, NoneEndsBefore};
+ghost use Rattle.ds_grants.specs.Represented.{IsLow, Keeps};
+ghost use Rattle.ds_refinement.specs.Pairs.{HasNoNewPairs};
+ghost use Rattle.ds_refinement.specs.Services.{Serves};
+ghost use Rattle.ds_monitor.specs.Kept.{kept_of};
+ghost use Rattle.ds_monitor.specs.Commands.{with_ends};
+ghost use Rattle.ds_monitor.specs.Orderly.{IsOrderly};
+
+use crate::due::NEVER;
+use crate::monitor::Monitor;
+use ds_mem::Memory;
+use ds_tlb::Lookaside;
+
+/// The time of an end, or never where there is none.
+pub(crate) fn end_or_never(end: Option<u32>) -> u64
+    ensures { (table : Table) → ((now : ℕ) → has_some_expired now table ≡ is_reached now end)
+        → NoneEndsBefore result table }
+{
+    match end {
+        Some(end) => u64::from(end),
+        None => NEVER,
+    }
+}
+
+impl Monitor {
+    /// The rights that have ended by now end. Where none has, it costs nothing: a time before which none
+    /// ends is kept.
+    pub fn expire<L: Lookaside>(&mut self, memory: &mut Memory, tlb: &mut L)
+        requires orderly { IsOrderly (kept_of self.old) }
+        ensures serves { Serves (with_ends self.old.time)
+            (kept_of self.old) memory.old (kept_of self.new) memory.new }
+        ensures orderly { IsOrderly (kept_of self.new) }
+        ensures named { self.new.grants.named ≡ self.old.grants.named }
+        ensures low { IsLow memory.old memory.new }
+        ensures keeps { Keeps
+            (L.entries tlb.old) memory.old self.old.tables self.old.spaces self.old.grants
+            (L.entries tlb.new) memory.new self.new.tables self.new.spaces self.new.grants }
+        ensures pairs { HasNoNewPairs (L.entries tlb.old) (L.entries tlb.new) }
+        ensures random { L.random_place tlb.new ≡ L.random_place tlb.old }
+        ensures rest { self.new ≡ record self.old {
+          grants = self.new.grants;
+          tables = self.new.tables;
+          ends = self.new.ends;
+        } }
+    {
+        if self.ends <= self.time {
+            self.grants
+                .expire(self.time, memory, &mut self.tables, &self.spaces, tlb);
+            self.ends = end_or_never(self.grants.table().next_end());
+        }
+    }
+}
