@@ -67,7 +67,7 @@ living m p e = (above p (length m.processes) (not (has_ended (process_of m p).st
 -- what a copy leaves
 copied_there : (m : State) (p pc address receiver to : ℕ) (s : PageState) → length m.memory.table ≡ length m.processes → lives m receiver ≡ true → IsCopyOf m.memory s p address receiver to → IsCopied m (or_denied m p pc address (Ok s)) p address receiver to
 copied_there m p pc address receiver to s long there c =
-    let g : Grant = record c.grant { right = Write; page = Some (fresh m.memory.pages); giver = p; parent = None } in
+    let g : Grant = record c.grant { right = Write; page = Some (fresh m.memory.pages); giver = p; parent = None; until = None } in
     let l = living m receiver there in
     record {
       bytes = c.bytes;

@@ -21,7 +21,7 @@ place_of p address = record { process = p; address = address }
 
 -- leave to read page 0, shared from there
 abbrev read_from : Option EntryPlace → Grant
-read_from parent = record { right = Read; page = Some 0; rule = 1; give = true; giver = 0; parent = parent }
+read_from parent = record { right = Read; page = Some 0; rule = 1; give = true; giver = 0; parent = parent; until = None }
 
 abbrev at : ℕ → Option EntryPlace → Entry
 at address parent = record { address = address; grant = read_from parent }

@@ -96,7 +96,7 @@ rules_name processes pages t n (r ∷ rest) good all =
     rules_name processes pages (with_rule t n r) (n + 1) rest (All-tail (IsGoodRule processes pages) r rest good)
     (with_entry_all (IfRight pages) t r.process r.address (granted_by n r) all (rule_names processes pages n r (All-head (IsGoodRule processes pages) r rest good)))
 
-no_entry_yet : (n i a : ℕ) (g : Grant) → found (slice_index_or (replicate n []) i []) a ≡ Some g → ⊥
+pub no_entry_yet : (n i a : ℕ) (g : Grant) → found (slice_index_or (replicate n []) i []) a ≡ Some g → ⊥
 no_entry_yet zero i a g e = none e
   where
     none : ◌≡◌ {A = Option Grant} None (Some g) → ⊥
@@ -134,7 +134,7 @@ first_whole policy images events rules commands =
       commands = commands;
     }
 
-text_good : (text : List ℕ) (p : PolicyValue) → policy_of text ≡ Ok p → IsGoodPolicy p
+pub text_good : (text : List ℕ) (p : PolicyValue) → policy_of text ≡ Ok p → IsGoodPolicy p
 unfolding policy_of
 text_good text p h =
     let (ms, h1, a) = bind_ok (reading.or_else (document text) bad_toml) says p h in

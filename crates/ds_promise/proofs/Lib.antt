@@ -18,3 +18,10 @@ pub mod Copies
 pub mod WholeRows
 pub mod Shares
 pub mod FamilyRows
+pub mod Placed
+pub mod Expiry
+pub mod Renewal
+pub mod ShareEnds
+pub mod EndRows
+pub mod Kinship
+pub mod KinRuns

@@ -22,7 +22,7 @@ use Rattle.ds_pagemap.specs.Run.{half_turn, goes_on, after, Reaches}
 use Rattle.ds_pagemap.specs.Laws.{due}
 use Rattle.ds_pagemap.proofs.Units.{Leaves, leaves_instruction}
 use Rattle.ds_pagemap.proofs.Touches.{touched-log}
-use Rattle.ds_promise.specs.Lines.{refusal, line_of_give, lines_of_call, lines_of_slot, lines_of_instruction, lines_of_first, refusal_of, line_of_command, lines_of_commands, lines_of_turn, lines_along}
+use Rattle.ds_promise.specs.Lines.{refusal, line_of_give, lines_of_call, lines_of_slot, lines_of_instruction, lines_of_first, refusal_of, line_of_command, lines_of_commands, lines_of_turn, lines_along, after_ends}
 
 nothing : (xs ys : List Line) → ys ≡ xs → ys ≡ xs ++ []
 nothing xs ys e = e ∙ sym (append-nil xs)
@@ -77,7 +77,7 @@ field_stays_after f m p pc r at settles =
     field_stays f (settle m p).processes (p - 1) (r - 1) _ (at (process_of (settle m p) p) (word (pc + 4)))
     ∙ field_stays f m.processes (p - 1) (r - 1) _ (settles (process_of m p))
 
-lives_after_the_call : (m : State) (p pc : ℕ) → lives (after_the_call m p pc) ≡ lives m
+pub lives_after_the_call : (m : State) (p pc : ℕ) → lives (after_the_call m p pc) ≡ lives m
 lives_after_the_call m p pc = fun_ext (λ r. ap₂ (λ (n : ℕ) (s : Standing). nat_lt 0 r && (nat_lt r (n + 1) && not (has_ended s)))
     (length-set (settle m p).processes (p - 1) _ ∙ length-set m.processes (p - 1) _)
     (field_stays_after (λ (q : Process). q.standing) m p pc r (λ q a. refl) (λ q. refl)))
@@ -160,7 +160,7 @@ commands_lines m (c ∷ rest) =
 
 -- Commands do the same whatever is still to come.
 
-abbrev with_events : List TimedCommand → List Character → Option Turn → State → State
+abbrev pub with_events : List TimedCommand → List Character → Option Turn → State → State
 with_events cs chs owed m = record m { commands = cs; characters = chs; owed = owed }
 
 module _ (cs : List TimedCommand) (chs : List Character) (owed : Option Turn) where
@@ -183,6 +183,10 @@ module _ (cs : List TimedCommand) (chs : List Character) (owed : Option Turn) wh
       ∙ cond_with_events b (refuse_command m k 12) (cond c (refuse_command m k 15) (made_ready m p))
   command_with_events m k (command.Stop p) = cond_with_events (not (lives m p)) (refuse_command m k 12) (ended m p)
 
+  pub commands_with_events : (m : State) (todo : List TimedCommand) → after_commands (with_events cs chs owed m) todo ≡ with_events cs chs owed (after_commands m todo)
+  commands_with_events m [] = refl
+  commands_with_events m (c ∷ rest) = ap (λ (s : State). after_commands s rest) (command_with_events m c.number c.command) ∙ commands_with_events (after_command m c.number c.command) rest
+
   refusal_with_events : (m : State) (k : ℕ) (c : Command) → refusal_of (with_events cs chs owed m) k c ≡ refusal_of m k c
   refusal_with_events m k (command.Grant p address page right give) = refl
   refusal_with_events m k (command.Narrow p address) = refl
@@ -200,7 +204,7 @@ module _ (cs : List TimedCommand) (chs : List Character) (owed : Option Turn) wh
 
 -- the state that a boundary's commands find
 abbrev found_by : State → State
-found_by m = with_events (filter (λ c. not (nat_le c.time m.time)) m.commands) (filter (λ c. not (nat_le c.time m.time)) m.characters) None m
+found_by m = with_events (filter (λ c. not (nat_le c.time m.time)) m.commands) (filter (λ c. not (nat_le c.time m.time)) m.characters) None (after_ends m)
 
 ready_log : (b : Bool) (m : State) (p : ℕ) → (cond b (made_ready m p) m).log ≡ m.log
 ready_log true m p = refl
@@ -225,17 +229,17 @@ boundary_after_log turn m =
     let awake = woken typed 1 (length typed.processes) in
     ending_log (has_passed m.rate turn.began m.time) awake turn.runner ∙ woken_log typed 1 (length typed.processes)
 
-boundary_after_lines : (turn : Turn) (m : State) → (boundary_after turn m).log ≡ m.log ++ lines_of_commands m (due m)
+boundary_after_lines : (turn : Turn) (m : State) → (boundary_after turn m).log ≡ m.log ++ lines_of_commands (after_ends m) (due m)
 boundary_after_lines turn m = boundary_after_log turn m ∙ (commands_lines (found_by m) (due m)
-    ∙ ap (λ (ls : List Line). m.log ++ ls) (lines_with_events (filter (λ c. not (nat_le c.time m.time)) m.commands) (filter (λ c. not (nat_le c.time m.time)) m.characters) None m (due m)))
+    ∙ ap (λ (ls : List Line). m.log ++ ls) (lines_with_events (filter (λ c. not (nat_le c.time m.time)) m.commands) (filter (λ c. not (nat_le c.time m.time)) m.characters) None (after_ends m) (due m)))
 
-pub boundary_lines : (m : State) (turn : Turn) → m.owed ≡ Some turn → (boundary m).log ≡ m.log ++ lines_of_commands m (due m)
+pub boundary_lines : (m : State) (turn : Turn) → m.owed ≡ Some turn → (boundary m).log ≡ m.log ++ lines_of_commands (after_ends m) (due m)
 unfolding boundary
 boundary_lines m turn is = ap (λ (owed : Option Turn). (owed_boundary owed m).log) is ∙ boundary_after_lines turn m
 
 -- Half turns and runs.
 
-turn_by : (owed : Option Turn) (m : State) → m.owed ≡ owed → (cond (is_some owed) (boundary m) (unit m)).log ≡ m.log ++ cond (is_some owed) (lines_of_commands m (due m)) (lines_of_first m m.ready)
+turn_by : (owed : Option Turn) (m : State) → m.owed ≡ owed → (cond (is_some owed) (boundary m) (unit m)).log ≡ m.log ++ cond (is_some owed) (lines_of_commands (after_ends m) (due m)) (lines_of_first m m.ready)
 turn_by None m is = unit_lines m
 turn_by (Some turn) m is = boundary_lines m turn is
 
@@ -250,8 +254,8 @@ touched_owed false m = refl
 pub half_lines : (b : Bool) (m : State) → (half_turn b m).log ≡ m.log ++ lines_of_turn (touched b m)
 unfolding half_turn
 half_lines b m =
-    subst (λ (o : Option Turn). (cond (is_some m.owed) (boundary (touched b m)) (unit (touched b m))).log ≡ m.log ++ cond (is_some o) (lines_of_commands (touched b m) (due (touched b m))) (lines_of_first (touched b m) (touched b m).ready)) (sym (touched_owed b m))
-    (turn_by m.owed (touched b m) (touched_owed b m) ∙ ap (λ (ls : List Line). ls ++ cond (is_some m.owed) (lines_of_commands (touched b m) (due (touched b m))) (lines_of_first (touched b m) (touched b m).ready)) (touched-log b m))
+    subst (λ (o : Option Turn). (cond (is_some m.owed) (boundary (touched b m)) (unit (touched b m))).log ≡ m.log ++ cond (is_some o) (lines_of_commands (after_ends (touched b m)) (due (touched b m))) (lines_of_first (touched b m) (touched b m).ready)) (sym (touched_owed b m))
+    (turn_by m.owed (touched b m) (touched_owed b m) ∙ ap (λ (ls : List Line). ls ++ cond (is_some m.owed) (lines_of_commands (after_ends (touched b m)) (due (touched b m))) (lines_of_first (touched b m) (touched b m).ready)) (touched-log b m))
 
 go_lines : (on b : Bool) (m : State) → (cond on (half_turn b m) m).log ≡ m.log ++ cond on (lines_of_turn (touched b m)) []
 go_lines true b m = half_lines b m

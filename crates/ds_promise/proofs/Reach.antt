@@ -139,7 +139,7 @@ row_put (row ∷ t) zero es a g held = refl
 row_put (row ∷ t) (suc i) es a g held = row_put t i es a g held
 
 -- a grant put in the place of another
-put_there : (t : Table) (p a : ℕ) (g old : Grant) → entry_at t p a ≡ Some old → entry_at (with_entry t p a g) p a ≡ Some g
+pub put_there : (t : Table) (p a : ℕ) (g old : Grant) → entry_at t p a ≡ Some old → entry_at (with_entry t p a g) p a ≡ Some g
 put_there t p a g old held = ap (λ (es : List Entry). found es a) (row_put t (p - 1) (put (entries_of t p) a g) a old held) ∙ found_put_same (entries_of t p) a g
 
 put_apart : (t : Table) (p a : ℕ) (g : Grant) (q b : ℕ) → (q - 1 ≢ p - 1) ⊎ (b ≢ a) → (old : Grant) → entry_at t p a ≡ Some old → entry_at (with_entry t p a g) q b ≡ entry_at t q b

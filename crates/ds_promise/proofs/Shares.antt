@@ -34,7 +34,7 @@ number_left : (P : PageState → Type 0) (m : State) (p : ℕ) (r : Result PageS
 number_left P m p (Ok s) done k = k
 number_left P m p (Err number) done k = no_refusal number done
 
-denied_left : (P : PageState → Type 0) (m : State) (p pc address : ℕ) (r : Result PageState ℕ) → refusal r ≡ None → OfDone P r → P (or_denied m p pc address r).memory
+pub denied_left : (P : PageState → Type 0) (m : State) (p pc address : ℕ) (r : Result PageState ℕ) → refusal r ≡ None → OfDone P r → P (or_denied m p pc address r).memory
 denied_left P m p pc address (Ok s) done k = k
 denied_left P m p pc address (Err number) done k = no_refusal number done
 
@@ -43,7 +43,7 @@ logged_left P m number (Ok s) done k = k
 logged_left P m number (Err refusal) done k = no_refusal refusal done
 
 -- processes that live are counted from 1
-counted : (m : State) (p : ℕ) → lives m p ≡ true → 0 < p
+pub counted : (m : State) (p : ℕ) → lives m p ≡ true → 0 < p
 counted m p e = by p (length m.processes) (not (has_ended (process_of m p).standing)) e
   where
     by : (p n : ℕ) (rest : Bool) → (nat_lt 0 p && (nat_lt p (n + 1) && rest)) ≡ true → 0 < p
@@ -154,7 +154,7 @@ give_done alive s caller a receiver to =
     unless_refused P (fifth_region s receiver to) _ (λ _. unless_refused P (no_frames s 3) (Ok (given s caller a g receiver to 3)) (λ _.
     record {
       free = not_there (entry_at s.table receiver to) (not_refused 16 _ free);
-      grant = record g { right = Write; page = Some (fresh s.pages); giver = caller; parent = None };
+      grant = record g { right = Write; page = Some (fresh s.pages); giver = caller; parent = None; until = None };
       none = refl;
       is = refl;
     })))))))))

@@ -19,7 +19,8 @@ use Rattle.ds_policy.specs.declared.command.Command.TheVariants as command
 use Rattle.ds_policy.specs.declared.command.TimedCommand.{TimedCommand}
 use Rattle.ds_policy.specs.declared.grant.Right.TheVariants.{Read, Write}
 use Rattle.ds_policy.specs.Pages.{Pages, Table, decide, bytes_of, fresh, kept, is_named_by, entry_at}
-use Rattle.ds_policy.specs.Grants.{PageState, ◌or_else◌, refused, not_page, no_right, no_entry, has_right, table_full, fifth_region, no_frames, may_not_give, no_grant, granted, shared_from, copied, given, give, take as take_back, drop_own, grant, narrow, revoke, drop_by_command}
+use Rattle.ds_policy.specs.Ends.{has_some_expired, expired_table, expired}
+use Rattle.ds_policy.specs.Grants.{PageState, ◌or_else◌, refused, not_page, no_right, no_entry, has_right, table_full, fifth_region, no_frames, may_not_give, no_grant, granted, shared_from, copied, given, give, take as take_back, drop_own, grant, narrow, revoke, drop_by_command, live_only}
 use Rattle.ds_pagemap.specs.declared.turn.Turn.{Turn}
 use Rattle.ds_pagemap.specs.Machine.{State, first, process_of, is_parked, lives, made_ready, touch_first, touched}
 use Rattle.ds_pagemap.specs.Calls.{served, answered, or_number, or_denied, after_get, after_wait, queue_of, after_command, or_logged, refuse_command, ended}
@@ -127,7 +128,7 @@ give_comes : (alive : ℕ → Bool) (s : PageState) (caller address receiver to 
 give_comes alive s caller address receiver to mode =
     let Q = KeepsOrComes s.pages in
     let g = unwrap_or (entry_at s.table caller address) no_grant in
-    let copy = granted (copied s g.page) receiver to (record g { right = Write; page = Some (fresh s.pages); giver = caller; parent = None }) in
+    let copy = granted (copied s g.page) receiver to (record g { right = Write; page = Some (fresh s.pages); giver = caller; parent = None; until = None }) in
     let keep = same_or_come s.pages s.pages (same_pages s.pages) in
     done_or_else Q (refused 12 (not (alive receiver))) _ (
     done_or_else Q (not_page address) _ (
@@ -288,12 +289,13 @@ rotated_memory m (Some p) = going (is_first (first m.ready) p) m p
 -- the state that a boundary's commands find
 abbrev pub found_by : State → State
 found_by m = record m {
+  memory = expired m.memory m.time;
   commands = filter (λ c. not (nat_le c.time m.time)) m.commands;
   characters = filter (λ c. not (nat_le c.time m.time)) m.characters;
   owed = None;
 }
 
-boundary_after_memory : (turn : Turn) (m : State) → (boundary_after turn m).memory ≡ (after_commands (found_by m) (due m)).memory
+pub boundary_after_memory : (turn : Turn) (m : State) → (boundary_after turn m).memory ≡ (after_commands (found_by m) (due m)).memory
 boundary_after_memory turn m =
     let served = after_commands (found_by m) (due m) in
     let typed = record served { queues = all_queued served.queues (take 64 (filter (λ c. nat_le c.time m.time) m.characters)) } in
@@ -304,9 +306,15 @@ boundary_after_memory turn m =
     ending true m runner = rotated_memory m runner
     ending false m runner = refl
 
+expired_pages : (s : PageState) (time : ℕ) → Shrinks s.pages (expired s time).pages
+expired_pages s time =
+    if_pages (Shrinks s.pages) (has_some_expired time s.table) (live_only (record s { table = expired_table time s.table })) s
+    (kept_was s.pages (expired_table time s.table) s.named 0) (same_pages s.pages)
+
 owed_boundary_pages : (owed : Option Turn) (m : State) → Shrinks m.memory.pages (owed_boundary owed m).memory.pages
 owed_boundary_pages None m = same_pages m.memory.pages
-owed_boundary_pages (Some turn) m = subst (λ (s : PageState). Shrinks m.memory.pages s.pages) (sym (boundary_after_memory turn m)) (commands_pages (found_by m) (due m))
+owed_boundary_pages (Some turn) m = subst (λ (s : PageState). Shrinks m.memory.pages s.pages) (sym (boundary_after_memory turn m))
+    (λ page new e. expired_pages m.memory m.time page new (commands_pages (found_by m) (due m) page new e))
 
 pub boundary_pages : (m : State) → Shrinks m.memory.pages (boundary m).memory.pages
 unfolding boundary

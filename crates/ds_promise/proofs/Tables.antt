@@ -1,6 +1,6 @@
 -- What changes of a table keep: what all of its grants meet, and that no process has two entries at
 -- one address.
-use Rattle.std.proofs.Common.{◌≡◌, ◌≢◌, ◌⊎◌, inl, inr, ℕ, zero, suc, ◌-◌, Bool, true, false, cond, not, ◌==◌, List, [], ◌∷◌, filter, map, Option, Some, None, refl, sym, ap, ◌∙◌, subst, arith}
+use Rattle.std.proofs.Common.{◌≡◌, ◌≢◌, ◌⊎◌, inl, inr, ℕ, zero, suc, ◌-◌, Bool, true, false, cond, not, ◌&&◌, ◌==◌, List, [], ◌∷◌, filter, map, Option, Some, None, refl, sym, ap, ◌∙◌, subst, arith}
 use Rattle.std.specs.Prelude.{slice_set, slice_index_or}
 use Rattle.std.specs.Option.{option_map}
 use Rattle.std.proofs.lemmas.Bool.{cases_eq}
@@ -9,9 +9,11 @@ use Rattle.ds_policy.specs.declared.grant.Grant.{Grant}
 use Rattle.ds_policy.specs.declared.grant.Entry.{Entry}
 use Rattle.ds_policy.specs.declared.grant.EntryPlace.{EntryPlace}
 use Rattle.ds_policy.specs.Pages.{Table, entries_of, found, put, entry_at, with_entry, erased_entry}
+use Rattle.ds_policy.specs.Grants.{is_some_right, forbidden_by}
+use Rattle.ds_policy.specs.Ends.{is_reached, has_expired, expired_entry, expired_table}
 use Rattle.ds_policy.specs.Families.{parent_of, handed_on, descends, without_entry, without_entries, cut_entry, forbidden_entry, forbid_entry}
 use Rattle.ds_promise.specs.Families.{HaveOwnAddresses, AllHaveOwnAddresses}
-use Rattle.ds_promise.proofs.Entries.{no_grant_found, one_grant, found_put_same, found_put_other, row_map, handed, handed_grant, handed_address, same_place, without_left, without_gone}
+use Rattle.ds_promise.proofs.Entries.{no_grant_found, one_grant, entry_map, found_put_same, found_put_other, row_map, handed, handed_grant, handed_address, same_place, without_left, without_gone}
 use Rattle.ds_promise.proofs.Reach.{none_left, pruned, pruned_at, forbidden_grant, forbidden_address, marked, marked_at}
 
 -- Own addresses.
@@ -80,6 +82,32 @@ cut_table t p a own = without_entry_table (pruned t p a) p a (pruned_table t p a
 pub forbid_table : (t : Table) (p a : ℕ) (g : Grant) → AllHaveOwnAddresses t → AllHaveOwnAddresses (forbid_entry t p a g)
 forbid_table t p a g own = with_entry_table (marked t p a g) p a g (mapped_table t (forbidden_entry t p a g) (forbidden_address t p a g) own)
 
+-- Ends.
+
+-- what is left of a grant by a time
+abbrev pub expired_grant : ℕ → Grant → Grant
+expired_grant time g = cond (is_some_right g.right && is_reached time g.until) (forbidden_by g.rule) g
+
+pub expired_address : (time : ℕ) (e : Entry) → (expired_entry time e).address ≡ e.address
+expired_address time e = by (has_expired time e)
+  where
+    by : (c : Bool) → (cond c (record e { grant = forbidden_by e.grant.rule }) e).address ≡ e.address
+    by true = refl
+    by false = refl
+
+pub expired_is : (time : ℕ) (e : Entry) → (expired_entry time e).grant ≡ expired_grant time e.grant
+expired_is time e = by (has_expired time e)
+  where
+    by : (c : Bool) → (cond c (record e { grant = forbidden_by e.grant.rule }) e).grant ≡ cond c (forbidden_by e.grant.rule) e.grant
+    by true = refl
+    by false = refl
+
+pub expired_at : (time : ℕ) (t : Table) (q b : ℕ) → entry_at (expired_table time t) q b ≡ option_map (expired_grant time) (entry_at t q b)
+expired_at time t q b = entry_map (expired_entry time) (expired_grant time) (expired_address time) (expired_is time) t q b
+
+pub expire_table : (time : ℕ) (t : Table) → AllHaveOwnAddresses t → AllHaveOwnAddresses (expired_table time t)
+expire_table time t own = mapped_table t (expired_entry time) (expired_address time) own
+
 -- All grants.
 
 -- all that a table grants meets P
@@ -102,7 +130,7 @@ row_cases (row ∷ t) (suc i) zero b es h e = inr e
 row_cases (row ∷ t) (suc i) (suc j) b es h e = row_cases t i j b es h e
 
 -- what is found among fewer was found before, where each has its own address
-found_before : (f : Entry → Bool) (es : List Entry) (b : ℕ) (h : Grant) → HaveOwnAddresses es → found (filter f es) b ≡ Some h → found es b ≡ Some h
+pub found_before : (f : Entry → Bool) (es : List Entry) (b : ℕ) (h : Grant) → HaveOwnAddresses es → found (filter f es) b ≡ Some h → found es b ≡ Some h
 found_before f [] b h own e = e
 found_before f (x ∷ rest) b h own e =
     let alone = own.0 in
@@ -110,12 +138,12 @@ found_before f (x ∷ rest) b h own e =
     grind arith
 
 -- a grant that became another
-record WasAnother (k : Grant → Grant) (o : Option Grant) (h : Grant) : Type 0 where
-  old : Grant
-  was : o ≡ Some old
-  is : h ≡ k old
+pub record WasAnother (k : Grant → Grant) (o : Option Grant) (h : Grant) : Type 0 where
+  pub old : Grant
+  pub was : o ≡ Some old
+  pub is : h ≡ k old
 
-was_another : (k : Grant → Grant) (o : Option Grant) (h : Grant) → option_map k o ≡ Some h → WasAnother k o h
+pub was_another : (k : Grant → Grant) (o : Option Grant) (h : Grant) → option_map k o ≡ Some h → WasAnother k o h
 was_another k None h e = no_grant_found h e
 was_another k (Some g) h e = record { old = g; was = refl; is = one_grant (k g) h e }
 
@@ -158,3 +186,12 @@ forbid_all P t p a g all new = with_entry_all P (marked t p a g) p a g still new
     still q b h e =
         let w = was_another (forbidden_grant t p a g) (entry_at t q b) h (sym (marked_at t p a g q b) ∙ e) in
         subst P (sym w.is) (either _ w.old (all q b w.old w.was))
+
+pub expire_all : (P : Grant → Type 0) (time : ℕ) (t : Table) → AllGrants P t → ((rule : ℕ) → P (forbidden_by rule)) → AllGrants P (expired_table time t)
+expire_all P time t all new q b h e =
+    let w = was_another (expired_grant time) (entry_at t q b) h (sym (expired_at time t q b) ∙ e) in
+    subst P (sym w.is) (either (is_some_right w.old.right && is_reached time w.old.until) w.old (all q b w.old w.was))
+  where
+    either : (c : Bool) (old : Grant) → P old → P (cond c (forbidden_by old.rule) old)
+    either true old was = new old.rule
+    either false old was = was

@@ -12,12 +12,13 @@ use Rattle.ds_policy.specs.declared.grant.Entry.{Entry}
 use Rattle.ds_policy.specs.declared.grant.EntryPlace.{EntryPlace}
 use Rattle.ds_policy.specs.Pages.{Pages, Table, entries_of, found, entry_at, names, is_named_by, bytes_of, count_live, fresh, kept}
 use Rattle.ds_policy.specs.Families.{without_entry, without_entries, cut_entry, forbid_entry}
+use Rattle.ds_policy.specs.Ends.{has_some_expired, expired_table, expired}
 use Rattle.ds_policy.specs.Grants.{PageState, ◌or_else◌, refused, not_page, is_some_right, has_right, no_right, no_entry, no_grant, table_full, fifth_region, no_frames, may_not_give, live_only, granted, removed, cut, forbidden_by, forbidden, shared_from, copied, given, give, take as take_back, drop_own, grant, narrow, revoke, drop_by_command, end_process}
 use Rattle.ds_promise.specs.Stores.{page_at}
 use Rattle.ds_promise.specs.Families.{AllHaveOwnAddresses}
 use Rattle.ds_promise.specs.Whole.{Lives, NamesLiving, ArePagesWhole}
 use Rattle.ds_promise.proofs.Entries.{false_is_not_true, or_first, or_second, one_grant, no_grant_found}
-use Rattle.ds_promise.proofs.Tables.{AllGrants, with_entry_table, without_entry_table, without_entries_table, cut_table, forbid_table, with_entry_all, without_entry_all, without_entries_all, cut_all, forbid_all}
+use Rattle.ds_promise.proofs.Tables.{AllGrants, with_entry_table, without_entry_table, without_entries_table, cut_table, forbid_table, expire_table, with_entry_all, without_entry_all, without_entries_all, cut_all, forbid_all, expire_all}
 use Rattle.ds_promise.proofs.Stores.{set_cases, set_lives, none_is_not_some, fresh_is_free, kept_was, bytes_of_lives}
 
 -- Pages that an entry names.
@@ -121,6 +122,13 @@ module _ (s : PageState) (k : ArePagesWhole s) where
       let es = entries_of s.table p in
       fewer_whole (without_entries s.table p es) (without_entries_table p es s.table k.places) (without_entries_all Good any_parent p es s.table all_good)
 
+  pub expired_whole : (time : ℕ) → StaysWhole s (expired s time)
+  expired_whole time = by (has_some_expired time s.table)
+    where
+      by : (c : Bool) → StaysWhole s (cond c (live_only (record s { table = expired_table time s.table })) s)
+      by true = fewer_whole (expired_table time s.table) (expire_table time s.table k.places) (expire_all Good time s.table all_good (λ rule right. false_is_not_true right))
+      by false = unchanged
+
 -- Copies.
 
 -- where fewer pages live than may, the new page has room
@@ -219,7 +227,7 @@ drop_whole s caller a k =
 pub grant_whole : (alive : ℕ → Bool) (s : PageState) (p a page : ℕ) (right : Right) (leave : Bool) (rule : ℕ) → ArePagesWhole s → page < s.named → OfDone (StaysWhole s) (grant alive s p a page right leave rule)
 grant_whole alive s p a page right leave rule k below =
     let P = StaysWhole s in
-    let g : Grant = record { right = right; page = Some page; rule = rule; give = leave; giver = 0; parent = None } in
+    let g : Grant = record { right = right; page = Some page; rule = rule; give = leave; giver = 0; parent = None; until = None } in
     unless_refused P (refused 12 (not (alive p))) _ (λ _. unless_refused P (not_page a) _ (λ _. unless_refused P (refused 16 (has_right (entry_at s.table p a))) _ (λ _.
     unless_refused P (table_full s p a) _ (λ _. unless_refused P (fifth_region s p a) (Ok (granted s p a g)) (λ _.
     granted_whole s k p a g (λ some. record { page = page; names = refl; lives = k.named page below }))))))
@@ -257,7 +265,7 @@ pub record IsCopyOf (s t : PageState) (caller a receiver to : ℕ) : Type 0 wher
   pub bytes : List ℕ
   pub holds : page_at s.pages page ≡ Some bytes
   pub room : fresh s.pages < length s.pages
-  pub is : t ≡ granted (record s { pages = slice_set s.pages (fresh s.pages) (Some bytes) }) receiver to (record grant { right = Write; page = Some (fresh s.pages); giver = caller; parent = None })
+  pub is : t ≡ granted (record s { pages = slice_set s.pages (fresh s.pages) (Some bytes) }) receiver to (record grant { right = Write; page = Some (fresh s.pages); giver = caller; parent = None; until = None })
 
 -- what a give does: by mode 3 a copy, and by the others nothing to the pages
 pub record IsGiven (alive : ℕ → Bool) (s t : PageState) (caller a receiver to mode : ℕ) : Type 0 where
@@ -266,10 +274,10 @@ pub record IsGiven (alive : ℕ → Bool) (s t : PageState) (caller a receiver t
   pub others : mode ≢ 3 → t.pages ≡ s.pages
   pub copies : mode ≡ 3 → IsCopyOf s t caller a receiver to
 
-third_mode : (mode : ℕ) (leave rest : Bool) → ((not (nat_lt 0 mode && nat_lt mode 4) || leave) || rest) ≡ false → (mode == 1) ≡ false → (mode == 2) ≡ false → mode ≡ 3
+pub third_mode : (mode : ℕ) (leave rest : Bool) → ((not (nat_lt 0 mode && nat_lt mode 4) || leave) || rest) ≡ false → (mode == 1) ≡ false → (mode == 2) ≡ false → mode ≡ 3
 third_mode mode leave rest e f g = grind (arith, nat_tests)
 
-not_third : (k mode : ℕ) → k < 3 → (mode == k) ≡ true → mode ≢ 3
+pub not_third : (k mode : ℕ) → k < 3 → (mode == k) ≡ true → mode ≢ 3
 not_third k mode below e = λ (is : ◌≡◌ {A = ℕ} mode 3). apart k mode below e is
   where
     apart : (k mode : ℕ) → k < 3 → (mode == k) ≡ true → mode ≡ 3 → ⊥
@@ -300,7 +308,7 @@ module _ (alive : ℕ → Bool) (s : PageState) (k : ArePagesWhole s) (caller a 
 
   -- the grant of the new page
   abbrev new_grant : Grant → Grant
-  new_grant g = record g { right = Write; page = Some (fresh s.pages); giver = caller; parent = None }
+  new_grant g = record g { right = Write; page = Some (fresh s.pages); giver = caller; parent = None; until = None }
 
   abbrev with_copy : List ℕ → PageState
   with_copy bytes = record s { pages = slice_set s.pages (fresh s.pages) (Some bytes) }

@@ -44,7 +44,7 @@ two_words_that_differ_are_refused d = by d.place d.others
 
 -- the grant of page 0, for reading
 abbrev of_page_0 : Grant
-of_page_0 = record { right = Read; page = Some 0; rule = 1; give = false; giver = 0; parent = None }
+of_page_0 = record { right = Read; page = Some 0; rule = 1; give = false; giver = 0; parent = None; until = None }
 
 -- one page, which process 1 may read at address 0
 abbrev one_page : Option (List ℕ) → PageState

@@ -21,6 +21,7 @@ use Rattle.ds_policy.specs.declared.command.Command.TheVariants as command
 use Rattle.ds_policy.specs.declared.command.TimedCommand.{TimedCommand}
 use Rattle.ds_policy.specs.InputFacts.{IsGoodCommand, AreGoodCommands}
 use Rattle.ds_policy.specs.Pages.{decide, bytes_of}
+use Rattle.ds_policy.specs.Ends.{expired}
 use Rattle.ds_policy.specs.Grants.{PageState, give, take as take_back, drop_own, grant, narrow, revoke, drop_by_command}
 use Rattle.ds_pagemap.specs.declared.turn.Turn.{Turn}
 use Rattle.ds_pagemap.specs.Machine.{State, process_of, is_parked, lives, first, made_ready, touch_first, touched}
@@ -33,7 +34,7 @@ use Rattle.ds_promise.specs.Stores.{page_at}
 use Rattle.ds_promise.specs.Whole.{ArePagesWhole, HasWholePages}
 use Rattle.ds_promise.proofs.Stores.{set_cases, bytes_of_lives}
 use Rattle.ds_promise.proofs.Granted.{allowed_holds, allowed_offset, lets_something}
-use Rattle.ds_promise.proofs.WholePages.{StaysWhole, OfDone, IsGiven, still_lives, ended_whole, take_whole, drop_whole, grant_whole, narrow_whole, revoke_whole, drop_command_whole, give_whole}
+use Rattle.ds_promise.proofs.WholePages.{StaysWhole, OfDone, IsGiven, still_lives, ended_whole, expired_whole, take_whole, drop_whole, grant_whole, narrow_whole, revoke_whole, drop_command_whole, give_whole}
 
 -- Calls.
 
@@ -137,10 +138,12 @@ ending_turn_whole false m runner k = k
 boundary_after_whole : (turn : Turn) (m : State) → HasWholePages m → HasWholePages (boundary_after turn m)
 boundary_after_whole turn m k =
     let P : TimedCommand → Type 0 = λ (c : TimedCommand). IsGoodCommand m.memory.named c.command in
-    let later : State = record m { commands = filter (λ c. not (nat_le c.time m.time)) m.commands; characters = filter (λ c. not (nat_le c.time m.time)) m.characters; owed = None } in
-    let l : HasWholePages later = record { memory = k.memory; commands = All-filter (λ (c : TimedCommand). not (nat_le c.time m.time)) P m.commands k.commands } in
+    let ends = expired_whole m.memory k.memory m.time in
+    let later : State = record m { memory = expired m.memory m.time; commands = filter (λ c. not (nat_le c.time m.time)) m.commands; characters = filter (λ c. not (nat_le c.time m.time)) m.characters; owed = None } in
+    let named : later.memory.named ≡ m.memory.named = ends.named in
+    let l : HasWholePages later = record { memory = ends.whole; commands = subst (λ (n : ℕ). AreGoodCommands n later.commands) (sym named) (All-filter (λ (c : TimedCommand). not (nat_le c.time m.time)) P m.commands k.commands) } in
     let served = after_commands later (due m) in
-    let s : HasWholePages served = commands_whole later (due m) (All-filter (λ (c : TimedCommand). nat_le c.time m.time) P m.commands k.commands) l in
+    let s : HasWholePages served = commands_whole later (due m) (subst (λ (n : ℕ). AreGoodCommands n (due m)) (sym named) (All-filter (λ (c : TimedCommand). nat_le c.time m.time) P m.commands k.commands)) l in
     let typed : State = record served { queues = all_queued served.queues (take 64 (filter (λ c. nat_le c.time m.time) m.characters)) } in
     let t : HasWholePages typed = record { memory = s.memory; commands = s.commands } in
     ending_turn_whole (has_passed m.rate turn.began m.time) (woken typed 1 (length typed.processes)) turn.runner (woken_whole typed 1 (length typed.processes) t)

@@ -3,6 +3,7 @@ pub mod Families
 pub mod Whole
 pub mod Seen
 pub mod Lines
+pub mod Ends
 pub mod Denied
 pub mod Answers
 pub mod Rows

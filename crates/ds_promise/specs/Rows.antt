@@ -99,7 +99,7 @@ it_was_stored = record {
     value = λ w. 0x00410000;
     fetches = record { page = 0; offset = 4; fetched = refl; does = refl };
     allowed = refl;
-    granted = record { grant = record { right = Write; page = Some 1; rule = 2; give = false; giver = 0; parent = None }; held = refl; right = refl; names = refl };
+    granted = record { grant = record { right = Write; page = Some 1; rule = 2; give = false; giver = 0; parent = None; until = None }; held = refl; right = refl; names = refl };
     word = refl;
   });
 }
@@ -108,7 +108,7 @@ it_was_stored = record {
 
 -- process 1 may write the page of data, and process 2 may read it elsewhere
 abbrev shared : PolicyValue
-shared = record (policy 0x00400000 (data_at 0x00410000 Write ∷ record { process = 2; address = 0x00420000; right = Read; page = Some 1; give = false } ∷ [])) {
+shared = record (policy 0x00400000 (data_at 0x00410000 Write ∷ record { process = 2; address = 0x00420000; right = Read; page = Some 1; give = false; until = None } ∷ [])) {
   processes = record { start = 0x00400000; line = 0 } ∷ record { start = 0x00400000; line = 1 } ∷ [];
 }
 
@@ -142,7 +142,7 @@ by_the_entry_of_the_one_that_stored = record {
     value = λ w. 0x00410000;
     fetches = record { page = 0; offset = 4; fetched = refl; does = refl };
     allowed = refl;
-    granted = record { grant = record { right = Write; page = Some 1; rule = 2; give = false; giver = 0; parent = None }; held = refl; right = refl; names = refl };
+    granted = record { grant = record { right = Write; page = Some 1; rule = 2; give = false; giver = 0; parent = None; until = None }; held = refl; right = refl; names = refl };
     word = refl;
   });
 }
@@ -151,12 +151,12 @@ by_the_entry_of_the_one_that_stored = record {
 
 -- process 1 may give its page of data, gives a copy of it to process 2, and stores on its own
 abbrev copying : PolicyValue
-copying = record (policy 0x00400000 (record { process = 1; address = 0x00410000; right = Write; page = Some 1; give = true } ∷ [])) {
+copying = record (policy 0x00400000 (record { process = 1; address = 0x00410000; right = Write; page = Some 1; give = true; until = None } ∷ [])) {
   processes = record { start = 0x00400000; line = 0 } ∷ record { start = 0x00400000; line = 1 } ∷ [];
 }
 
 -- at the call
-abbrev giving : State
+abbrev pub giving : State
 giving = after 100 (replicate 12 false) (first copying ("lui $8,0x41" ∷ "lui $4,0x41" ∷ "addiu $5,$0,2" ∷ "lui $6,0x50" ∷ "addiu $7,$0,3" ∷ "addiu $2,$0,6" ∷ "syscall" ∷ "sw $8,4($8)" ∷ []) [])
 
 -- after its boundary, at the store
@@ -171,7 +171,7 @@ pub the_copy_has_the_bytes : page_at given_away.memory.pages 2 ≡ Some (replica
 unfolding run_on_literals
 the_copy_has_the_bytes = refl
 
-pub the_receiver_may_write_the_copy : entry_at given_away.memory.table 2 0x00500000 ≡ Some (record { right = Write; page = Some 2; rule = 2; give = true; giver = 1; parent = None })
+pub the_receiver_may_write_the_copy : entry_at given_away.memory.table 2 0x00500000 ≡ Some (record { right = Write; page = Some 2; rule = 2; give = true; giver = 1; parent = None; until = None })
 unfolding run_on_literals
 the_receiver_may_write_the_copy = refl
 
@@ -195,7 +195,7 @@ the_unit_copies = record {
   receiver = 2;
   to = 0x00500000;
   gives = refl;
-  given = record { grant = record { right = Write; page = Some 1; rule = 2; give = true; giver = 0; parent = None }; held = refl; right = refl; page = 1; names = refl; holds = refl };
+  given = record { grant = record { right = Write; page = Some 1; rule = 2; give = true; giver = 0; parent = None; until = None }; held = refl; right = refl; page = 1; names = refl; holds = refl };
 }
 
 -- Answers.

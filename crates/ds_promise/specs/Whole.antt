@@ -60,7 +60,7 @@ pub record IsCopied (m t : State) (p address receiver to : ℕ) : Type 0 where
   pub copy : ℕ
   pub new : page_at m.memory.pages copy ≡ None
   pub same : page_at t.memory.pages copy ≡ Some bytes
-  pub entry : entry_at t.memory.table receiver to ≡ Some (record given.grant { right = Write; page = Some copy; giver = p; parent = None })
+  pub entry : entry_at t.memory.table receiver to ≡ Some (record given.grant { right = Write; page = Some copy; giver = p; parent = None; until = None })
 
 -- no boundary is owed, and the first ready process gives a copy of a page of its own with these bytes
 pub record UnitCopies (m : State) (bytes : List ℕ) : Type 0 where

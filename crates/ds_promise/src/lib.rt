@@ -1,11 +1,16 @@
 //! What the page-map machine promises its user: who can change a page, what a guest can see, what a
-//! call can tell, and what the log says.
+//! call can tell, what the log says, and that rights end at their time.
 #![tactic(auto)]
 
+mod ends;
 mod laws;
 mod pages;
 mod sharing;
 
+pub use ends::{
+    a_share_has_its_givers_end, an_ended_right_leaves_its_rule, no_right_outlives_its_end,
+    what_came_of_an_entry_ends_with_it, what_has_ended_is_out_of_reach_until_it_is_granted_anew,
+};
 pub use laws::{
     a_guest_sees_nothing_but_what_it_was_granted, an_instruction_stops_exactly_where_it_is_denied,
     every_denial_is_logged_and_nothing_else, only_a_granted_store_changes_a_page,
