@@ -1,4 +1,4 @@
--- What comes during a run, as a reader is told it: commands, and characters between them.
+-- What comes during a run, as a reader is told it: ends of rights and commands, and characters between them.
 use Rattle.std.specs.Prelude.{codes, decimal, ℕ, ◌+◌, Bool, true, false, ◌&&◌, ◌==◌, nat_le, if◌then◌else◌, List, [], ◌∷◌, ◌++◌, take, drop, Option, None, Some}
 use Rattle.std.specs.List.{flat_map, slice_get, prefix_len}
 use Rattle.ds_policy.specs.declared.command.Command.{Command}
@@ -8,9 +8,13 @@ use Rattle.ds_policy.specs.declared.command.Character.{Character}
 use Rattle.ds_policy.specs.declared.grant.Right.{Right}
 use Rattle.ds_policy.specs.declared.grant.Right.TheVariants.{Nothing, Read, Write}
 use Rattle.ds_policy.specs.declared.policy.PolicyPage.{PolicyPage}
-use Rattle.ds_policy.specs.Value.{InputValue}
+use Rattle.ds_policy.specs.Value.{PolicyValue, InputValue}
 use Rattle.ds_listing.specs.Texts.{hex8}
 use Rattle.ds_listing.specs.Texts.{hex2}
+use Rattle.ds_check.specs.declared.due.RuleEnd.{RuleEnd}
+use Rattle.ds_check.specs.declared.due.Due.{Due}
+use Rattle.ds_check.specs.declared.due.Due.TheVariants as due
+use Rattle.ds_check.specs.Due.{time_of, due_of}
 
 -- the name of a page, where there is one
 abbrev pub name_text : Option PolicyPage → List ℕ
@@ -48,9 +52,28 @@ command_text pages k =
     decimal k.time ++ codes " command " ++ decimal k.number ++ codes ", rule " ++ decimal (1000 + k.number) ++ codes ": "
     ++ words_text pages k.command ++ codes "\n"
 
--- how many commands come no later
-abbrev pub count_due : ℕ → List TimedCommand → ℕ
-count_due time ks = prefix_len (λ (k : TimedCommand). nat_le k.time time) ks
+-- the page of this number, if there is one
+abbrev pub page_at : List PolicyPage → Option ℕ → Option PolicyPage
+page_at pages None = None
+page_at pages (Some n) = slice_get pages n
+
+-- what a process loses, and the end of the line
+abbrev pub loss_text : List PolicyPage → RuleEnd → List ℕ
+loss_text pages e =
+    codes ": process " ++ decimal e.process ++ codes " loses " ++ hex8 e.address ++ codes " " ++ name_text (page_at pages e.page) ++ codes "\n"
+
+-- the line of an end: its time, its rule, and what the process loses
+abbrev pub rule_end_text : List PolicyPage → RuleEnd → List ℕ
+rule_end_text pages e = decimal e.time ++ codes " end, rule " ++ decimal e.rule ++ loss_text pages e
+
+-- the line of an end or of a command
+abbrev pub due_text : List PolicyPage → Due → List ℕ
+due_text pages (due.End e) = rule_end_text pages e
+due_text pages (due.Command k) = command_text pages k
+
+-- how many ends and commands come no later
+abbrev pub count_due : ℕ → List Due → ℕ
+count_due time ks = prefix_len (λ (k : Due). nat_le (time_of k) time) ks
 
 -- the first of the characters of a line: their time, their line, and the character itself
 abbrev pub key_text : Character → List ℕ
@@ -66,21 +89,21 @@ abbrev pub end_text : Option Character → List ℕ
 end_text None = []
 end_text (Some c) = codes "\n"
 
--- a character: after those that it comes with, or after the commands that come no later
-abbrev pub step_text : List PolicyPage → Option Character → List TimedCommand → Character → List ℕ
+-- a character: after those that it comes with, or after the ends and commands that come no later
+abbrev pub step_text : List PolicyPage → Option Character → List Due → Character → List ℕ
 step_text pages last ks c =
     if comes_with last c then hex2 c.byte
-    else end_text last ++ flat_map (command_text pages) (take (count_due c.time ks) ks) ++ key_text c
+    else end_text last ++ flat_map (due_text pages) (take (count_due c.time ks) ks) ++ key_text c
 
--- how many commands come before a character, and after the one before it
-abbrev pub step_count : Option Character → List TimedCommand → Character → ℕ
+-- how many ends and commands come before a character, and after the one before it
+abbrev pub step_count : Option Character → List Due → Character → ℕ
 step_count last ks c = if comes_with last c then 0 else count_due c.time ks
 
--- characters after one, and commands between them
-abbrev pub events_from : List PolicyPage → Option Character → List TimedCommand → List Character → List ℕ
-events_from pages last ks [] = end_text last ++ flat_map (command_text pages) ks
+-- characters after one, and ends and commands between them
+abbrev pub events_from : List PolicyPage → Option Character → List Due → List Character → List ℕ
+events_from pages last ks [] = end_text last ++ flat_map (due_text pages) ks
 events_from pages last ks (c ∷ cs) = step_text pages last ks c ++ events_from pages (Some c) (drop (step_count last ks c) ks) cs
 
--- what an input says, where these are the policy's pages: at one time the commands first
-abbrev pub events_text : List PolicyPage → InputValue → List ℕ
-events_text pages v = events_from pages None v.commands v.characters
+-- what comes where a policy is run with an input: at one time ends first, then commands
+abbrev pub events_text : PolicyValue → InputValue → List ℕ
+events_text p v = events_from p.pages None (due_of p.rules v.commands) v.characters

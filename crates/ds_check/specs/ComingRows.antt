@@ -1,5 +1,5 @@
 -- Worked events.
-use Rattle.std.specs.Prelude.{codes, refl, ◌≡◌, ℕ, true, false, List, [], ◌∷◌, ◌++◌, None}
+use Rattle.std.specs.Prelude.{codes, refl, ◌≡◌, ℕ, true, false, List, [], ◌∷◌, ◌++◌, Option, Some, None}
 use Rattle.std.specs.Fmt.{digits}
 use Rattle.ds_policy.specs.declared.command.Command.{Command}
 use Rattle.ds_policy.specs.declared.command.Command.TheVariants.{Grant, Narrow, Revoke, Drop, Resume, Stop}
@@ -7,6 +7,7 @@ use Rattle.ds_policy.specs.declared.command.TimedCommand.{TimedCommand}
 use Rattle.ds_policy.specs.declared.command.Character.{Character}
 use Rattle.ds_policy.specs.declared.grant.Right.TheVariants.{Read, Write}
 use Rattle.ds_policy.specs.declared.policy.PolicyPage.{PolicyPage}
+use Rattle.ds_policy.specs.Value.{PolicyValue}
 use Rattle.ds_listing.specs.Texts.{hex4, hex8}
 use Rattle.ds_check.specs.Coming.{events_text}
 
@@ -20,8 +21,18 @@ order time number command = record { time = time; number = number; command = com
 abbrev key : ℕ → ℕ → ℕ → Character
 key time line byte = record { time = time; line = line; byte = byte }
 
+-- a policy of these pages, with one rule: page 1 to process 2, until a time
+abbrev until : Option ℕ → PolicyValue
+until time = record {
+  frames = 16;
+  rate = 0;
+  processes = record { start = 0; line = 0 } ∷ record { start = 0; line = 1 } ∷ [];
+  pages = two_pages;
+  rules = record { process = 2; address = 0x0041A000; right = Write; page = Some 1; give = true; until = time } ∷ [];
+}
+
 -- characters stand together where their time and their line are one; at one time commands come first
-pub events_in_their_order : events_text two_pages (record {
+pub events_in_their_order : events_text (until None) (record {
   commands = order 5 1 (Stop 2) ∷ order 7 2 (Grant 1 0x0041A000 1 Read true) ∷ order 9 3 (Grant 1 0x0041B000 0 Write false) ∷ [];
   characters = key 4 0 0x48 ∷ key 4 0 0x69 ∷ key 4 1 0x0A ∷ key 7 1 0xFF ∷ key 8 1 0 ∷ [];
 })
@@ -30,7 +41,7 @@ pub events_in_their_order : events_text two_pages (record {
 unfolding hex4 hex8 digits
 events_in_their_order = refl
 
-pub commands_in_words : events_text two_pages (record {
+pub commands_in_words : events_text (until None) (record {
   commands = order 0 1 (Narrow 1 0x0041A000) ∷ order 0 2 (Revoke 10 0xFFFFFFFF) ∷ order 0 3 (Drop 3 0) ∷ order 0 4 (Resume 4294967295) ∷ [];
   characters = [];
 })
@@ -39,5 +50,19 @@ pub commands_in_words : events_text two_pages (record {
 unfolding hex4 hex8 digits
 commands_in_words = refl
 
-pub no_event_is_no_line : events_text two_pages (record { commands = []; characters = [] }) ≡ []
+-- at one time a right ends before commands, and characters come after both
+pub ends_in_their_order : events_text (until (Some 7)) (record {
+  commands = order 5 1 (Stop 2) ∷ order 7 2 (Stop 1) ∷ [];
+  characters = key 5 0 0x48 ∷ key 7 0 0x69 ∷ [];
+})
+    ≡ codes "5 command 1, rule 1001: stop 2\n5 key 0 48\n7 end, rule 1: process 2 loses 0041A000 data\n7 command 2, rule 1002: stop 1\n7 key 0 69\n"
+unfolding hex4 hex8 digits
+ends_in_their_order = refl
+
+pub an_end_without_an_input : events_text (until (Some 1000000000)) (record { commands = []; characters = [] })
+    ≡ codes "1000000000 end, rule 1: process 2 loses 0041A000 data\n"
+unfolding hex4 hex8 digits
+an_end_without_an_input = refl
+
+pub no_event_is_no_line : events_text (until None) (record { commands = []; characters = [] }) ≡ []
 no_event_is_no_line = refl

@@ -8,4 +8,4 @@ use Rattle.ds_check.specs.Coming.{events_text}
 -- the permission table at the start; what is near a limit; what comes
 abbrev pub explained : PolicyValue → List ℕ → InputValue → List ℕ
 explained p input v =
-    codes "table\n" ++ table_text p ++ codes "limits\n" ++ limits_text p input ++ codes "events\n" ++ events_text p.pages v
+    codes "table\n" ++ table_text p ++ codes "limits\n" ++ limits_text p input ++ codes "events\n" ++ events_text p v

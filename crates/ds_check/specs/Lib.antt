@@ -2,6 +2,8 @@ pub mod Permissions
 pub mod PermissionRows
 pub mod Limits
 pub mod LimitRows
+pub mod Due
+pub mod DueRows
 pub mod Coming
 pub mod ComingRows
 pub mod Explained

@@ -7,7 +7,7 @@ use Rattle.ds_policy.specs.Value.{PolicyValue}
 use Rattle.ds_check.specs.Limits.{limits_text, near_text, events_in}
 
 abbrev rule : ℕ → ℕ → PolicyRule
-rule process address = record { process = process; address = address; right = Read; page = Some 0; give = false }
+rule process address = record { process = process; address = address; right = Read; page = Some 0; give = false; until = None }
 
 -- two processes, of which the first has rules in four regions
 abbrev two_processes : PolicyValue

@@ -45,11 +45,16 @@ abbrev pub give_text : Bool → List ℕ
 give_text true = codes ", give (take and revoke reach what is shared on)\n"
 give_text false = codes "\n"
 
--- the line of an entry: address, right, page, rule, give
+-- the time at which the right ends, if it does
+abbrev pub until_text : Option ℕ → List ℕ
+until_text None = []
+until_text (Some time) = codes ", until " ++ decimal time
+
+-- the line of an entry: address, right, page, rule, until, give
 abbrev pub entry_text : List PolicyPage → Entry → List ℕ
 entry_text pages e =
     codes "  " ++ hex8 e.address ++ right_text e.grant.right ++ granted_text pages e.grant.page
-    ++ codes "rule " ++ decimal e.grant.rule ++ give_text e.grant.give
+    ++ codes "rule " ++ decimal e.grant.rule ++ until_text e.grant.until ++ give_text e.grant.give
 
 -- process n and its entries
 abbrev pub process_text : List PolicyPage → ℕ → List Entry → List ℕ

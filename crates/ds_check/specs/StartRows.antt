@@ -1,5 +1,5 @@
 -- Worked starts.
-use Rattle.std.specs.Prelude.{codes, refl, ◌≡◌, ℕ, false, List, [], ◌∷◌, ◌++◌, replicate, Some}
+use Rattle.std.specs.Prelude.{codes, refl, ◌≡◌, ℕ, false, List, [], ◌∷◌, ◌++◌, replicate, Some, None}
 use Rattle.std.specs.Fmt.{digits}
 use Rattle.ds_asm.specs.OnLiterals.{asm_on_literals}
 use Rattle.ds_policy.specs.declared.grant.Right.TheVariants.{Read}
@@ -17,7 +17,7 @@ two_lines = record {
 }
 
 abbrev rule : ℕ → ℕ → PolicyRule
-rule process address = record { process = process; address = address; right = Read; page = Some 0; give = false }
+rule process address = record { process = process; address = address; right = Read; page = Some 0; give = false; until = None }
 
 -- processes with these starts under a page of code, which the first two may read
 abbrev processes : List ℕ → List PolicyProcess

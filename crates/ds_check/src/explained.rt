@@ -9,7 +9,8 @@ use ds_policy::{Events, OutOfMemory, Policy};
 use std::alloc::Global;
 
 /// A policy and an input explained: the permission table at the start, the counts with their limits,
-/// and the events, which were read of that input. Where there is no input yet, it is empty.
+/// and the events: those that were read of that input, and the ends of rights. Where there is no input
+/// yet, it is empty.
 pub fn explain(
     alloc: Global,
     policy: &Policy,
@@ -24,6 +25,6 @@ pub fn explain(
     sheet.extend_from_slice(b"limits\n")?;
     push_limits(&mut sheet, policy, input)?;
     sheet.extend_from_slice(b"events\n")?;
-    push_events(&mut sheet, policy.pages(), events)?;
+    push_events(alloc, &mut sheet, policy, events)?;
     Ok(sheet)
 }

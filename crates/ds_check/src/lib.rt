@@ -5,6 +5,7 @@
 mod caret;
 mod coming;
 mod counts;
+mod due;
 mod explained;
 mod items;
 mod limits;

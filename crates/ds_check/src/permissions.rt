@@ -1,15 +1,15 @@
 //! The permission table at the start, as text.
 ghost use Rattle.std.specs.Prelude.{◌≡◌, ◌≤◌, ◌<◌, ◌^◌, ◌++◌, ◌∷◌, [], OnOk, IfOk, length};
 ghost use Rattle.std.specs.List.{flat_map};
-ghost use Rattle.ds_check.specs.Permissions.{table_text, processes_text, process_text, entry_text, granted_text, page_text, part_text, right_text, give_text};
+ghost use Rattle.ds_check.specs.Permissions.{table_text, processes_text, process_text, entry_text, granted_text, page_text, part_text, right_text, give_text, until_text};
 
 use crate::sheet::{push_decimal, push_hex};
 use ds_policy::{Entry, OutOfMemory, Policy, PolicyPage, Right, Source, Table};
 use std::alloc::{AllocError, Global};
 
 /// The permission table that a policy begins with, process by process: for each entry a line with its
-/// address, its right, its page with the page's source, the rule's number, and whether the process
-/// may give it on.
+/// address, its right, its page with the page's source, the rule's number, when its right ends, and
+/// whether the process may give it on.
 pub fn table_text(alloc: Global, policy: &Policy) -> Result<Vec<u8>, OutOfMemory>
     ensures { IfOk result (λ v. v.items ≡ table_text policy.now) }
 {
@@ -83,7 +83,21 @@ fn push_entry(sheet: &mut Vec<u8>, pages: &[PolicyPage], entry: &Entry) -> Resul
     push_granted(sheet, pages, grant.page)?;
     sheet.extend_from_slice(b"rule ")?;
     push_decimal(sheet, u64::from(grant.rule))?;
+    push_until(sheet, grant.until)?;
     sheet.extend_from_slice(give_word(grant.give))
+}
+
+/// Adds the time at which a right ends, if it does.
+fn push_until(sheet: &mut Vec<u8>, until: Option<u32>) -> Result<(), AllocError>
+    ensures { OnOk result (sheet.new.items ≡ sheet.old.items ++ until_text until) }
+{
+    match until {
+        Some(time) => {
+            sheet.extend_from_slice(b", until ")?;
+            push_decimal(sheet, u64::from(time))
+        }
+        None => Ok(()),
+    }
 }
 
 /// Adds the page of this number, where there is one.

@@ -57,7 +57,8 @@ pub(crate) const BAD_RULE: &str = "\
 Rules count from 1 in the order in which they stand. A rule names a process
 of the policy, an address that is a multiple of 0x1000 below 0x80000000, and
 a right: `\"none\"` and nothing else, or `\"read\"` or `\"write\"` with a page of
-the policy and perhaps `give = true`. No earlier rule of its process has its
+the policy and perhaps `give = true`; in version 2 perhaps `until`, a number
+of ticks from 1 to 1000000000. No earlier rule of its process has its
 address; it is not the 257th of its process, and not in a fifth region of 4
 MiB. `docs/policy.md`, \"A rule that is refused\", has examples.
 ";
@@ -65,12 +66,13 @@ MiB. `docs/policy.md`, \"A rule that is refused\", has examples.
 /// 10 `Limit`.
 pub(crate) const LIMIT: &str = "\
 The value of the root key is missing, of another type, or out of range.
-`version` is 1, `frames` from 1 to 1024, `rate` 0 or from 3 to 15; there are
-1 to 100 `[[process]]`, each with `start` and `line`, as many `[[page]]` as
-`frames` at most, and 999 `[[rule]]` at most. `docs/policy.md`, \"A key that
-is refused\", has examples. `Limit key` says that there is a root key of
-another name. `Limit n` is of `run_files` and `run_policy` alone: n is above
-1000000000, which the program refuses among its words.
+`version` is 1 or 2, `frames` from 1 to 1024, `rate` 0 or from 3 to 15;
+there are 1 to 100 `[[process]]`, each with `start` and `line`, as many
+`[[page]]` as `frames` at most, and 999 `[[rule]]` at most.
+`docs/policy.md`, \"A key that is refused\", has examples. `Limit key` says
+that there is a root key of another name. `Limit n` is of `run_files` and
+`run_policy` alone: n is above 1000000000, which the program refuses among
+its words.
 ";
 
 /// 20 `InputFault`.

@@ -58,7 +58,12 @@ fn push_entry(
     push_hex(sheet, address)
 }
 
-fn push_name(sheet: &mut Vec<u8>, pages: &[PolicyPage], page: u32) -> Result<(), AllocError>
+/// Adds the name of the page of this number, if there is one.
+pub(crate) fn push_name(
+    sheet: &mut Vec<u8>,
+    pages: &[PolicyPage],
+    page: u32,
+) -> Result<(), AllocError>
     ensures { OnOk result
         (sheet.new.items ≡ sheet.old.items ++ name_text (slice_get pages.now page)) }
 {

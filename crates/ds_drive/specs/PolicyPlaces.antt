@@ -34,12 +34,15 @@ page_key page.SameName = Some (codes "name")
 abbrev pub rule_key : RuleCause → Option (List ℕ)
 rule_key rule.NotTable = None
 rule_key rule.OtherKey = None
+rule_key rule.UntilOfVersion1 = Some (codes "until")
 rule_key rule.BadProcess = Some (codes "process")
 rule_key rule.BadAddress = Some (codes "address")
 rule_key rule.BadRight = Some (codes "right")
 rule_key rule.PageOfNone = Some (codes "right")
+rule_key rule.UntilOfNone = Some (codes "until")
 rule_key rule.BadPage = Some (codes "page")
 rule_key rule.BadGive = Some (codes "give")
+rule_key rule.BadUntil = Some (codes "until")
 rule_key rule.SamePlace = Some (codes "address")
 rule_key rule.TooManyRules = None
 rule_key rule.FifthRegion = Some (codes "address")

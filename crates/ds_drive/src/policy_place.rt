@@ -103,5 +103,6 @@ fn rule_key(cause: RuleCause) -> Option<&'static str>
         RuleCause::BadRight | RuleCause::PageOfNone => Some("right"),
         RuleCause::BadPage => Some("page"),
         RuleCause::BadGive => Some("give"),
+        RuleCause::UntilOfVersion1 | RuleCause::UntilOfNone | RuleCause::BadUntil => Some("until"),
     }
 }

@@ -10,7 +10,7 @@ use Rattle.ds_notes.specs.declared.policy.PolicyNote.TheVariants.{StartOffFour, 
 use Rattle.ds_notes.specs.PolicyNotes.{policy_notes}
 
 abbrev rule : ℕ → ℕ → Right → Option ℕ → PolicyRule
-rule process address right page = record { process = process; address = address; right = right; page = page; give = false }
+rule process address right page = record { process = process; address = address; right = right; page = page; give = false; until = None }
 
 -- a page of code and one of data
 abbrev code : PolicyPage

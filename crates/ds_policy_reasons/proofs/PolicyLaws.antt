@@ -78,7 +78,7 @@ says_told ms =
     let of_process : IsTold ms (limit (codes "process")) = processes_told (array_at (codes "process") ms) in
     let of_page : IsTold ms (limit (codes "page")) = pages_told (frames_in ms) (array_at (codes "page") ms) in
     bind_told ms (check (has_only (codes "version" ∷ codes "frames" ∷ codes "rate" ∷ codes "process" ∷ codes "page" ∷ codes "rule" ∷ []) ms) (limit (codes "key"))) _ (check_told ms _ _ refl) (λ known.
-    bind_told ms (or_else (number_at (codes "version") 1 1 ms) (limit (codes "version"))) _ (or_else_told ms _ _ refl) (λ version.
+    bind_told ms (or_else (number_at (codes "version") 1 2 ms) (limit (codes "version"))) _ (or_else_told ms _ _ refl) (λ version.
     bind_told ms (or_else (number_at (codes "frames") 1 1024 ms) (limit (codes "frames"))) _ (or_else_told ms _ _ refl) (λ frames.
     bind_told ms (or_else (rate_of (get_member (codes "rate") ms)) (limit (codes "rate"))) _ (or_else_told ms _ _ refl) (λ rate.
     bind_told ms (processes_of (get_member (codes "process") ms)) _
@@ -87,7 +87,7 @@ says_told ms =
     bind_told ms (pages_of frames (get_member (codes "page") ms)) _
     (bind_told ms (or_else (items_if frames (get_member (codes "page") ms)) (limit (codes "page"))) _ (or_else_told ms _ _ of_page) (λ ds. each_told ms _ _ [] ds (λ xs. of_page)))
     (λ pages.
-    bind_told ms (rules_of (length processes) pages (get_member (codes "rule") ms)) _
+    bind_told ms (rules_of version (length processes) pages (get_member (codes "rule") ms)) _
     (bind_told ms (or_else (items_if 999 (get_member (codes "rule") ms)) (limit (codes "rule"))) _ (or_else_told ms _ _ refl) (λ ds. each_told ms _ _ [] ds (λ xs. refl)))
     (λ rules. tt)))))))
 

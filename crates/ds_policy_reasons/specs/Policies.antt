@@ -14,6 +14,10 @@ use Rattle.ds_policy_reasons.specs.Processes.{processes_reason}
 use Rattle.ds_policy_reasons.specs.PolicyPages.{pages_reason}
 use Rattle.ds_policy_reasons.specs.Rules.{cause_of_rule}
 
+-- the version of a document, or 0
+abbrev pub version_in : Members → ℕ
+version_in ms = unwrap_or (number_at (codes "version") 1 2 ms) 0
+
 -- the number of frames of a document, or 0
 abbrev pub frames_in : Members → ℕ
 frames_in ms = unwrap_or (number_at (codes "frames") 1 1024 ms) 0
@@ -36,7 +40,7 @@ key_reason ms key =
 
 -- what is wrong with the rule of this number of a document
 abbrev pub rule_in : Members → ℕ → PolicyReason
-rule_in ms number = reason.Rule number (cause_of_rule (length (array_at (codes "process") ms)) (array_at (codes "page") ms) (array_at (codes "rule") ms) number)
+rule_in ms number = reason.Rule number (cause_of_rule (version_in ms) (length (array_at (codes "process") ms)) (array_at (codes "page") ms) (array_at (codes "rule") ms) number)
 
 -- why a document is refused in this way
 abbrev pub refusal_reason : Members → PolicyRefusal → PolicyReason

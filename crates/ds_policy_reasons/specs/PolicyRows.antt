@@ -9,7 +9,7 @@ use Rattle.ds_policy_reasons.specs.declared.policy_cause.PageCause.TheVariants a
 use Rattle.ds_policy_reasons.specs.declared.policy_cause.ProcessCause.{ProcessCause}
 use Rattle.ds_policy_reasons.specs.declared.policy_cause.ProcessCause.TheVariants as process
 use Rattle.ds_policy_reasons.specs.declared.policy_cause.RuleCause.{RuleCause}
-use Rattle.ds_policy_reasons.specs.declared.policy_cause.RuleCause.TheVariants.{OtherKey, BadProcess, BadAddress, BadRight, PageOfNone, BadPage, BadGive, SamePlace, TooManyRules, FifthRegion}
+use Rattle.ds_policy_reasons.specs.declared.policy_cause.RuleCause.TheVariants.{OtherKey, UntilOfVersion1, BadProcess, BadAddress, BadRight, PageOfNone, UntilOfNone, BadPage, BadGive, BadUntil, SamePlace, TooManyRules, FifthRegion}
 use Rattle.ds_policy_reasons.specs.declared.reason.PolicyReason.TheVariants as reason
 use Rattle.ds_policy_reasons.specs.Processes.{process_table_cause, processes_reason}
 use Rattle.ds_policy_reasons.specs.PolicyPages.{page_table_cause, pages_reason}
@@ -66,14 +66,14 @@ pub the_first_page_that_is_refused :
     ≡ reason.Page 3 page.SameName ∷ reason.PageCount ∷ reason.Page 2 page.NotTable ∷ reason.Process 1 process.OtherKey ∷ reason.ProcessCount ∷ []
 the_first_page_that_is_refused = refl
 
--- what is wrong with a rule of these keys by itself, where there are two processes and a page `data`
-abbrev of_rule : List ℕ → Option (Option RuleCause)
-of_rule keys = option_map (keys_cause 2 (named (codes "data") ∷ [])) (parse_document keys)
+-- what is wrong with a rule of these keys by itself, in a policy of this version, where there are two processes and a page `data`
+abbrev of_rule : ℕ → List ℕ → Option (Option RuleCause)
+of_rule version keys = option_map (keys_cause version 2 (named (codes "data") ∷ [])) (parse_document keys)
 
-pub rules : map of_rule (
+pub rules : map (of_rule 1) (
     codes "process = 2\naddress = 0x1000\nright = \"read\"\npage = \"data\""
     ∷ codes "process = 2\naddress = 0x1000\nright = \"none\""
-    ∷ codes "process = 3\nuntil = 1"
+    ∷ codes "process = 3\nends = 1"
     ∷ codes "process = 3\naddress = 1"
     ∷ codes "process = 0\naddress = 0x1000\nright = \"read\"\npage = \"data\""
     ∷ codes "process = 2\naddress = 0x1004\nright = \"execute\""
@@ -89,13 +89,44 @@ pub rules : map of_rule (
 unfolding toml_on_literals
 rules = refl
 
+-- a rule with a right and this end
+abbrev ending : List ℕ → List ℕ
+ending until = codes "process = 2\naddress = 0x1000\nright = \"write\"\npage = \"data\"\nuntil = " ++ until
+
+pub ends_of_version_2 : map (of_rule 2) (
+    ending (codes "1")
+    ∷ ending (codes "1000000000")
+    ∷ ending (codes "0")
+    ∷ ending (codes "1000000001")
+    ∷ ending (codes "-1")
+    ∷ ending (codes "\"5\"")
+    ∷ ending (codes "5\ngive = 1")
+    ∷ codes "process = 2\naddress = 0x1000\nright = \"none\"\nuntil = 5"
+    ∷ codes "process = 2\naddress = 0x1000\nright = \"none\"\nuntil = 5\npage = \"data\""
+    ∷ codes "process = 3\nuntil = 0"
+    ∷ codes "process = 3\nuntil = 0\nends = 1"
+    ∷ [])
+    ≡ Some None ∷ Some None ∷ Some (Some BadUntil) ∷ Some (Some BadUntil) ∷ Some (Some BadUntil) ∷ Some (Some BadUntil) ∷ Some (Some BadGive) ∷ Some (Some UntilOfNone) ∷ Some (Some PageOfNone) ∷ Some (Some BadProcess) ∷ Some (Some OtherKey) ∷ []
+unfolding toml_on_literals
+ends_of_version_2 = refl
+
+pub no_ends_of_version_1 : map (of_rule 1) (
+    ending (codes "1")
+    ∷ codes "process = 2\naddress = 0x1000\nright = \"none\"\nuntil = 5"
+    ∷ codes "process = 3\nuntil = 0"
+    ∷ codes "process = 3\nuntil = 0\nends = 1"
+    ∷ [])
+    ≡ Some (Some UntilOfVersion1) ∷ Some (Some UntilOfVersion1) ∷ Some (Some UntilOfVersion1) ∷ Some (Some OtherKey) ∷ []
+unfolding toml_on_literals
+no_ends_of_version_1 = refl
+
 -- a rule's table in the document, of a process at an address
 abbrev rule_at : ℕ × ℕ → Data
 rule_at place = table (member (codes "address") (integer (pos place.1)) (member (codes "page") (string (codes "data")) (member (codes "process") (integer (pos place.0)) (member (codes "right") (string (codes "read")) no_members))))
 
 -- what is wrong with the rule of a number of these
 abbrev of_rules : List (ℕ × ℕ) → ℕ → RuleCause
-of_rules places number = cause_of_rule 2 (named (codes "data") ∷ []) (map rule_at places) number
+of_rules places number = cause_of_rule 1 2 (named (codes "data") ∷ []) (map rule_at places) number
 
 -- so many rules of process 1, one page after the other
 abbrev in_row : ℕ → ℕ → List (ℕ × ℕ)

@@ -12,7 +12,7 @@ use Rattle.ds_policy_reasons.specs.declared.reason.PolicyReason.{PolicyReason}
 use Rattle.ds_policy_reasons.specs.declared.reason.PolicyReason.TheVariants as reason
 use Rattle.ds_policy_reasons.specs.declared.input_texts.TheConstants.{CARRIAGE_RETURN, TAB, BLANK_AT_START, BLANK_AT_END, TWO_BLANKS, BAD_TIME, UNKNOWN_EVENT, WORD_COUNT, BAD_PROCESS, BAD_ADDRESS, UNKNOWN_PAGE, BAD_RIGHT, BAD_GIVE, BAD_LINE, BAD_BYTES, EARLIER_TIME, TOO_MANY_EVENTS}
 use Rattle.ds_policy_reasons.specs.declared.policy_texts.TheConstants.{NOT_TOML, OTHER_KEY, BAD_VERSION, BAD_FRAMES, BAD_RATE, PROCESS_COUNT, PAGE_COUNT, RULE_COUNT, PROCESS_NOT_TABLE, PROCESS_OTHER_KEY, BAD_START, PROCESS_BAD_LINE, PAGE_NOT_TABLE, PAGE_OTHER_KEY, BAD_NAME, BAD_SOURCE, BAD_PART, SAME_NAME}
-use Rattle.ds_policy_reasons.specs.declared.rule_texts.TheConstants.{RULE_NOT_TABLE, RULE_OTHER_KEY, RULE_BAD_PROCESS, RULE_BAD_ADDRESS, RULE_BAD_RIGHT, PAGE_OF_NONE, BAD_PAGE, RULE_BAD_GIVE, SAME_PLACE, TOO_MANY_RULES, FIFTH_REGION}
+use Rattle.ds_policy_reasons.specs.declared.rule_texts.TheConstants.{RULE_NOT_TABLE, RULE_OTHER_KEY, UNTIL_OF_VERSION_1, RULE_BAD_PROCESS, RULE_BAD_ADDRESS, RULE_BAD_RIGHT, PAGE_OF_NONE, UNTIL_OF_NONE, BAD_PAGE, RULE_BAD_GIVE, BAD_UNTIL, SAME_PLACE, TOO_MANY_RULES, FIFTH_REGION}
 
 -- of a line of an input
 abbrev pub input_cause_text : InputCause → List ℕ
@@ -54,12 +54,15 @@ page_cause_text page.SameName = SAME_NAME.now
 abbrev pub rule_cause_text : RuleCause → List ℕ
 rule_cause_text rule.NotTable = RULE_NOT_TABLE.now
 rule_cause_text rule.OtherKey = RULE_OTHER_KEY.now
+rule_cause_text rule.UntilOfVersion1 = UNTIL_OF_VERSION_1.now
 rule_cause_text rule.BadProcess = RULE_BAD_PROCESS.now
 rule_cause_text rule.BadAddress = RULE_BAD_ADDRESS.now
 rule_cause_text rule.BadRight = RULE_BAD_RIGHT.now
 rule_cause_text rule.PageOfNone = PAGE_OF_NONE.now
+rule_cause_text rule.UntilOfNone = UNTIL_OF_NONE.now
 rule_cause_text rule.BadPage = BAD_PAGE.now
 rule_cause_text rule.BadGive = RULE_BAD_GIVE.now
+rule_cause_text rule.BadUntil = BAD_UNTIL.now
 rule_cause_text rule.SamePlace = SAME_PLACE.now
 rule_cause_text rule.TooManyRules = TOO_MANY_RULES.now
 rule_cause_text rule.FifthRegion = FIFTH_REGION.now

@@ -37,7 +37,8 @@ pub(crate) fn number_at(table: &Table, key: &str, low: u64, high: u64) -> Option
     }
 }
 
-fn number_in(value: &Value, low: u64, high: u64) -> Option<u64>
+/// A value, if it is an integer from `low` to `high`.
+pub(crate) fn number_in(value: &Value, low: u64, high: u64) -> Option<u64>
     ensures exact { result ≡ number_in low high (view value.now) }
     ensures within { IfSome result (λ n. n ≤ high) }
 {

@@ -49,11 +49,11 @@ pub fn words_have_a_cause_where_they_are_no_event()
         is_some (words_cause pages words) ≡ not (is_some (timed_event_of pages words)) }
 {}
 
-/// Something is wrong with a rule by itself where it is no rule by itself, and nowhere else, where the
-/// pages of the document have the names of these pages.
+/// Something is wrong with a rule by itself where it is no rule by itself in a policy of this version,
+/// and nowhere else, where the pages of the document have the names of these pages.
 #[tactic(auto, using(crate::proofs::RulesExact::rule_exact))]
 pub fn a_rule_has_a_cause_where_it_is_refused_by_itself()
-    ensures { (n : ℕ) (pages : List Data) (ps : List PolicyPage) (ms : Members) →
+    ensures { (version n : ℕ) (pages : List Data) (ps : List PolicyPage) (ms : Members) →
         ((name : List ℕ) → is_page pages name ≡ is_some (page_named ps name)) →
-        is_some (keys_cause n pages ms) ≡ not (is_some (rule_of n ps (table ms))) }
+        is_some (keys_cause version n pages ms) ≡ not (is_some (rule_of version n ps (table ms))) }
 {}

@@ -3,7 +3,7 @@ ghost use Rattle.std.specs.Prelude.{◌≡◌, ◌≤◌, IfOk, length, option_m
 ghost use Rattle.toml.specs.View.{table_view};
 ghost use Rattle.ds_policy.specs.Document.{document};
 ghost use Rattle.ds_policy.specs.PolicyText.{policy_of};
-ghost use Rattle.ds_policy_reasons.specs.Policies.{frames_in, array_reason, key_reason, rule_in, refusal_reason, result_reason, policy_reason, fault_seen, refused_by};
+ghost use Rattle.ds_policy_reasons.specs.Policies.{version_in, frames_in, array_reason, key_reason, rule_in, refusal_reason, result_reason, policy_reason, fault_seen, refused_by};
 
 use crate::document::{array_at, number_at};
 use crate::pages::pages_reason;
@@ -107,6 +107,16 @@ fn array_reason(alloc: Global, table: &Table, key: &str) -> Result<PolicyReason,
     }
 }
 
+/// The version of a document, or 0.
+fn version_in(table: &Table) -> u64
+    ensures { result ≡ version_in (table_view table.now) }
+{
+    match number_at(table, "version", 1, 2) {
+        Some(version) => version,
+        None => 0,
+    }
+}
+
 /// The number of frames of a document, or 0.
 fn frames_in(table: &Table) -> u64
     ensures exact { result ≡ frames_in (table_view table.now) }
@@ -124,6 +134,7 @@ fn rule_in(table: &Table, number: u32) -> PolicyReason
 {
     let processes = array_at(table, "process");
     let cause = cause_of_rule(
+        version_in(table),
         processes.len() as u64,
         array_at(table, "page"),
         array_at(table, "rule"),

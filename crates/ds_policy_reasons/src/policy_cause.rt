@@ -35,8 +35,10 @@ pub enum PageCause {
 pub enum RuleCause {
     /// It is no table.
     NotTable,
-    /// It has a key besides `process`, `address`, `right`, `page` and `give`.
+    /// It has a key besides `process`, `address`, `right`, `page`, `give` and `until`.
     OtherKey,
+    /// It has an `until` in a policy of version 1.
+    UntilOfVersion1,
     /// `process` is missing, or not the number of a process of the policy.
     BadProcess,
     /// `address` is missing, or no multiple of 4096 below 0x80000000.
@@ -45,10 +47,14 @@ pub enum RuleCause {
     BadRight,
     /// `right = "none"` stands with a `page` or a `give`.
     PageOfNone,
+    /// `right = "none"` stands with an `until`.
+    UntilOfNone,
     /// `page` is missing, or not the name of a page of the policy.
     BadPage,
     /// `give` is neither `true` nor `false`.
     BadGive,
+    /// `until` is no integer from 1 to 1000000000.
+    BadUntil,
     /// An earlier rule has its process and its address.
     SamePlace,
     /// It is the 257th rule of its process.

@@ -16,7 +16,8 @@ A root key is none of `version`, `frames`, `rate`, `process`, `page` and
 
 /// `PolicyReason::BadVersion`.
 pub(crate) const BAD_VERSION: &str = "\
-`version` is missing, or not 1. Write `version = 1` as the first line.
+`version` is missing, or neither 1 nor 2. Write `version = 1` as the first
+line, or `version = 2` where a rule has an `until`.
 ";
 
 /// `PolicyReason::BadFrames`.

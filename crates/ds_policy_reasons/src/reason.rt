@@ -9,7 +9,7 @@ pub enum PolicyReason {
     NotToml,
     /// It has a root key of another name.
     OtherKey,
-    /// `version` is missing, or not 1.
+    /// `version` is missing, or neither 1 nor 2.
     BadVersion,
     /// `frames` is missing, or no integer from 1 to 1024.
     BadFrames,

@@ -8,8 +8,14 @@ The rule is no table. Write `[[rule]]`, and below it `process`, `address`,
 
 /// `RuleCause::OtherKey`.
 pub(crate) const RULE_OTHER_KEY: &str = "\
-The rule has a key besides `process`, `address`, `right`, `page` and `give`.
-Mend its name or leave it out.
+The rule has a key besides `process`, `address`, `right`, `page`, `give` and
+`until`. Mend its name or leave it out.
+";
+
+/// `RuleCause::UntilOfVersion1`.
+pub(crate) const UNTIL_OF_VERSION_1: &str = "\
+`until` needs version 2. Write `version = 2` as the first line of the
+policy, or leave `until` out: the right then never ends.
 ";
 
 /// `RuleCause::BadProcess`.
@@ -38,6 +44,13 @@ pub(crate) const PAGE_OF_NONE: &str = "\
 the right that the page is to be granted with: `right = \"read\"`.
 ";
 
+/// `RuleCause::UntilOfNone`.
+pub(crate) const UNTIL_OF_NONE: &str = "\
+`right = \"none\"` stands with an `until`, and there is no right that could
+end. Leave `until` out, or write the right that is to end, and its page:
+`right = \"read\"`.
+";
+
 /// `RuleCause::BadPage`.
 pub(crate) const BAD_PAGE: &str = "\
 `page` is missing, or no `[[page]]` has this name. Write the `name` of a
@@ -48,6 +61,13 @@ page of the policy, letter by letter: `page = \"code\"`.
 pub(crate) const RULE_BAD_GIVE: &str = "\
 `give` is neither true nor false. Write `give = true`, without quotation
 marks, or leave it out.
+";
+
+/// `RuleCause::BadUntil`.
+pub(crate) const BAD_UNTIL: &str = "\
+`until` is no integer from 1 to 1000000000. It is the time in ticks at which
+the right ends, without quotation marks: `until = 5000`. Leave it out where
+the right is not to end.
 ";
 
 /// `RuleCause::SamePlace`.

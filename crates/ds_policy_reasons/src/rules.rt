@@ -2,15 +2,15 @@
 ghost use Rattle.std.specs.Prelude.{◌≡◌, ◌≤◌, ◌==◌, ◌&&◌, bytes_eq, count_by, length, map, is_some, option_map, unwrap_or, Some, []};
 ghost use Rattle.std.specs.List.{list_any};
 ghost use Rattle.toml.specs.View.{view, table_view};
-ghost use Rattle.ds_policy.specs.PolicyParts.{right_named, flag_of};
-ghost use Rattle.ds_policy.specs.declared.grant.Right.TheVariants.{Nothing};
+ghost use Rattle.ds_policy.specs.PolicyParts.{right_named, flag_of, until_of, rule_keys};
+ghost use Rattle.ds_policy.specs.Document.{has_only};
 ghost use Rattle.ds_policy_reasons.specs.PolicyPages.{name_of};
-ghost use Rattle.ds_policy_reasons.specs.Rules.{is_page, is_named, is_address, right_in, granted_cause, right_cause, keys_cause, place_if, place_of, is_same_place, beside_cause, rule_table_cause, rule_cause, cause_of_rule};
+ghost use Rattle.ds_policy_reasons.specs.Rules.{is_page, is_named, is_address, right_in, none_cause, granted_cause, right_cause, keys_cause, place_if, place_of, is_same_place, beside_cause, rule_table_cause, rule_cause, cause_of_rule};
 
-use crate::document::{has_only, number_at, text_at, value_at};
+use crate::document::{has_only, number_at, number_in, text_at, value_at};
 use crate::pages::name_of;
 use crate::policy_cause::RuleCause;
-use ds_policy::Right;
+use ds_policy::{MOST_TICKS, Right};
 use toml::{Table, Value};
 
 /// The process and the address that a rule is about.
@@ -20,54 +20,85 @@ pub(crate) struct RulePlace {
     pub(crate) address: u64,
 }
 
-/// What is wrong with the rule of this number, which is refused, where there are so many processes.
+/// What is wrong with the rule of this number, which is refused, in a policy of this version, where
+/// there are so many processes.
 pub(crate) fn cause_of_rule(
+    version: u64,
     processes: u64,
     pages: &[Value],
     rules: &[Value],
     number: usize,
 ) -> RuleCause
-    ensures { result ≡ cause_of_rule processes (map view pages.now) (map view rules.now) number }
+    ensures { result
+        ≡ cause_of_rule version processes (map view pages.now) (map view rules.now) number }
 {
     let index = number.saturating_sub(1);
     if index < rules.len() {
-        rule_cause(processes, pages, &rules[..index], &rules[index])
+        rule_cause(version, processes, pages, &rules[..index], &rules[index])
     } else {
         RuleCause::NotTable
     }
 }
 
-fn rule_cause(processes: u64, pages: &[Value], before: &[Value], value: &Value) -> RuleCause
+fn rule_cause(
+    version: u64,
+    processes: u64,
+    pages: &[Value],
+    before: &[Value],
+    value: &Value,
+) -> RuleCause
     ensures { result
-        ≡ rule_cause processes (map view pages.now) (map view before.now) (Some (view value.now)) }
+        ≡ rule_cause version processes (map view pages.now) (map view before.now) (Some (view value.now)) }
 {
     match value.as_table() {
-        Some(table) => table_cause(processes, pages, before, table),
+        Some(table) => table_cause(version, processes, pages, before, table),
         None => RuleCause::NotTable,
     }
 }
 
-fn table_cause(processes: u64, pages: &[Value], before: &[Value], table: &Table) -> RuleCause
+fn table_cause(
+    version: u64,
+    processes: u64,
+    pages: &[Value],
+    before: &[Value],
+    table: &Table,
+) -> RuleCause
     ensures { result
-        ≡ rule_table_cause processes (map view pages.now) (map view before.now) (Some (table_view table.now)) }
+        ≡ rule_table_cause version processes (map view pages.now) (map view before.now) (Some (table_view table.now)) }
 {
-    match keys_cause(processes, pages, table) {
+    match keys_cause(version, processes, pages, table) {
         Some(cause) => cause,
         None => beside_cause(before, place_in(table)),
     }
 }
 
-fn keys_cause(processes: u64, pages: &[Value], table: &Table) -> Option<RuleCause>
-    ensures { result ≡ keys_cause processes (map view pages.now) (table_view table.now) }
+fn keys_cause(version: u64, processes: u64, pages: &[Value], table: &Table) -> Option<RuleCause>
+    ensures { result ≡ keys_cause version processes (map view pages.now) (table_view table.now) }
 {
-    if !has_only(table, &["process", "address", "right", "page", "give"]) {
+    if !has_rule_keys(2, table) {
         Some(RuleCause::OtherKey)
+    } else if !has_rule_keys(version, table) {
+        Some(RuleCause::UntilOfVersion1)
     } else if number_at(table, "process", 1, processes).is_none() {
         Some(RuleCause::BadProcess)
     } else if !is_address(number_at(table, "address", 0, 0x7FFF_FFFF)) {
         Some(RuleCause::BadAddress)
     } else {
         right_cause(pages, right_in(text_at(table, "right")), table)
+    }
+}
+
+/// Whether each key of a rule is one that a rule of this version may have.
+fn has_rule_keys(version: u64, table: &Table) -> bool
+    ensures { result ≡ has_only (rule_keys version) (table_view table.now) }
+{
+    if version == 2 {
+        has_only(
+            table,
+            &["process", "address", "right", "page", "give", "until"],
+        )
+    } else {
+        has_only(table, &["process", "address", "right", "page", "give"])
     }
 }
 
@@ -114,10 +145,12 @@ fn right_cause(pages: &[Value], right: Option<Right>, table: &Table) -> Option<R
 }
 
 fn none_cause(table: &Table) -> Option<RuleCause>
-    ensures { result ≡ right_cause [] (Some Nothing) (table_view table.now) }
+    ensures { result ≡ none_cause (table_view table.now) }
 {
     if has_only(table, &["process", "address", "right"]) {
         None
+    } else if has_only(table, &["process", "address", "right", "until"]) {
+        Some(RuleCause::UntilOfNone)
     } else {
         Some(RuleCause::PageOfNone)
     }
@@ -130,6 +163,8 @@ fn granted_cause(pages: &[Value], table: &Table) -> Option<RuleCause>
         Some(RuleCause::BadPage)
     } else if !is_flag(value_at(table, "give")) {
         Some(RuleCause::BadGive)
+    } else if !is_end(value_at(table, "until")) {
+        Some(RuleCause::BadUntil)
     } else {
         None
     }
@@ -161,6 +196,15 @@ fn is_flag(found: Option<&Value>) -> bool
 {
     match found {
         Some(value) => value.as_bool().is_some(),
+        None => true,
+    }
+}
+
+fn is_end(found: Option<&Value>) -> bool
+    ensures { result ≡ is_some (until_of (option_map (λ v. view v.now) found.entry)) }
+{
+    match found {
+        Some(value) => number_in(value, 1, MOST_TICKS).is_some(),
         None => true,
     }
 }

@@ -16,8 +16,9 @@ use crate::policy_texts::{
 };
 use crate::reason::PolicyReason;
 use crate::rule_texts::{
-    BAD_PAGE, FIFTH_REGION, PAGE_OF_NONE, RULE_BAD_ADDRESS, RULE_BAD_GIVE, RULE_BAD_PROCESS,
-    RULE_BAD_RIGHT, RULE_NOT_TABLE, RULE_OTHER_KEY, SAME_PLACE, TOO_MANY_RULES,
+    BAD_PAGE, BAD_UNTIL, FIFTH_REGION, PAGE_OF_NONE, RULE_BAD_ADDRESS, RULE_BAD_GIVE,
+    RULE_BAD_PROCESS, RULE_BAD_RIGHT, RULE_NOT_TABLE, RULE_OTHER_KEY, SAME_PLACE, TOO_MANY_RULES,
+    UNTIL_OF_NONE, UNTIL_OF_VERSION_1,
 };
 
 /// What is wrong with a line of an input, and what to write in its place.
@@ -97,12 +98,15 @@ pub fn rule_cause_text(cause: RuleCause) -> &'static str
     match cause {
         RuleCause::NotTable => RULE_NOT_TABLE,
         RuleCause::OtherKey => RULE_OTHER_KEY,
+        RuleCause::UntilOfVersion1 => UNTIL_OF_VERSION_1,
         RuleCause::BadProcess => RULE_BAD_PROCESS,
         RuleCause::BadAddress => RULE_BAD_ADDRESS,
         RuleCause::BadRight => RULE_BAD_RIGHT,
         RuleCause::PageOfNone => PAGE_OF_NONE,
+        RuleCause::UntilOfNone => UNTIL_OF_NONE,
         RuleCause::BadPage => BAD_PAGE,
         RuleCause::BadGive => RULE_BAD_GIVE,
+        RuleCause::BadUntil => BAD_UNTIL,
         RuleCause::SamePlace => SAME_PLACE,
         RuleCause::TooManyRules => TOO_MANY_RULES,
         RuleCause::FifthRegion => FIFTH_REGION,

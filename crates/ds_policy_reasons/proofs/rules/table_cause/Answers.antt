@@ -6,5 +6,5 @@ use Rattle.ds_policy_reasons.proofs.rules.table_cause.Goals as goal
 
 pub returns-in-None : goal.returns-in-None
 returns-in-None c =
-    let none : keys_cause c.args.processes (map view c.args.pages.now) (table_view c.args.table.now) ≡ None = sym c.keys_cause.ensures ∙ c.in-None.is in
+    let none : keys_cause c.args.version c.args.processes (map view c.args.pages.now) (table_view c.args.table.now) ≡ None = sym c.keys_cause.ensures ∙ c.in-None.is in
     rw none (c.beside_cause.ensures ∙ ap (beside_cause (map view c.args.before.now)) c.place_in.ensures)
