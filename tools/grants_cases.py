@@ -13,7 +13,7 @@ sys.dont_write_bytecode = True
 
 from grants_model import Model, answer, is_page  # noqa: E402
 
-CALLS = ["grant", "give", "take", "drop", "revoke", "narrow", "end", "split"]
+CALLS = ["grant", "give", "take", "drop", "revoke", "narrow", "end", "split", "expire"]
 CRATE = Path(__file__).resolve().parent.parent / "crates" / "part_cases"
 DATA = CRATE / "data" / "grants"
 OUTPUT = CRATE / "stdout"
@@ -90,7 +90,7 @@ def undone(file, asked, p, at):
 
 def restored(file, p, at, entry):
     """Puts back an entry that was there."""
-    right, page, rule, give, giver, parent = entry
+    right, page, rule, give, giver, parent, _ = entry
     if parent:
         file.ask(f"give {giver} {parent[1]:08x} {p} {at:08x} 1")
     else:
@@ -483,7 +483,9 @@ def above(model, place):
 def relatives(model, asked):
     """How many descend from the entry of a call, and how many stand above it; at the end of a process, the most of one of its."""
     verb, *words = asked.split()
-    if verb == "end":
+    if verb == "expire":
+        changed = [(p, at) for p, row in model.entries.items() for at, entry in row.items() if model.has_ended(entry, int(words[0]))]
+    elif verb == "end":
         changed = [(int(words[0]), at) for at in model.row(int(words[0]))]
     else:
         p, at = words[1:3] if verb == "take" else words[:2]
@@ -651,9 +653,113 @@ def families():
     return file
 
 
+def begin(file, processes, frames, named, rules):
+    """Grants of a policy; what of a rule isn't said is page 0, write, give, and no end."""
+    words = []
+    for rule in rules:
+        p, address, until, page, right, give = (*rule, 0, "write", "give")[:6] if len(rule) == 3 else rule
+        words.append(f"{p} {address:08x} {page} {right} {give} {until}")
+    file.ask(" ".join([f"begin {processes} {frames} {named}", *words]))
+
+
+def expire(file, now):
+    """What has ended is asked before and after, with all that the buffer has."""
+    for p in file.model.entries:
+        file.ask(f"due {p} {now}")
+    reach(file, f"expire {now}")
+    file.ask("next")
+
+
+def ends_of_rules(file):
+    """Each right ends at its time, of either kind, at the least and the last time, in any order of the entries."""
+    rules = [(1, 0x1000, 5, 0, "read", "keep"), (1, 0x2000, 0, 1, "write", "keep"), (1, 0x3000, 4, 1, "write", "give"), (2, 0x1000, 1, 0, "write", "keep"),
+             (2, 0x40_0000, 1_000_000_000, 0, "read", "give"), (3, 0x7FFF_F000, 5, 1, "read", "keep")]
+    for times in ((0, 1, 3, 4, 5, 6, 999_999_999, 1_000_000_000), (4, 4), (5,), (4_294_967_295,)):
+        begin(file, 4, 6, 2, rules)
+        file.ask("next")
+        for p, address, *_ in rules:
+            file.ask(f"fill {p} {address:08x}")
+        for now in times:
+            expire(file, now)
+        file.ask("grant 2 00001000 1 read keep 9")
+        file.ask("give 1 00003000 2 00002000 1")
+        expire(file, 1_000_000_000)
+
+
+def ends_of_shares(file):
+    """A share ends with the right that it is of, a copy and what is shared of it don't; and what becomes of an end by each call."""
+    for asked in ("", "narrow 1 00001000", "narrow 3 00001000", "revoke 2 00001000 9", "revoke 1 00001000 9", "drop 2 00001000 own", "take 1 2 00001000",
+                  "drop 1 00001000 command", "end 2", "end 1"):
+        begin(file, 5, 6, 1, [(1, 0x1000, 7), (4, 0x3000, 9)])
+        file.ask("write 0 10")
+        for given in ("1 00001000 2 00001000 2", "2 00001000 3 00001000 1", "2 00001000 4 00001000 3", "4 00001000 5 00001000 2", "3 00001000 5 00002000 1",
+                      "3 00001000 5 00003000 3"):
+            file.ask(f"give {given}")
+        for p, at in places_of(file.model):
+            file.ask(f"fill {p} {at:08x}")
+        if asked:
+            reach(file, asked)
+        for now in (6, 7):
+            expire(file, now)
+            ask_holders(file)
+        store(file, 4, 0x1000, 20)
+        for line in ("grant 1 00001000 0 write give 8", "take 1 2 00001000", "drop 2 00001000 own", "drop 3 00001000 command", "give 5 00003000 5 00004000 2"):
+            reach(file, line)
+        expire(file, 9)
+        ask_holders(file)
+
+
+def ends_of_many(file):
+    """100 processes and 256 entries of one, each with an end of its own, and chains of shares."""
+    begin(file, 100, 4, 1, [(p, 0x1000 * (p % 3 + 1), p % 50 + 1) for p in range(1, 101)])
+    for p in range(1, 101):
+        file.ask(f"fill {p} {0x1000 * (p % 3 + 1):08x}")
+    for now in (1, 25, 26, 49, 50):
+        expire(file, now)
+    begin(file, 2, 2, 1, [(1, 0x40_0000 * (k % 4) + 0x1000 * (k // 4), 1 + k * 7 % 256) for k in range(256)] + [(2, 0x5000, 0)])
+    for now in (1, 2, 128, 255, 256):
+        expire(file, now)
+    file.ask("give 2 00005000 1 00005000 2", told=True)
+    begin(file, 2, 2, 1, [(1, 0x1000, 3)])
+    places = [(k % 2 + 1, 0x1000 * (k // 2 + 1)) for k in range(128)]
+    for (p, at), (q, to) in itertools.pairwise(places):
+        file.ask(f"give {p} {at:08x} {q} {to:08x} 2")
+    expire(file, 2)
+    expire(file, 3)
+
+
+def random_ends(file):
+    """Random calls, while the time goes on and rights end."""
+    places = [0x1000, 0x2000, 0x3000, 0x40_0000, 0x40_1000, 0x80_0000]
+    for seed, (processes, frames, named) in enumerate([(3, 6, 2), (5, 9, 2), (4, 6, 1)]):
+        rng = random.Random(2000 + seed)
+        for _ in range(6):
+            rules = [(p, at, rng.choice([0, *range(1, 40)]), rng.randrange(named), rng.choice(["read", "write", "write"]), rng.choice(["keep", "give", "give"]))
+                     for p in range(1, processes + 1) for at in rng.sample(places, 3)]
+            begin(file, processes, frames, named, rules)
+            for now in range(40):
+                for _ in range(3):
+                    file.ask(random_call(file.model, rng, list(range(1, processes + 1)), places, SHARING, (1, 2, 2, 2, 3)))
+                if rng.random() < 0.4:
+                    expire(file, now)
+                if len(file.model.ended) >= processes - 1:
+                    break
+            expire(file, 40)
+
+
+def ends():
+    """Rights that end by themselves."""
+    file = File(["Rights of a policy that end: each at its time, with what was shared of it, and without copies; by each call before it; of 100",
+                 "processes, of 256 entries and of chains; and among random calls. begin has the rules of a policy after its three numbers; entry",
+                 "answers the end after until, where there is one; next the earliest end, and due the first entry whose right has ended."])
+    for made in (ends_of_rules, ends_of_shares, ends_of_many, random_ends):
+        made(file)
+    return file
+
+
 WRITTEN = {"refusals.txt": refusals, "sequences.txt": sequences, "many.txt": many, "spaces.txt": spaces, "copies.txt": copies,
-           "families.txt": families}
-REPLAYED = ("refusals.txt", "stories.txt", "sequences.txt", "many.txt", "spaces.txt", "copies.txt", "families.txt")
+           "families.txt": families, "ends.txt": ends}
+REPLAYED = ("refusals.txt", "stories.txt", "sequences.txt", "many.txt", "spaces.txt", "copies.txt", "families.txt", "ends.txt")
 
 
 def wanted_output(texts):

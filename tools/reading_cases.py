@@ -23,6 +23,15 @@ POLICY = [
     ("page", [("name", '"data"')]),
     ("rule", [("process", "1"), ("address", "0x00410000"), ("right", '"read"'), ("page", '"data"'), ("give", "true")]),
 ]
+# One of version 2, whose right ends.
+ENDING = [("", [("version", "2"), ("frames", "16")]), *POLICY[1:4], ("rule", [*POLICY[4][1], ("until", "5")])]
+# One whose right to write ends at time 2.
+ENDS_AT_2 = [
+    ENDING[0],
+    *POLICY[1:4],
+    ("rule", [("process", "1"), ("address", "0x00400000"), ("right", '"read"'), ("page", '"code"')]),
+    ("rule", [("process", "1"), ("address", "0x00410000"), ("right", '"write"'), ("page", '"data"'), ("until", "2")]),
+]
 # A value of each type of TOML.
 VALUES = {
     "an integer": "1", "a text": '"1"', "a float": "1.0", "a boolean": "true", "a date": "1979-05-27", "a time": "07:32:00",
@@ -51,22 +60,40 @@ def policy(tables):
     return "\n".join(lines).encode() + b"\n"
 
 
-def with_rows(place, rows):
-    """The policy, with other keys in the table at a place."""
-    return policy([(header, rows if i == place else keys) for i, (header, keys) in enumerate(POLICY)])
+def with_rows(tables, place, rows):
+    """A policy, with other keys in the table at a place."""
+    return policy([(header, rows if i == place else keys) for i, (header, keys) in enumerate(tables)])
 
 
-def keys():
+def keys(tables):
     """Each key of a policy, doubled, missing, and of each other type."""
-    for place, (header, rows) in enumerate(POLICY):
+    for place, (header, rows) in enumerate(tables):
         of = f"{header} {place}: " if header else ""
         for i, (key, value) in enumerate(rows):
             others = rows[:i] + rows[i + 1 :]
-            yield f"{of}{key} twice", with_rows(place, [*rows[: i + 1], *rows[i:]])
-            yield f"{of}{key} is missing", with_rows(place, others)
+            yield f"{of}{key} twice", with_rows(tables, place, [*rows[: i + 1], *rows[i:]])
+            yield f"{of}{key} is missing", with_rows(tables, place, others)
             for kind, other in VALUES.items():
                 if kind != OWN.get(key, "an integer"):
-                    yield f"{of}{key} is {kind}", with_rows(place, [*rows[:i], (key, other), *rows[i + 1 :]])
+                    yield f"{of}{key} is {kind}", with_rows(tables, place, [*rows[:i], (key, other), *rows[i + 1 :]])
+
+
+def ends():
+    """Ends at the bounds and beyond, of a right and of none, by the version."""
+    rows = dict(ENDING[4][1])
+    for version in ("1", "2", "3"):
+        for until in ("-1", "0", "1", "1000000000", "1000000001", "4294967296", "9223372036854775807"):
+            for right in ("read", "write"):
+                rule = rows | {"right": f'"{right}"', "until": until}
+                yield f"version {version}, {right} until {until}", policy([("", [("version", version), ("frames", "16")]), *ENDING[1:4], ("rule", list(rule.items()))])
+        none = [("process", "1"), ("address", "0x00410000"), ("right", '"none"'), ("until", "5")]
+        yield f"version {version}, none until 5", policy([("", [("version", version), ("frames", "16")]), *ENDING[1:4], ("rule", none)])
+
+
+def prefixes(text):
+    """A text that is cut off after each of its bytes."""
+    for i in range(len(text) + 1):
+        yield f"the first {i} bytes" if i != 1 else "the first byte", text[:i]
 
 
 def arrays():
@@ -125,7 +152,9 @@ def files():
     """The text of each file, by its path."""
     good = policy(POLICY)
     return {
-        DATA / "policy_keys.cases": table("Each key of a policy twice, missing, and of each other type.", [*keys(), *arrays()], of_policy),
+        DATA / "policy_keys.cases": table("Each key of a policy twice, missing, and of each other type.", [*keys(POLICY), *arrays()], of_policy),
+        DATA / "ending_keys.cases": table("Each key of a policy whose right ends twice, missing, and of each other type; and ends, by their versions.", [*keys(ENDING), *ends()], of_policy),
+        DATA / "ending_prefixes.cases": table("A policy whose right ends that is cut off after each of its bytes.", prefixes(policy(ENDS_AT_2)), of_policy),
         DATA / "policy_bytes.cases": table("Policies with bytes that were drawn.", drawn(1, good), of_policy),
         DATA / "input_bytes.cases": table("Inputs with bytes that were drawn.", drawn(2, INPUT), of_input),
     }

@@ -87,7 +87,7 @@ def are_few_rules(root):
 
 # The checks of root keys, in their order.
 CHECKS = [
-    ("version", lambda root: is_integer(root.get("version"), 1, 1)),
+    ("version", lambda root: is_integer(root.get("version"), 1, 2)),
     ("frames", lambda root: is_integer(root.get("frames"), 1, 1024)),
     ("rate", is_good_rate),
     ("process", lambda root: are_tables(root, "process", 1, 100, is_good_process)),
@@ -104,18 +104,20 @@ def is_good_rule(root, number):
     address = row.get("address")
     if not is_integer(address, 0, 2**31 - 1) or address % 4096:
         return False
-    if not has_good_right(row, [it["name"] for it in root.get("page", [])]):
+    if not has_good_right(row, [it["name"] for it in root.get("page", [])], root["version"]):
         return False
     own = [it["address"] for it in before if it["process"] == row["process"]]
     return address not in own and len(own) < 256 and len({it >> 22 for it in [*own, address]}) <= 4
 
 
-def has_good_right(row, pages):
+def has_good_right(row, pages, version):
     keys = row.keys() - {"process", "address", "right"}
     if row.get("right") == "none":
         return not keys
+    if row.get("right") not in ("read", "write") or not keys <= {"page", "give", *["until"][: version - 1]}:
+        return False
     is_page = isinstance(row.get("page"), str) and row["page"] in pages
-    return row.get("right") in ("read", "write") and keys <= {"page", "give"} and is_page and type(row.get("give", False)) is bool
+    return is_page and type(row.get("give", False)) is bool and is_integer(row.get("until", 1), 1, MOST_TICKS)
 
 
 def input_refusal(text, pages):

@@ -29,6 +29,7 @@ rule = [
   { process = 1, address = 0x7ffff000, right = "write", page = "a", give = true }, { process = 1, address = 0, right = "none" },
 ]
 """
+ENDING = POLICY.replace(b"version = 1", b"version = 2") + b"until = 1000\n"
 BLANKS = b" \t\r"
 LETTERS = b"abcdefghijklmnopqrstuvwxyz"
 UPPER = LETTERS.upper()
@@ -201,7 +202,7 @@ def tables():
     """The name of each table of policies and inputs, and its cases."""
     policies = [(title, text, policy_told(text, place)) for title, text, place in bytes_of_policies()]
     yield "policy_bytes", policies
-    for name, policy in (("policy_prefixes", POLICY), ("array_prefixes", ARRAYS)):
+    for name, policy in (("policy_prefixes", POLICY), ("array_prefixes", ARRAYS), ("ending_prefixes", ENDING)):
         fronts = [(f"{count} bytes", policy[:count]) for count in range(len(policy) + 1)]
         yield name, [(title, text, policy_told(text, where_it_breaks_off(text))) for title, text in fronts]
     yield "input_bytes", [(title, text, input_told(text, PAGES)) for title, text in bytes_of_inputs()]

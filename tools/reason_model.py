@@ -19,7 +19,8 @@ WORDS = {
 KEYS = {
     "BAD_START": "start", "PROCESS_BAD_LINE": "line", "BAD_NAME": "name", "SAME_NAME": "name", "BAD_SOURCE": "source", "BAD_PART": "part",
     "RULE_BAD_PROCESS": "process", "RULE_BAD_ADDRESS": "address", "SAME_PLACE": "address", "FIFTH_REGION": "address",
-    "RULE_BAD_RIGHT": "right", "PAGE_OF_NONE": "right", "BAD_PAGE": "page", "RULE_BAD_GIVE": "give"}
+    "RULE_BAD_RIGHT": "right", "PAGE_OF_NONE": "right", "BAD_PAGE": "page", "RULE_BAD_GIVE": "give",
+    "UNTIL_OF_VERSION_1": "until", "UNTIL_OF_NONE": "until", "BAD_UNTIL": "until"}
 
 
 def words(name):
@@ -179,8 +180,10 @@ def rule_cause(root, number):
     row, before = root["rule"][number - 1], root["rule"][: number - 1]
     if not isinstance(row, dict):
         return "RULE_NOT_TABLE"
-    if not row.keys() <= {"process", "address", "right", "page", "give"}:
+    if not row.keys() <= {"process", "address", "right", "page", "give", "until"}:
         return "RULE_OTHER_KEY"
+    if root["version"] == 1 and "until" in row:
+        return "UNTIL_OF_VERSION_1"
     if not is_integer(row.get("process"), 1, len(root["process"])):
         return "RULE_BAD_PROCESS"
     address = row.get("address")
@@ -191,10 +194,14 @@ def rule_cause(root, number):
     if row["right"] == "none":
         if row.keys() & {"page", "give"}:
             return "PAGE_OF_NONE"
+        if "until" in row:
+            return "UNTIL_OF_NONE"
     elif not isinstance(row.get("page"), str) or row["page"] not in [it["name"] for it in root.get("page", [])]:
         return "BAD_PAGE"
     elif type(row.get("give", False)) is not bool:
         return "RULE_BAD_GIVE"
+    elif not is_integer(row.get("until", 1), 1, 10**9):
+        return "BAD_UNTIL"
     own = [it["address"] for it in before if it["process"] == row["process"]]
     return "SAME_PLACE" if address in own else "TOO_MANY_RULES" if len(own) == 256 else "FIFTH_REGION"
 

@@ -31,7 +31,7 @@ class Tests(unittest.TestCase):
             for title, text, answer in cases(f"{name}.cases"):
                 count += 1
                 self.assertEqual(of_policy(text), answer, f"{name}: {title}")
-        self.assertEqual(count, 519)
+        self.assertEqual(count, 527)
 
     def test_inputs_come_to_what_is_written(self):
         count = 0

@@ -34,7 +34,7 @@ class Tests(unittest.TestCase):
         for title, text, lines in told:
             # The library tells that the second line is no TOML.
             self.assertEqual(policy_told(text, (2, 1)), lines, title)
-        self.assertEqual(len(told), 29)
+        self.assertEqual(len(told), 36)
 
     def test_inputs_are_told_as_is_written(self):
         told = list(told_cases("input.cases"))

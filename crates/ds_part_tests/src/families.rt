@@ -41,6 +41,7 @@ fn granted(giver: u32, parent: Option<EntryPlace>) -> Grant
         give: true,
         giver,
         parent,
+        until: None,
     }
 }
 
@@ -52,6 +53,7 @@ const FORBIDDEN: Grant = Grant {
     give: false,
     giver: 0,
     parent: None,
+    until: None,
 };
 
 /// Whether this is granted at a place.

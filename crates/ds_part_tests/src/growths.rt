@@ -15,6 +15,10 @@ const SMALLEST: &str = "version = 1\nframes = 1\nprocess = [{ start = 0, line = 
 const SMALL: &str =
     "version = 1\nframes = 1\nprocess = [{ start = 0, line = 0 }]\npage = [{ name = \"a\", source = \"s\", part = 0 }]\nrule = [{ process = 1, address = 0, right = \"write\", page = \"a\" }]\n";
 
+/// The same, and the right ends.
+const SMALL_ENDING: &str =
+    "version = 2\nframes = 1\nprocess = [{ start = 0, line = 0 }]\npage = [{ name = \"a\", source = \"s\", part = 0 }]\nrule = [{ process = 1, address = 0, right = \"write\", page = \"a\", until = 1000000000 }]\n";
+
 /// The policy of a text, or else whether it is memory that ran out.
 fn policy_of(alloc: Global, text: &str) -> Result<Policy, bool> {
     match Policy::read(alloc, text.as_bytes()) {
@@ -34,8 +38,8 @@ fn for_want_of_memory_there_is_no_workstations_memory(rt: HostRuntime) {
 }
 
 /// Whether a policy has one of each, or there is no memory for it.
-fn has_one_of_each(alloc: Global) -> bool {
-    let policy = match policy_of(alloc, SMALL) {
+fn has_one_of_each(alloc: Global, text: &str, until: Option<u32>) -> bool {
+    let policy = match policy_of(alloc, text) {
         Ok(policy) => policy,
         Err(is_memory) => return is_memory,
     };
@@ -48,6 +52,7 @@ fn has_one_of_each(alloc: Global) -> bool {
         right: Right::Write,
         page: Some(0),
         give: false,
+        until,
     };
     let counted = policy.processes().len() == 1 && policy.pages().len() == 1;
     counted && policy.sources().len() == 1 && *rule == wanted
@@ -56,7 +61,13 @@ fn has_one_of_each(alloc: Global) -> bool {
 /// Whichever growth is refused, the answer is `Memory`.
 #[test]
 fn for_want_of_memory_there_is_no_policy(rt: HostRuntime) {
-    assert!(rt; has_one_of_each(rt.alloc()));
+    assert!(rt; has_one_of_each(rt.alloc(), SMALL, None));
+}
+
+/// Whichever growth is refused, the answer is `Memory`.
+#[test]
+fn for_want_of_memory_there_is_no_policy_with_an_end(rt: HostRuntime) {
+    assert!(rt; has_one_of_each(rt.alloc(), SMALL_ENDING, Some(1_000_000_000)));
 }
 
 /// Whether a table takes 256 entries and no more, and has none of them when it is cleared.
@@ -70,6 +81,7 @@ fn takes_256(table: &mut Table) -> bool
         give: false,
         giver: 0,
         parent: None,
+        until: None,
     };
     let none = table.entry(1, 0).is_none();
     let filled = is_filled(table, grant, 256);

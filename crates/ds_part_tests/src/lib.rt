@@ -11,6 +11,8 @@ mod buffers;
 #[cfg(test)]
 mod bus;
 #[cfg(test)]
+mod ends;
+#[cfg(test)]
 mod explained;
 #[cfg(test)]
 mod families;

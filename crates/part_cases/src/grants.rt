@@ -4,6 +4,7 @@
 mod answers;
 mod frames;
 mod page_words;
+mod policies;
 mod replay;
 mod report;
 mod words;

@@ -31,6 +31,8 @@ pub fn answer<L: Lookaside>(
         ("enter", [first, last]) => entered(alloc, replay, *first, *last),
         ("space", [process]) => told_space(alloc, replay.space_of(*process)),
         ("translation", [process, address]) => translation(alloc, replay, *process, *address),
+        ("next", []) => told_end(alloc, replay.grants.table().next_end()),
+        ("due", [process, now]) => told_due(alloc, replay, *process, *now),
         _ => called(alloc, replay, verb, operands),
     }
 }
@@ -43,7 +45,7 @@ fn called<L: Lookaside>(
     operands: &[u32],
 ) -> Result<Option<String>, AllocError> {
     let stood = match verb {
-        "take" | "revoke" | "drop" | "end" => standing(alloc, replay)?,
+        "take" | "revoke" | "drop" | "end" | "expire" => standing(alloc, replay)?,
         _ => Vec::new(alloc),
     };
     let outcome = replay.call(verb, operands);
@@ -126,6 +128,39 @@ fn push_parent(text: &mut String, parent: Option<EntryPlace>) -> Result<(), Allo
     }
 }
 
+/// Adds when a right ends, if it does by itself.
+fn push_end(text: &mut String, until: Option<u32>) -> Result<(), AllocError> {
+    match until {
+        Some(until) => write!(text, " until {until}"),
+        None => Ok(()),
+    }
+}
+
+/// A time at which a right ends, if one does.
+fn told_end(alloc: Global, end: Option<u32>) -> Result<Option<String>, AllocError> {
+    match end {
+        Some(end) => told_number(alloc, end),
+        None => said(alloc, "none"),
+    }
+}
+
+/// The address of a process's first entry whose right has ended by a time, if there is one.
+fn told_due<L: Lookaside>(
+    alloc: Global,
+    replay: &Replay<L>,
+    process: u32,
+    now: u32,
+) -> Result<Option<String>, AllocError> {
+    if !replay.is_within(process) {
+        return Ok(None);
+    }
+    let due = replay.grants.table().first_expired(process, u64::from(now));
+    match due {
+        Some(entry) => Ok(Some(format!(in alloc; "{:08x}", entry.address)?)),
+        None => said(alloc, "none"),
+    }
+}
+
 /// An entry in words.
 fn told_entry(alloc: Global, grant: Option<Grant>) -> Result<Option<String>, AllocError> {
     let Some(grant) = grant else {
@@ -138,6 +173,7 @@ fn told_entry(alloc: Global, grant: Option<Grant>) -> Result<Option<String>, All
         None => format!(in alloc; "{right} - {rule} {give} {giver}")?,
     };
     push_parent(&mut text, grant.parent)?;
+    push_end(&mut text, grant.until)?;
     Ok(Some(text))
 }
 

@@ -131,6 +131,7 @@ pub fn fits_after<L: Lookaside>(replay: &Replay<L>, verb: &str, operands: &[u32]
             fits(replay, *process, *address >> 22)
         }
         ("end", [process]) => fits_all(replay, *process),
+        ("expire", [_]) => fits_everywhere(replay),
         (_, [process, address, ..]) => fits(replay, *process, *address >> 22),
         _ => true,
     }

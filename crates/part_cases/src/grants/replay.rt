@@ -5,9 +5,10 @@ ghost use Rattle.ds_policy.specs.Pages.{entry_at};
 
 use crate::grants::frames::{FIRST_FRAME, Frames, PAGES, named_pages, note_pages};
 use ds_asid::Asids;
+use ds_asm::Image;
 use ds_grants::{GrantFault, Grants};
 use ds_mem::{Memory, OutOfMemory};
-use ds_policy::{Grant, Right};
+use ds_policy::{Grant, Policy, Right};
 use ds_tables::Tables;
 use ds_tlb::{Entry, Lookaside};
 use std::alloc::Global;
@@ -63,6 +64,40 @@ impl<L: Lookaside> Replay<L> {
         })
     }
 
+    /// Grants of a policy none of whose pages has a source; none of another policy.
+    pub fn of_policy(alloc: Global, policy: &Policy) -> Result<Option<Replay<L>>, OutOfMemory>
+        requires slots { L.SLOTS ≡ 64 }
+        requires wired { L.WIRED ≡ 8 }
+    {
+        if !policy.sources().is_empty() {
+            return Ok(None);
+        }
+        let images: [Image; 0] = [];
+        let mut memory = Memory::new(alloc)?;
+        let mut tables = Tables::new(policy.processes().len());
+        let mut spaces = Asids::new();
+        let mut buffer = new_buffer();
+        let grants = Grants::new(
+            alloc,
+            policy,
+            images.as_slice(),
+            &mut memory,
+            &mut tables,
+            &mut spaces,
+            &mut buffer,
+        )?;
+        Ok(Some(Replay {
+            grants,
+            frames: policy.frames(),
+            named: policy.pages().len() as u32,
+            lying: Frames::new(),
+            memory,
+            tables,
+            spaces,
+            buffer,
+        }))
+    }
+
     /// Whether there is such a process.
     pub fn is_within(&self, process: u32) -> bool
         ensures low { result ≡ true → 0 < process }
@@ -82,6 +117,7 @@ impl<L: Lookaside> Replay<L> {
     ///     narrow PROCESS ADDRESS
     ///     end PROCESS
     ///     split PROCESS ADDRESS
+    ///     expire TIME
     pub fn call(&mut self, verb: &str, operands: &[u32]) -> Option<Result<(), GrantFault>> {
         match (verb, operands) {
             ("give", [caller, address, receiver, to, mode]) => {
@@ -100,6 +136,7 @@ impl<L: Lookaside> Replay<L> {
             }
             ("end", [process]) => self.end(*process),
             ("split", [process, address]) => self.split(*process, *address),
+            ("expire", [now]) => self.expire(*now),
             _ => self.call_anyhow(verb, operands),
         }
     }
@@ -227,6 +264,18 @@ impl<L: Lookaside> Replay<L> {
             &mut self.memory,
             &mut self.tables,
             &mut self.spaces,
+            &mut self.buffer,
+        );
+        Some(Ok(()))
+    }
+
+    /// The rights end that have ended by a time.
+    fn expire(&mut self, now: u32) -> Option<Result<(), GrantFault>> {
+        self.grants.expire(
+            u64::from(now),
+            &mut self.memory,
+            &mut self.tables,
+            &self.spaces,
             &mut self.buffer,
         );
         Some(Ok(()))

@@ -2,6 +2,7 @@
 ghost use Rattle.std.specs.Prelude.{◌≡◌};
 
 use crate::grants::answers::answer;
+use crate::grants::policies::policy_of;
 use crate::grants::replay::Replay;
 use crate::grants::words::operands;
 use crate::machine::case::step_of;
@@ -14,7 +15,7 @@ use std::rt::Files;
 use std::{fs, io};
 
 /// The files.
-const FILES: [&str; 7] = [
+const FILES: [&str; 8] = [
     "grants/refusals.txt",
     "grants/stories.txt",
     "grants/sequences.txt",
@@ -22,6 +23,7 @@ const FILES: [&str; 7] = [
     "grants/spaces.txt",
     "grants/copies.txt",
     "grants/families.txt",
+    "grants/ends.txt",
 ];
 
 /// How many lines that differ are told.
@@ -51,6 +53,26 @@ fn restarted<L: Lookaside>(
     }
 }
 
+/// Grants anew, of a policy; none where there is no such policy.
+fn begun<L: Lookaside>(
+    alloc: Global,
+    processes: u32,
+    frames: u32,
+    named: u32,
+    rules: &[u32],
+) -> Result<Option<Replay<L>>, AllocError>
+    requires slots { L.SLOTS ≡ 64 }
+    requires wired { L.WIRED ≡ 8 }
+{
+    let Some(policy) = policy_of(alloc, processes, frames, named, rules)? else {
+        return Ok(None);
+    };
+    match Replay::of_policy(alloc, &policy) {
+        Ok(replay) => Ok(replay),
+        Err(OutOfMemory) => Err(AllocError),
+    }
+}
+
 /// A line without its comment, which begins with `#`: what is asked, and what has to be answered,
 /// which is `ok` where the line has no `=`.
 fn parts_of(line: &str) -> (&str, &str) {
@@ -67,6 +89,8 @@ fn parts_of(line: &str) -> (&str, &str) {
 /// Does what a line asks for, by its verb and operands, and answers it. Beside calls there are
 ///
 ///     start PROCESSES FRAMES NAMED    anew, with no entries
+///     begin PROCESSES FRAMES NAMED RULE..  anew, with the entries of a policy; a rule is PROCESS
+///                                     ADDRESS PAGE read|write keep|give END, with END 0 for none
 ///     write PAGE BYTE                 fills the page's frame, which no other may share
 ///     enter FIRST LAST                these processes come on the processor, one after the other
 ///     fill PROCESS ADDRESS            the process comes on the processor, and a miss of it there
@@ -76,6 +100,8 @@ fn parts_of(line: &str) -> (&str, &str) {
 ///     frame PAGE                      the number of its frame among those of pages
 ///     space PROCESS                   the number of its address space
 ///     translation PROCESS ADDRESS     what the buffer answers it
+///     next                            when the first of all rights ends
+///     due PROCESS TIME                its first entry whose right has ended by then
 fn answered<L: Lookaside>(
     alloc: Global,
     replay: &mut Replay<L>,
@@ -88,6 +114,13 @@ fn answered<L: Lookaside>(
     match (verb, operands) {
         ("start", [processes, frames, named]) => {
             *replay = restarted(alloc, *processes, *frames, *named)?;
+            said(alloc, "ok")
+        }
+        ("begin", [processes, frames, named, rules @ ..]) => {
+            match begun(alloc, *processes, *frames, *named, rules)? {
+                Some(begun) => *replay = begun,
+                None => return Ok(None),
+            }
             said(alloc, "ok")
         }
         _ => answer(alloc, replay, verb, operands),
@@ -122,7 +155,8 @@ fn text_of(came: &Option<String>) -> &str {
 fn is_call(asked: &str) -> bool {
     let (verb, _) = step_of(asked);
     match verb {
-        "grant" | "give" | "take" | "drop" | "revoke" | "narrow" | "end" | "split" => true,
+        "grant" | "give" | "take" | "drop" | "revoke" | "narrow" | "end" | "split" | "expire" =>
+            true,
         _ => false,
     }
 }

@@ -1,0 +1,74 @@
+//! Policies whose rights end, of the numbers of a line.
+
+use ds_policy::{Policy, PolicyFault};
+use std::alloc::{AllocError, Global};
+
+/// Adds the pages, each of which has the number of its place in its name.
+fn push_pages(text: &mut String, pages: u32) -> Result<(), AllocError> {
+    for page in 0..pages {
+        write!(text, "[[page]]\nname = \"p{page}\"\n")?;
+    }
+    Ok(())
+}
+
+/// Adds one rule, whose right has no end where that is 0.
+fn push_rule(text: &mut String, rule: [u32; 6]) -> Result<(), AllocError> {
+    let [process, address, page, right, give, until] = rule;
+    let right = if right == 1 { "write" } else { "read" };
+    write!(
+        text,
+        "[[rule]]\nprocess = {process}\naddress = {address}\nright = \"{right}\"\npage = \"p{page}\"\n"
+    )?;
+    if give == 1 {
+        text.push_str("give = true\n")?;
+    }
+    if until == 0 {
+        return Ok(());
+    }
+    write!(text, "until = {until}\n")
+}
+
+/// Adds the rules, each of six numbers.
+fn push_rules(text: &mut String, rules: &[u32]) -> Result<(), AllocError> {
+    for rule in rules.chunks_exact(6) {
+        if let [process, address, page, right, give, until] = rule {
+            push_rule(text, [*process, *address, *page, *right, *give, *until])?;
+        }
+    }
+    Ok(())
+}
+
+/// The text of a policy of version 2.
+fn text_of(
+    alloc: Global,
+    processes: u32,
+    frames: u32,
+    pages: u32,
+    rules: &[u32],
+) -> Result<String, AllocError> {
+    let mut text = format!(in alloc; "version = 2\nframes = {frames}\n")?;
+    for _ in 0..processes {
+        text.push_str("[[process]]\nstart = 0\nline = 0\n")?;
+    }
+    push_pages(&mut text, pages)?;
+    push_rules(&mut text, rules)?;
+    Ok(text)
+}
+
+/// A policy of so many processes, frames and zero pages, with rules of six numbers each: the process,
+/// the address, the page, 1 to write or else to read, 1 to give on, and when the right ends or 0. None
+/// where there is no such policy.
+pub fn policy_of(
+    alloc: Global,
+    processes: u32,
+    frames: u32,
+    pages: u32,
+    rules: &[u32],
+) -> Result<Option<Policy>, AllocError> {
+    let text = text_of(alloc, processes, frames, pages, rules)?;
+    match Policy::read(alloc, text.as_bytes()) {
+        Ok(policy) => Ok(Some(policy)),
+        Err(PolicyFault::Memory) => Err(AllocError),
+        Err(_) => Ok(None),
+    }
+}

@@ -1,0 +1,2 @@
+main:   addiu $2,$0,0
+        syscall
