@@ -16,11 +16,10 @@ use Rattle.ds_cp0.specs.System.{System, is_pending}
 use Rattle.ds_dev.specs.declared.fault.BusError.{BusError}
 use Rattle.ds_dev.specs.Bus.{BusState, lines}
 use Rattle.ds_isa.specs.declared.instr.Size.TheVariants.{Word}
-use Rattle.ds_core.specs.Core.{CoreState, Step, branched, with_tick, trapped}
+use Rattle.ds_core.specs.Core.{CoreState, Step, is_raised, branched, with_tick, trapped}
 use Rattle.ds_core.specs.Access.{reached, aligned_load, aligned_store, kept, load_answered, loaded_from, store_answered, stored_to}
 use Rattle.ds_core.specs.Coprocessor.{is_usable, only_devices_interrupt, unusable, usable, unit_of}
 use Rattle.ds_core.specs.Effect.{effect, fetch_answered, fetched_from, instruction, step}
-use Rattle.ds_core.specs.Ahead.{is_raised}
 
 -- a step that enters no exception keeps both
 abbrev Keeps : CoreState → Step → Type 0

@@ -31,6 +31,12 @@ pub record Step : Type 0 where
   pub core : CoreState
   pub bus : BusState
 
+-- whether an exception is entered; an interrupt is one
+abbrev pub is_raised : Event → Bool
+is_raised Retired = false
+is_raised Branched = false
+is_raised (Raised code) = true
+
 -- the exception of an instruction that names neither an address nor a coprocessor
 abbrev pub exception : CoreState → ExceptionCode → Exception
 exception c code = record { code = code; pc = c.pc; slot = c.slot; unit = 0; addr = None; miss = false }

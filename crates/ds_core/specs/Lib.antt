@@ -4,7 +4,3 @@ pub mod Coprocessor
 pub mod Effect
 pub mod Refilled
 pub mod Worked
-pub mod Ahead
-pub mod Code
-pub mod Placed
-pub mod Operations

@@ -1,12 +1,11 @@
-//! Laws of the processor and of many steps. Each is the contract of a function that does nothing.
-ghost use Rattle.std.specs.Prelude.{◌≡◌, ◌+◌, ℕ, false};
+//! Laws of the processor. Each is the contract of a function that does nothing.
+ghost use Rattle.std.specs.Prelude.{◌≡◌, false};
 ghost use Rattle.ds_isa.specs.Instruction.{instruction_of};
 ghost use Rattle.ds_isa.specs.Registers.{read, written};
 ghost use Rattle.ds_dev.specs.Bus.{BusState};
-ghost use Rattle.ds_core.specs.Core.{CoreState, at_next};
+ghost use Rattle.ds_core.specs.Core.{CoreState, is_raised, at_next};
 ghost use Rattle.ds_core.specs.Coprocessor.{is_usable};
 ghost use Rattle.ds_core.specs.Effect.{executed, step};
-ghost use Rattle.ds_core.specs.Ahead.{Hardware, Advances, is_raised, ticks, owed_tick};
 
 use crate::Core;
 use ds_tlb::Lookaside;
@@ -21,20 +20,6 @@ pub fn register_0_reads_0<L: Lookaside>(core: &Core<L>)
     // A field is looked at, so that what is true of every processor is known.
     let _pc = core.pc;
 }
-
-/// So many calm steps, and so many more, are calm steps.
-pub fn advances_join()
-    ensures { (a b : ℕ) (x y z : Hardware)
-        → Advances a x y → Advances b y z → Advances (a + b) x z }
-{}
-
-/// So many calm steps take so many ticks: one more if they begin in a slot, one less if they end in
-/// front of one.
-#[tactic(auto, using(crate::proofs::Slots::ticks_of_advance))]
-pub fn a_step_is_a_tick()
-    ensures { (n : ℕ) (old new : Hardware) → Advances n old new
-        → ticks n old + owed_tick new.core.slot ≡ n + owed_tick old.core.slot }
-{}
 
 /// Where coprocessor 0 may not be used, as by a user, a calm step leaves its registers alone.
 #[tactic(auto, using(crate::proofs::Users::keeps_system))]

@@ -7,4 +7,4 @@ pub mod laws;
 mod processor;
 
 pub use event::Event;
-pub use processor::{Ahead, Core};
+pub use processor::{Core, after_slot, is_at_most_zero, places};

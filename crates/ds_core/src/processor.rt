@@ -1,23 +1,18 @@
 //! The processor and its step.
 
 mod access;
-mod ahead;
 mod anew;
-mod code;
 mod coprocessor;
 mod execute;
 mod flow;
-mod operate;
-mod operations;
-mod position;
 mod registers;
-mod stretch;
 mod transfer;
 
-pub use ahead::Ahead;
 use ds_cp0::Cp0;
 use ds_isa::Late;
 use ds_tlb::Lookaside;
+pub use execute::{is_at_most_zero, places};
+pub use flow::after_slot;
 use std::marker::Model;
 
 /// The processor's registers, its system coprocessor and its translation buffer; a contract sees

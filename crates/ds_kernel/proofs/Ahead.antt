@@ -5,7 +5,7 @@ use Rattle.std.specs.List.Sorted.{IsNonDecreasingBy}
 use Rattle.std.proofs.lemmas.Bool.Decides.{nat_tests}
 use Rattle.std.proofs.Math.Nat.{min-eq_left, min-eq_right, min-le_right}
 use Rattle.ds_cp0.specs.System.{is_user}
-use Rattle.ds_core.specs.Ahead.{owed_tick}
+use Rattle.ds_ahead.specs.Ahead.{owed_tick}
 use Rattle.ds_policy.specs.InputFacts.{has_time, comes_at}
 use Rattle.ds_pagemap.specs.declared.turn.Turn.{Turn}
 use Rattle.ds_pagemap.specs.Machine.{first}

@@ -4,7 +4,7 @@ use Rattle.std.specs.Prelude.{slice_index, slice_set, slice_index_or, drop}
 use Rattle.ds_word.specs.Word.{word}
 use Rattle.ds_cp0.specs.System.{System, is_user}
 use Rattle.ds_core.specs.Core.{CoreState}
-use Rattle.ds_core.specs.Ahead.{owed_tick}
+use Rattle.ds_ahead.specs.Ahead.{owed_tick}
 use Rattle.ds_dev.specs.Bus.{BusState}
 use Rattle.ds_refill.specs.Handler.{HasWords}
 use Rattle.ds_procs.specs.declared.process.Standing.TheVariants.{Ready}

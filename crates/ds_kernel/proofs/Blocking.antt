@@ -7,11 +7,11 @@ use Rattle.ds_cp0.specs.declared.exception.ExceptionCode.{ExceptionCode}
 use Rattle.ds_cp0.specs.declared.exception.Exception.{Exception}
 use Rattle.ds_cp0.specs.declared.exception.ExceptionCode.TheVariants.{SystemCall}
 use Rattle.ds_cp0.specs.System.{System, is_user, entered, pushed}
-use Rattle.ds_core.specs.Ahead as ahead
-use Rattle.ds_core.specs.Ahead.{Hardware, hardware_of, after_steps, is_raised, Advances, AdvancesTo, ComesByWords, owed_tick, ticks}
+use Rattle.ds_ahead.specs.Ahead as ahead
+use Rattle.ds_ahead.specs.Ahead.{Hardware, hardware_of, after_steps, Advances, AdvancesTo, ComesByWords, owed_tick, ticks}
 use Rattle.ds_dev.specs.Bus.{BusState}
 use Rattle.ds_core.specs.declared.event.Event.TheVariants.{Raised}
-use Rattle.ds_core.specs.Core.{CoreState, Step, exception}
+use Rattle.ds_core.specs.Core.{CoreState, Step, is_raised, exception}
 use Rattle.ds_core.proofs.Users.{keeps_system}
 use Rattle.ds_pagemap.specs.declared.turn.Turn.{Turn}
 use Rattle.ds_refinement.specs.Told.{code_in, is_delayed}

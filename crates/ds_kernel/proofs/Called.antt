@@ -20,11 +20,10 @@ use Rattle.ds_cp0.specs.System.{entered, is_pending}
 use Rattle.ds_dev.specs.declared.fault.BusError.{BusError}
 use Rattle.ds_dev.specs.Bus.{BusState, lines}
 use Rattle.ds_core.specs.declared.event.Event.TheVariants.{Raised}
-use Rattle.ds_core.specs.Core.{CoreState, Step, branched, exception, with_tick, trapped, at_vector}
+use Rattle.ds_core.specs.Core.{CoreState, Step, is_raised, branched, exception, with_tick, trapped, at_vector}
 use Rattle.ds_core.specs.Access.{refusal, code_of, reached, aligned_load, aligned_store, kept, load_answered, loaded_from, store_answered, stored_to}
 use Rattle.ds_core.specs.Coprocessor.{is_usable, unusable_exception, unusable, usable, unit_of}
 use Rattle.ds_core.specs.Effect.{fault_code, effect, fetch_answered, fetched_from, instruction, step}
-use Rattle.ds_core.specs.Ahead.{is_raised}
 
 -- a step that enters the exception of a call has its registers, and is at the general vector
 abbrev Tells : CoreState → Step → Type 0

@@ -6,7 +6,7 @@ use Rattle.ds_isa.specs.declared.instr.Kind.{Kind}
 use Rattle.ds_isa.specs.declared.instr.Kind.TheVariants.{Fetch, Load, Store}
 use Rattle.ds_isa.specs.Access.{is_aligned}
 use Rattle.ds_cp0.specs.System.{is_user}
-use Rattle.ds_core.specs.Ahead.{owed_tick}
+use Rattle.ds_ahead.specs.Ahead.{owed_tick}
 use Rattle.ds_policy.specs.declared.access.Access.{Access}
 use Rattle.ds_policy.specs.declared.access.Rule.{Rule}
 use Rattle.ds_policy.specs.declared.access.Rule.TheVariants.{K, A}

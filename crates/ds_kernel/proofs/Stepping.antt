@@ -6,9 +6,9 @@ use Rattle.ds_cp0.specs.System.{is_user}
 use Rattle.ds_core.specs.declared.event.Event.{Event}
 use Rattle.ds_core.specs.declared.event.Event.TheVariants.{Retired, Branched, Raised}
 use Rattle.ds_core.specs.Core as core
-use Rattle.ds_core.specs.Core.{CoreState}
+use Rattle.ds_core.specs.Core.{CoreState, is_raised}
 use Rattle.ds_core.specs.Effect.{step}
-use Rattle.ds_core.specs.Ahead.{is_raised, owed_tick}
+use Rattle.ds_ahead.specs.Ahead.{owed_tick}
 use Rattle.ds_core.proofs.Users.{keeps_system}
 use Rattle.ds_dev.specs.Bus.{BusState}
 use Rattle.ds_pagemap.specs.declared.turn.Turn.{Turn}

@@ -2,7 +2,7 @@
 use Rattle.std.specs.Prelude.{◌≡◌, ℕ, ◌+◌, ◌-◌, ◌<◌, true, false, None}
 use Rattle.ds_cp0.specs.System.{is_user}
 use Rattle.ds_core.specs.Core.{CoreState}
-use Rattle.ds_core.specs.Ahead.{owed_tick}
+use Rattle.ds_ahead.specs.Ahead.{owed_tick}
 use Rattle.ds_refinement.specs.Told.{code_in, is_delayed}
 use Rattle.ds_refinement.specs.Units.{is_served, has_left_user}
 use Rattle.ds_refinement.specs.Blocks.{MayRunAhead}

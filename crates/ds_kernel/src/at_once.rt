@@ -2,7 +2,7 @@
 //! turn, which has nothing to do, is over with it.
 ghost use Rattle.std.specs.Prelude.{◌≡◌, ◌+◌, ◌%◌, ◌<◌, ◌≤◌, ◌≢◌, None, [], true, false, slice_index};
 ghost use Rattle.ds_cp0.specs.System.{is_user};
-ghost use Rattle.ds_core.specs.Ahead.{owed_tick};
+ghost use Rattle.ds_ahead.specs.Ahead.{owed_tick};
 ghost use Rattle.ds_monitor.specs.Room.{HasLogRoom};
 ghost use Rattle.ds_kernel.specs.Good.{IsBusy, IsGood};
 ghost use Rattle.ds_kernel.specs.AtOnce.{IsCalled, IsQuietCall, IsAnswered, MayGoOn};

@@ -1,7 +1,7 @@
 //! Many instructions of a process at once, with one bookkeeping for all their units.
 ghost use Rattle.std.specs.Prelude.{[], ◌≢◌, ◌≡◌, ◌<◌, ◌≤◌, ◌+◌, ◌-◌, min, ℕ, None, true, false, IfSome, IfErr, OnOk, OnErr, IsNone, IsSome};
 ghost use Rattle.ds_cp0.specs.declared.exception.ExceptionCode.TheVariants as exception;
-ghost use Rattle.ds_core.specs.Ahead.{hardware_of, AdvancesTo, ComesByWords, ticks, owed_tick};
+ghost use Rattle.ds_ahead.specs.Ahead.{hardware_of, AdvancesTo, ComesByWords, ticks, owed_tick};
 ghost use Rattle.ds_refinement.specs.Blocks.{MayRunAhead};
 ghost use Rattle.ds_refinement.specs.Services.{with_failure};
 ghost use Rattle.ds_monitor.specs.Room.{HasRoom};
@@ -13,7 +13,7 @@ ghost use Rattle.ds_kernel.specs.Halts.{Halts};
 
 use crate::halt::Halt;
 use crate::parts::Parts;
-use ds_core::Ahead;
+use ds_ahead::{Ahead, run_ahead};
 use ds_cp0::ExceptionCode;
 use ds_tlb::Lookaside;
 
@@ -130,7 +130,7 @@ impl<L: Lookaside> Parts<L> {
             + owed_tick self.new.core.slot ≡ result.steps + owed_tick self.old.core.slot }
         ensures rest { self.new ≡ record self.old { core = self.new.core; bus = self.new.bus } }
     {
-        self.core.run_ahead(&mut self.bus, limit)
+        run_ahead(&mut self.core, &mut self.bus, limit)
     }
 
     /// Takes so many instructions, or fewer and then one that raises an exception. No

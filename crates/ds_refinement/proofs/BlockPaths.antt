@@ -7,11 +7,11 @@ use Rattle.ds_cp0.specs.System.{System, is_user}
 use Rattle.ds_core.specs.declared.event.Event.{Event}
 use Rattle.ds_core.specs.declared.event.Event.TheVariants.{Retired, Branched, Raised}
 use Rattle.ds_core.specs.Core as core
-use Rattle.ds_core.specs.Core.{CoreState}
+use Rattle.ds_core.specs.Core.{CoreState, is_raised}
 use Rattle.ds_core.specs.Effect as whole
-use Rattle.ds_core.specs.Ahead as ahead
-use Rattle.ds_core.specs.Ahead.{Hardware, hardware_of, left_by, after_steps, is_raised, Advances, AdvancesTo, ComesByWords, owed_tick, ticks_after, ticks}
-use Rattle.ds_core.proofs.Slots.{Slots, step_slots, ticks_of_advance}
+use Rattle.ds_ahead.specs.Ahead as ahead
+use Rattle.ds_ahead.specs.Ahead.{Hardware, hardware_of, left_by, after_steps, Advances, AdvancesTo, ComesByWords, owed_tick, ticks_after, ticks}
+use Rattle.ds_ahead.proofs.Slots.{Slots, step_slots, ticks_of_advance}
 use Rattle.ds_core.proofs.Users.{keeps_system}
 use Rattle.ds_pagemap.specs.declared.turn.Turn.{Turn}
 use Rattle.ds_pagemap.specs.Machine.{first}

@@ -17,11 +17,10 @@ use Rattle.ds_cp0.specs.declared.exception.ExceptionCode.TheVariants.{Interrupt,
 use Rattle.ds_cp0.specs.System.{is_pending}
 use Rattle.ds_dev.specs.declared.fault.BusError.{BusError}
 use Rattle.ds_dev.specs.Bus.{BusState, lines}
-use Rattle.ds_core.specs.Core.{CoreState, Step, branched, exception, with_tick, trapped, at_vector}
+use Rattle.ds_core.specs.Core.{CoreState, Step, is_raised, branched, exception, with_tick, trapped, at_vector}
 use Rattle.ds_core.specs.Access.{refusal, reached, aligned_load, aligned_store, kept, load_answered, loaded_from, store_answered, stored_to}
 use Rattle.ds_core.specs.Coprocessor.{is_usable, unusable_exception, unusable, usable, unit_of}
 use Rattle.ds_core.specs.Effect.{fault_code, effect, fetch_answered, fetched_from, instruction, step}
-use Rattle.ds_core.specs.Ahead.{is_raised}
 use Rattle.ds_refinement.specs.Told.{is_delayed}
 use Rattle.ds_refinement.proofs.Exceptions.{slot_told}
 

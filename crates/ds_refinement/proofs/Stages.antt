@@ -17,9 +17,8 @@ use Rattle.ds_cp0.specs.System.{System, asid_of, entered, is_user, vector, epc_o
 use Rattle.ds_dev.specs.Bus.{BusState}
 use Rattle.ds_core.specs.declared.event.Event.TheVariants as event
 use Rattle.ds_core.specs.Core as core
-use Rattle.ds_core.specs.Core.{CoreState, core_at_next, core_at_vector, branched_core, with_tick, trapped}
+use Rattle.ds_core.specs.Core.{CoreState, is_raised, core_at_next, core_at_vector, branched_core, with_tick, trapped}
 use Rattle.ds_core.specs.Effect as whole
-use Rattle.ds_core.specs.Ahead.{is_raised}
 use Rattle.ds_refinement.specs.Real.{IsNoBusError}
 use Rattle.ds_refinement.specs.Handling.{HasBase, IsSet, IsMiss, IsWhole, AreUnits}
 use Rattle.ds_cp0.specs.declared.exception.ExceptionCode.{ExceptionCode}

@@ -1,7 +1,7 @@
 -- Many instructions of the processor at once, with the boundaries of the units that they end.
 use Rattle.std.specs.Prelude.{◌≡◌, ◌≢◌, ℕ, ◌+◌, ◌≤◌, [], Option, None}
 use Rattle.ds_pagemap.specs.declared.turn.Turn.{Turn}
-use Rattle.ds_core.specs.Ahead.{Hardware, hardware_of, ticks, owed_tick}
+use Rattle.ds_ahead.specs.Ahead.{Hardware, hardware_of, ticks, owed_tick}
 use Rattle.ds_refinement.specs.Held.{Held, Kept}
 use Rattle.ds_refinement.specs.Counts.{with_counts, fresh, IsFresh}
 use Rattle.ds_refinement.specs.Units.{user_status}

@@ -3,7 +3,7 @@
 ghost use Rattle.std.specs.Prelude.{◌≡◌, ◌≤◌, ◌+◌, ℕ, true, None, Some};
 ghost use Rattle.ds_cp0.specs.System.{is_user};
 ghost use Rattle.ds_cp0.specs.declared.exception.ExceptionCode.{ExceptionCode};
-ghost use Rattle.ds_core.specs.Ahead.{
+ghost use Rattle.ds_ahead.specs.Ahead.{
   Hardware,
   hardware_of,
   Advances,

@@ -6,7 +6,7 @@ ghost use Rattle.ds_cp0.specs.System.{is_user};
 ghost use Rattle.ds_core.specs.declared.event.Event.TheVariants.{Raised};
 ghost use Rattle.ds_core.specs.Core as core;
 ghost use Rattle.ds_core.specs.Effect.{step};
-ghost use Rattle.ds_core.specs.Ahead.{is_raised};
+ghost use Rattle.ds_core.specs.Core.{is_raised};
 ghost use Rattle.ds_refinement.specs.Handling.{IsWhole};
 ghost use Rattle.ds_pagemap.specs.Machine.{State};
 ghost use Rattle.ds_pagemap.specs.Unit.{instruction, with_registers};

@@ -1,7 +1,7 @@
 //! Runs of the station for a number of ticks, by single steps and by many instructions at once.
 ghost use Rattle.std.specs.Prelude.{◌≡◌, ◌≤◌, ◌<◌, ◌+◌, ℕ, true, false, Some};
 ghost use Rattle.ds_cp0.specs.declared.exception.ExceptionCode.{ExceptionCode};
-ghost use Rattle.ds_core.specs.Ahead.{
+ghost use Rattle.ds_ahead.specs.Ahead.{
   Hardware,
   hardware_of,
   Advances,

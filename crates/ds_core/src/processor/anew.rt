@@ -14,11 +14,23 @@ use ds_isa::Size;
 use ds_tlb::Lookaside;
 
 impl<L: Lookaside> Core<L> {
+    /// Takes an interrupt that is pending, or does the instruction at `pc`. In a buffer of 64 slots
+    /// 8 are wired.
+    #[inline(always)]
+    pub fn step(&mut self, bus: &mut Bus) -> Event
+        requires slots { L.SLOTS ≡ 64 }
+        requires wired { L.WIRED ≡ 8 }
+        ensures { (record { event = result; core = self.new; bus = bus.new })
+            ≡ step self.old bus.old }
+    {
+        self.step_anew(bus)
+    }
+
     /// A step that looks at everything: takes an interrupt that is pending, or does the instruction
     /// at `pc`.
     #[cold]
     #[inline(never)]
-    pub(super) fn step_anew(&mut self, bus: &mut Bus) -> Event
+    fn step_anew(&mut self, bus: &mut Bus) -> Event
         requires slots { L.SLOTS ≡ 64 }
         requires wired { L.WIRED ≡ 8 }
         ensures { (record { event = result; core = self.new; bus = bus.new })

@@ -50,7 +50,7 @@ fn unit_of(instr: Instr) -> u8
 impl<L: Lookaside> Core<L> {
     /// Whether a coprocessor may be used: coprocessor 0 in kernel mode, else each by its bit in
     /// Status.
-    pub(super) fn is_usable(&self, unit: u8) -> bool
+    pub fn is_usable(&self, unit: u8) -> bool
         ensures { result ≡ is_usable self.now unit }
     {
         let enabled = (self.cp0.read(register::STATUS) >> (28 + unit % 4)) & 1 == 1;

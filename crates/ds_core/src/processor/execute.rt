@@ -18,7 +18,7 @@ use ds_word::{
 
 /// Whether a word is negative or zero.
 #[inline(always)]
-pub(super) fn is_at_most_zero(word: u32) -> bool
+pub fn is_at_most_zero(word: u32) -> bool
     ensures { result ≡ (is_negative word || (word == 0)) }
 {
     is_negative(word) || word == 0
@@ -26,7 +26,7 @@ pub(super) fn is_at_most_zero(word: u32) -> bool
 
 /// The low five bits of a word, by which a variable shift goes.
 #[inline(always)]
-pub(super) fn places(word: u32) -> u8
+pub fn places(word: u32) -> u8
     ensures { result ≡ word % 32 }
 {
     (word % 32) as u8

@@ -15,7 +15,7 @@ use ds_word::{sign16, wrapping_sum};
 
 /// The address after a branch and its slot.
 #[inline(always)]
-pub(super) fn after_slot(pc: u32) -> u32
+pub fn after_slot(pc: u32) -> u32
     ensures { result ≡ behind_slot pc }
 {
     wrapping_sum(pc, 8)
@@ -46,7 +46,7 @@ pub(super) fn jump_target(pc: u32, target: u32) -> u32
 impl<L: Lookaside> Core<L> {
     /// Enters an exception; a late load is finished.
     #[inline(always)]
-    pub(super) fn raise(&mut self, exception: Exception) -> Event
+    pub fn raise(&mut self, exception: Exception) -> Event
         ensures event { result ≡ Event.Raised exception.code }
         ensures core { self.new ≡ core_at_vector self.old exception }
     {

@@ -3,6 +3,7 @@ ghost use Rattle.std.specs.Prelude.{◌≡◌, ◌+◌, ◌≤◌};
 
 use crate::programs::machine::Machine;
 use crate::programs::random::Reached;
+use ds_ahead::run_ahead;
 use ds_core::Core;
 use ds_cp0::Cp0;
 use ds_dev::Bus;
@@ -43,7 +44,7 @@ fn go_alike_for<A: Lookaside, B: Lookaside>(
     requires ahead_wired { B.WIRED ≡ 8 }
 {
     let walked = plain.walk(limit, reached);
-    let went = ahead.core.run_ahead(&mut ahead.bus, limit);
+    let went = run_ahead(&mut ahead.core, &mut ahead.bus, limit);
     let alike = went == walked && are_alike(plain, ahead);
     if let Some(code) = went.raised {
         plain.serve(code);

@@ -2,8 +2,9 @@
 ghost use Rattle.std.specs.Prelude.{◌≡◌};
 
 use crate::programs::random::Reached;
+use ds_ahead::{Ahead, run_ahead};
 use ds_asm::Image;
-use ds_core::{Ahead, Core, Event};
+use ds_core::{Core, Event};
 use ds_cp0::{Cp0, ExceptionCode, register};
 use ds_dev::Bus;
 use ds_isa::Size;
@@ -164,7 +165,7 @@ impl<L: Lookaside> Machine<L> {
             if left == 0 {
                 break;
             }
-            let ahead = self.core.run_ahead(&mut self.bus, left);
+            let ahead = run_ahead(&mut self.core, &mut self.bus, left);
             left -= ahead.steps;
             if let Some(code) = ahead.raised {
                 left = left.saturating_sub(1);

@@ -9,6 +9,7 @@ use super::turn::Turn;
 use super::words::random_word;
 use crate::programs::lockstep::{are_alike, are_frames_alike, go_alike};
 use crate::programs::machine::Machine;
+use ds_ahead::run_ahead;
 use ds_asm::Image;
 use ds_cp0::{ExceptionCode, register};
 use ds_mem::FRAMES;
@@ -135,7 +136,7 @@ impl<A: Lookaside, B: Lookaside> Pair<A, B> {
         requires ahead_wired { B.WIRED ≡ 8 }
     {
         let walked = self.plain.walk(limit, reached);
-        let went = self.ahead.core.run_ahead(&mut self.ahead.bus, limit);
+        let went = run_ahead(&mut self.ahead.core, &mut self.ahead.bus, limit);
         if went != walked || !are_alike(&self.plain, &self.ahead) {
             return None;
         }

@@ -1,5 +1,5 @@
 use Rattle.std.proofs.Common.{◌≡◌, ◌+◌, ◌≤◌, arith}
-use Rattle.ds_core.specs.Ahead.{owed_tick}
+use Rattle.ds_ahead.specs.Ahead.{owed_tick}
 use Rattle.ds_kernel.specs.Parts.{held}
 use Rattle.ds_kernel.specs.Going.{GoesOn}
 use Rattle.ds_kernel.proofs.Doing.{owed_small}

@@ -1,7 +1,7 @@
 use Rattle.std.proofs.Common.{◌≡◌, ◌≤◌, ◌<◌, ◌+◌, ◌-◌, ℕ, Option, sym, ap, ap₂, subst, ◌∙◌, arith}
 use Rattle.std.specs.Prelude.{IfSome, is_some}
 use Rattle.ds_cp0.specs.declared.exception.ExceptionCode.{ExceptionCode}
-use Rattle.ds_core.specs.Ahead.{hardware_of, AdvancesTo, ticks, owed_tick}
+use Rattle.ds_ahead.specs.Ahead.{hardware_of, AdvancesTo, ticks, owed_tick}
 use Rattle.ds_refinement.specs.Told.{is_delayed}
 use Rattle.ds_refinement.proofs.BlockPaths.{raised_ticks}
 use Rattle.ds_kernel.specs.declared.parts.Parts.{Parts}

@@ -1,0 +1,4 @@
+pub mod Ahead
+pub mod Code
+pub mod Placed
+pub mod Operations

@@ -1,0 +1,130 @@
+//! Many steps at once.
+ghost use Rattle.std.specs.Prelude.{◌≡◌, ◌<◌, ◌≤◌, ◌+◌, ◌^◌, ℕ, Some, None, IsNone, IfSome};
+ghost use Rattle.ds_cp0.specs.declared.exception.ExceptionCode.TheVariants.{SystemCall};
+ghost use Rattle.ds_dev.specs.Bus.{BusState};
+ghost use Rattle.ds_core.specs.Core.{with_tick, trapped};
+ghost use Rattle.ds_ahead.specs.Ahead.{hardware_of, after_steps, AdvancesTo, ComesByWords, ticks, owed_tick};
+
+use crate::stretch::stretch;
+use ds_core::{Core, Event};
+use ds_cp0::{Exception, ExceptionCode};
+use ds_dev::Bus;
+use ds_tlb::Lookaside;
+
+/// How far the processor went.
+#[derive(Clone, Copy, Debug, PartialEq, Eq)]
+pub struct Ahead {
+    /// The number of steps that entered no exception.
+    pub steps: u32,
+    /// The exception that the next step entered, if it did.
+    pub raised: Option<ExceptionCode>,
+}
+
+impl Ahead {
+    /// So many steps, and an exception in the next.
+    #[inline(always)]
+    fn stopped(steps: u32, code: ExceptionCode) -> Ahead
+        ensures { result ≡ record { steps = steps; raised = Some code } }
+    {
+        let raised = Some(code);
+        Ahead { steps, raised }
+    }
+
+    /// So many steps, none of which entered an exception.
+    #[inline(always)]
+    fn calm(steps: u32) -> Ahead
+        ensures { result ≡ record { steps = steps; raised = None } }
+    {
+        let raised = None;
+        Ahead { steps, raised }
+    }
+}
+
+/// Takes `limit` steps, or fewer and after them one that enters an exception. So many steps
+/// take so many ticks, but for a slot at either end; each begins at an address of 32 bits.
+///
+/// It is compiled into its caller, so that what runs ahead, which may be a few steps, begins
+/// without a call.
+#[inline(always)]
+pub fn run_ahead<L: Lookaside>(core: &mut Core<L>, bus: &mut Bus, limit: u32) -> Ahead
+    requires slots { L.SLOTS ≡ 64 }
+    requires wired { L.WIRED ≡ 8 }
+    ensures all { IsNone result.raised → result.steps ≡ limit }
+    ensures fewer { IfSome result.raised (λ _. result.steps < limit) }
+    ensures steps { AdvancesTo result.steps result.raised
+        (hardware_of core.old bus.old)
+        (hardware_of core.new bus.new) }
+    ensures words { ComesByWords result.steps (hardware_of core.old bus.old) }
+    ensures ticks { IsNone result.raised
+        → ticks result.steps (hardware_of core.old bus.old)
+        + owed_tick core.new.slot ≡ result.steps + owed_tick core.old.slot }
+{
+    let mut steps = 0;
+    while steps < limit {
+        let went = stretch_and_step(core, bus, limit - steps);
+        steps += went.steps;
+        if let Some(code) = went.raised {
+            return Ahead::stopped(steps, code);
+        }
+    }
+    // The address is looked at, so that it is known to be a word after the loop.
+    let _here = core.pc;
+    Ahead::calm(steps)
+}
+
+/// A stretch, and after it a plain step where it has fewer steps than `left`, which is one at
+/// least.
+#[inline(always)]
+fn stretch_and_step<L: Lookaside>(core: &mut Core<L>, bus: &mut Bus, left: u32) -> Ahead
+    requires slots { L.SLOTS ≡ 64 }
+    requires wired { L.WIRED ≡ 8 }
+    requires some { 0 < left }
+    ensures within { result.steps ≤ left }
+    ensures on { IsNone result.raised → 0 < result.steps }
+    ensures fewer { IfSome result.raised (λ _. result.steps < left) }
+    ensures steps { AdvancesTo result.steps result.raised
+        (hardware_of core.old bus.old)
+        (hardware_of core.new bus.new) }
+    ensures words { (k : ℕ) → k < result.steps
+        → (after_steps k (hardware_of core.old bus.old)).core.pc < 2 ^ 32 }
+    ensures raised { IfSome result.raised (λ _.
+        (after_steps result.steps (hardware_of core.old bus.old)).core.pc < 2 ^ 32) }
+{
+    let stretch = stretch(core, bus, left);
+    let _here = core.pc;
+    if stretch.calls {
+        return call_after(core, stretch.steps);
+    }
+    if stretch.steps == left {
+        return Ahead::calm(left);
+    }
+    if let Event::Raised(code) = core.step(bus) {
+        return Ahead::stopped(stretch.steps, code);
+    }
+    Ahead::calm(stretch.steps + 1)
+}
+
+/// Enters the exception of a system call, after so many steps.
+#[inline(always)]
+fn call_after<L: Lookaside>(core: &mut Core<L>, steps: u32) -> Ahead
+    requires slots { L.SLOTS ≡ 64 }
+    requires wired { L.WIRED ≡ 8 }
+    ensures value { result ≡ record { steps = steps; raised = Some SystemCall } }
+    ensures core { (bus : BusState) → (record {
+      event = Event.Raised SystemCall;
+      core = core.new;
+      bus = bus;
+    })
+        ≡ with_tick (trapped core.old bus SystemCall) }
+{
+    core.raise(Exception {
+        code: ExceptionCode::SystemCall,
+        pc: core.pc,
+        slot: core.slot,
+        unit: 0,
+        addr: None,
+        miss: false,
+    });
+    core.tlb.tick();
+    Ahead::stopped(steps, ExceptionCode::SystemCall)
+}

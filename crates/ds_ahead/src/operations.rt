@@ -1,0 +1,397 @@
+//! One operation of a stretch: what seldom comes is left to the plain step.
+ghost use Rattle.std.specs.Prelude.{◌≡◌, ◌+◌, ◌*◌, ◌<◌, ◌^◌, slice_index, Ok, IfSome};
+ghost use Rattle.ds_isa.specs.Registers.{written, loaded, settled};
+ghost use Rattle.ds_isa.specs.Meaning.{written_or_trap, loads, stores, with_hi_lo, behind_slot, Branches};
+ghost use Rattle.ds_isa.specs.declared.instr.Size.TheVariants as size;
+ghost use Rattle.ds_word.specs.Word.{word, bits, sign_extended};
+ghost use Rattle.ds_word.specs.Merge.{with_bits};
+ghost use Rattle.ds_operations.specs.Does.{target_by, in_region};
+ghost use Rattle.ds_dev.specs.Bus.{lines};
+ghost use Rattle.ds_core.specs.Access.{reached};
+ghost use Rattle.ds_ahead.specs.Placed.{registers_at, with_general, at_next};
+ghost use Rattle.ds_ahead.specs.Operations.{ComesTo};
+
+use crate::position::Position;
+use ds_amap::{Access, Physical, recalled};
+use ds_core::{Core, after_slot};
+use ds_dev::Bus;
+use ds_isa::{Late, Size};
+use ds_operations::{Register, Target};
+use ds_tlb::Lookaside;
+use ds_word::{
+    byte_signed, byte_unsigned, half_signed, half_unsigned, store_byte, store_half, wrapping_sum,
+};
+
+/// What became of an operation.
+#[derive(Clone, Copy)]
+pub(crate) enum Outcome {
+    /// It is done.
+    Done,
+    /// It is done, and its load is late.
+    Loaded,
+    /// It is a branch or jump, and its slot comes next.
+    Branched,
+    /// It is a system call, and nothing was done.
+    Called,
+    /// It is left to the plain step, and nothing was done.
+    Left,
+}
+
+/// The target of a taken branch at its distance, else the place after its slot.
+#[inline(always)]
+pub(crate) fn target_by(taken: bool, pc: u32, distance: u32) -> u32
+    ensures { result ≡ target_by taken pc distance }
+{
+    if taken {
+        wrapping_sum(pc, distance)
+    } else {
+        after_slot(pc)
+    }
+}
+
+/// A place in the region of 2^28 bytes of the slot.
+#[inline(always)]
+pub(crate) fn in_region(pc: u32, place: u32) -> u32
+    ensures { result ≡ in_region pc place }
+{
+    wrapping_sum(wrapping_sum(pc, 4) / 0x1000_0000 * 0x1000_0000, place)
+}
+
+/// What a register holds: what an operation reads there, but for a load that is late.
+#[inline(always)]
+pub(crate) fn general<L: Lookaside>(core: &Core<L>, register: Register) -> u32
+    ensures { result ≡ slice_index core.now.registers.general register.number }
+{
+    core.registers[register.number() as usize]
+}
+
+/// The operation is done, and a register written.
+#[inline(always)]
+pub(crate) fn put<L: Lookaside>(
+    core: &mut Core<L>,
+    to: Target,
+    value: u32,
+    at: &mut Position,
+) -> Outcome
+    ensures done { result ≡ Outcome.Done }
+    ensures core { core.new ≡ record core.old {
+      registers = with_general core.old.registers to.number value;
+    } }
+    ensures at { at.new ≡ at_next at.old }
+{
+    core.registers[to.number() as usize] = value;
+    at.go_on()
+}
+
+/// The operation is done, and a register loaded.
+#[inline(always)]
+pub(crate) fn put_late<L: Lookaside>(
+    core: &mut Core<L>,
+    to: Target,
+    value: u32,
+    at: &mut Position,
+) -> Outcome
+    ensures loaded { result ≡ Outcome.Loaded }
+    ensures core { core.new ≡ record core.old { registers = core.new.registers } }
+    ensures at { at.new ≡ record (at_next at.old) { late = at.new.late } }
+    ensures registers { registers_at core.new at.new
+        ≡ loaded (registers_at core.old at.old) to.number value }
+{
+    let number = to.number();
+    let old = core.registers[number as usize];
+    core.registers[number as usize] = value;
+    at.go_on();
+    at.late = Some(Late {
+        register: number,
+        old,
+    });
+    Outcome::Loaded
+}
+
+/// The operation is done with its result in a register; where it overflowed it is left.
+#[inline(always)]
+pub(crate) fn put_or_leave<L: Lookaside>(
+    core: &mut Core<L>,
+    to: Target,
+    value: Option<u32>,
+    at: &mut Position,
+    bus: &Bus,
+) -> Outcome
+    ensures comes { ComesTo result (written_or_trap (registers_at core.old at.old) to.number value)
+        core.old at.old bus.now core.new at.new bus.now }
+    ensures system { core.new.system ≡ core.old.system }
+    ensures entries { core.new.entries ≡ core.old.entries }
+{
+    match value {
+        Some(value) => put(core, to, value, at),
+        None => Outcome::Left,
+    }
+}
+
+/// A branch or jump to the target. In a slot it is left: there it is reserved.
+#[inline(always)]
+pub(crate) fn jump<L: Lookaside>(
+    core: &mut Core<L>,
+    target: u32,
+    at: &mut Position,
+    bus: &Bus,
+) -> Outcome
+    ensures comes { ComesTo result (Branches (settled (registers_at core.old at.old)) target)
+        core.old at.old bus.now core.new at.new bus.now }
+    ensures system { core.new.system ≡ core.old.system }
+    ensures entries { core.new.entries ≡ core.old.entries }
+{
+    if at.slot {
+        Outcome::Left
+    } else {
+        at.into_slot(target)
+    }
+}
+
+/// The same, with the address after the slot in a register.
+#[inline(always)]
+pub(crate) fn jump_and_link<L: Lookaside>(
+    core: &mut Core<L>,
+    to: Target,
+    target: u32,
+    at: &mut Position,
+    bus: &Bus,
+) -> Outcome
+    ensures comes { ComesTo result
+        (Branches (written (registers_at core.old at.old) to.number (behind_slot at.old.pc)) target)
+        core.old at.old bus.now core.new at.new bus.now }
+    ensures system { core.new.system ≡ core.old.system }
+    ensures entries { core.new.entries ≡ core.old.entries }
+{
+    if at.slot {
+        return Outcome::Left;
+    }
+    core.registers[to.number() as usize] = after_slot(at.pc);
+    at.into_slot(target)
+}
+
+/// The operation is done, and HI and LO written.
+#[inline(always)]
+pub(crate) fn put_hi_lo<L: Lookaside>(
+    core: &mut Core<L>,
+    hi: u32,
+    lo: u32,
+    at: &mut Position,
+    bus: &Bus,
+) -> Outcome
+    ensures comes { ComesTo result (with_hi_lo (registers_at core.old at.old) (hi, lo))
+        core.old at.old bus.now core.new at.new bus.now }
+    ensures system { core.new.system ≡ core.old.system }
+    ensures entries { core.new.entries ≡ core.old.entries }
+{
+    core.hi = hi;
+    core.lo = lo;
+    at.go_on()
+}
+
+/// The address of a load or a store.
+#[inline(always)]
+pub(crate) fn address_by<L: Lookaside>(core: &Core<L>, base: Register, immediate: u32) -> u32
+    ensures { result ≡ word (slice_index core.now.registers.general base.number + immediate) }
+{
+    wrapping_sum(general(core, base), immediate)
+}
+
+/// The place in memory of an access, where the buffer remembers its page.
+#[inline(always)]
+pub(crate) fn remembered<L: Lookaside>(
+    core: &Core<L>,
+    access: Access,
+    size: Size,
+    address: u32,
+) -> Option<Physical>
+    ensures value { IfSome result (λ place. reached core.now access size address ≡ Ok place) }
+    ensures inside { IfSome result (λ place. place.0 < 2 ^ 23) }
+{
+    if !size.is_aligned(address) {
+        return None;
+    }
+    recalled(address, access, &core.tlb, core.cp0.asid())
+}
+
+/// Loads a byte with its sign.
+#[inline(always)]
+pub(crate) fn take_byte<L: Lookaside>(
+    core: &mut Core<L>,
+    to: Target,
+    address: u32,
+    at: &mut Position,
+    bus: &Bus,
+) -> Outcome
+    ensures comes { ComesTo result (loads size.Byte (registers_at core.old at.old) to.number address
+        (λ w b. sign_extended 8 (bits w (8 * b) 8))) core.old at.old bus.now core.new at.new bus.now }
+    ensures system { core.new.system ≡ core.old.system }
+    ensures entries { core.new.entries ≡ core.old.entries }
+{
+    match remembered(core, Access::Load, Size::Byte, address) {
+        Some(Physical(place)) => {
+            put_late(core, to, byte_signed(bus.word(place), address % 4), at)
+        }
+        None => Outcome::Left,
+    }
+}
+
+/// Loads a byte below zeros.
+#[inline(always)]
+pub(crate) fn take_byte_unsigned<L: Lookaside>(
+    core: &mut Core<L>,
+    to: Target,
+    address: u32,
+    at: &mut Position,
+    bus: &Bus,
+) -> Outcome
+    ensures comes { ComesTo result (loads size.Byte (registers_at core.old at.old) to.number address
+        (λ w b. bits w (8 * b) 8)) core.old at.old bus.now core.new at.new bus.now }
+    ensures system { core.new.system ≡ core.old.system }
+    ensures entries { core.new.entries ≡ core.old.entries }
+{
+    match remembered(core, Access::Load, Size::Byte, address) {
+        Some(Physical(place)) => {
+            put_late(core, to, byte_unsigned(bus.word(place), address % 4), at)
+        }
+        None => Outcome::Left,
+    }
+}
+
+/// Loads a half with its sign.
+#[inline(always)]
+pub(crate) fn take_half<L: Lookaside>(
+    core: &mut Core<L>,
+    to: Target,
+    address: u32,
+    at: &mut Position,
+    bus: &Bus,
+) -> Outcome
+    ensures comes { ComesTo result (loads size.Half (registers_at core.old at.old) to.number address
+        (λ w b. sign_extended 16 (bits w (8 * b) 16))) core.old at.old bus.now core.new at.new bus.now }
+    ensures system { core.new.system ≡ core.old.system }
+    ensures entries { core.new.entries ≡ core.old.entries }
+{
+    match remembered(core, Access::Load, Size::Half, address) {
+        Some(Physical(place)) => {
+            put_late(core, to, half_signed(bus.word(place), address % 4), at)
+        }
+        None => Outcome::Left,
+    }
+}
+
+/// Loads a half below zeros.
+#[inline(always)]
+pub(crate) fn take_half_unsigned<L: Lookaside>(
+    core: &mut Core<L>,
+    to: Target,
+    address: u32,
+    at: &mut Position,
+    bus: &Bus,
+) -> Outcome
+    ensures comes { ComesTo result (loads size.Half (registers_at core.old at.old) to.number address
+        (λ w b. bits w (8 * b) 16)) core.old at.old bus.now core.new at.new bus.now }
+    ensures system { core.new.system ≡ core.old.system }
+    ensures entries { core.new.entries ≡ core.old.entries }
+{
+    match remembered(core, Access::Load, Size::Half, address) {
+        Some(Physical(place)) => {
+            put_late(core, to, half_unsigned(bus.word(place), address % 4), at)
+        }
+        None => Outcome::Left,
+    }
+}
+
+/// Loads a word.
+#[inline(always)]
+pub(crate) fn take_word<L: Lookaside>(
+    core: &mut Core<L>,
+    to: Target,
+    address: u32,
+    at: &mut Position,
+    bus: &Bus,
+) -> Outcome
+    ensures comes { ComesTo result (loads size.Word (registers_at core.old at.old) to.number address (λ w b. w))
+        core.old at.old bus.now core.new at.new bus.now }
+    ensures system { core.new.system ≡ core.old.system }
+    ensures entries { core.new.entries ≡ core.old.entries }
+{
+    match remembered(core, Access::Load, Size::Word, address) {
+        Some(Physical(place)) => put_late(core, to, bus.word(place), at),
+        None => Outcome::Left,
+    }
+}
+
+/// Stores the low byte of a value.
+#[inline(always)]
+pub(crate) fn leave_byte<L: Lookaside>(
+    core: &mut Core<L>,
+    value: u32,
+    address: u32,
+    at: &mut Position,
+    bus: &mut Bus,
+) -> Outcome
+    ensures comes { ComesTo result (stores size.Byte address (λ w b. with_bits w (8 * b) 8 value))
+        core.old at.old bus.old core.new at.new bus.new }
+    ensures system { core.new.system ≡ core.old.system }
+    ensures entries { core.new.entries ≡ core.old.entries }
+    ensures lines { lines bus.new ≡ lines bus.old }
+{
+    match remembered(core, Access::Store, Size::Byte, address) {
+        Some(Physical(place)) => {
+            let word = bus.word(place);
+            bus.put_word(place, store_byte(word, value, address % 4));
+            at.go_on()
+        }
+        None => Outcome::Left,
+    }
+}
+
+/// Stores the low half of a value.
+#[inline(always)]
+pub(crate) fn leave_half<L: Lookaside>(
+    core: &mut Core<L>,
+    value: u32,
+    address: u32,
+    at: &mut Position,
+    bus: &mut Bus,
+) -> Outcome
+    ensures comes { ComesTo result (stores size.Half address (λ w b. with_bits w (8 * b) 16 value))
+        core.old at.old bus.old core.new at.new bus.new }
+    ensures system { core.new.system ≡ core.old.system }
+    ensures entries { core.new.entries ≡ core.old.entries }
+    ensures lines { lines bus.new ≡ lines bus.old }
+{
+    match remembered(core, Access::Store, Size::Half, address) {
+        Some(Physical(place)) => {
+            let word = bus.word(place);
+            bus.put_word(place, store_half(word, value, address % 4));
+            at.go_on()
+        }
+        None => Outcome::Left,
+    }
+}
+
+/// Stores a word.
+#[inline(always)]
+pub(crate) fn leave_word<L: Lookaside>(
+    core: &mut Core<L>,
+    value: u32,
+    address: u32,
+    at: &mut Position,
+    bus: &mut Bus,
+) -> Outcome
+    ensures comes { ComesTo result (stores size.Word address (λ w b. value))
+        core.old at.old bus.old core.new at.new bus.new }
+    ensures system { core.new.system ≡ core.old.system }
+    ensures entries { core.new.entries ≡ core.old.entries }
+    ensures lines { lines bus.new ≡ lines bus.old }
+{
+    match remembered(core, Access::Store, Size::Word, address) {
+        Some(Physical(place)) => {
+            bus.put_word(place, value);
+            at.go_on()
+        }
+        None => Outcome::Left,
+    }
+}
