@@ -62,6 +62,21 @@ impl Due {
         let _all = self.events.characters();
     }
 
+    /// The commands that are still to come.
+    pub fn commands(&self) -> &[TimedCommand]
+        ensures { result.now ≡ self.now.commands }
+    {
+        let commands = self.events.commands();
+        &commands[self.taken..]
+    }
+
+    /// How many characters are still to come.
+    pub fn characters(&self) -> usize
+        ensures { result ≡ length self.now.characters }
+    {
+        self.events.characters().len()
+    }
+
     /// The first command, if it is due at a time, is taken.
     pub fn take_command(&mut self, now: u64) -> Option<TimedCommand>
         ensures some { IfSome result

@@ -49,6 +49,13 @@ impl LineQueue {
         }
     }
 
+    /// The characters, the oldest first.
+    pub fn text(&self) -> &[u8]
+        ensures { result.now ≡ self.now }
+    {
+        &self.bytes
+    }
+
     /// Whether nothing waits.
     pub fn is_empty(&self) -> bool
         ensures { result ≡ not (nat_lt 0 (length self.now)) }

@@ -26,10 +26,9 @@ use Rattle.ds_pagemap_laws.proofs.Boundaries.{quiet_boundary}
 use Rattle.ds_refinement.specs.declared.step.Step.TheVariants.{Boundary, Over}
 use Rattle.ds_refinement.specs.Held.{Held, Kept, Own, bare, vacated, began_or, last_boundary}
 use Rattle.ds_refinement.specs.Units.{is_general, has_left_user}
-use Rattle.ds_refinement.specs.Stands.{Stands, Agrees, CountedBy, RunningBy, InKernel, OnProcessor}
-use Rattle.ds_refinement.specs.Needs.{pages_of}
-use Rattle.ds_refinement.specs.Counts.{counts_of, may_write, HasNone, HasRanges}
-use Rattle.ds_refinement.proofs.Tallied.{none_tallied, ranges_of}
+use Rattle.ds_refinement.specs.Stands.{Stands, Agrees, CountedBy, IsUnbegun, RunningBy, InKernel, OnProcessor}
+use Rattle.ds_refinement.specs.Counts.{Counts, HasNone}
+use Rattle.ds_refinement.proofs.Tallied.{UnbegunBy, none_counted, ranges_of}
 use Rattle.ds_refinement.specs.Services.{with_boundary, with_idle_turn}
 use Rattle.ds_refinement.specs.Steps.{Follows}
 use Rattle.ds_refinement.specs.Quiet.{IsQuiet}
@@ -171,19 +170,12 @@ stands_behind h m turn k owed ticked quiet = record {
   devices = record { serial = k.devices.serial; clock = k.devices.clock; system = k.devices.system; ticked = ticked; period = quiet.period };
 }
 
--- where a boundary is owed the processor is at the beginning of a unit
-begun_outside : (user slot : Bool) (c : CoreState) (k : Kept) (p : ℕ) (m : State) (turn : Turn) → m.owed ≡ Some turn → OnProcessor user slot c k p m → (user ≡ true) × (slot ≡ false)
-begun_outside false slot c k p m turn o a = let no : Some turn ≡ None = sym o ∙ kernel_owes (is_general c) (has_left_user c) c k p m a in absurd (cc)
-begun_outside true true c k p m turn o a = let no : Some turn ≡ None = sym o ∙ a.owed in absurd (cc)
-begun_outside true false c k p m turn o a = (refl, refl)
-
--- nothing is counted of it, so it is tallied whatever it asks for
-still_tallied : (queue : List ℕ) (c : CoreState) (own : Own) (k k' : Kept) (m m' : State) (turn : Turn) → m.owed ≡ Some turn → RunningBy queue c k m → HasNone own → HasRanges c (counts_of own)
-    → CountedBy queue c own k' m'
-still_tallied [] c own k k' m m' turn o a none ranges = (none, ranges)
-still_tallied (p ∷ rest) c own k k' m m' turn o a none ranges =
-    let at = begun_outside (is_user c.system) c.slot c k p m turn o a.on in
-    none_tallied c own (may_write k' p) (pages_of m' p) at.0 at.1 none ranges
+-- where nothing is counted the unit is unbegun, so it is tallied whatever it asks for
+still_unbegun : (queue : List ℕ) (c : CoreState) (own : Own) (k : Kept) (m : State) → CountedBy queue c own k m → HasNone own → UnbegunBy queue c (record m { owed = None })
+still_unbegun [] c own k m i none = tt
+still_unbegun (p ∷ rest) c own k m i none =
+    let u : IsUnbegun c p m = i.1 (ap (λ (n : Counts). n.spent) none) in
+    record { mode = u.mode; first = u.first; registers = u.registers }
 
 pub quiet : (h : Held) → IsSome h.kept.state.owed → HasNone h.own → h.kept.ticked ≤ h.kept.state.time → IsQuiet h.kept → Follows Boundary h (with_boundary h)
 quiet h some nothing ticked q = let turn = (some_turn h.kept.state.owed some).0 in let owed = (some_turn h.kept.state.owed some).1 in record {
@@ -193,7 +185,8 @@ quiet h some nothing ticked q = let turn = (some_turn h.kept.state.owed some).0 
         inl (λ (e : m.owed ≡ None). (let no : Some turn ≡ None = sym o ∙ e in cc), (false, false, sym (boundary_of h m turn k.agrees owed q))),
         record {
           agrees = stands_behind h m turn k.agrees owed ticked q;
-          counted = still_tallied h.kept.state.ready h.core h.own h.kept (with_boundary h).kept m (record m { owed = None }) turn o k.agrees.running nothing (ranges_of h m k);
+          counted = none_counted h.kept.state.ready h.core h.own (with_boundary h).kept (record m { owed = None })
+              (still_unbegun h.kept.state.ready h.core h.own h.kept m k.counted nothing) nothing (ranges_of h m k);
         },
       );
 }

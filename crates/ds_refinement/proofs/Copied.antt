@@ -39,7 +39,7 @@ use Rattle.ds_refinement.proofs.Lookups.{frame_flags, page_of_number}
 use Rattle.ds_refinement.proofs.Late.{LetsStore, allowed_low, grant_of}
 use Rattle.ds_refinement.proofs.Standing.{runs, kept, served_is, touched_state}
 use Rattle.ds_refinement.proofs.Ending.{copying}
-use Rattle.ds_refinement.proofs.Tallied.{touches as touched_tallied, tallied_of}
+use Rattle.ds_refinement.proofs.Tallied.{touches as touched_tallied, has_begun, tallied_of}
 use Rattle.ds_refinement.proofs.CourseWords as words
 use Rattle.ds_refinement.proofs.WordTallies.{at_general}
 use Rattle.ds_refinement.proofs.WaysBack.{still_ready}
@@ -201,7 +201,8 @@ module _ (h new : Held) (p : ℕ) (waits : AwaitsCopy h.core.system h.kept.grant
     pub counted_after : CountedBy new.kept.state.ready new.core new.own new.kept (touched true m)
     counted_after =
         subst (λ (rs : List ℕ). CountedBy rs new.core new.own new.kept (touched true m)) (sym again_ready)
-        (subst (λ (o : Own). IsTallied (course_of new.core (counts_of o) (may_write new.kept p) (pages_of (touched true m) p))) (sym copied.own) tallied_after)
+        (subst (λ (o : Own). CountedBy (p ∷ rest) new.core o new.kept (touched true m)) (sym copied.own)
+        (tallied_after, λ none. absurd (has_begun h m p rest k ready (served_is h.core served).0 none)))
 
 pub copy_follows : (h new : Held) (p : ℕ) (rest : List ℕ) → h.kept.state.ready ≡ p ∷ rest → is_served h.core ≡ true → has_left_user h.core ≡ true → AwaitsCopy h.core.system h.kept.grants p → IsCopied p h new → Follows Inside h new
 copy_follows h new p rest ready served left waits copied = record {

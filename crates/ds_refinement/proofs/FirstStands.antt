@@ -23,11 +23,9 @@ use Rattle.ds_pagemap.specs.First.{first_state}
 use Rattle.ds_pagemap_laws.specs.Settled.{settled_process}
 use Rattle.ds_refinement.specs.Held.{Held, Kept, Own, bare, vacated}
 use Rattle.ds_refinement.specs.Handling.{HasBase}
-use Rattle.ds_refinement.specs.Stands.{Stands, CountedBy, KeptIs, RunningBy, AreResting}
-use Rattle.ds_cp0.specs.System.{is_user}
-use Rattle.ds_refinement.specs.Needs.{pages_of}
-use Rattle.ds_refinement.specs.Counts.{counts_of, may_write, fresh, HasNone, HasRanges}
-use Rattle.ds_refinement.proofs.Tallied.{none_tallied}
+use Rattle.ds_refinement.specs.Stands.{Stands, KeptIs, RunningBy, AreResting}
+use Rattle.ds_refinement.specs.Counts.{counts_of, fresh, HasNone, HasRanges}
+use Rattle.ds_refinement.proofs.Tallied.{UnbegunBy, none_counted}
 use Rattle.ds_refinement.specs.First.{IsFirst, first_core, first_bus, first_kept}
 
 -- a state without who runs is kept as the bare state without it
@@ -45,11 +43,6 @@ none_passed rate now = by (not (rate == 0))
     by : (b : Bool) → (b && nat_lt (now / 2 ^ (rate + 2)) (now / 2 ^ (rate + 2))) ≡ false
     by true = same (now / 2 ^ (rate + 2))
     by false = refl
-
--- nothing is counted, whoever is ready
-first_tallied : (queue : List ℕ) (c : CoreState) (own : Own) (k : Kept) (m : State) → is_user c.system ≡ true → c.slot ≡ false → HasNone own → HasRanges c (counts_of own) → CountedBy queue c own k m
-first_tallied [] c own k m user outside none ranges = (none, ranges)
-first_tallied (p ∷ rest) c own k m user outside none ranges = none_tallied c own (may_write k p) (pages_of m p) user outside none ranges
 
 module _ (policy : PolicyValue) (images : List (List ℕ)) (input : InputValue) (start : ℕ) (memory : List ℕ) (tables : Places) (ends : ℕ) where
   abbrev m : State
@@ -73,6 +66,11 @@ module _ (policy : PolicyValue) (images : List (List ℕ)) (input : InputValue) 
     set = (let small : 2 ^ 6 < 2 ^ 32 = omega arith in record { space = refl; small = small });
     on = record { mode = refl; first = refl; pc = refl; next = refl; registers = inl refl };
   })
+
+  -- its unit is unbegun
+  unbegun : (ps : List PolicyProcess) → 0 < length ps → policy.processes ≡ ps → UnbegunBy k.state.ready (first_core (empty_entries 64) start (process_of m 1).pc) m
+  unbegun [] some is = absurd (omega (arith, some))
+  unbegun (p ∷ rest) some is = rw is (record { mode = refl; first = refl; registers = refl })
 
   resting : AreResting (first_bus memory policy.rate) k
   resting = record { serial = refl; clock = refl; system = refl; ticked = omega arith; period = none_passed policy.rate 0 }
@@ -102,8 +100,10 @@ first_stands policy images input start h some named low high f =
             (subst (λ (c : CoreState). RunningBy k.state.ready c k (first_state policy images input)) (sym f.core) (running policy images input start memory t ends policy.processes some refl));
         devices = subst (λ (x : Kept). AreResting h.bus x) (sym f.kept) (subst (λ (b : BusState). AreResting b k) (sym f.bus) (resting policy images input start memory t ends));
       };
-      counted = first_tallied h.kept.state.ready h.core h.own h.kept (first_state policy images input)
-          (ap (λ (c : CoreState). is_user c.system) f.core) (ap (λ (c : CoreState). c.slot) f.core) (subst HasNone (sym f.own) refl)
+      counted = none_counted h.kept.state.ready h.core h.own h.kept (first_state policy images input)
+          (subst (λ (x : Kept). UnbegunBy x.state.ready h.core (first_state policy images input)) (sym f.kept)
+          (subst (λ (c : CoreState). UnbegunBy k.state.ready c (first_state policy images input)) (sym f.core) (unbegun policy images input start memory t ends policy.processes some refl)))
+          (subst HasNone (sym f.own) refl)
           (subst (λ (o : Own). HasRanges h.core (counts_of o)) (sym f.own)
           (subst (λ (c : CoreState). HasRanges c (fresh 0)) (sym f.core) (record { size = refl; low = low; high = high; turn = omega arith })));
     }

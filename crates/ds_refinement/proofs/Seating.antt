@@ -16,13 +16,12 @@ use Rattle.ds_pagemap.specs.Machine.{State, Process, no_process, process_of, wit
 use Rattle.ds_pagemap.proofs.Processes.{process_of-with_process}
 use Rattle.ds_pagemap_laws.specs.Settled.{settled_process, all_settled}
 use Rattle.ds_pagemap_laws.proofs.Processes.{of_settled}
-use Rattle.ds_refinement.specs.Held.{Held, Kept, Own, bare, whole}
+use Rattle.ds_refinement.specs.Held.{Held, Kept, bare, whole}
 use Rattle.ds_refinement.specs.Units.{AtStart, user_status}
 use Rattle.ds_refinement.specs.Handling.{HasBase}
-use Rattle.ds_refinement.specs.Stands.{Agrees, CountedBy, Stands, KeptIs, IsKept, RunningIs, RunningBy, OnProcessor, AreResting}
-use Rattle.ds_refinement.specs.Needs.{pages_of}
-use Rattle.ds_refinement.specs.Counts.{counts_of, may_write, HasNone, HasRanges}
-use Rattle.ds_refinement.proofs.Tallied.{none_tallied}
+use Rattle.ds_refinement.specs.Stands.{Agrees, IsUnbegun, Stands, KeptIs, IsKept, RunningIs, RunningBy, OnProcessor, AreResting}
+use Rattle.ds_refinement.specs.Counts.{counts_of, HasNone, HasRanges}
+use Rattle.ds_refinement.proofs.Tallied.{UnbegunBy, none_counted}
 use Rattle.ds_refinement.specs.Services.{Enters, EntersBy, seated, seated_process, with_first_seated, resume_address}
 
 -- The running process leaves.
@@ -81,6 +80,16 @@ on_start c k p m mode first a =
     subst (λ (b : Bool). OnProcessor (is_user c.system) b c k p m) (sym first)
     (subst (λ (b : Bool). OnProcessor b false c k p m) (sym (ap (λ (n : ℕ). bits n 1 1 == 1) mode)) a)
 
+-- a process that comes in has its registers, touched
+touched_on : (p : ℕ) (c : CoreState) (k : Kept) (memory : List ℕ) (m : State) → IsKept k memory m → Enters p (process_of k.state p) c k
+    → c.registers ≡ (process_of (with_process m p (touched_process (process_of m p))) p).registers
+touched_on p c k memory m a b =
+    let q : Process = touched_process (process_of m p) in
+    let seat : process_of k.state p ≡ settled_process (process_of m p) = ap (λ (s : State). process_of s p) (sym a.state) ∙ of_settled m p in
+    let size : length m.processes ≡ length k.state.processes = sym (length-map m.processes settled_process) ∙ ap (λ (s : State). length s.processes) a.state in
+    let is : process_of (with_process m p q) p ≡ q = process_of-with_process m p q b.seat.0 (subst (λ (n : ℕ). p ≤ n) (sym size) b.seat.1) in
+    b.registers ∙ (ap (λ (x : Process). (touched_process x).registers) seat ∙ sym (ap (λ (x : Process). x.registers) is))
+
 comes : (p : ℕ) (rest : List ℕ) (c : CoreState) (k : Kept) (memory : List ℕ) (m : State) → k.state.ready ≡ p ∷ rest → IsKept k memory m → Enters p (process_of k.state p) c k
     → StandsBy (p ∷ rest) c k memory (with_process m p (touched_process (process_of m p)))
 comes p rest c k memory m ready a b =
@@ -109,7 +118,7 @@ comes p rest c k memory m ready a b =
           first = b.first;
           pc = b.pc ∙ (ap (λ (x : Process). x.pc) seat ∙ sym (ap (λ (x : Process). x.pc) is));
           next = b.next ∙ ap (λ (n : ℕ). word (n + 4)) (ap (λ (x : Process). x.pc) seat ∙ sym (ap (λ (x : Process). x.pc) is));
-          registers = inl (b.registers ∙ (ap (λ (x : Process). (touched_process x).registers) seat ∙ sym (ap (λ (x : Process). x.registers) is)));
+          registers = inl (touched_on p c k memory m a b);
         });
       },
     )
@@ -122,10 +131,13 @@ by_ready (p ∷ rest) c k memory m ready a b =
     let first : m.ready ≡ p ∷ rest = ap (λ (s : State). s.ready) a.state ∙ ready in
     subst (λ (s : State). StandsBy (p ∷ rest) c k memory s) (sym (ap (touch_first m) first)) (comes p rest c k memory m ready a b)
 
--- who comes in is tallied
-entered_tallied : (queue : List ℕ) (c : CoreState) (own : Own) (k : Kept) (m : State) → EntersBy queue c k → HasNone own → HasRanges c (counts_of own) → CountedBy queue c own k m
-entered_tallied [] c own k m b none ranges = (none, ranges)
-entered_tallied (p ∷ rest) c own k m b none ranges = none_tallied c own (may_write k p) (pages_of m p) (ap (λ (w : ℕ). bits w 1 1 == 1) b.mode) b.first none ranges
+-- its unit is unbegun
+unbegun_by : (queue : List ℕ) (c : CoreState) (k : Kept) (memory : List ℕ) (m : State) → k.state.ready ≡ queue → IsKept k memory m → EntersBy queue c k → UnbegunBy queue c (touched true m)
+unbegun_by [] c k memory m ready a b = tt
+unbegun_by (p ∷ rest) c k memory m ready a b =
+    let first : m.ready ≡ p ∷ rest = ap (λ (s : State). s.ready) a.state ∙ ready in
+    subst (λ (s : State). IsUnbegun c p s) (sym (ap (touch_first m) first))
+    (record { mode = ap (λ (w : ℕ). bits w 1 1 == 1) b.mode; first = b.first; registers = touched_on p c k memory m a b })
 
 -- all is kept, and who is first comes on the processor touched
 pub enters : (h : Held) (m : State) → IsKept h.kept h.bus.memory m → IsRepresented h.core.entries h.bus.memory h.kept.tables h.kept.spaces h.kept.grants → HasWords h.bus.memory → HasBase h.core.system
@@ -133,7 +145,7 @@ pub enters : (h : Held) (m : State) → IsKept h.kept h.bus.memory m → IsRepre
 enters h m a represented vectors base grants size devices none ranges b =
     let s = by_ready h.kept.state.ready h.core h.kept h.bus.memory m refl a b in record {
       agrees = record { represented = represented; vectors = vectors; base = base; grants = grants; size = size; kept = s.0; running = s.1; devices = devices };
-      counted = entered_tallied h.kept.state.ready h.core h.own h.kept (touched true m) b none ranges;
+      counted = none_counted h.kept.state.ready h.core h.own h.kept (touched true m) (unbegun_by h.kept.state.ready h.core h.kept h.bus.memory m refl a b) none ranges;
     }
 
 -- All is kept.

@@ -37,7 +37,7 @@ use Rattle.ds_refinement.specs.Told.{told}
 use Rattle.ds_refinement.specs.Held.{Held, Kept, space_of, bare, began_or, last_boundary}
 use Rattle.ds_refinement.specs.Copying.{AwaitsCopy}
 use Rattle.ds_refinement.specs.Units.{user_status, owes_boundary, EndsUnit, Promise, AtStart, InSlot}
-use Rattle.ds_refinement.specs.Stands.{OnProcessor, RunningIs, RunningBy, KeptIs, AreResting, Agrees, CountedBy, Stands, IsSound}
+use Rattle.ds_refinement.specs.Stands.{OnProcessor, RunningIs, RunningBy, KeptIs, AreResting, Agrees, CountedBy, IsUnbegun, Stands, IsSound}
 use Rattle.ds_refinement.specs.Leaves.{Leaves}
 use Rattle.ds_core.specs.declared.event.Event.{Event}
 use Rattle.ds_bounds.specs.Tally.{IsTallied}
@@ -289,8 +289,9 @@ module _ (h : Held) (m : State) (p : ℕ) (rest : List ℕ) (all : Stands h m) (
             (subst (λ (n : ℕ). RunningIs p new.core (record h.kept { state = with_turn n h.kept.state }) s) (sym long) (running_behind r (page_state h.kept.grants memory) ticks pc next));
         devices = devices_behind memory (ticks_of h.core.slot);
       } in
+      let unbegun : IsUnbegun new.core p s = record { mode = user; first = refl; registers = sym (ap (λ (x : Process). x.registers) (process_put m p q running.seat)) } in
       let tallied : CountedBy h.kept.state.ready new.core new.own new.kept s =
-      subst (λ (rs : List ℕ). CountedBy rs new.core new.own new.kept s) (sym ready) (begins new.core h.own.wired (may_write new.kept p) (pages_of s p) user refl ranges) in
+      subst (λ (rs : List ℕ). CountedBy rs new.core new.own new.kept s) (sym ready) (begins new.core h.own.wired (may_write new.kept p) (pages_of s p) user refl ranges, λ spent. unbegun) in
       (unit m, (owes_none, some_ready, (false, false, half_unit m owes_none)), subst (Stands new) (sym there) (record { agrees = stands; counted = tallied }))
 
   -- Inside the unit.
@@ -321,7 +322,7 @@ module _ (h : Held) (m : State) (p : ℕ) (rest : List ℕ) (all : Stands h m) (
   goes_on : (c : CoreState) → Agrees (record h { core = c }) m → IsTallied (course_of c (one_more n) dirty (pages_of m p)) → Stands (record h { core = c; own = with_one_spent h.own }) m
   goes_on c there tallied = record {
     agrees = own_unseen (record h { core = c }) (with_one_spent h.own) m there;
-    counted = subst (λ (rs : List ℕ). CountedBy rs c (with_one_spent h.own) h.kept m) (sym ready) tallied;
+    counted = subst (λ (rs : List ℕ). CountedBy rs c (with_one_spent h.own) h.kept m) (sym ready) (tallied, λ (none : h.own.spent + 1 ≡ 0). absurd (omega (arith, none)));
   }
 
   -- a branch goes on to its slot

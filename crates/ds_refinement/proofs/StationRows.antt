@@ -1,7 +1,7 @@
 -- Stations and steps that are related, and some that are not: each row is a theorem about the definitions alone.
 use Rattle.std.proofs.Common.{◌≡◌, ℕ, zero, suc, ◌+◌, ◌*◌, ◌<◌, ◌≤◌, ◌^◌, inl, inr, true, false, List, [], ◌∷◌, refl, sym, ap, arith}
 use Rattle.std.specs.Prelude.{Some, None, replicate, slice_get, slice_index, slice_set}
-use Rattle.ds_isa.specs.Registers.{Registers, zero_registers}
+use Rattle.ds_isa.specs.Registers.{Registers, settled, zero_registers}
 use Rattle.ds_isa.specs.declared.instr.Size.TheVariants.{Word}
 use Rattle.ds_isa.specs.declared.instr.Kind.TheVariants.{Load, Store}
 use Rattle.ds_tlb.specs.declared.entry.Entry.{Entry}
@@ -20,7 +20,7 @@ use Rattle.ds_refinement.specs.declared.cause.Cause.TheVariants as cause
 use Rattle.ds_refinement.specs.declared.step.Step.{Step}
 use Rattle.ds_refinement.specs.declared.step.Step.TheVariants.{Inside, Boundary, Over}
 use Rattle.ds_refinement.specs.Held.{Held, Kept}
-use Rattle.ds_refinement.specs.Stands.{AreResting, Stands}
+use Rattle.ds_refinement.specs.Stands.{AreResting, CountedBy, IsUnbegun, Stands}
 use Rattle.ds_refinement.specs.Steps.{StepTo, Comes, Follows, Stays, Moves}
 use Rattle.ds_refinement.specs.Services.{EntersBy, with_table_page}
 use Rattle.ds_refinement.specs.Pairs.{HasNoNewPairs}
@@ -82,6 +82,32 @@ a_64th_instruction_counts =
 
 pub a_unit_has_no_65th_instruction : Moves Inside (after 64) (after 65) → ⊥
 a_unit_has_no_65th_instruction moves = let few : 65 ≤ 64 = moves.4 in absurd (omega arith)
+
+-- A unit of process 1 that has not begun.
+
+pub a_load_that_is_late_stays_so : IsUnbegun user 1 two
+a_load_that_is_late_stays_so = record { mode = refl; first = refl; registers = refl }
+
+pub a_finished_load_has_begun : IsUnbegun (record user { registers = settled user.registers }) 1 two → ⊥
+a_finished_load_has_begun unbegun = let no : None ≡ user.registers.late = ap (λ (r : Registers). r.late) unbegun.registers in absurd cc
+
+pub a_slot_has_begun : IsUnbegun (record user { slot = true }) 1 two → ⊥
+a_slot_has_begun unbegun = let no : true ≡ false = unbegun.first in absurd cc
+
+pub a_service_has_begun : IsUnbegun served 1 two → ⊥
+a_service_has_begun unbegun = let no : false ≡ true = unbegun.mode in absurd cc
+
+-- the processor at the unit again, whose branch has written its link, register 31
+abbrev linked : CoreState
+linked = record user { registers = record user.registers { general = slice_set user.registers.general 31 0x00400010 } }
+
+pub a_branch_that_wrote_its_link_has_begun : IsUnbegun linked 1 two → ⊥
+a_branch_that_wrote_its_link_has_begun unbegun =
+    let nought : 0x00400010 ≡ 0 = ap (λ (r : Registers). slice_index r.general 31) unbegun.registers in
+    absurd (omega (arith, nought))
+
+pub a_branch_that_wrote_its_link_counts : CountedBy (1 ∷ []) linked (after 0).own kept two → ⊥
+a_branch_that_wrote_its_link_counts counted = a_branch_that_wrote_its_link_has_begun (counted.1 refl)
 
 -- When its run is over.
 

@@ -24,7 +24,7 @@ use Rattle.ds_core.specs.declared.event.Event.TheVariants as event
 use Rattle.ds_core.specs.Core as core
 use Rattle.ds_core.specs.Effect.{step}
 use Rattle.ds_refinement.specs.Held.{Held, Kept, Own, space_of}
-use Rattle.ds_refinement.specs.Stands.{Agrees, CountedBy, Stands}
+use Rattle.ds_refinement.specs.Stands.{Agrees, CountedBy, IsUnbegun, RunningBy, Stands}
 use Rattle.ds_bounds.proofs.Slots.{ticked_low, ticked_high}
 use Rattle.ds_refinement.proofs.AskedFor.{goes_on, retires}
 use Rattle.ds_refinement.specs.Counts.{one_more, CountedAfter, Counts, HasNone, HasRanges, IsFew, fresh, place_by, course_of, counts_of, may_write}
@@ -79,19 +79,48 @@ instruction_counted h m p rest s n dirty k ready user is clean i = by_event s.ev
 
 -- By what a station has counted.
 
+counted_of : (h : Held) (m : State) (p : ℕ) (rest : List ℕ) → Stands h m → h.kept.state.ready ≡ p ∷ rest → CountedBy (p ∷ rest) h.core h.own h.kept m
+counted_of h m p rest k ready = subst (λ (ps : List ℕ). CountedBy ps h.core h.own h.kept m) ready k.counted
+
 -- the unit of the first ready process is tallied
 pub tallied_of : (h : Held) (m : State) (p : ℕ) (rest : List ℕ) → Stands h m → h.kept.state.ready ≡ p ∷ rest → IsTallied (course_of h.core (counts_of h.own) (may_write h.kept p) (pages_of m p))
-tallied_of h m p rest k ready = subst (λ (ps : List ℕ). CountedBy ps h.core h.own h.kept m) ready k.counted
+tallied_of h m p rest k ready = (counted_of h m p rest k ready).0
+
+-- and where none of its instructions is counted it is unbegun
+pub unbegun_of : (h : Held) (m : State) (p : ℕ) (rest : List ℕ) → Stands h m → h.kept.state.ready ≡ p ∷ rest → h.own.spent ≡ 0 → IsUnbegun h.core p m
+unbegun_of h m p rest k ready = (counted_of h m p rest k ready).1
+
+-- in kernel mode it has begun
+pub has_begun : (h : Held) (m : State) (p : ℕ) (rest : List ℕ) → Stands h m → h.kept.state.ready ≡ p ∷ rest → is_user h.core.system ≡ false → h.own.spent ≢ 0
+has_begun h m p rest k ready kernel = λ none. (let no : true ≡ false = sym (unbegun_of h m p rest k ready none).mode ∙ kernel in absurd cc)
 
 -- a unit that has not begun is tallied, whatever it asks for
 pub none_tallied : (c : CoreState) (own : Own) (dirty : ℕ → Bool) (pages : Pages) → is_user c.system ≡ true → c.slot ≡ false → HasNone own → HasRanges c (counts_of own) → IsTallied (course_of c (counts_of own) dirty pages)
 none_tallied c own dirty pages user outside none r =
     subst (λ (n : Counts). IsTallied (course_of c n dirty pages)) (sym none) (begins c own.wired dirty pages user outside (record { size = r.size; low = r.low; high = r.high; turn = r.turn }))
 
+-- the unit of the first ready process is unbegun, where somebody is ready
+abbrev pub UnbegunBy : List ℕ → CoreState → State → Type 0
+UnbegunBy [] c m = Unit {0}
+UnbegunBy (p ∷ rest) c m = IsUnbegun c p m
+
+-- so nothing of it is counted
+pub none_counted : (queue : List ℕ) (c : CoreState) (own : Own) (k : Kept) (m : State) → UnbegunBy queue c m → HasNone own → HasRanges c (counts_of own) → CountedBy queue c own k m
+none_counted [] c own k m u none ranges = (none, ranges)
+none_counted (p ∷ rest) c own k m u none ranges = (none_tallied c own (may_write k p) (pages_of m p) u.mode u.first none ranges, λ spent. u)
+
+-- while no instruction is counted, the processor is in user mode, whoever is ready
+user_by : (queue : List ℕ) (c : CoreState) (own : Own) (k : Kept) (m : State) → RunningBy queue c k m → CountedBy queue c own k m → own.spent ≡ 0 → is_user c.system ≡ true
+user_by [] c own k m a i none = ap (λ (w : ℕ). bits w 1 1 == 1) a
+user_by (p ∷ rest) c own k m a i none = (i.1 none).mode
+
+pub user_of : (h : Held) (m : State) → Stands h m → h.own.spent ≡ 0 → is_user h.core.system ≡ true
+user_of h m k = user_by h.kept.state.ready h.core h.own h.kept m k.agrees.running k.counted
+
 -- the ranges, whoever is ready
 ranges_by : (queue : List ℕ) (c : CoreState) (own : Own) (k : Kept) (m : State) → CountedBy queue c own k m → HasRanges c (counts_of own)
 ranges_by [] c own k m i = i.1
-ranges_by (p ∷ rest) c own k m i = ranges c (counts_of own) (may_write k p) (pages_of m p) i
+ranges_by (p ∷ rest) c own k m i = ranges c (counts_of own) (may_write k p) (pages_of m p) i.0
 
 pub ranges_of : (h : Held) (m : State) → Stands h m → HasRanges h.core (counts_of h.own)
 ranges_of h m k = ranges_by h.kept.state.ready h.core h.own h.kept m k.counted
@@ -107,10 +136,10 @@ few_by [] c own k m i = record {
   wired = i.1.turn;
 }
 few_by (p ∷ rest) c own k m i =
-    let s = courses.short (course_of c (counts_of own) (may_write k p) (pages_of m p)) i in
+    let s = courses.short (course_of c (counts_of own) (may_write k p) (pages_of m p)) i.0 in
     let steps : own.since ≤ 54 = s.since in
     let services : own.services ≤ 6 = s.services in
-    record { spent = s.spent; written = s.written; since = omega (arith, steps); tables = s.tables; services = omega (arith, services); wired = i.tally.turn }
+    record { spent = s.spent; written = s.written; since = omega (arith, steps); tables = s.tables; services = omega (arith, services); wired = i.0.tally.turn }
 
 pub few_of : (h : Held) (m : State) → Stands h m → IsFew h.own
 few_of h m k = few_by h.kept.state.ready h.core h.own h.kept m k.counted

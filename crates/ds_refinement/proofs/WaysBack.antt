@@ -13,8 +13,8 @@ use Rattle.ds_refinement.specs.Stands.{Stands, CountedBy, IsSound}
 use Rattle.ds_refinement.specs.Steps.{Follows}
 use Rattle.ds_refinement.specs.Services.{with_table_page}
 use Rattle.ds_refinement.specs.Real.{GoesBack}
-use Rattle.ds_refinement.proofs.Standing.{first_ready, waits}
-use Rattle.ds_refinement.proofs.Tallied.{tallied_of, ranges_of}
+use Rattle.ds_refinement.proofs.Standing.{first_ready, served_is, waits}
+use Rattle.ds_refinement.proofs.Tallied.{has_begun, tallied_of, ranges_of}
 use Rattle.ds_refinement.proofs.WordTallies.{double_tallied}
 use Rattle.ds_refinement.proofs.Doubles.{names_kernel, names_few, page_answers, double_returns}
 
@@ -30,7 +30,7 @@ double_follows h p rest ready served nested = record {
     record {
       agrees = double_returns h m p rest k.agrees ready h.own.wired (with_table_page h p).own (waits h m p rest k.agrees ready false served nested);
       counted = subst (λ (ps : List ℕ). CountedBy ps (with_table_page h p).core (with_table_page h p).own h.kept (touched true m)) (sym ready)
-          (double_tallied h m p rest k.agrees ready (tallied_of h m p rest k ready) served nested);
+          (double_tallied h m p rest k.agrees ready (tallied_of h m p rest k ready) served nested, λ none. absurd (has_begun h m p rest k ready (served_is h.core served).0 none));
     },
   );
 }

@@ -33,6 +33,7 @@ use Rattle.ds_refinement.specs.declared.step.Step.TheVariants.{Inside}
 use Rattle.ds_refinement.specs.Units.{is_general, is_served}
 use Rattle.ds_refinement.specs.Handling.{Phase, AtContext, AtAddress, AtLoad, AtPause, AtMove, AtClear, AtWrite, AtJump, AtReturn, handler_status, IsWhole, InHandler, InDouble, touches}
 use Rattle.ds_refinement.specs.Stands.{RunningIs, Agrees, CountedBy}
+use Rattle.ds_refinement.specs.Counts.{Counts, counts_of, one_word}
 use Rattle.ds_refinement.specs.Steps as steps
 use Rattle.ds_refinement.specs.Services.{with_step, after_word}
 use Rattle.ds_refinement.proofs.Fields.{space_in, hi_low, hi_small, context_high, context_low, hi_nested, IsWord, word_is_word}
@@ -465,6 +466,11 @@ module _ (h : Held) (m : State) (p : ℕ) (rest : List ℕ) (k : Agrees h m) (re
   pub word_goes_on : Agrees (with_step h (step h.core h.bus)) (touched (touches h.core) m)
   word_goes_on = let at = here h m p rest k ready user general in by_phase at.0 at.1
 
+-- a word counts
+word_begun : (seventh : Bool) (random : ℕ) (n : Counts) → (one_word seventh random n).spent ≢ 0
+word_begun true random n = λ (none : n.spent + 1 ≡ 0). omega (arith, none)
+word_begun false random n = λ (none : n.spent + 1 ≡ 0). omega (arith, none)
+
 -- each word is a part of the unit
 pub word_follows : (h : Held) → h.kept.state.ready ≢ [] → is_user h.core.system ≡ false → is_served h.core ≡ false → steps.Follows Inside h (after_word h (step h.core h.bus))
 word_follows h some user unserved =
@@ -478,7 +484,7 @@ word_follows h some user unserved =
         record {
           agrees = own_unseen (with_step h (step h.core h.bus)) new.own (touched (touches h.core) m) (word_goes_on h m first.0 first.1 k.agrees first.2 user general);
           counted = subst (λ (ps : List ℕ). CountedBy ps new.core new.own new.kept (touched (touches h.core) m)) (sym first.2)
-              (word_tallied h m first.0 first.1 k.agrees first.2 (tallied_of h m first.0 first.1 k first.2) user general);
+              (word_tallied h m first.0 first.1 k.agrees first.2 (tallied_of h m first.0 first.1 k first.2) user general, λ none. absurd (word_begun (touches h.core) h.core.random (counts_of h.own) none));
         },
       );
     }

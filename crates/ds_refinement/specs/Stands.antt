@@ -76,10 +76,17 @@ pub record Agrees (h : Held) (m : State) : Type 0 where
   pub running : RunningBy h.kept.state.ready h.core h.kept m
   pub devices : AreResting h.bus h.kept
 
--- the unit of the first ready process is tallied; where nobody is ready nothing is counted, and the buffer has its ranges
+-- nothing of the unit of a process was done yet: the processor has its registers as they are, in user mode and in no slot
+pub record IsUnbegun (c : CoreState) (p : ℕ) (m : State) : Type 0 where
+  pub mode : is_user c.system ≡ true
+  pub first : c.slot ≡ false
+  pub registers : c.registers ≡ (process_of m p).registers
+
+-- the unit of the first ready process is tallied, and where none of its instructions is counted it is unbegun; where nobody is
+-- ready nothing is counted, and the buffer has its ranges
 abbrev pub CountedBy : List ℕ → CoreState → Own → Kept → State → Type 0
 CountedBy [] c own k m = HasNone own × HasRanges c (counts_of own)
-CountedBy (p ∷ rest) c own k m = IsTallied (course_of c (counts_of own) (may_write k p) (pages_of m p))
+CountedBy (p ∷ rest) c own k m = IsTallied (course_of c (counts_of own) (may_write k p) (pages_of m p)) × (own.spent ≡ 0 → IsUnbegun c p m)
 
 -- the station stands for the machine state m
 pub record Stands (h : Held) (m : State) : Type 0 where

@@ -8,7 +8,7 @@ ghost use Rattle.ds_core.specs.Core.{CoreState};
 ghost use Rattle.ds_core.specs.Effect.{step};
 ghost use Rattle.ds_pagemap.specs.Machine.{State, touched};
 ghost use Rattle.ds_refinement.specs.Held.{Held};
-ghost use Rattle.ds_refinement.specs.Stands.{Agrees, Stands, IsSound};
+ghost use Rattle.ds_refinement.specs.Stands.{Agrees, IsUnbegun, Stands, IsSound};
 ghost use Rattle.ds_bounds.specs.Course.{Pages, after_touch};
 ghost use Rattle.ds_bounds.specs.Steps.{Next};
 ghost use Rattle.ds_bounds.specs.Tally.{IsTallied};
@@ -37,14 +37,18 @@ pub fn the_counts_hold()
 {}
 
 /// The counts of a station that stands for some state are few, its buffer has its ranges, and its
-/// unit is tallied, if there is one. Before each of the handler's first seven words there is room
-/// for a refill; a double miss comes after three of them at least.
+/// unit is tallied, if there is one. While no instruction of it is counted, the processor is in user
+/// mode and has the registers of the process as they are. Before each of the handler's first seven
+/// words there is room for a refill; a double miss comes after three of them at least.
 pub fn the_counts_are_few()
     ensures few { (h : Held) → IsSound h → IsFew h.own }
     ensures ranges { (h : Held) → IsSound h → HasRanges h.core (counts_of h.own) }
     ensures tallied { (h : Held) (m : State) (p : ℕ) (rest : List ℕ) → Stands h m
         → h.kept.state.ready ≡ p ∷ rest
         → IsTallied (course_of h.core (counts_of h.own) (may_write h.kept p) (pages_of m p)) }
+    ensures unbegun { (h : Held) (m : State) (p : ℕ) (rest : List ℕ) → Stands h m
+        → h.kept.state.ready ≡ p ∷ rest → h.own.spent ≡ 0 → IsUnbegun h.core p m }
+    ensures user { (h : Held) → IsSound h → h.own.spent ≡ 0 → is_user h.core.system ≡ true }
     ensures room { (h : Held) → IsSound h → h.kept.state.ready ≢ [] → (word : ℕ) → word ≤ 6
         → is_user h.core.system ≡ false → h.core.pc ≡ address_of word
         → (length h.own.written ≤ 3) × (word + 1 ≤ h.own.spent) }

@@ -5,3 +5,4 @@ pub mod Preparing
 pub mod Quiet
 pub mod Guarded
 mod Reading
+pub mod Showing

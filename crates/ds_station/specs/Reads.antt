@@ -1,5 +1,5 @@
 -- What a station shows of its processes, by what it holds.
-use Rattle.std.specs.Prelude.{ℕ, ◌+◌, ◌-◌, ◌^◌, if◌then◌else◌, List, Option, Some, None}
+use Rattle.std.specs.Prelude.{◌≡◌, ℕ, ◌+◌, if◌then◌else◌, List, Option, Some, None}
 use Rattle.ds_word.specs.Word.{word}
 use Rattle.ds_word.specs.Bytes.{word_at}
 use Rattle.ds_isa.specs.declared.instr.Size.TheVariants.{Word}
@@ -10,9 +10,10 @@ use Rattle.ds_policy.specs.Pages.{Pages, decide, bytes_of}
 use Rattle.ds_policy.specs.Grants.{PageState}
 use Rattle.ds_grants.specs.State.{page_state}
 use Rattle.ds_core.specs.Core.{CoreState}
-use Rattle.ds_pagemap.specs.Machine.{process_of, first}
+use Rattle.ds_pagemap.specs.Machine.{State, process_of, first}
 use Rattle.ds_pagemap.specs.Boundary.{is_first}
 use Rattle.ds_refinement.specs.Held.{Held}
+use Rattle.ds_refinement.specs.Stands.{Stands}
 
 -- the word at the place of an access that is allowed
 abbrev pub word_on : Pages → Verdict → Option ℕ
@@ -38,3 +39,7 @@ address_held h p = if is_first (first h.kept.state.ready) p then unit_on h.core 
 -- the general registers of a process, from the same places
 abbrev pub general_held : Held → ℕ → List ℕ
 general_held h p = if is_first (first h.kept.state.ready) p then h.core.registers.general else (process_of h.kept.state p).registers.general
+
+-- while no instruction of a unit is counted, they are those of the process in each machine state that the station stands for
+abbrev pub ShowsGeneral : List ℕ → Held → ℕ → Type 0
+ShowsGeneral shown h p = h.own.spent ≡ 0 → (m : State) → Stands h m → shown ≡ (process_of m p).registers.general

@@ -1,13 +1,14 @@
 //! What a station shows of its processes.
-ghost use Rattle.std.specs.Prelude.{◌≡◌, ◌<◌, ◌≤◌, length, IfSome, true};
+ghost use Rattle.std.specs.Prelude.{◌≡◌, ◌<◌, ◌≤◌, [], length, slice_index_or, IfSome, true};
 ghost use Rattle.ds_cp0.specs.System.{is_user};
 ghost use Rattle.ds_pagemap.specs.Boundary.{is_first};
 ghost use Rattle.ds_pagemap.specs.Machine.{first, process_of};
-ghost use Rattle.ds_station.specs.Reads.{address_held, fetched, general_held, memory_held, unit_on};
+ghost use Rattle.ds_refinement.specs.Held.{last_boundary};
+ghost use Rattle.ds_station.specs.Reads.{address_held, fetched, general_held, memory_held, unit_on, ShowsGeneral};
 
 use crate::station::Station;
 use ds_isa::{Kind, Size};
-use ds_policy::{Access, Verdict};
+use ds_policy::{Access, TimedCommand, Verdict};
 use ds_procs::Standing;
 use ds_tlb::Lookaside;
 use ds_word::wrapping_sum;
@@ -96,15 +97,49 @@ impl<L: Lookaside> Station<L> {
     }
 
     /// The general registers of a process, of which there may be none. Of the one that runs they are
-    /// the processor's.
+    /// the processor's, which are the process's own at the beginning of its unit.
     pub fn general(&self, process: u32) -> [u32; 32]
-        ensures { result ≡ general_held self.now process }
+        ensures held { result ≡ general_held self.now process }
+        ensures shows { 0 < process → ShowsGeneral result self.now process }
     {
         if self.runs(process) {
             self.parts.core.registers
         } else {
             self.seated(process)
         }
+    }
+
+    /// When the turn began whose boundary is owed, or else the time, in ticks.
+    pub fn turn_began(&self) -> u64
+        ensures { result ≡ last_boundary self.now.kept.state }
+    {
+        match self.parts.monitor.owed {
+            Some(turn) => turn.began,
+            None => self.parts.monitor.time,
+        }
+    }
+
+    /// The commands that are still to come.
+    pub fn commands_to_come(&self) -> &[TimedCommand]
+        ensures { result.now ≡ self.now.kept.state.commands }
+    {
+        self.parts.monitor.due.commands()
+    }
+
+    /// How many characters are still to come.
+    pub fn characters_to_come(&self) -> usize
+        ensures { result ≡ length self.now.kept.state.characters }
+    {
+        self.parts.monitor.due.characters()
+    }
+
+    /// The characters that wait on a line, from 0, the oldest first.
+    pub fn queue(&self, line: usize) -> &[u8]
+        requires { line < 4 }
+        ensures held { result.now ≡ slice_index_or self.now.kept.state.queues line [] }
+        ensures four { length self.now.kept.state.queues ≡ 4 }
+    {
+        self.parts.monitor.queues[line].text()
     }
 
     /// The word at an address, where the process may fetch it.

@@ -1,4 +1,4 @@
-use Rattle.ds_refinement.proofs.Tallied.{few_of, ranges_of, tallied_of}
+use Rattle.ds_refinement.proofs.Tallied.{few_of, ranges_of, tallied_of, unbegun_of, user_of}
 use Rattle.ds_refinement.proofs.WordTallies.{word_room, double_begun}
 use Rattle.ds_refinement.proofs.tallies.the_counts_are_few.Goals as goal
 
@@ -10,6 +10,12 @@ returns-clause-ranges c = λ h sound. ranges_of h sound.state sound.stands
 
 pub returns-clause-tallied : goal.returns-clause-tallied
 returns-clause-tallied c = tallied_of
+
+pub returns-clause-unbegun : goal.returns-clause-unbegun
+returns-clause-unbegun c = unbegun_of
+
+pub returns-clause-user : goal.returns-clause-user
+returns-clause-user c = λ h sound. user_of h sound.state sound.stands
 
 pub returns-clause-room : goal.returns-clause-room
 returns-clause-room c = word_room

@@ -1,6 +1,0 @@
-use Rattle.ds_core.proofs.Stretches.{has_outcome}
-use Rattle.ds_core.proofs.processor.Core.operate_after_load.Goals as goal
-
-pub returns-else-is_awaited-clause-outcome : goal.returns-else-is_awaited-clause-outcome
-returns-else-is_awaited-clause-outcome g c = has_outcome c.operate.result c.in-Some.operation c.args.self.now c.args.at.now c.args.bus.now c.operation_at.new.bus c.operate.new.self c.operate.new.at c.operate.new.bus
-    c.requires.calm c.in-Some.ensures.fetched c.operate.ensures.known c.operation_at.ensures.same c.operate.ensures.comes

@@ -1,6 +1,0 @@
-use Rattle.ds_core.proofs.Stretches.{has_outcome}
-use Rattle.ds_core.proofs.processor.Core.operate_at.Goals as goal
-
-pub returns-in-Some-clause-outcome : goal.returns-in-Some-clause-outcome
-returns-in-Some-clause-outcome g c = has_outcome c.operate.result c.in-Some.operation c.args.self.now c.args.at.now c.args.bus.now c.operation_at.new.bus c.operate.new.self c.operate.new.at c.operate.new.bus
-    c.requires.calm c.in-Some.ensures.fetched c.operate.ensures.known c.operation_at.ensures.same c.operate.ensures.comes
