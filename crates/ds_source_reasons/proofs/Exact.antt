@@ -134,4 +134,4 @@ parts_taken text (Some rest) = elim (cases_Bool (is_name (until 58 text))) [
 -- a line has a reason exactly where the assembler reads nothing from it
 pub reason_exact : (line : List ℕ) → is_some (reason_of line) ≡ not (is_some (line_of line))
 unfolding reason_of line_of
-reason_exact line = let text = trimmed (until 35 line) in mapped (first_reason text) (parts_reason text (after 58 text)) ∙ parts_taken text (after 58 text)
+reason_exact line = let text = trimmed (until 35 line) in mapped (first_reason text (after 58 text)) (parts_reason text (after 58 text)) ∙ parts_taken text (after 58 text)

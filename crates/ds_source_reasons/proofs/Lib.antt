@@ -1,5 +1,6 @@
 pub mod Exact
 pub mod ExactRanges
+pub mod FirstLetters
 pub mod Passed
 pub mod Reach
 pub mod Carets

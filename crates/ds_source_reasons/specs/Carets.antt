@@ -2,8 +2,8 @@
 use Rattle.std.specs.Prelude.{ℕ, suc, ◌+◌, ◌&&◌, ◌==◌, nat_le, if◌then◌else◌, List, [], ◌∷◌, length, drop, Option, None, Some, option_map, is_some}
 use Rattle.std.specs.List.{starts_with}
 use Rattle.ds_asm.specs.Characters.{until}
-use Rattle.ds_source_reasons.specs.Reasons.{Reason, ByteOrderMark, NoSuchDirective, Macro, NoSuchByte, CarriageReturn, SpacedColon, NotALabel, SecondColon, UpperCase, NoSuchMnemonic, Operands, TextAfter, NoSuchRegister, WrongOperand}
-use Rattle.ds_source_reasons.specs.Ranges.{RangeReason, OutOfRange, NotAligned, Reserved, Target}
+use Rattle.ds_source_reasons.specs.Reasons.{ByteOrderMark, NoSuchDirective, Macro, NoSuchByte, CarriageReturn, SpacedColon, NotALabel, SecondColon, UpperCase, NoSuchMnemonic, Operands, TextAfter, NoSuchRegister, WrongOperand}
+use Rattle.ds_source_reasons.specs.Ranges.{OutOfRange, NotAligned, Reserved, Target}
 use Rattle.ds_source_reasons.specs.Told.{FaultReason, Unread, OutOf}
 
 -- what a reason quotes of its line beside a single byte; nothing where it quotes none

@@ -1,9 +1,9 @@
 -- Why a line of a source can't be read.
-use Rattle.std.specs.Prelude.{codes, ℕ, ◌+◌, Bool, false, not, ◌&&◌, ◌||◌, ◌==◌, nat_le, bytes_eq, if◌then◌else◌, List, [], ◌∷◌, length, take, drop, count_by, Option, Some, None, option_map, is_some}
-use Rattle.std.specs.List.{find, list_any, position_or_len}
+use Rattle.std.specs.Prelude.{codes, ℕ, ◌+◌, Bool, false, not, ◌&&◌, ◌||◌, ◌==◌, nat_le, bytes_eq, if◌then◌else◌, List, [], ◌∷◌, length, take, drop, count_by, map, Option, Some, None, option_map, is_some}
+use Rattle.std.specs.List.{filter, find, list_any, position_or_len}
 use Rattle.ds_asm.specs.Characters.{is_blank, is_letter, is_digit, is_name, without_front_blanks, without_back_blanks, trimmed, until, after}
 use Rattle.ds_isa.specs.Fields.{Operand}
-use Rattle.ds_asm.specs.Forms.{Written, form_named}
+use Rattle.ds_asm.specs.Forms.{Written, form_named, begins_with}
 use Rattle.ds_asm.specs.Operands.{has_comma, is_code, is_link}
 use Rattle.ds_asm.specs.Lines.{mnemonic_of, after_mnemonic}
 use Rattle.ds_asm.specs.RegisterNames.{register_of}
@@ -162,6 +162,10 @@ has_dot (c ∷ cs) = c == 46
 abbrev pub is_directive : List ℕ → Bool
 is_directive name = bytes_eq name (codes ".word") || bytes_eq name (codes ".byte") || bytes_eq name (codes ".space")
 
+-- the macros of other assemblers that begin with a character
+abbrev pub macros_with : ℕ → List (List ℕ)
+macros_with c = filter (begins_with c) (map (λ m. m.now) MACROS)
+
 -- whether a word is a macro of other assemblers
 unfoldable pub is_macro : List ℕ → Bool
 is_macro name = list_any (λ m. bytes_eq m.now name) MACROS
@@ -185,17 +189,17 @@ byte_reason text = option_map (λ c. NoSuchByte c) (find (λ c. not (is_written 
 abbrev pub return_reason : List ℕ → Option Reason
 return_reason text = if has_byte 13 text then Some CarriageReturn else None
 
--- the first reason of a text that has this one
-abbrev pub first_reason : List ℕ → Reason → Reason
-first_reason text why =
+-- the first reason of a text that has this one, with what stands after its colon
+abbrev pub first_reason : List ℕ → Option (List ℕ) → Reason → Reason
+first_reason text rest why =
     or_reason (mark_reason text)
-    (or_reason (word_reason (mnemonic_of (statement_text text (after 58 text))))
+    (or_reason (word_reason (mnemonic_of (statement_text text rest)))
     (or_reason (byte_reason text)
     (or_reason (return_reason text) why)))
 
 -- why what a line says up to its comment can't be read
 abbrev pub said_reason : List ℕ → Option Reason
-said_reason text = option_map (first_reason text) (parts_reason text (after 58 text))
+said_reason text = option_map (first_reason text (after 58 text)) (parts_reason text (after 58 text))
 
 -- why a line can't be read
 unfoldable pub reason_of : List ℕ → Option Reason

@@ -25,7 +25,7 @@ fn said_reason(text: &[u8]) -> Option<SyntaxReason<'_>>
 {
     let (_, behind) = split_at_first(b':', text);
     let reason = parts_reason(text, behind)?;
-    Some(first_reason(text, reason))
+    Some(first_reason(text, behind, reason))
 }
 
 fn parts_reason<'a>(text: &'a [u8], behind: Option<&'a [u8]>) -> Option<SyntaxReason<'a>>
@@ -67,14 +67,18 @@ fn no_label(name: &[u8]) -> SyntaxReason<'_>
     }
 }
 
-/// The first reason of a text that has this one.
-fn first_reason<'a>(text: &'a [u8], reason: SyntaxReason<'a>) -> SyntaxReason<'a>
-    ensures { plain_reason result ≡ first_reason text.now (plain_reason reason.entry) }
+/// The first reason of a text that has this one, with what stands after its colon.
+fn first_reason<'a>(
+    text: &'a [u8],
+    behind: Option<&'a [u8]>,
+    reason: SyntaxReason<'a>,
+) -> SyntaxReason<'a>
+    ensures { plain_reason result ≡ first_reason text.now
+        (option_map (λ t. t.now) behind.entry) (plain_reason reason.entry) }
 {
     if has_mark(text) {
         return SyntaxReason::ByteOrderMark;
     }
-    let (_, behind) = split_at_first(b':', text);
     let (word, _) = split_word(statement_text(text, behind));
     if let Some(other) = word_reason(word) {
         return other;

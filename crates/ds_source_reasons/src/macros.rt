@@ -1,7 +1,7 @@
 //! Words of other assemblers that this one has not, and what is written in their place.
 ghost use Rattle.std.specs.Prelude.{◌≡◌, bytes_eq, map, position};
 ghost use Rattle.std.specs.List.{list_any, slice_get};
-ghost use Rattle.ds_source_reasons.specs.Reasons.{is_macro};
+ghost use Rattle.ds_source_reasons.specs.Reasons.{is_macro, macros_with};
 ghost use Rattle.ds_source_reasons.specs.Texts.{at_place, directive_instead, macro_instead, text_at};
 
 /// The macros of other assemblers, each with what is said after its name.
@@ -87,7 +87,26 @@ const OTHER_DIRECTIVE: &str = "`.\nThere are `.word x`, `.byte n` and `.space n`
 pub(crate) fn is_macro(name: &[u8]) -> bool
     ensures { result ≡ is_macro name.now }
 {
-    is_among(MACROS.as_slice(), name)
+    match name {
+        [] => false,
+        [first, ..] => is_among(macros_with(*first), name),
+    }
+}
+
+/// The macros whose names begin with a character.
+fn macros_with(first: u8) -> &'static [&'static str]
+    ensures { map (λ m. m.now) result.now ≡ macros_with first }
+{
+    match first {
+        b'a' => &MACROS[..1],
+        b'b' => &MACROS[1..13],
+        b'l' => &MACROS[13..15],
+        b'm' => &MACROS[15..18],
+        b'n' => &MACROS[18..21],
+        b'r' => &MACROS[21..25],
+        b's' => &MACROS[25..],
+        _ => &[],
+    }
 }
 
 fn is_among(macros: &[&str], name: &[u8]) -> bool
