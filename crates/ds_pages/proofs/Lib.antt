@@ -1,0 +1,5 @@
+pub mod Blank
+pub mod Done
+pub mod Fits
+pub mod Known
+pub mod Pages

@@ -1,0 +1,4 @@
+pub mod Does
+pub mod Places
+pub mod Page
+pub mod Worked

@@ -1,0 +1,117 @@
+//! Which lines of a trace are told.
+ghost use Rattle.std.specs.Prelude.{◌≡◌};
+ghost use Rattle.ds_view.specs.Views.{has_lines, is_before, is_named, shows_denials, shows_process, shows_rest, shows_switches, shows_turn, shows_unit, whole};
+
+/// The one kind of line that is told.
+#[derive(Clone, Copy, Debug, PartialEq, Eq)]
+pub enum Only {
+    /// None of what happens, but how the run ends.
+    End,
+    /// The units that are calls.
+    Calls,
+    /// What was denied.
+    Denials,
+    /// Which process runs, and how each stands.
+    Switches,
+    /// The units.
+    Units,
+}
+
+/// Which lines of a trace are told. The others are left out, and nothing else is changed by it.
+#[derive(Clone, Copy, Debug, PartialEq, Eq)]
+pub struct View {
+    /// Nothing is told of a turn that began earlier, in ticks.
+    pub from: u64,
+    /// Nothing is told of a turn that began at this time or later, where there is one.
+    pub to: Option<u64>,
+    /// The process of which is told, by its number from 1; all where none is named.
+    pub process: Option<u32>,
+    /// The one kind of line that is told; all where none is named.
+    pub only: Option<Only>,
+}
+
+fn is_before(to: Option<u64>, began: u64) -> bool
+    ensures { result ≡ is_before to began }
+{
+    match to {
+        Some(to) => began < to,
+        None => true,
+    }
+}
+
+fn is_named(named: Option<u32>, process: u32) -> bool
+    ensures { result ≡ is_named named process }
+{
+    match named {
+        Some(named) => named == process,
+        None => true,
+    }
+}
+
+impl View {
+    /// All lines.
+    pub fn whole() -> View
+        ensures { result ≡ whole }
+    {
+        View {
+            from: 0,
+            to: None,
+            process: None,
+            only: None,
+        }
+    }
+
+    /// Whether anything that happens is told, and not the end alone.
+    pub fn has_lines(&self) -> bool
+        ensures { result ≡ has_lines self.now }
+    {
+        !matches!(self.only, Some(Only::End))
+    }
+
+    /// Whether a turn that began at this time is told.
+    pub fn shows_turn(&self, began: u64) -> bool
+        ensures { result ≡ shows_turn self.now began }
+    {
+        self.from <= began && is_before(self.to, began)
+    }
+
+    /// Whether a process is told of.
+    pub fn shows_process(&self, process: u32) -> bool
+        ensures { result ≡ shows_process self.now process }
+    {
+        is_named(self.process, process)
+    }
+
+    /// Whether the lines of a unit are told, by whether it is a call.
+    pub fn shows_unit(&self, process: u32, is_call: bool) -> bool
+        ensures { result ≡ shows_unit self.now process is_call }
+    {
+        let kind = match self.only {
+            None | Some(Only::Units) => true,
+            Some(Only::Calls) => is_call,
+            _ => false,
+        };
+        kind && self.shows_process(process)
+    }
+
+    /// Whether it is told what was denied to a process.
+    pub fn shows_denials(&self, process: u32) -> bool
+        ensures { result ≡ shows_denials self.now process }
+    {
+        matches!(self.only, None | Some(Only::Denials)) && self.shows_process(process)
+    }
+
+    /// Whether it is told which process runs, and how each stands.
+    pub fn shows_switches(&self) -> bool
+        ensures { result ≡ shows_switches self.now }
+    {
+        matches!(self.only, None | Some(Only::Switches))
+    }
+
+    /// Whether it is told what else happens at a boundary.
+    pub fn shows_rest(&self) -> bool
+        ensures { result ≡ shows_rest self.now }
+    {
+        self.only.is_none()
+    }
+}
