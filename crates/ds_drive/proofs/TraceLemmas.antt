@@ -12,6 +12,8 @@ use Rattle.ds_station.specs.declared.fault.Fault.TheVariants as fault
 use Rattle.ds_station.proofs.Headlines.{keeps_same}
 use Rattle.ds_trace.specs.Traces.{TraceEndsBy, WritesTracePart}
 use Rattle.ds_trace.proofs.Inputs.{refused_untold}
+use Rattle.ds_view.specs.declared.view.View.{View}
+use Rattle.ds_view.specs.Views.{whole}
 use Rattle.ds_words.specs.declared.words.Request.{Request}
 use Rattle.ds_words.specs.Words.{AsksForTrace}
 use Rattle.ds_drive.specs.declared.failure.Failure.{Failure}
@@ -28,25 +30,25 @@ module _ (holds : List ℕ → List ℕ → Type 0) (lacks : List ℕ → Type 0
   -- not all that the run is made of was read
   pub trace_unread : (f : Failure) (known : Option (List ℕ)) → IsUnreadRun f holds lacks request → TraceStopsBy f holds lacks request known known
   trace_unread f known unread =
-      unread_stops holds lacks (λ refused read. TraceEndsBy refused read known known request.most_time) request f known
-      (λ refused read r. refused_untold refused read known known request.most_time r (keeps_same known)) unread
+      unread_stops holds lacks (λ refused read. TraceEndsBy refused whole read known known request.most_time) request f known
+      (λ refused read r. refused_untold refused whole read known known request.most_time r (keeps_same known)) unread
 
   -- want of memory before the run
   pub memory_stops : (known : Option (List ℕ)) → TraceStopsBy (failure.Fault fault.Memory) holds lacks request known known
   memory_stops known = inl (refl, keeps_same known)
 
 -- whatever the fault, nothing is written, or a front of the trace and the text of a run
-leaves_part : (f : Fault) (read : Result State Refusal) (old new : Option (List ℕ)) (n : ℕ) → TraceEndsBy f read old new n → Keeps old new ⊎ Begins read (WritesTracePart old new n)
-leaves_part fault.Memory read old new n ends = ends
-leaves_part fault.Stuck read old new n none = absurd none
-leaves_part fault.WriteFault read old new n part = inr part
-leaves_part fault.Failed read old new n none = absurd none
-leaves_part f read old new n refused = inl refused.1
+leaves_part : (f : Fault) (v : View) (read : Result State Refusal) (old new : Option (List ℕ)) (n : ℕ) → TraceEndsBy f v read old new n → Keeps old new ⊎ Begins read (WritesTracePart v old new n)
+leaves_part fault.Memory v read old new n ends = ends
+leaves_part fault.Stuck v read old new n none = absurd none
+leaves_part fault.WriteFault v read old new n part = inr part
+leaves_part fault.Failed v read old new n none = absurd none
+leaves_part f v read old new n refused = inl refused.1
 
 trace_leaves : (f : Failure) (holds : List ℕ → List ℕ → Type 0) (lacks : List ℕ → Type 0) (request : Request) (old new : Option (List ℕ)) → TraceStopsBy f holds lacks request old new → Keeps old new ⊎ CutsTrace holds request old new
 trace_leaves f holds lacks request old new stops =
-    files_cut_by (λ e read. TraceEndsBy e read old new request.most_time) (λ read. Begins read (WritesTracePart old new request.most_time)) f holds lacks request old new
-    (λ e read ends. leaves_part e read old new request.most_time ends) stops
+    files_cut_by (λ e read. TraceEndsBy e whole read old new request.most_time) (λ read. Begins read (WritesTracePart whole old new request.most_time)) f holds lacks request old new
+    (λ e read ends. leaves_part e whole read old new request.most_time ends) stops
 
 -- whatever the failure
 pub trace_cut : (words : List Text) (holds : List ℕ → List ℕ → Type 0) (lacks : List ℕ → Type 0) (request : Request) (f : Failure) (old new : Option (List ℕ)) → AsksForTrace words request → TraceStopsBy f holds lacks request old new → IsCutShort words holds old new

@@ -6,6 +6,7 @@ use crate::failure::Failure;
 use crate::files::Files;
 use crate::run::{lent, read_inputs};
 use ds_trace::trace_policy;
+use ds_view::View;
 use ds_words::Request;
 use std::alloc::Global;
 use std::io::Write;
@@ -37,6 +38,7 @@ pub fn trace_request<'a, F: Files, W: Write>(
         inputs.input.as_slice(),
         request.most_time,
         request.random,
+        &View::whole(),
         out,
     ) {
         Ok(()) => Ok(()),

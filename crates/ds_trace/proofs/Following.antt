@@ -1,16 +1,15 @@
 -- A station that is followed to the end of a run.
-use Rattle.std.proofs.Common.{◌≡◌, ℕ, ◌<◌, Bool, true, false, List, [], ◌∷◌, Option, Some, None, ◌++◌, ◌+◌, ◌-◌, ◌≤◌, append_assoc, refl, sym, ap, subst, ◌∙◌, inr, arith, zero, suc}
+use Rattle.std.proofs.Common.{◌≡◌, ℕ, ◌<◌, Bool, true, false, List, [], ◌∷◌, Option, Some, None, ◌++◌, ◌+◌, refl, sym, ap, subst, ◌∙◌, inr, arith, zero, suc}
 use Rattle.std.proofs.lemmas.List.{append-nil}
 use Rattle.std.specs.Prelude.{◌||◌, ◌&&◌, not, nat_lt, is_some}
 use Rattle.std.proofs.lemmas.Bool.Decides.{nat_tests}
-use Rattle.ds_cp0.specs.System.{is_user}
 use Rattle.ds_log.specs.Sent.{AppendsPart}
 use Rattle.ds_log.proofs.Sends.{appends_both, appends_none, part_before, part_behind}
 use Rattle.std.specs.Io.KnownBytes.{Appends}
-use Rattle.ds_procs.specs.declared.process.Standing.{Standing}
 use Rattle.ds_pagemap.specs.declared.turn.Turn.{Turn}
-use Rattle.ds_pagemap.specs.Machine.{State, process_of}
-use Rattle.ds_pagemap.specs.Run.{goes_on, is_over}
+use Rattle.ds_pagemap.specs.Machine.{State}
+use Rattle.ds_pagemap.specs.Run.{after, goes_on, is_over}
+use Rattle.ds_pagemap.specs.Text.{text_of}
 use Rattle.ds_refinement.specs.declared.step.Step.{Step}
 use Rattle.ds_refinement.specs.declared.step.Step.TheVariants.{Inside, Unit, Boundary, Over}
 use Rattle.ds_refinement.specs.Held.{Held}
@@ -18,21 +17,23 @@ use Rattle.ds_refinement.specs.Counts.{IsFew, Counts}
 use Rattle.ds_refinement.specs.Stands.{Stands, IsSound, CountedBy}
 use Rattle.ds_refinement.specs.Steps.{Moves}
 use Rattle.ds_refinement.specs.Services.{with_failure}
-use Rattle.ds_refinement.specs.Runs.{held_goes_on}
+use Rattle.ds_refinement.specs.Runs.{RunsTo, RunsWithin, held_goes_on}
 use Rattle.ds_refinement.proofs.RunSteps.{goes_alike, begins_goes}
 use Rattle.ds_kernel.specs.Ended.{Does}
 use Rattle.ds_kernel.specs.Going.{GoesOn}
 use Rattle.ds_kernel.proofs.Running.{step_goes}
 use Rattle.ds_station.specs.Headline.{held_text}
-use Rattle.ds_station.specs.Faults.{RefusesStep}
+use Rattle.ds_station.specs.Faults.{IsNewFault, RefusesStep}
+use Rattle.ds_station.specs.Runs.{IsCut}
 use Rattle.ds_station.specs.declared.fault.Fault.{Fault}
 use Rattle.ds_station.specs.declared.fault.Fault.TheVariants as fault
-use Rattle.ds_trace.specs.declared.start.Before.{Before}
-use Rattle.ds_station.specs.Reads.{address_held}
-use Rattle.ds_trace.specs.Ends.{process_text}
-use Rattle.ds_trace.specs.Shows.{processes_held, before_held, end_held, IsTold, TellsSo, TellsAll, IsStopped, Traces, TracesPart}
+use Rattle.ds_view.specs.declared.view.View.{View}
+use Rattle.ds_trace.specs.Looks.{Looked}
+use Rattle.ds_trace.specs.Traces.{told_to}
+use Rattle.ds_trace.specs.Shows.{looked_held, end_held, IsTold, TellsSo, TellsAll, IsStopped, Traces, TracesPart}
 use Rattle.ds_trace.specs.Advanced.{Adds, HasStepped, HasHalted, is_last}
 use Rattle.ds_trace.specs.Handed.{IsFinished, IsHandedOn, IsLate}
+use Rattle.ds_trace.proofs.Silence.{untold_until, until_within, until_silent}
 use Rattle.ds_trace.proofs.Telling.{told_first, told_inside, told_same, told_unit, told_boundary, told_handed, told_part, finished, finished_part, going_now}
 
 -- The tests of the loop.
@@ -62,23 +63,23 @@ none_begun o t n (suc k) false is test begun = let early : t < n = begun (omega 
 
 -- A step that is told.
 
-module _ (n : ℕ) (m : State) (h new : Held) (a d : Option (List ℕ)) (text more : List ℕ) (b c : Before) where
-  told_step : (step : Step) → is_last step ≡ false → Does step h new → Adds step new text b more c → (new.own.spent ≡ 0 → is_user new.core.system ≡ true) → held_goes_on n h ≡ true → IsTold n m h a d text b → IsTold n m new a d more c
-  told_step Inside last does adds user going told =
-      subst (λ (l : List ℕ). IsTold n m new a d l c) (sym adds.0) (subst (λ (x : Before). IsTold n m new a d text x) (sym adds.1) (told_inside n m h new a d text b does.follows told))
-  told_step Unit last does adds user going told = told_unit n m h new a d text more b c told going does.follows does.moves (user does.moves.3) adds.0 adds.1
-  told_step Boundary last does adds user going told = told_boundary n m h new a d text more b c told going does.follows does.moves (user does.moves.1) adds.0 adds.1
-  told_step Over last does adds user going told = absurd (cc)
+module _ (v : View) (n : ℕ) (m : State) (h new : Held) (a d : Option (List ℕ)) (text more : List ℕ) (b c : Looked) where
+  told_step : (step : Step) → is_last step ≡ false → Does step h new → Adds step v new text b more c → held_goes_on n h ≡ true → IsTold v n m h a d text b → IsTold v n m new a d more c
+  told_step Inside last does adds going told =
+      subst (λ (l : List ℕ). IsTold v n m new a d l c) (sym adds.0) (subst (λ (x : Looked). IsTold v n m new a d text x) (sym adds.1) (told_inside v n m h new a d text b does.follows told))
+  told_step Unit last does adds going told = told_unit v n m h new a d text more b c told going does.follows does.moves adds.0 adds.1
+  told_step Boundary last does adds going told = told_boundary v n m h new a d text more b c told going does.follows does.moves adds.0 adds.1
+  told_step Over last does adds going told = absurd (cc)
 
-owed_after : (step : Step) (h new : Held) (text more : List ℕ) (b c : Before) → is_last step ≡ false → Moves step h new → Adds step new text b more c → b.owed ≡ is_some h.kept.state.owed → c.owed ≡ is_some new.kept.state.owed
-owed_after Inside h new text more b c last moves adds is =
-    ap (λ (x : Before). x.owed) adds.1 ∙ (is ∙ (ap is_some moves.0 ∙ sym (ap is_some moves.1)))
-owed_after Unit h new text more b c last moves adds is = ap (λ (x : Before). x.owed) adds.1 ∙ sym moves.1
-owed_after Boundary h new text more b c last moves adds is = ap (λ (x : Before). x.owed) adds.1 ∙ sym (ap is_some moves.0)
-owed_after Over h new text more b c last moves adds is = absurd (cc)
+owed_after : (v : View) (step : Step) (h new : Held) (text more : List ℕ) (b c : Looked) → is_last step ≡ false → Moves step h new → Adds step v new text b more c → b.owed ≡ is_some h.kept.state.owed → c.owed ≡ is_some new.kept.state.owed
+owed_after v Inside h new text more b c last moves adds is =
+    ap (λ (x : Looked). x.owed) adds.1 ∙ (is ∙ (ap is_some moves.0 ∙ sym (ap is_some moves.1)))
+owed_after v Unit h new text more b c last moves adds is = ap (λ (x : Looked). x.owed) adds.1 ∙ sym moves.1
+owed_after v Boundary h new text more b c last moves adds is = ap (λ (x : Looked). x.owed) adds.1 ∙ sym (ap is_some moves.0)
+owed_after v Over h new text more b c last moves adds is = absurd (cc)
 
 -- a step that was not the last, of a run before its end
-module _ (n : ℕ) (h new : Held) (text more : List ℕ) (b c : Before) (s : HasStepped false h new text b more c) (sound : IsSound h) (owed : b.owed ≡ is_some h.kept.state.owed) (test : (b.owed || nat_lt h.kept.state.time n) ≡ true) where
+module _ (v : View) (n : ℕ) (h new : Held) (text more : List ℕ) (b c : Looked) (s : HasStepped false v h new text b more c) (sound : IsSound h) (owed : b.owed ≡ is_some h.kept.state.owed) (test : (b.owed || nat_lt h.kept.state.time n) ≡ true) where
   step_going : held_goes_on n h ≡ true
   step_going = going_now s.step n h new sound.state sound.stands s.is s.does.follows (early_by h.kept.state.owed h.kept.state.time n b.owed owed test)
 
@@ -86,10 +87,10 @@ module _ (n : ℕ) (h new : Held) (text more : List ℕ) (b c : Before) (s : Has
   step_on = step_goes s.step n h new step_going sound s.does
 
   pub step_owed : c.owed ≡ is_some new.kept.state.owed
-  step_owed = owed_after s.step h new text more b c s.is s.does.moves s.adds owed
+  step_owed = owed_after v s.step h new text more b c s.is s.does.moves s.adds owed
 
-  pub step_told : (from : Held) (a d : Option (List ℕ)) → TellsSo n from h a d text b → TellsSo n from new a d more c
-  step_told from a d tells = record { tells = λ m k. told_step n m h new a d text more b c s.step s.is s.does s.adds s.user step_going (tells.tells m k) }
+  pub step_told : (from : Held) (a d : Option (List ℕ)) → TellsSo v n from h a d text b → TellsSo v n from new a d more c
+  step_told from a d tells = record { tells = λ m k. told_step v n m h new a d text more b c s.step s.is s.does s.adds step_going (tells.tells m k) }
 
 -- The last step.
 
@@ -114,38 +115,38 @@ last_spent h m k owed over = by h.kept.state.ready refl k.counted
         let no : true ≡ false = sym goes ∙ (sym (goes_alike n h m k) ∙ over_ends n m owed over) in absurd (cc)
 
 -- what is found where all have ended
-pub record IsLast (h new : Held) (text : List ℕ) (b : Before) (more : List ℕ) (c : Before) (m : State) : Type 0 where
+pub record IsLast (h new : Held) (text : List ℕ) (b : Looked) (more : List ℕ) (c : Looked) (m : State) : Type 0 where
   pub same : new ≡ h
   pub told : more ≡ text
   pub looked : c ≡ b
   pub owed : m.owed ≡ None
   pub over : is_over m ≡ true
 
-last_is : (step : Step) (h new : Held) (text more : List ℕ) (b c : Before) (m : State) → Stands h m → is_last step ≡ true → Does step h new → Adds step new text b more c → IsLast h new text b more c m
-last_is Inside h new text more b c m k last does adds = absurd (cc)
-last_is Unit h new text more b c m k last does adds = absurd (cc)
-last_is Boundary h new text more b c m k last does adds = absurd (cc)
-last_is Over h new text more b c m k last does adds =
+last_is : (v : View) (step : Step) (h new : Held) (text more : List ℕ) (b c : Looked) (m : State) → Stands h m → is_last step ≡ true → Does step h new → Adds step v new text b more c → IsLast h new text b more c m
+last_is v Inside h new text more b c m k last does adds = absurd (cc)
+last_is v Unit h new text more b c m k last does adds = absurd (cc)
+last_is v Boundary h new text more b c m k last does adds = absurd (cc)
+last_is v Over h new text more b c m k last does adds =
     let t = does.follows.follows m k in
     record { same = does.moves; told = adds.0; looked = adds.1; owed = t.1.0; over = t.1.1 }
 
-module _ (n : ℕ) (h new : Held) (text more : List ℕ) (b c : Before) (s : HasStepped true h new text b more c) (sound : IsSound h) where
+module _ (v : View) (n : ℕ) (h new : Held) (text more : List ℕ) (b c : Looked) (s : HasStepped true v h new text b more c) (sound : IsSound h) where
   last : IsLast h new text b more c sound.state
-  last = last_is s.step h new text more b c sound.state sound.stands s.is s.does s.adds
+  last = last_is v s.step h new text more b c sound.state sound.stands s.is s.does s.adds
 
   last_over : held_goes_on n new ≡ false
   last_over = ap (held_goes_on n) last.same ∙ (sym (goes_alike n h sound.state sound.stands) ∙ over_ends n sound.state last.owed last.over)
 
-  last_user : is_user new.core.system ≡ true
-  last_user = s.user (ap (λ (x : Held). x.own.spent) last.same ∙ last_spent h sound.state sound.stands last.owed last.over)
+  last_none : new.own.spent ≡ 0
+  last_none = ap (λ (x : Held). x.own.spent) last.same ∙ last_spent h sound.state sound.stands last.owed last.over
 
-  last_tells : (from : Held) (a d : Option (List ℕ)) → TellsSo n from h a d text b → TellsSo n from new a d more c
+  last_tells : (from : Held) (a d : Option (List ℕ)) → TellsSo v n from h a d text b → TellsSo v n from new a d more c
   last_tells from a d tells =
-      subst (λ (x : Held). TellsSo n from x a d more c) (sym last.same)
-      (subst (λ (l : List ℕ). TellsSo n from h a d l c) (sym last.told) (subst (λ (x : Before). TellsSo n from h a d text x) (sym last.looked) tells))
+      subst (λ (x : Held). TellsSo v n from x a d more c) (sym last.same)
+      (subst (λ (l : List ℕ). TellsSo v n from h a d l c) (sym last.told) (subst (λ (x : Looked). TellsSo v n from h a d text x) (sym last.looked) tells))
 
-  pub last_told : (from : Held) (a d : Option (List ℕ)) → TellsSo n from h a d text b → TellsAll None n from new a d more
-  last_told from a d tells = record { before = c; tells = last_tells from a d tells; stopped = last_over; user = last_user }
+  pub last_told : (from : Held) (a d : Option (List ℕ)) → TellsSo v n from h a d text b → TellsAll None v n from new a d more
+  last_told from a d tells = record { before = c; tells = last_tells from a d tells; stopped = last_over; spent = last_none }
 
 -- No step.
 
@@ -154,44 +155,74 @@ halts fault.Memory h new r few still working = (refl, ap (λ (x : Held). x.own.s
 halts fault.Failed h new r few still working = absurd (let no : true ≡ false = sym r ∙ working in cc)
 halts f h new r few still working = absurd r
 
-module _ (n : ℕ) (f : Fault) (h new : Held) (text more : List ℕ) (b c : Before) (s : HasHalted f h new text b more c) where
-  pub halted_told : (from : Held) (a d : Option (List ℕ)) → TellsSo n from h a d text b → TellsAll (Some f) n from new a d more
+module _ (v : View) (n : ℕ) (f : Fault) (h new : Held) (text more : List ℕ) (b c : Looked) (s : HasHalted f h new text b more c) where
+  pub halted_told : (from : Held) (a d : Option (List ℕ)) → TellsSo v n from h a d text b → TellsAll (Some f) v n from new a d more
   halted_told from a d tells = record {
     before = c;
     tells = record {
       tells = λ m k.
-          subst (λ (l : List ℕ). IsTold n m new a d l c) (sym s.same)
-          (subst (λ (x : Before). IsTold n m new a d text x) (sym s.looked) (told_same n m h new a d text b s.stays (tells.tells m k)));
+          subst (λ (l : List ℕ). IsTold v n m new a d l c) (sym s.same)
+          (subst (λ (x : Looked). IsTold v n m new a d text x) (sym s.looked) (told_same v n m h new a d text b s.stays (tells.tells m k)));
     };
     stopped = s.memory;
-    user = s.user;
+    spent = s.spent;
   }
 
 -- Before the first step, and after the last.
 
-pub first_told : (n : ℕ) (from : Held) (a : Option (List ℕ)) (text : List ℕ) (b : Before) → text ≡ [] → from.kept.state.owed ≡ None → is_user from.core.system ≡ true → b ≡ before_held false from → TellsSo n from from a a text b
-first_told n from a text b none unowed user looks = subst (λ (l : List ℕ). TellsSo n from from a a l b) (sym none) (record { tells = λ m k. told_first n m from a b k unowed user looks })
+new_is : (f : Fault) → IsNewFault f → f ≡ fault.Memory
+new_is fault.Memory is = refl
+new_is f is = absurd is
 
-pub end_told : (n : ℕ) (from h : Held) (a d : Option (List ℕ)) (text : List ℕ) (b : Before) → TellsSo n from h a d text b → b.owed ≡ is_some h.kept.state.owed → (b.owed || nat_lt h.kept.state.time n) ≡ false → (0 < h.own.spent → h.kept.state.time < n) → (h.own.spent ≡ 0 → is_user h.core.system ≡ true) → TellsAll None n from h a d text
-end_told n from h a d text b tells owed test begun user = record {
+-- a run that was cut short is where no unit is begun
+pub cut_spent : (f : Fault) (from new : Held) → IsCut f from new → IsNewFault f → new.own.spent ≡ 0
+cut_spent f from new cut is = ap (λ (x : Held). x.own.spent) cut.marked ∙ refused_spent f cut.last cut.refused is
+  where
+    refused_spent : (f : Fault) (h : Held) → RefusesStep f h → IsNewFault f → h.own.spent ≡ 0
+    refused_spent fault.Memory h refused is = refused.1
+    refused_spent f h refused is = absurd is
+
+-- a run that ended is within its time, and owes no boundary
+pub ran_within : (k : ℕ) (from new : Held) → RunsTo k from new → RunsWithin k from new
+ran_within k from new runs = record { runs = λ m s. let u = runs.runs m s in (u.0, u.1.reached, u.2) }
+
+pub ran_whole : (k : ℕ) (new : Held) → held_goes_on k new ≡ false → new.kept.state.owed ≡ None
+ran_whole k new over = by new.kept.state.owed (nat_lt new.kept.state.time k && not (is_over new.kept.state)) over
+  where
+    by : (o : Option Turn) (b : Bool) → (is_some o || b) ≡ false → o ≡ None
+    by None b is = refl
+    by (Some turn) b is = absurd (cc)
+
+-- of what comes before the first turn that is told
+module _ (v : View) (n : ℕ) (from new : Held) (a : Option (List ℕ)) (unowed : from.kept.state.owed ≡ None) (runs : RunsWithin (untold_until v n) from new) (owes : new.kept.state.owed ≡ None) (none : new.own.spent ≡ 0) where
+  pub first_told : (text : List ℕ) (b : Looked) → text ≡ [] → b ≡ looked_held false new → TellsSo v n from new a a text b
+  first_told text b empty looks = subst (λ (l : List ℕ). TellsSo v n from new a a l b) (sym empty)
+      (record { tells = λ m k. told_first v (untold_until v n) n m from new a b (until_within v n) (until_silent v n) k runs unowed owes none looks })
+
+  -- where a fault cuts that short
+  pub cut_early : (f : Fault) (text : List ℕ) → text ≡ [] → IsNewFault f → TellsAll (Some f) v n from new a a text
+  cut_early f text empty is = record { before = looked_held false new; tells = first_told text (looked_held false new) empty refl; stopped = new_is f is; spent = none }
+
+pub end_told : (v : View) (n : ℕ) (from h : Held) (a d : Option (List ℕ)) (text : List ℕ) (b : Looked) → TellsSo v n from h a d text b → b.owed ≡ is_some h.kept.state.owed → (b.owed || nat_lt h.kept.state.time n) ≡ false → (0 < h.own.spent → h.kept.state.time < n) → TellsAll None v n from h a d text
+end_told v n from h a d text b tells owed test begun = record {
   before = b;
   tells = tells;
   stopped = over_by h.kept.state.owed h.kept.state.time n b.owed (not (is_over h.kept.state)) owed test;
-  user = user (none_begun h.kept.state.owed h.kept.state.time n h.own.spent b.owed owed test begun);
+  spent = none_begun h.kept.state.owed h.kept.state.time n h.own.spent b.owed owed test begun;
 }
 
-pub handed_told : (n : ℕ) (from h : Held) (a d e : Option (List ℕ)) (text rest : List ℕ) (b : Before) → IsHandedOn d e text rest → TellsSo n from h a d text b → TellsSo n from h a e rest b
-handed_told n from h a d e text rest b handed tells = record { tells = λ m k. told_handed n m h a d e text rest b handed (tells.tells m k) }
+pub handed_told : (v : View) (n : ℕ) (from h : Held) (a d e : Option (List ℕ)) (text rest : List ℕ) (b : Looked) → IsHandedOn d e text rest → TellsSo v n from h a d text b → TellsSo v n from h a e rest b
+handed_told v n from h a d e text rest b handed tells = record { tells = λ m k. told_handed v n m h a d e text rest b handed (tells.tells m k) }
 
 -- a write that failed, or memory that ran out, leaves a prefix
-pub cut_part : (n : ℕ) (from h : Held) (a d e : Option (List ℕ)) (text : List ℕ) (b : Before) → TellsSo n from h a d text b → AppendsPart d e text → TracesPart n from a e
-cut_part n from h a d e text b tells part = record { traces = λ m k. told_part n m h a d e text b (tells.tells m k) part }
+pub cut_part : (v : View) (n : ℕ) (from h : Held) (a d e : Option (List ℕ)) (text : List ℕ) (b : Looked) → TellsSo v n from h a d text b → AppendsPart d e text → TracesPart v n from a e
+cut_part v n from h a d e text b tells part = record { traces = λ m k. told_part v n m h a d e text b (tells.tells m k) part }
 
-pub finished_traces : (n : ℕ) (from h : Held) (a d e : Option (List ℕ)) (text : List ℕ) → TellsAll None n from h a d text → IsFinished d e text h → Traces n from a e
-finished_traces n from h a d e text told done = record { traces = λ m k. finished n m h a d e text told.before (told.tells.tells m k) told.user told.stopped done }
+pub finished_traces : (v : View) (n : ℕ) (from h : Held) (a d e : Option (List ℕ)) (text : List ℕ) → TellsAll None v n from h a d text → IsFinished d e text h → Traces v n from a e
+finished_traces v n from h a d e text told done = record { traces = λ m k. finished v n m h a d e text told.before (told.tells.tells m k) told.spent told.stopped done }
 
-pub cut_traces : (cut : Option Fault) (n : ℕ) (from h : Held) (a d e : Option (List ℕ)) (text : List ℕ) → TellsAll cut n from h a d text → AppendsPart d e (text ++ end_held h ++ held_text h) → TracesPart n from a e
-cut_traces cut n from h a d e text told part = record { traces = λ m k. finished_part n m h a d e text told.before (told.tells.tells m k) told.user part }
+pub cut_traces : (cut : Option Fault) (v : View) (n : ℕ) (from h : Held) (a d e : Option (List ℕ)) (text : List ℕ) → TellsAll cut v n from h a d text → AppendsPart d e (text ++ end_held h ++ held_text h) → TracesPart v n from a e
+cut_traces cut v n from h a d e text told part = record { traces = λ m k. finished_part v n m h a d e text told.before (told.tells.tells m k) told.spent part }
 
 -- all of it is a prefix too
 pub all_part : (d e : Option (List ℕ)) (text : List ℕ) (h : Held) → IsFinished d e text h → AppendsPart d e (text ++ end_held h ++ held_text h)
@@ -206,20 +237,16 @@ all_part d e text h done = record {
 pub part_none : (a : Option (List ℕ)) (text : List ℕ) → AppendsPart a a text
 part_none a text = record { part = []; rest = text; whole = refl; appends = appends_none a }
 
+-- so where nothing was done, a prefix is written
+pub nothing_part : (v : View) (n : ℕ) (from : Held) (a : Option (List ℕ)) → TracesPart v n from a a
+unfolding after
+nothing_part v n from a = record { traces = λ m k. record { last = m; reached = record { choices = []; early = false; comes_to = refl }; written = part_none a (told_to v n m m (record { choices = []; early = false; comes_to = refl }) ++ text_of m) } }
+
 -- a fault by which a run was cut short
 pub late_cut : (f : Fault) (n : ℕ) (h : Held) → IsStopped (Some f) n h → IsLate f
 late_cut f n h is = subst IsLate (sym is) tt
 
 -- What is written at the end.
-
--- the line of a process more
-pub process_more : (h : Held) (p count : ℕ) (line new : List ℕ) (s : Standing) (pc : ℕ) (whole : List ℕ) → p < count + 1 → line ++ processes_held h p (count + 1 - p) ≡ whole → new ≡ line ++ process_text p s pc
-    → s ≡ (process_of h.kept.state p).standing → pc ≡ address_held h p → new ++ processes_held h (p + 1) (count + 1 - (p + 1)) ≡ whole
-process_more h p count line new s pc whole within before adds is at =
-    let left : count + 1 - p ≡ suc (count + 1 - (p + 1)) = omega (arith, within) in
-    ap (λ (l : List ℕ). l ++ processes_held h (p + 1) (count + 1 - (p + 1))) (adds ∙ (ap (λ (x : Standing). line ++ process_text p x pc) is ∙ ap (λ (y : ℕ). line ++ process_text p (process_of h.kept.state p).standing y) at))
-    ∙ (append_assoc line (process_text p (process_of h.kept.state p).standing (address_held h p)) (processes_held h (p + 1) (count + 1 - (p + 1)))
-    ∙ (sym (ap (λ (n : ℕ). line ++ processes_held h p n) left) ∙ before))
 
 -- a prefix of the trace
 pub cut_trace : (a d : Option (List ℕ)) (text end more rest : List ℕ) → more ≡ text ++ end → AppendsPart a d more → AppendsPart a d (text ++ end ++ rest)

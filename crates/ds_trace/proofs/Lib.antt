@@ -1,5 +1,10 @@
+pub mod Results
+pub mod Due
+pub mod Processes
 pub mod Touched
-pub mod Boundaries
+pub mod LeftAlone
+pub mod Idling
+pub mod Silence
 pub mod Standing
 pub mod Telling
 pub mod Following

@@ -1,60 +1,40 @@
 -- What a trace shows of a station, it shows of each machine state that the station stands for.
-use Rattle.std.proofs.Common.{◌≡◌, ◌≢◌, ℕ, suc, ◌+◌, ◌-◌, ◌<◌, ◌^◌, Bool, true, false, cond, List, [], ◌∷◌, ◌++◌, length, Option, Some, None, refl, sym, ap, subst, ◌∙◌, inl, inr, arith, set, get_or}
-use Rattle.std.specs.Prelude.{◌==◌, is_some, drop, IsSome}
+use Rattle.std.proofs.Common.{◌≡◌, ℕ, suc, ◌+◌, ◌-◌, ◌<◌, ◌^◌, Bool, true, false, cond, List, [], ◌∷◌, ◌++◌, length, Option, Some, None, refl, sym, ap, subst, ◌∙◌, arith, set, get_or}
+use Rattle.std.specs.Prelude.{◌==◌, is_some, map}
 use Rattle.std.proofs.lemmas.List.{length-map, length-set}
 use Rattle.std.proofs.lemmas.Bool.Decides.{nat_tests}
-use Rattle.ds_word.specs.Word.{word}
+use Rattle.ds_word.specs.Word.{word, bits}
 use Rattle.ds_isa.specs.Registers.{Registers}
 use Rattle.ds_policy.specs.Grants.{PageState}
 use Rattle.ds_cp0.specs.System.{is_user}
 use Rattle.ds_core.specs.Core.{CoreState}
-use Rattle.ds_pagemap.specs.declared.turn.Turn.{Turn}
 use Rattle.ds_procs.specs.declared.process.Standing.{Standing}
-use Rattle.ds_pagemap.specs.Machine.{State, Process, no_process, process_of, with_process, first}
+use Rattle.ds_pagemap.specs.Machine.{State, Process, no_process, process_of, first}
 use Rattle.ds_pagemap.specs.Boundary.{is_first}
-use Rattle.ds_pagemap.proofs.Processes.{process_of-with_process_other}
 use Rattle.ds_pagemap_laws.specs.Settled.{settled_process}
-use Rattle.ds_pagemap_laws.proofs.Processes.{of_settled}
-use Rattle.ds_refinement.specs.Held.{Held, Kept, bare, vacated}
-use Rattle.ds_refinement.specs.Units.{is_general, has_left_user}
-use Rattle.ds_refinement.specs.Stands.{Stands, RunningIs, RunningBy, OnProcessor}
-use Rattle.ds_refinement.proofs.Boundaries.{kernel_owes}
+use Rattle.ds_refinement.specs.Held.{Held, Kept, Own, bare, vacated, last_boundary}
+use Rattle.ds_refinement.specs.Stands.{Stands, CountedBy, RunningIs, RunningBy, OnProcessor}
+use Rattle.ds_refinement.proofs.Boundaries.{beside}
+use Rattle.ds_refinement.proofs.Tallied.{unbegun_of}
 use Rattle.ds_station.specs.Reads.{address_held, general_held, memory_held, unit_on}
-use Rattle.ds_station.proofs.Headlines.{time_stands}
+use Rattle.ds_station.proofs.Headlines.{time_stands, owed_stands}
+use Rattle.ds_station.proofs.Showing.{first_is, seated_by}
+use Rattle.ds_view.specs.declared.view.View.{View}
+use Rattle.ds_view.specs.Views.{shows_turn}
 use Rattle.ds_trace.specs.declared.start.Start.{Start}
-use Rattle.ds_trace.specs.declared.start.Before.{Before}
-use Rattle.ds_trace.specs.Starts.{start_at, start_of, next_start}
-use Rattle.ds_trace.specs.Lines.{told_text, switch_text, unit_text, was_done, denied_text, log_of, general_of, before_of, half_after}
+use Rattle.ds_trace.specs.Starts.{start_at, start_of, general_of}
+use Rattle.ds_trace.specs.Looks.{Looked, Found}
+use Rattle.ds_trace.specs.Boundaries.{due_by}
+use Rattle.ds_trace.specs.Changes.{changes_text}
+use Rattle.ds_trace.specs.Halves.{log_of, looked_of, found_of, next_boundary, process_in, done_text, half_after}
 use Rattle.ds_trace.specs.Ends.{process_text, processes_text, end_text}
-use Rattle.ds_trace.specs.Shows.{start_held, before_held, half_held, processes_held, end_held}
+use Rattle.ds_trace.specs.Shows.{start_held, looked_held, found_held, half_held, processes_held, end_held}
 
 -- Processes in their seats.
-
-other_first : (q p : ℕ) (rest : List ℕ) → is_first (first (q ∷ rest)) p ≡ false → p ≢ q
-other_first q p rest not e = grind (arith, nat_tests)
-
--- a process that does not run is kept, with its late load finished
-seated_by : (queue : List ℕ) (c : CoreState) (k : Kept) (m : State) (p : ℕ) → RunningBy queue c k m → bare (vacated queue m) ≡ vacated queue k.state → 0 < p → is_first (first queue) p ≡ false
-    → settled_process (process_of m p) ≡ process_of k.state p
-seated_by [] c k m p running e some other = sym (of_settled m p) ∙ ap (λ (s : State). process_of s p) e
-seated_by (q ∷ rest) c k m p running e some other =
-    let not : p ≢ q = other_first q p rest other in
-    ap settled_process (sym (process_of-with_process_other m q p no_process running.seat.0 some not))
-    ∙ (sym (of_settled (with_process m q no_process) p)
-    ∙ (ap (λ (s : State). process_of s p) e
-    ∙ process_of-with_process_other k.state q p no_process running.seat.0 some not))
-
-first_is : (queue : List ℕ) (p : ℕ) → is_first (first queue) p ≡ true → (rest : List ℕ) × (queue ≡ p ∷ rest)
-first_is [] p is = absurd (cc)
-first_is (q ∷ rest) p is = (rest, let same : q ≡ p = grind (arith, nat_tests) in ap (λ (x : ℕ). x ∷ rest) same)
 
 -- the address of a branch, by that of its slot
 four_back : (x : ℕ) → x < 2 ^ 32 → word (word (x + 4) + 0xFFFFFFFC) ≡ x
 four_back x small = omega (arith, small)
-
-no_turn : (o : Option Turn) → IsSome o → o ≡ None → ⊥
-no_turn None some none = absurd (cc)
-no_turn (Some turn) some none = absurd (cc)
 
 equal_itself : (p : ℕ) → (p == p) ≡ true
 equal_itself p = grind (arith, nat_tests)
@@ -68,23 +48,81 @@ as_many (p ∷ rest) m k e =
     ∙ (ap (λ (s : State). length s.processes) e
     ∙ length-set k.processes (p - 1) no_process))
 
+-- where nothing of a unit is counted, the processor is in user mode
+user_by : (queue : List ℕ) (c : CoreState) (own : Own) (k : Kept) (m : State) → CountedBy queue c own k m → RunningBy queue c k m → own.spent ≡ 0 → is_user c.system ≡ true
+user_by [] c own k m counted runs none = ap (λ (w : ℕ). bits w 1 1 == 1) runs
+user_by (p ∷ rest) c own k m counted runs none = (counted.1 none).mode
+
+-- how each of two lists stands, one by one
+standings_alike : (xs ys : List Process) → length xs ≡ length ys → ((i : ℕ) → (get_or xs i no_process).standing ≡ (get_or ys i no_process).standing) → map (λ (q : Process). q.standing) xs ≡ map (λ (q : Process). q.standing) ys
+standings_alike [] [] long same = refl
+standings_alike [] (y ∷ ys) long same = absurd (cc)
+standings_alike (x ∷ xs) [] long same = absurd (cc)
+standings_alike (x ∷ xs) (y ∷ ys) long same =
+    let shorter : length xs ≡ length ys = omega (arith, long) in
+    ap (λ (s : Standing). s ∷ map (λ (q : Process). q.standing) xs) (same 0)
+    ∙ ap (λ (ss : List Standing). y.standing ∷ ss) (standings_alike xs ys shorter (λ i. same (suc i)))
+
 -- the lines of processes that a station shows as they are
 processes_stand : (h : Held) (xs : List Process) (p : ℕ)
-    → ((j i : ℕ) → j ≡ p + i → i < length xs → ((process_of h.kept.state j).standing ≡ (get_or xs i no_process).standing) × (address_held h j ≡ (get_or xs i no_process).pc))
+    → ((j i : ℕ) → j ≡ p + i → ((process_of h.kept.state j).standing ≡ (get_or xs i no_process).standing) × (address_held h j ≡ (get_or xs i no_process).pc) × (general_held h j ≡ (get_or xs i no_process).registers.general))
     → processes_held h p (length xs) ≡ processes_text p xs
 processes_stand h [] p same = refl
 processes_stand h (x ∷ xs) p same =
-    let here = same p 0 (omega arith) (omega arith) in
-    ap (λ (s : Standing). process_text p s (address_held h p) ++ processes_held h (p + 1) (length xs)) here.0
-    ∙ (ap (λ (pc : ℕ). process_text p x.standing pc ++ processes_held h (p + 1) (length xs)) here.1
-    ∙ ap (λ (l : List ℕ). process_text p x.standing x.pc ++ l) (processes_stand h xs (p + 1) (λ j i is within. same j (suc i) (omega (arith, is)) (omega (arith, within)))))
+    let here = same p 0 (omega arith) in
+    ap (λ (s : Standing). process_text p s (address_held h p) (general_held h p) ++ processes_held h (p + 1) (length xs)) here.0
+    ∙ (ap (λ (pc : ℕ). process_text p x.standing pc (general_held h p) ++ processes_held h (p + 1) (length xs)) here.1
+    ∙ (ap (λ (general : List ℕ). process_text p x.standing x.pc general ++ processes_held h (p + 1) (length xs)) here.2
+    ∙ ap (λ (l : List ℕ). process_text p x.standing x.pc x.registers.general ++ l) (processes_stand h xs (p + 1) (λ j i is. same j (suc i) (omega (arith, is))))))
+
+-- what is looked at of a state, with this unit, log and standings
+abbrev looked_by : State → Option Start → ℕ → List Standing → Looked
+looked_by s start logged standings = record {
+  owed = is_some s.owed;
+  began = last_boundary s;
+  start = cond (is_some s.owed) None start;
+  logged = logged;
+  runner = first s.ready;
+  due = due_by (next_boundary s) s.commands;
+  characters = length s.characters;
+  queued = map length s.queues;
+  standings = standings;
+}
+
+-- what is found of it
+abbrev found_by : State → List ℕ → List ℕ → PageState → List Standing → Found
+found_by s log general memory standings = record {
+  time = s.time;
+  owed = is_some s.owed;
+  runner = first s.ready;
+  log = log;
+  general = general;
+  memory = memory;
+  characters = length s.characters;
+  queues = s.queues;
+  standings = standings;
+}
+
+-- the lines of a half turn, by its unit
+abbrev half_by : View → Looked → Found → Option Start → List ℕ
+half_by v b f o = cond (shows_turn v b.began) (done_text v b f o ++ changes_text v b f) []
 
 module _ (h : Held) (m : State) (k : Stands h m) where
+  -- all but the processes, the pages and the log
+  state_stands : record (bare m) { processes = [] } ≡ record h.kept.state { processes = [] }
+  state_stands = beside h.kept.state.ready m h.kept.state k.agrees.kept.state
+
   ready_stands : m.ready ≡ h.kept.state.ready
   ready_stands = k.agrees.kept.ready
 
   memory_stands : m.memory ≡ memory_held h
   memory_stands = k.agrees.kept.pages
+
+  log_stands : log_of m ≡ h.kept.log
+  log_stands = k.agrees.kept.log
+
+  user_stands : h.own.spent ≡ 0 → is_user h.core.system ≡ true
+  user_stands none = user_by h.kept.state.ready h.core h.own h.kept m k.counted k.agrees.running none
 
   -- in its seat
   seated : (p : ℕ) → 0 < p → is_first (first h.kept.state.ready) p ≡ false → settled_process (process_of m p) ≡ process_of h.kept.state p
@@ -104,24 +142,16 @@ module _ (h : Held) (m : State) (k : Stands h m) where
   address_by true p is some user = address_on (is_user h.core.system) h.core.slot h.core p user (running p is).on
   address_by false p is some user = ap (λ (q : Process). q.pc) (sym (seated p some is))
 
-  address_stands : (p : ℕ) → 0 < p → is_user h.core.system ≡ true → address_held h p ≡ (process_of m p).pc
-  address_stands p some user = address_by (is_first (first h.kept.state.ready) p) p refl some user
+  address_stands : (p : ℕ) → 0 < p → h.own.spent ≡ 0 → address_held h p ≡ (process_of m p).pc
+  address_stands p some none = address_by (is_first (first h.kept.state.ready) p) p refl some (user_stands none)
 
-  -- where a boundary is owed, the processor has the registers of the process at the beginning of its unit
-  general_on : (user slot : Bool) (c : CoreState) (p : ℕ) → IsSome m.owed → OnProcessor user slot c h.kept p m → c.registers.general ≡ (process_of m p).registers.general
-  general_on false slot c p owes on = absurd (no_turn m.owed owes (kernel_owes (is_general c) (has_left_user c) c h.kept p m on))
-  general_on true true c p owes on = absurd (no_turn m.owed owes on.owed)
-  general_on true false c p owes on = elim on.registers [
-    | inl same ↦ ap (λ (r : Registers). r.general) same
-    | inr again ↦ absurd (no_turn m.owed owes again.0)
-  ]
+  -- where nothing of a unit is counted, the station shows each process's registers
+  general_by : (b : Bool) (p : ℕ) → is_first (first h.kept.state.ready) p ≡ b → 0 < p → h.own.spent ≡ 0 → cond b h.core.registers.general (process_of h.kept.state p).registers.general ≡ general_of m p
+  general_by true p is some none = let ready = first_is h.kept.state.ready p is in ap (λ (r : Registers). r.general) (unbegun_of h m p ready.0 k ready.1 none).registers
+  general_by false p is some none = ap (λ (q : Process). q.registers.general) (sym (seated p some is))
 
-  general_by : (b : Bool) (p : ℕ) → is_first (first h.kept.state.ready) p ≡ b → 0 < p → IsSome m.owed → cond b h.core.registers.general (process_of h.kept.state p).registers.general ≡ general_of m p
-  general_by true p is some owes = general_on (is_user h.core.system) h.core.slot h.core p owes (running p is).on
-  general_by false p is some owes = ap (λ (q : Process). q.registers.general) (sym (seated p some is))
-
-  pub general_stands : (p : ℕ) → 0 < p → IsSome m.owed → general_held h p ≡ general_of m p
-  general_stands p some owes = general_by (is_first (first h.kept.state.ready) p) p refl some owes
+  pub general_stands : (p : ℕ) → 0 < p → h.own.spent ≡ 0 → general_held h p ≡ general_of m p
+  general_stands p some none = general_by (is_first (first h.kept.state.ready) p) p refl some none
 
   standing_by : (b : Bool) (p : ℕ) → is_first (first h.kept.state.ready) p ≡ b → 0 < p → (process_of h.kept.state p).standing ≡ (process_of m p).standing
   standing_by true p is some = let r = running p is in r.kept ∙ sym r.standing
@@ -130,46 +160,67 @@ module _ (h : Held) (m : State) (k : Stands h m) where
   standing_stands : (p : ℕ) → 0 < p → (process_of h.kept.state p).standing ≡ (process_of m p).standing
   standing_stands p some = standing_by (is_first (first h.kept.state.ready) p) p refl some
 
+  standings_stand : map (λ (q : Process). q.standing) h.kept.state.processes ≡ map (λ (q : Process). q.standing) m.processes
+  standings_stand = standings_alike h.kept.state.processes m.processes (sym (as_many h.kept.state.ready m h.kept.state k.agrees.kept.state)) (λ i.
+      let back : i + 1 - 1 ≡ i = omega arith in
+      let some : 0 < i + 1 = omega arith in
+      sym (ap (λ (j : ℕ). (get_or h.kept.state.processes j no_process).standing) back)
+      ∙ (standing_stands (i + 1) some ∙ ap (λ (j : ℕ). (get_or m.processes j no_process).standing) back))
+
   -- Before a half turn.
 
   -- who runs has a number
   pub some_first : (p : ℕ) → first h.kept.state.ready ≡ Some p → 0 < p
   some_first p is = (running p (ap (λ (o : Option ℕ). is_first o p) is ∙ equal_itself p)).seat.0
 
-  start_by : (o : Option ℕ) → first h.kept.state.ready ≡ o → is_user h.core.system ≡ true → start_held h o ≡ start_of m o
-  start_by None is user = refl
-  start_by (Some p) is user =
-      ap (λ (s : PageState). Some (start_at s h.kept.state.time p (address_held h p))) (sym memory_stands)
-      ∙ (ap (λ (t : ℕ). Some (start_at m.memory t p (address_held h p))) (sym (time_stands h m k))
-      ∙ ap (λ (pc : ℕ). Some (start_at m.memory m.time p pc)) (address_stands p (some_first p is) user))
+  start_by : (o : Option ℕ) → first h.kept.state.ready ≡ o → h.own.spent ≡ 0 → start_held h o ≡ start_of m o
+  start_by None is none = refl
+  start_by (Some p) is none =
+      ap (λ (s : PageState). Some (start_at s (general_held h p) h.kept.state.time p (address_held h p))) (sym memory_stands)
+      ∙ (ap (λ (general : List ℕ). Some (start_at m.memory general h.kept.state.time p (address_held h p))) (general_stands p (some_first p is) none)
+      ∙ (ap (λ (t : ℕ). Some (start_at m.memory (general_of m p) t p (address_held h p))) (sym (time_stands h m k))
+      ∙ ap (λ (pc : ℕ). Some (start_at m.memory (general_of m p) m.time p pc)) (address_stands p (some_first p is) none)))
 
-  pub before_stands : (owed : Bool) → owed ≡ is_some m.owed → is_user h.core.system ≡ true → before_held owed h ≡ before_of m
-  before_stands owed is user =
-      ap (λ (b : Bool). before_held b h) is
-      ∙ (ap (λ (s : Option Start). record { owed = is_some m.owed; start = cond (is_some m.owed) None s; logged = length h.kept.log; runner = first h.kept.state.ready }) (start_by (first h.kept.state.ready) refl user)
-      ∙ (ap (λ (ready : List ℕ). record { owed = is_some m.owed; start = cond (is_some m.owed) None (start_of m (first ready)); logged = length h.kept.log; runner = first ready }) (sym ready_stands)
-      ∙ ap (λ (log : List ℕ). record { owed = is_some m.owed; start = next_start m; logged = length log; runner = first m.ready }) (sym k.agrees.kept.log)))
+  pub looked_stands : (owed : Bool) → owed ≡ is_some m.owed → h.own.spent ≡ 0 → looked_held owed h ≡ looked_of m
+  looked_stands owed is none =
+      let s : Option Start = start_held h (first h.kept.state.ready) in
+      let standings : List Standing = map (λ (q : Process). q.standing) h.kept.state.processes in
+      ap (λ (b : Bool). looked_held b h) (is ∙ ap is_some (owed_stands h m k))
+      ∙ (ap (λ (x : State). looked_by x s (length h.kept.log) standings) (sym state_stands)
+      ∙ (ap (λ (o : Option Start). looked_by m o (length h.kept.log) standings)
+      (start_by (first h.kept.state.ready) refl none ∙ ap (λ (ready : List ℕ). start_of m (first ready)) (sym ready_stands))
+      ∙ (ap (λ (log : List ℕ). looked_by m (start_of m (first m.ready)) (length log) standings) (sym log_stands)
+      ∙ ap (λ (ss : List Standing). looked_by m (start_of m (first m.ready)) (length (log_of m)) ss) standings_stand)))
 
   -- After it.
 
-  told_by : (o : Option Start) (logged : List ℕ) → ((s : Start) → o ≡ Some s → general_held h s.process ≡ general_of m s.process) → told_text o logged (general_held h) ≡ told_text o logged (general_of m)
-  told_by None logged same = refl
-  told_by (Some s) logged same = ap (λ (general : List ℕ). unit_text s (was_done s logged) general ++ denied_text logged) (same s refl)
+  -- with the same registers
+  found_alike : (general : List ℕ) → record (found_held 0 h) { general = general } ≡ record (found_of 0 m) { general = general }
+  found_alike general =
+      let standings : List Standing = map (λ (q : Process). q.standing) h.kept.state.processes in
+      ap (λ (x : State). found_by x h.kept.log general (memory_held h) standings) (sym state_stands)
+      ∙ (ap (λ (log : List ℕ). found_by m log general (memory_held h) standings) (sym log_stands)
+      ∙ (ap (λ (s : PageState). found_by m (log_of m) general s standings) (sym memory_stands)
+      ∙ ap (λ (ss : List Standing). found_by m (log_of m) general m.memory ss) standings_stand))
 
-  pub half_stands : (x : Before) → ((s : Start) → x.start ≡ Some s → general_held h s.process ≡ general_of m s.process) → half_held x h ≡ half_after x m
-  half_stands x same =
-      ap (λ (log : List ℕ). told_text x.start (drop x.logged log) (general_held h) ++ switch_text h.kept.state.time x.runner (first h.kept.state.ready)) (sym k.agrees.kept.log)
-      ∙ (ap (λ (l : List ℕ). l ++ switch_text h.kept.state.time x.runner (first h.kept.state.ready)) (told_by x.start (drop x.logged (log_of m)) same)
-      ∙ (ap (λ (t : ℕ). told_text x.start (drop x.logged (log_of m)) (general_of m) ++ switch_text t x.runner (first h.kept.state.ready)) (sym (time_stands h m k))
-      ∙ ap (λ (ready : List ℕ). told_text x.start (drop x.logged (log_of m)) (general_of m) ++ switch_text m.time x.runner (first ready)) (sym ready_stands)))
+  -- a boundary tells of no registers
+  half_stands_by : (v : View) (b : Looked) (o : Option Start) → ((s : Start) → o ≡ Some s → general_held h s.process ≡ general_of m s.process)
+      → half_by v b (found_held (process_in o) h) o ≡ half_by v b (found_of (process_in o) m) o
+  half_stands_by v b None same = ap (λ (f : Found). half_by v b f None) (found_alike [])
+  half_stands_by v b (Some s) same =
+      ap (λ (f : Found). half_by v b f (Some s)) (found_alike (general_held h s.process))
+      ∙ ap (λ (general : List ℕ). half_by v b (record (found_of 0 m) { general = general }) (Some s)) (same s refl)
+
+  pub half_stands : (v : View) (b : Looked) → ((s : Start) → b.start ≡ Some s → general_held h s.process ≡ general_of m s.process) → half_held v b h ≡ half_after v b (found_of (process_in b.start) m)
+  half_stands v b same = half_stands_by v b b.start same
 
   -- The end.
 
-  pub end_stands : is_user h.core.system ≡ true → end_held h ≡ end_text m
-  end_stands user =
+  pub end_stands : h.own.spent ≡ 0 → end_held h ≡ end_text m
+  end_stands none =
       ap (λ (n : ℕ). processes_held h 1 n) (sym (as_many h.kept.state.ready m h.kept.state k.agrees.kept.state))
-      ∙ processes_stand h m.processes 1 (λ j i is within.
+      ∙ processes_stand h m.processes 1 (λ j i is.
       let back : j - 1 ≡ i = omega (arith, is) in
       let some : 0 < j = omega (arith, is) in
       let at : process_of m j ≡ get_or m.processes i no_process = ap (λ (x : ℕ). get_or m.processes x no_process) back in
-      (standing_stands j some ∙ ap (λ (q : Process). q.standing) at, address_stands j some user ∙ ap (λ (q : Process). q.pc) at))
+      (standing_stands j some ∙ ap (λ (q : Process). q.standing) at, address_stands j some none ∙ ap (λ (q : Process). q.pc) at, general_stands j some none ∙ ap (λ (q : Process). q.registers.general) at))

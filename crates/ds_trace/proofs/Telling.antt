@@ -1,17 +1,13 @@
 -- What is written of a run, step by step.
-use Rattle.std.proofs.Common.{◌≡◌, ℕ, ◌+◌, ◌<◌, Bool, true, false, cond, List, [], ◌∷◌, ◌++◌, length, Option, Some, None, refl, sym, ap, subst, ◌∙◌, inl, inr, arith, append_assoc}
+use Rattle.std.proofs.Common.{◌≡◌, ℕ, ◌<◌, ◌≤◌, Bool, true, false, cond, List, [], ◌∷◌, ◌++◌, Option, Some, None, refl, sym, ap, subst, ◌∙◌, inl, inr, arith, append_assoc}
 use Rattle.std.proofs.lemmas.Bool.Decides.{nat_tests}
-use Rattle.std.specs.Prelude.{◌||◌, ◌&&◌, not, nat_lt, is_some, drop}
-use Rattle.std.proofs.Math.Seq.{drop-length}
+use Rattle.std.specs.Prelude.{◌||◌, ◌&&◌, not, nat_lt, is_some}
 use Rattle.std.proofs.lemmas.List.{append-nil}
 use Rattle.std.specs.Io.KnownBytes.{Appends}
 use Rattle.ds_log.specs.Sent.{AppendsPart}
 use Rattle.ds_log.proofs.Sends.{appends_none, appends_both, part_behind, part_before}
-use Rattle.ds_cp0.specs.System.{is_user}
 use Rattle.ds_pagemap.specs.declared.turn.Turn.{Turn}
-use Rattle.ds_pagemap.specs.Machine.{State, first, touched, touch_first}
-use Rattle.ds_pagemap.specs.Unit.{unit, unit_of_first}
-use Rattle.ds_pagemap.specs.Boundary.{boundary}
+use Rattle.ds_pagemap.specs.Machine.{State, first, touched}
 use Rattle.ds_pagemap.specs.Run.{half_turn, goes_on, is_over, after, Reaches}
 use Rattle.ds_pagemap.specs.Text.{text_of}
 use Rattle.ds_pagemap.proofs.Runs.{half_after_touch, touched_or}
@@ -22,51 +18,63 @@ use Rattle.ds_refinement.specs.declared.step.Step.TheVariants.{Inside, Unit, Bou
 use Rattle.ds_refinement.specs.Held.{Held}
 use Rattle.ds_refinement.specs.Stands.{Stands}
 use Rattle.ds_refinement.specs.Steps.{Follows, Moves, HalfTo, Stays}
-use Rattle.ds_refinement.specs.Runs.{held_goes_on}
+use Rattle.ds_refinement.specs.Runs.{RunsWithin, held_goes_on}
 use Rattle.ds_refinement.proofs.RunSteps.{goes_alike, begins_goes}
-use Rattle.ds_station.specs.Reads.{general_held}
 use Rattle.ds_station.specs.Headline.{held_text}
+use Rattle.ds_station.specs.Reads.{general_held}
 use Rattle.ds_station.proofs.Headlines.{owed_stands, time_stands, text_alike}
+use Rattle.ds_view.specs.declared.view.View.{View}
 use Rattle.ds_trace.specs.declared.start.Start.{Start}
-use Rattle.ds_trace.specs.declared.start.Before.{Before}
-use Rattle.ds_trace.specs.Starts.{start_of, next_start}
-use Rattle.ds_trace.specs.Lines.{told_text, switch_text, log_of, general_of, before_of, half_after, half_text}
+use Rattle.ds_trace.specs.Starts.{general_of, start_of, next_start}
+use Rattle.ds_trace.specs.Looks.{Looked}
+use Rattle.ds_trace.specs.Halves.{looked_of, found_of, process_in, half_after, half_text}
 use Rattle.ds_trace.specs.Ends.{end_text}
 use Rattle.ds_trace.specs.Traces.{trace_along, told_to, WritesTrace, WritesTracePart}
 use Rattle.ds_trace.specs.Handed.{IsFinished, IsHandedOn}
-use Rattle.ds_trace.specs.Shows.{before_held, half_held, end_held, IsTold}
+use Rattle.ds_trace.specs.Shows.{looked_held, half_held, end_held, IsTold}
 use Rattle.ds_trace.specs.Advanced.{is_last}
-use Rattle.ds_trace.proofs.Touched.{before_touched, half_touched, touched_ready}
-use Rattle.ds_trace.proofs.Standing.{before_stands, half_stands, general_stands, some_first, end_stands}
+use Rattle.ds_trace.proofs.Touched.{looked_touched, half_touched, touched_ready}
+use Rattle.ds_trace.proofs.Idling.{idle_after, idle_turn, idle_looked, idle_text, idle_boundary}
+use Rattle.ds_trace.proofs.Silence.{IsSilent, IsUntold, untold}
+use Rattle.ds_trace.proofs.Standing.{looked_stands, half_stands, general_stands, some_first, end_stands}
 
 -- A half turn more.
 
-along_more : (n : ℕ) (d : Bool) (cs : List Bool) (m : State) → goes_on n (after n cs m) ≡ true → trace_along n (d ∷ cs) m ≡ trace_along n cs m ++ half_text (after n cs m) (half_turn d (after n cs m))
+along_more : (v : View) (n : ℕ) (d : Bool) (cs : List Bool) (m : State) → goes_on n (after n cs m) ≡ true → trace_along v n (d ∷ cs) m ≡ trace_along v n cs m ++ half_text v (after n cs m) (half_turn d (after n cs m))
 unfolding trace_along
-along_more n d cs m on = ap (λ (b : Bool). trace_along n cs m ++ cond b (half_text (after n cs m) (half_turn d (after n cs m))) []) on
+along_more v n d cs m on = ap (λ (b : Bool). trace_along v n cs m ++ cond b (half_text v (after n cs m) (half_turn d (after n cs m))) []) on
 
 after_more : (n : ℕ) (d : Bool) (cs : List Bool) (m : State) → goes_on n (after n cs m) ≡ true → after n (d ∷ cs) m ≡ half_turn d (after n cs m)
 unfolding after
 after_more n d cs m on = ap (λ (b : Bool). cond b (half_turn d (after n cs m)) (after n cs m)) on
 
--- At the beginning nothing is written, and nothing is to be written.
+-- Of the way to the first turn that is told nothing is written, and nothing is to be written.
 
-pub told_first : (n : ℕ) (m : State) (h : Held) (a : Option (List ℕ)) (b : Before) → Stands h m → h.kept.state.owed ≡ None → is_user h.core.system ≡ true → b ≡ before_held false h → IsTold n m h a a [] b
-unfolding after trace_along
-told_first n m h a b k unowed user is = record {
-  choices = [];
-  early = false;
-  stands = k;
-  looked = is ∙ before_stands h m k false (sym (ap is_some (owed_stands h m k ∙ unowed))) user;
-  sent = [];
-  appends = appends_none a;
-  told = refl;
-}
+module _ (v : View) (k n : ℕ) (m : State) (h new : Held) (a : Option (List ℕ)) (b : Looked) (within : k ≤ n) (silent : IsSilent v k) where
+  untold_from : (x : State) (early : Bool) → IsUntold v n m x → Stands new (touched early x) → b ≡ looked_of x → IsTold v n m new a a [] b
+  untold_from x early u stands is = record {
+    choices = u.choices;
+    early = early;
+    stands = subst (λ (y : State). Stands new (touched early y)) (sym u.comes) stands;
+    looked = is ∙ sym (ap looked_of u.comes);
+    sent = [];
+    appends = appends_none a;
+    told = sym u.untold;
+  }
+
+  pub told_first : Stands h m → RunsWithin k h new → h.kept.state.owed ≡ None → new.kept.state.owed ≡ None → new.own.spent ≡ 0 → b ≡ looked_held false new → IsTold v n m new a a [] b
+  told_first stands runs unowed owes none is =
+      let t = runs.runs m stands in
+      let x : State = after k t.1.choices m in
+      let there : Stands new (touched t.1.early x) = subst (Stands new) t.1.comes_to t.2 in
+      let owed : (touched t.1.early x).owed ≡ None = owed_stands new (touched t.1.early x) there ∙ owes in
+      untold_from x t.1.early (untold v k n within silent t.1.choices m (owed_stands h m stands ∙ unowed)) there
+      (is ∙ (looked_stands new (touched t.1.early x) there false (sym (ap is_some owed)) none ∙ looked_touched t.1.early x))
 
 -- A part of a unit tells nothing.
 
-pub told_inside : (n : ℕ) (m : State) (h new : Held) (a d : Option (List ℕ)) (rest : List ℕ) (b : Before) → Follows Inside h new → IsTold n m h a d rest b → IsTold n m new a d rest b
-told_inside n m h new a d rest b f told =
+pub told_inside : (v : View) (n : ℕ) (m : State) (h new : Held) (a d : Option (List ℕ)) (rest : List ℕ) (b : Looked) → Follows Inside h new → IsTold v n m h a d rest b → IsTold v n m new a d rest b
+told_inside v n m h new a d rest b f told =
     let t = f.follows (touched told.early (after n told.choices m)) told.stands in
     let both = touched_or t.1.1 told.early (after n told.choices m) in record {
       choices = told.choices;
@@ -78,8 +86,8 @@ told_inside n m h new a d rest b f told =
       told = told.told;
     }
 
-pub told_same : (n : ℕ) (m : State) (h new : Held) (a d : Option (List ℕ)) (rest : List ℕ) (b : Before) → Stays h new → IsTold n m h a d rest b → IsTold n m new a d rest b
-told_same n m h new a d rest b s told = record {
+pub told_same : (v : View) (n : ℕ) (m : State) (h new : Held) (a d : Option (List ℕ)) (rest : List ℕ) (b : Looked) → Stays h new → IsTold v n m h a d rest b → IsTold v n m new a d rest b
+told_same v n m h new a d rest b s told = record {
   choices = told.choices;
   early = told.early;
   stands = s.stays (touched told.early (after n told.choices m)) told.stands;
@@ -97,29 +105,31 @@ half_is x m t early is half =
     let d = half_after_touch half.0 early x in
     (d.0, half.1, half.2 ∙ ap (touched half.1) (ap (half_turn half.0) is ∙ d.1))
 
-module _ (n : ℕ) (m : State) (h new : Held) (a d : Option (List ℕ)) (rest more : List ℕ) (b c : Before) (told : IsTold n m h a d rest b) where
+module _ (v : View) (n : ℕ) (m : State) (h new : Held) (a d : Option (List ℕ)) (rest more : List ℕ) (b c : Looked) (told : IsTold v n m h a d rest b) where
   abbrev at : State
   at = after n told.choices m
 
   -- by the half turn that leads from where the run was
-  told_half : (t : State) (touch late owed : Bool) → goes_on n at ≡ true → t ≡ touched late (half_turn touch at) → Stands new t → owed ≡ is_some t.owed → is_user new.core.system ≡ true
-      → ((s : Start) → b.start ≡ Some s → general_held new s.process ≡ general_of t s.process) → more ≡ rest ++ half_held b new → c ≡ before_held owed new → IsTold n m new a d more c
+  told_half : (t : State) (touch late owed : Bool) → goes_on n at ≡ true → t ≡ touched late (half_turn touch at) → Stands new t → owed ≡ is_some t.owed → new.own.spent ≡ 0
+      → ((s : Start) → b.start ≡ Some s → general_held new s.process ≡ general_of t s.process) → more ≡ rest ++ half_held v b new → c ≡ looked_held owed new → IsTold v n m new a d more c
   unfolding after
-  told_half t touch late owed on is k owes user same adds looks =
+  told_half t touch late owed on is k owes none same adds looks =
       let next = after_more n touch told.choices m on in
-      let line : half_held b new ≡ half_text at (half_turn touch at) =
-      half_stands new t k b same
-      ∙ (ap (half_after b) is ∙ (half_touched b late (half_turn touch at) ∙ ap (λ (x : Before). half_after x (half_turn touch at)) told.looked)) in record {
+      let line : half_held v b new ≡ half_text v at (half_turn touch at) =
+      half_stands new t k v b same
+      ∙ (ap (λ (y : State). half_after v b (found_of (process_in b.start) y)) is
+      ∙ (half_touched v b (process_in b.start) late (half_turn touch at)
+      ∙ ap (λ (x : Looked). half_after v x (found_of (process_in x.start) (half_turn touch at))) told.looked)) in record {
         choices = touch ∷ told.choices;
         early = late;
         stands = subst (Stands new) (is ∙ ap (touched late) (sym next)) k;
-        looked = looks ∙ (before_stands new t k owed owes user ∙ (ap before_of is ∙ (before_touched late (half_turn touch at) ∙ ap before_of (sym next))));
+        looked = looks ∙ (looked_stands new t k owed owes none ∙ (ap looked_of is ∙ (looked_touched late (half_turn touch at) ∙ ap looked_of (sym next))));
         sent = told.sent;
         appends = told.appends;
         told = ap (λ (l : List ℕ). told.sent ++ l) (adds ∙ ap (λ (l : List ℕ). rest ++ l) line)
-            ∙ (sym (append_assoc told.sent rest (half_text at (half_turn touch at)))
-            ∙ (ap (λ (l : List ℕ). l ++ half_text at (half_turn touch at)) told.told
-            ∙ sym (along_more n touch told.choices m on)));
+            ∙ (sym (append_assoc told.sent rest (half_text v at (half_turn touch at)))
+            ∙ (ap (λ (l : List ℕ). l ++ half_text v at (half_turn touch at)) told.told
+            ∙ sym (along_more v n touch told.choices m on)));
       }
 
 -- Where a run was before a step, and that it goes on there.
@@ -161,10 +171,10 @@ begins_here n h m k ready before = by h.kept.state.owed refl
 pub going_now : (step : Step) (n : ℕ) (h new : Held) (m : State) → Stands h m → is_last step ≡ false → Follows step h new → (h.kept.state.owed ≡ None → h.kept.state.time < n) → held_goes_on n h ≡ true
 going_now Inside n h new m k last f before =
     let t = f.follows m k in
-    begins_here n h m k (λ none. t.1.0 (k.agrees.kept.ready ∙ none)) before
+    begins_here n h m k (λ nobody. t.1.0 (k.agrees.kept.ready ∙ nobody)) before
 going_now Unit n h new m k last f before =
     let t = f.follows m k in
-    begins_here n h m k (λ none. t.1.1 (k.agrees.kept.ready ∙ none)) before
+    begins_here n h m k (λ nobody. t.1.1 (k.agrees.kept.ready ∙ nobody)) before
 going_now Boundary n h new m k last f before =
     let t = f.follows m k in
     elim t.1 [
@@ -178,7 +188,7 @@ going_now Over n h new m k last f before = absurd (cc)
 
 -- Each kind of step.
 
-module _ (n : ℕ) (m : State) (h new : Held) (a d : Option (List ℕ)) (rest more : List ℕ) (b c : Before) (told : IsTold n m h a d rest b) (going : held_goes_on n h ≡ true) where
+module _ (v : View) (n : ℕ) (m : State) (h new : Held) (a d : Option (List ℕ)) (rest more : List ℕ) (b c : Looked) (told : IsTold v n m h a d rest b) (going : held_goes_on n h ≡ true) where
   abbrev here : State
   here = after n told.choices m
 
@@ -196,7 +206,7 @@ module _ (n : ℕ) (m : State) (h new : Held) (a d : Option (List ℕ)) (rest mo
   ready_here = sym (touched_ready told.early here) ∙ told.stands.agrees.kept.ready
 
   start_is : (s : Start) → b.start ≡ Some s → next_start here ≡ Some s
-  start_is s is = sym (ap (λ (x : Before). x.start) told.looked) ∙ is
+  start_is s is = sym (ap (λ (x : Looked). x.start) told.looked) ∙ is
 
   -- the process of the unit that is next has a number
   some_process : (s : Start) → b.start ≡ Some s → 0 < s.process
@@ -204,109 +214,84 @@ module _ (n : ℕ) (m : State) (h new : Held) (a d : Option (List ℕ)) (rest mo
       let runs : first here.ready ≡ Some s.process = start_process (is_some here.owed) here (first here.ready) s (start_is s is) in
       some_first h now told.stands s.process (sym (ap first ready_here) ∙ runs)
 
-  pub told_unit : Follows Unit h new → Moves Unit h new → is_user new.core.system ≡ true → more ≡ rest ++ half_held b new → c ≡ before_held true new → IsTold n m new a d more c
-  told_unit f moves user adds looks =
+  pub told_unit : Follows Unit h new → Moves Unit h new → more ≡ rest ++ half_held v b new → c ≡ looked_held true new → IsTold v n m new a d more c
+  told_unit f moves adds looks =
       let t = f.follows now told.stands in
       let half = half_is here now t.0 told.early refl t.1.2 in
       let owes : is_some t.0.owed ≡ true = ap is_some (owed_stands new t.0 t.2) ∙ moves.1 in
-      told_half n m h new a d rest more b c told t.0 half.0 half.1 true goes_here half.2 t.2 (sym owes) user
-      (λ s is. general_stands new t.0 t.2 s.process (some_process s is) owes) adds looks
+      told_half v n m h new a d rest more b c told t.0 half.0 half.1 true goes_here half.2 t.2 (sym owes) moves.3
+      (λ s is. general_stands new t.0 t.2 s.process (some_process s is) moves.3) adds looks
 
-  owed_boundary_told : (t : State) → Stands new t → (now.owed ≡ None → ⊥) → HalfTo now t → Moves Boundary h new → is_user new.core.system ≡ true → more ≡ rest ++ half_held b new → c ≡ before_held false new → IsTold n m new a d more c
-  owed_boundary_told t k owed goes moves user adds looks =
+  owed_boundary_told : (t : State) → Stands new t → (now.owed ≡ None → ⊥) → HalfTo now t → Moves Boundary h new → more ≡ rest ++ half_held v b new → c ≡ looked_held false new → IsTold v n m new a d more c
+  owed_boundary_told t k owed goes moves adds looks =
       let half = half_is here now t told.early refl goes in
       let owes : is_some here.owed ≡ true = ap is_some (sym (touched_owed told.early here)) ∙ owes_some now.owed owed in
-      told_half n m h new a d rest more b c told t half.0 half.1 false goes_here half.2 k (sym (owes_none t.owed (owed_stands new t k ∙ moves.0))) user
+      told_half v n m h new a d rest more b c told t half.0 half.1 false goes_here half.2 k (sym (owes_none t.owed (owed_stands new t k ∙ moves.0))) moves.1
       (λ s is. absurd (no_start (is_some here.owed) here (first here.ready) s owes (start_is s is))) adds looks
 
 -- A turn in which nobody runs, with its boundary.
 
-untouched : (x : State) (d : Bool) → x.ready ≡ [] → touched d x ≡ x
-untouched x true none = ap (touch_first x) none
-untouched x false none = refl
-
--- the state after such a turn
-abbrev idle_after : State → State
-idle_after x = record x { time = x.time + 1; owed = Some (record { began = x.time; runner = None }) }
-
-idle_turn : (x : State) (d : Bool) → x.owed ≡ None → x.ready ≡ [] → half_turn d x ≡ idle_after x
-unfolding half_turn unit
-idle_turn x d owed none =
-    ap (λ (o : Option Turn). cond (is_some o) (boundary (touched d x)) (unit (touched d x))) owed
-    ∙ (ap unit (untouched x d none)
-    ∙ ap (λ (queue : List ℕ). record (unit_of_first x queue) { owed = Some (record { began = x.time; runner = first queue }) }) none)
-
--- it tells nothing
-idle_start : (x : State) → x.owed ≡ None → x.ready ≡ [] → next_start x ≡ None
-idle_start x owed none =
-    ap (λ (o : Option Turn). cond (is_some o) None (start_of x (first x.ready))) owed
-    ∙ ap (λ (queue : List ℕ). start_of x (first queue)) none
-
-idle_text : (x : State) → x.owed ≡ None → x.ready ≡ [] → half_text x (idle_after x) ≡ []
-idle_text x owed none =
-    ap (λ (s : Option Start). told_text s (drop (length (log_of x)) (log_of x)) (general_of (idle_after x)) ++ switch_text (x.time + 1) (first x.ready) (first x.ready)) (idle_start x owed none)
-    ∙ (ap (λ (l : List ℕ). l ++ switch_text (x.time + 1) (first x.ready) (first x.ready)) (drop-length (log_of x))
-    ∙ ap (λ (queue : List ℕ). [] ++ switch_text (x.time + 1) (first queue) (first queue)) none)
-
--- and its boundary tells what is after both
-idle_boundary : (x v : State) → x.owed ≡ None → x.ready ≡ [] → half_after (before_of x) v ≡ half_text (idle_after x) v
-idle_boundary x v owed none = ap (λ (s : Option Start). told_text s (drop (length (log_of x)) (log_of v)) (general_of v) ++ switch_text v.time (first x.ready) (first v.ready)) (idle_start x owed none)
-
-module _ (n : ℕ) (m : State) (h new : Held) (a d : Option (List ℕ)) (rest more : List ℕ) (b c : Before) (told : IsTold n m h a d rest b) (on : goes_on n (after n told.choices m) ≡ true) where
+module _ (v : View) (n : ℕ) (m : State) (h new : Held) (a d : Option (List ℕ)) (rest more : List ℕ) (b c : Looked) (told : IsTold v n m h a d rest b) (on : goes_on n (after n told.choices m) ≡ true) where
   abbrev from : State
   from = after n told.choices m
 
+  no_unit : (s : Start) → b.start ≡ Some s → from.owed ≡ None → from.ready ≡ [] → ⊥
+  no_unit s starts owed none =
+      let no : None ≡ Some s = sym (ap (λ (x : Looked). x.start) (idle_looked from owed none)) ∙ (sym (ap (λ (x : Looked). x.start) told.looked) ∙ starts) in cc
+
   -- both half turns, by their touches
-  told_idle : (t : State) (first_touch touch late : Bool) → from.owed ≡ None → from.ready ≡ [] → t ≡ touched late (half_turn touch (half_turn first_touch from)) → Stands new t → t.owed ≡ None → is_user new.core.system ≡ true
-      → more ≡ rest ++ half_held b new → c ≡ before_held false new → IsTold n m new a d more c
-  told_idle t first_touch touch late owed none is k unowed user adds looks =
+  told_idle : (t : State) (first_touch touch late : Bool) → from.owed ≡ None → from.ready ≡ [] → t ≡ touched late (half_turn touch (half_turn first_touch from)) → Stands new t → t.owed ≡ None → new.own.spent ≡ 0
+      → more ≡ rest ++ half_held v b new → c ≡ looked_held false new → IsTold v n m new a d more c
+  told_idle t first_touch touch late owed none is k unowed begun adds looks =
       let between : after n (first_touch ∷ told.choices) m ≡ idle_after from = after_more n first_touch told.choices m on ∙ idle_turn from first_touch owed none in
       let goes : goes_on n (after n (first_touch ∷ told.choices) m) ≡ true = ap (goes_on n) between in
       let last : State = half_turn touch (idle_after from) in
       let next : after n (touch ∷ first_touch ∷ told.choices) m ≡ last = after_more n touch (first_touch ∷ told.choices) m goes ∙ ap (half_turn touch) between in
       let came : t ≡ touched late last = is ∙ ap (λ (x : State). touched late (half_turn touch x)) (idle_turn from first_touch owed none) in
-      let line : half_held b new ≡ half_text (idle_after from) last =
-      half_stands new t k b (λ s starts. absurd (let no : None ≡ Some s = sym (idle_start from owed none) ∙ (sym (ap (λ (x : Before). x.start) told.looked) ∙ starts) in cc))
-      ∙ (ap (half_after b) came ∙ (half_touched b late last ∙ (ap (λ (x : Before). half_after x last) told.looked ∙ idle_boundary from last owed none))) in
-      let first_line : trace_along n (first_touch ∷ told.choices) m ≡ trace_along n told.choices m =
-      along_more n first_touch told.choices m on
-      ∙ (ap (λ (x : State). trace_along n told.choices m ++ half_text from x) (idle_turn from first_touch owed none)
-      ∙ (ap (λ (l : List ℕ). trace_along n told.choices m ++ l) (idle_text from owed none) ∙ append-nil (trace_along n told.choices m))) in
-      let second_line : trace_along n (touch ∷ first_touch ∷ told.choices) m ≡ trace_along n told.choices m ++ half_text (idle_after from) last =
-      along_more n touch (first_touch ∷ told.choices) m goes
-      ∙ (ap (λ (x : State). trace_along n (first_touch ∷ told.choices) m ++ half_text x (half_turn touch x)) between
-      ∙ ap (λ (l : List ℕ). l ++ half_text (idle_after from) last) first_line) in record {
+      let line : half_held v b new ≡ half_text v (idle_after from) last =
+      half_stands new t k v b (λ s starts. absurd (no_unit s starts owed none))
+      ∙ (ap (λ (y : State). half_after v b (found_of (process_in b.start) y)) came
+      ∙ (half_touched v b (process_in b.start) late last
+      ∙ (ap (λ (x : Looked). half_after v x (found_of (process_in x.start) last)) told.looked ∙ idle_boundary v from last owed none))) in
+      let first_line : trace_along v n (first_touch ∷ told.choices) m ≡ trace_along v n told.choices m =
+      along_more v n first_touch told.choices m on
+      ∙ (ap (λ (x : State). trace_along v n told.choices m ++ half_text v from x) (idle_turn from first_touch owed none)
+      ∙ (ap (λ (l : List ℕ). trace_along v n told.choices m ++ l) (idle_text v from owed none) ∙ append-nil (trace_along v n told.choices m))) in
+      let second_line : trace_along v n (touch ∷ first_touch ∷ told.choices) m ≡ trace_along v n told.choices m ++ half_text v (idle_after from) last =
+      along_more v n touch (first_touch ∷ told.choices) m goes
+      ∙ (ap (λ (x : State). trace_along v n (first_touch ∷ told.choices) m ++ half_text v x (half_turn touch x)) between
+      ∙ ap (λ (l : List ℕ). l ++ half_text v (idle_after from) last) first_line) in record {
         choices = touch ∷ first_touch ∷ told.choices;
         early = late;
         stands = subst (Stands new) (came ∙ ap (touched late) (sym next)) k;
-        looked = looks ∙ (before_stands new t k false (sym (owes_none t.owed unowed)) user ∙ (ap before_of came ∙ (before_touched late last ∙ ap before_of (sym next))));
+        looked = looks ∙ (looked_stands new t k false (sym (owes_none t.owed unowed)) begun ∙ (ap looked_of came ∙ (looked_touched late last ∙ ap looked_of (sym next))));
         sent = told.sent;
         appends = told.appends;
         told = ap (λ (l : List ℕ). told.sent ++ l) (adds ∙ ap (λ (l : List ℕ). rest ++ l) line)
-            ∙ (sym (append_assoc told.sent rest (half_text (idle_after from) last))
-            ∙ (ap (λ (l : List ℕ). l ++ half_text (idle_after from) last) told.told
+            ∙ (sym (append_assoc told.sent rest (half_text v (idle_after from) last))
+            ∙ (ap (λ (l : List ℕ). l ++ half_text v (idle_after from) last) told.told
             ∙ sym second_line));
       }
 
-module _ (n : ℕ) (m : State) (h new : Held) (a d : Option (List ℕ)) (rest more : List ℕ) (b c : Before) (told : IsTold n m h a d rest b) (going : held_goes_on n h ≡ true) where
-  pub told_boundary : Follows Boundary h new → Moves Boundary h new → is_user new.core.system ≡ true → more ≡ rest ++ half_held b new → c ≡ before_held false new → IsTold n m new a d more c
-  told_boundary f moves user adds looks =
+module _ (v : View) (n : ℕ) (m : State) (h new : Held) (a d : Option (List ℕ)) (rest more : List ℕ) (b c : Looked) (told : IsTold v n m h a d rest b) (going : held_goes_on n h ≡ true) where
+  pub told_boundary : Follows Boundary h new → Moves Boundary h new → more ≡ rest ++ half_held v b new → c ≡ looked_held false new → IsTold v n m new a d more c
+  told_boundary f moves adds looks =
       let x : State = after n told.choices m in
       let t = f.follows (touched told.early x) told.stands in
       elim t.1 [
-        | inl owed ↦ owed_boundary_told n m h new a d rest more b c told going t.0 t.2 owed.0 owed.1 moves user adds looks
+        | inl owed ↦ owed_boundary_told v n m h new a d rest more b c told going t.0 t.2 owed.0 owed.1 moves adds looks
         | inr idle ↦ (
             let first_touch = half_after_touch false told.early x in
-            told_idle n m h new a d rest more b c told (goes_here n m h new a d rest more b c told going) t.0 first_touch.0 idle.3.0 idle.3.1
+            told_idle v n m h new a d rest more b c told (goes_here v n m h new a d rest more b c told going) t.0 first_touch.0 idle.3.0 idle.3.1
             (sym (touched_owed told.early x) ∙ idle.0) (sym (touched_ready told.early x) ∙ idle.1)
             (idle.3.2 ∙ ap (λ (y : State). touched idle.3.1 (half_turn idle.3.0 y)) first_touch.1)
-            t.2 (owed_stands new t.0 t.2 ∙ moves.0) user adds looks)
+            t.2 (owed_stands new t.0 t.2 ∙ moves.0) moves.1 adds looks)
       ]
 
 -- What is handed on of the text.
 
-pub told_handed : (n : ℕ) (m : State) (h : Held) (a d e : Option (List ℕ)) (text rest : List ℕ) (b : Before) → IsHandedOn d e text rest → IsTold n m h a d text b → IsTold n m h a e rest b
-told_handed n m h a d e text rest b handed told = record {
+pub told_handed : (v : View) (n : ℕ) (m : State) (h : Held) (a d e : Option (List ℕ)) (text rest : List ℕ) (b : Looked) → IsHandedOn d e text rest → IsTold v n m h a d text b → IsTold v n m h a e rest b
+told_handed v n m h a d e text rest b handed told = record {
   choices = told.choices;
   early = told.early;
   stands = told.stands;
@@ -317,13 +302,13 @@ told_handed n m h a d e text rest b handed told = record {
 }
 
 -- a prefix of what is to be written is written: so is one of the trace and the text
-module _ (n : ℕ) (m : State) (h : Held) (a d e : Option (List ℕ)) (text : List ℕ) (b : Before) (told : IsTold n m h a d text b) where
-  pub told_part : AppendsPart d e text → WritesTracePart a e n m
+module _ (v : View) (n : ℕ) (m : State) (h : Held) (a d e : Option (List ℕ)) (text : List ℕ) (b : Looked) (told : IsTold v n m h a d text b) where
+  pub told_part : AppendsPart d e text → WritesTracePart v a e n m
   told_part part = record {
     last = after n told.choices m;
     reached = record { choices = told.choices; early = false; comes_to = refl };
-    written = part_before a e (trace_along n told.choices m ++ end_text (after n told.choices m)) (text_of (after n told.choices m))
-        (part_before a e (trace_along n told.choices m) (end_text (after n told.choices m))
+    written = part_before a e (trace_along v n told.choices m ++ end_text (after n told.choices m)) (text_of (after n told.choices m))
+        (part_before a e (trace_along v n told.choices m) (end_text (after n told.choices m))
         (subst (AppendsPart a e) told.told (part_behind a d e told.sent text told.appends part)));
   }
 
@@ -333,37 +318,37 @@ module _ (n : ℕ) (m : State) (h : Held) (a d e : Option (List ℕ)) (text : Li
   abbrev last_reached : Reaches n m last_state
   last_reached = record { choices = told.choices; early = told.early; comes_to = refl }
 
-  last_end : is_user h.core.system ≡ true → end_held h ≡ end_text last_state
-  last_end user = end_stands h last_state told.stands user
+  last_end : h.own.spent ≡ 0 → end_held h ≡ end_text last_state
+  last_end none = end_stands h last_state told.stands none
 
   last_text : held_text h ≡ text_of last_state
   last_text = text_alike h last_state told.stands
 
   -- with the end's text and the text of the state
-  both_are : is_user h.core.system ≡ true → told.sent ++ (text ++ end_held h ++ held_text h) ≡ told_to n m last_state last_reached ++ text_of last_state
-  both_are user =
-      ap (λ (l : List ℕ). told.sent ++ (text ++ l ++ held_text h)) (last_end user)
+  both_are : h.own.spent ≡ 0 → told.sent ++ (text ++ end_held h ++ held_text h) ≡ told_to v n m last_state last_reached ++ text_of last_state
+  both_are none =
+      ap (λ (l : List ℕ). told.sent ++ (text ++ l ++ held_text h)) (last_end none)
       ∙ (ap (λ (l : List ℕ). told.sent ++ (text ++ end_text last_state ++ l)) last_text
       ∙ (sym (append_assoc told.sent (text ++ end_text last_state) (text_of last_state))
       ∙ ap (λ (l : List ℕ). l ++ text_of last_state) (trace_is)))
     where
-      trace_is : told.sent ++ (text ++ end_text last_state) ≡ trace_along n told.choices m ++ end_text last_state
+      trace_is : told.sent ++ (text ++ end_text last_state) ≡ trace_along v n told.choices m ++ end_text last_state
       trace_is = sym (append_assoc told.sent text (end_text last_state)) ∙ ap (λ (l : List ℕ). l ++ end_text last_state) told.told
 
-  pub finished_part : is_user h.core.system ≡ true → AppendsPart d e (text ++ end_held h ++ held_text h) → WritesTracePart a e n m
-  finished_part user part = record {
+  pub finished_part : h.own.spent ≡ 0 → AppendsPart d e (text ++ end_held h ++ held_text h) → WritesTracePart v a e n m
+  finished_part none part = record {
     last = last_state;
     reached = last_reached;
-    written = subst (AppendsPart a e) (both_are user) (part_behind a d e told.sent (text ++ end_held h ++ held_text h) told.appends part);
+    written = subst (AppendsPart a e) (both_are none) (part_behind a d e told.sent (text ++ end_held h ++ held_text h) told.appends part);
   }
 
-  pub finished : is_user h.core.system ≡ true → held_goes_on n h ≡ false → IsFinished d e text h → WritesTrace a e n m
-  finished user over done = record {
+  pub finished : h.own.spent ≡ 0 → held_goes_on n h ≡ false → IsFinished d e text h → WritesTrace v a e n m
+  finished none over done = record {
     last = last_state;
     ends = record { reached = last_reached; over = goes_alike n h last_state told.stands ∙ over };
     between = done.between;
     trace = subst (Appends a done.between)
-        (sym (append_assoc told.sent text (end_held h)) ∙ (ap (λ (l : List ℕ). l ++ end_held h) told.told ∙ ap (λ (l : List ℕ). trace_along n told.choices m ++ l) (last_end user)))
+        (sym (append_assoc told.sent text (end_held h)) ∙ (ap (λ (l : List ℕ). l ++ end_held h) told.told ∙ ap (λ (l : List ℕ). trace_along v n told.choices m ++ l) (last_end none)))
         (appends_both a d done.between told.sent (text ++ end_held h) told.appends done.trace);
     written = subst (Appends done.between e) last_text done.written;
   }

@@ -1,23 +1,31 @@
 -- What a touch leaves of what a trace shows.
-use Rattle.std.proofs.Common.{◌≡◌, ◌≢◌, ℕ, zero, suc, ◌-◌, Bool, true, false, cond, List, [], ◌∷◌, ◌++◌, Option, Some, None, refl, sym, ap, ◌∙◌, set, get_or}
-use Rattle.std.specs.Prelude.{◌+◌, is_some, length, drop, codes, decimal, flat_map}
+use Rattle.std.proofs.Common.{◌≡◌, ◌≢◌, ℕ, zero, suc, ◌+◌, ◌-◌, ◌*◌, ◌/◌, Bool, true, false, cond, List, [], ◌∷◌, ◌++◌, Option, Some, None, refl, sym, ap, ◌∙◌, arith, set, get_or}
+use Rattle.std.specs.Prelude.{is_some, length, map, drop, codes, decimal, slice_index, ◌||◌, ◌==◌}
 use Rattle.std.proofs.lemmas.List.{get_or-set_other}
-use Rattle.ds_word.specs.Word.{word}
+use Rattle.ds_word.specs.Word.{word, sign_extended}
 use Rattle.ds_isa.specs.Encoding.{uses}
 use Rattle.ds_isa.specs.Instruction.{instruction_of}
-use Rattle.ds_log.specs.declared.line.Line.{Line}
-use Rattle.ds_log.specs.Text.{line_text}
 use Rattle.ds_listing.specs.Texts.{hex8}
 use Rattle.ds_policy.specs.Grants.{PageState}
-use Rattle.ds_pagemap.specs.declared.turn.Turn.{Turn}
-use Rattle.ds_pagemap.specs.Machine.{State, Process, no_process, process_of, first, touched, touched_process, touch_first}
-use Rattle.ds_pagemap.proofs.Touches.{touched-time, touched-log}
-use Rattle.ds_promise.proofs.Stores.{touched_memory, touched_owed}
+use Rattle.ds_procs.specs.declared.call.Call.{Call}
+use Rattle.ds_procs.specs.declared.process.Standing.{Standing}
+use Rattle.ds_procs.specs.Calls.{call_of}
+use Rattle.ds_pagemap.specs.Machine.{State, Process, no_process, process_of, with_process, first, touched, touched_process, touch_first}
+use Rattle.ds_refinement.specs.Held.{last_boundary}
+use Rattle.ds_station.specs.Reads.{fetched}
+use Rattle.ds_view.specs.declared.view.View.{View}
+use Rattle.ds_view.specs.Views.{shows_denials, shows_turn, shows_unit}
 use Rattle.ds_trace.specs.declared.start.Start.{Start}
-use Rattle.ds_trace.specs.declared.start.Before.{Before}
-use Rattle.ds_trace.specs.Starts.{start_at, start_of, next_start}
-use Rattle.ds_trace.specs.Lines.{is_call, is_hidden, shown, register_of, register_text, result_text, front_text, instruction_line, unit_text, was_done, denied_text, told_text, switch_text, log_of, general_of, before_of, half_after, half_text}
-use Rattle.ds_trace.specs.Ends.{process_text, processes_text, end_text}
+use Rattle.ds_trace.specs.declared.stores.Reach.{Reach}
+use Rattle.ds_trace.specs.Looks.{Looked, Found}
+use Rattle.ds_trace.specs.Starts.{is_call, call_at, start_at, start_of, general_of}
+use Rattle.ds_trace.specs.Calls.{answer_text, call_text}
+use Rattle.ds_trace.specs.Stores.{is_lost, reach_of, stored_at, stored_text}
+use Rattle.ds_trace.specs.Lines.{is_hidden, shown, register_of, register_text, result_text, front_text, instruction_line, unit_text, was_done, denied_text}
+use Rattle.ds_trace.specs.Boundaries.{due_by}
+use Rattle.ds_trace.specs.Changes.{changes_text, standing_text}
+use Rattle.ds_trace.specs.Halves.{log_of, next_boundary, looked_of, found_of, process_in, done_text, half_after, half_text}
+use Rattle.ds_trace.specs.Ends.{left_text, registers_text, process_text, processes_text, end_text}
 
 -- Of a list in which one element was changed.
 
@@ -29,16 +37,35 @@ read_again g f keeps (x ∷ xs) zero (suc j) d = refl
 read_again g f keeps (x ∷ xs) (suc i) zero d = refl
 read_again g f keeps (x ∷ xs) (suc i) (suc j) d = read_again g f keeps xs i j d
 
-touch_first_read : {Y : Type 0} (g : Process → Y) → ((q : Process) → g (touched_process q) ≡ g q) → (ready : List ℕ) (m : State) (p : ℕ) → g (process_of (touch_first m ready) p) ≡ g (process_of m p)
-touch_first_read g keeps [] m p = refl
-touch_first_read g keeps (r ∷ rest) m p = read_again g touched_process keeps m.processes (r - 1) (p - 1) no_process
+-- and so is what is read of all
+map_again : {X Y : Type 0} (g : X → Y) (f : X → X) → ((x : X) → g (f x) ≡ g x) → (xs : List X) (i : ℕ) (d : X) → map g (set xs i (f (get_or xs i d))) ≡ map g xs
+map_again g f keeps [] i d = refl
+map_again g f keeps (x ∷ xs) zero d = ap (λ y. y ∷ map g xs) (keeps x)
+map_again g f keeps (x ∷ xs) (suc i) d = ap (λ ys. g x ∷ ys) (map_again g f keeps xs i d)
 
-touched_read : {Y : Type 0} (g : Process → Y) → ((q : Process) → g (touched_process q) ≡ g q) → (b : Bool) (m : State) (p : ℕ) → g (process_of (touched b m) p) ≡ g (process_of m p)
-touched_read g keeps true m p = touch_first_read g keeps m.ready m p
-touched_read g keeps false m p = refl
+-- The registers.
 
-pub touched_pc : (b : Bool) (m : State) (p : ℕ) → (process_of (touched b m) p).pc ≡ (process_of m p).pc
-touched_pc b m p = touched_read (λ (q : Process). q.pc) (λ q. refl) b m p
+abbrev touched_general : List ℕ → ℕ → List ℕ
+touched_general general pc = set (set general 26 0) 27 pc
+
+-- all but two are as before
+other_kept : (general : List ℕ) (pc n : ℕ) → is_lost n ≡ false → slice_index (touched_general general pc) n ≡ slice_index general n
+other_kept general pc n is = get_or-set_other (set general 26 0) 27 n pc 0 (not_lost 27 refl) ∙ get_or-set_other general 26 n 0 0 (not_lost 26 refl)
+  where
+    not_lost : (k : ℕ) → is_lost k ≡ true → n ≢ k
+    not_lost k lost e = let no : true ≡ false = sym lost ∙ (sym (ap is_lost e) ∙ is) in absurd (cc)
+
+-- a call asks for the same
+call_kept : (general : List ℕ) (pc : ℕ) → call_of (touched_general general pc) ≡ call_of general
+call_kept general pc =
+    rw (other_kept general pc 2 refl, other_kept general pc 4 refl, other_kept general pc 5 refl, other_kept general pc 6 refl, other_kept general pc 7 refl) refl
+
+call_at_kept : (general : List ℕ) (pc : ℕ) (o : Option ℕ) → call_at (touched_general general pc) o ≡ call_at general o
+call_at_kept general pc None = refl
+call_at_kept general pc (Some w) = ap (λ (c : Call). cond (is_call (instruction_of w)) (Some c) None) (call_kept general pc)
+
+start_kept : (s : PageState) (general : List ℕ) (time p pc : ℕ) → start_at s (touched_general general pc) time p pc ≡ start_at s general time p pc
+start_kept s general time p pc = ap (λ (c : Option Call). record (start_at s general time p pc) { call = c }) (call_at_kept general pc (fetched s p pc))
 
 touch_first_ready : (ready : List ℕ) (m : State) → (touch_first m ready).ready ≡ m.ready
 touch_first_ready [] m = refl
@@ -50,87 +77,151 @@ touched_ready false m = refl
 
 -- Before a half turn.
 
-start_touched : (o : Option ℕ) (b : Bool) (m : State) → start_of (touched b m) o ≡ start_of m o
-start_touched None b m = refl
-start_touched (Some p) b m =
-    ap (λ (s : PageState). Some (start_at s (touched b m).time p (process_of (touched b m) p).pc)) (touched_memory b m)
-    ∙ (ap (λ (t : ℕ). Some (start_at m.memory t p (process_of (touched b m) p).pc)) (touched-time b m)
-    ∙ ap (λ (pc : ℕ). Some (start_at m.memory m.time p pc)) (touched_pc b m p))
+start_first : (q : ℕ) (m : State) (o : Option ℕ) → start_of (with_process m q (touched_process (process_of m q))) o ≡ start_of m o
+start_first q m None = refl
+start_first q m (Some p) = read_again (λ (x : Process). Some (start_at m.memory x.registers.general m.time p x.pc)) touched_process
+    (λ x. ap (λ (s : Start). Some s) (start_kept m.memory x.registers.general m.time p x.pc)) m.processes (q - 1) (p - 1) no_process
 
-next_touched : (b : Bool) (m : State) → next_start (touched b m) ≡ next_start m
-next_touched b m =
-    ap (λ (o : Option Turn). cond (is_some o) None (start_of (touched b m) (first (touched b m).ready))) (touched_owed b m)
-    ∙ (ap (λ (ready : List ℕ). cond (is_some m.owed) None (start_of (touched b m) (first ready))) (touched_ready b m)
-    ∙ ap (λ (s : Option Start). cond (is_some m.owed) None s) (start_touched (first m.ready) b m))
+-- what is looked at, with this unit and these standings
+abbrev looked_with : State → Option Start → List Standing → Looked
+looked_with m start standings = record {
+  owed = is_some m.owed;
+  began = last_boundary m;
+  start = cond (is_some m.owed) None start;
+  logged = length (log_of m);
+  runner = first m.ready;
+  due = due_by (next_boundary m) m.commands;
+  characters = length m.characters;
+  queued = map length m.queues;
+  standings = standings;
+}
 
-log_touched : (b : Bool) (m : State) → log_of (touched b m) ≡ log_of m
-log_touched b m = ap (λ (ls : List Line). flat_map line_text ls) (touched-log b m)
+looked_first : (ready : List ℕ) (m : State) → looked_of (touch_first m ready) ≡ looked_of m
+looked_first [] m = refl
+looked_first (q ∷ rest) m =
+    ap (λ (s : Option Start). looked_with m s (map (λ (x : Process). x.standing) (with_process m q (touched_process (process_of m q))).processes)) (start_first q m (first m.ready))
+    ∙ ap (λ (ss : List Standing). looked_with m (start_of m (first m.ready)) ss) (map_again (λ (x : Process). x.standing) touched_process (λ x. refl) m.processes (q - 1) no_process)
 
-pub before_touched : (b : Bool) (m : State) → before_of (touched b m) ≡ before_of m
-before_touched b m =
-    ap (λ (o : Option Turn). record { owed = is_some o; start = next_start (touched b m); logged = length (log_of (touched b m)); runner = first (touched b m).ready }) (touched_owed b m)
-    ∙ (ap (λ (s : Option Start). record { owed = is_some m.owed; start = s; logged = length (log_of (touched b m)); runner = first (touched b m).ready }) (next_touched b m)
-    ∙ (ap (λ (l : List ℕ). record { owed = is_some m.owed; start = next_start m; logged = length l; runner = first (touched b m).ready }) (log_touched b m)
-    ∙ ap (λ (ready : List ℕ). record { owed = is_some m.owed; start = next_start m; logged = length (log_of m); runner = first ready }) (touched_ready b m)))
+pub looked_touched : (b : Bool) (m : State) → looked_of (touched b m) ≡ looked_of m
+looked_touched true m = looked_first m.ready m
+looked_touched false m = refl
 
 -- After it.
-
-abbrev touched_general : List ℕ → ℕ → List ℕ
-touched_general general pc = set (set general 26 0) 27 pc
 
 -- a register that is shown is neither 26 nor 27
 register_kept : (general : List ℕ) (pc : ℕ) (o : Option ℕ) → register_text (touched_general general pc) (shown o) ≡ register_text general (shown o)
 register_kept general pc None = refl
 register_kept general pc (Some n) = by (is_hidden n) refl
   where
-    not_shown : (k : ℕ) → is_hidden k ≡ true → is_hidden n ≡ false → n ≢ k
-    not_shown k hidden is e = let no : true ≡ false = sym hidden ∙ (sym (ap is_hidden e) ∙ is) in absurd (cc)
+    apart : (none lost : Bool) → (none || lost) ≡ false → lost ≡ false
+    apart true lost is = absurd (cc)
+    apart false lost is = is
 
     by : (h : Bool) → is_hidden n ≡ h → register_text (touched_general general pc) (cond h None (Some n)) ≡ register_text general (cond h None (Some n))
     by true is = refl
-    by false is = ap (λ (v : ℕ). codes "  $" ++ decimal n ++ codes "=" ++ hex8 v)
-        (get_or-set_other (set general 26 0) 27 n pc 0 (not_shown 27 refl is) ∙ get_or-set_other general 26 n 0 0 (not_shown 26 refl is))
+    by false is = ap (λ (v : ℕ). codes "  $" ++ decimal n ++ codes "=" ++ hex8 v) (other_kept general pc n (apart (n == 0) (is_lost n) is))
 
-result_kept : (done : Bool) (general : List ℕ) (pc w : ℕ) → result_text done (touched_general general pc) w ≡ result_text done general w
+-- nor is the base of a store whose word is shown
+stored_kept : (general : List ℕ) (pc : ℕ) (o : Option Reach) → stored_at (touched_general general pc) o ≡ stored_at general o
+stored_kept general pc None = refl
+stored_kept general pc (Some r) = by (is_lost r.base) refl
+  where
+    by : (lost : Bool) → is_lost r.base ≡ lost
+        → cond lost None (Some (word (slice_index (touched_general general pc) r.base + sign_extended 16 r.offset) / 4 * 4)) ≡ cond lost None (Some (word (slice_index general r.base + sign_extended 16 r.offset) / 4 * 4))
+    by true is = refl
+    by false is = ap (λ (v : ℕ). Some (word (v + sign_extended 16 r.offset) / 4 * 4)) (other_kept general pc r.base is)
+
+-- what is found, with registers that were touched
+abbrev touched_found : Found → ℕ → Found
+touched_found f pc = record f { general = touched_general f.general pc }
+
+result_kept : (done : Bool) (p : ℕ) (f : Found) (pc w : ℕ) → result_text done p (touched_found f pc) w ≡ result_text done p f w
 unfolding register_of
-result_kept true general pc w = register_kept general pc (cond (is_call (instruction_of w)) (Some 2) (uses (instruction_of w)).writes)
-result_kept false general pc w = refl
+result_kept true p f pc w =
+    ap (λ (l : List ℕ). l ++ stored_text f.memory (length f.standings) p (stored_at (touched_general f.general pc) (reach_of (instruction_of w))))
+    (register_kept f.general pc (cond (is_call (instruction_of w)) (Some 2) (uses (instruction_of w)).writes))
+    ∙ ap (λ (a : Option ℕ). register_text f.general (register_of w) ++ stored_text f.memory (length f.standings) p a) (stored_kept f.general pc (reach_of (instruction_of w)))
+result_kept false p f pc w = refl
 
-line_kept : (blanks : List ℕ) (time p at : ℕ) (o : Option ℕ) (done : Bool) (general : List ℕ) (pc : ℕ) → instruction_line blanks time p at o done (touched_general general pc) ≡ instruction_line blanks time p at o done general
-line_kept blanks time p at None done general pc = refl
-line_kept blanks time p at (Some w) done general pc = ap (λ (r : List ℕ). blanks ++ front_text time p at w ++ r ++ codes "\n") (result_kept done general pc w)
+line_kept : (blanks : List ℕ) (time p at : ℕ) (o : Option ℕ) (c : Option Call) (done : Bool) (f : Found) (pc : ℕ) → instruction_line blanks time p at o c done (touched_found f pc) ≡ instruction_line blanks time p at o c done f
+line_kept blanks time p at None c done f pc = refl
+line_kept blanks time p at (Some w) c done f pc =
+    ap (λ (r : List ℕ). blanks ++ front_text time p at w ++ call_text c ++ r ++ answer_text c (slice_index (touched_general f.general pc) 2) ++ codes "\n") (result_kept done p f pc w)
+    ∙ ap (λ (n : ℕ). blanks ++ front_text time p at w ++ call_text c ++ result_text done p f w ++ answer_text c n ++ codes "\n") (other_kept f.general pc 2 refl)
 
-unit_kept : (s : Start) (done : Bool) (general : List ℕ) (pc : ℕ) → unit_text s done (touched_general general pc) ≡ unit_text s done general
-unit_kept s done general pc =
-    ap (λ (l : List ℕ). l ++ instruction_line (codes "  ") s.time s.process (word (s.address + 4)) s.slot done (touched_general general pc)) (line_kept [] s.time s.process s.address s.word done general pc)
-    ∙ ap (λ (l : List ℕ). instruction_line [] s.time s.process s.address s.word done general ++ l) (line_kept (codes "  ") s.time s.process (word (s.address + 4)) s.slot done general pc)
+unit_kept : (s : Start) (done : Bool) (f : Found) (pc : ℕ) → unit_text s done (touched_found f pc) ≡ unit_text s done f
+unit_kept s done f pc =
+    ap (λ (l : List ℕ). l ++ instruction_line (codes "  ") s.time s.process (word (s.address + 4)) s.slot None done (touched_found f pc)) (line_kept [] s.time s.process s.address s.word s.call done f pc)
+    ∙ ap (λ (l : List ℕ). instruction_line [] s.time s.process s.address s.word s.call done f ++ l) (line_kept (codes "  ") s.time s.process (word (s.address + 4)) s.slot None done f pc)
 
-told_touched : (o : Option Start) (logged : List ℕ) (b : Bool) (t : State) → told_text o logged (general_of (touched b t)) ≡ told_text o logged (general_of t)
-told_touched None logged b t = refl
-told_touched (Some s) logged b t =
-    ap (λ (l : List ℕ). l ++ denied_text logged)
-    (touched_read (λ (q : Process). unit_text s (was_done s logged) q.registers.general) (λ q. unit_kept s (was_done s logged) q.registers.general q.pc) b t s.process)
+done_kept : (v : View) (b : Looked) (f : Found) (pc : ℕ) (o : Option Start) → done_text v b (touched_found f pc) o ≡ done_text v b f o
+done_kept v b f pc None = refl
+done_kept v b f pc (Some s) =
+    ap (λ (l : List ℕ). cond (shows_unit v s.process (is_some s.call)) l [] ++ cond (shows_denials v s.process) (denied_text (drop b.logged f.log)) [])
+    (unit_kept s (was_done s (drop b.logged f.log)) f pc)
 
-pub half_touched : (x : Before) (b : Bool) (t : State) → half_after x (touched b t) ≡ half_after x t
-half_touched x b t =
-    ap (λ (l : List ℕ). told_text x.start (drop x.logged l) (general_of (touched b t)) ++ switch_text (touched b t).time x.runner (first (touched b t).ready)) (log_touched b t)
-    ∙ (ap (λ (l : List ℕ). l ++ switch_text (touched b t).time x.runner (first (touched b t).ready)) (told_touched x.start (drop x.logged (log_of t)) b t)
-    ∙ (ap (λ (time : ℕ). told_text x.start (drop x.logged (log_of t)) (general_of t) ++ switch_text time x.runner (first (touched b t).ready)) (touched-time b t)
-    ∙ ap (λ (ready : List ℕ). told_text x.start (drop x.logged (log_of t)) (general_of t) ++ switch_text t.time x.runner (first ready)) (touched_ready b t)))
+half_kept : (v : View) (b : Looked) (f : Found) (pc : ℕ) → half_after v b (touched_found f pc) ≡ half_after v b f
+half_kept v b f pc = ap (λ (l : List ℕ). cond (shows_turn v b.began) (l ++ changes_text v b f) []) (done_kept v b f pc b.start)
 
-pub lines_touched : (a b : Bool) (m t : State) → half_text (touched a m) (touched b t) ≡ half_text m t
-lines_touched a b m t = ap (λ (x : Before). half_after x (touched b t)) (before_touched a m) ∙ half_touched (before_of m) b t
+-- what is found, with these registers and standings
+abbrev found_with : State → List ℕ → List Standing → Found
+found_with t general standings = record {
+  time = t.time;
+  owed = is_some t.owed;
+  runner = first t.ready;
+  log = log_of t;
+  general = general;
+  memory = t.memory;
+  characters = length t.characters;
+  queues = t.queues;
+  standings = standings;
+}
+
+half_first : (v : View) (b : Looked) (p : ℕ) (ready : List ℕ) (t : State) → half_after v b (found_of p (touch_first t ready)) ≡ half_after v b (found_of p t)
+half_first v b p [] t = refl
+half_first v b p (q ∷ rest) t =
+    ap (λ (ss : List Standing). half_after v b (found_with t (general_of (with_process t q (touched_process (process_of t q))) p) ss))
+    (map_again (λ (x : Process). x.standing) touched_process (λ x. refl) t.processes (q - 1) no_process)
+    ∙ read_again (λ (x : Process). half_after v b (found_with t x.registers.general (map (λ (y : Process). y.standing) t.processes))) touched_process
+    (λ x. half_kept v b (found_with t x.registers.general (map (λ (y : Process). y.standing) t.processes)) x.pc) t.processes (q - 1) (p - 1) no_process
+
+pub half_touched : (v : View) (b : Looked) (p : ℕ) (late : Bool) (t : State) → half_after v b (found_of p (touched late t)) ≡ half_after v b (found_of p t)
+half_touched v b p true t = half_first v b p t.ready t
+half_touched v b p false t = refl
+
+pub lines_touched : (v : View) (a b : Bool) (m t : State) → half_text v (touched a m) (touched b t) ≡ half_text v m t
+lines_touched v a b m t =
+    ap (λ (l : Looked). half_after v l (found_of (process_in l.start) (touched b t))) (looked_touched a m)
+    ∙ half_touched v (looked_of m) (process_in (looked_of m).start) b t
 
 -- The end.
 
-processes_kept : (f : Process → Process) → ((q : Process) → (f q).standing ≡ q.standing) → ((q : Process) → (f q).pc ≡ q.pc) → (p : ℕ) (xs : List Process) (i : ℕ) (d : Process) → processes_text p (set xs i (f (get_or xs i d))) ≡ processes_text p xs
-processes_kept f standing pc p [] i d = refl
-processes_kept f standing pc p (x ∷ xs) zero d = rw (standing x, pc x) refl
-processes_kept f standing pc p (x ∷ xs) (suc i) d = ap (λ (l : List ℕ). process_text p x.standing x.pc ++ l) (processes_kept f standing pc (p + 1) xs i d)
+left_hidden : (n value : ℕ) → is_hidden n ≡ true → left_text n value ≡ []
+left_hidden n value is = ap (λ (b : Bool). cond (b || (value == 0)) [] (codes "  $" ++ decimal n ++ codes "=" ++ hex8 value)) is
+
+-- a register that is never shown may be changed
+registers_set : (n : ℕ) (general : List ℕ) (i value : ℕ) → is_hidden (n + i) ≡ true → registers_text n (set general i value) ≡ registers_text n general
+registers_set n [] i value is = refl
+registers_set n (x ∷ xs) zero value is =
+    let at : n + 0 ≡ n = omega arith in
+    let hidden : is_hidden n ≡ true = sym (ap is_hidden at) ∙ is in
+    ap (λ (l : List ℕ). l ++ registers_text (n + 1) xs) (left_hidden n value hidden ∙ sym (left_hidden n x hidden))
+registers_set n (x ∷ xs) (suc i) value is =
+    let on : n + suc i ≡ n + 1 + i = omega arith in
+    ap (λ (l : List ℕ). left_text n x ++ l) (registers_set (n + 1) xs i value (sym (ap is_hidden on) ∙ is))
+
+registers_kept : (general : List ℕ) (pc : ℕ) → registers_text 0 (touched_general general pc) ≡ registers_text 0 general
+registers_kept general pc = registers_set 0 (set general 26 0) 27 pc refl ∙ registers_set 0 general 26 0 refl
+
+processes_kept : (p : ℕ) (xs : List Process) (i : ℕ) (d : Process) → processes_text p (set xs i (touched_process (get_or xs i d))) ≡ processes_text p xs
+processes_kept p [] i d = refl
+processes_kept p (x ∷ xs) zero d =
+    ap (λ (l : List ℕ). (codes "process " ++ decimal p ++ codes " " ++ standing_text x.standing ++ codes " " ++ hex8 x.pc ++ l ++ codes "\n") ++ processes_text (p + 1) xs) (registers_kept x.registers.general x.pc)
+processes_kept p (x ∷ xs) (suc i) d = ap (λ (l : List ℕ). process_text p x.standing x.pc x.registers.general ++ l) (processes_kept (p + 1) xs i d)
 
 end_first : (ready : List ℕ) (m : State) → end_text (touch_first m ready) ≡ end_text m
 end_first [] m = refl
-end_first (p ∷ rest) m = processes_kept touched_process (λ q. refl) (λ q. refl) 1 m.processes (p - 1) no_process
+end_first (q ∷ rest) m = processes_kept 1 m.processes (q - 1) no_process
 
 pub end_touched : (b : Bool) (m : State) → end_text (touched b m) ≡ end_text m
 end_touched true m = end_first m.ready m

@@ -1,5 +1,11 @@
+pub mod Looks
 pub mod Starts
+pub mod Calls
+pub mod Stores
 pub mod Lines
+pub mod Boundaries
+pub mod Changes
+pub mod Halves
 pub mod Ends
 pub mod Traces
 pub mod Shows

@@ -1,81 +1,100 @@
 -- The lines and the end of a trace, by what a station holds.
-use Rattle.std.specs.Prelude.{◌≡◌, ℕ, zero, suc, ◌+◌, Bool, true, false, if◌then◌else◌, List, [], ◌++◌, length, drop, Option, Some, None}
+use Rattle.std.specs.Prelude.{◌≡◌, ℕ, zero, suc, ◌+◌, Bool, false, if◌then◌else◌, List, [], ◌++◌, length, map, is_some, Option, Some, None}
 use Rattle.std.specs.Io.KnownBytes.{Appends}
 use Rattle.ds_pagemap.specs.Machine.{State, process_of, first, touched}
 use Rattle.ds_pagemap.specs.Run.{after}
-use Rattle.ds_cp0.specs.System.{is_user}
-use Rattle.ds_refinement.specs.Held.{Held}
+use Rattle.ds_refinement.specs.Held.{Held, last_boundary}
 use Rattle.ds_refinement.specs.Stands.{Stands}
 use Rattle.ds_refinement.specs.Runs.{held_goes_on}
 use Rattle.ds_station.specs.declared.fault.Fault.{Fault}
 use Rattle.ds_station.specs.declared.fault.Fault.TheVariants as fault
 use Rattle.ds_station.specs.Reads.{address_held, general_held, memory_held}
+use Rattle.ds_view.specs.declared.view.View.{View}
 use Rattle.ds_trace.specs.declared.start.Start.{Start}
-use Rattle.ds_trace.specs.declared.start.Before.{Before}
 use Rattle.ds_trace.specs.Starts.{start_at}
-use Rattle.ds_trace.specs.Lines.{before_of, told_text, switch_text}
+use Rattle.ds_trace.specs.Looks.{Looked, Found}
+use Rattle.ds_trace.specs.Boundaries.{due_by}
+use Rattle.ds_trace.specs.Halves.{looked_of, process_in, half_after}
 use Rattle.ds_trace.specs.Ends.{process_text}
 use Rattle.ds_trace.specs.Traces.{trace_along, WritesTrace, WritesTracePart}
 
 -- the unit of a process, if there is one
 abbrev pub start_held : Held → Option ℕ → Option Start
 start_held h None = None
-start_held h (Some p) = Some (start_at (memory_held h) h.kept.state.time p (address_held h p))
+start_held h (Some p) = Some (start_at (memory_held h) (general_held h p) h.kept.state.time p (address_held h p))
 
 -- what of a station the lines of its next half turn tell, by whether a boundary is owed
-abbrev pub before_held : Bool → Held → Before
-before_held owed h = record {
+abbrev pub looked_held : Bool → Held → Looked
+looked_held owed h = record {
   owed = owed;
+  began = last_boundary h.kept.state;
   start = if owed then None else start_held h (first h.kept.state.ready);
   logged = length h.kept.log;
   runner = first h.kept.state.ready;
+  due = due_by (if owed then h.kept.state.time else h.kept.state.time + 1) h.kept.state.commands;
+  characters = length h.kept.state.characters;
+  queued = map length h.kept.state.queues;
+  standings = map (λ q. q.standing) h.kept.state.processes;
+}
+
+-- what is found after it, with the registers of this process
+abbrev pub found_held : ℕ → Held → Found
+found_held p h = record {
+  time = h.kept.state.time;
+  owed = is_some h.kept.state.owed;
+  runner = first h.kept.state.ready;
+  log = h.kept.log;
+  general = general_held h p;
+  memory = memory_held h;
+  characters = length h.kept.state.characters;
+  queues = h.kept.state.queues;
+  standings = map (λ q. q.standing) h.kept.state.processes;
 }
 
 -- the lines of a half turn, by what was before it and what is held after it
-abbrev pub half_held : Before → Held → List ℕ
-half_held b h =
-    told_text b.start (drop b.logged h.kept.log) (general_held h)
-    ++ switch_text h.kept.state.time b.runner (first h.kept.state.ready)
+abbrev pub half_held : View → Looked → Held → List ℕ
+half_held v b h = half_after v b (found_held (process_in b.start) h)
 
 -- the lines of so many processes, the first of which has this number
 abbrev pub processes_held : Held → ℕ → ℕ → List ℕ
 processes_held h p zero = []
-processes_held h p (suc n) = process_text p (process_of h.kept.state p).standing (address_held h p) ++ processes_held h (p + 1) n
+processes_held h p (suc n) =
+    process_text p (process_of h.kept.state p).standing (address_held h p) (general_held h p) ++ processes_held h (p + 1) n
 
 -- the end's text
 abbrev pub end_held : Held → List ℕ
 end_held h = processes_held h 1 (length h.kept.state.processes)
 
 -- A run from m for n was followed to where the station is: some of its trace is written, the rest of it is to be written.
-pub record IsTold (n : ℕ) (m : State) (h : Held) (old now : Option (List ℕ)) (rest : List ℕ) (b : Before) : Type 0 where
+pub record IsTold (v : View) (n : ℕ) (m : State) (h : Held) (old now : Option (List ℕ)) (rest : List ℕ) (b : Looked) : Type 0 where
   pub choices : List Bool
   pub early : Bool
   pub stands : Stands h (touched early (after n choices m))
-  pub looked : b ≡ before_of (after n choices m)
+  pub looked : b ≡ looked_of (after n choices m)
   pub sent : List ℕ
   pub appends : Appends old now sent
-  pub told : sent ++ rest ≡ trace_along n choices m
+  pub told : sent ++ rest ≡ trace_along v n choices m
 
 -- from each machine state that the station stood for
-pub record TellsSo (n : ℕ) (from h : Held) (old now : Option (List ℕ)) (rest : List ℕ) (b : Before) : Type 0 where
-  pub tells : (m : State) → Stands from m → IsTold n m h old now rest b
+pub record TellsSo (v : View) (n : ℕ) (from h : Held) (old now : Option (List ℕ)) (rest : List ℕ) (b : Looked) : Type 0 where
+  pub tells : (m : State) → Stands from m → IsTold v n m h old now rest b
 
 -- A run came to its end, or a fault cut it short: memory ran out where no unit was begun.
 abbrev pub IsStopped : Option Fault → ℕ → Held → Type 0
 IsStopped None n h = held_goes_on n h ≡ false
 IsStopped (Some f) n h = f ≡ fault.Memory
 
--- it was told so far, and the processor is in user mode there
-pub record TellsAll (cut : Option Fault) (n : ℕ) (from h : Held) (old now : Option (List ℕ)) (rest : List ℕ) : Type 0 where
-  pub before : Before
-  pub tells : TellsSo n from h old now rest before
+-- it was told so far, and no instruction of a unit is counted there
+pub record TellsAll (cut : Option Fault) (v : View) (n : ℕ) (from h : Held) (old now : Option (List ℕ)) (rest : List ℕ) : Type 0 where
+  pub before : Looked
+  pub tells : TellsSo v n from h old now rest before
   pub stopped : IsStopped cut n h
-  pub user : is_user h.core.system ≡ true
+  pub spent : h.own.spent ≡ 0
 
 -- each run from there is traced to its end
-pub record Traces (n : ℕ) (from : Held) (old new : Option (List ℕ)) : Type 0 where
-  pub traces : (m : State) → Stands from m → WritesTrace old new n m
+pub record Traces (v : View) (n : ℕ) (from : Held) (old new : Option (List ℕ)) : Type 0 where
+  pub traces : (m : State) → Stands from m → WritesTrace v old new n m
 
 -- or a prefix of what is told of it is written
-pub record TracesPart (n : ℕ) (from : Held) (old new : Option (List ℕ)) : Type 0 where
-  pub traces : (m : State) → Stands from m → WritesTracePart old new n m
+pub record TracesPart (v : View) (n : ℕ) (from : Held) (old new : Option (List ℕ)) : Type 0 where
+  pub traces : (m : State) → Stands from m → WritesTracePart v old new n m

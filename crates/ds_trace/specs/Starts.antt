@@ -1,9 +1,13 @@
 -- The unit that a state has next.
-use Rattle.std.specs.Prelude.{ℕ, ◌+◌, is_some, if◌then◌else◌, Option, Some, None}
+use Rattle.std.specs.Prelude.{ℕ, ◌+◌, Bool, true, false, is_some, if◌then◌else◌, List, Option, Some, None}
 use Rattle.ds_word.specs.Word.{word}
+use Rattle.ds_isa.specs.declared.instr.Instr.{Instr}
+use Rattle.ds_isa.specs.declared.instr.Instr.TheVariants as instr
 use Rattle.ds_isa.specs.Encoding.{uses}
 use Rattle.ds_isa.specs.Instruction.{instruction_of}
 use Rattle.ds_isa.specs.Shapes.{is_branch}
+use Rattle.ds_procs.specs.declared.call.Call.{Call}
+use Rattle.ds_procs.specs.Calls.{call_of}
 use Rattle.ds_policy.specs.Grants.{PageState}
 use Rattle.ds_pagemap.specs.Machine.{State, process_of, first}
 use Rattle.ds_station.specs.Reads.{fetched}
@@ -14,14 +18,35 @@ abbrev pub slot_of : PageState → ℕ → ℕ → Option ℕ → Option ℕ
 slot_of s p pc None = None
 slot_of s p pc (Some w) = if is_branch (uses (instruction_of w)).shape then fetched s p (word (pc + 4)) else None
 
--- the unit of a process at an address, at a time
-abbrev pub start_at : PageState → ℕ → ℕ → ℕ → Start
-start_at s time p pc = record { time = time; process = p; address = pc; word = fetched s p pc; slot = slot_of s p pc (fetched s p pc) }
+-- whether an instruction is a call
+abbrev pub is_call : Instr → Bool
+is_call (instr.Syscall code) = true
+is_call other = false
+
+-- the call that registers ask for, where the word is one
+abbrev pub call_at : List ℕ → Option ℕ → Option Call
+call_at general None = None
+call_at general (Some w) = if is_call (instruction_of w) then Some (call_of general) else None
+
+-- the unit of a process at an address, at a time, with these registers
+abbrev pub start_at : PageState → List ℕ → ℕ → ℕ → ℕ → Start
+start_at s general time p pc = record {
+  time = time;
+  process = p;
+  address = pc;
+  word = fetched s p pc;
+  slot = slot_of s p pc (fetched s p pc);
+  call = call_at general (fetched s p pc);
+}
+
+-- the general registers of a process
+abbrev pub general_of : State → ℕ → List ℕ
+general_of m p = (process_of m p).registers.general
 
 -- the unit of a process, if there is one
 abbrev pub start_of : State → Option ℕ → Option Start
 start_of m None = None
-start_of m (Some p) = Some (start_at m.memory m.time p (process_of m p).pc)
+start_of m (Some p) = Some (start_at m.memory (general_of m p) m.time p (process_of m p).pc)
 
 -- the unit that is next: of the first ready process, where no boundary is owed
 abbrev pub next_start : State → Option Start

@@ -9,40 +9,41 @@ use Rattle.ds_pagemap.specs.Inputs.{Refusal}
 use Rattle.ds_station.specs.Headline.{Begins, Refuses}
 use Rattle.ds_station.specs.declared.fault.Fault.{Fault}
 use Rattle.ds_station.specs.declared.fault.Fault.TheVariants as fault
-use Rattle.ds_trace.specs.Lines.{half_text}
+use Rattle.ds_view.specs.declared.view.View.{View}
+use Rattle.ds_trace.specs.Halves.{half_text}
 use Rattle.ds_trace.specs.Ends.{end_text}
 
 -- the lines of the next half turn of a run for n, if the run goes on
-abbrev pub next_text : ℕ → Bool → State → List ℕ
-next_text n touch m = if goes_on n m then half_text m (half_turn touch m) else []
+abbrev pub next_text : View → ℕ → Bool → State → List ℕ
+next_text v n touch m = if goes_on n m then half_text v m (half_turn touch m) else []
 
 -- the lines of a run for n by these choices, the newest half turn last
-unfoldable pub trace_along : ℕ → List Bool → State → List ℕ
-trace_along n [] m = []
-trace_along n (touch ∷ earlier) m = trace_along n earlier m ++ next_text n touch (after n earlier m)
+unfoldable pub trace_along : View → ℕ → List Bool → State → List ℕ
+trace_along v n [] m = []
+trace_along v n (touch ∷ earlier) m = trace_along v n earlier m ++ next_text v n touch (after n earlier m)
 
 -- the lines of the way to a state, and that state's end
-abbrev pub told_to : (n : ℕ) (m t : State) → Reaches n m t → List ℕ
-told_to n m t r = trace_along n r.choices m ++ end_text t
+abbrev pub told_to : View → (n : ℕ) (m t : State) → Reaches n m t → List ℕ
+told_to v n m t r = trace_along v n r.choices m ++ end_text t
 
 -- A run for n from the first state has ended: its trace is written, and then its text.
-pub record WritesTrace (old new : Option (List ℕ)) (n : ℕ) (first : State) : Type 0 where
+pub record WritesTrace (v : View) (old new : Option (List ℕ)) (n : ℕ) (first : State) : Type 0 where
   pub last : State
   pub ends : Ends n first last
   pub between : Option (List ℕ)
-  pub trace : Appends old between (told_to n first last ends.reached)
+  pub trace : Appends old between (told_to v n first last ends.reached)
   pub written : Appends between new (text_of last)
 
 -- A prefix of both is written, of a run that has come somewhere.
-pub record WritesTracePart (old new : Option (List ℕ)) (n : ℕ) (first : State) : Type 0 where
+pub record WritesTracePart (v : View) (old new : Option (List ℕ)) (n : ℕ) (first : State) : Type 0 where
   pub last : State
   pub reached : Reaches n first last
-  pub written : AppendsPart old new (told_to n first last reached ++ text_of last)
+  pub written : AppendsPart old new (told_to v n first last reached ++ text_of last)
 
 -- when each fault comes, and what is written then: nothing where it refuses the inputs
-abbrev pub TraceEndsBy : Fault → Result State Refusal → Option (List ℕ) → Option (List ℕ) → ℕ → Type 0
-TraceEndsBy fault.Memory read old new n = Keeps old new ⊎ Begins read (WritesTracePart old new n)
-TraceEndsBy fault.Stuck read old new n = ⊥
-TraceEndsBy fault.WriteFault read old new n = Begins read (WritesTracePart old new n)
-TraceEndsBy fault.Failed read old new n = ⊥
-TraceEndsBy f read old new n = Refuses f read × Keeps old new
+abbrev pub TraceEndsBy : Fault → View → Result State Refusal → Option (List ℕ) → Option (List ℕ) → ℕ → Type 0
+TraceEndsBy fault.Memory v read old new n = Keeps old new ⊎ Begins read (WritesTracePart v old new n)
+TraceEndsBy fault.Stuck v read old new n = ⊥
+TraceEndsBy fault.WriteFault v read old new n = Begins read (WritesTracePart v old new n)
+TraceEndsBy fault.Failed v read old new n = ⊥
+TraceEndsBy f v read old new n = Refuses f read × Keeps old new

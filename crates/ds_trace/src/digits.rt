@@ -1,7 +1,7 @@
 //! Numbers in digits.
-ghost use Rattle.std.specs.Prelude.{◌≡◌, ◌<◌, ◌++◌, ◌∷◌, [], OnOk, decimal};
+ghost use Rattle.std.specs.Prelude.{◌≡◌, ◌<◌, ◌++◌, ◌∷◌, [], OnOk, codes, decimal};
 ghost use Rattle.std.specs.String.{string_bytes};
-ghost use Rattle.ds_listing.specs.Texts.{hex4, hex8, hex_digit};
+ghost use Rattle.ds_listing.specs.Texts.{hex2, hex4, hex8, hex_digit};
 
 use itoa::Buffer;
 use std::alloc::AllocError;
@@ -35,6 +35,15 @@ fn push_digit(text: &mut String, number: u32) -> Result<(), AllocError>
     text.push(char::from(hex_digit(number)))
 }
 
+/// Adds the two hexadecimal digits of a byte.
+#[tactic(auto, unfolding(ds_listing::specs::Texts::hex2))]
+pub(crate) fn push_byte(text: &mut String, byte: u8) -> Result<(), AllocError>
+    ensures { OnOk result (string_bytes text.new ≡ string_bytes text.old ++ hex2 byte) }
+{
+    push_digit(text, u32::from(byte / 16))?;
+    push_digit(text, u32::from(byte % 16))
+}
+
 /// Adds the four hexadecimal digits of a half.
 #[tactic(auto, unfolding(ds_listing::specs::Texts::hex4))]
 fn push_half(text: &mut String, half: u32) -> Result<(), AllocError>
@@ -53,4 +62,11 @@ pub(crate) fn push_hex(text: &mut String, word: u32) -> Result<(), AllocError>
 {
     push_half(text, word / 0x1_0000)?;
     push_half(text, word % 0x1_0000)
+}
+
+/// Ends a line.
+pub(crate) fn push_newline(text: &mut String) -> Result<(), AllocError>
+    ensures { OnOk result (string_bytes text.new ≡ string_bytes text.old ++ codes "\n") }
+{
+    text.push_str("\n")
 }

@@ -7,11 +7,13 @@ ghost use Rattle.ds_trace.specs.Traces.{TraceEndsBy, WritesTrace};
 use crate::trace::tell;
 use ds_policy::Policy;
 use ds_station::{Fault, prepare};
+use ds_view::View;
 use std::alloc::Global;
 use std::io::Write;
 
 /// As `run_files` of `ds_station`, with the trace of the run before its text: what each unit was,
-/// what was logged, which process runs from when on, and at the end how each process stands.
+/// what was logged, what each boundary did, which process runs from when on, and at the end how each
+/// process stands, with its registers. Of what happens the lines are told that the view wants.
 ///
 /// Inputs are refused as `run_files` refuses them, and nothing is written. Where memory runs out or a
 /// write fails, a prefix of the trace and the text is written.
@@ -22,12 +24,13 @@ pub fn trace_files<W: Write>(
     input: &[u8],
     n: u64,
     random: u8,
+    view: &View,
     out: &mut W,
 ) -> Result<(), Fault>
     ensures ok { OnOk result (Begins
         (inputs policy.now (sources_seen sources.now) input.now n random)
-        (WritesTrace (W.contents out.old) (W.contents out.new) n)) }
-    ensures err { IfErr result (λ f. TraceEndsBy f
+        (WritesTrace view.now (W.contents out.old) (W.contents out.new) n)) }
+    ensures err { IfErr result (λ f. TraceEndsBy f view.now
         (inputs policy.now (sources_seen sources.now) input.now n random)
         (W.contents out.old) (W.contents out.new) n) }
     ensures refused { (refusal : Refusal)
@@ -38,7 +41,7 @@ pub fn trace_files<W: Write>(
         Ok(policy) => policy,
         Err(fault) => return Err(Fault::from(fault)),
     };
-    trace_policy(alloc, &policy, sources, input, n, random, out)
+    trace_policy(alloc, &policy, sources, input, n, random, view, out)
 }
 
 /// As `trace_files`, under a policy that was read before.
@@ -49,12 +52,13 @@ pub fn trace_policy<W: Write>(
     input: &[u8],
     n: u64,
     random: u8,
+    view: &View,
     out: &mut W,
 ) -> Result<(), Fault>
     ensures ok { OnOk result (Begins
         (inputs_under policy.now (sources_seen sources.now) input.now n random)
-        (WritesTrace (W.contents out.old) (W.contents out.new) n)) }
-    ensures err { IfErr result (λ f. TraceEndsBy f
+        (WritesTrace view.now (W.contents out.old) (W.contents out.new) n)) }
+    ensures err { IfErr result (λ f. TraceEndsBy f view.now
         (inputs_under policy.now (sources_seen sources.now) input.now n random)
         (W.contents out.old) (W.contents out.new) n) }
     ensures refused { (refusal : Refusal)
@@ -65,5 +69,5 @@ pub fn trace_policy<W: Write>(
         Ok(station) => station,
         Err(refused) => return Err(refused),
     };
-    tell(alloc, &mut station, n, out)
+    tell(alloc, view, &mut station, n, out)
 }

@@ -1,6 +1,10 @@
 //! The trace of a run: what happened, unit by unit, and how each process stands at the end.
 #![tactic(auto)]
 
+mod before;
+mod boundaries;
+mod calls;
+mod changes;
 mod digits;
 mod ends;
 mod files;
@@ -8,6 +12,7 @@ mod laws;
 mod lines;
 mod sheet;
 mod start;
+mod stores;
 mod trace;
 
 pub use files::{trace_files, trace_policy};

@@ -1,22 +1,30 @@
-//! The lines of a half turn.
-ghost use Rattle.std.specs.Prelude.{◌≡◌, ◌+◌, ◌++◌, ◌==◌, [], OnOk, codes, slice_index};
+//! The lines of a unit.
+ghost use Rattle.std.specs.Prelude.{◌≡◌, ◌+◌, ◌++◌, ◌==◌, [], Some, None, OnOk, codes, length};
 ghost use Rattle.std.specs.String.{string_bytes};
 ghost use Rattle.ds_isa.specs.Instruction.{instruction_of};
 ghost use Rattle.ds_word.specs.Word.{word};
-ghost use Rattle.ds_trace.specs.Lines.{calls, front_text, instruction_line, is_call, is_hidden, is_none, register_of, register_text, result_text, runner_text, same_first, shown, switch_text, unit_text, was_done};
+ghost use Rattle.ds_trace.specs.Lines.{front_text, instruction_line, is_hidden, is_none, register_of, register_text, result_text, shown, unit_text, was_done};
+ghost use Rattle.ds_station.specs.Reads.{general_held, memory_held};
+ghost use Rattle.ds_trace.specs.Shows.{found_held};
+ghost use Rattle.ds_trace.specs.Stores.{reach_of, stored_at, stored_text};
 
-use crate::digits::{push_decimal, push_hex};
-use crate::start::Start;
-use ds_isa::{Instr, decode, writes};
+use crate::calls::{push_answer, push_call};
+use crate::digits::{push_decimal, push_hex, push_newline};
+use crate::start::{Start, is_call};
+use crate::stores::{held_in, is_lost, push_stored, reach_of, stored_at};
+use ds_isa::{decode, writes};
 use ds_listing::push_word;
+use ds_procs::Call;
+use ds_station::Station;
+use ds_tlb::Lookaside;
 use ds_word::wrapping_sum;
 use std::alloc::AllocError;
 
 /// Whether a register is never shown: 0, and those which a touch may change.
-fn is_hidden(register: u8) -> bool
+pub(crate) fn is_hidden(register: u8) -> bool
     ensures { result ≡ is_hidden register }
 {
-    register == 0 || register == 26 || register == 27
+    register == 0 || is_lost(register)
 }
 
 /// A register that is shown.
@@ -35,23 +43,6 @@ fn shown(register: Option<u8>) -> Option<u8>
     }
 }
 
-/// Whether an instruction is a call.
-fn is_call(instr: &Instr) -> bool
-    ensures { result ≡ is_call instr.now }
-{
-    matches!(instr, Instr::Syscall { .. })
-}
-
-/// Whether a word is a call.
-fn calls(word: Option<u32>) -> bool
-    ensures { result ≡ calls word }
-{
-    match word {
-        Some(word) => is_call(&decode(word)),
-        None => false,
-    }
-}
-
 /// The register that the line of an instruction shows.
 #[tactic(auto, unfolding(crate::specs::Lines::register_of))]
 fn register_of(word: u32) -> Option<u8>
@@ -62,16 +53,6 @@ fn register_of(word: u32) -> Option<u8>
         shown(Some(2))
     } else {
         shown(writes(&instr))
-    }
-}
-
-/// What a register holds.
-fn held_in(general: &[u32; 32], register: u8) -> u32
-    ensures { result ≡ slice_index general.now register }
-{
-    match general.get(register as usize) {
-        Some(value) => *value,
-        None => 0,
     }
 }
 
@@ -115,133 +96,147 @@ fn push_front(
     push_word(line, word)
 }
 
-/// Adds the register of an instruction that was done.
-fn push_result(
+/// Adds a register, or the word of a store, by what the registers hold.
+fn push_effect<L: Lookaside>(
     line: &mut String,
-    done: bool,
+    station: &Station<L>,
+    process: u32,
     general: &[u32; 32],
     word: u32,
 ) -> Result<(), AllocError>
-    ensures { OnOk result (string_bytes line.new
-        ≡ string_bytes line.old ++ result_text done general.now word) }
+    ensures { OnOk result (string_bytes line.new ≡ string_bytes line.old
+        ++ (register_text general.now (register_of word)
+        ++ stored_text (memory_held station.now) (length station.now.kept.state.processes)
+        process (stored_at general.now (reach_of (instruction_of word))))) }
+{
+    push_register(line, general, register_of(word))?;
+    let address = stored_at(general, reach_of(&decode(word)));
+    push_stored(line, station, process, address)
+}
+
+/// Adds what an instruction leaves, where its unit was done.
+fn push_result<L: Lookaside>(
+    line: &mut String,
+    station: &Station<L>,
+    process: u32,
+    general: &[u32; 32],
+    word: u32,
+    done: bool,
+) -> Result<(), AllocError>
+    requires general { general.now ≡ general_held station.now process }
+    ensures { OnOk result (string_bytes line.new ≡ string_bytes line.old
+        ++ result_text done process (found_held process station.now) word) }
 {
     if done {
-        push_register(line, general, register_of(word))
+        push_effect(line, station, process, general, word)
     } else {
         Ok(())
     }
 }
 
+/// What is told of the instruction of a unit, or of that in its slot.
+#[derive(Clone, Copy)]
+struct Told {
+    time: u64,
+    process: u32,
+    address: u32,
+    word: u32,
+    call: Option<Call>,
+    /// Whether its unit was done.
+    done: bool,
+}
+
+/// Adds the line of an instruction that was fetched.
+fn push_line<L: Lookaside>(
+    line: &mut String,
+    told: Told,
+    station: &Station<L>,
+) -> Result<(), AllocError>
+    ensures { OnOk result (string_bytes line.new ≡ string_bytes line.old
+        ++ instruction_line [] told.time told.process told.address (Some told.word) told.call
+        told.done (found_held told.process station.now)) }
+{
+    let general = station.general(told.process);
+    push_front(line, told.time, told.process, told.address, told.word)?;
+    push_call(line, told.call)?;
+    push_result(line, station, told.process, &general, told.word, told.done)?;
+    push_answer(line, told.call, held_in(&general, 2))?;
+    push_newline(line)
+}
+
 /// Adds the line of the first instruction of a unit, where it was fetched.
-fn push_first(
+fn push_first<L: Lookaside>(
     line: &mut String,
     start: &Start,
     done: bool,
-    general: &[u32; 32],
+    station: &Station<L>,
 ) -> Result<(), AllocError>
     ensures { OnOk result (string_bytes line.new ≡ string_bytes line.old
         ++ instruction_line [] start.now.time start.now.process start.now.address
-        start.now.word done general.now) }
+        start.now.word start.now.call done (found_held start.now.process station.now)) }
 {
     match start.word {
         Some(word) => {
-            push_front(line, start.time, start.process, start.address, word)?;
-            push_result(line, done, general, word)?;
-            line.push_str("\n")
+            let told = Told {
+                time: start.time,
+                process: start.process,
+                address: start.address,
+                word,
+                call: start.call,
+                done,
+            };
+            push_line(line, told, station)
         }
         None => Ok(()),
     }
 }
 
 /// Adds the line of the slot of its branch, where that was fetched.
-fn push_slot(
+fn push_slot<L: Lookaside>(
     line: &mut String,
     start: &Start,
     done: bool,
-    general: &[u32; 32],
+    station: &Station<L>,
 ) -> Result<(), AllocError>
     ensures { OnOk result (string_bytes line.new ≡ string_bytes line.old
         ++ instruction_line (codes "  ") start.now.time start.now.process
-        (word (start.now.address + 4)) start.now.slot done general.now) }
+        (word (start.now.address + 4)) start.now.slot None done
+        (found_held start.now.process station.now)) }
 {
     match start.slot {
         Some(word) => {
             line.push_str("  ")?;
-            let address = wrapping_sum(start.address, 4);
-            push_front(line, start.time, start.process, address, word)?;
-            push_result(line, done, general, word)?;
-            line.push_str("\n")
+            let told = Told {
+                time: start.time,
+                process: start.process,
+                address: wrapping_sum(start.address, 4),
+                word,
+                call: None,
+                done,
+            };
+            push_line(line, told, station)
         }
         None => Ok(()),
     }
 }
 
 /// Adds the lines of a unit.
-pub(crate) fn push_unit(
+pub(crate) fn push_unit<L: Lookaside>(
     line: &mut String,
     start: &Start,
     done: bool,
-    general: &[u32; 32],
+    station: &Station<L>,
 ) -> Result<(), AllocError>
-    ensures { OnOk result (string_bytes line.new
-        ≡ string_bytes line.old ++ unit_text start.now done general.now) }
+    ensures { OnOk result (string_bytes line.new ≡ string_bytes line.old
+        ++ unit_text start.now done (found_held start.now.process station.now)) }
 {
-    push_first(line, start, done, general)?;
-    push_slot(line, start, done, general)
+    push_first(line, start, done, station)?;
+    push_slot(line, start, done, station)
 }
 
 /// Whether a unit that logged this was done.
 pub(crate) fn was_done(start: &Start, logged: &[u8]) -> bool
     ensures { result ≡ was_done start.now logged.now }
 {
-    logged.is_empty() || calls(start.word)
-}
-
-/// Whether the same process is first, or nobody.
-fn same_first(before: Option<u32>, after: Option<u32>) -> bool
-    ensures { result ≡ same_first before after }
-{
-    match before {
-        Some(before) => match after {
-            Some(after) => before == after,
-            None => false,
-        },
-        None => match after {
-            Some(_) => false,
-            None => true,
-        },
-    }
-}
-
-/// Adds who runs from a time on.
-fn push_runner(line: &mut String, time: u64, runner: Option<u32>) -> Result<(), AllocError>
-    ensures { OnOk result
-        (string_bytes line.new ≡ string_bytes line.old ++ runner_text time runner) }
-{
-    push_decimal(line, time)?;
-    match runner {
-        Some(process) => {
-            line.push_str(" ")?;
-            push_decimal(line, u64::from(process))?;
-            line.push_str(" runs\n")
-        }
-        None => line.push_str(" nobody runs\n"),
-    }
-}
-
-/// Adds a line where another process runs than before.
-pub(crate) fn push_switch(
-    line: &mut String,
-    time: u64,
-    before: Option<u32>,
-    after: Option<u32>,
-) -> Result<(), AllocError>
-    ensures { OnOk result
-        (string_bytes line.new ≡ string_bytes line.old ++ switch_text time before after) }
-{
-    if same_first(before, after) {
-        Ok(())
-    } else {
-        push_runner(line, time, after)
-    }
+    logged.is_empty() || start.call.is_some()
 }

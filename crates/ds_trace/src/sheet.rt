@@ -1,17 +1,23 @@
 //! The text of a trace on its way to a writer.
-ghost use Rattle.std.specs.Prelude.{◌≡◌, ◌++◌, [], OnErr, OnOk, drop};
+ghost use Rattle.std.specs.Prelude.{◌≡◌, ◌++◌, [], OnErr, OnOk, drop, is_some};
 ghost use Rattle.std.specs.Io.KnownBytes.{Appends};
 ghost use Rattle.ds_log.specs.Sent.{AppendsPart};
-ghost use Rattle.ds_trace.specs.Lines.{denied_text, told_text, unit_text, was_done};
-ghost use Rattle.ds_trace.specs.Shows.{end_held, half_held};
-ghost use Rattle.ds_station.specs.Reads.{general_held};
+ghost use Rattle.ds_trace.specs.Boundaries.{boundary_text};
+ghost use Rattle.ds_trace.specs.Changes.{changes_text};
+ghost use Rattle.ds_trace.specs.Halves.{done_text, process_in};
+ghost use Rattle.ds_trace.specs.Lines.{denied_text, unit_told};
+ghost use Rattle.ds_trace.specs.Shows.{end_held, found_held, half_held};
 
+use crate::before::Before;
+use crate::boundaries::{push_commands, push_keys, push_lost};
+use crate::changes::{push_changes, push_switch, push_way};
 use crate::ends::push_end;
-use crate::lines::{push_switch, push_unit, was_done};
-use crate::start::{Before, Start};
+use crate::lines::{push_unit, was_done};
+use crate::start::Start;
 use ds_log::{WriteFailed, send};
 use ds_station::Station;
 use ds_tlb::Lookaside;
+use ds_view::View;
 use std::alloc::{AllocError, Global};
 use std::io::Write;
 
@@ -55,57 +61,121 @@ impl Sheet {
         self.text.extend_from_slice(logged)
     }
 
-    /// Adds the lines of a unit, and what it logged.
-    fn push_unit(
+    /// Adds the lines of a unit, and what it logged, as far as they are wanted.
+    fn push_unit<L: Lookaside>(
         &mut self,
+        view: &View,
         start: &Start,
-        logged: &[u8],
-        general: &[u32; 32],
-    ) -> Result<(), AllocError>
-        ensures { OnOk result (self.new.text.items ≡ self.old.text.items
-            ++ (unit_text start.now (was_done start.now logged.now) general.now
-            ++ denied_text logged.now)) }
-    {
-        self.line.clear();
-        push_unit(&mut self.line, start, was_done(start, logged), general)?;
-        self.text.extend_from_slice(self.line.as_bytes())?;
-        self.push_denied(logged)
-    }
-
-    /// Adds what is told of a half turn.
-    fn push_told<L: Lookaside>(
-        &mut self,
-        start: Option<Start>,
         logged: &[u8],
         station: &Station<L>,
     ) -> Result<(), AllocError>
         ensures { OnOk result (self.new.text.items ≡ self.old.text.items
-            ++ told_text start logged.now (general_held station.now)) }
+            ++ unit_told view.now start.now logged.now
+            (found_held start.now.process station.now)) }
     {
-        match start {
-            Some(start) => self.push_unit(&start, logged, &station.general(start.process)),
-            None => self.text.extend_from_slice(logged),
+        if view.shows_unit(start.process, start.call.is_some()) {
+            self.line.clear();
+            push_unit(&mut self.line, start, was_done(start, logged), station)?;
+            self.text.extend_from_slice(self.line.as_bytes())?;
         }
+        if view.shows_denials(start.process) {
+            self.push_denied(logged)?;
+        }
+        Ok(())
     }
 
-    /// Adds the lines of a half turn, by what was looked at before it and what the station shows now.
-    pub(crate) fn push_half<L: Lookaside>(
+    /// Adds what a boundary did.
+    fn push_boundary<L: Lookaside>(
         &mut self,
+        view: &View,
         before: &Before,
         station: &Station<L>,
     ) -> Result<(), AllocError>
-        ensures { OnOk result (self.new.text.items
-            ≡ self.old.text.items ++ half_held before.now station.now) }
+        ensures { OnOk result (self.new.text.items ≡ self.old.text.items
+            ++ boundary_text view.now before.now
+            (found_held (process_in before.now.start) station.now)) }
     {
-        self.push_told(before.start, logged_since(station, before.logged), station)?;
+        if !view.shows_rest() {
+            return Ok(());
+        }
         self.line.clear();
-        push_switch(
-            &mut self.line,
-            station.time(),
-            before.runner,
-            station.runner(),
-        )?;
+        push_commands(&mut self.line, station.time(), before.due.as_slice())?;
+        self.text.extend_from_slice(self.line.as_bytes())?;
+        self.text
+            .extend_from_slice(logged_since(station, before.logged))?;
+        self.line.clear();
+        push_keys(&mut self.line, station, &before.queued)?;
+        push_lost(&mut self.line, station, before.characters, &before.queued)?;
         self.text.extend_from_slice(self.line.as_bytes())
+    }
+
+    /// Adds what was done: a unit, or a boundary.
+    fn push_done<L: Lookaside>(
+        &mut self,
+        view: &View,
+        before: &Before,
+        station: &Station<L>,
+        owed: bool,
+    ) -> Result<(), AllocError>
+        requires owed { owed ≡ is_some station.now.kept.state.owed }
+        ensures { OnOk result (self.new.text.items ≡ self.old.text.items
+            ++ done_text view.now before.now
+            (found_held (process_in before.now.start) station.now) before.now.start) }
+    {
+        match before.start {
+            Some(start) => {
+                self.push_unit(view, &start, logged_since(station, before.logged), station)
+            }
+            None => {
+                if owed {
+                    Ok(())
+                } else {
+                    self.push_boundary(view, before, station)
+                }
+            }
+        }
+    }
+
+    /// Adds who stands otherwise, who gives way, and who runs.
+    fn push_changes<L: Lookaside>(
+        &mut self,
+        view: &View,
+        before: &Before,
+        station: &Station<L>,
+    ) -> Result<(), AllocError>
+        ensures { OnOk result (self.new.text.items ≡ self.old.text.items
+            ++ changes_text view.now before.now
+            (found_held (process_in before.now.start) station.now)) }
+    {
+        if !view.shows_switches() {
+            return Ok(());
+        }
+        self.line.clear();
+        push_changes(&mut self.line, view, station, before.standings.as_slice())?;
+        push_way(&mut self.line, view, station, before.runner)?;
+        let (time, runner) = (station.time(), station.runner());
+        push_switch(&mut self.line, view, time, before.runner, runner)?;
+        self.text.extend_from_slice(self.line.as_bytes())
+    }
+
+    /// Adds the lines of a half turn, by what was looked at before it and what the station shows now,
+    /// and by whether it owes a boundary now.
+    pub(crate) fn push_half<L: Lookaside>(
+        &mut self,
+        view: &View,
+        before: &Before,
+        station: &Station<L>,
+        owed: bool,
+    ) -> Result<(), AllocError>
+        requires owed { owed ≡ is_some station.now.kept.state.owed }
+        ensures { OnOk result (self.new.text.items
+            ≡ self.old.text.items ++ half_held view.now before.now station.now) }
+    {
+        if !view.shows_turn(before.began) {
+            return Ok(());
+        }
+        self.push_done(view, before, station, owed)?;
+        self.push_changes(view, before, station)
     }
 
     /// Adds the end's text.

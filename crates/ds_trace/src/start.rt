@@ -1,11 +1,13 @@
-//! What is looked at before a half turn.
+//! The unit that is next.
 ghost use Rattle.std.specs.Prelude.{◌≡◌, ◌<◌, ◌≤◌, length};
 ghost use Rattle.ds_pagemap.specs.Machine.{first};
-ghost use Rattle.ds_station.specs.Reads.{address_held, memory_held};
-ghost use Rattle.ds_trace.specs.Shows.{before_held, start_held};
-ghost use Rattle.ds_trace.specs.Starts.{slot_of, start_at};
+ghost use Rattle.ds_procs.specs.Calls.{call_of};
+ghost use Rattle.ds_station.specs.Reads.{address_held, general_held, memory_held};
+ghost use Rattle.ds_trace.specs.Shows.{start_held};
+ghost use Rattle.ds_trace.specs.Starts.{call_at, is_call, slot_of, start_at};
 
-use ds_isa::{decode, is_branch};
+use ds_isa::{Instr, decode, is_branch};
+use ds_procs::{Call, Process};
 use ds_station::Station;
 use ds_tlb::Lookaside;
 use ds_word::wrapping_sum;
@@ -20,18 +22,8 @@ pub(crate) struct Start {
     pub word: Option<u32>,
     /// The word in the slot of its branch, where the process may fetch that.
     pub slot: Option<u32>,
-}
-
-/// What of a station the lines of its next half turn tell.
-#[derive(Clone, Copy)]
-pub(crate) struct Before {
-    /// Whether a boundary is owed.
-    pub owed: bool,
-    /// The unit, if that is next.
-    pub start: Option<Start>,
-    /// How many bytes the log has.
-    pub logged: usize,
-    pub runner: Option<u32>,
+    /// The call that it is, with its arguments.
+    pub call: Option<Call>,
 }
 
 /// The word in the slot of the instruction at an address, where that is a branch.
@@ -57,13 +49,45 @@ fn slot_of<L: Lookaside>(
     }
 }
 
+/// Whether an instruction is a call.
+pub(crate) fn is_call(instr: &Instr) -> bool
+    ensures { result ≡ is_call instr.now }
+{
+    matches!(instr, Instr::Syscall { .. })
+}
+
+/// The call that registers ask for.
+fn call_of(general: &[u32; 32]) -> Call
+    ensures { result ≡ call_of general.now }
+{
+    let mut process = Process::new(0);
+    process.registers = *general;
+    Call::of(&process)
+}
+
+/// The call that registers ask for, where the word is one.
+fn call_at(general: &[u32; 32], word: Option<u32>) -> Option<Call>
+    ensures { result ≡ call_at general.now word }
+{
+    match word {
+        Some(word) => {
+            if is_call(&decode(word)) {
+                Some(call_of(general))
+            } else {
+                None
+            }
+        }
+        None => None,
+    }
+}
+
 impl Start {
     /// The unit of a process.
     fn of<L: Lookaside>(station: &Station<L>, process: u32) -> Start
         requires above { 0 < process }
         requires within { process ≤ length station.now.kept.state.processes }
-        ensures { result ≡ start_at (memory_held station.now) station.now.kept.state.time process
-            (address_held station.now process) }
+        ensures { result ≡ start_at (memory_held station.now) (general_held station.now process)
+            station.now.kept.state.time process (address_held station.now process) }
     {
         let address = station.address(process);
         let word = station.word_at(process, address);
@@ -73,31 +97,17 @@ impl Start {
             address,
             word,
             slot: slot_of(station, process, address, word),
+            call: call_at(&station.general(process), word),
         }
     }
 
     /// The unit of the process that runs, if one does.
-    fn next<L: Lookaside>(station: &Station<L>) -> Option<Start>
+    pub(crate) fn next<L: Lookaside>(station: &Station<L>) -> Option<Start>
         ensures { result ≡ start_held station.now (first station.now.kept.state.ready) }
     {
         match station.runner() {
             Some(process) => Some(Start::of(station, process)),
             None => None,
-        }
-    }
-}
-
-impl Before {
-    /// What a station shows, by whether a boundary is owed.
-    pub(crate) fn of<L: Lookaside>(station: &Station<L>, owed: bool) -> Before
-        ensures { result ≡ before_held owed station.now }
-    {
-        let start = if owed { None } else { Start::next(station) };
-        Before {
-            owed,
-            start,
-            logged: station.log().len(),
-            runner: station.runner(),
         }
     }
 }

@@ -1,17 +1,19 @@
 //! A run that is told unit by unit.
-ghost use Rattle.std.specs.Prelude.{◌≡◌, ◌<◌, ◌≤◌, ◌++◌, ◌||◌, IfErr, IfOk, OnErr, OnOk, None, [], false, nat_lt};
+ghost use Rattle.std.specs.Prelude.{◌≡◌, ◌<◌, ◌≤◌, ◌++◌, ◌||◌, if◌then◌else◌, IfErr, IfOk, OnErr, OnOk, None, [], false, is_some, min, nat_lt, true};
 ghost use Rattle.std.specs.Io.KnownBytes.{Appends};
 ghost use Rattle.ds_log.specs.Sent.{AppendsPart};
 ghost use Rattle.ds_refinement.specs.Stands.{IsSound};
 ghost use Rattle.ds_station.specs.Headline.{held_text};
 ghost use Rattle.ds_trace.specs.Advanced.{Adds, Advances, is_last};
 ghost use Rattle.ds_trace.specs.Handed.{IsFinished, IsHandedOn, IsLate};
-ghost use Rattle.ds_trace.specs.Shows.{TellsAll, Traces, TracesPart, before_held, end_held, half_held};
+ghost use Rattle.ds_trace.specs.Shows.{TellsAll, Traces, TracesPart, end_held, half_held, looked_held};
+ghost use Rattle.ds_view.specs.Views.{has_lines};
 
+use crate::before::Before;
 use crate::sheet::Sheet;
-use crate::start::Before;
 use ds_station::{Fault, Station, Step, deliver};
 use ds_tlb::Lookaside;
+use ds_view::View;
 use std::alloc::{AllocError, Global};
 use std::io::Write;
 
@@ -20,33 +22,37 @@ const MOST_BYTES: usize = 65536;
 
 /// Adds the lines of the half turn that is done, and looks at the station for the next.
 fn tell_half<L: Lookaside>(
+    view: &View,
     station: &Station<L>,
     owed: bool,
     sheet: &mut Sheet,
     before: &mut Before,
 ) -> Result<(), AllocError>
+    requires owed { owed ≡ is_some station.now.kept.state.owed }
     ensures text { OnOk result (sheet.new.text.items
-        ≡ sheet.old.text.items ++ half_held before.old station.now) }
-    ensures next { OnOk result (before.new ≡ before_held owed station.now) }
+        ≡ sheet.old.text.items ++ half_held view.now before.old station.now) }
+    ensures next { OnOk result (before.new ≡ looked_held owed station.now) }
 {
-    sheet.push_half(before, station)?;
-    *before = Before::of(station, owed);
-    Ok(())
+    sheet.push_half(view, before, station, owed)?;
+    before.look(station, owed)
 }
 
 /// Adds the lines of the half turn that a step has ended, if it has.
 fn tell_step<L: Lookaside>(
+    view: &View,
     station: &Station<L>,
     step: Step,
     sheet: &mut Sheet,
     before: &mut Before,
 ) -> Result<(), AllocError>
-    ensures { OnOk result (Adds step station.now sheet.old.text.items before.old
+    requires unit { step ≡ Step.Unit → is_some station.now.kept.state.owed ≡ true }
+    requires boundary { step ≡ Step.Boundary → is_some station.now.kept.state.owed ≡ false }
+    ensures { OnOk result (Adds step view.now station.now sheet.old.text.items before.old
         sheet.new.text.items before.new) }
 {
     match step {
-        Step::Unit => tell_half(station, true, sheet, before),
-        Step::Boundary => tell_half(station, false, sheet, before),
+        Step::Unit => tell_half(view, station, true, sheet, before),
+        Step::Boundary => tell_half(view, station, false, sheet, before),
         Step::Inside => Ok(()),
         Step::Over => Ok(()),
     }
@@ -67,6 +73,7 @@ fn is_last(step: Step) -> bool
 /// One step of a station, told of where it ends a half turn. It answers whether that found all
 /// processes ended, or the fault by which there was none.
 fn advance<L: Lookaside>(
+    view: &View,
     station: &mut Station<L>,
     sheet: &mut Sheet,
     before: &mut Before,
@@ -74,18 +81,14 @@ fn advance<L: Lookaside>(
     requires early { station.old.kept.state.owed ≡ None
         → station.old.kept.state.time < 1000000000 }
     requires working { station.old.own.failed ≡ false }
-    ensures { IfOk result (λ r. Advances r station.old station.new
+    ensures { IfOk result (λ r. Advances r view.now station.old station.new
         sheet.old.text.items before.old sheet.new.text.items before.new) }
 {
     let step = match station.step() {
         Ok(step) => step,
-        Err(fault) => {
-            station.look_at_mode();
-            return Ok(Err(fault));
-        }
+        Err(fault) => return Ok(Err(fault)),
     };
-    station.look_at_mode();
-    tell_step(station, step, sheet, before)?;
+    tell_step(view, station, step, sheet, before)?;
     Ok(Ok(is_last(step)))
 }
 
@@ -125,9 +128,23 @@ fn is_before<L: Lookaside>(station: &Station<L>, n: u64, before: &Before) -> boo
     before.owed || station.time() < n
 }
 
-/// Follows a station to the end of a run for n, and tells of it. It answers the fault that cut the
-/// run short, if one did. What is left to be written is in the sheet.
+/// The time to which a run for n goes before anything of it can be told.
+fn silent_until(view: &View, n: u64) -> u64
+    ensures { result ≡ (if has_lines view.now then min view.now.from n else n) }
+{
+    if view.has_lines() {
+        view.from.min(n)
+    } else {
+        n
+    }
+}
+
+/// Follows a station to the end of a run for n, and tells of it. What comes before the first turn
+/// that is told goes by `run`. It answers the fault that cut the run short, if one did. What is left
+/// to be written is in the sheet.
 fn follow<L: Lookaside, W: Write>(
+    alloc: Global,
+    view: &View,
     station: &mut Station<L>,
     n: u64,
     sheet: &mut Sheet,
@@ -139,23 +156,26 @@ fn follow<L: Lookaside, W: Write>(
     requires spent { station.old.own.spent ≡ 0 }
     requires unowed { station.old.kept.state.owed ≡ None }
     requires empty { sheet.old.text.items ≡ [] }
-    ensures ok { IfOk result (λ cut. TellsAll cut n station.old station.new
+    ensures ok { IfOk result (λ cut. TellsAll cut view.now n station.old station.new
         (W.contents out.old) (W.contents out.new) sheet.new.text.items) }
     ensures err { OnErr result
-        (TracesPart n station.old (W.contents out.old) (W.contents out.new)) }
+        (TracesPart view.now n station.old (W.contents out.old) (W.contents out.new)) }
     ensures late { IfErr result IsLate }
 {
-    station.look_at_mode();
-    let mut before = Before::of(station, false);
+    match station.run(silent_until(view, n)) {
+        Ok(()) => {}
+        Err(fault) => return Ok(Some(fault)),
+    }
+    let mut before = Before::new(alloc);
+    before.look(station, false)?;
     while is_before(station, n, &before) {
-        match advance(station, sheet, &mut before)? {
+        match advance(view, station, sheet, &mut before)? {
             Ok(false) => {}
             Ok(true) => return Ok(None),
             Err(fault) => return Ok(Some(fault)),
         }
         hand_on(sheet, out)?;
     }
-    station.look_at_mode();
     Ok(None)
 }
 
@@ -183,6 +203,7 @@ fn finish<L: Lookaside, W: Write>(
 /// in which it ended. Where memory runs out or a write fails, a prefix of that is written.
 pub(crate) fn tell<L: Lookaside, W: Write>(
     alloc: Global,
+    view: &View,
     station: &mut Station<L>,
     n: u64,
     out: &mut W,
@@ -192,13 +213,13 @@ pub(crate) fn tell<L: Lookaside, W: Write>(
     requires working { station.old.own.failed ≡ false }
     requires spent { station.old.own.spent ≡ 0 }
     requires unowed { station.old.kept.state.owed ≡ None }
-    ensures ok { OnOk result (Traces n station.old (W.contents out.old) (W.contents out.new)) }
+    ensures ok { OnOk result (Traces view.now n station.old (W.contents out.old) (W.contents out.new)) }
     ensures err { OnErr result
-        (TracesPart n station.old (W.contents out.old) (W.contents out.new)) }
+        (TracesPart view.now n station.old (W.contents out.old) (W.contents out.new)) }
     ensures late { IfErr result IsLate }
 {
     let mut sheet = Sheet::new(alloc);
-    let cut = follow(station, n, &mut sheet, out)?;
+    let cut = follow(alloc, view, station, n, &mut sheet, out)?;
     finish(station, &mut sheet, out)?;
     match cut {
         None => Ok(()),

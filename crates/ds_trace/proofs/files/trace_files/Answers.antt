@@ -8,13 +8,13 @@ use Rattle.ds_trace.proofs.Inputs.{refused_untold, refused_only}
 use Rattle.ds_trace.proofs.files.trace_files.Goals as goal
 
 pub returns-in-Err-clause-err : goal.returns-in-Err-clause-err
-returns-in-Err-clause-err g c = rw c.from.ensures (refused_untold (of_policy c.in-Err.fault)
+returns-in-Err-clause-err g c = rw c.from.ensures (refused_untold (of_policy c.in-Err.fault) c.args.view.now
     (inputs c.args.policy.now (sources_seen c.args.sources.now) c.args.input.now c.args.n c.args.random) (g.W.Write.contents c.args.out.now) (g.W.Write.contents c.args.out.now) c.args.n
     (refused_by_policy c.in-Err.fault c.args.policy.now (sources_seen c.args.sources.now) c.args.input.now c.args.n c.args.random c.in-Err.ensures)
     (keeps_same (g.W.Write.contents c.args.out.now)))
 
 pub returns-in-Err-clause-refused : goal.returns-in-Err-clause-refused
-returns-in-Err-clause-refused g c = refused_only {T = Unit {0}} (Err c.from.result) _ _ _ c.args.n tt (returns-in-Err-clause-err g c)
+returns-in-Err-clause-refused g c = refused_only {T = Unit {0}} (Err c.from.result) c.args.view.now _ _ _ c.args.n tt (returns-in-Err-clause-err g c)
 
 pub returns-clause-ok : goal.returns-clause-ok
 returns-clause-ok g c =
@@ -25,4 +25,4 @@ returns-clause-err g c =
     rw (under_policy c.in-Ok.policy c.args.policy.now (sources_seen c.args.sources.now) c.args.input.now c.args.n c.args.random c.in-Ok.ensures) c.trace_policy.ensures.err
 
 pub returns-clause-refused : goal.returns-clause-refused
-returns-clause-refused g c = refused_only c.trace_policy.result _ _ _ c.args.n (returns-clause-ok g c) (returns-clause-err g c)
+returns-clause-refused g c = refused_only c.trace_policy.result c.args.view.now _ _ _ c.args.n (returns-clause-ok g c) (returns-clause-err g c)

@@ -1,6 +1,6 @@
 use Rattle.std.proofs.Common.{refl}
 use Rattle.ds_pagemap.specs.Machine.{Process}
-use Rattle.ds_trace.proofs.Boundaries.{boundary_read}
+use Rattle.ds_trace.proofs.LeftAlone.{boundary_read}
 use Rattle.ds_trace.proofs.laws.a_boundary_leaves_registers.Goals as goal
 
 pub returns-clause-registers : goal.returns-clause-registers

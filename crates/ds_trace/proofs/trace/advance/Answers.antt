@@ -8,5 +8,4 @@ returns g c = record {
   does = record { follows = c.in-Ok.ensures.ok; moves = c.in-Ok.ensures.moves; real = c.in-Ok.ensures.real };
   adds = c.in_ok-tell_step.ensures;
   sound = c.step.ensures.sound;
-  user = c.look_at_mode-2.ensures;
 }

@@ -5,14 +5,14 @@ use Rattle.ds_refinement.specs.Stands.{IsSound}
 use Rattle.ds_trace.specs.Shows.{TellsSo}
 use Rattle.ds_trace.proofs.trace.follow.Given as goal
 
-abbrev pub invariant-loop-before : goal.invariant-loop-before
-invariant-loop-before g l = record {
-  tells : TellsSo l.n l.fn.station l.station (g.W.Write.contents l.fn.out) (g.W.Write.contents l.out) l.sheet.text.items l.before;
+abbrev pub invariant-loop-station : goal.invariant-loop-station
+invariant-loop-station g l = record {
+  tells : TellsSo l.view l.n l.fn.station l.station (g.W.Write.contents l.fn.out) (g.W.Write.contents l.out) l.sheet.text.items l.before;
   sound : IsSound l.station;
   working : l.station.own.failed ≡ false;
   owed : l.before.owed ≡ is_some l.station.kept.state.owed;
   begun : 0 < l.station.own.spent → l.station.kept.state.time < l.n;
 }
 
-abbrev pub decreases-loop-before : goal.decreases-loop-before
-decreases-loop-before g l = rank l.n l.station
+abbrev pub decreases-loop-station : goal.decreases-loop-station
+decreases-loop-station g l = rank l.n l.station

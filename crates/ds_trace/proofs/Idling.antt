@@ -1,0 +1,102 @@
+-- A turn in which nobody runs is told of by its boundary alone.
+use Rattle.std.proofs.Common.{◌≡◌, ℕ, suc, ◌+◌, ◌-◌, Bool, true, false, cond, List, [], ◌∷◌, ◌++◌, Option, Some, None, refl, ap, ◌∙◌, arith}
+use Rattle.std.specs.Prelude.{is_some, length, map, slice_get}
+use Rattle.ds_procs.specs.declared.process.Standing.{Standing}
+use Rattle.ds_procs.specs.declared.process.Standing.TheVariants.{Ready, Waiting, Parked, Ended}
+use Rattle.ds_pagemap.specs.declared.turn.Turn.{Turn}
+use Rattle.ds_pagemap.specs.Machine.{State, first, touched, touch_first}
+use Rattle.ds_pagemap.specs.Unit.{unit, unit_of_first}
+use Rattle.ds_pagemap.specs.Boundary.{boundary}
+use Rattle.ds_pagemap.specs.Run.{half_turn}
+use Rattle.ds_refinement.specs.Held.{began_or}
+use Rattle.ds_view.specs.declared.view.View.{View}
+use Rattle.ds_view.specs.Views.{shows_switches, shows_turn}
+use Rattle.ds_trace.specs.declared.start.Start.{Start}
+use Rattle.ds_trace.specs.Looks.{Looked, Found}
+use Rattle.ds_trace.specs.Starts.{start_of}
+use Rattle.ds_trace.specs.Boundaries.{due_by}
+use Rattle.ds_trace.specs.Changes.{same_standing, standing_line, standings_text, way_text, switch_text, changes_text}
+use Rattle.ds_trace.specs.Halves.{log_of, looked_of, found_of, process_in, half_after, half_text}
+
+untouched : (x : State) (d : Bool) → x.ready ≡ [] → touched d x ≡ x
+untouched x true none = ap (touch_first x) none
+untouched x false none = refl
+
+-- the state after such a turn
+abbrev pub idle_after : State → State
+idle_after x = record x { time = x.time + 1; owed = Some (record { began = x.time; runner = first x.ready }) }
+
+pub idle_turn : (x : State) (d : Bool) → x.owed ≡ None → x.ready ≡ [] → half_turn d x ≡ idle_after x
+unfolding half_turn unit
+idle_turn x d owed none =
+    ap (λ (o : Option Turn). cond (is_some o) (boundary (touched d x)) (unit (touched d x))) owed
+    ∙ (ap unit (untouched x d none)
+    ∙ ap (λ (queue : List ℕ). record (unit_of_first x queue) { owed = Some (record { began = x.time; runner = first x.ready }) }) none)
+
+-- What is looked at is the same before it and after it.
+
+abbrev looked_by : State → Option Turn → Option Start → Looked
+looked_by x owed start = record {
+  owed = is_some owed;
+  began = began_or owed x.time;
+  start = cond (is_some owed) None start;
+  logged = length (log_of x);
+  runner = first x.ready;
+  due = due_by (cond (is_some owed) x.time (x.time + 1)) x.commands;
+  characters = length x.characters;
+  queued = map length x.queues;
+  standings = map (λ q. q.standing) x.processes;
+}
+
+pub idle_looked : (x : State) → x.owed ≡ None → x.ready ≡ [] → looked_of x ≡ record (looked_of (idle_after x)) { owed = false }
+idle_looked x owed none =
+    ap (λ (o : Option Turn). looked_by x o (start_of x (first x.ready))) owed
+    ∙ ap (λ (queue : List ℕ). looked_by x None (start_of x (first queue))) none
+
+-- The turn itself tells nothing.
+
+alike : (s : Standing) → same_standing s s ≡ true
+alike Ready = refl
+alike Waiting = refl
+alike Parked = refl
+alike Ended = refl
+
+line_same : (v : View) (time p : ℕ) (s : Standing) → standing_line v time p (Some s) s ≡ []
+line_same v time p Ready = refl
+line_same v time p Waiting = refl
+line_same v time p Parked = refl
+line_same v time p Ended = refl
+
+-- who stands as before is not told of
+standings_same : (v : View) (time : ℕ) (before : List Standing) (p from : ℕ) (rest : List Standing) → p ≡ from + 1 → ((j i : ℕ) → j ≡ from + i → slice_get before j ≡ slice_get rest i) → standings_text v time before p rest ≡ []
+standings_same v time before p from [] at same = refl
+standings_same v time before p from (s ∷ rest) at same =
+    let here : slice_get before (p - 1) ≡ Some s = same (p - 1) 0 (omega (arith, at)) in
+    ap (λ (o : Option Standing). standing_line v time p o s ++ standings_text v time before (p + 1) rest) here
+    ∙ (ap (λ (l : List ℕ). l ++ standings_text v time before (p + 1) rest) (line_same v time p s)
+    ∙ standings_same v time before (p + 1) (from + 1) rest (omega (arith, at)) (λ j i is. same j (suc i) (omega (arith, is))))
+
+both_none : (b : Bool) → ◌≡◌ {A = List ℕ} (cond b [] []) []
+both_none true = refl
+both_none false = refl
+
+changes_none : (v : View) (b : Looked) (f : Found) → b.runner ≡ None → f.runner ≡ None → standings_text v f.time b.standings 1 f.standings ≡ [] → changes_text v b f ≡ []
+changes_none v b f before after same =
+    ap (λ (l : List ℕ). cond (shows_switches v) (l ++ way_text v f b.runner ++ switch_text v f.time b.runner f.runner) []) same
+    ∙ (ap (λ (o : Option ℕ). cond (shows_switches v) (way_text v f o ++ switch_text v f.time o f.runner) []) before
+    ∙ (ap (λ (o : Option ℕ). cond (shows_switches v) (switch_text v f.time None o) []) after
+    ∙ both_none (shows_switches v)))
+
+pub idle_text : (v : View) (x : State) → x.owed ≡ None → x.ready ≡ [] → half_text v x (idle_after x) ≡ []
+idle_text v x owed none =
+    let b : Looked = record (looked_of (idle_after x)) { owed = false } in
+    let f : Found = found_of 0 (idle_after x) in
+    let runs : first x.ready ≡ None = ap first none in
+    ap (λ (l : Looked). half_after v l (found_of (process_in l.start) (idle_after x))) (idle_looked x owed none)
+    ∙ (ap (λ (l : List ℕ). cond (shows_turn v x.time) l []) (changes_none v b f runs runs
+    (standings_same v (x.time + 1) b.standings 1 0 b.standings refl (λ j i is. ap (slice_get b.standings) (omega (arith, is)))))
+    ∙ both_none (shows_turn v x.time))
+
+-- and its boundary tells what is after both
+pub idle_boundary : (v : View) (x t : State) → x.owed ≡ None → x.ready ≡ [] → half_after v (looked_of x) (found_of (process_in (looked_of x).start) t) ≡ half_text v (idle_after x) t
+idle_boundary v x t owed none = ap (λ (l : Looked). half_after v l (found_of (process_in l.start) t)) (idle_looked x owed none)

@@ -1,0 +1,185 @@
+//! The lines of a boundary.
+ghost use Rattle.std.specs.Prelude.{◌≡◌, ◌+◌, ◌-◌, ◌++◌, OnOk, drop, length};
+ghost use Rattle.std.specs.String.{string_bytes};
+ghost use Rattle.ds_trace.specs.Boundaries.{command_line, commands_text, count_keys, key_line, keys_text, line_text, lost_text, place_text, words_of_command};
+
+use crate::before::LINES;
+use crate::digits::{push_byte, push_decimal, push_hex};
+use ds_policy::{Command, TimedCommand};
+use ds_station::Station;
+use ds_tlb::Lookaside;
+use std::alloc::AllocError;
+
+/// Adds a process and an address, each after a blank.
+fn push_place(line: &mut String, process: u32, address: u32) -> Result<(), AllocError>
+    ensures { OnOk result
+        (string_bytes line.new ≡ string_bytes line.old ++ place_text process address) }
+{
+    line.push_str(" ")?;
+    push_decimal(line, u64::from(process))?;
+    line.push_str(" ")?;
+    push_hex(line, address)
+}
+
+/// Adds what a command asks for.
+fn push_words(line: &mut String, command: Command) -> Result<(), AllocError>
+    ensures { OnOk result
+        (string_bytes line.new ≡ string_bytes line.old ++ words_of_command command) }
+{
+    match command {
+        Command::Grant {
+            process,
+            address,
+            ..
+        } => {
+            line.push_str("grant")?;
+            push_place(line, process, address)
+        }
+        Command::Narrow { process, address } => {
+            line.push_str("narrow")?;
+            push_place(line, process, address)
+        }
+        Command::Revoke { process, address } => {
+            line.push_str("revoke")?;
+            push_place(line, process, address)
+        }
+        Command::Drop { process, address } => {
+            line.push_str("drop")?;
+            push_place(line, process, address)
+        }
+        Command::Resume { process } => {
+            line.push_str("resume ")?;
+            push_decimal(line, u64::from(process))
+        }
+        Command::Stop { process } => {
+            line.push_str("stop ")?;
+            push_decimal(line, u64::from(process))
+        }
+    }
+}
+
+/// Adds the line of a command that is carried out at a time.
+fn push_command(line: &mut String, time: u64, command: TimedCommand) -> Result<(), AllocError>
+    ensures { OnOk result
+        (string_bytes line.new ≡ string_bytes line.old ++ command_line time command) }
+{
+    push_decimal(line, time)?;
+    line.push_str(" command ")?;
+    push_decimal(line, u64::from(command.number))?;
+    line.push_str(" ")?;
+    push_words(line, command.command)?;
+    line.push_str("\n")
+}
+
+/// Adds the lines of commands in their order.
+pub(crate) fn push_commands(
+    line: &mut String,
+    time: u64,
+    commands: &[TimedCommand],
+) -> Result<(), AllocError>
+    ensures { OnOk result
+        (string_bytes line.new ≡ string_bytes line.old ++ commands_text time commands.now) }
+{
+    for command in commands {
+        push_command(line, time, *command)?;
+    }
+    Ok(())
+}
+
+/// Adds the line of a character that came in.
+fn push_key(line: &mut String, time: u64, console: usize, byte: u8) -> Result<(), AllocError>
+    ensures { OnOk result
+        (string_bytes line.new ≡ string_bytes line.old ++ key_line time console byte) }
+{
+    push_decimal(line, time)?;
+    line.push_str(" key ")?;
+    push_decimal(line, console as u64)?;
+    line.push_str(" ")?;
+    push_byte(line, byte)?;
+    line.push_str("\n")
+}
+
+/// Adds the lines of characters on a console line.
+fn push_line(line: &mut String, time: u64, console: usize, bytes: &[u8]) -> Result<(), AllocError>
+    ensures { OnOk result
+        (string_bytes line.new ≡ string_bytes line.old ++ line_text time console bytes.now) }
+{
+    for byte in bytes {
+        push_key(line, time, console, *byte)?;
+    }
+    Ok(())
+}
+
+/// The characters after so many.
+fn after(queue: &[u8], queued: usize) -> &[u8]
+    ensures { result.now ≡ drop queued queue.now }
+{
+    match queue.get(queued..) {
+        Some(bytes) => bytes,
+        None => &[],
+    }
+}
+
+/// Adds the lines of the characters that came to queues of these lengths, line by line.
+pub(crate) fn push_keys<L: Lookaside>(
+    line: &mut String,
+    station: &Station<L>,
+    queued: &[usize; LINES],
+) -> Result<(), AllocError>
+    ensures { OnOk result (string_bytes line.new ≡ string_bytes line.old
+        ++ keys_text station.now.kept.state.time 0 queued.now station.now.kept.state.queues) }
+{
+    let time = station.time();
+    push_line(line, time, 0, after(station.queue(0), queued[0]))?;
+    push_line(line, time, 1, after(station.queue(1), queued[1]))?;
+    push_line(line, time, 2, after(station.queue(2), queued[2]))?;
+    push_line(line, time, 3, after(station.queue(3), queued[3]))
+}
+
+/// How many characters came to a queue of this length.
+fn came_to(queue: &[u8], queued: usize) -> usize
+    ensures { result ≡ length queue.now - queued }
+{
+    queue.len().saturating_sub(queued)
+}
+
+/// How many of so many are left without the characters that came to queues of these lengths.
+fn without_keys<L: Lookaside>(station: &Station<L>, came: usize, queued: &[usize; LINES]) -> usize
+    ensures { result ≡ came - count_keys queued.now station.now.kept.state.queues }
+{
+    came.saturating_sub(came_to(station.queue(0), queued[0]))
+        .saturating_sub(came_to(station.queue(1), queued[1]))
+        .saturating_sub(came_to(station.queue(2), queued[2]))
+        .saturating_sub(came_to(station.queue(3), queued[3]))
+}
+
+/// Adds how many characters were lost.
+fn push_count(line: &mut String, time: u64, lost: usize) -> Result<(), AllocError>
+    ensures { OnOk result
+        (string_bytes line.new ≡ string_bytes line.old ++ lost_text time lost) }
+{
+    if lost == 0 {
+        return Ok(());
+    }
+    push_decimal(line, time)?;
+    line.push_str(" lost ")?;
+    push_decimal(line, lost as u64)?;
+    line.push_str("\n")
+}
+
+/// Adds how many of the characters that were still to come are lost, by how many were to come before
+/// and the lengths of the queues then.
+pub(crate) fn push_lost<L: Lookaside>(
+    line: &mut String,
+    station: &Station<L>,
+    characters: usize,
+    queued: &[usize; LINES],
+) -> Result<(), AllocError>
+    ensures { OnOk result (string_bytes line.new ≡ string_bytes line.old
+        ++ lost_text station.now.kept.state.time
+        (characters - length station.now.kept.state.characters
+        - count_keys queued.now station.now.kept.state.queues)) }
+{
+    let came = characters.saturating_sub(station.characters_to_come());
+    push_count(line, station.time(), without_keys(station, came, queued))
+}
