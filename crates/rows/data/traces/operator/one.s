@@ -1,0 +1,3 @@
+# Does nothing; an operator changes what it has.
+on:     beq $0,$0,on
+        nop

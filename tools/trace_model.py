@@ -1,0 +1,333 @@
+#!/usr/bin/env python3
+"""What `dsmon trace` writes, by a plain model, and whether the rows of traces have just that.
+
+    tools/trace_model.py FOLDER WORDS..   prints the trace that the words after `dsmon` ask for, with names looked up from FOLDER
+    tools/trace_model.py --check          names each row of crates/rows/data whose words begin with `trace` and whose text differs
+
+It is written after docs/trace.md, over tools/hostile_model.py, and shares nothing with the program. It has no touch, so it stops
+with NotQuiet at a guest that could tell. Rights that end by themselves are not in it.
+"""
+import re
+import sys
+import tomllib
+from pathlib import Path
+
+sys.dont_write_bytecode = True
+
+from hostile_model import CODES, LOADS, STORES, Hostile, NotQuiet, decode, encode, signed  # noqa: E402
+from turns_model import MASK, Denied, assemble  # noqa: E402
+
+DATA = Path(__file__).resolve().parent.parent / "crates" / "rows" / "data"
+BRANCHES = ("beq", "bne", "blez", "bgtz", "bltz", "bgez", "bltzal", "bgezal")
+LINKS, JUMPS = {"jal": 31, "bltzal": 31, "bgezal": 31}, ("j", "jal", "jr", "jalr", *BRANCHES)
+HALVES, HIDDEN = ("andi", "ori", "xori", "lui"), (0, 26, 27)
+CALLS = "exit put get yield time self give take drop wait".split()
+REFUSALS = {11: "Regions", 12: "NoProcess", 13: "NotPage", 14: "NoGrant", 15: "NotAllowed", 16: "Taken", 17: "TableFull", 18: "NoFrames", 19: "NotGiven"}
+MODES = {1: "read", 2: "write", 3: "copy"}
+
+
+# Texts to a run.
+
+def image(text):
+    """The bytes of a source."""
+    labels, pieces, at = {}, [], 0
+    for line in text.splitlines():
+        line = line.split("#")[0].strip()
+        while match := re.match(r"(\w+):\s*", line):
+            labels[match[1]], line = at, line[match.end():]
+        if line:
+            name, _, rest = line.partition(" ")
+            pieces.append((at, name, rest))
+            at += {".byte": 1}.get(name, int(rest, 0) if name == ".space" else 4)
+    return b"".join(piece(at, name, rest, labels) for at, name, rest in pieces)
+
+
+def piece(at, name, rest, labels, start=0x40_0000):
+    """The bytes of a statement at a place of its image; images begin at a multiple of the page's size, and jumps at 00400000."""
+    if name == ".space":
+        return bytes(int(rest, 0))
+    if name == ".byte":
+        return bytes([int(rest, 0) & 255])
+    if name == ".word":
+        return (labels[rest.strip()] + start if rest.strip() in labels else int(rest, 0) & MASK).to_bytes(4, "little")
+    if name in ("syscall", "break"):
+        return (encode(name) | int(rest or "0", 0) << 6).to_bytes(4, "little")
+    (_, *o), = assemble(re.sub(r"\b[A-Za-z_]\w*$", lambda m: str(labels[m[0]] + start) if m[0] in labels else m[0], f"{name} {rest}"), 0).values()
+    if name in BRANCHES:
+        o = (*o[:-1], (o[-1] - start - at - 4) // 4)
+    elif name in ("j", "jal"):
+        o = (o[0] >> 2,)
+    elif name == "jalr" and len(o) == 1:
+        o = (31, *o)
+    return (0 if name == "nop" else encode(name, *o)).to_bytes(4, "little")
+
+
+def begun(read, policy, given, view):
+    """The run of files at its beginning."""
+    said = tomllib.loads(read(policy))
+    pages, names = [], [it["name"] for it in said["page"]]
+    for it in said["page"]:
+        whole = image(read(it["source"])) if "source" in it else b""
+        pages.append(whole[4096 * it.get("part", 0):][:4096].ljust(4096, b"\0"))
+    frames = said.get("frames", len(pages))
+    rules = [(it["process"], it["address"], it["right"], names.index(it["page"]) if "page" in it else None, it.get("give", False)) for it in said.get("rule", [])]
+    processes = [(it["start"], it.get("line", 0)) for it in said["process"]]
+    return Traced(processes, pages + [bytes(4096)] * (frames - len(pages)), len(names), frames, rules, said.get("rate", 0), events_of(read(given), names), view)
+
+
+def events_of(text, names):
+    """The events of an input: a time with a command and its operands, or with a key, its line and its bytes."""
+    events = []
+    for time, what, *o in (line.split(" ") for line in text.splitlines() if line and line[0] != "#"):
+        if what == "key":
+            events.append((int(time), "key", int(o[0]), bytes.fromhex(o[1])))
+        elif what == "grant":
+            events.append((int(time), what, int(o[0]), int(o[1], 16), names.index(o[2]), o[3], len(o) > 4))
+        else:
+            events.append((int(time), what, int(o[0]), *(int(it, 16) for it in o[1:])))
+    return events
+
+
+# The text of a word.
+
+def operand(name, o, k):
+    """The text of operand k of an instruction."""
+    if name in BRANCHES and k == len(o) - 1:
+        away = 4 * (signed(o[k], 16) + 1)
+        return f".+{away}" if away >= 0 else f".-{-away}"
+    if name in ("j", "jal"):
+        return f"0x{o[0] << 2:08X}"
+    field = CODES[name][2][k]
+    if field == (0, 16):
+        return f"0x{o[k]:04X}" if name in HALVES else str(signed(o[k], 16))
+    return str(o[k]) if field == (6, 5) else f"${o[k]}"
+
+
+def text_of(word):
+    """A word as `dsmon list --words` writes it."""
+    if word == 0:
+        return "nop"
+    name, *o = decode_all(word)
+    if name is None:
+        return f".word 0x{word:08X}"
+    if name in LOADS + STORES:
+        return f"{name} ${o[0]},{signed(o[1], 16)}(${o[2]})"
+    code = word >> 6 & 0xFFFFF
+    said = f"{name} {code}" if name in ("syscall", "break") and code else " ".join(filter(None, (name, ",".join(operand(name, o, k) for k in range(len(o))))))
+    return f".word 0x{word:08X} # {said}" if name in (*BRANCHES, "j", "jal") else said
+
+
+def decode_all(word):
+    """The name of a word's instruction with its operands, where it is one of a user's."""
+    if word >> 26 == 0 and word & 63 in (12, 13):
+        return ("syscall", "break")[word & 63 == 13],
+    name, *o = decode(word)
+    return (None,) if name == "raises" else (name, *o)
+
+
+def writes(name, o):
+    """The register into which an instruction puts its result."""
+    if name in LINKS:
+        return LINKS[name]
+    is_none = name in (*STORES, *BRANCHES, "j", "jr", "mult", "multu", "div", "divu", "mthi", "mtlo", "break", None)
+    return 2 if name == "syscall" else None if is_none else o[0]
+
+
+class Traced(Hostile):
+    """A run that is told."""
+
+    def __init__(self, *begun):
+        *begun, self.view = begun
+        super().__init__(*begun)
+        self.lines = []
+
+    # What is told.
+
+    def shows(self, p):
+        return not self.view["processes"] or p in self.view["processes"]
+
+    def tells(self, *kinds):
+        return self.view["only"] in (None, *kinds)
+
+    def tell(self, line):
+        if self.view["from"] <= self.began < self.view["to"]:
+            self.lines.append(line)
+
+    def word(self, p, address):
+        """The word at an address, where the process may fetch it."""
+        try:
+            page, at = self.at(p, "fetch", address, 4)
+            return int.from_bytes(page[at:at + 4], "little")
+        except Denied:
+            return None
+
+    def looked(self):
+        return {"standings": {p: q.state for p, q in self.processes.items()}, "runner": self.ready[0] if self.ready else None,
+                "queued": [len(it) for it in self.queues], "logged": len(self.log)}
+
+    def tell_changes(self, before):
+        """Who stands otherwise, who gives way, and who runs."""
+        if not self.tells("switches"):
+            return
+        for p, q in self.processes.items():
+            if q.state != before["standings"][p] and self.shows(p):
+                self.tell(f"{self.time} {p} {q.state.lower()}")
+        old, new = before["runner"], self.ready[0] if self.ready else None
+        if old and old != new and self.processes[old].state == "Ready" and self.shows(old):
+            self.tell(f"{self.time} {old} gives way")
+        if old != new and any(p and self.shows(p) for p in (old, new)):
+            self.tell(f"{self.time} {new} runs" if new else f"{self.time} nobody runs")
+
+    # A unit.
+
+    def result(self, p, word):
+        """What the instruction of a word has left."""
+        name, *o = decode_all(word)
+        r, n = self.processes[p].r, writes(name, o)
+        if name in STORES and o[2] not in (26, 27):
+            address = (r[o[2]] + signed(o[1], 16) & MASK) & ~3
+            value = self.word(p, address)
+            return "" if value is None else f"  {address:08X}={value:08X}"
+        return "" if n is None or n in HIDDEN else f"  ${n}={r[n]:08X}"
+
+    def unit_half(self, p):
+        before, q, time = self.looked(), self.processes[p], self.time
+        pc, word = q.pc, self.word(p, q.pc)
+        name = decode_all(word)[0] if word is not None else None
+        slot = self.word(p, pc + 4 & MASK) if name in JUMPS else None
+        call = self.call_text(q.r) if name == "syscall" else ""
+        self.time += self.unit(p)
+        logged = self.log[before["logged"]:]
+        done = not logged or name == "syscall"
+        if self.tells("units", *(["calls"] if call else [])) and self.shows(p):
+            if word is not None:
+                self.tell(f"{time} {p} {pc:08X} {text_of(word)}{call}{self.result(p, word) if done else ''}{self.refusal(call, q.r[2])}")
+            if slot is not None:
+                self.tell(f"  {time} {p} {pc + 4 & MASK:08X} {text_of(slot)}{self.result(p, slot) if done else ''}")
+        if self.tells("denials") and self.shows(p):
+            for line in logged:
+                self.tell(f"denied {line}")
+        self.tell_changes(before)
+
+    def call_text(self, r):
+        n, a = r[2], r[4:8]
+        words = {1: [f"{a[0] & 255:02X}"], 6: [f"{a[0]:08X}", str(a[1]), f"{a[2]:08X}", MODES.get(a[3], str(a[3]))], 7: [str(a[0]), f"{a[1]:08X}"], 8: [f"{a[0]:08X}"]}
+        return "  " + " ".join([CALLS[n] if n < 10 else "unknown", *words.get(n, [])])
+
+    def refusal(self, call, answer):
+        is_about_grants = call.split()[:1] in (["give"], ["take"], ["drop"])
+        return f" {REFUSALS[answer]}" if is_about_grants and answer in REFUSALS else ""
+
+    # A boundary.
+
+    def boundary_half(self, runner):
+        before, lost = self.looked(), 0
+        due = [it for it in self.events if it[0] <= self.time]
+        self.events = [it for it in self.events if it[0] > self.time]
+        for _, what, *o in due:
+            if what != "key":
+                if self.tells():
+                    words = f" {o[0]}" + (f" {o[1]:08X}" if len(o) > 1 else "")
+                    self.tell(f"{self.time} command {self.command + 1} {what}{words}")
+                self.obey(what, *o)
+        for line in self.log[before["logged"]:]:
+            if self.tells():
+                self.tell(line)
+        characters = [(o[0], byte) for _, what, *o in due if what == "key" for byte in o[1]]
+        for k, (line, byte) in enumerate(characters):
+            if k < 64 and len(self.queues[line]) < 256:
+                self.queues[line].append(byte)
+            else:
+                lost += 1
+        if self.tells():
+            for line, queue in enumerate(self.queues):
+                for byte in queue[before["queued"][line]:]:
+                    self.tell(f"{self.time} key {line} {byte:02X}")
+            if lost:
+                self.tell(f"{self.time} lost {lost}")
+        for p, q in self.processes.items():
+            if q.state == "Waiting" and self.queues[q.line]:
+                q.state = "Ready"
+                self.ready.append(p)
+        slice_ = 2 ** (self.rate + 2)
+        if self.rate and self.began // slice_ != self.time // slice_ and runner and self.ready[:1] == [runner]:
+            self.ready.append(self.ready.pop(0))
+        self.tell_changes(before)
+
+    def turn(self):
+        self.began, runner = self.time, self.ready[0] if self.ready else None
+        if runner:
+            self.unit_half(runner)
+        else:
+            self.time += 1
+        self.boundary_half(runner)
+
+    def text(self):
+        lines = list(self.lines)
+        for p, q in self.processes.items():
+            registers = "".join(f"  ${n}={value:08X}" for n, value in enumerate(q.r) if n not in HIDDEN and value)
+            lines.append(f"process {p} {q.state.lower()} {q.pc:08X}{registers}")
+        return "".join(f"{line}\n" for line in lines).encode() + super().text()
+
+
+# Commands and rows.
+
+def traced(read, words):
+    """What `dsmon` writes for these words, the first of which is `trace`, with a function from a file's name to its text."""
+    _, policy, given, n, *flags = [part for word in words for part in word.split("=")]
+    view = {"from": 0, "to": 2**63, "processes": set(), "only": None}
+    for flag, value in zip(flags[::2], flags[1::2]):
+        match flag:
+            case "--from" | "--to": view[flag[2:]] = int(value)
+            case "--process": view["processes"].add(int(value))
+            case "--only": view["only"] = value
+    run = begun(read, policy, given, view)
+    run.run(int(n))
+    return run.text()
+
+
+def cases(text):
+    """The cases of a file: name, source, and what is expected of a run that is done."""
+    for name, body in zip(*[iter(re.split(r"^== (.*)\n", text, flags=re.M)[1:])] * 2):
+        source, mark, wanted = body.partition("\n--\n")
+        if mark:
+            yield name, source + "\n", wanted
+
+
+def files_in(folder, **given):
+    """A function from a name to a file's text, or to what is given in its place."""
+    return lambda name: given[name] if name in given else (folder / name).read_text()
+
+
+def rows():
+    """The rows and cases of traces: the name of each, a function to its files, its words, and the text that is expected."""
+    for line in (DATA / "rows").read_text().splitlines():
+        folder, status, text, *words = line.split(" ")
+        if words[:1] == ["trace"] and status == "0":
+            yield line, files_in(DATA / folder), words, (DATA / folder / text).read_bytes()
+    for line in (DATA / "tables").read_text().splitlines():
+        folder, file, name, *words = line.split(" ")
+        if words[:1] == ["trace"]:
+            for case, source, wanted in cases((DATA / folder / name).read_text()):
+                yield f"{line}: {case}", files_in(DATA / folder, **{file: source}), words, wanted.encode()
+
+
+def is_as_expected(read, words, wanted):
+    """Whether the model has this text, or can't tell."""
+    try:
+        return traced(read, words) == wanted
+    except NotQuiet:
+        return True
+
+
+def main(words):
+    if words == ["--check"]:
+        found = [name for name, *row in rows() if not is_as_expected(*row)]
+        print("\n".join(found) or "trace_model: each row of a trace is as the model has it")
+        return 1 if found else 0
+    sys.stdout.buffer.write(traced(files_in(Path(words[0])), words[1:]))
+    return 0
+
+
+if __name__ == "__main__":
+    sys.exit(main(sys.argv[1:]))
