@@ -1,5 +1,6 @@
 -- A page of code: its words, and what is known of each.
-use Rattle.std.specs.Prelude.{◌≡◌, ◌≢◌, ℕ, ◌<◌, ◌≤◌, Bool, false, List, slice_index}
+use Rattle.std.specs.Prelude.{◌≡◌, ◌≢◌, ℕ, ◌+◌, ◌*◌, ◌<◌, ◌≤◌, Bool, false, List, slice_index}
+use Rattle.ds_word.specs.Bytes.{word_at as memory_word}
 use Rattle.ds_isa.specs.declared.instr.Instr.{Instr}
 use Rattle.ds_isa.specs.Registers.{Registers}
 use Rattle.ds_isa.specs.Meaning.{meaning}
@@ -32,3 +33,7 @@ pub record IsPage (s : PageState) : Type 0 where
   pub means : (i : ℕ) → i < 1024 → Means (fields_at s.places i) (instruction_of (word_at s i))
   pub blank : (i : ℕ) → known_at s.places i ≡ false → (fields_at s.places i).kind ≡ kind.Other
   pub last : known_at s.places 1024 ≡ false
+
+-- the words of a page are those of memory from an address on
+abbrev pub HoldsWords : PageState → List ℕ → ℕ → Type 0
+HoldsWords page memory base = (k : ℕ) → k < 1024 → slice_index page.words k ≡ memory_word memory (base + 4 * k)

@@ -204,6 +204,7 @@ impl Page {
         requires inside { i < 1024 }
         requires unknown { knows self.old i ≡ false }
         ensures words { self.new.words ≡ slice_set self.old.words i word }
+        ensures word { word_at self.new i ≡ word }
         ensures places { self.new.places ≡ self.old.places }
     {
         self.words[i] = word;
@@ -216,6 +217,7 @@ impl Page {
     pub fn forget(&mut self, i: usize, word: u32)
         requires { i < 1024 }
         ensures words { self.new.words ≡ slice_set self.old.words i word }
+        ensures word { word_at self.new i ≡ word }
         ensures forgotten { word ≢ word_at self.old i → knows self.new i ≡ false }
         ensures others { (k : ℕ) → k ≢ i → k + 1 ≢ i → knows self.new k ≡ knows self.old k }
     {
