@@ -1,6 +1,6 @@
 -- Why a run or a check is stopped, and what the program says of it.
-use Rattle.std.proofs.Common.{◌≡◌, ◌∙◌, ◌⊎◌, inl, inr, ℕ, ◌<◌, List, [], refl, sym, ap, map, subst, Bor, length, get_or}
-use Rattle.std.specs.Prelude.{Option, Some, None, Result, Ok, Err, All, Contains, IfSome, is_ok}
+use Rattle.std.proofs.Common.{◌≡◌, ◌∙◌, ◌⊎◌, inl, inr, ℕ, ◌<◌, Bool, true, false, List, [], refl, sym, ap, map, subst, Bor, length, get_or}
+use Rattle.std.specs.Prelude.{Option, Some, None, Result, Ok, Err, All, Contains, IfSome, is_ok, if◌then◌else◌}
 use Rattle.std.specs.Io.KnownBytes.{Keeps}
 use Rattle.std.proofs.lemmas.Bool.{true≢false}
 use Rattle.std.proofs.lemmas.List.{get_or_default}
@@ -41,7 +41,15 @@ use Rattle.ds_drive.proofs.Faulty.{nothing_mapped, plain_is, policy_at, texts_at
 use Rattle.ds_log.specs.Sent.{AppendsPart}
 use Rattle.ds_drive.specs.Failures.{AreUnread, FilesStop, IsUnread, IsUnreadRun, StopsBy, failure_number}
 use Rattle.ds_drive.specs.Listed.{FailsBy, HasFaults}
-use Rattle.ds_drive.specs.Statuses.{fault_status}
+use Rattle.ds_drive.specs.Statuses.{fault_status, refuses_input}
+
+by_status : (refuses : Bool) → ◌≡◌ {A = ℕ} (if refuses then 2 else 3) 0 → ⊥
+by_status true is = absurd cc
+by_status false is = absurd cc
+
+-- what fails has another status than what is done
+pub no_fault_is_done : (number : ℕ) → fault_status number ≡ 0 → ⊥
+no_fault_is_done number is = by_status (refuses_input number) is
 
 -- the name at a place is one of them
 pub named : (names : List (List ℕ)) (k : ℕ) (d told : List ℕ) → k < length names → told ≡ get_or names k d → Contains names told

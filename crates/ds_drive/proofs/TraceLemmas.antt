@@ -13,8 +13,7 @@ use Rattle.ds_station.proofs.Headlines.{keeps_same}
 use Rattle.ds_trace.specs.Traces.{TraceEndsBy, WritesTracePart}
 use Rattle.ds_trace.proofs.Inputs.{refused_untold}
 use Rattle.ds_view.specs.declared.view.View.{View}
-use Rattle.ds_view.specs.Views.{whole}
-use Rattle.ds_words.specs.declared.words.Request.{Request}
+use Rattle.ds_words.specs.declared.words.TraceRequest.{TraceRequest}
 use Rattle.ds_words.specs.Words.{AsksForTrace}
 use Rattle.ds_drive.specs.declared.failure.Failure.{Failure}
 use Rattle.ds_drive.specs.declared.failure.Failure.TheVariants as failure
@@ -26,12 +25,12 @@ use Rattle.ds_drive.specs.TraceRuns.{CutsTrace, TracesFiles, TraceStopsBy}
 use Rattle.ds_drive.proofs.Cuts.{files_cut_by}
 use Rattle.ds_drive.proofs.Stops.{unread_stops}
 
-module _ (holds : List ℕ → List ℕ → Type 0) (lacks : List ℕ → Type 0) (request : Request) where
+module _ (holds : List ℕ → List ℕ → Type 0) (lacks : List ℕ → Type 0) (request : TraceRequest) where
   -- not all that the run is made of was read
-  pub trace_unread : (f : Failure) (known : Option (List ℕ)) → IsUnreadRun f holds lacks request → TraceStopsBy f holds lacks request known known
+  pub trace_unread : (f : Failure) (known : Option (List ℕ)) → IsUnreadRun f holds lacks request.run → TraceStopsBy f holds lacks request known known
   trace_unread f known unread =
-      unread_stops holds lacks (λ refused read. TraceEndsBy refused whole read known known request.most_time) request f known
-      (λ refused read r. refused_untold refused whole read known known request.most_time r (keeps_same known)) unread
+      unread_stops holds lacks (λ refused read. TraceEndsBy refused request.view read known known request.run.most_time) request.run f known
+      (λ refused read r. refused_untold refused request.view read known known request.run.most_time r (keeps_same known)) unread
 
   -- want of memory before the run
   pub memory_stops : (known : Option (List ℕ)) → TraceStopsBy (failure.Fault fault.Memory) holds lacks request known known
@@ -45,24 +44,24 @@ leaves_part fault.WriteFault v read old new n part = inr part
 leaves_part fault.Failed v read old new n none = absurd none
 leaves_part f v read old new n refused = inl refused.1
 
-trace_leaves : (f : Failure) (holds : List ℕ → List ℕ → Type 0) (lacks : List ℕ → Type 0) (request : Request) (old new : Option (List ℕ)) → TraceStopsBy f holds lacks request old new → Keeps old new ⊎ CutsTrace holds request old new
+trace_leaves : (f : Failure) (holds : List ℕ → List ℕ → Type 0) (lacks : List ℕ → Type 0) (request : TraceRequest) (old new : Option (List ℕ)) → TraceStopsBy f holds lacks request old new → Keeps old new ⊎ CutsTrace holds request old new
 trace_leaves f holds lacks request old new stops =
-    files_cut_by (λ e read. TraceEndsBy e whole read old new request.most_time) (λ read. Begins read (WritesTracePart whole old new request.most_time)) f holds lacks request old new
-    (λ e read ends. leaves_part e whole read old new request.most_time ends) stops
+    files_cut_by (λ e read. TraceEndsBy e request.view read old new request.run.most_time) (λ read. Begins read (WritesTracePart request.view old new request.run.most_time)) f holds lacks request.run old new
+    (λ e read ends. leaves_part e request.view read old new request.run.most_time ends) stops
 
 -- whatever the failure
-pub trace_cut : (words : List Text) (holds : List ℕ → List ℕ → Type 0) (lacks : List ℕ → Type 0) (request : Request) (f : Failure) (old new : Option (List ℕ)) → AsksForTrace words request → TraceStopsBy f holds lacks request old new → IsCutShort words holds old new
+pub trace_cut : (words : List Text) (holds : List ℕ → List ℕ → Type 0) (lacks : List ℕ → Type 0) (request : TraceRequest) (f : Failure) (old new : Option (List ℕ)) → AsksForTrace words request → TraceStopsBy f holds lacks request old new → IsCutShort words holds old new
 trace_cut words holds lacks request f old new asks stops = elim (trace_leaves f holds lacks request old new stops) [
   | inl kept ↦ inl kept
   | inr cut ↦ inr (inr (inr (inr (inr (inr (request, asks, cut))))))
 ]
 
 -- the trace that the words ask for
-pub trace_done : (words : List Text) (holds : List ℕ → List ℕ → Type 0) (request : Request) (old new : Option (List ℕ)) → AsksForTrace words request → TracesFiles holds request old new → IsDone words holds old new
+pub trace_done : (words : List Text) (holds : List ℕ → List ℕ → Type 0) (request : TraceRequest) (old new : Option (List ℕ)) → AsksForTrace words request → TracesFiles holds request old new → IsDone words holds old new
 trace_done words holds request old new asks traces = inr (inr (inr (inr (inr (request, asks, traces)))))
 
 -- What the program says of it.
-pub trace_stopped : (words : List Text) (holds : List ℕ → List ℕ → Type 0) (lacks : List ℕ → Type 0) (status : ℕ) (old new err_old err_new : Option (List ℕ)) (request : Request) (f : Failure)
+pub trace_stopped : (words : List Text) (holds : List ℕ → List ℕ → Type 0) (lacks : List ℕ → Type 0) (status : ℕ) (old new err_old err_new : Option (List ℕ)) (request : TraceRequest) (f : Failure)
     → fault_status (failure_number f) ≡ status → AsksForTrace words request → TraceStopsBy f holds lacks request old new
     → AppendsPart err_old err_new (failure_line f) → IsStopped status words holds lacks (stream old new) (stream err_old err_new)
 trace_stopped words holds lacks status old new err_old err_new request f has asks stops told =

@@ -11,6 +11,7 @@ use Rattle.ds_words.specs.declared.words.BareRequest.{BareRequest}
 use Rattle.ds_words.specs.declared.words.CheckRequest.{CheckRequest}
 use Rattle.ds_words.specs.declared.words.ListRequest.{ListRequest}
 use Rattle.ds_words.specs.declared.words.Request.{Request}
+use Rattle.ds_words.specs.declared.words.TraceRequest.{TraceRequest}
 use Rattle.ds_drive.specs.Demo.{demo_inputs}
 use Rattle.ds_drive.specs.declared.failure.Failure.TheVariants as failure
 use Rattle.ds_drive.specs.declared.refused.Refused.{Refused}
@@ -33,7 +34,7 @@ IsDone words holds old new =
     ⊎ (((request : ListRequest) × AsksForList words request × ListsFile holds request old new)
     ⊎ (((request : CheckRequest) × AsksForCheck words request × Explains holds request old new)
     ⊎ (((request : BareRequest) × AsksForBare words request × RunsBare holds request old new)
-    ⊎ ((request : Request) × AsksForTrace words request × TracesFiles holds request old new)))))
+    ⊎ ((request : TraceRequest) × AsksForTrace words request × TracesFiles holds request old new)))))
 
 -- nothing is written; or what the words ask for was run, and a front of the text of a run that was
 -- cut short between two turns, or has ended, is written and nothing else; or a front of
@@ -46,7 +47,7 @@ IsCutShort words holds old new =
     ⊎ (((request : ListRequest) × AsksForList words request × CutsListing holds request old new)
     ⊎ (((request : CheckRequest) × AsksForCheck words request × CutsExplanation holds request old new)
     ⊎ (((request : BareRequest) × AsksForBare words request × CutsBare holds request old new)
-    ⊎ ((request : Request) × AsksForTrace words request × CutsTrace holds request old new))))))
+    ⊎ ((request : TraceRequest) × AsksForTrace words request × CutsTrace holds request old new))))))
 
 -- what a writer held before, and what it holds now, where that is known
 pub record Stream : Type 0 where
@@ -116,7 +117,7 @@ IsStopped status words holds lacks out err =
     ⊎ (((request : ListRequest) × AsksForList words request × (FailsWith status err (λ f. FailsBy f holds lacks request out.old out.new) ⊎ IsFaulty status holds request out err))
     ⊎ (((request : CheckRequest) × AsksForCheck words request × (RefusesWith status err (λ r. ChecksBy r holds lacks request out.old out.new) ⊎ IsNoted status holds request out err))
     ⊎ (((request : BareRequest) × AsksForBare words request × (FailsWith status err (λ f. BareFailsBy f holds lacks request out.old out.new) ⊎ IsFaultyBare status holds request out err))
-    ⊎ ((request : Request) × AsksForTrace words request × FailsWith status err (λ f. TraceStopsBy f holds lacks request out.old out.new))))))
+    ⊎ ((request : TraceRequest) × AsksForTrace words request × FailsWith status err (λ f. TraceStopsBy f holds lacks request out.old out.new))))))
 
 -- nothing is written, and want of memory was told
 abbrev pub WantsMemory : Stream → Stream → Type 0

@@ -20,7 +20,9 @@ mod why;
 
 pub use bare::bare_file;
 pub use check::{Checking, check_files};
-pub use ds_words::{BareRequest, CheckRequest, ListRequest, Request, Wish, program_words, wish_of};
+pub use ds_words::{
+    BareRequest, CheckRequest, ListRequest, Request, TraceRequest, Wish, program_words, wish_of,
+};
 pub use failure::Failure;
 pub use files::{FileFault, Files, MOST_BYTES, SystemFiles};
 pub use list::{Listing, list_file, tell_faults};

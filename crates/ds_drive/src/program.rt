@@ -90,7 +90,10 @@ pub fn drive<F: Files, W: Write, E: Write>(
             Err(failure) => tell(err, &failure),
         },
         Ok(None) => {
-            let _ = send(err, b"dsmon: the words leave something out\n");
+            let _ = send(
+                err,
+                b"dsmon: --only takes end, calls, denials, switches or units\n",
+            );
             WORDS_REFUSED
         }
         Err(error) if error.kind() == clap::error::ErrorKind::OutOfMemory => {

@@ -6,17 +6,16 @@ use crate::failure::Failure;
 use crate::files::Files;
 use crate::run::{lent, read_inputs};
 use ds_trace::trace_policy;
-use ds_view::View;
-use ds_words::Request;
+use ds_words::TraceRequest;
 use std::alloc::Global;
 use std::io::Write;
 
-/// Reads the files of a run as `run_request` does, runs them, and writes the trace of the run before
-/// its text. Nothing is written before all of them are read.
+/// Reads the files of a run as `run_request` does, runs them, and writes before the text of the run
+/// the lines of its trace that are asked for. Nothing is written before all of them are read.
 #[tactic(auto, using(crate::proofs::TraceLemmas::trace_unread, crate::proofs::TraceLemmas::memory_stops))]
 pub fn trace_request<'a, F: Files, W: Write>(
     alloc: Global,
-    request: &Request<'a>,
+    request: &TraceRequest<'a>,
     files: &mut F,
     out: &mut W,
 ) -> Result<(), Failure<'a>>
@@ -29,16 +28,16 @@ pub fn trace_request<'a, F: Files, W: Write>(
         → F.holds files.old file bytes }
     ensures lacked { (file : List ℕ) → F.lacks files.new file → F.lacks files.old file }
 {
-    let inputs = read_inputs(alloc, request, files)?;
+    let inputs = read_inputs(alloc, &request.run, files)?;
     let sources = lent(alloc, inputs.texts.as_slice())?;
     match trace_policy(
         alloc,
         &inputs.policy,
         sources.as_slice(),
         inputs.input.as_slice(),
-        request.most_time,
-        request.random,
-        &View::whole(),
+        request.run.most_time,
+        request.run.random,
+        &request.view,
         out,
     ) {
         Ok(()) => Ok(()),

@@ -200,11 +200,21 @@ dsmon run p.toml in 10 --random 256|256 is not in 0..=255
 dsmon run p.toml in 10 --random|--random
 dsmon run p.toml in 10 --random last|'last'
 dsmon run p.toml in 10 --random 8 --random 9|cannot be used multiple times
+dsmon run p.toml in 10 --from 5|unexpected argument '--from'
+dsmon trace p.toml in 10 --from ten|'ten'
+dsmon trace p.toml in 10 --from 1 --from 2|cannot be used multiple times
+dsmon trace p.toml in 10 --to 1000000001|1000000001 is not in 0..=1000000000
+dsmon trace p.toml in 10 --process 0|0 is not in 1..=100
+dsmon trace p.toml in 10 --process 101|101 is not in 1..=100
+dsmon trace p.toml in 10 --only|--only
+dsmon trace p.toml in 10 --only keys|--only takes end, calls, denials, switches or units
 dsmon --help|Usage: dsmon
 dsmon help|Usage: dsmon
 dsmon --version|dsmon 0.1.0
 dsmon run --help|[default: 63]
 dsmon run --help|from 0 to 1000000000
+dsmon trace --help|[default: 0]
+dsmon trace --help|  2 1 00400008 syscall  put 41  $2=00000000
 dsmon demo -h|Usage: dsmon demo
 dsmon list --help|  1  00400000  24020000    end:  addiu $2,$0,0
 dsmon check --help|  00400000 read  code, part 0 of guest.s, rule 1

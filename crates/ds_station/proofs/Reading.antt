@@ -1,5 +1,5 @@
 -- What is read of a station.
-use Rattle.std.proofs.Common.{◌≡◌, ℕ, ◌+◌, ◌*◌, ◌^◌, ◌<◌, ◌≤◌, Bool, true, false, List, [], ◌∷◌, length, Option, Some, None, refl, sym, ap, subst, ◌∙◌, arith}
+use Rattle.std.proofs.Common.{◌≡◌, ℕ, ◌+◌, ◌*◌, ◌^◌, ◌<◌, ◌≤◌, List, [], ◌∷◌, length, Option, Some, None, refl, sym, ap, subst, ◌∙◌, arith}
 use Rattle.std.specs.Prelude.{IfSome}
 use Rattle.std.specs.List.{All}
 use Rattle.std.proofs.lemmas.List.Elements.{All-head}
@@ -11,22 +11,14 @@ use Rattle.ds_isa.specs.declared.instr.Size.TheVariants.{Word}
 use Rattle.ds_policy.specs.declared.access.Verdict.TheVariants.{Allowed, Denied}
 use Rattle.ds_policy.specs.declared.access.Rule.{Rule}
 use Rattle.ds_policy.specs.Pages.{decide}
-use Rattle.ds_cp0.specs.System.{is_user}
 use Rattle.ds_grants.specs.State.{GrantsState, frame_of_page, page_state, pages_in}
 use Rattle.ds_grants.specs.Sound.{NamesPages}
 use Rattle.ds_refinement.specs.Held.{Held}
+use Rattle.ds_refinement.specs.Stands.{IsSound}
 use Rattle.ds_refinement.proofs.Frames.{word_of_page}
-use Rattle.ds_kernel.specs.Good.{IsOrderly}
+use Rattle.ds_refinement.proofs.Tallied.{ranges_of}
 use Rattle.ds_kernel.proofs.Fetching.{allowed_page}
 use Rattle.ds_station.specs.Reads.{fetched, word_on}
-
--- while nothing is counted of a unit, the processor is in user mode
-pub user_at_rest : (h : Held) → IsOrderly h → h.own.spent ≡ 0 → is_user h.core.system ≡ true
-user_at_rest h orderly none = by (is_user h.core.system) refl
-  where
-    by : (b : Bool) → is_user h.core.system ≡ b → is_user h.core.system ≡ true
-    by true is = is
-    by false is = (let some : 0 < h.own.spent = orderly.raised is in absurd (omega (arith, some, none)))
 
 -- the word in a page that may be fetched
 pub word_found : (g : GrantsState) (memory : List ℕ) (p address page offset place : ℕ) → NamesPages g → length memory ≡ 2 ^ 23 → decide g.table p Fetch Word address ≡ Allowed page offset → place ≡ frame_of_page g page * 4096 + offset
@@ -51,3 +43,7 @@ first_seat m (q ∷ rest) (Some p) all is =
     let head = All-head (IsReady m) q rest all in
     let same : q ≡ p = cc in
     subst (λ (x : ℕ). (0 < x) × (x ≤ length m.processes)) same (head.0, head.1)
+
+-- the buffer has 64 slots
+pub all_slots : (h : Held) → IsSound h → length h.core.entries ≡ 64
+all_slots h s = (ranges_of h s.state s.stands).size

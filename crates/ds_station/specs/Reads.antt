@@ -1,5 +1,5 @@
--- What a station shows of its processes, by what it holds.
-use Rattle.std.specs.Prelude.{◌≡◌, ℕ, ◌+◌, if◌then◌else◌, List, Option, Some, None}
+-- What a station shows of its processes, and of its processor, by what it holds.
+use Rattle.std.specs.Prelude.{◌≡◌, ℕ, ◌+◌, ◌==◌, ◌&&◌, Bool, not, if◌then◌else◌, List, Option, Some, None}
 use Rattle.ds_word.specs.Word.{word}
 use Rattle.ds_word.specs.Bytes.{word_at}
 use Rattle.ds_isa.specs.declared.instr.Size.TheVariants.{Word}
@@ -9,11 +9,16 @@ use Rattle.ds_policy.specs.declared.access.Verdict.TheVariants.{Allowed, Denied}
 use Rattle.ds_policy.specs.Pages.{Pages, decide, bytes_of}
 use Rattle.ds_policy.specs.Grants.{PageState}
 use Rattle.ds_grants.specs.State.{page_state}
+use Rattle.ds_cp0.specs.System.{is_user}
 use Rattle.ds_core.specs.Core.{CoreState}
+use Rattle.ds_pagemap.specs.declared.turn.Turn.{Turn}
 use Rattle.ds_pagemap.specs.Machine.{State, process_of, first}
 use Rattle.ds_pagemap.specs.Boundary.{is_first}
 use Rattle.ds_refinement.specs.Held.{Held}
+use Rattle.ds_refinement.specs.Units.{is_served, has_left_user}
 use Rattle.ds_refinement.specs.Stands.{Stands}
+use Rattle.ds_station.specs.declared.stage.Stage.{Stage}
+use Rattle.ds_station.specs.declared.stage.Stage.TheVariants as stage
 
 -- the word at the place of an access that is allowed
 abbrev pub word_on : Pages → Verdict → Option ℕ
@@ -43,3 +48,25 @@ general_held h p = if is_first (first h.kept.state.ready) p then h.core.register
 -- while no instruction of a unit is counted, they are those of the process in each machine state that the station stands for
 abbrev pub ShowsGeneral : List ℕ → Held → ℕ → Type 0
 ShowsGeneral shown h p = h.own.spent ≡ 0 → (m : State) → Stands h m → shown ≡ (process_of m p).registers.general
+
+-- What the next step is to the processor.
+
+-- the processor is in kernel mode at this address
+abbrev pub is_at : ℕ → CoreState → Bool
+is_at vector c = not (is_user c.system) && (c.pc == vector)
+
+-- of a unit it is a service, by whether the exception came from user mode, or else an instruction, which at the vector of misses begins a refill
+abbrev pub stage_in_unit : CoreState → Stage
+stage_in_unit c =
+    if is_served c then (if has_left_user c then stage.Service else stage.DoubleMiss)
+    else (if is_at 0x80000000 c then stage.Refill else stage.Instruction)
+
+-- by the turn that owes its boundary, and by who is the first that is ready
+abbrev pub stage_by : Option Turn → Option ℕ → CoreState → Stage
+stage_by (Some turn) runner c = stage.Rest
+stage_by None None c = stage.Rest
+stage_by None (Some p) c = stage_in_unit c
+
+-- what the next step of a station is
+abbrev pub stage_of : Held → Stage
+stage_of h = stage_by h.kept.state.owed (first h.kept.state.ready) h.core

@@ -4,10 +4,12 @@
 mod fault;
 mod files;
 mod reads;
+mod stage;
 mod station;
 
 pub use ds_policy::MOST_TICKS;
 pub use ds_refinement::Step;
 pub use fault::Fault;
 pub use files::{deliver, prepare, run_files, run_policy};
+pub use stage::Stage;
 pub use station::Station;

@@ -1,20 +1,28 @@
 //! What a station shows of its processes.
-ghost use Rattle.std.specs.Prelude.{◌≡◌, ◌<◌, ◌≤◌, [], length, slice_index_or, IfSome, true};
-ghost use Rattle.ds_cp0.specs.System.{is_user};
+ghost use Rattle.std.specs.Prelude.{◌≡◌, ◌<◌, ◌≤◌, [], length, slice_get, slice_index_or, IfSome, Some};
 ghost use Rattle.ds_pagemap.specs.Boundary.{is_first};
 ghost use Rattle.ds_pagemap.specs.Machine.{first, process_of};
 ghost use Rattle.ds_refinement.specs.Held.{last_boundary};
-ghost use Rattle.ds_station.specs.Reads.{address_held, fetched, general_held, memory_held, unit_on, ShowsGeneral};
+ghost use Rattle.ds_refinement.specs.Units.{has_left_user};
+ghost use Rattle.ds_station.specs.Reads.{address_held, fetched, general_held, is_at, memory_held, stage_in_unit, stage_of, unit_on, ShowsGeneral};
 
+use crate::stage::Stage;
 use crate::station::Station;
+use ds_cp0::register;
 use ds_isa::{Kind, Size};
 use ds_policy::{Access, TimedCommand, Verdict};
 use ds_procs::Standing;
-use ds_tlb::Lookaside;
+use ds_tlb::{Entry, Lookaside};
 use ds_word::wrapping_sum;
 
 /// Four less, in 32 bits.
 const BACK: u32 = 0xFFFF_FFFC;
+
+/// The vector of the misses of a user's pages, where the refill handler stands.
+const MISS_VECTOR: u32 = 0x8000_0000;
+
+/// The vector of all other exceptions.
+const GENERAL_VECTOR: u32 = 0x8000_0080;
 
 impl<L: Lookaside> Station<L> {
     /// How many processes there are, 100 at most: each has its row in the permission table.
@@ -63,13 +71,6 @@ impl<L: Lookaside> Station<L> {
         } else {
             self.parts.core.pc
         }
-    }
-
-    /// While nothing is counted of a unit, the processor is in user mode.
-    pub fn look_at_mode(&self)
-        ensures { self.now.own.spent ≡ 0 → is_user self.now.core.system ≡ true }
-    {
-        let _spent = self.parts.spent;
     }
 
     /// Where a process goes on. Of the one that runs it is the address of its unit, in user mode.
@@ -165,5 +166,65 @@ impl<L: Lookaside> Station<L> {
             }
             Verdict::Denied { .. } => None,
         }
+    }
+
+    /// Whether the processor is in kernel mode at a vector.
+    fn is_at(&self, vector: u32) -> bool
+        ensures { result ≡ is_at vector self.now.core }
+    {
+        !self.parts.core.cp0.user() && self.parts.core.pc == vector
+    }
+
+    /// Whether the exception came from user mode: bit 3 of Status is the mode that was left.
+    fn has_left_user(&self) -> bool
+        ensures { result ≡ has_left_user self.now.core }
+    {
+        (self.parts.core.cp0.read(register::STATUS) >> 3) & 1 == 1
+    }
+
+    /// What the next step of a unit is to the processor.
+    fn stage_in_unit(&self) -> Stage
+        ensures { result ≡ stage_in_unit self.now.core }
+    {
+        if self.is_at(GENERAL_VECTOR) {
+            if self.has_left_user() {
+                Stage::Service
+            } else {
+                Stage::DoubleMiss
+            }
+        } else if self.is_at(MISS_VECTOR) {
+            Stage::Refill
+        } else {
+            Stage::Instruction
+        }
+    }
+
+    /// What the next step is to the processor.
+    pub fn stage(&self) -> Stage
+        ensures { result ≡ stage_of self.now }
+    {
+        match self.parts.monitor.owed {
+            Some(_) => Stage::Rest,
+            None => match self.parts.monitor.first_ready() {
+                Some(_) => self.stage_in_unit(),
+                None => Stage::Rest,
+            },
+        }
+    }
+
+    /// How many slots the translation lookaside buffer has: 64.
+    pub fn slots(&self) -> usize
+        ensures { result ≡ length self.now.core.entries }
+    {
+        let _spent = self.parts.spent;
+        64
+    }
+
+    /// What a slot of the translation lookaside buffer holds.
+    pub fn entry(&self, slot: usize) -> Entry
+        requires { slot < length self.now.core.entries }
+        ensures { slice_get self.now.core.entries slot ≡ Some result }
+    {
+        self.parts.core.tlb.read(slot)
     }
 }

@@ -11,6 +11,7 @@ use Rattle.ds_words.specs.declared.words.BareRequest.{BareRequest}
 use Rattle.ds_words.specs.declared.words.CheckRequest.{CheckRequest}
 use Rattle.ds_words.specs.declared.words.ListRequest.{ListRequest}
 use Rattle.ds_words.specs.declared.words.Request.{Request}
+use Rattle.ds_words.specs.declared.words.TraceRequest.{TraceRequest}
 use Rattle.ds_words.specs.Words.{AsksForBare, AsksForDemo, AsksForRun, AsksForList, AsksForCheck, AsksForTrace}
 
 -- the text of what a station holds; its log has a line for each line feed
@@ -58,4 +59,4 @@ AsksForAnother words =
     ⊎ (((request : ListRequest) × AsksForList words request)
     ⊎ (((request : CheckRequest) × AsksForCheck words request)
     ⊎ (((request : BareRequest) × AsksForBare words request)
-    ⊎ ((request : Request) × AsksForTrace words request))))
+    ⊎ ((request : TraceRequest) × AsksForTrace words request))))

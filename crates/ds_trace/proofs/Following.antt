@@ -7,7 +7,7 @@ use Rattle.ds_log.specs.Sent.{AppendsPart}
 use Rattle.ds_log.proofs.Sends.{appends_both, appends_none, part_before, part_behind}
 use Rattle.std.specs.Io.KnownBytes.{Appends}
 use Rattle.ds_pagemap.specs.declared.turn.Turn.{Turn}
-use Rattle.ds_pagemap.specs.Machine.{State}
+use Rattle.ds_pagemap.specs.Machine.{State, touched}
 use Rattle.ds_pagemap.specs.Run.{after, goes_on, is_over}
 use Rattle.ds_pagemap.specs.Text.{text_of}
 use Rattle.ds_refinement.specs.declared.step.Step.{Step}
@@ -28,11 +28,16 @@ use Rattle.ds_station.specs.Runs.{IsCut}
 use Rattle.ds_station.specs.declared.fault.Fault.{Fault}
 use Rattle.ds_station.specs.declared.fault.Fault.TheVariants as fault
 use Rattle.ds_view.specs.declared.view.View.{View}
-use Rattle.ds_trace.specs.Looks.{Looked}
+use Rattle.ds_trace.specs.declared.processor.ProcessorCounts.{ProcessorCounts}
+use Rattle.ds_trace.specs.Processors.{none_processed, told_from}
+use Rattle.ds_trace.specs.Counted.{HasCounted}
+use Rattle.ds_trace.specs.declared.progress.Progress.{Progress}
+use Rattle.ds_trace.specs.Counts.{Counted, none_counted}
 use Rattle.ds_trace.specs.Traces.{told_to}
-use Rattle.ds_trace.specs.Shows.{looked_held, end_held, IsTold, TellsSo, TellsAll, IsStopped, Traces, TracesPart}
+use Rattle.ds_trace.specs.Shows.{looked_held, end_held, processor_held, IsTold, TellsSo, TellsAll, IsStopped, Traces, TracesPart}
 use Rattle.ds_trace.specs.Advanced.{Adds, HasStepped, HasHalted, is_last}
 use Rattle.ds_trace.specs.Handed.{IsFinished, IsHandedOn, IsLate}
+use Rattle.ds_trace.proofs.Processing.{nothing_counted, processor_told}
 use Rattle.ds_trace.proofs.Silence.{untold_until, until_within, until_silent}
 use Rattle.ds_trace.proofs.Telling.{told_first, told_inside, told_same, told_unit, told_boundary, told_handed, told_part, finished, finished_part, going_now}
 
@@ -63,30 +68,30 @@ none_begun o t n (suc k) false is test begun = let early : t < n = begun (omega 
 
 -- A step that is told.
 
-module _ (v : View) (n : ℕ) (m : State) (h new : Held) (a d : Option (List ℕ)) (text more : List ℕ) (b c : Looked) where
+module _ (v : View) (n : ℕ) (m : State) (h new : Held) (a d : Option (List ℕ)) (text more : List ℕ) (b c : Progress) where
   told_step : (step : Step) → is_last step ≡ false → Does step h new → Adds step v new text b more c → held_goes_on n h ≡ true → IsTold v n m h a d text b → IsTold v n m new a d more c
   told_step Inside last does adds going told =
-      subst (λ (l : List ℕ). IsTold v n m new a d l c) (sym adds.0) (subst (λ (x : Looked). IsTold v n m new a d text x) (sym adds.1) (told_inside v n m h new a d text b does.follows told))
+      subst (λ (l : List ℕ). IsTold v n m new a d l c) (sym adds.0) (subst (λ (x : Progress). IsTold v n m new a d text x) (sym adds.1) (told_inside v n m h new a d text b does.follows told))
   told_step Unit last does adds going told = told_unit v n m h new a d text more b c told going does.follows does.moves adds.0 adds.1
   told_step Boundary last does adds going told = told_boundary v n m h new a d text more b c told going does.follows does.moves adds.0 adds.1
   told_step Over last does adds going told = absurd (cc)
 
-owed_after : (v : View) (step : Step) (h new : Held) (text more : List ℕ) (b c : Looked) → is_last step ≡ false → Moves step h new → Adds step v new text b more c → b.owed ≡ is_some h.kept.state.owed → c.owed ≡ is_some new.kept.state.owed
+owed_after : (v : View) (step : Step) (h new : Held) (text more : List ℕ) (b c : Progress) → is_last step ≡ false → Moves step h new → Adds step v new text b more c → b.before.owed ≡ is_some h.kept.state.owed → c.before.owed ≡ is_some new.kept.state.owed
 owed_after v Inside h new text more b c last moves adds is =
-    ap (λ (x : Looked). x.owed) adds.1 ∙ (is ∙ (ap is_some moves.0 ∙ sym (ap is_some moves.1)))
-owed_after v Unit h new text more b c last moves adds is = ap (λ (x : Looked). x.owed) adds.1 ∙ sym moves.1
-owed_after v Boundary h new text more b c last moves adds is = ap (λ (x : Looked). x.owed) adds.1 ∙ sym (ap is_some moves.0)
+    ap (λ (x : Progress). x.before.owed) adds.1 ∙ (is ∙ (ap is_some moves.0 ∙ sym (ap is_some moves.1)))
+owed_after v Unit h new text more b c last moves adds is = ap (λ (x : Progress). x.before.owed) adds.1 ∙ sym moves.1
+owed_after v Boundary h new text more b c last moves adds is = ap (λ (x : Progress). x.before.owed) adds.1 ∙ sym (ap is_some moves.0)
 owed_after v Over h new text more b c last moves adds is = absurd (cc)
 
 -- a step that was not the last, of a run before its end
-module _ (v : View) (n : ℕ) (h new : Held) (text more : List ℕ) (b c : Looked) (s : HasStepped false v h new text b more c) (sound : IsSound h) (owed : b.owed ≡ is_some h.kept.state.owed) (test : (b.owed || nat_lt h.kept.state.time n) ≡ true) where
+module _ (v : View) (n : ℕ) (h new : Held) (text more : List ℕ) (b c : Progress) (s : HasStepped false v h new text b more c) (sound : IsSound h) (owed : b.before.owed ≡ is_some h.kept.state.owed) (test : (b.before.owed || nat_lt h.kept.state.time n) ≡ true) where
   step_going : held_goes_on n h ≡ true
-  step_going = going_now s.step n h new sound.state sound.stands s.is s.does.follows (early_by h.kept.state.owed h.kept.state.time n b.owed owed test)
+  step_going = going_now s.step n h new sound.state sound.stands s.is s.does.follows (early_by h.kept.state.owed h.kept.state.time n b.before.owed owed test)
 
   pub step_on : GoesOn n h new
   step_on = step_goes s.step n h new step_going sound s.does
 
-  pub step_owed : c.owed ≡ is_some new.kept.state.owed
+  pub step_owed : c.before.owed ≡ is_some new.kept.state.owed
   step_owed = owed_after v s.step h new text more b c s.is s.does.moves s.adds owed
 
   pub step_told : (from : Held) (a d : Option (List ℕ)) → TellsSo v n from h a d text b → TellsSo v n from new a d more c
@@ -115,14 +120,14 @@ last_spent h m k owed over = by h.kept.state.ready refl k.counted
         let no : true ≡ false = sym goes ∙ (sym (goes_alike n h m k) ∙ over_ends n m owed over) in absurd (cc)
 
 -- what is found where all have ended
-pub record IsLast (h new : Held) (text : List ℕ) (b : Looked) (more : List ℕ) (c : Looked) (m : State) : Type 0 where
+pub record IsLast (h new : Held) (text : List ℕ) (b : Progress) (more : List ℕ) (c : Progress) (m : State) : Type 0 where
   pub same : new ≡ h
   pub told : more ≡ text
   pub looked : c ≡ b
   pub owed : m.owed ≡ None
   pub over : is_over m ≡ true
 
-last_is : (v : View) (step : Step) (h new : Held) (text more : List ℕ) (b c : Looked) (m : State) → Stands h m → is_last step ≡ true → Does step h new → Adds step v new text b more c → IsLast h new text b more c m
+last_is : (v : View) (step : Step) (h new : Held) (text more : List ℕ) (b c : Progress) (m : State) → Stands h m → is_last step ≡ true → Does step h new → Adds step v new text b more c → IsLast h new text b more c m
 last_is v Inside h new text more b c m k last does adds = absurd (cc)
 last_is v Unit h new text more b c m k last does adds = absurd (cc)
 last_is v Boundary h new text more b c m k last does adds = absurd (cc)
@@ -130,7 +135,7 @@ last_is v Over h new text more b c m k last does adds =
     let t = does.follows.follows m k in
     record { same = does.moves; told = adds.0; looked = adds.1; owed = t.1.0; over = t.1.1 }
 
-module _ (v : View) (n : ℕ) (h new : Held) (text more : List ℕ) (b c : Looked) (s : HasStepped true v h new text b more c) (sound : IsSound h) where
+module _ (v : View) (n : ℕ) (h new : Held) (text more : List ℕ) (b c : Progress) (s : HasStepped true v h new text b more c) (sound : IsSound h) where
   last : IsLast h new text b more c sound.state
   last = last_is v s.step h new text more b c sound.state sound.stands s.is s.does s.adds
 
@@ -143,10 +148,10 @@ module _ (v : View) (n : ℕ) (h new : Held) (text more : List ℕ) (b c : Looke
   last_tells : (from : Held) (a d : Option (List ℕ)) → TellsSo v n from h a d text b → TellsSo v n from new a d more c
   last_tells from a d tells =
       subst (λ (x : Held). TellsSo v n from x a d more c) (sym last.same)
-      (subst (λ (l : List ℕ). TellsSo v n from h a d l c) (sym last.told) (subst (λ (x : Looked). TellsSo v n from h a d text x) (sym last.looked) tells))
+      (subst (λ (l : List ℕ). TellsSo v n from h a d l c) (sym last.told) (subst (λ (x : Progress). TellsSo v n from h a d text x) (sym last.looked) tells))
 
-  pub last_told : (from : Held) (a d : Option (List ℕ)) → TellsSo v n from h a d text b → TellsAll None v n from new a d more
-  last_told from a d tells = record { before = c; tells = last_tells from a d tells; stopped = last_over; spent = last_none }
+  pub last_told : (from : Held) (a d : Option (List ℕ)) → TellsSo v n from h a d text b → TellsAll None v n from new a d more c.counts
+  last_told from a d tells = record { progress = c; tells = last_tells from a d tells; counts = refl; stopped = last_over; spent = last_none }
 
 -- No step.
 
@@ -155,15 +160,16 @@ halts fault.Memory h new r few still working = (refl, ap (λ (x : Held). x.own.s
 halts fault.Failed h new r few still working = absurd (let no : true ≡ false = sym r ∙ working in cc)
 halts f h new r few still working = absurd r
 
-module _ (v : View) (n : ℕ) (f : Fault) (h new : Held) (text more : List ℕ) (b c : Looked) (s : HasHalted f h new text b more c) where
-  pub halted_told : (from : Held) (a d : Option (List ℕ)) → TellsSo v n from h a d text b → TellsAll (Some f) v n from new a d more
+module _ (v : View) (n : ℕ) (f : Fault) (h new : Held) (text more : List ℕ) (b c : Progress) (s : HasHalted f h new text b more c) where
+  pub halted_told : (from : Held) (a d : Option (List ℕ)) → TellsSo v n from h a d text b → TellsAll (Some f) v n from new a d more c.counts
   halted_told from a d tells = record {
-    before = c;
+    progress = c;
     tells = record {
       tells = λ m k.
           subst (λ (l : List ℕ). IsTold v n m new a d l c) (sym s.same)
-          (subst (λ (x : Looked). IsTold v n m new a d text x) (sym s.looked) (told_same v n m h new a d text b s.stays (tells.tells m k)));
+          (subst (λ (x : Progress). IsTold v n m new a d text x) (sym s.looked) (told_same v n m h new a d text b s.stays (tells.tells m k)));
     };
+    counts = refl;
     stopped = s.memory;
     spent = s.spent;
   }
@@ -195,42 +201,59 @@ ran_whole k new over = by new.kept.state.owed (nat_lt new.kept.state.time k && n
 
 -- of what comes before the first turn that is told
 module _ (v : View) (n : ℕ) (from new : Held) (a : Option (List ℕ)) (unowed : from.kept.state.owed ≡ None) (runs : RunsWithin (untold_until v n) from new) (owes : new.kept.state.owed ≡ None) (none : new.own.spent ≡ 0) where
-  pub first_told : (text : List ℕ) (b : Looked) → text ≡ [] → b ≡ looked_held false new → TellsSo v n from new a a text b
-  first_told text b empty looks = subst (λ (l : List ℕ). TellsSo v n from new a a l b) (sym empty)
-      (record { tells = λ m k. told_first v (untold_until v n) n m from new a b (until_within v n) (until_silent v n) k runs unowed owes none looks })
+  pub first_told : (text : List ℕ) (b : Progress) → text ≡ [] → b.before ≡ looked_held false new → b.counts ≡ none_counted → TellsSo v n from new a a text b
+  first_told text b empty looks uncounted = subst (λ (l : List ℕ). TellsSo v n from new a a l b) (sym empty)
+      (record { tells = λ m k. told_first v (untold_until v n) n m from new a b (until_within v n) (until_silent v n) k runs unowed owes none looks uncounted })
 
   -- where a fault cuts that short
-  pub cut_early : (f : Fault) (text : List ℕ) → text ≡ [] → IsNewFault f → TellsAll (Some f) v n from new a a text
-  cut_early f text empty is = record { before = looked_held false new; tells = first_told text (looked_held false new) empty refl; stopped = new_is f is; spent = none }
+  pub cut_early : (f : Fault) (text : List ℕ) (k : Counted) → text ≡ [] → k ≡ none_counted → IsNewFault f → TellsAll (Some f) v n from new a a text k
+  cut_early f text k empty uncounted is =
+      let b : Progress = record { before = looked_held false new; counts = none_counted } in
+      record { progress = b; tells = first_told text b empty refl refl; counts = sym uncounted; stopped = new_is f is; spent = none }
 
-pub end_told : (v : View) (n : ℕ) (from h : Held) (a d : Option (List ℕ)) (text : List ℕ) (b : Looked) → TellsSo v n from h a d text b → b.owed ≡ is_some h.kept.state.owed → (b.owed || nat_lt h.kept.state.time n) ≡ false → (0 < h.own.spent → h.kept.state.time < n) → TellsAll None v n from h a d text
+pub end_told : (v : View) (n : ℕ) (from h : Held) (a d : Option (List ℕ)) (text : List ℕ) (b : Progress) → TellsSo v n from h a d text b → b.before.owed ≡ is_some h.kept.state.owed → (b.before.owed || nat_lt h.kept.state.time n) ≡ false → (0 < h.own.spent → h.kept.state.time < n) → TellsAll None v n from h a d text b.counts
 end_told v n from h a d text b tells owed test begun = record {
-  before = b;
+  progress = b;
   tells = tells;
-  stopped = over_by h.kept.state.owed h.kept.state.time n b.owed (not (is_over h.kept.state)) owed test;
-  spent = none_begun h.kept.state.owed h.kept.state.time n h.own.spent b.owed owed test begun;
+  counts = refl;
+  stopped = over_by h.kept.state.owed h.kept.state.time n b.before.owed (not (is_over h.kept.state)) owed test;
+  spent = none_begun h.kept.state.owed h.kept.state.time n h.own.spent b.before.owed owed test begun;
 }
 
-pub handed_told : (v : View) (n : ℕ) (from h : Held) (a d e : Option (List ℕ)) (text rest : List ℕ) (b : Looked) → IsHandedOn d e text rest → TellsSo v n from h a d text b → TellsSo v n from h a e rest b
+pub handed_told : (v : View) (n : ℕ) (from h : Held) (a d e : Option (List ℕ)) (text rest : List ℕ) (b : Progress) → IsHandedOn d e text rest → TellsSo v n from h a d text b → TellsSo v n from h a e rest b
 handed_told v n from h a d e text rest b handed tells = record { tells = λ m k. told_handed v n m h a d e text rest b handed (tells.tells m k) }
 
--- a write that failed, or memory that ran out, leaves a prefix
-pub cut_part : (v : View) (n : ℕ) (from h : Held) (a d e : Option (List ℕ)) (text : List ℕ) (b : Looked) → TellsSo v n from h a d text b → AppendsPart d e text → TracesPart v n from a e
-cut_part v n from h a d e text b tells part = record { traces = λ m k. told_part v n m h a d e text b (tells.tells m k) part }
+-- with what is counted
+module _ (v : View) (n : ℕ) (from h : Held) (a d e : Option (List ℕ)) (text : List ℕ) (c : ProcessorCounts) (counted : HasCounted (told_from v n) n from h c) where
+  -- a write that failed, or memory that ran out, leaves a prefix
+  pub cut_part : (b : Progress) → TellsSo v n from h a d text b → AppendsPart d e text → TracesPart v n from a e
+  cut_part b tells part = record {
+    traces = λ m k.
+        let told = tells.tells m k in
+        told_part v n m h a d e text b told (processor_held v c h) (processor_told v n from h c m (touched told.early (after n told.choices m)) counted k told.stands) part;
+  }
 
-pub finished_traces : (v : View) (n : ℕ) (from h : Held) (a d e : Option (List ℕ)) (text : List ℕ) → TellsAll None v n from h a d text → IsFinished d e text h → Traces v n from a e
-finished_traces v n from h a d e text told done = record { traces = λ m k. finished v n m h a d e text told.before (told.tells.tells m k) told.spent told.stopped done }
+  pub finished_traces : (counts : Counted) → TellsAll None v n from h a d text counts → IsFinished v counts d e (text ++ processor_held v c h) h → Traces v n from a e
+  finished_traces counts all done = record {
+    traces = λ m k.
+        let told = all.tells.tells m k in
+        finished v n m h a d e text all.progress told (processor_held v c h) (processor_told v n from h c m (touched told.early (after n told.choices m)) counted k told.stands) counts all.counts all.spent all.stopped done;
+  }
 
-pub cut_traces : (cut : Option Fault) (v : View) (n : ℕ) (from h : Held) (a d e : Option (List ℕ)) (text : List ℕ) → TellsAll cut v n from h a d text → AppendsPart d e (text ++ end_held h ++ held_text h) → TracesPart v n from a e
-cut_traces cut v n from h a d e text told part = record { traces = λ m k. finished_part v n m h a d e text told.before (told.tells.tells m k) told.spent part }
+  pub cut_traces : (cut : Option Fault) (counts : Counted) → TellsAll cut v n from h a d text counts → AppendsPart d e (text ++ processor_held v c h ++ end_held v counts h ++ held_text h) → TracesPart v n from a e
+  cut_traces cut counts all part = record {
+    traces = λ m k.
+        let told = all.tells.tells m k in
+        finished_part v n m h a d e text all.progress told (processor_held v c h) (processor_told v n from h c m (touched told.early (after n told.choices m)) counted k told.stands) counts all.counts all.spent part;
+  }
 
 -- all of it is a prefix too
-pub all_part : (d e : Option (List ℕ)) (text : List ℕ) (h : Held) → IsFinished d e text h → AppendsPart d e (text ++ end_held h ++ held_text h)
-all_part d e text h done = record {
-  part = text ++ end_held h ++ held_text h;
+pub all_part : (v : View) (k : Counted) (d e : Option (List ℕ)) (text : List ℕ) (h : Held) → IsFinished v k d e text h → AppendsPart d e (text ++ end_held v k h ++ held_text h)
+all_part v k d e text h done = record {
+  part = text ++ end_held v k h ++ held_text h;
   rest = [];
-  whole = append-nil (text ++ end_held h ++ held_text h);
-  appends = appends_both d done.between e (text ++ end_held h) (held_text h) done.trace done.written;
+  whole = append-nil (text ++ end_held v k h ++ held_text h);
+  appends = appends_both d done.between e (text ++ end_held v k h) (held_text h) done.trace done.written;
 }
 
 -- nothing at all is a prefix
@@ -238,9 +261,17 @@ pub part_none : (a : Option (List ℕ)) (text : List ℕ) → AppendsPart a a te
 part_none a text = record { part = []; rest = text; whole = refl; appends = appends_none a }
 
 -- so where nothing was done, a prefix is written
-pub nothing_part : (v : View) (n : ℕ) (from : Held) (a : Option (List ℕ)) → TracesPart v n from a a
+pub nothing_part : (v : View) (n : ℕ) (from : Held) (a : Option (List ℕ)) → from.own.spent ≡ 0 → TracesPart v n from a a
 unfolding after
-nothing_part v n from a = record { traces = λ m k. record { last = m; reached = record { choices = []; early = false; comes_to = refl }; written = part_none a (told_to v n m m (record { choices = []; early = false; comes_to = refl }) ++ text_of m) } }
+nothing_part v n from a none = record {
+  traces = λ m k. record {
+    last = m;
+    reached = record { choices = []; early = false; comes_to = refl };
+    processor = processor_held v none_processed from;
+    processed = processor_told v n from from none_processed m m (nothing_counted (told_from v n) n from none) k k;
+    written = part_none a (told_to v n m m (record { choices = []; early = false; comes_to = refl }) (processor_held v none_processed from) ++ text_of m);
+  };
+}
 
 -- a fault by which a run was cut short
 pub late_cut : (f : Fault) (n : ℕ) (h : Held) → IsStopped (Some f) n h → IsLate f

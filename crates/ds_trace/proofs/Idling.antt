@@ -1,5 +1,5 @@
 -- A turn in which nobody runs is told of by its boundary alone.
-use Rattle.std.proofs.Common.{◌≡◌, ℕ, suc, ◌+◌, ◌-◌, Bool, true, false, cond, List, [], ◌∷◌, ◌++◌, Option, Some, None, refl, ap, ◌∙◌, arith}
+use Rattle.std.proofs.Common.{◌≡◌, ℕ, suc, ◌+◌, ◌-◌, Bool, true, false, cond, List, [], ◌∷◌, ◌++◌, Option, Some, None, refl, sym, ap, ◌∙◌, arith}
 use Rattle.std.specs.Prelude.{is_some, length, map, slice_get}
 use Rattle.ds_procs.specs.declared.process.Standing.{Standing}
 use Rattle.ds_procs.specs.declared.process.Standing.TheVariants.{Ready, Waiting, Parked, Ended}
@@ -15,8 +15,9 @@ use Rattle.ds_trace.specs.declared.start.Start.{Start}
 use Rattle.ds_trace.specs.Looks.{Looked, Found}
 use Rattle.ds_trace.specs.Starts.{start_of}
 use Rattle.ds_trace.specs.Boundaries.{due_by}
-use Rattle.ds_trace.specs.Changes.{same_standing, standing_line, standings_text, way_text, switch_text, changes_text}
-use Rattle.ds_trace.specs.Halves.{log_of, looked_of, found_of, process_in, half_after, half_text}
+use Rattle.ds_trace.specs.Changes.{same_first, same_standing, standing_line, standings_text, way_text, switch_text, changes_text}
+use Rattle.ds_trace.specs.Counts.{Counted, plus, lost_of, is_counted, counts_after}
+use Rattle.ds_trace.specs.Halves.{log_of, looked_of, found_of, process_in, half_after, half_text, half_counts}
 
 untouched : (x : State) (d : Bool) → x.ready ≡ [] → touched d x ≡ x
 untouched x true none = ap (touch_first x) none
@@ -100,3 +101,33 @@ idle_text v x owed none =
 -- and its boundary tells what is after both
 pub idle_boundary : (v : View) (x t : State) → x.owed ≡ None → x.ready ≡ [] → half_after v (looked_of x) (found_of (process_in (looked_of x).start) t) ≡ half_text v (idle_after x) t
 idle_boundary v x t owed none = ap (λ (l : Looked). half_after v l (found_of (process_in l.start) t)) (idle_looked x owed none)
+
+-- The tick is counted once.
+
+-- the counts after a half turn without a unit, by whether its turn is counted, whether a boundary was owed, who was first and is first, whether one is owed now, and how many characters were lost
+abbrev counts_by : Bool → Counted → Bool → Option ℕ → Option ℕ → Bool → ℕ → Counted
+counts_by counted k was before after is lost =
+    cond counted
+    (record k {
+      idle = cond was k.idle (plus k.idle 1);
+      lost = cond is k.lost (plus k.lost lost);
+      switches = cond (same_first before after) k.switches (plus k.switches 1);
+    }) k
+
+counts_twice : (counted : Bool) (k : Counted) (after : Option ℕ) (is : Bool) (lost none : ℕ) → counts_by counted k false None after is lost ≡ counts_by counted (counts_by counted k false None None true none) true None after is lost
+counts_twice true k after is lost none = refl
+counts_twice false k after is lost none = refl
+
+-- with its boundary
+pub idle_counts : (v : View) (k : Counted) (x t : State) → x.owed ≡ None → x.ready ≡ [] → counts_after v k (looked_of x) (found_of (process_in (looked_of x).start) t) ≡ half_counts v (half_counts v k x (idle_after x)) (idle_after x) t
+idle_counts v k x t owed none =
+    let b : Looked = record (looked_of (idle_after x)) { owed = false } in
+    let counted : Bool = is_counted v x.time in
+    let lost : ℕ = lost_of b (found_of 0 t) in
+    let none_lost : ℕ = lost_of b (found_of 0 (idle_after x)) in
+    let runs : first x.ready ≡ None = ap first none in
+    ap (λ (l : Looked). counts_after v k l (found_of (process_in l.start) t)) (idle_looked x owed none)
+    ∙ (ap (λ (o : Option ℕ). counts_by counted k false o (first t.ready) (is_some t.owed) lost) runs
+    ∙ (counts_twice counted k (first t.ready) (is_some t.owed) lost none_lost
+    ∙ (sym (ap (λ (o : Option ℕ). counts_by counted (counts_by counted k false o o true none_lost) true o (first t.ready) (is_some t.owed) lost) runs)
+    ∙ sym (ap (λ (l : Looked). counts_after v (counts_after v k l (found_of (process_in l.start) (idle_after x))) (looked_of (idle_after x)) (found_of 0 t)) (idle_looked x owed none)))))

@@ -1,3 +1,4 @@
+pub mod Scanning
 pub mod Results
 pub mod Due
 pub mod Processes
@@ -5,6 +6,7 @@ pub mod Touched
 pub mod LeftAlone
 pub mod Idling
 pub mod Silence
+pub mod Processing
 pub mod Standing
 pub mod Telling
 pub mod Following

@@ -73,14 +73,14 @@ changes_more v m time t olds p line new whole old s above within now was is adds
     ∙ (sym (ap (λ (l : List Standing). line ++ standings_text v time olds p l) (standings_from m p above within)) ∙ before))
 
 -- the line of one more of them at the end
-pub process_more : (h : Held) (p count : ℕ) (line new : List ℕ) (s : Standing) (pc : ℕ) (general whole : List ℕ) → p < count + 1 → line ++ processes_held h p (count + 1 - p) ≡ whole → new ≡ line ++ process_text p s pc general
-    → s ≡ (process_of h.kept.state p).standing → pc ≡ address_held h p → general ≡ general_held h p → new ++ processes_held h (p + 1) (count + 1 - (p + 1)) ≡ whole
-process_more h p count line new s pc general whole within before adds is at has =
-    let rest : List ℕ = processes_held h (p + 1) (count + 1 - (p + 1)) in
+pub process_more : (lines : List (List ℕ)) (h : Held) (p count : ℕ) (line new : List ℕ) (s : Standing) (pc : ℕ) (general whole : List ℕ) → p < count + 1 → line ++ processes_held lines h p (count + 1 - p) ≡ whole → new ≡ line ++ process_text lines p s pc general
+    → s ≡ (process_of h.kept.state p).standing → pc ≡ address_held h p → general ≡ general_held h p → new ++ processes_held lines h (p + 1) (count + 1 - (p + 1)) ≡ whole
+process_more lines h p count line new s pc general whole within before adds is at has =
+    let rest : List ℕ = processes_held lines h (p + 1) (count + 1 - (p + 1)) in
     let left : count + 1 - p ≡ suc (count + 1 - (p + 1)) = omega (arith, within) in
-    let text : process_text p s pc general ≡ process_text p (process_of h.kept.state p).standing (address_held h p) (general_held h p) =
-    ap (λ (x : Standing). process_text p x pc general) is
-    ∙ (ap (λ (y : ℕ). process_text p (process_of h.kept.state p).standing y general) at ∙ ap (process_text p (process_of h.kept.state p).standing (address_held h p)) has) in
+    let text : process_text lines p s pc general ≡ process_text lines p (process_of h.kept.state p).standing (address_held h p) (general_held h p) =
+    ap (λ (x : Standing). process_text lines p x pc general) is
+    ∙ (ap (λ (y : ℕ). process_text lines p (process_of h.kept.state p).standing y general) at ∙ ap (process_text lines p (process_of h.kept.state p).standing (address_held h p)) has) in
     ap (λ (l : List ℕ). l ++ rest) (adds ∙ ap (λ (l : List ℕ). line ++ l) text)
-    ∙ (append_assoc line (process_text p (process_of h.kept.state p).standing (address_held h p) (general_held h p)) rest
-    ∙ (sym (ap (λ (n : ℕ). line ++ processes_held h p n) left) ∙ before))
+    ∙ (append_assoc line (process_text lines p (process_of h.kept.state p).standing (address_held h p) (general_held h p)) rest
+    ∙ (sym (ap (λ (n : ℕ). line ++ processes_held lines h p n) left) ∙ before))

@@ -17,8 +17,9 @@ use Rattle.ds_view.specs.Views.{is_end, has_lines, is_before, shows_turn}
 use Rattle.ds_trace.specs.declared.start.Start.{Start}
 use Rattle.ds_trace.specs.Looks.{Looked, Found}
 use Rattle.ds_trace.specs.Changes.{changes_text}
-use Rattle.ds_trace.specs.Halves.{looked_of, found_of, process_in, done_text, half_after, half_text}
-use Rattle.ds_trace.specs.Traces.{next_text, trace_along}
+use Rattle.ds_trace.specs.Counts.{Counted, none_counted, done_counted, switch_counted, counts_after}
+use Rattle.ds_trace.specs.Halves.{looked_of, found_of, process_in, done_text, half_after, half_text, half_counts}
+use Rattle.ds_trace.specs.Traces.{next_counts, next_text, counts_along, trace_along}
 
 -- Half turns that are not told.
 
@@ -59,6 +60,18 @@ half_silent : (v : View) (k : ℕ) (b : Looked) (f : Found) → IsSilent v k →
 half_silent v k b f (inl end) early = end_silent v b f end
 half_silent v k b f (inr late) early = ap (λ (x : Bool). cond (x && is_before v.to b.began) (done_text v b f b.start ++ changes_text v b f) []) (not_yet v.from b.began k early late)
 
+-- nor counted
+none_counts : (b : Bool) (more k : Counted) → cond (b && false) more k ≡ k
+none_counts true more k = refl
+none_counts false more k = refl
+
+counts_silent : (v : View) (k : ℕ) (c : Counted) (b : Looked) (f : Found) → IsSilent v k → b.began < k → counts_after v c b f ≡ c
+counts_silent v k c b f (inl end) early = ap (λ (o : Option Only). counts_after (record v { only = o }) c b f) end
+counts_silent v k c b f (inr late) early =
+    let more : Counted = switch_counted (done_counted c b f b.start) b.runner f.runner in
+    ap (λ (x : Bool). cond (has_lines v && (x && is_before v.to b.began)) more c) (not_yet v.from b.began k early late)
+    ∙ none_counts (has_lines v) more c
+
 -- When the turn began whose boundary is owed.
 
 abbrev BegunBefore : ℕ → Option Turn → Type 0
@@ -95,24 +108,30 @@ longer true over t k n within on = refl
 longer false true t k n within on = grind (arith, nat_tests)
 longer false false t k n within on = grind (arith, nat_tests)
 
--- there is a way of a run for n to a state, and nothing of it is told
+-- there is a way of a run for n to a state, and nothing of it is told or counted
 pub record IsUntold (v : View) (n : ℕ) (m x : State) : Type 0 where
   pub choices : List Bool
   pub comes : after n choices m ≡ x
   pub untold : trace_along v n choices m ≡ []
+  pub uncounted : counts_along v n choices m ≡ none_counted
 
 module _ (v : View) (k n : ℕ) (within : k ≤ n) (silent : IsSilent v k) where
   untold_half : (m x : State) (d : Bool) → BegunBefore k x.owed → goes_on k x ≡ true → IsUntold v n m x → IsUntold v n m (half_turn d x)
-  unfolding after trace_along
+  unfolding after trace_along counts_along
   untold_half m x d begun on before =
       let goes : goes_on n x ≡ true = longer (is_some x.owed) (not (is_over x)) x.time k n within on in
       let none : half_text v x (half_turn d x) ≡ [] =
-      half_silent v k (looked_of x) (found_of (process_in (looked_of x).start) (half_turn d x)) silent (began_early k x.owed x.time (not (is_over x)) begun on) in record {
+      half_silent v k (looked_of x) (found_of (process_in (looked_of x).start) (half_turn d x)) silent (began_early k x.owed x.time (not (is_over x)) begun on) in
+      let uncounts : half_counts v none_counted x (half_turn d x) ≡ none_counted =
+      counts_silent v k none_counted (looked_of x) (found_of (process_in (looked_of x).start) (half_turn d x)) silent (began_early k x.owed x.time (not (is_over x)) begun on) in record {
         choices = d ∷ before.choices;
         comes = ap (go n d) before.comes ∙ ap (λ (b : Bool). cond b (half_turn d x) x) goes;
         untold = ap (λ (l : List ℕ). l ++ next_text v n d (after n before.choices m)) before.untold
             ∙ (ap (next_text v n d) before.comes
             ∙ (ap (λ (b : Bool). cond b (half_text v x (half_turn d x)) []) goes ∙ none));
+        uncounted = ap (next_counts v n d (after n before.choices m)) before.uncounted
+            ∙ (ap (λ (s : State). next_counts v n d s none_counted) before.comes
+            ∙ (ap (λ (b : Bool). cond b (half_counts v none_counted x (half_turn d x)) none_counted) goes ∙ uncounts));
       }
 
   untold_if : (b : Bool) (m x : State) (d : Bool) → goes_on k x ≡ b → BegunBefore k x.owed → IsUntold v n m x → IsUntold v n m (cond b (half_turn d x) x) × BegunBefore k (cond b (half_turn d x) x).owed
@@ -120,8 +139,8 @@ module _ (v : View) (k n : ℕ) (within : k ≤ n) (silent : IsSilent v k) where
   untold_if false m x d on begun before = (before, begun)
 
   untold_way : (choices : List Bool) (m : State) → m.owed ≡ None → IsUntold v n m (after k choices m) × BegunBefore k (after k choices m).owed
-  unfolding after trace_along
-  untold_way [] m owed = (record { choices = []; comes = refl; untold = refl }, subst (BegunBefore k) (sym owed) tt)
+  unfolding after trace_along counts_along
+  untold_way [] m owed = (record { choices = []; comes = refl; untold = refl; uncounted = refl }, subst (BegunBefore k) (sym owed) tt)
   untold_way (d ∷ earlier) m owed =
       let before = untold_way earlier m owed in
       untold_if (goes_on k (after k earlier m)) m (after k earlier m) d refl before.1 before.0

@@ -26,9 +26,12 @@ use Rattle.ds_trace.specs.Starts.{start_at, start_of, general_of}
 use Rattle.ds_trace.specs.Looks.{Looked, Found}
 use Rattle.ds_trace.specs.Boundaries.{due_by}
 use Rattle.ds_trace.specs.Changes.{changes_text}
+use Rattle.ds_trace.specs.Counts.{Counted, is_counted, done_counted, switch_counted, counts_after}
+use Rattle.ds_trace.specs.Logs.{lines_of}
+use Rattle.ds_trace.specs.Summaries.{summary_text}
 use Rattle.ds_trace.specs.Halves.{log_of, looked_of, found_of, next_boundary, process_in, done_text, half_after}
 use Rattle.ds_trace.specs.Ends.{process_text, processes_text, end_text}
-use Rattle.ds_trace.specs.Shows.{start_held, looked_held, found_held, half_held, processes_held, end_held}
+use Rattle.ds_trace.specs.Shows.{start_held, looked_held, found_held, half_held, counts_held, processes_held, end_held}
 
 -- Processes in their seats.
 
@@ -64,16 +67,16 @@ standings_alike (x ∷ xs) (y ∷ ys) long same =
     ∙ ap (λ (ss : List Standing). y.standing ∷ ss) (standings_alike xs ys shorter (λ i. same (suc i)))
 
 -- the lines of processes that a station shows as they are
-processes_stand : (h : Held) (xs : List Process) (p : ℕ)
+processes_stand : (lines : List (List ℕ)) (h : Held) (xs : List Process) (p : ℕ)
     → ((j i : ℕ) → j ≡ p + i → ((process_of h.kept.state j).standing ≡ (get_or xs i no_process).standing) × (address_held h j ≡ (get_or xs i no_process).pc) × (general_held h j ≡ (get_or xs i no_process).registers.general))
-    → processes_held h p (length xs) ≡ processes_text p xs
-processes_stand h [] p same = refl
-processes_stand h (x ∷ xs) p same =
+    → processes_held lines h p (length xs) ≡ processes_text lines p xs
+processes_stand lines h [] p same = refl
+processes_stand lines h (x ∷ xs) p same =
     let here = same p 0 (omega arith) in
-    ap (λ (s : Standing). process_text p s (address_held h p) (general_held h p) ++ processes_held h (p + 1) (length xs)) here.0
-    ∙ (ap (λ (pc : ℕ). process_text p x.standing pc (general_held h p) ++ processes_held h (p + 1) (length xs)) here.1
-    ∙ (ap (λ (general : List ℕ). process_text p x.standing x.pc general ++ processes_held h (p + 1) (length xs)) here.2
-    ∙ ap (λ (l : List ℕ). process_text p x.standing x.pc x.registers.general ++ l) (processes_stand h xs (p + 1) (λ j i is. same j (suc i) (omega (arith, is))))))
+    ap (λ (s : Standing). process_text lines p s (address_held h p) (general_held h p) ++ processes_held lines h (p + 1) (length xs)) here.0
+    ∙ (ap (λ (pc : ℕ). process_text lines p x.standing pc (general_held h p) ++ processes_held lines h (p + 1) (length xs)) here.1
+    ∙ (ap (λ (general : List ℕ). process_text lines p x.standing x.pc general ++ processes_held lines h (p + 1) (length xs)) here.2
+    ∙ ap (λ (l : List ℕ). process_text lines p x.standing x.pc x.registers.general ++ l) (processes_stand lines h xs (p + 1) (λ j i is. same j (suc i) (omega (arith, is))))))
 
 -- what is looked at of a state, with this unit, log and standings
 abbrev looked_by : State → Option Start → ℕ → List Standing → Looked
@@ -106,6 +109,10 @@ found_by s log general memory standings = record {
 -- the lines of a half turn, by its unit
 abbrev half_by : View → Looked → Found → Option Start → List ℕ
 half_by v b f o = cond (shows_turn v b.began) (done_text v b f o ++ changes_text v b f) []
+
+-- the counts after it, by its unit
+abbrev counts_by : View → Counted → Looked → Found → Option Start → Counted
+counts_by v c b f o = cond (is_counted v b.began) (switch_counted (done_counted c b f o) b.runner f.runner) c
 
 module _ (h : Held) (m : State) (k : Stands h m) where
   -- all but the processes, the pages and the log
@@ -214,13 +221,31 @@ module _ (h : Held) (m : State) (k : Stands h m) where
   pub half_stands : (v : View) (b : Looked) → ((s : Start) → b.start ≡ Some s → general_held h s.process ≡ general_of m s.process) → half_held v b h ≡ half_after v b (found_of (process_in b.start) m)
   half_stands v b same = half_stands_by v b b.start same
 
+  -- and so are the counts
+  counts_stand_by : (v : View) (c : Counted) (b : Looked) (o : Option Start) → ((s : Start) → o ≡ Some s → general_held h s.process ≡ general_of m s.process)
+      → counts_by v c b (found_held (process_in o) h) o ≡ counts_by v c b (found_of (process_in o) m) o
+  counts_stand_by v c b None same = ap (λ (f : Found). counts_by v c b f None) (found_alike [])
+  counts_stand_by v c b (Some s) same =
+      ap (λ (f : Found). counts_by v c b f (Some s)) (found_alike (general_held h s.process))
+      ∙ ap (λ (general : List ℕ). counts_by v c b (record (found_of 0 m) { general = general }) (Some s)) (same s refl)
+
+  pub counts_stand : (v : View) (c : Counted) (b : Looked) → ((s : Start) → b.start ≡ Some s → general_held h s.process ≡ general_of m s.process) → counts_held v c b h ≡ counts_after v c b (found_of (process_in b.start) m)
+  counts_stand v c b same = counts_stand_by v c b b.start same
+
   -- The end.
 
-  pub end_stands : h.own.spent ≡ 0 → end_held h ≡ end_text m
-  end_stands none =
-      ap (λ (n : ℕ). processes_held h 1 n) (sym (as_many h.kept.state.ready m h.kept.state k.agrees.kept.state))
-      ∙ processes_stand h m.processes 1 (λ j i is.
+  -- the lines of all processes
+  all_stand : (lines : List (List ℕ)) → h.own.spent ≡ 0 → processes_held lines h 1 (length h.kept.state.processes) ≡ processes_text lines 1 m.processes
+  all_stand lines none =
+      ap (λ (n : ℕ). processes_held lines h 1 n) (sym (as_many h.kept.state.ready m h.kept.state k.agrees.kept.state))
+      ∙ processes_stand lines h m.processes 1 (λ j i is.
       let back : j - 1 ≡ i = omega (arith, is) in
       let some : 0 < j = omega (arith, is) in
       let at : process_of m j ≡ get_or m.processes i no_process = ap (λ (x : ℕ). get_or m.processes x no_process) back in
       (standing_stands j some ∙ ap (λ (q : Process). q.standing) at, address_stands j some none ∙ ap (λ (q : Process). q.pc) at, general_stands j some none ∙ ap (λ (q : Process). q.registers.general) at))
+
+  pub end_stands : (v : View) (c : Counted) → h.own.spent ≡ 0 → end_held v c h ≡ end_text v c m
+  end_stands v c none =
+      ap (λ (t : ℕ). summary_text v c t (lines_of h.kept.log) ++ processes_held (lines_of h.kept.log) h 1 (length h.kept.state.processes)) (sym (time_stands h m k))
+      ∙ (ap (λ (log : List ℕ). summary_text v c m.time (lines_of log) ++ processes_held (lines_of log) h 1 (length h.kept.state.processes)) (sym log_stands)
+      ∙ ap (λ (l : List ℕ). summary_text v c m.time (lines_of (log_of m)) ++ l) (all_stand (lines_of (log_of m)) none))

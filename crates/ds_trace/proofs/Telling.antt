@@ -27,16 +27,19 @@ use Rattle.ds_view.specs.declared.view.View.{View}
 use Rattle.ds_trace.specs.declared.start.Start.{Start}
 use Rattle.ds_trace.specs.Starts.{general_of, start_of, next_start}
 use Rattle.ds_trace.specs.Looks.{Looked}
-use Rattle.ds_trace.specs.Halves.{looked_of, found_of, process_in, half_after, half_text}
+use Rattle.ds_trace.specs.Counts.{Counted, none_counted, counts_after}
+use Rattle.ds_trace.specs.Halves.{looked_of, found_of, process_in, half_after, half_text, half_counts}
 use Rattle.ds_trace.specs.Ends.{end_text}
-use Rattle.ds_trace.specs.Traces.{trace_along, told_to, WritesTrace, WritesTracePart}
+use Rattle.ds_trace.specs.Processors.{TellsProcessor}
+use Rattle.ds_trace.specs.declared.progress.Progress.{Progress}
+use Rattle.ds_trace.specs.Traces.{counts_along, trace_along, told_to, WritesTrace, WritesTracePart}
 use Rattle.ds_trace.specs.Handed.{IsFinished, IsHandedOn}
-use Rattle.ds_trace.specs.Shows.{looked_held, half_held, end_held, IsTold}
+use Rattle.ds_trace.specs.Shows.{looked_held, half_held, counts_held, progress_held, end_held, IsTold}
 use Rattle.ds_trace.specs.Advanced.{is_last}
-use Rattle.ds_trace.proofs.Touched.{looked_touched, half_touched, touched_ready}
-use Rattle.ds_trace.proofs.Idling.{idle_after, idle_turn, idle_looked, idle_text, idle_boundary}
+use Rattle.ds_trace.proofs.Touched.{looked_touched, half_touched, counts_touched, touched_ready}
+use Rattle.ds_trace.proofs.Idling.{idle_after, idle_turn, idle_looked, idle_text, idle_boundary, idle_counts}
 use Rattle.ds_trace.proofs.Silence.{IsSilent, IsUntold, untold}
-use Rattle.ds_trace.proofs.Standing.{looked_stands, half_stands, general_stands, some_first, end_stands}
+use Rattle.ds_trace.proofs.Standing.{looked_stands, half_stands, counts_stand, general_stands, some_first, end_stands}
 
 -- A half turn more.
 
@@ -44,36 +47,41 @@ along_more : (v : View) (n : ℕ) (d : Bool) (cs : List Bool) (m : State) → go
 unfolding trace_along
 along_more v n d cs m on = ap (λ (b : Bool). trace_along v n cs m ++ cond b (half_text v (after n cs m) (half_turn d (after n cs m))) []) on
 
+counts_more : (v : View) (n : ℕ) (d : Bool) (cs : List Bool) (m : State) → goes_on n (after n cs m) ≡ true → counts_along v n (d ∷ cs) m ≡ half_counts v (counts_along v n cs m) (after n cs m) (half_turn d (after n cs m))
+unfolding counts_along
+counts_more v n d cs m on = ap (λ (b : Bool). cond b (half_counts v (counts_along v n cs m) (after n cs m) (half_turn d (after n cs m))) (counts_along v n cs m)) on
+
 after_more : (n : ℕ) (d : Bool) (cs : List Bool) (m : State) → goes_on n (after n cs m) ≡ true → after n (d ∷ cs) m ≡ half_turn d (after n cs m)
 unfolding after
 after_more n d cs m on = ap (λ (b : Bool). cond b (half_turn d (after n cs m)) (after n cs m)) on
 
 -- Of the way to the first turn that is told nothing is written, and nothing is to be written.
 
-module _ (v : View) (k n : ℕ) (m : State) (h new : Held) (a : Option (List ℕ)) (b : Looked) (within : k ≤ n) (silent : IsSilent v k) where
-  untold_from : (x : State) (early : Bool) → IsUntold v n m x → Stands new (touched early x) → b ≡ looked_of x → IsTold v n m new a a [] b
-  untold_from x early u stands is = record {
+module _ (v : View) (k n : ℕ) (m : State) (h new : Held) (a : Option (List ℕ)) (b : Progress) (within : k ≤ n) (silent : IsSilent v k) where
+  untold_from : (x : State) (early : Bool) → IsUntold v n m x → Stands new (touched early x) → b.before ≡ looked_of x → b.counts ≡ none_counted → IsTold v n m new a a [] b
+  untold_from x early u stands is none = record {
     choices = u.choices;
     early = early;
     stands = subst (λ (y : State). Stands new (touched early y)) (sym u.comes) stands;
     looked = is ∙ sym (ap looked_of u.comes);
+    counted = none ∙ sym u.uncounted;
     sent = [];
     appends = appends_none a;
     told = sym u.untold;
   }
 
-  pub told_first : Stands h m → RunsWithin k h new → h.kept.state.owed ≡ None → new.kept.state.owed ≡ None → new.own.spent ≡ 0 → b ≡ looked_held false new → IsTold v n m new a a [] b
-  told_first stands runs unowed owes none is =
+  pub told_first : Stands h m → RunsWithin k h new → h.kept.state.owed ≡ None → new.kept.state.owed ≡ None → new.own.spent ≡ 0 → b.before ≡ looked_held false new → b.counts ≡ none_counted → IsTold v n m new a a [] b
+  told_first stands runs unowed owes none is uncounted =
       let t = runs.runs m stands in
       let x : State = after k t.1.choices m in
       let there : Stands new (touched t.1.early x) = subst (Stands new) t.1.comes_to t.2 in
       let owed : (touched t.1.early x).owed ≡ None = owed_stands new (touched t.1.early x) there ∙ owes in
       untold_from x t.1.early (untold v k n within silent t.1.choices m (owed_stands h m stands ∙ unowed)) there
-      (is ∙ (looked_stands new (touched t.1.early x) there false (sym (ap is_some owed)) none ∙ looked_touched t.1.early x))
+      (is ∙ (looked_stands new (touched t.1.early x) there false (sym (ap is_some owed)) none ∙ looked_touched t.1.early x)) uncounted
 
 -- A part of a unit tells nothing.
 
-pub told_inside : (v : View) (n : ℕ) (m : State) (h new : Held) (a d : Option (List ℕ)) (rest : List ℕ) (b : Looked) → Follows Inside h new → IsTold v n m h a d rest b → IsTold v n m new a d rest b
+pub told_inside : (v : View) (n : ℕ) (m : State) (h new : Held) (a d : Option (List ℕ)) (rest : List ℕ) (b : Progress) → Follows Inside h new → IsTold v n m h a d rest b → IsTold v n m new a d rest b
 told_inside v n m h new a d rest b f told =
     let t = f.follows (touched told.early (after n told.choices m)) told.stands in
     let both = touched_or t.1.1 told.early (after n told.choices m) in record {
@@ -81,17 +89,19 @@ told_inside v n m h new a d rest b f told =
       early = both.0;
       stands = subst (Stands new) (t.1.2 ∙ both.1) t.2;
       looked = told.looked;
+      counted = told.counted;
       sent = told.sent;
       appends = told.appends;
       told = told.told;
     }
 
-pub told_same : (v : View) (n : ℕ) (m : State) (h new : Held) (a d : Option (List ℕ)) (rest : List ℕ) (b : Looked) → Stays h new → IsTold v n m h a d rest b → IsTold v n m new a d rest b
+pub told_same : (v : View) (n : ℕ) (m : State) (h new : Held) (a d : Option (List ℕ)) (rest : List ℕ) (b : Progress) → Stays h new → IsTold v n m h a d rest b → IsTold v n m new a d rest b
 told_same v n m h new a d rest b s told = record {
   choices = told.choices;
   early = told.early;
   stands = s.stays (touched told.early (after n told.choices m)) told.stands;
   looked = told.looked;
+  counted = told.counted;
   sent = told.sent;
   appends = told.appends;
   told = told.told;
@@ -105,25 +115,32 @@ half_is x m t early is half =
     let d = half_after_touch half.0 early x in
     (d.0, half.1, half.2 ∙ ap (touched half.1) (ap (half_turn half.0) is ∙ d.1))
 
-module _ (v : View) (n : ℕ) (m : State) (h new : Held) (a d : Option (List ℕ)) (rest more : List ℕ) (b c : Looked) (told : IsTold v n m h a d rest b) where
+module _ (v : View) (n : ℕ) (m : State) (h new : Held) (a d : Option (List ℕ)) (rest more : List ℕ) (b c : Progress) (told : IsTold v n m h a d rest b) where
   abbrev at : State
   at = after n told.choices m
 
   -- by the half turn that leads from where the run was
   told_half : (t : State) (touch late owed : Bool) → goes_on n at ≡ true → t ≡ touched late (half_turn touch at) → Stands new t → owed ≡ is_some t.owed → new.own.spent ≡ 0
-      → ((s : Start) → b.start ≡ Some s → general_held new s.process ≡ general_of t s.process) → more ≡ rest ++ half_held v b new → c ≡ looked_held owed new → IsTold v n m new a d more c
+      → ((s : Start) → b.before.start ≡ Some s → general_held new s.process ≡ general_of t s.process) → more ≡ rest ++ half_held v b.before new → c ≡ progress_held owed v b new → IsTold v n m new a d more c
   unfolding after
   told_half t touch late owed on is k owes none same adds looks =
       let next = after_more n touch told.choices m on in
-      let line : half_held v b new ≡ half_text v at (half_turn touch at) =
-      half_stands new t k v b same
-      ∙ (ap (λ (y : State). half_after v b (found_of (process_in b.start) y)) is
-      ∙ (half_touched v b (process_in b.start) late (half_turn touch at)
-      ∙ ap (λ (x : Looked). half_after v x (found_of (process_in x.start) (half_turn touch at))) told.looked)) in record {
+      let line : half_held v b.before new ≡ half_text v at (half_turn touch at) =
+      half_stands new t k v b.before same
+      ∙ (ap (λ (y : State). half_after v b.before (found_of (process_in b.before.start) y)) is
+      ∙ (half_touched v b.before (process_in b.before.start) late (half_turn touch at)
+      ∙ ap (λ (x : Looked). half_after v x (found_of (process_in x.start) (half_turn touch at))) told.looked)) in
+      let counts : counts_held v b.counts b.before new ≡ half_counts v (counts_along v n told.choices m) at (half_turn touch at) =
+      counts_stand new t k v b.counts b.before same
+      ∙ (ap (λ (y : State). counts_after v b.counts b.before (found_of (process_in b.before.start) y)) is
+      ∙ (counts_touched v b.counts b.before (process_in b.before.start) late (half_turn touch at)
+      ∙ (ap (λ (x : Looked). counts_after v b.counts x (found_of (process_in x.start) (half_turn touch at))) told.looked
+      ∙ ap (λ (x : Counted). half_counts v x at (half_turn touch at)) told.counted))) in record {
         choices = touch ∷ told.choices;
         early = late;
         stands = subst (Stands new) (is ∙ ap (touched late) (sym next)) k;
-        looked = looks ∙ (looked_stands new t k owed owes none ∙ (ap looked_of is ∙ (looked_touched late (half_turn touch at) ∙ ap looked_of (sym next))));
+        looked = ap (λ (x : Progress). x.before) looks ∙ (looked_stands new t k owed owes none ∙ (ap looked_of is ∙ (looked_touched late (half_turn touch at) ∙ ap looked_of (sym next))));
+        counted = ap (λ (x : Progress). x.counts) looks ∙ (counts ∙ sym (counts_more v n touch told.choices m on));
         sent = told.sent;
         appends = told.appends;
         told = ap (λ (l : List ℕ). told.sent ++ l) (adds ∙ ap (λ (l : List ℕ). rest ++ l) line)
@@ -188,7 +205,7 @@ going_now Over n h new m k last f before = absurd (cc)
 
 -- Each kind of step.
 
-module _ (v : View) (n : ℕ) (m : State) (h new : Held) (a d : Option (List ℕ)) (rest more : List ℕ) (b c : Looked) (told : IsTold v n m h a d rest b) (going : held_goes_on n h ≡ true) where
+module _ (v : View) (n : ℕ) (m : State) (h new : Held) (a d : Option (List ℕ)) (rest more : List ℕ) (b c : Progress) (told : IsTold v n m h a d rest b) (going : held_goes_on n h ≡ true) where
   abbrev here : State
   here = after n told.choices m
 
@@ -205,16 +222,16 @@ module _ (v : View) (n : ℕ) (m : State) (h new : Held) (a d : Option (List ℕ
   ready_here : here.ready ≡ h.kept.state.ready
   ready_here = sym (touched_ready told.early here) ∙ told.stands.agrees.kept.ready
 
-  start_is : (s : Start) → b.start ≡ Some s → next_start here ≡ Some s
+  start_is : (s : Start) → b.before.start ≡ Some s → next_start here ≡ Some s
   start_is s is = sym (ap (λ (x : Looked). x.start) told.looked) ∙ is
 
   -- the process of the unit that is next has a number
-  some_process : (s : Start) → b.start ≡ Some s → 0 < s.process
+  some_process : (s : Start) → b.before.start ≡ Some s → 0 < s.process
   some_process s is =
       let runs : first here.ready ≡ Some s.process = start_process (is_some here.owed) here (first here.ready) s (start_is s is) in
       some_first h now told.stands s.process (sym (ap first ready_here) ∙ runs)
 
-  pub told_unit : Follows Unit h new → Moves Unit h new → more ≡ rest ++ half_held v b new → c ≡ looked_held true new → IsTold v n m new a d more c
+  pub told_unit : Follows Unit h new → Moves Unit h new → more ≡ rest ++ half_held v b.before new → c ≡ progress_held true v b new → IsTold v n m new a d more c
   told_unit f moves adds looks =
       let t = f.follows now told.stands in
       let half = half_is here now t.0 told.early refl t.1.2 in
@@ -222,7 +239,7 @@ module _ (v : View) (n : ℕ) (m : State) (h new : Held) (a d : Option (List ℕ
       told_half v n m h new a d rest more b c told t.0 half.0 half.1 true goes_here half.2 t.2 (sym owes) moves.3
       (λ s is. general_stands new t.0 t.2 s.process (some_process s is) moves.3) adds looks
 
-  owed_boundary_told : (t : State) → Stands new t → (now.owed ≡ None → ⊥) → HalfTo now t → Moves Boundary h new → more ≡ rest ++ half_held v b new → c ≡ looked_held false new → IsTold v n m new a d more c
+  owed_boundary_told : (t : State) → Stands new t → (now.owed ≡ None → ⊥) → HalfTo now t → Moves Boundary h new → more ≡ rest ++ half_held v b.before new → c ≡ progress_held false v b new → IsTold v n m new a d more c
   owed_boundary_told t k owed goes moves adds looks =
       let half = half_is here now t told.early refl goes in
       let owes : is_some here.owed ≡ true = ap is_some (sym (touched_owed told.early here)) ∙ owes_some now.owed owed in
@@ -231,27 +248,27 @@ module _ (v : View) (n : ℕ) (m : State) (h new : Held) (a d : Option (List ℕ
 
 -- A turn in which nobody runs, with its boundary.
 
-module _ (v : View) (n : ℕ) (m : State) (h new : Held) (a d : Option (List ℕ)) (rest more : List ℕ) (b c : Looked) (told : IsTold v n m h a d rest b) (on : goes_on n (after n told.choices m) ≡ true) where
+module _ (v : View) (n : ℕ) (m : State) (h new : Held) (a d : Option (List ℕ)) (rest more : List ℕ) (b c : Progress) (told : IsTold v n m h a d rest b) (on : goes_on n (after n told.choices m) ≡ true) where
   abbrev from : State
   from = after n told.choices m
 
-  no_unit : (s : Start) → b.start ≡ Some s → from.owed ≡ None → from.ready ≡ [] → ⊥
+  no_unit : (s : Start) → b.before.start ≡ Some s → from.owed ≡ None → from.ready ≡ [] → ⊥
   no_unit s starts owed none =
       let no : None ≡ Some s = sym (ap (λ (x : Looked). x.start) (idle_looked from owed none)) ∙ (sym (ap (λ (x : Looked). x.start) told.looked) ∙ starts) in cc
 
   -- both half turns, by their touches
   told_idle : (t : State) (first_touch touch late : Bool) → from.owed ≡ None → from.ready ≡ [] → t ≡ touched late (half_turn touch (half_turn first_touch from)) → Stands new t → t.owed ≡ None → new.own.spent ≡ 0
-      → more ≡ rest ++ half_held v b new → c ≡ looked_held false new → IsTold v n m new a d more c
+      → more ≡ rest ++ half_held v b.before new → c ≡ progress_held false v b new → IsTold v n m new a d more c
   told_idle t first_touch touch late owed none is k unowed begun adds looks =
       let between : after n (first_touch ∷ told.choices) m ≡ idle_after from = after_more n first_touch told.choices m on ∙ idle_turn from first_touch owed none in
       let goes : goes_on n (after n (first_touch ∷ told.choices) m) ≡ true = ap (goes_on n) between in
       let last : State = half_turn touch (idle_after from) in
       let next : after n (touch ∷ first_touch ∷ told.choices) m ≡ last = after_more n touch (first_touch ∷ told.choices) m goes ∙ ap (half_turn touch) between in
       let came : t ≡ touched late last = is ∙ ap (λ (x : State). touched late (half_turn touch x)) (idle_turn from first_touch owed none) in
-      let line : half_held v b new ≡ half_text v (idle_after from) last =
-      half_stands new t k v b (λ s starts. absurd (no_unit s starts owed none))
-      ∙ (ap (λ (y : State). half_after v b (found_of (process_in b.start) y)) came
-      ∙ (half_touched v b (process_in b.start) late last
+      let line : half_held v b.before new ≡ half_text v (idle_after from) last =
+      half_stands new t k v b.before (λ s starts. absurd (no_unit s starts owed none))
+      ∙ (ap (λ (y : State). half_after v b.before (found_of (process_in b.before.start) y)) came
+      ∙ (half_touched v b.before (process_in b.before.start) late last
       ∙ (ap (λ (x : Looked). half_after v x (found_of (process_in x.start) last)) told.looked ∙ idle_boundary v from last owed none))) in
       let first_line : trace_along v n (first_touch ∷ told.choices) m ≡ trace_along v n told.choices m =
       along_more v n first_touch told.choices m on
@@ -260,11 +277,26 @@ module _ (v : View) (n : ℕ) (m : State) (h new : Held) (a d : Option (List ℕ
       let second_line : trace_along v n (touch ∷ first_touch ∷ told.choices) m ≡ trace_along v n told.choices m ++ half_text v (idle_after from) last =
       along_more v n touch (first_touch ∷ told.choices) m goes
       ∙ (ap (λ (x : State). trace_along v n (first_touch ∷ told.choices) m ++ half_text v x (half_turn touch x)) between
-      ∙ ap (λ (l : List ℕ). l ++ half_text v (idle_after from) last) first_line) in record {
+      ∙ ap (λ (l : List ℕ). l ++ half_text v (idle_after from) last) first_line) in
+      let before : Counted = counts_along v n told.choices m in
+      let counts : counts_held v b.counts b.before new ≡ half_counts v (half_counts v before from (idle_after from)) (idle_after from) last =
+      counts_stand new t k v b.counts b.before (λ s starts. absurd (no_unit s starts owed none))
+      ∙ (ap (λ (y : State). counts_after v b.counts b.before (found_of (process_in b.before.start) y)) came
+      ∙ (counts_touched v b.counts b.before (process_in b.before.start) late last
+      ∙ (ap (λ (x : Looked). counts_after v b.counts x (found_of (process_in x.start) last)) told.looked
+      ∙ (ap (λ (x : Counted). counts_after v x (looked_of from) (found_of (process_in (looked_of from).start) last)) told.counted
+      ∙ idle_counts v before from last owed none)))) in
+      let first_count : counts_along v n (first_touch ∷ told.choices) m ≡ half_counts v before from (idle_after from) =
+      counts_more v n first_touch told.choices m on ∙ ap (half_counts v before from) (idle_turn from first_touch owed none) in
+      let second_count : counts_along v n (touch ∷ first_touch ∷ told.choices) m ≡ half_counts v (half_counts v before from (idle_after from)) (idle_after from) last =
+      counts_more v n touch (first_touch ∷ told.choices) m goes
+      ∙ (ap (λ (x : State). half_counts v (counts_along v n (first_touch ∷ told.choices) m) x (half_turn touch x)) between
+      ∙ ap (λ (x : Counted). half_counts v x (idle_after from) last) first_count) in record {
         choices = touch ∷ first_touch ∷ told.choices;
         early = late;
         stands = subst (Stands new) (came ∙ ap (touched late) (sym next)) k;
-        looked = looks ∙ (looked_stands new t k false (sym (owes_none t.owed unowed)) begun ∙ (ap looked_of came ∙ (looked_touched late last ∙ ap looked_of (sym next))));
+        looked = ap (λ (x : Progress). x.before) looks ∙ (looked_stands new t k false (sym (owes_none t.owed unowed)) begun ∙ (ap looked_of came ∙ (looked_touched late last ∙ ap looked_of (sym next))));
+        counted = ap (λ (x : Progress). x.counts) looks ∙ (counts ∙ sym second_count);
         sent = told.sent;
         appends = told.appends;
         told = ap (λ (l : List ℕ). told.sent ++ l) (adds ∙ ap (λ (l : List ℕ). rest ++ l) line)
@@ -273,8 +305,8 @@ module _ (v : View) (n : ℕ) (m : State) (h new : Held) (a d : Option (List ℕ
             ∙ sym second_line));
       }
 
-module _ (v : View) (n : ℕ) (m : State) (h new : Held) (a d : Option (List ℕ)) (rest more : List ℕ) (b c : Looked) (told : IsTold v n m h a d rest b) (going : held_goes_on n h ≡ true) where
-  pub told_boundary : Follows Boundary h new → Moves Boundary h new → more ≡ rest ++ half_held v b new → c ≡ looked_held false new → IsTold v n m new a d more c
+module _ (v : View) (n : ℕ) (m : State) (h new : Held) (a d : Option (List ℕ)) (rest more : List ℕ) (b c : Progress) (told : IsTold v n m h a d rest b) (going : held_goes_on n h ≡ true) where
+  pub told_boundary : Follows Boundary h new → Moves Boundary h new → more ≡ rest ++ half_held v b.before new → c ≡ progress_held false v b new → IsTold v n m new a d more c
   told_boundary f moves adds looks =
       let x : State = after n told.choices m in
       let t = f.follows (touched told.early x) told.stands in
@@ -290,65 +322,83 @@ module _ (v : View) (n : ℕ) (m : State) (h new : Held) (a d : Option (List ℕ
 
 -- What is handed on of the text.
 
-pub told_handed : (v : View) (n : ℕ) (m : State) (h : Held) (a d e : Option (List ℕ)) (text rest : List ℕ) (b : Looked) → IsHandedOn d e text rest → IsTold v n m h a d text b → IsTold v n m h a e rest b
+pub told_handed : (v : View) (n : ℕ) (m : State) (h : Held) (a d e : Option (List ℕ)) (text rest : List ℕ) (b : Progress) → IsHandedOn d e text rest → IsTold v n m h a d text b → IsTold v n m h a e rest b
 told_handed v n m h a d e text rest b handed told = record {
   choices = told.choices;
   early = told.early;
   stands = told.stands;
   looked = told.looked;
+  counted = told.counted;
   sent = told.sent ++ handed.sent;
   appends = appends_both a d e told.sent handed.sent told.appends handed.appends;
   told = append_assoc told.sent handed.sent rest ∙ (ap (λ (l : List ℕ). told.sent ++ l) handed.whole ∙ told.told);
 }
 
--- a prefix of what is to be written is written: so is one of the trace and the text
-module _ (v : View) (n : ℕ) (m : State) (h : Held) (a d e : Option (List ℕ)) (text : List ℕ) (b : Looked) (told : IsTold v n m h a d text b) where
-  pub told_part : AppendsPart d e text → WritesTracePart v a e n m
-  told_part part = record {
-    last = after n told.choices m;
-    reached = record { choices = told.choices; early = false; comes_to = refl };
-    written = part_before a e (trace_along v n told.choices m ++ end_text (after n told.choices m)) (text_of (after n told.choices m))
-        (part_before a e (trace_along v n told.choices m) (end_text (after n told.choices m))
-        (subst (AppendsPart a e) told.told (part_behind a d e told.sent text told.appends part)));
-  }
+-- what the processor did, and then the end's text, after the lines
+after_lines : (sent text lines processor : List ℕ) → sent ++ text ≡ lines → sent ++ (text ++ processor) ≡ lines ++ processor
+after_lines sent text lines processor is = sym (append_assoc sent text processor) ∙ ap (λ (l : List ℕ). l ++ processor) is
 
+-- a prefix of what is to be written is written: so is one of the trace and the text
+module _ (v : View) (n : ℕ) (m : State) (h : Held) (a d e : Option (List ℕ)) (text : List ℕ) (b : Progress) (told : IsTold v n m h a d text b) (processor : List ℕ) (processed : TellsProcessor v n m (touched told.early (after n told.choices m)) processor) where
   abbrev last_state : State
   last_state = touched told.early (after n told.choices m)
 
   abbrev last_reached : Reaches n m last_state
   last_reached = record { choices = told.choices; early = told.early; comes_to = refl }
 
-  last_end : h.own.spent ≡ 0 → end_held h ≡ end_text last_state
-  last_end none = end_stands h last_state told.stands none
+  abbrev last_counts : Counted
+  last_counts = counts_along v n told.choices m
+
+  last_end : (k : Counted) → b.counts ≡ k → h.own.spent ≡ 0 → end_held v k h ≡ end_text v last_counts last_state
+  last_end k is none = end_stands h last_state told.stands v k none ∙ ap (λ (x : Counted). end_text v x last_state) (sym is ∙ told.counted)
 
   last_text : held_text h ≡ text_of last_state
   last_text = text_alike h last_state told.stands
 
-  -- with the end's text and the text of the state
-  both_are : h.own.spent ≡ 0 → told.sent ++ (text ++ end_held h ++ held_text h) ≡ told_to v n m last_state last_reached ++ text_of last_state
-  both_are none =
-      ap (λ (l : List ℕ). told.sent ++ (text ++ l ++ held_text h)) (last_end none)
-      ∙ (ap (λ (l : List ℕ). told.sent ++ (text ++ end_text last_state ++ l)) last_text
-      ∙ (sym (append_assoc told.sent (text ++ end_text last_state) (text_of last_state))
-      ∙ ap (λ (l : List ℕ). l ++ text_of last_state) (trace_is)))
-    where
-      trace_is : told.sent ++ (text ++ end_text last_state) ≡ trace_along v n told.choices m ++ end_text last_state
-      trace_is = sym (append_assoc told.sent text (end_text last_state)) ∙ ap (λ (l : List ℕ). l ++ end_text last_state) told.told
-
-  pub finished_part : h.own.spent ≡ 0 → AppendsPart d e (text ++ end_held h ++ held_text h) → WritesTracePart v a e n m
-  finished_part none part = record {
+  pub told_part : AppendsPart d e text → WritesTracePart v a e n m
+  told_part part = record {
     last = last_state;
     reached = last_reached;
-    written = subst (AppendsPart a e) (both_are none) (part_behind a d e told.sent (text ++ end_held h ++ held_text h) told.appends part);
+    processor = processor;
+    processed = processed;
+    written = part_before a e (trace_along v n told.choices m ++ processor ++ end_text v last_counts last_state) (text_of last_state)
+        (part_before a e (trace_along v n told.choices m ++ processor) (end_text v last_counts last_state)
+        (part_before a e (trace_along v n told.choices m) processor
+        (subst (AppendsPart a e) told.told (part_behind a d e told.sent text told.appends part))));
   }
 
-  pub finished : h.own.spent ≡ 0 → held_goes_on n h ≡ false → IsFinished d e text h → WritesTrace v a e n m
-  finished none over done = record {
+  -- with the end's text and the text of the state
+  both_are : (k : Counted) → b.counts ≡ k → h.own.spent ≡ 0 → told.sent ++ (text ++ processor ++ end_held v k h ++ held_text h) ≡ told_to v n m last_state last_reached processor ++ text_of last_state
+  both_are k is none =
+      ap (λ (l : List ℕ). told.sent ++ (text ++ processor ++ l ++ held_text h)) (last_end k is none)
+      ∙ (ap (λ (l : List ℕ). told.sent ++ (text ++ processor ++ end_text v last_counts last_state ++ l)) last_text
+      ∙ (sym (append_assoc told.sent (text ++ processor ++ end_text v last_counts last_state) (text_of last_state))
+      ∙ ap (λ (l : List ℕ). l ++ text_of last_state) (trace_is)))
+    where
+      trace_is : told.sent ++ (text ++ processor ++ end_text v last_counts last_state) ≡ trace_along v n told.choices m ++ processor ++ end_text v last_counts last_state
+      trace_is = after_lines told.sent (text ++ processor) (trace_along v n told.choices m ++ processor) (end_text v last_counts last_state)
+          (after_lines told.sent text (trace_along v n told.choices m) processor told.told)
+
+  pub finished_part : (k : Counted) → b.counts ≡ k → h.own.spent ≡ 0 → AppendsPart d e (text ++ processor ++ end_held v k h ++ held_text h) → WritesTracePart v a e n m
+  finished_part k is none part = record {
+    last = last_state;
+    reached = last_reached;
+    processor = processor;
+    processed = processed;
+    written = subst (AppendsPart a e) (both_are k is none) (part_behind a d e told.sent (text ++ processor ++ end_held v k h ++ held_text h) told.appends part);
+  }
+
+  pub finished : (k : Counted) → b.counts ≡ k → h.own.spent ≡ 0 → held_goes_on n h ≡ false → IsFinished v k d e (text ++ processor) h → WritesTrace v a e n m
+  finished k is none over done = record {
     last = last_state;
     ends = record { reached = last_reached; over = goes_alike n h last_state told.stands ∙ over };
+    processor = processor;
+    processed = processed;
     between = done.between;
     trace = subst (Appends a done.between)
-        (sym (append_assoc told.sent text (end_held h)) ∙ (ap (λ (l : List ℕ). l ++ end_held h) told.told ∙ ap (λ (l : List ℕ). trace_along v n told.choices m ++ l) (last_end none)))
-        (appends_both a d done.between told.sent (text ++ end_held h) told.appends done.trace);
+        (after_lines told.sent (text ++ processor) (trace_along v n told.choices m ++ processor) (end_held v k h)
+        (after_lines told.sent text (trace_along v n told.choices m) processor told.told)
+        ∙ ap (λ (l : List ℕ). trace_along v n told.choices m ++ processor ++ l) (last_end k is none))
+        (appends_both a d done.between told.sent (text ++ processor ++ end_held v k h) told.appends done.trace);
     written = subst (Appends done.between e) last_text done.written;
   }

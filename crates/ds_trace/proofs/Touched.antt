@@ -24,8 +24,11 @@ use Rattle.ds_trace.specs.Stores.{is_lost, reach_of, stored_at, stored_text}
 use Rattle.ds_trace.specs.Lines.{is_hidden, shown, register_of, register_text, result_text, front_text, instruction_line, unit_text, was_done, denied_text}
 use Rattle.ds_trace.specs.Boundaries.{due_by}
 use Rattle.ds_trace.specs.Changes.{changes_text, standing_text}
-use Rattle.ds_trace.specs.Halves.{log_of, next_boundary, looked_of, found_of, process_in, done_text, half_after, half_text}
-use Rattle.ds_trace.specs.Ends.{left_text, registers_text, process_text, processes_text, end_text}
+use Rattle.ds_trace.specs.Counts.{Counted, is_counted, unit_counted, done_counted, switch_counted, counts_after}
+use Rattle.ds_trace.specs.Halves.{log_of, next_boundary, looked_of, found_of, process_in, done_text, half_after, half_text, half_counts}
+use Rattle.ds_trace.specs.Logs.{lines_of}
+use Rattle.ds_trace.specs.Summaries.{summary_text}
+use Rattle.ds_trace.specs.Ends.{left_text, registers_text, parked_text, process_text, processes_text, end_text}
 
 -- Of a list in which one element was changed.
 
@@ -177,22 +180,44 @@ found_with t general standings = record {
   standings = standings;
 }
 
-half_first : (v : View) (b : Looked) (p : ℕ) (ready : List ℕ) (t : State) → half_after v b (found_of p (touch_first t ready)) ≡ half_after v b (found_of p t)
-half_first v b p [] t = refl
-half_first v b p (q ∷ rest) t =
-    ap (λ (ss : List Standing). half_after v b (found_with t (general_of (with_process t q (touched_process (process_of t q))) p) ss))
-    (map_again (λ (x : Process). x.standing) touched_process (λ x. refl) t.processes (q - 1) no_process)
-    ∙ read_again (λ (x : Process). half_after v b (found_with t x.registers.general (map (λ (y : Process). y.standing) t.processes))) touched_process
-    (λ x. half_kept v b (found_with t x.registers.general (map (λ (y : Process). y.standing) t.processes)) x.pc) t.processes (q - 1) (p - 1) no_process
+-- what is made of it is as before, where that is so of such registers
+module _ {Y : Type 0} (g : Found → Y) (keeps : (f : Found) (pc : ℕ) → g (touched_found f pc) ≡ g f) where
+  found_first : (p : ℕ) (ready : List ℕ) (t : State) → g (found_of p (touch_first t ready)) ≡ g (found_of p t)
+  found_first p [] t = refl
+  found_first p (q ∷ rest) t =
+      ap (λ (ss : List Standing). g (found_with t (general_of (with_process t q (touched_process (process_of t q))) p) ss))
+      (map_again (λ (x : Process). x.standing) touched_process (λ x. refl) t.processes (q - 1) no_process)
+      ∙ read_again (λ (x : Process). g (found_with t x.registers.general (map (λ (y : Process). y.standing) t.processes))) touched_process
+      (λ x. keeps (found_with t x.registers.general (map (λ (y : Process). y.standing) t.processes)) x.pc) t.processes (q - 1) (p - 1) no_process
+
+  found_touched : (p : ℕ) (late : Bool) (t : State) → g (found_of p (touched late t)) ≡ g (found_of p t)
+  found_touched p true t = found_first p t.ready t
+  found_touched p false t = refl
 
 pub half_touched : (v : View) (b : Looked) (p : ℕ) (late : Bool) (t : State) → half_after v b (found_of p (touched late t)) ≡ half_after v b (found_of p t)
-half_touched v b p true t = half_first v b p t.ready t
-half_touched v b p false t = refl
+half_touched v b p late t = found_touched (half_after v b) (half_kept v b) p late t
 
 pub lines_touched : (v : View) (a b : Bool) (m t : State) → half_text v (touched a m) (touched b t) ≡ half_text v m t
 lines_touched v a b m t =
     ap (λ (l : Looked). half_after v l (found_of (process_in l.start) (touched b t))) (looked_touched a m)
     ∙ half_touched v (looked_of m) (process_in (looked_of m).start) b t
+
+-- The counts.
+
+done_counts_kept : (k : Counted) (b : Looked) (f : Found) (pc : ℕ) (o : Option Start) → done_counted k b (touched_found f pc) o ≡ done_counted k b f o
+done_counts_kept k b f pc None = refl
+done_counts_kept k b f pc (Some s) = ap (λ (answer : ℕ). unit_counted k s (drop b.logged f.log) answer) (other_kept f.general pc 2 refl)
+
+counts_kept : (v : View) (k : Counted) (b : Looked) (f : Found) (pc : ℕ) → counts_after v k b (touched_found f pc) ≡ counts_after v k b f
+counts_kept v k b f pc = ap (λ (d : Counted). cond (is_counted v b.began) (switch_counted d b.runner f.runner) k) (done_counts_kept k b f pc b.start)
+
+pub counts_touched : (v : View) (k : Counted) (b : Looked) (p : ℕ) (late : Bool) (t : State) → counts_after v k b (found_of p (touched late t)) ≡ counts_after v k b (found_of p t)
+counts_touched v k b p late t = found_touched (counts_after v k b) (counts_kept v k b) p late t
+
+pub half_counts_touched : (v : View) (k : Counted) (a b : Bool) (m t : State) → half_counts v k (touched a m) (touched b t) ≡ half_counts v k m t
+half_counts_touched v k a b m t =
+    ap (λ (l : Looked). counts_after v k l (found_of (process_in l.start) (touched b t))) (looked_touched a m)
+    ∙ counts_touched v k (looked_of m) (process_in (looked_of m).start) b t
 
 -- The end.
 
@@ -213,16 +238,17 @@ registers_set n (x ∷ xs) (suc i) value is =
 registers_kept : (general : List ℕ) (pc : ℕ) → registers_text 0 (touched_general general pc) ≡ registers_text 0 general
 registers_kept general pc = registers_set 0 (set general 26 0) 27 pc refl ∙ registers_set 0 general 26 0 refl
 
-processes_kept : (p : ℕ) (xs : List Process) (i : ℕ) (d : Process) → processes_text p (set xs i (touched_process (get_or xs i d))) ≡ processes_text p xs
-processes_kept p [] i d = refl
-processes_kept p (x ∷ xs) zero d =
-    ap (λ (l : List ℕ). (codes "process " ++ decimal p ++ codes " " ++ standing_text x.standing ++ codes " " ++ hex8 x.pc ++ l ++ codes "\n") ++ processes_text (p + 1) xs) (registers_kept x.registers.general x.pc)
-processes_kept p (x ∷ xs) (suc i) d = ap (λ (l : List ℕ). process_text p x.standing x.pc x.registers.general ++ l) (processes_kept (p + 1) xs i d)
+processes_kept : (lines : List (List ℕ)) (p : ℕ) (xs : List Process) (i : ℕ) (d : Process) → processes_text lines p (set xs i (touched_process (get_or xs i d))) ≡ processes_text lines p xs
+processes_kept lines p [] i d = refl
+processes_kept lines p (x ∷ xs) zero d =
+    ap (λ (l : List ℕ). ((codes "process " ++ decimal p ++ codes " " ++ standing_text x.standing ++ codes " " ++ hex8 x.pc) ++ parked_text lines p x.standing ++ (l ++ codes "\n")) ++ processes_text lines (p + 1) xs)
+    (registers_kept x.registers.general x.pc)
+processes_kept lines p (x ∷ xs) (suc i) d = ap (λ (l : List ℕ). process_text lines p x.standing x.pc x.registers.general ++ l) (processes_kept lines (p + 1) xs i d)
 
-end_first : (ready : List ℕ) (m : State) → end_text (touch_first m ready) ≡ end_text m
-end_first [] m = refl
-end_first (q ∷ rest) m = processes_kept 1 m.processes (q - 1) no_process
+end_first : (v : View) (k : Counted) (ready : List ℕ) (m : State) → end_text v k (touch_first m ready) ≡ end_text v k m
+end_first v k [] m = refl
+end_first v k (q ∷ rest) m = ap (λ (l : List ℕ). summary_text v k m.time (lines_of (log_of m)) ++ l) (processes_kept (lines_of (log_of m)) 1 m.processes (q - 1) no_process)
 
-pub end_touched : (b : Bool) (m : State) → end_text (touched b m) ≡ end_text m
-end_touched true m = end_first m.ready m
-end_touched false m = refl
+pub end_touched : (v : View) (k : Counted) (b : Bool) (m : State) → end_text v k (touched b m) ≡ end_text v k m
+end_touched v k true m = end_first v k m.ready m
+end_touched v k false m = refl

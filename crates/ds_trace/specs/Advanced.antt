@@ -9,23 +9,23 @@ use Rattle.ds_kernel.specs.Ended.{Does}
 use Rattle.ds_station.specs.declared.fault.Fault.{Fault}
 use Rattle.ds_station.specs.declared.fault.Fault.TheVariants as fault
 use Rattle.ds_view.specs.declared.view.View.{View}
-use Rattle.ds_trace.specs.Looks.{Looked}
-use Rattle.ds_trace.specs.Shows.{looked_held, half_held}
+use Rattle.ds_trace.specs.declared.progress.Progress.{Progress}
+use Rattle.ds_trace.specs.Shows.{half_held, progress_held}
 
 -- whether a step found all processes ended
 abbrev pub is_last : Step → Bool
 is_last Over = true
 is_last other = false
 
--- what a step adds to a text, and what of the station is then looked at: where it ends a half turn, the lines of that
-abbrev pub Adds : Step → View → Held → List ℕ → Looked → List ℕ → Looked → Type 0
+-- what a step adds to a text and to what is kept of a run: where it ends a half turn, the lines and the counts of that
+abbrev pub Adds : Step → View → Held → List ℕ → Progress → List ℕ → Progress → Type 0
 Adds Inside v h text b more c = (more ≡ text) × (c ≡ b)
-Adds Unit v h text b more c = (more ≡ text ++ half_held v b h) × (c ≡ looked_held true h)
-Adds Boundary v h text b more c = (more ≡ text ++ half_held v b h) × (c ≡ looked_held false h)
+Adds Unit v h text b more c = (more ≡ text ++ half_held v b.before h) × (c ≡ progress_held true v b h)
+Adds Boundary v h text b more c = (more ≡ text ++ half_held v b.before h) × (c ≡ progress_held false v b h)
 Adds Over v h text b more c = (more ≡ text) × (c ≡ b)
 
 -- a step of a kind was done, and told of
-pub record HasStepped (last : Bool) (v : View) (h new : Held) (text : List ℕ) (b : Looked) (more : List ℕ) (c : Looked) : Type 0 where
+pub record HasStepped (last : Bool) (v : View) (h new : Held) (text : List ℕ) (b : Progress) (more : List ℕ) (c : Progress) : Type 0 where
   pub step : Step
   pub is : is_last step ≡ last
   pub does : Does step h new
@@ -33,7 +33,7 @@ pub record HasStepped (last : Bool) (v : View) (h new : Held) (text : List ℕ) 
   pub sound : IsSound new
 
 -- none was done, since memory ran out
-pub record HasHalted (f : Fault) (h new : Held) (text : List ℕ) (b : Looked) (more : List ℕ) (c : Looked) : Type 0 where
+pub record HasHalted (f : Fault) (h new : Held) (text : List ℕ) (b : Progress) (more : List ℕ) (c : Progress) : Type 0 where
   pub memory : f ≡ fault.Memory
   pub stays : Stays h new
   pub spent : new.own.spent ≡ 0
@@ -41,6 +41,6 @@ pub record HasHalted (f : Fault) (h new : Held) (text : List ℕ) (b : Looked) (
   pub looked : c ≡ b
 
 -- by whether there was a step, and whether it found all processes ended
-abbrev pub Advances : Result Bool Fault → View → Held → Held → List ℕ → Looked → List ℕ → Looked → Type 0
+abbrev pub Advances : Result Bool Fault → View → Held → Held → List ℕ → Progress → List ℕ → Progress → Type 0
 Advances (Ok last) v h new text b more c = HasStepped last v h new text b more c
 Advances (Err f) v h new text b more c = HasHalted f h new text b more c

@@ -1,10 +1,16 @@
--- The end of a trace: how each process stands, and its registers.
-use Rattle.std.specs.Prelude.{codes, decimal, ℕ, ◌+◌, ◌==◌, ◌||◌, if◌then◌else◌, List, [], ◌∷◌, ◌++◌}
+-- The end of a trace: what is told of the whole run, and how each process stands, with its registers.
+use Rattle.std.specs.Prelude.{codes, decimal, ℕ, ◌+◌, ◌==◌, ◌||◌, if◌then◌else◌, List, [], ◌∷◌, ◌++◌, Option, Some, None}
 use Rattle.ds_listing.specs.Texts.{hex8}
 use Rattle.ds_procs.specs.declared.process.Standing.{Standing}
+use Rattle.ds_procs.specs.declared.process.Standing.TheVariants.{Parked}
 use Rattle.ds_pagemap.specs.Machine.{State, Process}
+use Rattle.ds_view.specs.declared.view.View.{View}
 use Rattle.ds_trace.specs.Changes.{standing_text}
+use Rattle.ds_trace.specs.Counts.{Counted}
+use Rattle.ds_trace.specs.Halves.{log_of}
 use Rattle.ds_trace.specs.Lines.{is_hidden}
+use Rattle.ds_trace.specs.Logs.{last_of, lines_of}
+use Rattle.ds_trace.specs.Summaries.{summary_text}
 
 -- a register of a process at the end: none that a touch may change, and none that holds 0
 abbrev pub left_text : ℕ → ℕ → List ℕ
@@ -15,16 +21,26 @@ abbrev pub registers_text : ℕ → List ℕ → List ℕ
 registers_text n [] = []
 registers_text n (value ∷ rest) = left_text n value ++ registers_text (n + 1) rest
 
--- the line of a process: its number, how it stands, where it goes on, and its registers
-abbrev pub process_text : ℕ → Standing → ℕ → List ℕ → List ℕ
-process_text p standing pc general =
-    codes "process " ++ decimal p ++ codes " " ++ standing_text standing ++ codes " " ++ hex8 pc ++ registers_text 0 general ++ codes "\n"
+-- a line of the log, where there is one
+abbrev pub line_by : Option (List ℕ) → List ℕ
+line_by None = []
+line_by (Some line) = codes " by " ++ line
+
+-- by which line of the log a process is parked, where it is
+abbrev pub parked_text : List (List ℕ) → ℕ → Standing → List ℕ
+parked_text lines p Parked = line_by (last_of p lines)
+parked_text lines p other = []
+
+-- the line of a process: its number, how it stands, where it goes on, by which of these lines it is parked, and its registers
+abbrev pub process_text : List (List ℕ) → ℕ → Standing → ℕ → List ℕ → List ℕ
+process_text lines p standing pc general =
+    (codes "process " ++ decimal p ++ codes " " ++ standing_text standing ++ codes " " ++ hex8 pc) ++ parked_text lines p standing ++ (registers_text 0 general ++ codes "\n")
 
 -- those of processes, the first of which has this number
-abbrev pub processes_text : ℕ → List Process → List ℕ
-processes_text p [] = []
-processes_text p (q ∷ rest) = process_text p q.standing q.pc q.registers.general ++ processes_text (p + 1) rest
+abbrev pub processes_text : List (List ℕ) → ℕ → List Process → List ℕ
+processes_text lines p [] = []
+processes_text lines p (q ∷ rest) = process_text lines p q.standing q.pc q.registers.general ++ processes_text lines (p + 1) rest
 
--- the end's text of a state
-abbrev pub end_text : State → List ℕ
-end_text m = processes_text 1 m.processes
+-- the end's text of a state, with these counts of the run to it
+abbrev pub end_text : View → Counted → State → List ℕ
+end_text v k m = summary_text v k m.time (lines_of (log_of m)) ++ processes_text (lines_of (log_of m)) 1 m.processes

@@ -11,6 +11,7 @@ use Rattle.ds_trace.specs.Looks.{Looked, Found}
 use Rattle.ds_trace.specs.Lines.{unit_told}
 use Rattle.ds_trace.specs.Boundaries.{due_by, boundary_text}
 use Rattle.ds_trace.specs.Changes.{changes_text}
+use Rattle.ds_trace.specs.Counts.{Counted, counts_after}
 
 -- the text of a state's log
 abbrev pub log_of : State → List ℕ
@@ -65,3 +66,7 @@ half_after v b f = if shows_turn v b.began then done_text v b f b.start ++ chang
 -- the lines of the half turn that leads from a state to another
 abbrev pub half_text : View → State → State → List ℕ
 half_text v m t = half_after v (looked_of m) (found_of (process_in (next_start m)) t)
+
+-- the counts after it
+abbrev pub half_counts : View → Counted → State → State → Counted
+half_counts v k m t = counts_after v k (looked_of m) (found_of (process_in (next_start m)) t)

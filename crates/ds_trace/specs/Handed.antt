@@ -5,6 +5,8 @@ use Rattle.ds_refinement.specs.Held.{Held}
 use Rattle.ds_station.specs.Headline.{held_text}
 use Rattle.ds_station.specs.declared.fault.Fault.{Fault}
 use Rattle.ds_station.specs.declared.fault.Fault.TheVariants as fault
+use Rattle.ds_view.specs.declared.view.View.{View}
+use Rattle.ds_trace.specs.Counts.{Counted}
 use Rattle.ds_trace.specs.Shows.{end_held}
 
 -- a front of a text is written, and the rest of it is to be written
@@ -13,10 +15,10 @@ pub record IsHandedOn (old new : Option (List ℕ)) (text rest : List ℕ) : Typ
   pub appends : Appends old new sent
   pub whole : sent ++ rest ≡ text
 
--- a text and the end's text of a station are written, and then the station's own text
-pub record IsFinished (old new : Option (List ℕ)) (text : List ℕ) (h : Held) : Type 0 where
+-- a text and the end's text of a station with these counts are written, and then the station's own text
+pub record IsFinished (v : View) (k : Counted) (old new : Option (List ℕ)) (text : List ℕ) (h : Held) : Type 0 where
   pub between : Option (List ℕ)
-  pub trace : Appends old between (text ++ end_held h)
+  pub trace : Appends old between (text ++ end_held v k h)
   pub written : Appends between new (held_text h)
 
 -- a fault that comes while a run is told

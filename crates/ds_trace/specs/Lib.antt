@@ -5,9 +5,14 @@ pub mod Stores
 pub mod Lines
 pub mod Boundaries
 pub mod Changes
+pub mod Counts
 pub mod Halves
+pub mod Logs
+pub mod Summaries
 pub mod Ends
+pub mod Processors
 pub mod Traces
 pub mod Shows
 pub mod Handed
 pub mod Advanced
+pub mod Counted

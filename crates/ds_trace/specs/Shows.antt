@@ -14,9 +14,15 @@ use Rattle.ds_trace.specs.declared.start.Start.{Start}
 use Rattle.ds_trace.specs.Starts.{start_at}
 use Rattle.ds_trace.specs.Looks.{Looked, Found}
 use Rattle.ds_trace.specs.Boundaries.{due_by}
+use Rattle.ds_trace.specs.Counts.{Counted, counts_after}
 use Rattle.ds_trace.specs.Halves.{looked_of, process_in, half_after}
+use Rattle.ds_trace.specs.Logs.{lines_of}
+use Rattle.ds_trace.specs.Summaries.{summary_text}
 use Rattle.ds_trace.specs.Ends.{process_text}
-use Rattle.ds_trace.specs.Traces.{trace_along, WritesTrace, WritesTracePart}
+use Rattle.ds_trace.specs.declared.processor.ProcessorCounts.{ProcessorCounts}
+use Rattle.ds_trace.specs.declared.progress.Progress.{Progress}
+use Rattle.ds_trace.specs.Processors.{processor_text}
+use Rattle.ds_trace.specs.Traces.{counts_along, trace_along, WritesTrace, WritesTracePart}
 
 -- the unit of a process, if there is one
 abbrev pub start_held : Held → Option ℕ → Option Start
@@ -55,28 +61,45 @@ found_held p h = record {
 abbrev pub half_held : View → Looked → Held → List ℕ
 half_held v b h = half_after v b (found_held (process_in b.start) h)
 
--- the lines of so many processes, the first of which has this number
-abbrev pub processes_held : Held → ℕ → ℕ → List ℕ
-processes_held h p zero = []
-processes_held h p (suc n) =
-    process_text p (process_of h.kept.state p).standing (address_held h p) (general_held h p) ++ processes_held h (p + 1) n
+-- the counts after it
+abbrev pub counts_held : View → Counted → Looked → Held → Counted
+counts_held v k b h = counts_after v k b (found_held (process_in b.start) h)
 
--- the end's text
-abbrev pub end_held : Held → List ℕ
-end_held h = processes_held h 1 (length h.kept.state.processes)
+-- what is looked at for the next, and the counts
+abbrev pub progress_held : Bool → View → Progress → Held → Progress
+progress_held owed v b h = record { before = looked_held owed h; counts = counts_held v b.counts b.before h }
+
+-- the lines of so many processes, the first of which has this number, by these lines of the log
+abbrev pub processes_held : List (List ℕ) → Held → ℕ → ℕ → List ℕ
+processes_held lines h p zero = []
+processes_held lines h p (suc n) =
+    process_text lines p (process_of h.kept.state p).standing (address_held h p) (general_held h p) ++ processes_held lines h (p + 1) n
+
+-- the lines of all
+abbrev pub all_held : Held → List ℕ
+all_held h = processes_held (lines_of h.kept.log) h 1 (length h.kept.state.processes)
+
+-- the end's text, with these counts
+abbrev pub end_held : View → Counted → Held → List ℕ
+end_held v k h = summary_text v k h.kept.state.time (lines_of h.kept.log) ++ all_held h
+
+-- what the processor did, where a view wants it
+abbrev pub processor_held : View → ProcessorCounts → Held → List ℕ
+processor_held v c h = if v.processor then processor_text c h.core.entries else []
 
 -- A run from m for n was followed to where the station is: some of its trace is written, the rest of it is to be written.
-pub record IsTold (v : View) (n : ℕ) (m : State) (h : Held) (old now : Option (List ℕ)) (rest : List ℕ) (b : Looked) : Type 0 where
+pub record IsTold (v : View) (n : ℕ) (m : State) (h : Held) (old now : Option (List ℕ)) (rest : List ℕ) (b : Progress) : Type 0 where
   pub choices : List Bool
   pub early : Bool
   pub stands : Stands h (touched early (after n choices m))
-  pub looked : b ≡ looked_of (after n choices m)
+  pub looked : b.before ≡ looked_of (after n choices m)
+  pub counted : b.counts ≡ counts_along v n choices m
   pub sent : List ℕ
   pub appends : Appends old now sent
   pub told : sent ++ rest ≡ trace_along v n choices m
 
 -- from each machine state that the station stood for
-pub record TellsSo (v : View) (n : ℕ) (from h : Held) (old now : Option (List ℕ)) (rest : List ℕ) (b : Looked) : Type 0 where
+pub record TellsSo (v : View) (n : ℕ) (from h : Held) (old now : Option (List ℕ)) (rest : List ℕ) (b : Progress) : Type 0 where
   pub tells : (m : State) → Stands from m → IsTold v n m h old now rest b
 
 -- A run came to its end, or a fault cut it short: memory ran out where no unit was begun.
@@ -84,10 +107,11 @@ abbrev pub IsStopped : Option Fault → ℕ → Held → Type 0
 IsStopped None n h = held_goes_on n h ≡ false
 IsStopped (Some f) n h = f ≡ fault.Memory
 
--- it was told so far, and no instruction of a unit is counted there
-pub record TellsAll (cut : Option Fault) (v : View) (n : ℕ) (from h : Held) (old now : Option (List ℕ)) (rest : List ℕ) : Type 0 where
-  pub before : Looked
-  pub tells : TellsSo v n from h old now rest before
+-- it was told so far, with these counts, and no instruction of a unit is counted there
+pub record TellsAll (cut : Option Fault) (v : View) (n : ℕ) (from h : Held) (old now : Option (List ℕ)) (rest : List ℕ) (k : Counted) : Type 0 where
+  pub progress : Progress
+  pub tells : TellsSo v n from h old now rest progress
+  pub counts : progress.counts ≡ k
   pub stopped : IsStopped cut n h
   pub spent : h.own.spent ≡ 0
 

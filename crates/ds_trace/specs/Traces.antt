@@ -10,8 +10,10 @@ use Rattle.ds_station.specs.Headline.{Begins, Refuses}
 use Rattle.ds_station.specs.declared.fault.Fault.{Fault}
 use Rattle.ds_station.specs.declared.fault.Fault.TheVariants as fault
 use Rattle.ds_view.specs.declared.view.View.{View}
-use Rattle.ds_trace.specs.Halves.{half_text}
+use Rattle.ds_trace.specs.Counts.{Counted, none_counted}
+use Rattle.ds_trace.specs.Halves.{half_counts, half_text}
 use Rattle.ds_trace.specs.Ends.{end_text}
+use Rattle.ds_trace.specs.Processors.{TellsProcessor}
 
 -- the lines of the next half turn of a run for n, if the run goes on
 abbrev pub next_text : View → ℕ → Bool → State → List ℕ
@@ -22,23 +24,36 @@ unfoldable pub trace_along : View → ℕ → List Bool → State → List ℕ
 trace_along v n [] m = []
 trace_along v n (touch ∷ earlier) m = trace_along v n earlier m ++ next_text v n touch (after n earlier m)
 
--- the lines of the way to a state, and that state's end
-abbrev pub told_to : View → (n : ℕ) (m t : State) → Reaches n m t → List ℕ
-told_to v n m t r = trace_along v n r.choices m ++ end_text t
+-- the counts after the next half turn of a run for n, if the run goes on
+abbrev pub next_counts : View → ℕ → Bool → State → Counted → Counted
+next_counts v n touch m k = if goes_on n m then half_counts v k m (half_turn touch m) else k
+
+-- those of a run for n by these choices
+unfoldable pub counts_along : View → ℕ → List Bool → State → Counted
+counts_along v n [] m = none_counted
+counts_along v n (touch ∷ earlier) m = next_counts v n touch (after n earlier m) (counts_along v n earlier m)
+
+-- the lines of the way to a state, what the processor did, and that state's end with the counts of the way
+abbrev pub told_to : View → (n : ℕ) (m t : State) → Reaches n m t → List ℕ → List ℕ
+told_to v n m t r processor = trace_along v n r.choices m ++ processor ++ end_text v (counts_along v n r.choices m) t
 
 -- A run for n from the first state has ended: its trace is written, and then its text.
 pub record WritesTrace (v : View) (old new : Option (List ℕ)) (n : ℕ) (first : State) : Type 0 where
   pub last : State
   pub ends : Ends n first last
+  pub processor : List ℕ
+  pub processed : TellsProcessor v n first last processor
   pub between : Option (List ℕ)
-  pub trace : Appends old between (told_to v n first last ends.reached)
+  pub trace : Appends old between (told_to v n first last ends.reached processor)
   pub written : Appends between new (text_of last)
 
 -- A prefix of both is written, of a run that has come somewhere.
 pub record WritesTracePart (v : View) (old new : Option (List ℕ)) (n : ℕ) (first : State) : Type 0 where
   pub last : State
   pub reached : Reaches n first last
-  pub written : AppendsPart old new (told_to v n first last reached ++ text_of last)
+  pub processor : List ℕ
+  pub processed : TellsProcessor v n first last processor
+  pub written : AppendsPart old new (told_to v n first last reached processor ++ text_of last)
 
 -- when each fault comes, and what is written then: nothing where it refuses the inputs
 abbrev pub TraceEndsBy : Fault → View → Result State Refusal → Option (List ℕ) → Option (List ℕ) → ℕ → Type 0

@@ -167,6 +167,20 @@ fn push_count(line: &mut String, time: u64, lost: usize) -> Result<(), AllocErro
     line.push_str("\n")
 }
 
+/// How many of the characters that were still to come are lost, by how many were to come before and
+/// the lengths of the queues then.
+pub(crate) fn lost_on<L: Lookaside>(
+    station: &Station<L>,
+    characters: usize,
+    queued: &[usize; LINES],
+) -> usize
+    ensures { result ≡ characters - length station.now.kept.state.characters
+        - count_keys queued.now station.now.kept.state.queues }
+{
+    let came = characters.saturating_sub(station.characters_to_come());
+    without_keys(station, came, queued)
+}
+
 /// Adds how many of the characters that were still to come are lost, by how many were to come before
 /// and the lengths of the queues then.
 pub(crate) fn push_lost<L: Lookaside>(
@@ -180,6 +194,5 @@ pub(crate) fn push_lost<L: Lookaside>(
         (characters - length station.now.kept.state.characters
         - count_keys queued.now station.now.kept.state.queues)) }
 {
-    let came = characters.saturating_sub(station.characters_to_come());
-    push_count(line, station.time(), without_keys(station, came, queued))
+    push_count(line, station.time(), lost_on(station, characters, queued))
 }

@@ -178,7 +178,7 @@ pub(crate) fn push_way<L: Lookaside>(
 }
 
 /// Whether the same process is first, or nobody.
-fn same_first(before: Option<u32>, after: Option<u32>) -> bool
+pub(crate) fn same_first(before: Option<u32>, after: Option<u32>) -> bool
     ensures { result ≡ same_first before after }
 {
     match before {

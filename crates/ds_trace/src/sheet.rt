@@ -6,13 +6,15 @@ ghost use Rattle.ds_trace.specs.Boundaries.{boundary_text};
 ghost use Rattle.ds_trace.specs.Changes.{changes_text};
 ghost use Rattle.ds_trace.specs.Halves.{done_text, process_in};
 ghost use Rattle.ds_trace.specs.Lines.{denied_text, unit_told};
-ghost use Rattle.ds_trace.specs.Shows.{end_held, found_held, half_held};
+ghost use Rattle.ds_trace.specs.Shows.{end_held, found_held, half_held, processor_held};
 
 use crate::before::Before;
 use crate::boundaries::{push_commands, push_keys, push_lost};
 use crate::changes::{push_changes, push_switch, push_way};
+use crate::counts::Counts;
 use crate::ends::push_end;
 use crate::lines::{push_unit, was_done};
+use crate::processor::{ProcessorCounts, push_processor};
 use crate::start::Start;
 use ds_log::{WriteFailed, send};
 use ds_station::Station;
@@ -29,7 +31,7 @@ pub(crate) struct Sheet {
 }
 
 /// What was logged since the log had so many bytes.
-fn logged_since<L: Lookaside>(station: &Station<L>, before: usize) -> &[u8]
+pub(crate) fn logged_since<L: Lookaside>(station: &Station<L>, before: usize) -> &[u8]
     ensures { result.now ≡ drop before station.now.kept.log }
 {
     match station.log().get(before..) {
@@ -178,14 +180,36 @@ impl Sheet {
         self.push_changes(view, before, station)
     }
 
-    /// Adds the end's text.
-    pub(crate) fn push_end<L: Lookaside>(&mut self, station: &Station<L>) -> Result<(), AllocError>
-        ensures { OnOk result
-            (self.new.text.items ≡ self.old.text.items ++ end_held station.now) }
+    /// Adds what the processor did, where that is wanted.
+    pub(crate) fn push_processor<L: Lookaside>(
+        &mut self,
+        view: &View,
+        counts: &ProcessorCounts,
+        station: &Station<L>,
+    ) -> Result<(), AllocError>
+        ensures { OnOk result (self.new.text.items
+            ≡ self.old.text.items ++ processor_held view.now counts.now station.now) }
     {
+        if !view.processor {
+            return Ok(());
+        }
         self.line.clear();
-        push_end(&mut self.line, station)?;
+        push_processor(&mut self.line, counts, station)?;
         self.text.extend_from_slice(self.line.as_bytes())
+    }
+
+    /// Adds the end's text, with these counts.
+    pub(crate) fn push_end<L: Lookaside>(
+        &mut self,
+        alloc: Global,
+        view: &View,
+        counts: &Counts,
+        station: &Station<L>,
+    ) -> Result<(), AllocError>
+        ensures { OnOk result (self.new.text.items
+            ≡ self.old.text.items ++ end_held view.now counts.now station.now) }
+    {
+        push_end(alloc, &mut self.text, &mut self.line, view, counts, station)
     }
 
     /// Hands what is to be written to the writer.

@@ -1,15 +1,21 @@
 //! A run that is told unit by unit.
-ghost use Rattle.std.specs.Prelude.{◌≡◌, ◌<◌, ◌≤◌, ◌++◌, ◌||◌, if◌then◌else◌, IfErr, IfOk, OnErr, OnOk, None, [], false, is_some, min, nat_lt, true};
+ghost use Rattle.std.specs.Prelude.{◌≡◌, ◌<◌, ◌≤◌, ◌^◌, ◌++◌, ◌||◌, if◌then◌else◌, IfErr, IfOk, OnErr, OnOk, None, [], false, is_some, min, nat_lt, true};
 ghost use Rattle.std.specs.Io.KnownBytes.{Appends};
 ghost use Rattle.ds_log.specs.Sent.{AppendsPart};
 ghost use Rattle.ds_refinement.specs.Stands.{IsSound};
 ghost use Rattle.ds_station.specs.Headline.{held_text};
 ghost use Rattle.ds_trace.specs.Advanced.{Adds, Advances, is_last};
+ghost use Rattle.ds_trace.specs.Counted.{CountsStep, HasCounted};
+ghost use Rattle.ds_trace.specs.Counts.{none_counted};
 ghost use Rattle.ds_trace.specs.Handed.{IsFinished, IsHandedOn, IsLate};
-ghost use Rattle.ds_trace.specs.Shows.{TellsAll, Traces, TracesPart, end_held, half_held, looked_held};
+ghost use Rattle.ds_trace.specs.Processors.{none_processed, told_from, total};
+ghost use Rattle.ds_trace.specs.Shows.{TellsAll, Traces, TracesPart, end_held, half_held, progress_held};
 ghost use Rattle.ds_view.specs.Views.{has_lines};
 
 use crate::before::Before;
+use crate::counts::Counts;
+use crate::processor::ProcessorCounts;
+use crate::progress::Progress;
 use crate::sheet::Sheet;
 use ds_station::{Fault, Station, Step, deliver};
 use ds_tlb::Lookaside;
@@ -20,21 +26,22 @@ use std::io::Write;
 /// So many bytes are handed to the writer at once, or a few more.
 const MOST_BYTES: usize = 65536;
 
-/// Adds the lines of the half turn that is done, and looks at the station for the next.
+/// Adds the lines of the half turn that is done, counts it, and looks at the station for the next.
 fn tell_half<L: Lookaside>(
     view: &View,
     station: &Station<L>,
     owed: bool,
     sheet: &mut Sheet,
-    before: &mut Before,
+    progress: &mut Progress,
 ) -> Result<(), AllocError>
     requires owed { owed ≡ is_some station.now.kept.state.owed }
     ensures text { OnOk result (sheet.new.text.items
-        ≡ sheet.old.text.items ++ half_held view.now before.old station.now) }
-    ensures next { OnOk result (before.new ≡ looked_held owed station.now) }
+        ≡ sheet.old.text.items ++ half_held view.now progress.old.before station.now) }
+    ensures next { OnOk result
+        (progress.new ≡ progress_held owed view.now progress.old station.now) }
 {
-    sheet.push_half(view, before, station, owed)?;
-    before.look(station, owed)
+    sheet.push_half(view, &progress.before, station, owed)?;
+    progress.go_on(view, station, owed)
 }
 
 /// Adds the lines of the half turn that a step has ended, if it has.
@@ -43,16 +50,16 @@ fn tell_step<L: Lookaside>(
     station: &Station<L>,
     step: Step,
     sheet: &mut Sheet,
-    before: &mut Before,
+    progress: &mut Progress,
 ) -> Result<(), AllocError>
     requires unit { step ≡ Step.Unit → is_some station.now.kept.state.owed ≡ true }
     requires boundary { step ≡ Step.Boundary → is_some station.now.kept.state.owed ≡ false }
-    ensures { OnOk result (Adds step view.now station.now sheet.old.text.items before.old
-        sheet.new.text.items before.new) }
+    ensures { OnOk result (Adds step view.now station.now sheet.old.text.items progress.old
+        sheet.new.text.items progress.new) }
 {
     match step {
-        Step::Unit => tell_half(view, station, true, sheet, before),
-        Step::Boundary => tell_half(view, station, false, sheet, before),
+        Step::Unit => tell_half(view, station, true, sheet, progress),
+        Step::Boundary => tell_half(view, station, false, sheet, progress),
         Step::Inside => Ok(()),
         Step::Over => Ok(()),
     }
@@ -70,25 +77,31 @@ fn is_last(step: Step) -> bool
     }
 }
 
-/// One step of a station, told of where it ends a half turn. It answers whether that found all
-/// processes ended, or the fault by which there was none.
+/// One step of a station, told of where it ends a half turn, and counted. It answers whether that
+/// found all processes ended, or the fault by which there was none.
 fn advance<L: Lookaside>(
     view: &View,
     station: &mut Station<L>,
     sheet: &mut Sheet,
-    before: &mut Before,
+    progress: &mut Progress,
+    counts: &mut ProcessorCounts,
 ) -> Result<Result<bool, Fault>, AllocError>
     requires early { station.old.kept.state.owed ≡ None
         → station.old.kept.state.time < 1000000000 }
     requires working { station.old.own.failed ≡ false }
-    ensures { IfOk result (λ r. Advances r view.now station.old station.new
-        sheet.old.text.items before.old sheet.new.text.items before.new) }
+    requires few { total counts.old < 2 ^ 62 }
+    ensures tells { IfOk result (λ r. Advances r view.now station.old station.new
+        sheet.old.text.items progress.old sheet.new.text.items progress.new) }
+    ensures counted { IfOk result
+        (λ r. CountsStep r station.old station.new counts.old counts.new) }
 {
+    let stage = station.stage();
     let step = match station.step() {
         Ok(step) => step,
         Err(fault) => return Ok(Err(fault)),
     };
-    tell_step(view, station, step, sheet, before)?;
+    counts.count(stage);
+    tell_step(view, station, step, sheet, progress)?;
     Ok(Ok(is_last(step)))
 }
 
@@ -139,15 +152,16 @@ fn silent_until(view: &View, n: u64) -> u64
     }
 }
 
-/// Follows a station to the end of a run for n, and tells of it. What comes before the first turn
-/// that is told goes by `run`. It answers the fault that cut the run short, if one did. What is left
-/// to be written is in the sheet.
+/// Follows a station to the end of a run for n, tells of it, and counts what the processor does.
+/// What comes before the first turn that is told goes by `run`. It answers the fault that cut the run
+/// short, if one did. What is left to be written is in the sheet, and what was counted in the counts.
 fn follow<L: Lookaside, W: Write>(
-    alloc: Global,
     view: &View,
     station: &mut Station<L>,
     n: u64,
+    progress: &mut Progress,
     sheet: &mut Sheet,
+    counts: &mut ProcessorCounts,
     out: &mut W,
 ) -> Result<Option<Fault>, Fault>
     requires few { n ≤ 1000000000 }
@@ -156,8 +170,12 @@ fn follow<L: Lookaside, W: Write>(
     requires spent { station.old.own.spent ≡ 0 }
     requires unowed { station.old.kept.state.owed ≡ None }
     requires empty { sheet.old.text.items ≡ [] }
+    requires none { progress.old.counts ≡ none_counted }
+    requires uncounted { counts.old ≡ none_processed }
     ensures ok { IfOk result (λ cut. TellsAll cut view.now n station.old station.new
-        (W.contents out.old) (W.contents out.new) sheet.new.text.items) }
+        (W.contents out.old) (W.contents out.new) sheet.new.text.items progress.new.counts) }
+    ensures counted { OnOk result
+        (HasCounted (told_from view.now n) n station.old station.new counts.new) }
     ensures err { OnErr result
         (TracesPart view.now n station.old (W.contents out.old) (W.contents out.new)) }
     ensures late { IfErr result IsLate }
@@ -166,10 +184,9 @@ fn follow<L: Lookaside, W: Write>(
         Ok(()) => {}
         Err(fault) => return Ok(Some(fault)),
     }
-    let mut before = Before::new(alloc);
-    before.look(station, false)?;
-    while is_before(station, n, &before) {
-        match advance(view, station, sheet, &mut before)? {
+    progress.before.look(station, false)?;
+    while is_before(station, n, &progress.before) {
+        match advance(view, station, sheet, progress, counts)? {
             Ok(false) => {}
             Ok(true) => return Ok(None),
             Err(fault) => return Ok(Some(fault)),
@@ -179,19 +196,24 @@ fn follow<L: Lookaside, W: Write>(
     Ok(None)
 }
 
-/// Writes what is left of the trace, the end's text, and the text of the station's state.
+/// Writes what is left of the trace, the end's text with these counts, and the text of the station's
+/// state.
 fn finish<L: Lookaside, W: Write>(
+    alloc: Global,
+    view: &View,
+    counts: &Counts,
     station: &Station<L>,
     sheet: &mut Sheet,
     out: &mut W,
 ) -> Result<(), Fault>
-    ensures ok { OnOk result (IsFinished (W.contents out.old) (W.contents out.new)
-        sheet.old.text.items station.now) }
+    ensures ok { OnOk result (IsFinished view.now counts.now (W.contents out.old)
+        (W.contents out.new) sheet.old.text.items station.now) }
     ensures err { OnErr result (AppendsPart (W.contents out.old) (W.contents out.new)
-        (sheet.old.text.items ++ end_held station.now ++ held_text station.now)) }
+        (sheet.old.text.items ++ end_held view.now counts.now station.now
+        ++ held_text station.now)) }
     ensures late { IfErr result IsLate }
 {
-    sheet.push_end(station)?;
+    sheet.push_end(alloc, view, counts, station)?;
     hand_all(sheet, out)?;
     match deliver(station, out) {
         Ok(()) => Ok(()),
@@ -199,8 +221,8 @@ fn finish<L: Lookaside, W: Write>(
     }
 }
 
-/// Runs a station for n, and writes the trace of the run, the end's text, and the text of the state
-/// in which it ended. Where memory runs out or a write fails, a prefix of that is written.
+/// Runs a station for n, and writes the trace of the run, what the processor did where that is wanted,
+/// the end's text, and the text of the state in which it ended. Where memory runs out or a write fails, a prefix of that is written.
 pub(crate) fn tell<L: Lookaside, W: Write>(
     alloc: Global,
     view: &View,
@@ -219,8 +241,19 @@ pub(crate) fn tell<L: Lookaside, W: Write>(
     ensures late { IfErr result IsLate }
 {
     let mut sheet = Sheet::new(alloc);
-    let cut = follow(alloc, view, station, n, &mut sheet, out)?;
-    finish(station, &mut sheet, out)?;
+    let mut progress = Progress::new(alloc);
+    let mut counts = ProcessorCounts::new();
+    let cut = follow(
+        view,
+        station,
+        n,
+        &mut progress,
+        &mut sheet,
+        &mut counts,
+        out,
+    )?;
+    sheet.push_processor(view, &counts, station)?;
+    finish(alloc, view, &progress.counts, station, &mut sheet, out)?;
     match cut {
         None => Ok(()),
         Some(fault) => Err(fault),

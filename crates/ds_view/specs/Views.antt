@@ -6,7 +6,7 @@ use Rattle.ds_view.specs.declared.view.View.{View}
 
 -- all lines
 abbrev pub whole : View
-whole = record { from = 0; to = None; process = None; only = None }
+whole = record { from = 0; to = None; process = None; only = None; processor = false }
 
 -- whether the end alone is told
 abbrev pub is_end : Option Only → Bool

@@ -28,6 +28,8 @@ pub struct View {
     pub process: Option<u32>,
     /// The one kind of line that is told; all where none is named.
     pub only: Option<Only>,
+    /// Whether the end tells what the processor did, which depends on Random.
+    pub processor: bool,
 }
 
 fn is_before(to: Option<u64>, began: u64) -> bool
@@ -58,6 +60,7 @@ impl View {
             to: None,
             process: None,
             only: None,
+            processor: false,
         }
     }
 

@@ -1,12 +1,14 @@
 -- What the words after `run` name.
-use Rattle.std.proofs.Common.{◌≡◌, ◌∙◌, ◌<◌, ◌^◌, ℕ, List, sym, ap, refl, subst, Bor}
-use Rattle.std.specs.Prelude.{Option, Some, None, Result, Ok, Err, option_map, is_some}
+use Rattle.std.proofs.Common.{◌≡◌, ◌∙◌, ◌<◌, ◌^◌, ℕ, List, [], sym, ap, refl, subst, Bor}
+use Rattle.std.specs.Prelude.{Option, Some, None, Result, Ok, Err, IfErr, IfOk, IfSome, option_map, is_some, IsSomeAnd, MatchOption}
+use Rattle.std.specs.Result.{result_ok}
 use Rattle.std.specs.Str.Parse.{ParsesUnsigned}
-use Rattle.clap.specs.Words.{Text, first_of, first_value, one_of, one_text, rows_of, ReadsOne}
+use Rattle.clap.specs.Words.{Text, first_of, first_value, one_of, one_text, rows_of, ReadsOne, TriesOne}
 use Rattle.std.proofs.lemmas.Bool.{true≢false}
 use Rattle.clap.proofs.WalkLemmas.{first_value-rows, one_text-rows}
 use Rattle.clap.specs.declared.parser.matches.Found.{Found}
-use Rattle.ds_words.specs.Words.{IsNumber}
+use Rattle.ds_view.specs.declared.view.Only.{Only}
+use Rattle.ds_words.specs.Words.{IsGiven, IsNumber, kind_word}
 
 -- a word that was found is that of the rows
 pub word_found : (f : Found) (id : Text) (r : Option (Bor (List ℕ))) (word : Bor (List ℕ)) → option_map (λ s. s.now) r ≡ first_value f id → r ≡ Some word → first_of id (rows_of f) ≡ Some word.now
@@ -26,6 +28,19 @@ number_in gives k f id r n None parses none value is e = absurd (true≢false (a
 number_in gives k f id r n (Some t) parses none value is e =
     let p = parses t (Ok n) (subst (λ (x : Option ℕ). ReadsOne gives t x) is (value t e)) in
     (p.0.0, sym p.1, subst (λ (m : ℕ). m < 2 ^ k) (sym p.1) p.0.1)
+
+-- no word of the rows
+pub no_word : (f : Found) (id : Text) (r : Option (Bor (List ℕ))) → option_map (λ s. s.now) r ≡ first_value f id → r ≡ None → first_of id (rows_of f) ≡ None
+no_word f id r found is = sym (first_value-rows f id) ∙ (sym found ∙ ap (λ (x : Option (Bor (List ℕ))). option_map (λ s. s.now) x) is)
+
+abbrev text_in : Option Text → Text
+text_in None = []
+text_in (Some text) = text
+
+-- a word that stands for no kind names none, and one is named
+pub no_kind : (o : Option Text) (word : Text) (only : Option Only) → o ≡ Some word → ((k : Only) → kind_word k ≡ word → ⊥) → o ≡ option_map kind_word only → ⊥
+no_kind o word None is none names = true≢false (ap is_some (sym is ∙ names))
+no_kind o word (Some k) is none names = none k (ap text_in (sym names ∙ is))
 
 -- a number that was read is that of the rows' word
 pub number_found : {E : Type 0} (gives : List ℕ → Result ℕ E → Type 0) (k : ℕ) (f : Found) (id : Text) (r : Option ℕ) (n : ℕ)
@@ -51,3 +66,49 @@ pub number_wanting : {E : Type 0} (gives : List ℕ → Result ℕ E → Type 0)
     → r ≡ None → IsNumber k (one_of id (rows_of f)) n → ⊥
 number_wanting gives k f id r n parses value is number =
     no_number_in gives k f id r n (one_text f id) parses value is refl (subst (λ (o : Option (List ℕ)). IsNumber k o n) (sym (one_text-rows f id)) number)
+
+given_in : {E : Type 0} (gives : List ℕ → Result ℕ E → Type 0) (k : ℕ) (f : Found) (id : Text) (r : Result (Option ℕ) E) (o : Option (List ℕ))
+    → ((t : List ℕ) (x : Result ℕ E) → gives t x → ParsesUnsigned k 10 t x)
+    → (one_text f id ≡ None → r ≡ Ok None)
+    → ((t : List ℕ) → one_text f id ≡ Some t → TriesOne gives t r)
+    → one_text f id ≡ o → IfSome (result_ok r) (IsGiven k o)
+given_in gives k f id r None parses none value e = rw (none e) refl
+given_in gives k f id (Ok None) (Some t) parses none value e = absurd (value t e)
+given_in gives k f id (Ok (Some n)) (Some t) parses none value e =
+    let p = parses t (Ok n) (value t e) in
+    (p.0.0, sym p.1, subst (λ (m : ℕ). m < 2 ^ k) (sym p.1) p.0.1)
+given_in gives k f id (Err x) (Some t) parses none value e = tt
+
+-- a number that may be left out, as it was read, is that of the rows' word
+pub given_found : {E : Type 0} (gives : List ℕ → Result ℕ E → Type 0) (k : ℕ) (f : Found) (id : Text) (r : Result (Option ℕ) E) (q : Option (Option ℕ))
+    → ((t : List ℕ) (x : Result ℕ E) → gives t x → ParsesUnsigned k 10 t x)
+    → (one_text f id ≡ None → r ≡ Ok None)
+    → ((t : List ℕ) → one_text f id ≡ Some t → TriesOne gives t r)
+    → q ≡ result_ok r → IfSome q (IsGiven k (one_of id (rows_of f)))
+given_found gives k f id r q parses none value is = rw is (subst (λ (o : Option (List ℕ)). IfSome (result_ok r) (IsGiven k o)) (one_text-rows f id) (given_in gives k f id r (one_text f id) parses none value refl))
+
+not_given_in : {E : Type 0} (gives : List ℕ → Result ℕ E → Type 0) (k : ℕ) (f : Found) (id : Text) (r : Result (Option ℕ) E) (o : Option (List ℕ)) (given : Option ℕ)
+    → ((t : List ℕ) (x : Result ℕ E) → gives t x → ParsesUnsigned k 10 t x)
+    → (one_text f id ≡ None → r ≡ Ok None)
+    → ((t : List ℕ) → one_text f id ≡ Some t → TriesOne gives t r)
+    → one_text f id ≡ o → result_ok r ≡ None → IsGiven k o given → ⊥
+not_given_in gives k f id r None given parses none value e wanting is = true≢false (ap is_some (subst (λ (x : Result (Option ℕ) _). result_ok x ≡ None) (none e) wanting))
+not_given_in gives k f id r (Some t) None parses none value e wanting is = is
+not_given_in gives k f id (Ok got) (Some t) (Some n) parses none value e wanting is = true≢false (ap is_some wanting)
+not_given_in gives k f id (Err x) (Some t) (Some n) parses none value e wanting is =
+    parses t (Err x) (value t e) (is.0, subst (λ (m : ℕ). m < 2 ^ k) (sym is.1) is.2)
+
+-- where the word could not be read, it writes no number, and there is one
+pub given_wanting : {E : Type 0} (gives : List ℕ → Result ℕ E → Type 0) (k : ℕ) (f : Found) (id : Text) (r : Result (Option ℕ) E) (q : Option (Option ℕ)) (given : Option ℕ)
+    → ((t : List ℕ) (x : Result ℕ E) → gives t x → ParsesUnsigned k 10 t x)
+    → (one_text f id ≡ None → r ≡ Ok None)
+    → ((t : List ℕ) → one_text f id ≡ Some t → TriesOne gives t r)
+    → q ≡ result_ok r → q ≡ None → IsGiven k (one_of id (rows_of f)) given → ⊥
+given_wanting gives k f id r q given parses none value is wanting number =
+    not_given_in gives k f id r (one_text f id) given parses none value refl (sym is ∙ wanting) (subst (λ (o : Option (List ℕ)). IsGiven k o given) (sym (one_text-rows f id)) number)
+
+-- a number is the same in more bits
+pub widened : (q r : Option ℕ) → MatchOption q (r ≡ None) (λ x. IsSomeAnd r (λ y. y ≡ x)) → r ≡ q
+widened None r is = is
+widened (Some x) None is = absurd is
+widened (Some x) (Some y) is = ap Some is

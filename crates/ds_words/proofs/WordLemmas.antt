@@ -9,7 +9,8 @@ use Rattle.ds_words.specs.declared.words.BareRequest.{BareRequest}
 use Rattle.ds_words.specs.declared.words.CheckRequest.{CheckRequest}
 use Rattle.ds_words.specs.declared.words.ListRequest.{ListRequest}
 use Rattle.ds_words.specs.declared.words.Request.{Request}
-use Rattle.ds_words.specs.Words.{AsksForDemo, AsksForSomething, NamesBare, NamesCheck, NamesList, NamesRun, command_named, dsmon_app}
+use Rattle.ds_words.specs.declared.words.TraceRequest.{TraceRequest}
+use Rattle.ds_words.specs.Words.{AsksForDemo, AsksForSomething, NamesBare, NamesCheck, NamesList, NamesRun, NamesTrace, command_named, dsmon_app}
 
 -- the one word `demo` asks for the demonstration, whatever the program's own name is
 pub alone : (program : Text) (words : List Text) → words ≡ program ∷ codes "demo" ∷ []
@@ -91,13 +92,13 @@ asks_bare words rows named none (inr (inr (inr (inr (inl bare))))) = none bare.0
 asks_bare words rows named none (inr (inr (inr (inr (inr trace))))) = let e : 98 ≡ 116 = ap first_letter (sym named ∙ trace.1.named) in omega (arith, e)
 
 pub asks_trace : (words : List Text) (rows : List Row) → subcommand_of dsmon_app words ≡ Some (codes "trace", rows)
-    → ((request : Request) → NamesRun rows request → ⊥) → AsksForSomething words → ⊥
+    → ((request : TraceRequest) → NamesTrace rows request → ⊥) → AsksForSomething words → ⊥
 asks_trace words rows named none (inl demo) = let e : 116 ≡ 100 = ap first_letter_of (sym (ap name_in named) ∙ demo.named) in omega (arith, e)
 asks_trace words rows named none (inr (inl run)) = let e : 116 ≡ 114 = ap first_letter (sym named ∙ run.1.named) in omega (arith, e)
 asks_trace words rows named none (inr (inr (inl list))) = let e : 116 ≡ 108 = ap first_letter (sym named ∙ list.1.named) in omega (arith, e)
 asks_trace words rows named none (inr (inr (inr (inl check)))) = let e : 116 ≡ 99 = ap first_letter (sym named ∙ check.1.named) in omega (arith, e)
 asks_trace words rows named none (inr (inr (inr (inr (inl bare))))) = let e : 116 ≡ 98 = ap first_letter (sym named ∙ bare.1.named) in omega (arith, e)
-asks_trace words rows named none (inr (inr (inr (inr (inr trace))))) = none trace.0 (subst (λ (x : List Row). NamesRun x trace.0) (sym (ap rows_in (sym named ∙ trace.1.named))) trace.1.names)
+asks_trace words rows named none (inr (inr (inr (inr (inr trace))))) = none trace.0 (subst (λ (x : List Row). NamesTrace x trace.0) (sym (ap rows_in (sym named ∙ trace.1.named))) trace.1.names)
 
 -- words that name no command of the six ask for nothing
 pub asks_nothing : (words : List Text) (named : Option Text) → command_named words ≡ named

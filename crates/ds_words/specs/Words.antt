@@ -5,7 +5,11 @@ use Rattle.clap.specs.Words.{App, Row, Rule, Text, fault_of, first_of, one_of, n
 use Rattle.ds_words.specs.declared.words.BareRequest.{BareRequest}
 use Rattle.ds_words.specs.declared.words.CheckRequest.{CheckRequest}
 use Rattle.ds_words.specs.declared.words.ListRequest.{ListRequest}
+use Rattle.ds_view.specs.declared.view.Only.{Only}
+use Rattle.ds_view.specs.declared.view.Only.TheVariants.{End, Calls, Denials, Switches, Units}
+use Rattle.ds_view.specs.declared.view.View.{View}
 use Rattle.ds_words.specs.declared.words.Request.{Request}
+use Rattle.ds_words.specs.declared.words.TraceRequest.{TraceRequest}
 use Rattle.clap.specs.declared.builder.action.ArgAction.TheVariants.{SetTrue}
 use Rattle.clap.specs.declared.builder.value_parser.ValueParser.TheVariants.{Unsigned}
 
@@ -37,9 +41,38 @@ of_run app = with_rule (with_rule (of_files app) time_rule) random_rule
 abbrev pub run_app : App
 run_app = of_run (new_app (codes "run"))
 
--- `trace POLICY INPUT N [--random R]`
+-- `--from T`, a time from 0 to 1000000000, and 0 where it is left out
+abbrev pub from_rule : Rule
+from_rule = record (new_rule (codes "FROM")) {
+  long = Some (codes "from");
+  value_names = 1;
+  parser = Some (Unsigned 0 1000000000);
+  defaults = codes "0" ∷ [];
+}
+
+-- `--to T`, a time from 0 to 1000000000
+abbrev pub to_rule : Rule
+to_rule = record (new_rule (codes "TO")) { long = Some (codes "to"); value_names = 1; parser = Some (Unsigned 0 1000000000) }
+
+-- `--process P`, from 1 to 100
+abbrev pub process_rule : Rule
+process_rule = record (new_rule (codes "P")) { long = Some (codes "process"); parser = Some (Unsigned 1 100) }
+
+-- `--only KIND`
+abbrev pub only_rule : Rule
+only_rule = record (new_rule (codes "KIND")) { long = Some (codes "only") }
+
+-- `--processor`
+abbrev pub processor_rule : Rule
+processor_rule = record (new_rule (codes "processor")) { long = Some (codes "processor"); action = Some SetTrue }
+
+-- with `[--from T] [--to T] [--process P]`
+abbrev pub of_turns : App → App
+of_turns app = with_rule (with_rule (with_rule app from_rule) to_rule) process_rule
+
+-- `trace POLICY INPUT N [--random R] [--from T] [--to T] [--process P] [--only KIND] [--processor]`
 abbrev pub trace_app : App
-trace_app = of_run (new_app (codes "trace"))
+trace_app = with_rule (with_rule (of_turns (of_run (new_app (codes "trace")))) only_rule) processor_rule
 
 -- `--words`
 abbrev pub words_rule : Rule
@@ -96,7 +129,7 @@ abbrev pub IsNumber : ℕ → Option Text → ℕ → Type 0
 IsNumber bits None n = ⊥
 IsNumber bits (Some text) n = IsNumeral 10 (without_leading_plus text) × (digits_value 10 (without_leading_plus text) ≡ n) × (n < 2 ^ bits)
 
--- what stands after `run` or `trace` names the files and the numbers
+-- what stands after `run` or `trace` names the files and the numbers of a run
 pub record NamesRun (rows : List Row) (request : Request) : Type 0 where
   pub policy : first_of (codes "POLICY") rows ≡ Some request.policy.now
   pub input : first_of (codes "INPUT") rows ≡ Some request.input.now
@@ -110,12 +143,40 @@ pub record AsksForRun (words : List Text) (request : Request) : Type 0 where
   pub named : subcommand_of dsmon_app words ≡ Some (codes "run", rows)
   pub names : NamesRun rows request
 
--- clap takes the words, and they ask for the trace of a run of these files and numbers
-pub record AsksForTrace (words : List Text) (request : Request) : Type 0 where
+-- a number that may be left out: there is one where there is a word, which writes it
+abbrev pub IsGiven : ℕ → Option Text → Option ℕ → Type 0
+IsGiven bits None given = given ≡ None
+IsGiven bits (Some text) None = ⊥
+IsGiven bits (Some text) (Some n) = IsNumber bits (Some text) n
+
+-- the word for the one kind of line that is told
+abbrev pub kind_word : Only → Text
+kind_word End = codes "end"
+kind_word Calls = codes "calls"
+kind_word Denials = codes "denials"
+kind_word Switches = codes "switches"
+kind_word Units = codes "units"
+
+-- what stands after `trace` says which lines are told
+pub record NamesView (rows : List Row) (view : View) : Type 0 where
+  pub from : IsNumber 64 (one_of (codes "FROM") rows) view.from
+  pub to : IsGiven 32 (one_of (codes "TO") rows) view.to
+  pub process : IsGiven 32 (one_of (codes "P") rows) view.process
+  pub only : first_of (codes "KIND") rows ≡ option_map kind_word view.only
+  pub processor : one_of (codes "processor") rows ≡ Some (codes "true") → view.processor ≡ true
+  pub lines : one_of (codes "processor") rows ≡ Some (codes "false") → view.processor ≡ false
+
+-- what stands after `trace` names the files and the numbers, and says which lines are told
+pub record NamesTrace (rows : List Row) (request : TraceRequest) : Type 0 where
+  pub run : NamesRun rows request.run
+  pub view : NamesView rows request.view
+
+-- clap takes the words, and they ask for these lines of the trace of a run of these files and numbers
+pub record AsksForTrace (words : List Text) (request : TraceRequest) : Type 0 where
   pub taken : fault_of dsmon_app words ≡ []
   pub rows : List Row
   pub named : subcommand_of dsmon_app words ≡ Some (codes "trace", rows)
-  pub names : NamesRun rows request
+  pub names : NamesTrace rows request
 
 -- what stands after `list` names the file, and says whether it holds words
 pub record NamesList (rows : List Row) (request : ListRequest) : Type 0 where
@@ -170,4 +231,4 @@ AsksForSomething words =
     ⊎ (((request : ListRequest) × AsksForList words request)
     ⊎ (((request : CheckRequest) × AsksForCheck words request)
     ⊎ (((request : BareRequest) × AsksForBare words request)
-    ⊎ ((request : Request) × AsksForTrace words request)))))
+    ⊎ ((request : TraceRequest) × AsksForTrace words request)))))

@@ -3,4 +3,6 @@
 
 mod words;
 
-pub use words::{BareRequest, CheckRequest, ListRequest, Request, Wish, program_words, wish_of};
+pub use words::{
+    BareRequest, CheckRequest, ListRequest, Request, TraceRequest, Wish, program_words, wish_of,
+};

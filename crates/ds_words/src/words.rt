@@ -1,11 +1,12 @@
 //! What the program's words ask for.
-ghost use Rattle.std.specs.Prelude.{◌≡◌, ◌↔◌, IfOk, IfSome, None, Some, codes, false, map, string_bytes};
-ghost use Rattle.clap.specs.Words.{FailsBy, app_of, fault_of, found_of, new_app, new_rule, rows_of, rule_of, subcommand_name_of, subcommand_of, subcommand_rows_of, with_rule, with_subcommand};
+ghost use Rattle.std.specs.Prelude.{ℕ, Option, ◌≡◌, ◌↔◌, IfOk, IfSome, None, Some, codes, false, map, option_map, string_bytes};
+ghost use Rattle.clap.specs.Words.{FailsBy, app_of, fault_of, first_of, found_of, new_app, new_rule, one_of, rows_of, rule_of, subcommand_name_of, subcommand_of, subcommand_rows_of, with_rule, with_subcommand};
 ghost use Rattle.clap.specs.declared.builder.command.Command.TheViews.{out-Command as fields_of};
-ghost use Rattle.ds_words.specs.Words.{AsksForBare, AsksForCheck, AsksForList, AsksForRun, AsksForSomething, AsksForTrace, NamesBare, NamesCheck, NamesList, NamesRun, bare_app, check_app, command_named, dsmon_app, files_app, keys_rule, list_app, machine_app, notes_rule, of_files, of_run, quiet_rule, random_rule, required_rule, run_app, time_rule, trace_app, words_rule};
+ghost use Rattle.ds_words.specs.Words.{AsksForBare, AsksForCheck, AsksForList, AsksForRun, AsksForSomething, AsksForTrace, IsGiven, NamesBare, NamesCheck, NamesList, NamesRun, NamesTrace, NamesView, bare_app, check_app, command_named, dsmon_app, files_app, from_rule, keys_rule, kind_word, list_app, machine_app, notes_rule, of_files, of_run, of_turns, only_rule, process_rule, processor_rule, quiet_rule, random_rule, required_rule, run_app, time_rule, to_rule, trace_app, words_rule};
 
 use clap::builder::ValueParser;
 use clap::{Arg, ArgAction, ArgMatches, Command, Error};
+use ds_view::{Only, View};
 use std::alloc::{AllocError, Global};
 use std::rt::Env;
 use std::{env, io};
@@ -21,6 +22,15 @@ pub struct Request<'a> {
     pub most_time: u64,
     /// Where the register Random starts.
     pub random: u8,
+}
+
+/// A trace of a run of files that the words ask for.
+#[derive(Clone, Copy, Debug, PartialEq, Eq)]
+pub struct TraceRequest<'a> {
+    /// The run.
+    pub run: Request<'a>,
+    /// Which lines of its trace are told.
+    pub view: View,
 }
 
 /// A file that the words want listed.
@@ -72,7 +82,7 @@ pub enum Wish<'a> {
     /// A run of a source on the bare machine.
     Bare(BareRequest<'a>),
     /// The trace of a run of files.
-    Trace(Request<'a>),
+    Trace(TraceRequest<'a>),
 }
 
 /// The words that the program was started with, its own name first.
@@ -105,18 +115,30 @@ Example:
 /// What stands at the end of the help of `trace`.
 const TRACE_HELP: &str =
     "The files are read as a run reads them. What happened is written unit by unit, with the register that
-each instruction left, what was logged, and which process runs from when on; then how each process
-stands; and then what the run writes.
+each instruction left, each call by its name, what was logged, what boundaries did, and which process
+runs from when on; then how each process stands; and then what the run writes.
 
-Example:
+A turn is a unit, or a tick in which nobody runs, with the boundary after it. --from, --to, --process
+and --only leave out lines of turns, and change nothing else. KIND is one of these:
+  units     the units alone
+  calls     the units that are calls
+  denials   what was denied
+  switches  which process runs, and which stands otherwise than before
+  end       nothing of the turns
+
+Examples:
   dsmon trace policy.toml input.txt 1000
     0 1 00400000 addiu $4,$0,65  $4=00000041
     1 1 00400004 addiu $2,$0,1  $2=00000001
-    2 1 00400008 syscall  $2=00000000
+    2 1 00400008 syscall  put 41  $2=00000000
     ..
-    process 1 ended 00400014
+    5 1 ended
+    5 nobody runs
+    process 1 ended 00400014  $4=00000041
     console 0 1
-    ..";
+    ..
+  dsmon trace policy.toml input.txt 1000000 --from 900000 --process 2
+  dsmon trace policy.toml input.txt 1000 --only calls";
 
 /// What stands at the end of the help of `check`.
 const CHECK_HELP: &str =
@@ -261,11 +283,76 @@ fn run_command<'a>(alloc: Global) -> Result<Command<'a>, AllocError>
     with_numbers(alloc, run_described(alloc))
 }
 
+fn from_argument<'a>(alloc: Global) -> Arg<'a>
+    ensures rule { rule_of result ≡ from_rule }
+    ensures local { result.global ≡ false }
+{
+    Arg::new(alloc, "FROM")
+        .long("from")
+        .value_name("T")
+        .value_parser(ValueParser::unsigned(0, 1_000_000_000))
+        .default_value("0")
+        .help("Turns are told that began at this time or later, from 0 to 1000000000")
+}
+
+fn to_argument<'a>(alloc: Global) -> Arg<'a>
+    ensures rule { rule_of result ≡ to_rule }
+    ensures local { result.global ≡ false }
+{
+    Arg::new(alloc, "TO")
+        .long("to")
+        .value_name("T")
+        .value_parser(ValueParser::unsigned(0, 1_000_000_000))
+        .help("Turns are told that began before this time, from 0 to 1000000000")
+}
+
+fn process_argument<'a>(alloc: Global) -> Arg<'a>
+    ensures rule { rule_of result ≡ process_rule }
+    ensures local { result.global ≡ false }
+{
+    Arg::new(alloc, "P")
+        .long("process")
+        .value_parser(ValueParser::unsigned(1, 100))
+        .help("Of the processes this one alone is told of, from 1 to 100")
+}
+
+fn only_argument<'a>(alloc: Global) -> Arg<'a>
+    ensures rule { rule_of result ≡ only_rule }
+    ensures local { result.global ≡ false }
+{
+    Arg::new(alloc, "KIND").long("only").help(
+        "One kind of line is told alone: units, calls, denials, switches or end",
+    )
+}
+
+fn processor_argument<'a>(alloc: Global) -> Arg<'a>
+    ensures rule { rule_of result ≡ processor_rule }
+    ensures local { result.global ≡ false }
+{
+    Arg::new(alloc, "processor")
+        .long("processor")
+        .action(ArgAction::SetTrue)
+        .help("At the end it is told what the processor did, which depends on R")
+}
+
+fn with_turns<'a>(alloc: Global, described: Command<'a>) -> Result<Command<'a>, AllocError>
+    requires { (fields_of described).has_globals ≡ false }
+    ensures app { IfOk result (λ c. app_of c ≡ of_turns (app_of described.entry)) }
+    ensures local { IfOk result (λ c. (fields_of c).has_globals ≡ false) }
+{
+    described
+        .arg(from_argument(alloc))?
+        .arg(to_argument(alloc))?
+        .arg(process_argument(alloc))
+}
+
 fn trace_command<'a>(alloc: Global) -> Result<Command<'a>, AllocError>
     ensures app { IfOk result (λ c. app_of c ≡ trace_app) }
     ensures local { IfOk result (λ c. (fields_of c).has_globals ≡ false) }
 {
-    with_numbers(alloc, trace_described(alloc))
+    with_turns(alloc, with_numbers(alloc, trace_described(alloc))?)?
+        .arg(only_argument(alloc))?
+        .arg(processor_argument(alloc))
 }
 
 fn input_argument<'a>(alloc: Global) -> Arg<'a>
@@ -440,7 +527,7 @@ fn read_words<'a>(alloc: Global, words: &'a [String]) -> Result<ArgMatches<'a>, 
     command(alloc)?.try_get_matches_from(words)
 }
 
-/// What the words after `run` or `trace` ask for.
+/// The run that the words after `run` or `trace` ask for.
 fn request_of<'a>(found: &ArgMatches<'a>) -> Option<Request<'a>>
     ensures some { IfSome result (λ request. NamesRun (rows_of (found_of found.now)) request) }
     ensures none { result ≡ None → (request : Request) → ¬ NamesRun (rows_of (found_of found.now)) request }
@@ -450,6 +537,68 @@ fn request_of<'a>(found: &ArgMatches<'a>) -> Option<Request<'a>>
         input: found.get_str("INPUT")?,
         most_time: found.get_one("N")?,
         random: found.get_one("R")?,
+    })
+}
+
+/// The number of a flag that may be left out.
+fn given_of<'a>(found: &ArgMatches<'a>, id: &str) -> Option<Option<u32>>
+    ensures some { IfSome result (λ given. IsGiven 32 (one_of id.now (rows_of (found_of found.now))) given) }
+    ensures none { result ≡ None → (given : Option ℕ)
+        → ¬ IsGiven 32 (one_of id.now (rows_of (found_of found.now))) given }
+{
+    found.try_get_one(id).ok()
+}
+
+/// The kind of line that this word stands for.
+fn only_of(word: &str) -> Option<Only>
+    ensures some { IfSome result (λ only. kind_word only ≡ word.now) }
+    ensures none { result ≡ None → (only : Only) → ¬ (kind_word only ≡ word.now) }
+{
+    match word {
+        "end" => Some(Only::End),
+        "calls" => Some(Only::Calls),
+        "denials" => Some(Only::Denials),
+        "switches" => Some(Only::Switches),
+        "units" => Some(Only::Units),
+        _ => None,
+    }
+}
+
+/// The kind of line that is told, where one is named.
+fn kind_of<'a>(found: &ArgMatches<'a>) -> Option<Option<Only>>
+    ensures some { IfSome result (λ only. first_of (codes "KIND") (rows_of (found_of found.now))
+        ≡ option_map kind_word only) }
+    ensures none { result ≡ None → (only : Option Only)
+        → ¬ (first_of (codes "KIND") (rows_of (found_of found.now)) ≡ option_map kind_word only) }
+{
+    match found.get_str("KIND") {
+        Some(word) => Some(Some(only_of(word)?)),
+        None => Some(None),
+    }
+}
+
+/// Which lines the words after `trace` ask for.
+fn view_of<'a>(found: &ArgMatches<'a>) -> Option<View>
+    ensures some { IfSome result (λ view. NamesView (rows_of (found_of found.now)) view) }
+    ensures none { result ≡ None → (view : View) → ¬ NamesView (rows_of (found_of found.now)) view }
+{
+    Some(View {
+        from: found.get_one("FROM")?,
+        to: given_of(found, "TO")?.map(u64::from),
+        process: given_of(found, "P")?,
+        only: kind_of(found)?,
+        processor: found.get_flag("processor"),
+    })
+}
+
+/// What the words after `trace` ask for.
+fn trace_request_of<'a>(found: &ArgMatches<'a>) -> Option<TraceRequest<'a>>
+    ensures some { IfSome result (λ request. NamesTrace (rows_of (found_of found.now)) request) }
+    ensures none { result ≡ None → (request : TraceRequest) → ¬ NamesTrace (rows_of (found_of found.now)) request }
+{
+    Some(TraceRequest {
+        run: request_of(found)?,
+        view: view_of(found)?,
     })
 }
 
@@ -492,8 +641,8 @@ fn bare_request_of<'a>(found: &ArgMatches<'a>) -> Option<BareRequest<'a>>
 
 /// What `words` ask for, the program's own name first. An error is clap's: a mistake in the words,
 /// a call for help or the version, or memory that ran out. `None` stands for words that clap accepts
-/// although they ask for nothing. It is not reached, since clap rejects such words; that it does is
-/// not proved.
+/// although they ask for nothing: the word after `--only` stands for no kind of line. Other such words
+/// clap rejects; that it does is not proved.
 pub fn wish_of<'a>(alloc: Global, words: &'a [String]) -> Result<Option<Wish<'a>>, Error>
     ensures refused { FailsBy (fault_of dsmon_app (map string_bytes words.entry.now)) result }
     ensures named { IfOk result (λ wish. (wish ≡ Some Wish.Demo)
@@ -508,7 +657,7 @@ pub fn wish_of<'a>(alloc: Global, words: &'a [String]) -> Result<Option<Wish<'a>
     ensures bare { IfOk result (λ wish. (request : BareRequest)
         → wish ≡ Some (Wish.Bare request)
         → AsksForBare (map string_bytes words.entry.now) request) }
-    ensures trace { IfOk result (λ wish. (request : Request) → wish ≡ Some (Wish.Trace request)
+    ensures trace { IfOk result (λ wish. (request : TraceRequest) → wish ≡ Some (Wish.Trace request)
         → AsksForTrace (map string_bytes words.entry.now) request) }
     ensures none { IfOk result (λ wish. wish ≡ None
         → ¬ AsksForSomething (map string_bytes words.entry.now)) }
@@ -517,7 +666,7 @@ pub fn wish_of<'a>(alloc: Global, words: &'a [String]) -> Result<Option<Wish<'a>
     match matches.subcommand() {
         Some(("demo", _)) => Ok(Some(Wish::Demo)),
         Some(("run", found)) => Ok(request_of(found).map(Wish::Run)),
-        Some(("trace", found)) => Ok(request_of(found).map(Wish::Trace)),
+        Some(("trace", found)) => Ok(trace_request_of(found).map(Wish::Trace)),
         Some(("check", found)) => Ok(check_request_of(found).map(Wish::Check)),
         Some(("list", found)) => Ok(list_request_of(found).map(Wish::List)),
         Some(("bare", found)) => Ok(bare_request_of(found).map(Wish::Bare)),

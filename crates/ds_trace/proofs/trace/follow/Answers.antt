@@ -1,13 +1,15 @@
 use Rattle.std.proofs.Common.{◌≡◌, true, false, Bool, ℕ, Result, Ok, sym, ap, subst, ◌∙◌, arith, inl}
-use Rattle.std.specs.Prelude.{is_some}
+use Rattle.std.specs.Prelude.{is_some, nat_lt, ◌||◌}
 use Rattle.ds_log.proofs.Sends.{at_err}
 use Rattle.ds_refinement.specs.Held.{Held}
-use Rattle.ds_refinement.specs.Runs.{RunsWithin}
+use Rattle.ds_refinement.specs.Runs.{RunsWithin, held_goes_on}
 use Rattle.ds_station.specs.Faults.{IsFaultAfter, IsNewFault}
 use Rattle.ds_station.specs.declared.fault.Fault.{Fault}
 use Rattle.ds_trace.specs.Looks.{Looked}
 use Rattle.ds_trace.specs.Advanced.{Advances, HasStepped, HasHalted}
 use Rattle.ds_trace.proofs.Following.{cut_early, cut_part, cut_spent, end_told, first_told, halted_told, handed_told, last_told, nothing_part, part_none, ran_whole, ran_within, step_on, step_owed, step_told}
+use Rattle.ds_trace.specs.Counted.{CountsStep}
+use Rattle.ds_trace.proofs.Processing.{counted_step, counting_cut, counting_done, counting_few, counting_first, counting_last, counting_more, none_counted_yet}
 use Rattle.ds_trace.proofs.trace.follow.Goals as goal
 
 -- a fault cut short what comes before the first turn that is told
@@ -18,10 +20,17 @@ returns-in-Err-clause-ok g c =
     let is : IsNewFault c.in-Err.fault = subst (λ (failed : Bool). IsFaultAfter failed c.in-Err.fault) c.requires.working c.in-Err.ensures.faults in
     let within : RunsWithin _ c.args.station.now new = subst (λ (k : ℕ). RunsWithin k c.args.station.now new) c.silent_until.ensures c.in-Err.ensures.err in
     cut_early v c.args.n c.args.station.now new (g.W.Write.contents c.args.out.now) c.requires.unowed within
-    c.in-Err.ensures.whole (cut_spent c.in-Err.fault c.args.station.now new c.in-Err.ensures.cut is) c.in-Err.fault c.args.sheet.now.text.items c.requires.empty is
+    c.in-Err.ensures.whole (cut_spent c.in-Err.fault c.args.station.now new c.in-Err.ensures.cut is) c.in-Err.fault c.args.sheet.now.text.items c.args.progress.now.counts c.requires.empty c.requires.none is
 
 pub returns-in_err-look-clause-err : goal.returns-in_err-look-clause-err
-returns-in_err-look-clause-err g c = at_err c.from_residual.result (nothing_part c.args.view.now c.args.n c.args.station.now (g.W.Write.contents c.args.out.now))
+returns-in_err-look-clause-err g c = at_err c.from_residual.result (nothing_part c.args.view.now c.args.n c.args.station.now (g.W.Write.contents c.args.out.now) c.requires.spent)
+
+pub returns-in-Err-clause-counted : goal.returns-in-Err-clause-counted
+returns-in-Err-clause-counted g c =
+    let new : Held = c.run.new.self in
+    let is : IsNewFault c.in-Err.fault = subst (λ (failed : Bool). IsFaultAfter failed c.in-Err.fault) c.requires.working c.in-Err.ensures.faults in
+    let within : RunsWithin _ c.args.station.now new = subst (λ (k : ℕ). RunsWithin k c.args.station.now new) c.silent_until.ensures c.in-Err.ensures.err in
+    none_counted_yet _ c.args.n c.args.station.now new c.args.counts.now within (cut_spent c.in-Err.fault c.args.station.now new c.in-Err.ensures.cut is) c.requires.uncounted
 
 pub loop-station-init : goal.loop-station-init
 loop-station-init g c =
@@ -31,17 +40,20 @@ loop-station-init g c =
     let owes = ran_whole _ new c.in-Ok.ensures.over in
     let within : RunsWithin _ c.args.station.now new = subst (λ (k : ℕ). RunsWithin k c.args.station.now new) c.silent_until.ensures (ran_within _ c.args.station.now new c.in-Ok.ensures.ok) in
     record {
-      tells = first_told v c.args.n c.args.station.now new (g.W.Write.contents c.args.out.now) c.requires.unowed within owes none c.args.sheet.now.text.items c.look.new.self c.requires.empty c.in_ok-look.ensures;
+      tells = first_told v c.args.n c.args.station.now new (g.W.Write.contents c.args.out.now) c.requires.unowed within owes none c.args.sheet.now.text.items (record c.args.progress.now { before = c.look.new.self }) c.requires.empty c.in_ok-look.ensures c.requires.none;
       sound = c.in-Ok.ensures.sound;
       working = c.in-Ok.ensures.good;
       owed = ap (λ (x : Looked). x.owed) c.in_ok-look.ensures ∙ sym (ap is_some owes);
       begun = λ some. absurd (omega (arith, none, some));
+      counting = counting_first _ c.args.n c.args.station.now new c.args.counts.now within
+          (subst (λ (k : ℕ). held_goes_on k new ≡ false) c.silent_until.ensures c.in-Ok.ensures.over) none c.requires.uncounted c.requires.few;
     }
 
 pub returns-in_err-advance-clause-err : goal.returns-in_err-advance-clause-err
 returns-in_err-advance-clause-err g c =
     let b = c.loop-station in
-    at_err c.from_residual-in_err-advance.result (cut_part c.args.view.now c.args.n c.args.station.now b.station _ _ _ b.sheet.text.items b.before b.invariant.tells (part_none _ b.sheet.text.items))
+    at_err c.from_residual-in_err-advance.result
+    (cut_part c.args.view.now c.args.n c.args.station.now b.station _ _ _ b.sheet.text.items b.counts (counting_done _ c.args.n c.args.station.now b.station b.counts b.invariant.counting) b.progress b.invariant.tells (part_none _ b.sheet.text.items))
 
 pub returns-in-Ok-true-clause-ok : goal.returns-in-Ok-true-clause-ok
 returns-in-Ok-true-clause-ok g c =
@@ -49,16 +61,16 @@ returns-in-Ok-true-clause-ok g c =
     let b = c.loop-station in
     let new = c.advance.new in
     let is : c.in_ok-advance.field-0 ≡ Ok true = c.in-Ok-true.is ∙ ap (λ (x : Bool). Ok x) c.in-Ok-true.field-0-test in
-    let s : HasStepped true v b.station new.station b.sheet.text.items b.before new.sheet.text.items new.before = subst (λ (r : Result Bool Fault). Advances r v b.station new.station b.sheet.text.items b.before new.sheet.text.items new.before) is c.in_ok-advance.ensures in
-    last_told v c.args.n b.station new.station b.sheet.text.items new.sheet.text.items b.before new.before s b.invariant.sound c.args.station.now _ _ b.invariant.tells
+    let s : HasStepped true v b.station new.station b.sheet.text.items b.progress new.sheet.text.items new.progress = subst (λ (r : Result Bool Fault). Advances r v b.station new.station b.sheet.text.items b.progress new.sheet.text.items new.progress) is c.in_ok-advance.ensures.tells in
+    last_told v c.args.n b.station new.station b.sheet.text.items new.sheet.text.items b.progress new.progress s b.invariant.sound c.args.station.now _ _ b.invariant.tells
 
 pub returns-in-Err-2-clause-ok : goal.returns-in-Err-2-clause-ok
 returns-in-Err-2-clause-ok g c =
     let v = c.args.view.now in
     let b = c.loop-station in
     let new = c.advance.new in
-    let s : HasHalted c.in-Err-2.fault b.station new.station b.sheet.text.items b.before new.sheet.text.items new.before = subst (λ (r : Result Bool Fault). Advances r v b.station new.station b.sheet.text.items b.before new.sheet.text.items new.before) c.in-Err-2.is c.in_ok-advance.ensures in
-    halted_told v c.args.n c.in-Err-2.fault b.station new.station b.sheet.text.items new.sheet.text.items b.before new.before s c.args.station.now _ _ b.invariant.tells
+    let s : HasHalted c.in-Err-2.fault b.station new.station b.sheet.text.items b.progress new.sheet.text.items new.progress = subst (λ (r : Result Bool Fault). Advances r v b.station new.station b.sheet.text.items b.progress new.sheet.text.items new.progress) c.in-Err-2.is c.in_ok-advance.ensures.tells in
+    halted_told v c.args.n c.in-Err-2.fault b.station new.station b.sheet.text.items new.sheet.text.items b.progress new.progress s c.args.station.now _ _ b.invariant.tells
 
 pub loop-station-smaller : goal.loop-station-smaller
 loop-station-smaller g c =
@@ -66,8 +78,8 @@ loop-station-smaller g c =
     let b = c.loop-station in
     let new = c.advance.new in
     let is : c.in_ok-advance.field-0 ≡ Ok false = c.in-Ok-false.is ∙ ap (λ (x : Bool). Ok x) c.in-Ok-false.field-0-test in
-    let s : HasStepped false v b.station new.station b.sheet.text.items b.before new.sheet.text.items new.before = subst (λ (r : Result Bool Fault). Advances r v b.station new.station b.sheet.text.items b.before new.sheet.text.items new.before) is c.in_ok-advance.ensures in
-    (step_on v c.args.n b.station new.station b.sheet.text.items new.sheet.text.items b.before new.before s b.invariant.sound b.invariant.owed (sym c.is_before.ensures ∙ c.loop-station-test.true)).nearer
+    let s : HasStepped false v b.station new.station b.sheet.text.items b.progress new.sheet.text.items new.progress = subst (λ (r : Result Bool Fault). Advances r v b.station new.station b.sheet.text.items b.progress new.sheet.text.items new.progress) is c.in_ok-advance.ensures.tells in
+    (step_on v c.args.n b.station new.station b.sheet.text.items new.sheet.text.items b.progress new.progress s b.invariant.sound b.invariant.owed (sym c.is_before.ensures ∙ c.loop-station-test.true)).nearer
 
 pub loop-station-preserved : goal.loop-station-preserved
 loop-station-preserved g c =
@@ -75,15 +87,17 @@ loop-station-preserved g c =
     let b = c.loop-station in
     let new = c.advance.new in
     let is : c.in_ok-advance.field-0 ≡ Ok false = c.in-Ok-false.is ∙ ap (λ (x : Bool). Ok x) c.in-Ok-false.field-0-test in
-    let s : HasStepped false v b.station new.station b.sheet.text.items b.before new.sheet.text.items new.before = subst (λ (r : Result Bool Fault). Advances r v b.station new.station b.sheet.text.items b.before new.sheet.text.items new.before) is c.in_ok-advance.ensures in
+    let s : HasStepped false v b.station new.station b.sheet.text.items b.progress new.sheet.text.items new.progress = subst (λ (r : Result Bool Fault). Advances r v b.station new.station b.sheet.text.items b.progress new.sheet.text.items new.progress) is c.in_ok-advance.ensures.tells in
     let test = sym c.is_before.ensures ∙ c.loop-station-test.true in
-    let on = step_on v c.args.n b.station new.station b.sheet.text.items new.sheet.text.items b.before new.before s b.invariant.sound b.invariant.owed test in record {
-      tells = handed_told v c.args.n c.args.station.now new.station _ _ _ new.sheet.text.items _ new.before c.in_ok-hand_on.ensures.ok
-          (step_told v c.args.n b.station new.station b.sheet.text.items new.sheet.text.items b.before new.before s b.invariant.sound b.invariant.owed test c.args.station.now _ _ b.invariant.tells);
+    let on = step_on v c.args.n b.station new.station b.sheet.text.items new.sheet.text.items b.progress new.progress s b.invariant.sound b.invariant.owed test in record {
+      tells = handed_told v c.args.n c.args.station.now new.station _ _ _ new.sheet.text.items _ new.progress c.in_ok-hand_on.ensures.ok
+          (step_told v c.args.n b.station new.station b.sheet.text.items new.sheet.text.items b.progress new.progress s b.invariant.sound b.invariant.owed test c.args.station.now _ _ b.invariant.tells);
       sound = s.sound;
       working = on.working ∙ b.invariant.working;
-      owed = step_owed v c.args.n b.station new.station b.sheet.text.items new.sheet.text.items b.before new.before s b.invariant.sound b.invariant.owed test;
+      owed = step_owed v c.args.n b.station new.station b.sheet.text.items new.sheet.text.items b.progress new.progress s b.invariant.sound b.invariant.owed test;
       begun = on.begun;
+      counting = counting_more _ c.args.n c.args.station.now b.station new.station b.counts new.counts (sym (ap (λ (owes : Bool). owes || nat_lt b.station.kept.state.time c.args.n) b.invariant.owed) ∙ test)
+          (counted_step false b.station new.station b.counts new.counts _ is c.in_ok-advance.ensures.counted) on.nearer b.invariant.counting;
     }
 
 pub returns-in_err-hand_on-clause-err : goal.returns-in_err-hand_on-clause-err
@@ -92,13 +106,44 @@ returns-in_err-hand_on-clause-err g c =
     let b = c.loop-station in
     let new = c.advance.new in
     let is : c.in_ok-advance.field-0 ≡ Ok false = c.in-Ok-false.is ∙ ap (λ (x : Bool). Ok x) c.in-Ok-false.field-0-test in
-    let s : HasStepped false v b.station new.station b.sheet.text.items b.before new.sheet.text.items new.before = subst (λ (r : Result Bool Fault). Advances r v b.station new.station b.sheet.text.items b.before new.sheet.text.items new.before) is c.in_ok-advance.ensures in
+    let s : HasStepped false v b.station new.station b.sheet.text.items b.progress new.sheet.text.items new.progress = subst (λ (r : Result Bool Fault). Advances r v b.station new.station b.sheet.text.items b.progress new.sheet.text.items new.progress) is c.in_ok-advance.ensures.tells in
     let test = sym c.is_before.ensures ∙ c.loop-station-test.true in
+    let on = step_on v c.args.n b.station new.station b.sheet.text.items new.sheet.text.items b.progress new.progress s b.invariant.sound b.invariant.owed test in
+    let counted = counted_step false b.station new.station b.counts new.counts _ is c.in_ok-advance.ensures.counted in
     at_err c.from_residual-in_err-hand_on.result
-    (cut_part v c.args.n c.args.station.now new.station _ _ _ new.sheet.text.items new.before
-    (step_told v c.args.n b.station new.station b.sheet.text.items new.sheet.text.items b.before new.before s b.invariant.sound b.invariant.owed test c.args.station.now _ _ b.invariant.tells) c.in_err-hand_on.ensures.err)
+    (cut_part v c.args.n c.args.station.now new.station _ _ _ new.sheet.text.items new.counts
+    (counting_done _ c.args.n c.args.station.now new.station new.counts (counting_more _ c.args.n c.args.station.now b.station new.station b.counts new.counts (sym (ap (λ (owes : Bool). owes || nat_lt b.station.kept.state.time c.args.n) b.invariant.owed) ∙ test) counted on.nearer b.invariant.counting)) new.progress
+    (step_told v c.args.n b.station new.station b.sheet.text.items new.sheet.text.items b.progress new.progress s b.invariant.sound b.invariant.owed test c.args.station.now _ _ b.invariant.tells) c.in_err-hand_on.ensures.err)
 
 pub returns-clause-ok : goal.returns-clause-ok
 returns-clause-ok g c =
     let b = c.loop-station in
-    end_told c.args.view.now c.args.n c.args.station.now b.station _ _ b.sheet.text.items b.before b.invariant.tells b.invariant.owed (sym c.is_before.ensures ∙ c.loop-station-test.false) b.invariant.begun
+    end_told c.args.view.now c.args.n c.args.station.now b.station _ _ b.sheet.text.items b.progress b.invariant.tells b.invariant.owed (sym c.is_before.ensures ∙ c.loop-station-test.false) b.invariant.begun
+
+-- What is counted.
+
+pub returns-in-Ok-true-clause-counted : goal.returns-in-Ok-true-clause-counted
+returns-in-Ok-true-clause-counted g c =
+    let b = c.loop-station in
+    let new = c.advance.new in
+    let is : c.in_ok-advance.field-0 ≡ Ok true = c.in-Ok-true.is ∙ ap (λ (x : Bool). Ok x) c.in-Ok-true.field-0-test in
+    let test = sym c.is_before.ensures ∙ c.loop-station-test.true in
+    counting_last _ c.args.n c.args.station.now b.station new.station b.counts new.counts (sym (ap (λ (owes : Bool). owes || nat_lt b.station.kept.state.time c.args.n) b.invariant.owed) ∙ test)
+    (counted_step true b.station new.station b.counts new.counts _ is c.in_ok-advance.ensures.counted) b.invariant.counting
+
+pub returns-in-Err-2-clause-counted : goal.returns-in-Err-2-clause-counted
+returns-in-Err-2-clause-counted g c =
+    let b = c.loop-station in
+    let new = c.advance.new in
+    counting_cut _ c.args.n c.args.station.now b.station new.station b.counts new.counts
+    (subst (λ (r : Result Bool Fault). CountsStep r b.station new.station b.counts new.counts) c.in-Err-2.is c.in_ok-advance.ensures.counted) b.invariant.counting
+
+pub returns-clause-counted : goal.returns-clause-counted
+returns-clause-counted g c =
+    let b = c.loop-station in
+    counting_done _ c.args.n c.args.station.now b.station b.counts b.invariant.counting
+
+pub advance-requires-clause-few : goal.advance-requires-clause-few
+advance-requires-clause-few g c =
+    let b = c.loop-station in
+    counting_few _ c.args.n c.args.station.now b.station b.counts b.invariant.counting

@@ -1,9 +1,0 @@
-use Rattle.std.proofs.Common.{length, arith}
-use Rattle.std.specs.String.{string_bytes}
-use Rattle.ds_trace.proofs.Processes.{process_more}
-use Rattle.ds_trace.proofs.ends.push_end.Goals as goal
-
-pub loop-process-preserved : goal.loop-process-preserved
-loop-process-preserved g c =
-    process_more c.args.station.now c.loop-process.process (length c.args.station.now.kept.state.processes) (string_bytes c.loop-process.line) _ c.standing-standing.result c.address-address.result c.general.result _
-    (omega (arith, c.loop-process-test.true, c.processes-process-end.ensures.held)) c.loop-process.invariant c.in_ok-push_process.ensures c.standing-standing.ensures c.address-address.ensures c.general.ensures.held

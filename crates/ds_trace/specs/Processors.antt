@@ -1,0 +1,121 @@
+-- What the processor did in a run, and what is told of it. It depends on Random.
+use Rattle.std.specs.Prelude.{codes, decimal, ◌≡◌, ◌⊎◌, ℕ, ◌+◌, ◌*◌, ◌%◌, ◌^◌, Bool, true, false, if◌then◌else◌, List, [], ◌∷◌, ◌++◌, min, nat_lt, is_some, ◌||◌}
+use Rattle.std.specs.List.{All}
+use Rattle.ds_listing.specs.Texts.{hex8}
+use Rattle.ds_tlb.specs.declared.entry.Entry.{Entry}
+use Rattle.ds_pagemap.specs.Machine.{State}
+use Rattle.ds_pagemap.specs.Run.{goes_on, Reaches}
+use Rattle.ds_refinement.specs.Held.{Held}
+use Rattle.ds_refinement.specs.Stands.{Stands}
+use Rattle.ds_refinement.specs.Real.{Through}
+use Rattle.ds_station.specs.declared.stage.Stage.{Stage}
+use Rattle.ds_station.specs.declared.stage.Stage.TheVariants.{Rest, Instruction, Refill, Service, DoubleMiss}
+use Rattle.ds_station.specs.Reads.{stage_of}
+use Rattle.ds_view.specs.declared.view.View.{View}
+use Rattle.ds_view.specs.Views.{has_lines}
+use Rattle.ds_trace.specs.declared.processor.ProcessorCounts.{ProcessorCounts}
+
+-- Counts.
+
+-- nothing is counted
+abbrev pub none_processed : ProcessorCounts
+none_processed = record { instructions = 0; refills = 0; double_misses = 0; services = 0 }
+
+-- what is counted after a step of this stage: a word of the refill handler is an instruction, and a double miss takes a service
+abbrev pub stage_after : ProcessorCounts → Stage → ProcessorCounts
+stage_after c Rest = c
+stage_after c Instruction = record c { instructions = c.instructions + 1 }
+stage_after c Refill = record c { instructions = c.instructions + 1; refills = c.refills + 1 }
+stage_after c Service = record c { services = c.services + 1 }
+stage_after c DoubleMiss = record c { double_misses = c.double_misses + 1; services = c.services + 1 }
+
+-- after a step from what a station holds
+abbrev pub processor_after : ProcessorCounts → Held → ProcessorCounts
+processor_after c h = stage_after c (stage_of h)
+
+-- along steps, the newest first, each by what was held before it
+abbrev pub processor_along : List Held → ProcessorCounts
+processor_along [] = none_processed
+processor_along (last ∷ before) = processor_after (processor_along before) last
+
+-- all that is counted
+abbrev pub total : ProcessorCounts → ℕ
+total c = c.instructions + c.refills + c.double_misses + c.services
+
+-- Texts.
+
+-- a count after its name
+abbrev pub named_text : List ℕ → ℕ → List ℕ
+named_text name count = name ++ decimal count
+
+-- the line of the counts
+abbrev pub processor_line : ProcessorCounts → List ℕ
+processor_line c =
+    named_text (codes "processor instructions ") c.instructions ++ named_text (codes " refills ") c.refills
+    ++ named_text (codes " double ") c.double_misses ++ named_text (codes " services ") c.services ++ codes ", as Random fell\n"
+
+-- what may be done with a page, by the dirty bit
+abbrev pub right_text : Bool → List ℕ
+right_text dirty = if dirty then codes "write" else codes "read"
+
+-- the line of an entry: its slot, the page's address, the address space's number, the frame's address, and what may be done
+abbrev pub entry_line : ℕ → Entry → List ℕ
+entry_line slot e =
+    codes "entry " ++ decimal slot ++ codes " " ++ hex8 (e.vpn % 2 ^ 20 * 2 ^ 12) ++ codes " " ++ decimal e.asid
+    ++ codes " " ++ hex8 (e.pfn % 2 ^ 20 * 2 ^ 12) ++ codes " " ++ right_text e.d ++ codes "\n"
+
+-- an entry that is not valid has no line
+abbrev pub entry_text : ℕ → Entry → List ℕ
+entry_text slot e = if e.v then entry_line slot e else []
+
+-- the lines of entries, of which the first is in this slot
+abbrev pub entries_text : ℕ → List Entry → List ℕ
+entries_text slot [] = []
+entries_text slot (e ∷ rest) = entry_text slot e ++ entries_text (slot + 1) rest
+
+-- what the processor did, and what its buffer holds
+abbrev pub processor_text : ProcessorCounts → List Entry → List ℕ
+processor_text c entries = processor_line c ++ entries_text 0 entries
+
+-- What was counted.
+
+-- a boundary is owed, or the time of a run for n is not over
+abbrev pub IsEarly : ℕ → Held → Type 0
+IsEarly n h = (is_some h.kept.state.owed || nat_lt h.kept.state.time n) ≡ true
+
+-- From the one to the other by real steps, each of which comes before the time n is over; this is what they count.
+pub record StepsTo (n : ℕ) (from to : Held) (c : ProcessorCounts) : Type 0 where
+  pub path : List Held
+  pub through : Through from path to
+  pub early : All (IsEarly n) path
+  pub counts : c ≡ processor_along path
+
+-- Of a run for n from first to last: a station came by real steps from where the run for k was over to where it stands for the
+-- last state, and this text tells what these steps count, and what the buffer holds then. Where the run for k was cut short,
+-- there are no steps.
+pub record HasProcessed (k n : ℕ) (first last : State) (text : List ℕ) : Type 0 where
+  pub begin : State
+  pub reached : Reaches k first begin
+  pub from : Held
+  pub stands : Stands from begin
+  -- there no instruction of a unit is counted
+  pub unbegun : from.own.spent ≡ 0
+  pub to : Held
+  pub counts : ProcessorCounts
+  pub steps : StepsTo n from to counts
+  pub begins : (goes_on k begin ≡ false) ⊎ (steps.path ≡ [])
+  pub comes : Stands to last
+  pub told : text ≡ processor_text counts to.core.entries
+
+-- the time from which on a run for n is told step by step
+abbrev pub told_from : View → ℕ → ℕ
+told_from v n = if has_lines v then min v.from n else n
+
+-- this tells what the processor did if that is wanted, and else nothing
+abbrev pub TellsIf : Bool → ℕ → ℕ → State → State → List ℕ → Type 0
+TellsIf false k n first last text = text ≡ []
+TellsIf true k n first last text = HasProcessed k n first last text
+
+-- as a view wants it
+abbrev pub TellsProcessor : View → ℕ → State → State → List ℕ → Type 0
+TellsProcessor v n first last text = TellsIf v.processor (told_from v n) n first last text
