@@ -1,11 +1,13 @@
 #!/usr/bin/env python3
-"""Tests of tools/trace_model.py: the rows are as it has them, words are written as a listing has them, and a window leaves out lines and nothing else."""
+"""Tests of tools/trace_model.py: the rows are as it has them, words are written as a listing has them, a window leaves out lines and nothing else, and counts add up."""
+import re
+import subprocess
 import sys
 import unittest
 
 sys.dont_write_bytecode = True
 
-from trace_model import DATA, HIDDEN, files_in, image, is_as_expected, rows, text_of, traced  # noqa: E402
+from trace_model import DATA, HIDDEN, cases, files_in, image, is_as_expected, renewed, rows, text_of, traced  # noqa: E402
 
 PERIOD = DATA / "traces" / "period"
 WORDS = "trace ../../policies/two_at_rate_3.toml ../../nothing.input 100".split()
@@ -13,6 +15,22 @@ WORDS = "trace ../../policies/two_at_rate_3.toml ../../nothing.input 100".split(
 
 def lines(*flags):
     return traced(files_in(PERIOD), [*WORDS, *map(str, flags)]).decode().splitlines()
+
+
+def told(found):
+    """The lines of what happens, the counts, and the rest."""
+    begin = next(k for k, it in enumerate(found) if it.startswith(("from ", "time ")))
+    end = next(k for k, it in enumerate(found) if it.startswith("process "))
+    return found[:begin], found[begin:end], found[end:]
+
+
+def count(found, kind):
+    """A number of the first line of the counts."""
+    return int(re.search(rf" {kind} (\d+)", told(found)[1][0])[1])
+
+
+def in_folder(folder, *words):
+    return traced(files_in(DATA / folder), ["trace", *map(str, words)]).decode().splitlines()
 
 
 class Tests(unittest.TestCase):
@@ -30,18 +48,77 @@ class Tests(unittest.TestCase):
             self.assertIn(text, [text_of(int.from_bytes(words[k:k + 4], "little")) for k in (0, 4)])
 
     def test_windows_leave_lines_out_and_nothing_else(self):
-        whole = lines()
+        whole, _, end = told(lines())
         for flags in (("--from", 40), ("--to", 40), ("--from", 30, "--to", 60), ("--process", 2), ("--only", "units"), ("--only", "switches"), ("--only", "end")):
-            part = lines(*flags)
+            part, _, same = told(lines(*flags))
             rest = iter(whole)
             self.assertTrue(all(line in rest for line in part), flags)
             self.assertLess(len(part), len(whole), flags)
-        self.assertEqual(lines("--from", 40)[-20:], whole[-20:])
+            self.assertEqual(end, same, flags)
 
     def test_a_window_and_what_is_outside_it_are_the_whole(self):
-        end = lines("--only", "end")
+        whole = lines()
         for time in (0, 1, 31, 32, 33, 64, 65, 100):
-            self.assertEqual(lines("--to", time)[:-len(end)] + lines("--from", time), lines())
+            before, after = lines("--to", time), lines("--from", time)
+            self.assertEqual(told(before)[0] + told(after)[0], told(whole)[0])
+            for kind in ("units", "idle", "switches", "calls", "denials", "copies", "lost"):
+                self.assertEqual(count(before, kind) + count(after, kind), count(whole, kind), kind)
+
+    def test_counts_are_of_the_lines(self):
+        for folder, *words in (("traces/views", "../../policies/two.toml", "resume.input", 16), ("traces/keys", "two.toml", "few.input", 60), ("examples/labs", "share_copy.toml", "nothing.input", 100)):
+            found = in_folder(folder, *words)
+            happened, counts, _ = told(found)
+            units = [it for it in happened if re.match(r"\d+ \d+ [0-9A-F]{8} ", it)]
+            for kind, number in {
+                "units": len(units),
+                "switches": len([it for it in happened if it.endswith(" runs")]),
+                "calls": len([it for it in units if " syscall  " in it]),
+                "denials": len([it for it in happened if it.startswith("denied ")]),
+                "copies": len([it for it in units if it.endswith(" copy  $2=00000000")]),
+                "lost": sum(int(it.split()[-1]) for it in happened if " lost " in it),
+            }.items():
+                self.assertEqual(number, count(found, kind), kind)
+            for name, kind in (("call", "calls"), ("denied", "denials")):
+                self.assertEqual(sum(int(it.split()[2]) for it in counts if it.startswith(f"{name} ")), count(found, kind), kind)
+
+    def test_neither_a_process_nor_a_kind_changes_the_counts(self):
+        for flags in (("--process", 2), ("--only", "units"), ("--only", "denials"), ("--only", "calls"), ("--only", "switches")):
+            self.assertEqual(told(lines())[1], told(lines(*flags))[1], flags)
+
+    def test_the_end_alone_has_the_time_and_what_the_log_denies(self):
+        found = in_folder("traces/views", "../../policies/two.toml", "resume.input", 16, "--only", "end")
+        self.assertEqual(([], ["time 16", "denied r0 3"]), told(found)[:2])
+
+    def test_who_is_parked_is_so_by_the_last_line_of_it(self):
+        found = told(in_folder("traces/views", "../../policies/two.toml", "resume.input", 16))[2]
+        self.assertEqual("process 1 parked 00400014 by 12 1 00400014 store 00000000 r0 3  $4=00000042", found[0])
+
+    def test_a_file_of_cases_is_written_anew(self):
+        folder = DATA / "traces"
+        text = (folder / "kinds.cases").read_text()
+        words = "trace ../policies/code.toml ../nothing.input 10".split()
+        new, untold = renewed(text.replace("calls 1", "calls 7"), lambda source: files_in(folder, **{"one.s": source}), words)
+        self.assertEqual((text.count("calls 1"), 1), (new.count("calls 1") + 1, new.count("calls 7")))
+        self.assertEqual(["a register is shown with what was loaded, and the next instruction reads the old value"], untold)
+
+    def test_the_labs_show_what_their_commands_write(self):
+        folder = DATA / "examples" / "labs"
+        blocks = [it.replace("\n    ", "\n")[4:] + "\n" for it in re.findall(r"(?<=\n\n)    .*(?:\n    .*)*", (folder / "README.md").read_text())]
+        shown = [(it.strip().split(" | "), text) for it, text in zip(blocks, blocks[1:]) if it.startswith("dsmon trace ") and " | " in it]
+        self.assertEqual(5, len(shown))
+        for (command, filter_), text in shown:
+            written = traced(files_in(folder), command.split()[1:])
+            self.assertEqual(text, subprocess.run(filter_, shell=True, input=written, stdout=subprocess.PIPE, check=True).stdout.decode(), command)
+
+    def test_the_table_of_the_lab_on_the_buffer_is_that_of_its_cases(self):
+        folder = DATA / "examples" / "labs"
+        texts = {name.split()[0]: text for name, _, text in cases((folder / "reach.cases").read_text())} | {"80": (folder / "reach.told").read_text()}
+        counts = {pages: re.search(r"instructions (\d+) refills (\d+)", text).groups() for pages, text in texts.items()}
+        table = re.findall(r"^\| (\d+) \| (\S+) \| (\S+) \| (\S+) \|$", (folder / "README.md").read_text().replace(",", ""), flags=re.M)
+        self.assertEqual(counts, {pages: (instructions, refills) for pages, refills, instructions, _ in table})
+        for pages, refills, instructions, own in table:
+            self.assertEqual(int(instructions), int(own) + 10 * (int(refills) - 1) + 4)
+            self.assertEqual(int(own), int(re.search(r"^time (\d+)$", texts[pages], flags=re.M)[1]))
 
     def test_registers_that_a_touch_may_change_are_nowhere(self):
         for line in lines():

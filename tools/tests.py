@@ -23,6 +23,7 @@ COMMANDS = [  # those that take longest first
     ["tools/test_turns_cases.py"],
     ["tools/test_late_cases.py"],
     ["tools/test_trace_model.py"],
+    ["tools/test_processor_model.py"],
     ["tools/test_reason_cases.py"],
     ["tools/test_refused_memory.py"],
     ["tools/test_refused_growths.py"],

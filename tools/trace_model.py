@@ -3,25 +3,29 @@
 
     tools/trace_model.py FOLDER WORDS..   prints the trace that the words after `dsmon` ask for, with names looked up from FOLDER
     tools/trace_model.py --check          names each row of crates/rows/data whose words begin with `trace` and whose text differs
+    tools/trace_model.py --write          writes the text of each of them anew, and names the cases that the model can't tell
 
-It is written after docs/trace.md, over tools/hostile_model.py, and shares nothing with the program. It has no touch, so it stops
-with NotQuiet at a guest that could tell. Rights that end by themselves are not in it.
+It is written after docs/trace.md, over tools/hostile_model.py, and shares nothing with the program; what the processor did is from
+tools/processor_model.py. It has no touch, so it stops with NotQuiet at a guest that could tell. Rights that end by themselves are not in it.
 """
 import re
 import sys
 import tomllib
+from collections import Counter
 from pathlib import Path
 
 sys.dont_write_bytecode = True
 
-from hostile_model import CODES, LOADS, STORES, Hostile, NotQuiet, decode, encode, signed  # noqa: E402
+from hostile_model import CODES, LOADS, STORES, NotQuiet, decode, encode, signed  # noqa: E402
+from processor_model import Processor  # noqa: E402
 from turns_model import MASK, Denied, assemble  # noqa: E402
 
 DATA = Path(__file__).resolve().parent.parent / "crates" / "rows" / "data"
 BRANCHES = ("beq", "bne", "blez", "bgtz", "bltz", "bgez", "bltzal", "bgezal")
 LINKS, JUMPS = {"jal": 31, "bltzal": 31, "bgezal": 31}, ("j", "jal", "jr", "jalr", *BRANCHES)
 HALVES, HIDDEN = ("andi", "ori", "xori", "lui"), (0, 26, 27)
-CALLS = "exit put get yield time self give take drop wait".split()
+CALLS = "exit put get yield time self give take drop wait unknown".split()
+UNKNOWN, GIVE, COPY = 10, 6, 3
 REFUSALS = {11: "Regions", 12: "NoProcess", 13: "NotPage", 14: "NoGrant", 15: "NotAllowed", 16: "Taken", 17: "TableFull", 18: "NoFrames", 19: "NotGiven"}
 MODES = {1: "read", 2: "write", 3: "copy"}
 
@@ -72,7 +76,7 @@ def begun(read, policy, given, view):
     frames = said.get("frames", len(pages))
     rules = [(it["process"], it["address"], it["right"], names.index(it["page"]) if "page" in it else None, it.get("give", False)) for it in said.get("rule", [])]
     processes = [(it["start"], it.get("line", 0)) for it in said["process"]]
-    return Traced(processes, pages + [bytes(4096)] * (frames - len(pages)), len(names), frames, rules, said.get("rate", 0), events_of(read(given), names), view)
+    return Traced(processes, pages + [bytes(4096)] * (frames - len(pages)), len(names), frames, rules, said.get("rate", 0), events_of(read(given), names), view["random"], view)
 
 
 def events_of(text, names):
@@ -133,15 +137,16 @@ def writes(name, o):
     return 2 if name == "syscall" else None if is_none else o[0]
 
 
-class Traced(Hostile):
+class Traced(Processor):
     """A run that is told."""
 
     def __init__(self, *begun):
         *begun, self.view = begun
+        self.began, self.lines = 0, []
+        self.happened, self.called, self.denied = Counter(), Counter(), Counter()
         super().__init__(*begun)
-        self.lines = []
 
-    # What is told.
+    # What is told, and what is counted.
 
     def shows(self, p):
         return not self.view["processes"] or p in self.view["processes"]
@@ -149,9 +154,31 @@ class Traced(Hostile):
     def tells(self, *kinds):
         return self.view["only"] in (None, *kinds)
 
+    def is_in_view(self):
+        return self.view["from"] <= self.began < self.view["to"]
+
     def tell(self, line):
-        if self.view["from"] <= self.began < self.view["to"]:
+        if self.is_in_view():
             self.lines.append(line)
+
+    def counts(self, *kinds):
+        if self.view["from"] <= self.began and self.view["only"] != "end":  # (what goes unit by unit, up to the run's end, also where `--to` ends before)
+            super().counts(*kinds)
+
+    def count(self, kind, number=1):
+        if self.is_in_view():
+            self.happened[kind] += number
+
+    def count_call(self, number, mode, answer):
+        self.count("call")
+        self.count("copy", (number, mode, answer) == (GIVE, COPY, 0))
+        if self.is_in_view():
+            self.called[min(number, UNKNOWN)] += 1
+
+    def count_denials(self, lines):
+        self.count("denial", len(lines))
+        if self.is_in_view():
+            self.denied.update(map(rule_of, lines))
 
     def word(self, p, address):
         """The word at an address, where the process may fetch it."""
@@ -167,12 +194,13 @@ class Traced(Hostile):
 
     def tell_changes(self, before):
         """Who stands otherwise, who gives way, and who runs."""
+        old, new = before["runner"], self.ready[0] if self.ready else None
+        self.count("switch", old != new)
         if not self.tells("switches"):
             return
         for p, q in self.processes.items():
             if q.state != before["standings"][p] and self.shows(p):
                 self.tell(f"{self.time} {p} {q.state.lower()}")
-        old, new = before["runner"], self.ready[0] if self.ready else None
         if old and old != new and self.processes[old].state == "Ready" and self.shows(old):
             self.tell(f"{self.time} {old} gives way")
         if old != new and any(p and self.shows(p) for p in (old, new)):
@@ -195,10 +223,14 @@ class Traced(Hostile):
         pc, word = q.pc, self.word(p, q.pc)
         name = decode_all(word)[0] if word is not None else None
         slot = self.word(p, pc + 4 & MASK) if name in JUMPS else None
-        call = self.call_text(q.r) if name == "syscall" else ""
+        call, number, mode = self.call_text(q.r) if name == "syscall" else "", q.r[2], q.r[7]
         self.time += self.unit(p)
         logged = self.log[before["logged"]:]
         done = not logged or name == "syscall"
+        self.count("unit")
+        self.count_denials(logged)
+        if call:
+            self.count_call(number, mode, q.r[2])
         if self.tells("units", *(["calls"] if call else [])) and self.shows(p):
             if word is not None:
                 self.tell(f"{time} {p} {pc:08X} {text_of(word)}{call}{self.result(p, word) if done else ''}{self.refusal(call, q.r[2])}")
@@ -211,8 +243,8 @@ class Traced(Hostile):
 
     def call_text(self, r):
         n, a = r[2], r[4:8]
-        words = {1: [f"{a[0] & 255:02X}"], 6: [f"{a[0]:08X}", str(a[1]), f"{a[2]:08X}", MODES.get(a[3], str(a[3]))], 7: [str(a[0]), f"{a[1]:08X}"], 8: [f"{a[0]:08X}"]}
-        return "  " + " ".join([CALLS[n] if n < 10 else "unknown", *words.get(n, [])])
+        words = {1: [f"{a[0] & 255:02X}"], GIVE: [f"{a[0]:08X}", str(a[1]), f"{a[2]:08X}", MODES.get(a[3], str(a[3]))], 7: [str(a[0]), f"{a[1]:08X}"], 8: [f"{a[0]:08X}"]}
+        return "  " + " ".join([CALLS[min(n, UNKNOWN)], *words.get(n, [])])
 
     def refusal(self, call, answer):
         is_about_grants = call.split()[:1] in (["give"], ["take"], ["drop"])
@@ -239,6 +271,7 @@ class Traced(Hostile):
                 self.queues[line].append(byte)
             else:
                 lost += 1
+        self.count("lost", lost)
         if self.tells():
             for line, queue in enumerate(self.queues):
                 for byte in queue[before["queued"][line]:]:
@@ -252,6 +285,7 @@ class Traced(Hostile):
         slice_ = 2 ** (self.rate + 2)
         if self.rate and self.began // slice_ != self.time // slice_ and runner and self.ready[:1] == [runner]:
             self.ready.append(self.ready.pop(0))
+        self.enter()
         self.tell_changes(before)
 
     def turn(self):
@@ -260,14 +294,51 @@ class Traced(Hostile):
             self.unit_half(runner)
         else:
             self.time += 1
+            self.count("idle")
         self.boundary_half(runner)
 
+    # The end.
+
+    def counted(self):
+        """The lines of what was counted; where the end alone is told, of the whole log."""
+        if self.view["only"] == "end":
+            yield f"time {self.time}"
+            denied = Counter(rule_of(line) for line in self.log if not is_refused_command(line))
+        else:
+            n, denied = self.happened, self.denied
+            yield (f"from {self.view['from']} units {n['unit']} idle {n['idle']} switches {n['switch']} calls {n['call']}"
+                   f" denials {n['denial']} copies {n['copy']} lost {n['lost']}")
+            yield from (f"call {CALLS[number]} {self.called[number]}" for number in sorted(self.called))
+        yield from (f"denied {rule} {times}" for rule, times in denied.items())
+
+    def of_the_processor(self):
+        """The lines of what the processor did and of its buffer, where they are asked for."""
+        if not self.view["processor"]:
+            return
+        n = self.done
+        yield f"processor instructions {n['instruction']} refills {n['refill']} double {n['double']} services {n['service']}, as Random fell"
+        yield from self.entries()
+
+    def of_a_process(self, p, q):
+        """The line of a process; of one that is parked, with its last line of the log."""
+        by = [line for line in self.log if line.split(" ")[1] == str(p)] if q.state == "Parked" else []
+        registers = "".join(f"  ${n}={value:08X}" for n, value in enumerate(q.r) if n not in HIDDEN and value)
+        return f"process {p} {q.state.lower()} {q.pc:08X}{''.join(f' by {line}' for line in by[-1:])}{registers}"
+
     def text(self):
-        lines = list(self.lines)
-        for p, q in self.processes.items():
-            registers = "".join(f"  ${n}={value:08X}" for n, value in enumerate(q.r) if n not in HIDDEN and value)
-            lines.append(f"process {p} {q.state.lower()} {q.pc:08X}{registers}")
+        lines = [*self.lines, *self.of_the_processor(), *self.counted(), *(self.of_a_process(*it) for it in self.processes.items())]
         return "".join(f"{line}\n" for line in lines).encode() + super().text()
+
+
+# Lines of the log.
+
+def is_refused_command(line):
+    return line.split(" ")[1] == "command"
+
+
+def rule_of(line):
+    """The rule by which something was denied."""
+    return line.split(" ")[5]
 
 
 # Commands and rows.
@@ -275,10 +346,11 @@ class Traced(Hostile):
 def traced(read, words):
     """What `dsmon` writes for these words, the first of which is `trace`, with a function from a file's name to its text."""
     _, policy, given, n, *flags = [part for word in words for part in word.split("=")]
-    view = {"from": 0, "to": 2**63, "processes": set(), "only": None}
+    view = {"from": 0, "to": 2**63, "processes": set(), "only": None, "processor": "--processor" in flags, "random": 63}
+    flags = [it for it in flags if it != "--processor"]
     for flag, value in zip(flags[::2], flags[1::2]):
         match flag:
-            case "--from" | "--to": view[flag[2:]] = int(value)
+            case "--from" | "--to" | "--random": view[flag[2:]] = int(value)
             case "--process": view["processes"].add(int(value))
             case "--only": view["only"] = value
     run = begun(read, policy, given, view)
@@ -320,7 +392,38 @@ def is_as_expected(read, words, wanted):
         return True
 
 
+def renewed(text, files, words):
+    """The text of a file of cases with what the model has of each, and the names of those that it can't tell. The function makes files of a source."""
+    pieces, untold = re.split(r"^(== .*\n)", text, flags=re.M), []
+    for k in range(2, len(pieces), 2):
+        source, mark, _ = pieces[k].partition("\n--\n")
+        if mark:
+            try:
+                pieces[k] = source + mark + traced(files(source + "\n"), words).decode()
+            except NotQuiet:
+                untold.append(pieces[k - 1][3:-1])
+    return "".join(pieces), untold
+
+
+def write():
+    """Writes the texts of all rows and cases anew."""
+    for line in (DATA / "rows").read_text().splitlines():
+        folder, status, text, *words = line.split(" ")
+        if words[:1] == ["trace"] and status == "0":
+            (DATA / folder / text).write_bytes(traced(files_in(DATA / folder), words))
+    for line in (DATA / "tables").read_text().splitlines():
+        folder, file, name, *words = line.split(" ")
+        if words[:1] == ["trace"]:
+            path = DATA / folder / name
+            text, untold = renewed(path.read_text(), lambda source: files_in(DATA / folder, **{file: source}), words)
+            path.write_text(text)
+            print("".join(f"{folder} {name}: {case}\n" for case in untold), end="")
+
+
 def main(words):
+    if words == ["--write"]:
+        write()
+        return 0
     if words == ["--check"]:
         found = [name for name, *row in rows() if not is_as_expected(*row)]
         print("\n".join(found) or "trace_model: each row of a trace is as the model has it")

@@ -1,0 +1,231 @@
+"""The processor under a run: its translation lookaside buffer, the refill handler and what the monitor serves, as counts and entries.
+
+It is written after docs/machine.md ("The refill handler") and docs/architecture.md ("How a user instruction travels", "Late copies"),
+over tools/hostile_model.py, and shares nothing with the program. The model of a run says what a unit asks for: its fetches, its load
+or its store, in their order. Here that unit is begun again and again until nothing of it is missing.
+"""
+from collections import Counter
+from typing import NamedTuple
+
+from hostile_model import Hostile, NotQuiet
+
+SLOTS, WIRED, NUMBERS = 64, 8, 63
+FIRST_TABLE_PAGE, FIRST_FRAME, EMPTY_TABLE = 0xC0000, 402, 1
+
+
+class Ask(NamedTuple):
+    """An access of a unit: its kind, its address and the one that it has after a touch, and whether it goes by the buffer."""
+
+    kind: str
+    address: int
+    after_touch: int
+    is_mapped: bool
+
+
+class Translation(NamedTuple):
+    """An entry of the buffer: a page of an address space, its frame, and whether that may be read and written."""
+
+    page: int
+    number: int
+    frame: int
+    is_valid: bool
+    is_dirty: bool
+
+
+class Buffer:
+    """64 slots of translations, of which Random names one from 8 on, and of which the first eight take the pages of page tables in turn."""
+
+    def __init__(self, random):
+        self.slots, self.random, self.next_wired = [None] * SLOTS, random, 0
+
+    def find(self, page, number):
+        return next((slot for slot, it in enumerate(self.slots) if it and (it.page, it.number) == (page, number)), None)
+
+    def tick(self):
+        self.random = SLOTS - 1 if self.random == WIRED else self.random - 1
+
+    def put_in_random(self, translation):
+        self.slots[self.random] = translation
+
+    def put_in_turn(self, translation):
+        self.slots[self.next_wired] = translation
+        self.next_wired = (self.next_wired + 1) % WIRED
+
+    def forget(self, page, number):
+        slot = self.find(page, number)
+        if slot is not None:
+            self.slots[slot] = None
+
+
+class Processor(Hostile):
+    """A run with the processor that goes through it, from a start of Random."""
+
+    def __init__(self, *begun):
+        *begun, random = begun
+        super().__init__(*begun)
+        self.buffer, self.done, self.is_known = Buffer(random), Counter(), True
+        self.numbers, self.next_number = {}, 1
+        self.lies, self.marked = list(range(self.frames)), [False] * self.frames
+        self.places = {p: [None] * 4 for p in self.processes}
+        self.asks = None
+        self.place_tables()
+        self.enter()
+
+    # Address spaces, page tables and frames.
+
+    def enter(self):
+        """Who is first has the number of an address space; where all were handed out, everybody loses theirs, and the buffer is empty."""
+        if not self.ready or self.ready[0] in self.numbers:
+            return
+        if self.next_number > NUMBERS:
+            self.numbers, self.next_number, self.buffer.slots = {}, 1, [None] * SLOTS
+        self.numbers[self.ready[0]] = self.next_number
+        self.next_number += 1
+
+    def place_tables(self):
+        """Each region of a process with an entry has the first of its four places for tables that is free."""
+        for p, places in self.places.items():
+            regions = [at >> 22 for q, at in self.table if q == p]
+            places[:] = [it if it in regions else None for it in places]
+            for region in regions:
+                if region not in places:
+                    places[places.index(None)] = region
+
+    def table_frame(self, p, region):
+        places = self.places[p]
+        return 2 + 4 * (p - 1) + places.index(region) if region in places else EMPTY_TABLE
+
+    def translation(self, p, page):
+        """What the page tables of a process have for a page, or what there is for a page of them."""
+        number = self.numbers[p]
+        if page >= FIRST_TABLE_PAGE:
+            return Translation(page, number, self.table_frame(p, page - FIRST_TABLE_PAGE), True, False)
+        entry = self.entry(p, page << 12)
+        if entry.right == "none":
+            return Translation(page, number, 0, False, False)
+        return Translation(page, number, FIRST_FRAME + self.lies[entry.page], True, entry.right == "write" and not self.marked[entry.page])
+
+    def rewrite(self, page):
+        """Where a page lies, or whether it is marked, is another: so are all that the buffer has of it."""
+        for (p, address), entry in self.table.items():
+            slot = self.buffer.find(address >> 12, self.numbers.get(p))
+            if entry.page == page and slot is not None:
+                self.buffer.slots[slot] = self.translation(p, address >> 12)
+
+    def copy_late(self, p, address):
+        """A page that is stored to gets a frame of its own, the first in which no page lies, where another lies in its frame."""
+        page = self.entry(p, address - address % 4096).page
+        lying = [self.lies[it] for it in self.live_pages()]
+        if lying.count(self.lies[page]) > 1:
+            self.lies[page] = min(set(range(self.frames)) - set(lying))
+        self.marked[page] = False
+        self.rewrite(page)
+
+    # What changes them.
+
+    def changes(self, verb, p, address):
+        if verb == "end":
+            self.numbers.pop(p, None)
+        elif p in self.numbers:
+            self.buffer.forget(address >> 12, self.numbers[p])
+            self.buffer.forget(FIRST_TABLE_PAGE + (address >> 22), self.numbers[p])
+
+    def give(self, p, address, receiver, to, mode):
+        number = super().give(p, address, receiver, to, mode)
+        if not number and mode == 3:
+            page, copy = self.table[p, address].page, self.table[receiver, to].page
+            self.lies[copy] = self.lies[page]
+            self.marked[page] = self.marked[copy] = True
+            self.rewrite(page)
+        return number
+
+    def obey(self, verb, *words):
+        super().obey(verb, *words)
+        self.place_tables()
+
+    # A unit.
+
+    def at(self, p, kind, address, size):
+        if self.asks is not None:
+            self.asks.append(Ask(kind, address, address, address % size == 0 and address < 2**31))
+        return super().at(p, kind, address, size)
+
+    def accessed(self, p, q, kind, base, offset, size):
+        found = super().accessed(p, q, kind, base, offset, size)
+        if base == 26:  # (the access was looked at with what the register holds, and with 0)
+            *self.asks, before, after = self.asks
+            self.asks.append(before._replace(after_touch=after.address))
+            self.is_known &= before == after
+        return found
+
+    def unit(self, p):
+        self.asks = []
+        ticks = super().unit(p)
+        if self.asks is not None:
+            self.go_through(p)
+        if self.processes[p].state == "Parked":
+            self.serve("end")
+        self.enter()
+        return ticks
+
+    def call(self, p, q):
+        self.go_through(p)
+        self.serve("end")
+        super().call(p, q)
+        self.place_tables()
+
+    def go_through(self, p):
+        """The unit of which all that it asks for is known."""
+        asks, self.asks = self.asks, None
+        while not self.begin(p, asks):
+            asks = [it._replace(address=it.after_touch) for it in asks]
+
+    def begin(self, p, asks):
+        """The unit from its beginning to its end, or to the first thing for which it has to begin again: whether it came to its end."""
+        for ask in asks:
+            if ask.kind == "fetch":
+                self.instructions(1)
+            if not ask.is_mapped:
+                continue
+            slot = self.buffer.find(ask.address >> 12, self.numbers[p])
+            if slot is None:
+                self.refill(p, ask.address >> 12)
+                return False
+            if ask.kind == "store" and not self.buffer.slots[slot].is_dirty and self.entry(p, ask.address - ask.address % 4096).right == "write":
+                self.serve("copy")
+                self.copy_late(p, ask.address)
+                return False
+        return True
+
+    def refill(self, p, page):
+        """The nine words of the handler; or the first three, where the third misses, and the service of that."""
+        self.counts("refill")
+        self.instructions(3)
+        table = FIRST_TABLE_PAGE + (page >> 10)
+        if self.buffer.find(table, self.numbers[p]) is None:
+            self.serve("double")
+            self.buffer.put_in_turn(self.translation(p, table))
+            return
+        self.instructions(3)
+        self.buffer.put_in_random(self.translation(p, page))
+        self.instructions(3)
+
+    def instructions(self, n):
+        for _ in range(n):
+            self.counts("instruction")
+            self.buffer.tick()
+
+    def serve(self, kind):
+        self.counts("service", kind)
+
+    def counts(self, *kinds):
+        """Each of these happened once more."""
+        self.done.update(kinds)
+
+    def entries(self):
+        """The lines of the valid entries."""
+        if not self.is_known:
+            raise NotQuiet
+        for slot, it in enumerate(self.buffer.slots):
+            if it and it.is_valid:
+                yield f"entry {slot} {it.page << 12:08X} {it.number} {it.frame << 12:08X} {'write' if it.is_dirty else 'read'}"

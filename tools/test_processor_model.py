@@ -1,0 +1,186 @@
+#!/usr/bin/env python3
+"""Tests of tools/processor_model.py: units that were counted by hand, the longest unit, and what holds in each run."""
+import sys
+import unittest
+
+sys.dont_write_bytecode = True
+
+import trace_model  # noqa: E402
+import unit_course  # noqa: E402
+from hostile_model import signed  # noqa: E402
+from trace_model import DATA, MASK, Traced, cases, files_in, rows, traced  # noqa: E402
+
+PUT_A = "trace ../../policies/code.toml ../../nothing.input".split()
+
+
+class Touched(Traced):
+    """A run in which register 26 is lost before it is the base of an access, but after the access was asked for by what it held."""
+
+    def accessed(self, p, q, kind, base, offset, size):
+        held = q.r[26]
+        if base == 26:
+            q.r[26] = 0
+        found = super().accessed(p, q, kind, base, offset, size)
+        if base == 26:
+            self.asks[-1] = self.asks[-1]._replace(address=held + signed(offset, 16) & MASK)
+        return found
+
+
+def begun(read, policy, given, kind=Traced, random=63):
+    trace_model.Traced, was = kind, trace_model.Traced
+    try:
+        view = {"from": 0, "to": 2**63, "processes": set(), "only": None, "processor": True, "random": random}
+        return trace_model.begun(read, policy, given, view)
+    finally:
+        trace_model.Traced = was
+
+
+def turns(run, n):
+    """What each unit of a run took: its address and its counts."""
+    while run.time < n and any(q.state != "Ended" for q in run.processes.values()):
+        runner, before = run.ready[0] if run.ready else None, dict(run.done)
+        pc = run.processes[runner].pc if runner else None
+        run.turn()
+        if runner:
+            yield pc, {kind: times - before.get(kind, 0) for kind, times in run.done.items() if times > before.get(kind, 0)}
+
+
+def told(*flags):
+    """The lines of the processor of the run that puts A."""
+    lines = traced(files_in(DATA / "runs" / "put_a"), [*PUT_A, *map(str, flags)]).decode().splitlines()
+    return [it for it in lines if it.startswith(("processor", "entry"))]
+
+
+def case(text, policy=None):
+    """The run of a source in place of that of `put_a`, perhaps by another policy."""
+    files = {"one.s": text, **({"p": policy} if policy else {})}
+    return begun(files_in(DATA / "runs" / "put_a", **files), "p" if policy else "../../policies/code.toml", "../../nothing.input")
+
+
+class Tests(unittest.TestCase):
+    # The first instruction misses its page: 1 instruction. Of the handler 3 words are done, and the third misses the page of the page table:
+    # a double miss, and 1 service. The instruction begins again, 1, and misses again; all 9 words are done, and the seventh writes the
+    # slot that Random names; it begins once more, 1, and is done. So the unit takes 1 + 3 + 1 + 9 + 1 = 15 instructions and begins 2 refills.
+    # The other four units take 1 each, and two of them are calls, with a service each: 19 instructions and 3 services.
+    #
+    # Random is 63 before the first instruction, and one less after each. Before the seventh word of the second refill 1 + 3 + 1 + 6 = 11 are
+    # begun: it is 52. From a start of 8 on it goes on with 63 after one step, so it is 53 there.
+    def test_the_run_that_puts_a(self):
+        counts = "processor instructions 19 refills 2 double 1 services 3, as Random fell"
+        table, code = "entry 0 C0001000 1 00002000 read", "00400000 1 00192000 read"
+        self.assertEqual([counts, table, f"entry 52 {code}"], told(100, "--processor"))
+        self.assertEqual([counts, table, f"entry 53 {code}"], told(100, "--processor", "--random", 8))
+        self.assertEqual([(0x400000, {"instruction": 15, "refill": 2, "double": 1, "service": 1})], list(turns(case("nop"), 1)))
+
+    def test_nothing_is_done_where_no_tick_passes(self):
+        self.assertEqual(["processor instructions 0 refills 0 double 0 services 0, as Random fell"], told(0, "--processor"))
+
+    def test_a_later_beginning_counts_what_comes_from_then_on(self):
+        self.assertEqual("processor instructions 4 refills 0 double 0 services 2, as Random fell", told(100, "--processor", "--from", 1)[0])
+        self.assertEqual("processor instructions 1 refills 0 double 0 services 1, as Random fell", told(100, "--processor", "--from", 4, "--to", 0)[0])
+
+    def test_with_the_end_alone_nothing_is_counted_and_the_entries_are_told(self):
+        nothing, *entries = told(100, "--processor", "--only", "end")
+        self.assertEqual("processor instructions 0 refills 0 double 0 services 0, as Random fell", nothing)
+        self.assertEqual(told(100, "--processor")[1:], entries)
+
+    # docs/architecture.md, "How a user instruction travels": steps 1 to 4, 6 to 15, 16 to 25 and 26 are instructions and words, 5 a service.
+    def test_a_load_that_misses_its_instruction_and_its_data(self):
+        found = list(turns(case("lui $8,0x41\n.space 4092\nlw $9,0($8)", TWO_PAGES), 1025))
+        self.assertEqual({"instruction": 21, "refill": 2}, found[1024][1])
+
+    # The page of the instruction with that of its table, 1 + 3 + 1 + 9; then the page of address 0 with that of its table, of which the entry
+    # is not valid: 1 + 3 + 1 + 9 + 1.
+    def test_a_load_that_is_denied(self):
+        self.assertEqual([(0x400000, {"instruction": 29, "refill": 4, "double": 2, "service": 3, "end": 1})], list(turns(case("lw $9,0($8)"), 1)))
+
+    # docs/architecture.md, "Late copies": one exception, one service, and the store is done when the unit begins again.
+    def test_a_late_copy(self):
+        run = begun(files_in(DATA / "examples"), "late_copy.toml", "late_copy.input")
+        copies = [(pc, counts) for pc, counts in turns(run, 1000) if "copy" in counts]
+        self.assertTrue(copies)
+        self.assertTrue(all(counts["service"] == 1 + counts.get("double", 0) for _, counts in copies), copies)
+
+    # crates/rows/data/runs/longest_unit says how it comes to 61; tools/unit_course.py that none is longer.
+    # The course that tools/unit_course.py has of a unit, where these pages are not in the buffer at first and nothing is pushed out.
+    def test_a_unit_goes_as_its_course(self):
+        for missing, found in (("Ff", list(turns(case("nop"), 1))), ("FfAaEe", list(turns(case("lw $9,0($8)"), 1)))):
+            course = unit_course.State(False, ("begun",), frozenset("FSAEfsae") - set(missing), False, frozenset("AE"))
+            while course.place != ("service",):
+                course = unit_course.nexts(course)[0]
+            [(_, counts)] = found
+            self.assertEqual((course.spent, course.refills, course.tables), (counts["instruction"], counts["refill"] - counts["double"], counts["double"]))
+
+    def test_the_longest_unit(self):
+        for random in (8, 35, 63):
+            run = begun(files_in(DATA / "runs" / "longest_unit"), "policy.toml", "input", Touched, random)
+            found = dict(turns(run, 100))
+            self.assertEqual({"instruction": 61, "refill": 7, "double": 3, "copy": 1, "service": 4}, found[0x7FFFFC])
+            self.assertEqual(unit_course.EXPECTED["instructions"], max(it["instruction"] for it in found.values()))
+
+    # docs/machine.md, the example at the end of "The refill handler".
+    def test_numbers_run_out(self):
+        run = case("on: addiu $2,$0,3\nsyscall\nj on\nnop", MANY)
+        self.assertEqual(126, len(list(turns(run, 126))))
+        self.assertEqual(({64: 1}, []), (run.numbers, [it for it in run.buffer.slots if it]))
+        self.assertEqual(2, len(list(turns(run, 128))))
+        self.assertEqual(({64: 1, 1: 2}, {0xC0001: 0x2 + 4 * 63, 0x400: 402}), (run.numbers, {it.page: it.frame for it in run.buffer.slots if it}))
+
+    def test_programs_that_were_drawn_leave_the_buffer_as_it_may_be(self):
+        for name in ("alone", "two", "two_by_the_clock"):
+            for title, source, _ in list(cases((DATA / "hostile" / f"{name}.cases").read_text()))[:8]:
+                run = begun(files_in(DATA / "hostile", **{"one.s": source}), f"{name}.toml", f"{name}.input")
+                self.assertGreater(len(list(turns(run, 1000))), 10, title)
+                self.hold(run, title)
+
+    def test_no_unit_takes_more_than_the_course_of_a_unit_has(self):
+        for line, read, (_, policy, given, n, *_), _ in rows():
+            run = begun(read, policy, given)
+            try:
+                for _, it in turns(run, min(int(n), 2000)):
+                    self.assertLessEqual(it["instruction"], unit_course.EXPECTED["instructions"], line)
+                    self.assertLessEqual(it.get("refill", 0) - it.get("double", 0), unit_course.EXPECTED["tlbwr"], line)
+                    self.assertLessEqual(it.get("double", 0), unit_course.EXPECTED["entries of page tables"], line)
+                    self.assertLessEqual(it.get("double", 0) + it.get("copy", 0), unit_course.EXPECTED["services after which it goes on"], line)
+            except trace_model.NotQuiet:
+                continue
+            self.assertEqual((63 - run.done["instruction"] - 8) % 56 + 8, run.buffer.random, line)
+            self.hold(run, line)
+
+    def hold(self, run, line):
+        """No page of an address space has two entries, and those of a process's are what it is granted."""
+        held = [it for it in run.buffer.slots if it]
+        self.assertEqual(len(held), len({(it.page, it.number) for it in held}), line)
+        for p, number in run.numbers.items():
+            for it in held:
+                if it.number == number:
+                    self.assertEqual(run.translation(p, it.page), it, line)
+        for slot, it in enumerate(run.buffer.slots):
+            self.assertTrue(it is None or (slot < 8) == (it.page >= 0xC0000), line)
+
+
+TWO_PAGES = """
+version = 1
+frames = 4
+process = [{ start = 0x00400000, line = 0 }]
+page = [{ name = "code", source = "one.s", part = 0 }, { name = "more", source = "one.s", part = 1 }, { name = "data" }]
+rule = [
+    { process = 1, address = 0x00400000, right = "read", page = "code" },
+    { process = 1, address = 0x00401000, right = "read", page = "more" },
+    { process = 1, address = 0x00410000, right = "read", page = "data" },
+]
+"""
+
+MANY = """
+version = 1
+frames = 1
+process = [{process}]
+page = [{{ name = "code", source = "one.s", part = 0 }}]
+rule = [{rule}]
+""".format(
+    process=", ".join(["{ start = 0x00400000, line = 0 }"] * 64),
+    rule=", ".join(f'{{ process = {p}, address = 0x00400000, right = "read", page = "code" }}' for p in range(1, 65)),
+)
+
+if __name__ == "__main__":
+    unittest.main()
