@@ -1,8 +1,8 @@
 #!/usr/bin/env python3
-"""Three guests by dsmon, by GXemul and by spim: million guest instructions a second of processor time, the best of three runs.
+"""Six guests by dsmon, by GXemul and by spim: million guest instructions a second of processor time, the best of three runs.
 
-`bench/run --beside` calls this; an emulator that is not installed is named, and left out. The guests are sums.s, pages.s and recursion.s, word
-for word the same for all three: before each stand the lines that set its counter and the address of its data, and after it those by which a
+`bench/run --beside` calls this; an emulator that is not installed is named, and left out. The guests are sums.s, pages.s, recursion.s
+and three that a compiler made of C (bench/compile), word for word the same for all three: before each stand the lines that set its counter and the address of its data, and after it those by which a
 program of that emulator ends. dsmon runs them in user mode with its TLB; GXemul runs them on its `testmips` with an R3000, in kernel mode
 and unmapped, which costs it less; spim has delayed branches and loads turned on. How many instructions a guest takes is what dsmon says.
 """
@@ -18,7 +18,7 @@ from pathlib import Path
 
 HERE = Path(__file__).resolve().parent
 DSMON = HERE.parent / "crates/dsmon/out/dsmon"
-GUESTS = ("sums", "pages", "recursion")
+GUESTS = ("sums", "pages", "recursion", "crc", "sieve", "sort")
 # What one run takes at least, in seconds, so that how it begins and ends does not count.
 LEAST = 1.0
 
