@@ -177,7 +177,7 @@ def verdict(runs):
 
 def fitting(attempt):
     """The runs that a growth which goes through the whole run gives, by the attempt that gives a growth's runs."""
-    growth = GROWTH
+    growth, step, before = GROWTH, STEP, 0
     for _ in range(MOST_BUILDS):
         runs = attempt(growth)
         far = misfit(runs)
@@ -185,7 +185,9 @@ def fitting(attempt):
             if growth != GROWTH:
                 print(f"refused_memory: write GROWTH = {growth}, and one build is enough")
             return runs
-        growth += far
+        # (between a growth too early and one too late, by smaller steps)
+        step = max(step // 2, 1) if far * before < 0 else step
+        growth, before = growth + (step if far > 0 else -step), far
     raise Wrong(f"no growth near {GROWTH} goes through the whole run")
 
 
