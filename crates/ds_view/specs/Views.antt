@@ -1,12 +1,14 @@
 -- Which lines of a trace are told.
-use Rattle.std.specs.Prelude.{ℕ, Bool, true, false, not, ◌&&◌, ◌==◌, nat_le, nat_lt, Option, Some, None}
+use Rattle.std.specs.Prelude.{ℕ, Bool, true, false, not, ◌&&◌, nat_le, nat_lt, Option, Some, None}
+use Rattle.ds_view.specs.Sets.{holds}
+use Rattle.ds_view.specs.declared.processes.Processes.{Processes}
 use Rattle.ds_view.specs.declared.view.Only.{Only}
 use Rattle.ds_view.specs.declared.view.Only.TheVariants.{End, Calls, Denials, Switches, Units}
 use Rattle.ds_view.specs.declared.view.View.{View}
 
 -- all lines
 abbrev pub whole : View
-whole = record { from = 0; to = None; process = None; only = None; processor = false }
+whole = record { from = 0; to = None; processes = None; only = None; processor = false }
 
 -- whether the end alone is told
 abbrev pub is_end : Option Only → Bool
@@ -26,14 +28,14 @@ is_before (Some to) began = nat_lt began to
 abbrev pub shows_turn : View → ℕ → Bool
 shows_turn v began = nat_le v.from began && is_before v.to began
 
--- whether a process is the one that is named; where none is, each is
-abbrev pub is_named : Option ℕ → ℕ → Bool
+-- whether a process is among those that are named; where none is, each is
+abbrev pub is_named : Option Processes → ℕ → Bool
 is_named None p = true
-is_named (Some named) p = named == p
+is_named (Some named) p = holds named p
 
 -- whether a process is told of
 abbrev pub shows_process : View → ℕ → Bool
-shows_process v p = is_named v.process p
+shows_process v p = is_named v.processes p
 
 -- whether units are told, by whether they are calls
 abbrev pub tells_unit : Option Only → Bool → Bool

@@ -1,6 +1,8 @@
 //! Which lines of a trace are told.
 ghost use Rattle.std.specs.Prelude.{◌≡◌};
-ghost use Rattle.ds_view.specs.Views.{has_lines, is_before, is_named, shows_denials, shows_process, shows_rest, shows_switches, shows_turn, shows_unit, whole};
+ghost use Rattle.ds_view.specs.Views.{has_lines, is_before, shows_denials, shows_process, shows_rest, shows_switches, shows_turn, shows_unit, whole};
+
+use crate::processes::Processes;
 
 /// The one kind of line that is told.
 #[derive(Clone, Copy, Debug, PartialEq, Eq)]
@@ -24,8 +26,8 @@ pub struct View {
     pub from: u64,
     /// Nothing is told of a turn that began at this time or later, where there is one.
     pub to: Option<u64>,
-    /// The process of which is told, by its number from 1; all where none is named.
-    pub process: Option<u32>,
+    /// The processes of which is told; all where none is named.
+    pub processes: Option<Processes>,
     /// The one kind of line that is told; all where none is named.
     pub only: Option<Only>,
     /// Whether the end tells what the processor did, which depends on Random.
@@ -41,15 +43,6 @@ fn is_before(to: Option<u64>, began: u64) -> bool
     }
 }
 
-fn is_named(named: Option<u32>, process: u32) -> bool
-    ensures { result ≡ is_named named process }
-{
-    match named {
-        Some(named) => named == process,
-        None => true,
-    }
-}
-
 impl View {
     /// All lines.
     pub fn whole() -> View
@@ -58,7 +51,7 @@ impl View {
         View {
             from: 0,
             to: None,
-            process: None,
+            processes: None,
             only: None,
             processor: false,
         }
@@ -82,7 +75,10 @@ impl View {
     pub fn shows_process(&self, process: u32) -> bool
         ensures { result ≡ shows_process self.now process }
     {
-        is_named(self.process, process)
+        match &self.processes {
+            Some(named) => named.contains(process),
+            None => true,
+        }
     }
 
     /// Whether the lines of a unit are told, by whether it is a call.

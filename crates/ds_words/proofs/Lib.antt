@@ -1,2 +1,3 @@
+mod Numbers
 mod Requests
 pub mod WordLemmas

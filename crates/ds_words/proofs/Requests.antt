@@ -1,6 +1,6 @@
 -- What the words after `run` name.
 use Rattle.std.proofs.Common.{◌≡◌, ◌∙◌, ◌<◌, ◌^◌, ℕ, List, [], sym, ap, refl, subst, Bor}
-use Rattle.std.specs.Prelude.{Option, Some, None, Result, Ok, Err, IfErr, IfOk, IfSome, option_map, is_some, IsSomeAnd, MatchOption}
+use Rattle.std.specs.Prelude.{Option, Some, None, Result, Ok, Err, IfSome, option_map, is_some, IsSomeAnd, MatchOption}
 use Rattle.std.specs.Result.{result_ok}
 use Rattle.std.specs.Str.Parse.{ParsesUnsigned}
 use Rattle.clap.specs.Words.{Text, first_of, first_value, one_of, one_text, rows_of, ReadsOne, TriesOne}

@@ -1,7 +1,7 @@
 -- What clap makes of the program's command line.
 use Rattle.std.proofs.Common.{◌≡◌, ◌∙◌, sym, ap, subst, inl, inr, refl, codes, ℕ, List, [], ◌∷◌, slice_index, arith}
 use Rattle.std.specs.Prelude.{Option, None, Some, option_map}
-use Rattle.clap.specs.Words.{HasKind, IsAmong, Row, Text, fault_of, kind_of, subcommand_of}
+use Rattle.clap.specs.Words.{HasKind, IsAmong, Row, Text, fault_of, kind_of, many_of, subcommand_of}
 use Rattle.clap.specs.declared.error.Error.{Error}
 use Rattle.clap.specs.declared.error.kind.ErrorKind.TheVariants.{OutOfMemory}
 use Rattle.clap.proofs.OnLiterals.{clap_on_literals}
@@ -17,6 +17,13 @@ pub alone : (program : Text) (words : List Text) → words ≡ program ∷ codes
     → AsksForDemo words
 unfolding clap_on_literals
 alone program words same = rw same (record { taken = refl; named = refl })
+
+-- what stands after each `--process` is read, in the order of the words
+pub each_process : (words : List Text)
+    → words ≡ codes "dsmon" ∷ codes "trace" ∷ codes "p" ∷ codes "i" ∷ codes "9" ∷ codes "--process" ∷ codes "3" ∷ codes "--process=1" ∷ []
+    → option_map (λ p. many_of (codes "P") p.1) (subcommand_of dsmon_app words) ≡ Some (Some (codes "3" ∷ codes "1" ∷ []))
+unfolding clap_on_literals
+each_process words same = rw same refl
 
 -- clap takes words that ask for something
 pub taken : (words : List Text) → AsksForSomething words → fault_of dsmon_app words ≡ []

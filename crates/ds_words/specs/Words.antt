@@ -1,16 +1,18 @@
 -- What the program's words ask for, over what clap reads of its command line.
-use Rattle.std.specs.Prelude.{◌≡◌, ◌⊎◌, ◌<◌, ◌^◌, ℕ, List, [], ◌∷◌, Option, Some, None, true, false, codes, option_map}
+use Rattle.std.specs.Prelude.{◌≡◌, ◌⊎◌, ◌<◌, ◌^◌, ⊤, ℕ, List, [], ◌∷◌, Option, Some, None, true, false, codes, option_map}
 use Rattle.std.specs.Str.Parse.{IsNumeral, digits_value, without_leading_plus}
-use Rattle.clap.specs.Words.{App, Row, Rule, Text, fault_of, first_of, one_of, new_app, new_rule, subcommand_of, with_rule, with_subcommand}
+use Rattle.clap.specs.Words.{App, Row, Rule, Text, fault_of, first_of, many_of, one_of, new_app, new_rule, subcommand_of, with_rule, with_subcommand}
 use Rattle.ds_words.specs.declared.words.BareRequest.{BareRequest}
 use Rattle.ds_words.specs.declared.words.CheckRequest.{CheckRequest}
 use Rattle.ds_words.specs.declared.words.ListRequest.{ListRequest}
 use Rattle.ds_view.specs.declared.view.Only.{Only}
 use Rattle.ds_view.specs.declared.view.Only.TheVariants.{End, Calls, Denials, Switches, Units}
 use Rattle.ds_view.specs.declared.view.View.{View}
+use Rattle.ds_view.specs.declared.processes.Processes.{Processes}
+use Rattle.ds_view.specs.Sets.{processes_of}
 use Rattle.ds_words.specs.declared.words.Request.{Request}
 use Rattle.ds_words.specs.declared.words.TraceRequest.{TraceRequest}
-use Rattle.clap.specs.declared.builder.action.ArgAction.TheVariants.{SetTrue}
+use Rattle.clap.specs.declared.builder.action.ArgAction.TheVariants.{Append, SetTrue}
 use Rattle.clap.specs.declared.builder.value_parser.ValueParser.TheVariants.{Unsigned}
 
 -- an argument that has to be there
@@ -54,9 +56,9 @@ from_rule = record (new_rule (codes "FROM")) {
 abbrev pub to_rule : Rule
 to_rule = record (new_rule (codes "TO")) { long = Some (codes "to"); value_names = 1; parser = Some (Unsigned 0 1000000000) }
 
--- `--process P`, from 1 to 100
+-- `--process P`, from 1 to 100, as often as is wanted
 abbrev pub process_rule : Rule
-process_rule = record (new_rule (codes "P")) { long = Some (codes "process"); parser = Some (Unsigned 1 100) }
+process_rule = record (new_rule (codes "P")) { long = Some (codes "process"); action = Some Append; parser = Some (Unsigned 1 100) }
 
 -- `--only KIND`
 abbrev pub only_rule : Rule
@@ -66,11 +68,11 @@ only_rule = record (new_rule (codes "KIND")) { long = Some (codes "only") }
 abbrev pub processor_rule : Rule
 processor_rule = record (new_rule (codes "processor")) { long = Some (codes "processor"); action = Some SetTrue }
 
--- with `[--from T] [--to T] [--process P]`
+-- with `[--from T] [--to T] [--process P]..`
 abbrev pub of_turns : App → App
 of_turns app = with_rule (with_rule (with_rule app from_rule) to_rule) process_rule
 
--- `trace POLICY INPUT N [--random R] [--from T] [--to T] [--process P] [--only KIND] [--processor]`
+-- `trace POLICY INPUT N [--random R] [--from T] [--to T] [--process P].. [--only KIND] [--processor]`
 abbrev pub trace_app : App
 trace_app = with_rule (with_rule (of_turns (of_run (new_app (codes "trace")))) only_rule) processor_rule
 
@@ -149,6 +151,25 @@ IsGiven bits None given = given ≡ None
 IsGiven bits (Some text) None = ⊥
 IsGiven bits (Some text) (Some n) = IsNumber bits (Some text) n
 
+-- texts write numbers of at most so many bits, each the number at its place
+abbrev pub AreNumbers : ℕ → List Text → List ℕ → Type 0
+AreNumbers bits [] [] = ⊤
+AreNumbers bits [] (n ∷ rest) = ⊥
+AreNumbers bits (text ∷ texts) [] = ⊥
+AreNumbers bits (text ∷ texts) (n ∷ rest) = IsNumber bits (Some text) n × AreNumbers bits texts rest
+
+-- texts write the numbers of these processes
+pub record WriteProcesses (texts : List Text) (processes : Processes) : Type 0 where
+  pub numbers : List ℕ
+  pub written : AreNumbers 32 texts numbers
+  pub are : processes ≡ processes_of numbers
+
+-- the processes that are named: those whose numbers the texts write, where there are texts
+abbrev pub NamesProcesses : Option (List Text) → Option Processes → Type 0
+NamesProcesses None named = named ≡ None
+NamesProcesses (Some texts) None = ⊥
+NamesProcesses (Some texts) (Some processes) = WriteProcesses texts processes
+
 -- the word for the one kind of line that is told
 abbrev pub kind_word : Only → Text
 kind_word End = codes "end"
@@ -161,7 +182,7 @@ kind_word Units = codes "units"
 pub record NamesView (rows : List Row) (view : View) : Type 0 where
   pub from : IsNumber 64 (one_of (codes "FROM") rows) view.from
   pub to : IsGiven 32 (one_of (codes "TO") rows) view.to
-  pub process : IsGiven 32 (one_of (codes "P") rows) view.process
+  pub processes : NamesProcesses (many_of (codes "P") rows) view.processes
   pub only : first_of (codes "KIND") rows ≡ option_map kind_word view.only
   pub processor : one_of (codes "processor") rows ≡ Some (codes "true") → view.processor ≡ true
   pub lines : one_of (codes "processor") rows ≡ Some (codes "false") → view.processor ≡ false

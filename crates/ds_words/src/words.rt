@@ -1,12 +1,13 @@
 //! What the program's words ask for.
 ghost use Rattle.std.specs.Prelude.{ℕ, Option, ◌≡◌, ◌↔◌, IfOk, IfSome, None, Some, codes, false, map, option_map, string_bytes};
-ghost use Rattle.clap.specs.Words.{FailsBy, app_of, fault_of, first_of, found_of, new_app, new_rule, one_of, rows_of, rule_of, subcommand_name_of, subcommand_of, subcommand_rows_of, with_rule, with_subcommand};
+ghost use Rattle.clap.specs.Words.{FailsBy, app_of, fault_of, first_of, found_of, many_of, new_app, new_rule, one_of, rows_of, rule_of, subcommand_name_of, subcommand_of, subcommand_rows_of, values_left, with_rule, with_subcommand};
 ghost use Rattle.clap.specs.declared.builder.command.Command.TheViews.{out-Command as fields_of};
-ghost use Rattle.ds_words.specs.Words.{AsksForBare, AsksForCheck, AsksForList, AsksForRun, AsksForSomething, AsksForTrace, IsGiven, NamesBare, NamesCheck, NamesList, NamesRun, NamesTrace, NamesView, bare_app, check_app, command_named, dsmon_app, files_app, from_rule, keys_rule, kind_word, list_app, machine_app, notes_rule, of_files, of_run, of_turns, only_rule, process_rule, processor_rule, quiet_rule, random_rule, required_rule, run_app, time_rule, to_rule, trace_app, words_rule};
+ghost use Rattle.ds_words.specs.Words.{AsksForBare, AsksForCheck, AsksForList, AsksForRun, AsksForSomething, AsksForTrace, IsGiven, NamesBare, NamesCheck, NamesList, NamesProcesses, NamesRun, NamesTrace, NamesView, WriteProcesses, bare_app, check_app, command_named, dsmon_app, files_app, from_rule, keys_rule, kind_word, list_app, machine_app, notes_rule, of_files, of_run, of_turns, only_rule, process_rule, processor_rule, quiet_rule, random_rule, required_rule, run_app, time_rule, to_rule, trace_app, words_rule};
 
 use clap::builder::ValueParser;
+use clap::parser::ValuesRef;
 use clap::{Arg, ArgAction, ArgMatches, Command, Error};
-use ds_view::{Only, View};
+use ds_view::{Only, Processes, View};
 use std::alloc::{AllocError, Global};
 use std::rt::Env;
 use std::{env, io};
@@ -119,7 +120,9 @@ each instruction left, each call by its name, what was logged, what boundaries d
 runs from when on; then how each process stands; and then what the run writes.
 
 A turn is a unit, or a tick in which nobody runs, with the boundary after it. --from, --to, --process
-and --only leave out lines of turns, and change nothing else. KIND is one of these:
+and --only leave out lines of turns. --process may stand more than once: each process that is named is
+told of, and where none is named, all are. With --processor and --to it is told, too, what the buffer
+holds at that time. KIND is one of these:
   units     the units alone
   calls     the units that are calls
   denials   what was denied
@@ -138,6 +141,7 @@ Examples:
     console 0 1
     ..
   dsmon trace policy.toml input.txt 1000000 --from 900000 --process 2
+  dsmon trace policy.toml input.txt 1000 --process 2 --process 3
   dsmon trace policy.toml input.txt 1000 --only calls";
 
 /// What stands at the end of the help of `check`.
@@ -312,8 +316,9 @@ fn process_argument<'a>(alloc: Global) -> Arg<'a>
 {
     Arg::new(alloc, "P")
         .long("process")
+        .action(ArgAction::Append)
         .value_parser(ValueParser::unsigned(1, 100))
-        .help("Of the processes this one alone is told of, from 1 to 100")
+        .help("A process that is told of, from 1 to 100, as often as is wanted; without it all are")
 }
 
 fn only_argument<'a>(alloc: Global) -> Arg<'a>
@@ -577,6 +582,32 @@ fn kind_of<'a>(found: &ArgMatches<'a>) -> Option<Option<Only>>
     }
 }
 
+/// The processes whose numbers the words write.
+fn written_processes(numbers: ValuesRef<'_, '_, u32>) -> Option<Processes>
+    ensures some { IfSome result (λ processes. WriteProcesses (values_left numbers.entry) processes) }
+    ensures none { result ≡ None → (processes : Processes)
+        → ¬ WriteProcesses (values_left numbers.entry) processes }
+{
+    let mut processes = Processes::none();
+    for number in numbers {
+        processes = processes.with(number.ok()?);
+    }
+    Some(processes)
+}
+
+/// The processes of which is told, where any is named.
+fn processes_named<'a>(found: &ArgMatches<'a>) -> Option<Option<Processes>>
+    ensures some { IfSome result (λ named. NamesProcesses
+        (many_of (codes "P") (rows_of (found_of found.now))) named) }
+    ensures none { result ≡ None → (named : Option Processes)
+        → ¬ NamesProcesses (many_of (codes "P") (rows_of (found_of found.now))) named }
+{
+    match found.get_many("P") {
+        Some(numbers) => Some(Some(written_processes(numbers)?)),
+        None => Some(None),
+    }
+}
+
 /// Which lines the words after `trace` ask for.
 fn view_of<'a>(found: &ArgMatches<'a>) -> Option<View>
     ensures some { IfSome result (λ view. NamesView (rows_of (found_of found.now)) view) }
@@ -585,7 +616,7 @@ fn view_of<'a>(found: &ArgMatches<'a>) -> Option<View>
     Some(View {
         from: found.get_one("FROM")?,
         to: given_of(found, "TO")?.map(u64::from),
-        process: given_of(found, "P")?,
+        processes: processes_named(found)?,
         only: kind_of(found)?,
         processor: found.get_flag("processor"),
     })

@@ -18,7 +18,7 @@ returns-clause-some c =
     record {
       from = number_found (λ bs r. ParsesUnsigned 64 10 bs r × ExplainsUnsignedError 10 bs r × HasUnsignedDigitsIfOk bs r) 64 found _ c.get_one.result _ (λ t x g. g.0) c.get_one.ensures.none (λ t e. c.get_one.ensures.value t e) c.in_ok-get_one.was;
       to = subst (λ (given : Option ℕ). IsGiven 32 (one_of _ (rows_of found)) given) (sym same) c.in_ok-given_of.ensures.some;
-      process = c.in_ok-given_of-2.ensures.some;
+      processes = c.in_ok-processes_named.ensures.some;
       only = c.in_ok-kind_of.ensures.some;
       processor = λ is. c.get_flag.ensures.value (one_text-rows found _ ∙ is);
       lines = λ is. c.get_flag.ensures.other (one_text-rows found _ ∙ is);
