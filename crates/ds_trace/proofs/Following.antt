@@ -1,8 +1,9 @@
 -- A station that is followed to the end of a run.
-use Rattle.std.proofs.Common.{◌≡◌, ℕ, ◌<◌, Bool, true, false, List, [], ◌∷◌, Option, Some, None, ◌++◌, ◌+◌, refl, sym, ap, subst, ◌∙◌, inr, arith, zero, suc}
+use Rattle.std.proofs.Common.{◌≡◌, ℕ, ◌<◌, Bool, true, false, List, [], ◌∷◌, Option, Some, None, Result, Ok, ◌++◌, ◌+◌, refl, sym, ap, subst, ◌∙◌, inr, arith, zero, suc}
 use Rattle.std.proofs.lemmas.List.{append-nil}
 use Rattle.std.specs.Prelude.{◌||◌, ◌&&◌, not, nat_lt, is_some}
 use Rattle.std.proofs.lemmas.Bool.Decides.{nat_tests}
+use Rattle.std.specs.String.{string_bytes}
 use Rattle.ds_log.specs.Sent.{AppendsPart}
 use Rattle.ds_log.proofs.Sends.{appends_both, appends_none, part_before, part_behind}
 use Rattle.std.specs.Io.KnownBytes.{Appends}
@@ -29,15 +30,16 @@ use Rattle.ds_station.specs.declared.fault.Fault.{Fault}
 use Rattle.ds_station.specs.declared.fault.Fault.TheVariants as fault
 use Rattle.ds_view.specs.declared.view.View.{View}
 use Rattle.ds_trace.specs.declared.processor.ProcessorCounts.{ProcessorCounts}
-use Rattle.ds_trace.specs.Processors.{none_processed, told_from}
-use Rattle.ds_trace.specs.Counted.{HasCounted}
+use Rattle.ds_trace.specs.declared.window.WindowEnd.{WindowEnd}
+use Rattle.ds_trace.specs.Processors.{IsEarly, is_within, left_along, left_by, none_processed, told_from, window_end, window_text}
+use Rattle.ds_trace.specs.Counted.{CountsStep, HasCounted, IsCounting, IsWatched, WatchesAfter, WatchesAt}
 use Rattle.ds_trace.specs.declared.progress.Progress.{Progress}
 use Rattle.ds_trace.specs.Counts.{Counted, none_counted}
 use Rattle.ds_trace.specs.Traces.{told_to}
 use Rattle.ds_trace.specs.Shows.{looked_held, end_held, processor_held, IsTold, TellsSo, TellsAll, IsStopped, Traces, TracesPart}
 use Rattle.ds_trace.specs.Advanced.{Adds, HasStepped, HasHalted, is_last}
 use Rattle.ds_trace.specs.Handed.{IsFinished, IsHandedOn, IsLate}
-use Rattle.ds_trace.proofs.Processing.{nothing_counted, processor_told}
+use Rattle.ds_trace.proofs.Processing.{counted_step, counting_last, counting_more, never_out, nothing_counted, processor_told, watched_more, watched_step, within_before}
 use Rattle.ds_trace.proofs.Silence.{untold_until, until_within, until_silent}
 use Rattle.ds_trace.proofs.Telling.{told_first, told_inside, told_same, told_unit, told_boundary, told_handed, told_part, finished, finished_part, going_now}
 
@@ -83,6 +85,14 @@ owed_after v Unit h new text more b c last moves adds is = ap (λ (x : Progress)
 owed_after v Boundary h new text more b c last moves adds is = ap (λ (x : Progress). x.before.owed) adds.1 ∙ sym (ap is_some moves.0)
 owed_after v Over h new text more b c last moves adds is = absurd (cc)
 
+-- what is told of a run is told of where it came
+tells_within : (v : View) (n : ℕ) (from h : Held) (a d : Option (List ℕ)) (text : List ℕ) (b : Progress) → TellsSo v n from h a d text b → RunsWithin n from h
+tells_within v n from h a d text b tells = record {
+  runs = λ m k.
+      let told = tells.tells m k in
+      (touched told.early (after n told.choices m), record { choices = told.choices; early = told.early; comes_to = refl }, told.stands);
+}
+
 -- a step that was not the last, of a run before its end
 module _ (v : View) (n : ℕ) (h new : Held) (text more : List ℕ) (b c : Progress) (s : HasStepped false v h new text b more c) (sound : IsSound h) (owed : b.before.owed ≡ is_some h.kept.state.owed) (test : (b.before.owed || nat_lt h.kept.state.time n) ≡ true) where
   step_going : held_goes_on n h ≡ true
@@ -96,6 +106,25 @@ module _ (v : View) (n : ℕ) (h new : Held) (text more : List ℕ) (b c : Progr
 
   pub step_told : (from : Held) (a d : Option (List ℕ)) → TellsSo v n from h a d text b → TellsSo v n from new a d more c
   step_told from a d tells = record { tells = λ m k. told_step v n m h new a d text more b c s.step s.is s.does s.adds step_going (tells.tells m k) }
+
+  -- a step that leaves a window comes between two turns
+  step_unbegun : (window : Option ℕ) → is_within window h ≡ true → is_within window new ≡ false → new.own.spent ≡ 0
+  step_unbegun None inside out = absurd (never_out (is_some new.kept.state.owed) out)
+  step_unbegun (Some end) inside out =
+      let going : held_goes_on end h ≡ true = going_now s.step end h new sound.state sound.stands s.is s.does.follows (early_by h.kept.state.owed h.kept.state.time end (is_some h.kept.state.owed) refl inside) in
+      none_begun new.kept.state.owed new.kept.state.time end new.own.spent (is_some new.kept.state.owed) refl out (step_goes s.step end h new going sound s.does).begun
+
+  step_watched : (window : Option ℕ) (from : Held) (a d : Option (List ℕ)) (before : Option Held) (e f : WindowEnd) → TellsSo v n from h a d text b → WatchesAt c.before.owed new e f
+      → IsWatched window n from (left_by window before h) e → IsWatched window n from (left_by window (left_by window before h) new) f
+  step_watched window from a d before e f tells watches watched =
+      watched_more window n from new c.before.owed e f step_owed watches (left_by window before h)
+      (λ none out. (step_unbegun window (within_before window before h none) out, tells_within v n from new a d more c (step_told from a d tells))) watched
+
+  pub step_counting : (window : Option ℕ) (k : ℕ) (from : Held) (a d : Option (List ℕ)) (p q : ProcessorCounts) (e f : WindowEnd) (r : Result Bool Fault) → r ≡ Ok false → CountsStep r h new p q → WatchesAfter r c.before.owed new e f
+      → TellsSo v n from h a d text b → IsCounting window k n from h p e → IsCounting window k n from new q f
+  step_counting window k from a d p q e f r is counts watches tells counting =
+      counting_more window k n from h new p q e f (sym (ap (λ (owes : Bool). owes || nat_lt h.kept.state.time n) owed) ∙ test) (counted_step false h new p q r is counts) step_on.nearer counting
+      (step_watched window from a d (left_along window counting.steps.path) e f tells (watched_step false c.before.owed new e f r is watches) counting.watched)
 
 -- The last step.
 
@@ -144,6 +173,25 @@ module _ (v : View) (n : ℕ) (h new : Held) (text more : List ℕ) (b c : Progr
 
   last_none : new.own.spent ≡ 0
   last_none = ap (λ (x : Held). x.own.spent) last.same ∙ last_spent h sound.state sound.stands last.owed last.over
+
+  last_owed : b.before.owed ≡ is_some h.kept.state.owed → c.before.owed ≡ is_some new.kept.state.owed
+  last_owed owed = ap (λ (x : Progress). x.before.owed) last.looked ∙ (owed ∙ sym (ap (λ (x : Held). is_some x.kept.state.owed) last.same))
+
+  -- it leaves no window
+  last_within : (window : Option ℕ) → is_within window h ≡ true → is_within window new ≡ false → ⊥
+  last_within window inside out = let no : true ≡ false = sym inside ∙ (sym (ap (is_within window) last.same) ∙ out) in cc
+
+  last_watched : (window : Option ℕ) (from : Held) (before : Option Held) (e f : WindowEnd) → b.before.owed ≡ is_some h.kept.state.owed → WatchesAt c.before.owed new e f
+      → IsWatched window n from (left_by window before h) e → IsWatched window n from (left_by window (left_by window before h) new) f
+  last_watched window from before e f owed watches watched =
+      watched_more window n from new c.before.owed e f (last_owed owed) watches (left_by window before h)
+      (λ none out. absurd (last_within window (within_before window before h none) out)) watched
+
+  pub last_counting : (window : Option ℕ) (k : ℕ) (from : Held) (p q : ProcessorCounts) (e f : WindowEnd) (r : Result Bool Fault) → r ≡ Ok true → CountsStep r h new p q → WatchesAfter r c.before.owed new e f
+      → IsEarly n h → b.before.owed ≡ is_some h.kept.state.owed → IsCounting window k n from h p e → HasCounted window k n from new q (string_bytes f.lines)
+  last_counting window k from p q e f r is counts watches early owed counting =
+      counting_last window k n from h new p q e f early (counted_step true h new p q r is counts) counting
+      (last_watched window from (left_along window counting.steps.path) e f owed (watched_step true c.before.owed new e f r is watches) counting.watched)
 
   last_tells : (from : Held) (a d : Option (List ℕ)) → TellsSo v n from h a d text b → TellsSo v n from new a d more c
   last_tells from a d tells =
@@ -205,6 +253,12 @@ module _ (v : View) (n : ℕ) (from new : Held) (a : Option (List ℕ)) (unowed 
   first_told text b empty looks uncounted = subst (λ (l : List ℕ). TellsSo v n from new a a l b) (sym empty)
       (record { tells = λ m k. told_first v (untold_until v n) n m from new a b (until_within v n) (until_silent v n) k runs unowed owes none looks uncounted })
 
+  -- so a run came there
+  pub first_within : RunsWithin n from new
+  first_within =
+      let b : Progress = record { before = looked_held false new; counts = none_counted } in
+      tells_within v n from new a a [] b (first_told [] b refl refl refl)
+
   -- where a fault cuts that short
   pub cut_early : (f : Fault) (text : List ℕ) (k : Counted) → text ≡ [] → k ≡ none_counted → IsNewFault f → TellsAll (Some f) v n from new a a text k
   cut_early f text k empty uncounted is =
@@ -224,27 +278,27 @@ pub handed_told : (v : View) (n : ℕ) (from h : Held) (a d e : Option (List ℕ
 handed_told v n from h a d e text rest b handed tells = record { tells = λ m k. told_handed v n m h a d e text rest b handed (tells.tells m k) }
 
 -- with what is counted
-module _ (v : View) (n : ℕ) (from h : Held) (a d e : Option (List ℕ)) (text : List ℕ) (c : ProcessorCounts) (counted : HasCounted (told_from v n) n from h c) where
+module _ (v : View) (n : ℕ) (from h : Held) (a d e : Option (List ℕ)) (text : List ℕ) (c : ProcessorCounts) (lines : List ℕ) (counted : HasCounted (window_end v) (told_from v n) n from h c lines) where
   -- a write that failed, or memory that ran out, leaves a prefix
   pub cut_part : (b : Progress) → TellsSo v n from h a d text b → AppendsPart d e text → TracesPart v n from a e
   cut_part b tells part = record {
     traces = λ m k.
         let told = tells.tells m k in
-        told_part v n m h a d e text b told (processor_held v c h) (processor_told v n from h c m (touched told.early (after n told.choices m)) counted k told.stands) part;
+        told_part v n m h a d e text b told (processor_held v lines c h) (processor_told v n from h c lines m (touched told.early (after n told.choices m)) counted k told.stands) part;
   }
 
-  pub finished_traces : (counts : Counted) → TellsAll None v n from h a d text counts → IsFinished v counts d e (text ++ processor_held v c h) h → Traces v n from a e
+  pub finished_traces : (counts : Counted) → TellsAll None v n from h a d text counts → IsFinished v counts d e (text ++ processor_held v lines c h) h → Traces v n from a e
   finished_traces counts all done = record {
     traces = λ m k.
         let told = all.tells.tells m k in
-        finished v n m h a d e text all.progress told (processor_held v c h) (processor_told v n from h c m (touched told.early (after n told.choices m)) counted k told.stands) counts all.counts all.spent all.stopped done;
+        finished v n m h a d e text all.progress told (processor_held v lines c h) (processor_told v n from h c lines m (touched told.early (after n told.choices m)) counted k told.stands) counts all.counts all.spent all.stopped done;
   }
 
-  pub cut_traces : (cut : Option Fault) (counts : Counted) → TellsAll cut v n from h a d text counts → AppendsPart d e (text ++ processor_held v c h ++ end_held v counts h ++ held_text h) → TracesPart v n from a e
+  pub cut_traces : (cut : Option Fault) (counts : Counted) → TellsAll cut v n from h a d text counts → AppendsPart d e (text ++ processor_held v lines c h ++ end_held v counts h ++ held_text h) → TracesPart v n from a e
   cut_traces cut counts all part = record {
     traces = λ m k.
         let told = all.tells.tells m k in
-        finished_part v n m h a d e text all.progress told (processor_held v c h) (processor_told v n from h c m (touched told.early (after n told.choices m)) counted k told.stands) counts all.counts all.spent part;
+        finished_part v n m h a d e text all.progress told (processor_held v lines c h) (processor_told v n from h c lines m (touched told.early (after n told.choices m)) counted k told.stands) counts all.counts all.spent part;
   }
 
 -- all of it is a prefix too
@@ -263,15 +317,16 @@ part_none a text = record { part = []; rest = text; whole = refl; appends = appe
 -- so where nothing was done, a prefix is written
 pub nothing_part : (v : View) (n : ℕ) (from : Held) (a : Option (List ℕ)) → from.own.spent ≡ 0 → TracesPart v n from a a
 unfolding after
-nothing_part v n from a none = record {
-  traces = λ m k. record {
-    last = m;
-    reached = record { choices = []; early = false; comes_to = refl };
-    processor = processor_held v none_processed from;
-    processed = processor_told v n from from none_processed m m (nothing_counted (told_from v n) n from none) k k;
-    written = part_none a (told_to v n m m (record { choices = []; early = false; comes_to = refl }) (processor_held v none_processed from) ++ text_of m);
-  };
-}
+nothing_part v n from a none =
+    let lines : List ℕ = window_text (left_by (window_end v) None from) in record {
+      traces = λ m k. record {
+        last = m;
+        reached = record { choices = []; early = false; comes_to = refl };
+        processor = processor_held v lines none_processed from;
+        processed = processor_told v n from from none_processed lines m m (nothing_counted (window_end v) (told_from v n) n from none) k k;
+        written = part_none a (told_to v n m m (record { choices = []; early = false; comes_to = refl }) (processor_held v lines none_processed from) ++ text_of m);
+      };
+    }
 
 -- a fault by which a run was cut short
 pub late_cut : (f : Fault) (n : ℕ) (h : Held) → IsStopped (Some f) n h → IsLate f

@@ -1,19 +1,18 @@
 -- What the processor did in the steps of a run that is followed.
-use Rattle.std.proofs.Common.{◌≡◌, ℕ, ◌<◌, ◌≤◌, ◌+◌, ◌-◌, ◌*◌, ◌^◌, Bool, true, false, cond, List, [], ◌∷◌, ◌++◌, Option, Some, None, Result, Ok, ◌⊎◌, inl, inr, refl, sym, ap, subst, ◌∙◌, arith, append_assoc, drop, length}
-use Rattle.std.specs.Prelude.{slice_get, is_some, ◌||◌, nat_lt}
-use Rattle.std.specs.List.{All}
+use Rattle.std.proofs.Common.{◌≡◌, ℕ, ◌<◌, ◌≤◌, ◌+◌, ◌-◌, ◌*◌, ◌^◌, Bool, true, false, cond, List, [], ◌∷◌, ◌++◌, Option, Some, None, Result, Ok, ◌⊎◌, inl, inr, refl, sym, ap, subst, ◌∙◌, arith, append_assoc, drop}
+use Rattle.std.specs.Prelude.{slice_get, is_some, ◌||◌}
+use Rattle.std.specs.String.{string_bytes}
 use Rattle.std.proofs.lemmas.List.{drop_more}
 use Rattle.std.proofs.lemmas.List.Elements.{All-nil, All-cons}
 use Rattle.std.proofs.lemmas.Option.{slice_get_within, get_or_from_slice_get}
 use Rattle.ds_word.specs.Word.{truth}
 use Rattle.ds_tlb.specs.declared.entry.Entry.{Entry}
-use Rattle.ds_pagemap.specs.Machine.{State, touched}
+use Rattle.ds_pagemap.specs.Machine.{State}
 use Rattle.ds_pagemap.specs.Run.{after, goes_on}
-use Rattle.ds_refinement.specs.Held.{Held, Kept, Own}
-use Rattle.ds_refinement.specs.Counts.{Counts}
+use Rattle.ds_refinement.specs.Held.{Held}
 use Rattle.ds_refinement.specs.Units.{is_served}
 use Rattle.ds_core.specs.Core.{CoreState}
-use Rattle.ds_refinement.specs.Stands.{Agrees, CountedBy, Stands}
+use Rattle.ds_refinement.specs.Stands.{CountedBy, Stands}
 use Rattle.ds_refinement.specs.Steps.{steps_left}
 use Rattle.ds_refinement.specs.Runs.{RunsWithin, held_goes_on}
 use Rattle.ds_refinement.specs.Services.{with_failure}
@@ -25,9 +24,11 @@ use Rattle.ds_station.specs.declared.stage.Stage.{Stage}
 use Rattle.ds_station.specs.declared.stage.Stage.TheVariants.{Rest, Instruction, Refill, Service, DoubleMiss}
 use Rattle.ds_station.specs.Reads.{stage_of}
 use Rattle.ds_view.specs.declared.view.View.{View}
+use Rattle.ds_view.specs.Views.{is_before}
 use Rattle.ds_trace.specs.declared.processor.ProcessorCounts.{ProcessorCounts}
-use Rattle.ds_trace.specs.Processors.{HasProcessed, IsEarly, StepsTo, TellsIf, TellsProcessor, entries_text, entry_text, none_processed, processor_after, processor_along, processor_text, stage_after, told_from, total}
-use Rattle.ds_trace.specs.Counted.{CountsStep, HasCounted, IsCounting, IsStepped}
+use Rattle.ds_trace.specs.declared.window.WindowEnd.{WindowEnd}
+use Rattle.ds_trace.specs.Processors.{HasProcessed, IsEarly, IsPassed, StepsTo, TellsIf, TellsProcessor, entries_text, entry_text, is_within, left_along, left_by, left_text, none_processed, processor_after, processor_text, stage_after, told_from, total, window_end, window_text}
+use Rattle.ds_trace.specs.Counted.{CountsStep, HasCounted, HasLeft, HasPassed, IsCounting, IsStepped, IsWatched, WatchesAfter, WatchesAt, WatchesBy}
 use Rattle.ds_trace.specs.Shows.{processor_held}
 
 -- Few are counted.
@@ -54,8 +55,54 @@ rank_few n h few = by (is_some h.kept.state.owed)
     by false = let left = steps_few h in omega (arith, few, left)
 
 -- so another step can be counted
-pub counting_few : (k n : ℕ) (start h : Held) (c : ProcessorCounts) → IsCounting k n start h c → total c < 2 ^ 62
-counting_few k n start h c counting = let few = counting.few in omega (arith, few)
+pub counting_few : (window : Option ℕ) (k n : ℕ) (start h : Held) (c : ProcessorCounts) (e : WindowEnd) → IsCounting window k n start h c e → total c < 2 ^ 62
+counting_few window k n start h c e counting = let few = counting.few in omega (arith, few)
+
+-- Where a window ends.
+
+-- a window without an end is left at no station
+pub never_out : (b : Bool) → (b || true) ≡ false → ⊥
+never_out true out = cc
+never_out false out = cc
+
+stays_out : (b : Bool) (h : Held) (e d : WindowEnd) → WatchesBy (b || true) h e d → d ≡ e
+stays_out true h e d same = same
+stays_out false h e d same = same
+
+-- a station at which no window was left, nor before it, is within the window
+pub within_before : (window : Option ℕ) (before : Option Held) (h : Held) → left_by window before h ≡ None → is_within window h ≡ true
+within_before window (Some left) h none = absurd (cc)
+within_before window None h none = by (is_within window h) none
+  where
+    by : (b : Bool) → cond b None (Some h) ≡ None → b ≡ true
+    by true none = refl
+    by false none = absurd (cc)
+
+-- what is kept of the end of a window, one station later
+module _ (window : Option ℕ) (n : ℕ) (start new : Held) (owed : Bool) (e d : WindowEnd) (is : owed ≡ is_some new.kept.state.owed) (watches : WatchesAt owed new e d) where
+  watched_by : (b : Bool) → (b ≡ false → HasPassed n start (Some new)) → WatchesBy b new e d → IsWatched window n start None e → IsWatched window n start (cond b None (Some new)) d
+  watched_by true passed same watched = subst (IsWatched window n start None) (sym same) watched
+  watched_by false passed tells watched = record {
+    awaited = tells.0;
+    left = record {
+      passed = passed refl;
+      told = tells.1 ∙ ap (λ (l : List ℕ). l ++ left_text new) watched.left.told;
+    };
+  }
+
+  pub watched_more : (left : Option Held) → (left ≡ None → is_within window new ≡ false → HasPassed n start (Some new)) → IsWatched window n start left e → IsWatched window n start (left_by window left new) d
+  watched_more (Some before) passed watched =
+      let none : WatchesBy (owed || true) new e d = subst (λ (w : Option ℕ). WatchesBy (owed || is_before w new.kept.state.time) new e d) watched.awaited watches in
+      subst (IsWatched window n start (Some before)) (sym (stays_out owed new e d none)) watched
+  watched_more None passed watched =
+      let here : WatchesBy (owed || is_before window new.kept.state.time) new e d = subst (λ (w : Option ℕ). WatchesBy (owed || is_before w new.kept.state.time) new e d) watched.awaited watches in
+      watched_by (is_within window new) (passed refl) (subst (λ (b : Bool). WatchesBy (b || is_before window new.kept.state.time) new e d) is here) watched
+
+-- at the first station
+pub watched_first : (window : Option ℕ) (n : ℕ) (start new : Held) (e d : WindowEnd) → e.awaited ≡ window → string_bytes e.lines ≡ [] → WatchesAt false new e d → new.kept.state.owed ≡ None → new.own.spent ≡ 0 → RunsWithin n start new → IsWatched window n start (left_by window None new) d
+watched_first window n start new e d awaited empty watches owes unbegun within =
+    watched_more window n start new false e d (sym (ap is_some owes)) watches None (λ none out. (unbegun, within))
+    (record { awaited = awaited; left = record { passed = tt; told = empty } })
 
 -- From the beginning to the end.
 
@@ -63,19 +110,25 @@ counting_few k n start h c counting = let few = counting.few in omega (arith, fe
 none_steps : (n : ℕ) (h : Held) (c : ProcessorCounts) → c ≡ none_processed → StepsTo n h h c
 none_steps n h c none = record { path = []; through = refl; early = All-nil (IsEarly n); counts = none }
 
-pub counting_first : (k n : ℕ) (start new : Held) (c : ProcessorCounts) → RunsWithin k start new → held_goes_on k new ≡ false → new.own.spent ≡ 0 → c ≡ none_processed → n ≤ 1000000000 → IsCounting k n start new c
-counting_first k n start new c runs over unbegun none few = record {
+pub counting_first : (window : Option ℕ) (k n : ℕ) (start new : Held) (c : ProcessorCounts) (e : WindowEnd) → RunsWithin k start new → held_goes_on k new ≡ false → new.own.spent ≡ 0 → c ≡ none_processed → n ≤ 1000000000 → IsWatched window n start (left_by window None new) e → IsCounting window k n start new c e
+unfolding none_steps
+counting_first window k n start new c e runs over unbegun none few watched = record {
   from = new;
   runs = runs;
   over = over;
   unbegun = unbegun;
   steps = none_steps n new c none;
   few = subst (λ (x : ProcessorCounts). total x + 2 * rank n new ≤ 2 ^ 40) (sym none) (rank_few n new few);
+  watched = watched;
 }
 
 -- what was counted of a step that was done
 pub counted_step : (last : Bool) (h new : Held) (c d : ProcessorCounts) (r : Result Bool Fault) → r ≡ Ok last → CountsStep r h new c d → IsStepped h new × (d ≡ processor_after c h)
 counted_step last h new c d r is counts = subst (λ (x : Result Bool Fault). CountsStep x h new c d) is counts
+
+-- and of a look at where the window ends
+pub watched_step : (last owed : Bool) (new : Held) (e d : WindowEnd) (r : Result Bool Fault) → r ≡ Ok last → WatchesAfter r owed new e d → WatchesAt owed new e d
+watched_step last owed new e d r is watches = subst (λ (x : Result Bool Fault). WatchesAfter x owed new e d) is watches
 
 -- a step more
 steps_more : (n : ℕ) (from h new : Held) (c d : ProcessorCounts) → IsEarly n h → IsStepped h new → d ≡ processor_after c h → StepsTo n from h c → StepsTo n from new d
@@ -86,8 +139,9 @@ steps_more n from h new c d early stepped counts steps = record {
   counts = counts ∙ ap (λ (x : ProcessorCounts). processor_after x h) steps.counts;
 }
 
-pub counting_more : (k n : ℕ) (start h new : Held) (c d : ProcessorCounts) → IsEarly n h → IsStepped h new × (d ≡ processor_after c h) → rank n new < rank n h → IsCounting k n start h c → IsCounting k n start new d
-counting_more k n start h new c d early stepped nearer counting = record {
+pub counting_more : (window : Option ℕ) (k n : ℕ) (start h new : Held) (c d : ProcessorCounts) (e f : WindowEnd) → IsEarly n h → IsStepped h new × (d ≡ processor_after c h) → rank n new < rank n h → (counting : IsCounting window k n start h c e) → IsWatched window n start (left_by window (left_along window (h ∷ counting.steps.path)) new) f → IsCounting window k n start new d f
+unfolding steps_more
+counting_more window k n start h new c d e f early stepped nearer counting watched = record {
   from = counting.from;
   runs = counting.runs;
   over = counting.over;
@@ -95,33 +149,37 @@ counting_more k n start h new c d early stepped nearer counting = record {
   steps = steps_more n counting.from h new c d early stepped.0 stepped.1 counting.steps;
   few = subst (λ (x : ProcessorCounts). total x + 2 * rank n new ≤ 2 ^ 40) (sym stepped.1)
       (let few = counting.few in let more = stage_few c (stage_of h) in fewer (total (processor_after c h)) (total c) (rank n new) (rank n h) more nearer few);
+  watched = watched;
 }
   where
     fewer : (a b r s : ℕ) → a ≤ b + 2 → r < s → b + 2 * s ≤ 2 ^ 40 → a + 2 * r ≤ 2 ^ 40
     fewer a b r s more nearer few = omega (arith, more, nearer, few)
 
 -- nothing more comes
-pub counting_done : (k n : ℕ) (start h : Held) (c : ProcessorCounts) → IsCounting k n start h c → HasCounted k n start h c
-counting_done k n start h c counting = record {
+pub counting_done : (window : Option ℕ) (k n : ℕ) (start h : Held) (c : ProcessorCounts) (e : WindowEnd) → IsCounting window k n start h c e → HasCounted window k n start h c (string_bytes e.lines)
+counting_done window k n start h c e counting = record {
   from = counting.from;
   runs = counting.runs;
   unbegun = counting.unbegun;
   to = h;
   steps = counting.steps;
   begins = inl counting.over;
+  left = counting.watched.left;
   core = refl;
   stands = λ m k. k;
 }
 
 -- or a last step, that finds all processes ended
-pub counting_last : (k n : ℕ) (start h new : Held) (c d : ProcessorCounts) → IsEarly n h → IsStepped h new × (d ≡ processor_after c h) → IsCounting k n start h c → HasCounted k n start new d
-counting_last k n start h new c d early stepped counting = record {
+pub counting_last : (window : Option ℕ) (k n : ℕ) (start h new : Held) (c d : ProcessorCounts) (e f : WindowEnd) → IsEarly n h → IsStepped h new × (d ≡ processor_after c h) → (counting : IsCounting window k n start h c e) → IsWatched window n start (left_by window (left_along window (h ∷ counting.steps.path)) new) f → HasCounted window k n start new d (string_bytes f.lines)
+unfolding steps_more
+counting_last window k n start h new c d e f early stepped counting watched = record {
   from = counting.from;
   runs = counting.runs;
   unbegun = counting.unbegun;
   to = new;
   steps = steps_more n counting.from h new c d early stepped.0 stepped.1 counting.steps;
   begins = inl counting.over;
+  left = watched.left;
   core = refl;
   stands = λ m k. k;
 }
@@ -134,28 +192,35 @@ unfailed_by (p ∷ rest) h m i = i
 unfailed : (h : Held) (m : State) → Stands (with_failure h) m → Stands h m
 unfailed h m k = record { agrees = own_unseen (with_failure h) h.own m k.agrees; counted = unfailed_by h.kept.state.ready h m k.counted }
 
-pub counting_cut : (k n : ℕ) (start h new : Held) (c d : ProcessorCounts) → (new ≡ with_failure h) × (d ≡ c) → IsCounting k n start h c → HasCounted k n start new d
-counting_cut k n start h new c d cut counting = record {
+pub counting_cut : (window : Option ℕ) (k n : ℕ) (start h new : Held) (c d : ProcessorCounts) (e f : WindowEnd) → (new ≡ with_failure h) × (d ≡ c) → f ≡ e → IsCounting window k n start h c e → HasCounted window k n start new d (string_bytes f.lines)
+counting_cut window k n start h new c d e f cut same counting = record {
   from = counting.from;
   runs = counting.runs;
   unbegun = counting.unbegun;
   to = h;
-  steps = subst (StepsTo n counting.from h) (sym cut.1) counting.steps;
+  steps = record {
+    path = counting.steps.path;
+    through = counting.steps.through;
+    early = counting.steps.early;
+    counts = cut.1 ∙ counting.steps.counts;
+  };
   begins = inl counting.over;
+  left = subst (λ (x : WindowEnd). HasLeft n start (left_along window (h ∷ counting.steps.path)) (string_bytes x.lines)) (sym same) counting.watched.left;
   core = ap (λ (x : Held). x.core) cut.0;
   stands = λ m k. unfailed h m (subst (λ (x : Held). Stands x m) cut.0 k);
 }
 
 -- a run that was cut short before the first step
-pub none_counted_yet : (k n : ℕ) (start new : Held) (c : ProcessorCounts) → RunsWithin k start new → new.own.spent ≡ 0 → c ≡ none_processed → HasCounted k n start new c
+pub none_counted_yet : (window : Option ℕ) (k n : ℕ) (start new : Held) (c : ProcessorCounts) (lines : List ℕ) → RunsWithin k start new → new.own.spent ≡ 0 → c ≡ none_processed → HasLeft n start (left_by window None new) lines → HasCounted window k n start new c lines
 unfolding none_steps
-none_counted_yet k n start new c runs unbegun none = record {
+none_counted_yet window k n start new c lines runs unbegun none left = record {
   from = new;
   runs = runs;
   unbegun = unbegun;
   to = new;
   steps = none_steps n new c none;
   begins = inr refl;
+  left = left;
   core = refl;
   stands = λ m k. k;
 }
@@ -165,14 +230,28 @@ runs_nowhere : (k : ℕ) (h : Held) → RunsWithin k h h
 unfolding after
 runs_nowhere k h = record { runs = λ m s. (m, record { choices = []; early = false; comes_to = refl }, s) }
 
-pub nothing_counted : (k n : ℕ) (h : Held) → h.own.spent ≡ 0 → HasCounted k n h h none_processed
-nothing_counted k n h unbegun = none_counted_yet k n h h none_processed (runs_nowhere k h) unbegun refl
+passed_nowhere : (window : Option ℕ) (n : ℕ) (h : Held) → h.own.spent ≡ 0 → HasPassed n h (left_by window None h)
+passed_nowhere window n h unbegun = by (is_within window h)
+  where
+    by : (b : Bool) → HasPassed n h (cond b None (Some h))
+    by true = tt
+    by false = (unbegun, runs_nowhere n h)
+
+pub nothing_counted : (window : Option ℕ) (k n : ℕ) (h : Held) → h.own.spent ≡ 0 → HasCounted window k n h h none_processed (window_text (left_by window None h))
+nothing_counted window k n h unbegun =
+    none_counted_yet window k n h h none_processed (window_text (left_by window None h)) (runs_nowhere k h) unbegun refl
+    (record { passed = passed_nowhere window n h unbegun; told = refl })
 
 -- What is told.
 
-has_processed : (k n : ℕ) (start h : Held) (c : ProcessorCounts) (m last : State) → HasCounted k n start h c → Stands start m → Stands h last → HasProcessed k n m last (processor_text c h.core.entries)
-has_processed k n start h c m last counted begin end =
-    let t = counted.runs.runs m begin in record {
+passed_from : (n : ℕ) (start : Held) (m : State) (left : Option Held) → Stands start m → HasPassed n start left → IsPassed n m left
+passed_from n start m None begin passed = tt
+passed_from n start m (Some h) begin passed = (passed.0, passed.1.runs m begin)
+
+has_processed : (window : Option ℕ) (k n : ℕ) (start h : Held) (c : ProcessorCounts) (lines : List ℕ) (m last : State) → HasCounted window k n start h c lines → Stands start m → Stands h last → HasProcessed window k n m last (lines ++ processor_text c h.core.entries)
+has_processed window k n start h c lines m last counted begin end =
+    let t = counted.runs.runs m begin in
+    let left : Option Held = left_along window (counted.to ∷ counted.steps.path) in record {
       begin = t.0;
       reached = t.1;
       from = counted.from;
@@ -183,21 +262,25 @@ has_processed k n start h c m last counted begin end =
       steps = counted.steps;
       begins = begun t.0 t.2 counted.begins;
       comes = counted.stands last end;
-      told = ap (λ (x : CoreState). processor_text c x.entries) counted.core;
+      left = left;
+      leaves = refl;
+      passed = passed_from n start m left begin counted.left.passed;
+      told = ap (λ (l : List ℕ). l ++ processor_text c h.core.entries) counted.left.told
+          ∙ ap (λ (x : CoreState). window_text left ++ processor_text c x.entries) counted.core;
     }
   where
     begun : (x : State) → Stands counted.from x → (held_goes_on k counted.from ≡ false) ⊎ (counted.steps.path ≡ []) → (goes_on k x ≡ false) ⊎ (counted.steps.path ≡ [])
     begun x there (inl over) = inl (goes_alike k counted.from x there ∙ over)
     begun x there (inr none) = inr none
 
-told_if : (b : Bool) (k n : ℕ) (m last : State) (text : List ℕ) → HasProcessed k n m last text → TellsIf b k n m last (cond b text [])
-told_if true k n m last text told = told
-told_if false k n m last text told = refl
+told_if : (b : Bool) (window : Option ℕ) (k n : ℕ) (m last : State) (text : List ℕ) → HasProcessed window k n m last text → TellsIf b window k n m last (cond b text [])
+told_if true window k n m last text told = told
+told_if false window k n m last text told = refl
 
 -- what a view wants of it
-pub processor_told : (v : View) (n : ℕ) (start h : Held) (c : ProcessorCounts) (m last : State) → HasCounted (told_from v n) n start h c → Stands start m → Stands h last → TellsProcessor v n m last (processor_held v c h)
-processor_told v n start h c m last counted begin end =
-    told_if v.processor (told_from v n) n m last (processor_text c h.core.entries) (has_processed (told_from v n) n start h c m last counted begin end)
+pub processor_told : (v : View) (n : ℕ) (start h : Held) (c : ProcessorCounts) (lines : List ℕ) (m last : State) → HasCounted (window_end v) (told_from v n) n start h c lines → Stands start m → Stands h last → TellsProcessor v n m last (processor_held v lines c h)
+processor_told v n start h c lines m last counted begin end =
+    told_if v.processor (window_end v) (told_from v n) n m last (lines ++ processor_text c h.core.entries) (has_processed (window_end v) (told_from v n) n start h c lines m last counted begin end)
 
 -- Entries, one after another.
 

@@ -1,5 +1,5 @@
 -- What the processor did in a run, and what is told of it. It depends on Random.
-use Rattle.std.specs.Prelude.{codes, decimal, ◌≡◌, ◌⊎◌, ℕ, ◌+◌, ◌*◌, ◌%◌, ◌^◌, Bool, true, false, if◌then◌else◌, List, [], ◌∷◌, ◌++◌, min, nat_lt, is_some, ◌||◌}
+use Rattle.std.specs.Prelude.{codes, decimal, ◌≡◌, ◌⊎◌, ⊤, ℕ, ◌+◌, ◌*◌, ◌%◌, ◌^◌, Bool, true, false, if◌then◌else◌, List, [], ◌∷◌, ◌++◌, Option, Some, None, min, nat_lt, is_some, ◌||◌, ◌&&◌}
 use Rattle.std.specs.List.{All}
 use Rattle.ds_listing.specs.Texts.{hex8}
 use Rattle.ds_tlb.specs.declared.entry.Entry.{Entry}
@@ -12,7 +12,7 @@ use Rattle.ds_station.specs.declared.stage.Stage.{Stage}
 use Rattle.ds_station.specs.declared.stage.Stage.TheVariants.{Rest, Instruction, Refill, Service, DoubleMiss}
 use Rattle.ds_station.specs.Reads.{stage_of}
 use Rattle.ds_view.specs.declared.view.View.{View}
-use Rattle.ds_view.specs.Views.{has_lines}
+use Rattle.ds_view.specs.Views.{has_lines, is_before}
 use Rattle.ds_trace.specs.declared.processor.ProcessorCounts.{ProcessorCounts}
 
 -- Counts.
@@ -77,6 +77,40 @@ entries_text slot (e ∷ rest) = entry_text slot e ++ entries_text (slot + 1) re
 abbrev pub processor_text : ProcessorCounts → List Entry → List ℕ
 processor_text c entries = processor_line c ++ entries_text 0 entries
 
+-- Where a window ends.
+
+-- the end of a window, where a view has one, and wants lines and what the processor did
+abbrev pub window_end : View → Option ℕ
+window_end v = if v.processor && has_lines v then v.to else None
+
+-- a boundary is owed, or the time is before the end of a window, where there is one
+abbrev pub is_within : Option ℕ → Held → Bool
+is_within end h = is_some h.kept.state.owed || is_before end h.kept.state.time
+
+-- the station at which a run left the window before, or else this one, if it is no longer within the window
+abbrev pub left_by : Option ℕ → Option Held → Held → Option Held
+left_by end (Some before) h = Some before
+left_by end None h = if is_within end h then None else Some h
+
+-- of these stations, the newest first, the first that is no longer within the window
+abbrev pub left_along : Option ℕ → List Held → Option Held
+left_along end [] = None
+left_along end (last ∷ before) = left_by end (left_along end before) last
+
+-- the time at which a run left the window, and the lines of what the buffer holds there
+abbrev pub left_text : Held → List ℕ
+left_text h = codes "entries at " ++ decimal h.kept.state.time ++ codes ", as Random fell\n" ++ entries_text 0 h.core.entries
+
+-- nothing, where it did not
+abbrev pub window_text : Option Held → List ℕ
+window_text None = []
+window_text (Some h) = left_text h
+
+-- where it did, a run for n from this state came there, and no instruction of a unit is counted there: it is between two turns
+abbrev pub IsPassed : ℕ → State → Option Held → Type 0
+IsPassed n first None = ⊤
+IsPassed n first (Some h) = (h.own.spent ≡ 0) × ((m : State) × Reaches n first m × Stands h m)
+
 -- What was counted.
 
 -- a boundary is owed, or the time of a run for n is not over
@@ -91,9 +125,9 @@ pub record StepsTo (n : ℕ) (from to : Held) (c : ProcessorCounts) : Type 0 whe
   pub counts : c ≡ processor_along path
 
 -- Of a run for n from first to last: a station came by real steps from where the run for k was over to where it stands for the
--- last state, and this text tells what these steps count, and what the buffer holds then. Where the run for k was cut short,
--- there are no steps.
-pub record HasProcessed (k n : ℕ) (first last : State) (text : List ℕ) : Type 0 where
+-- last state. This text tells what the buffer held at the first station on this way that was no longer within a window, if one was
+-- not, and then what the steps count, and what the buffer holds in the end. Where the run for k was cut short, there are no steps.
+pub record HasProcessed (window : Option ℕ) (k n : ℕ) (first last : State) (text : List ℕ) : Type 0 where
   pub begin : State
   pub reached : Reaches k first begin
   pub from : Held
@@ -105,17 +139,21 @@ pub record HasProcessed (k n : ℕ) (first last : State) (text : List ℕ) : Typ
   pub steps : StepsTo n from to counts
   pub begins : (goes_on k begin ≡ false) ⊎ (steps.path ≡ [])
   pub comes : Stands to last
-  pub told : text ≡ processor_text counts to.core.entries
+  -- where the window ended
+  pub left : Option Held
+  pub leaves : left ≡ left_along window (to ∷ steps.path)
+  pub passed : IsPassed n first left
+  pub told : text ≡ window_text left ++ processor_text counts to.core.entries
 
 -- the time from which on a run for n is told step by step
 abbrev pub told_from : View → ℕ → ℕ
 told_from v n = if has_lines v then min v.from n else n
 
 -- this tells what the processor did if that is wanted, and else nothing
-abbrev pub TellsIf : Bool → ℕ → ℕ → State → State → List ℕ → Type 0
-TellsIf false k n first last text = text ≡ []
-TellsIf true k n first last text = HasProcessed k n first last text
+abbrev pub TellsIf : Bool → Option ℕ → ℕ → ℕ → State → State → List ℕ → Type 0
+TellsIf false window k n first last text = text ≡ []
+TellsIf true window k n first last text = HasProcessed window k n first last text
 
 -- as a view wants it
 abbrev pub TellsProcessor : View → ℕ → State → State → List ℕ → Type 0
-TellsProcessor v n first last text = TellsIf v.processor (told_from v n) n first last text
+TellsProcessor v n first last text = TellsIf v.processor (window_end v) (told_from v n) n first last text

@@ -83,9 +83,9 @@ all_held h = processes_held (lines_of h.kept.log) h 1 (length h.kept.state.proce
 abbrev pub end_held : View → Counted → Held → List ℕ
 end_held v k h = summary_text v k h.kept.state.time (lines_of h.kept.log) ++ all_held h
 
--- what the processor did, where a view wants it
-abbrev pub processor_held : View → ProcessorCounts → Held → List ℕ
-processor_held v c h = if v.processor then processor_text c h.core.entries else []
+-- these lines of where a window ended, and what the processor did, where a view wants that
+abbrev pub processor_held : View → List ℕ → ProcessorCounts → Held → List ℕ
+processor_held v window c h = if v.processor then window ++ processor_text c h.core.entries else []
 
 -- A run from m for n was followed to where the station is: some of its trace is written, the rest of it is to be written.
 pub record IsTold (v : View) (n : ℕ) (m : State) (h : Held) (old now : Option (List ℕ)) (rest : List ℕ) (b : Progress) : Type 0 where

@@ -19,6 +19,7 @@ mod start;
 mod stores;
 mod summaries;
 mod trace;
+mod window;
 
 pub use files::{trace_files, trace_policy};
 pub use laws::{a_boundary_leaves_registers, a_touch_changes_no_line};

@@ -64,8 +64,8 @@ fn push_named(line: &mut String, name: &str, count: u64) -> Result<(), AllocErro
     push_decimal(line, count)
 }
 
-/// Ends the line of the counts: they depend on Random.
-fn push_cause(line: &mut String) -> Result<(), AllocError>
+/// Ends a line of what depends on Random.
+pub(crate) fn push_cause(line: &mut String) -> Result<(), AllocError>
     ensures { OnOk result
         (string_bytes line.new ≡ string_bytes line.old ++ codes ", as Random fell\n") }
 {
@@ -117,7 +117,10 @@ fn push_entry(line: &mut String, slot: usize, entry: Entry) -> Result<(), AllocE
 }
 
 /// Adds the lines of all valid entries.
-fn push_entries<L: Lookaside>(line: &mut String, station: &Station<L>) -> Result<(), AllocError>
+pub(crate) fn push_entries<L: Lookaside>(
+    line: &mut String,
+    station: &Station<L>,
+) -> Result<(), AllocError>
     ensures { OnOk result (string_bytes line.new
         ≡ string_bytes line.old ++ entries_text 0 station.now.core.entries) }
 {

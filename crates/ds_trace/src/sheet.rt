@@ -1,5 +1,6 @@
 //! The text of a trace on its way to a writer.
 ghost use Rattle.std.specs.Prelude.{◌≡◌, ◌++◌, [], OnErr, OnOk, drop, is_some};
+ghost use Rattle.std.specs.String.{string_bytes};
 ghost use Rattle.std.specs.Io.KnownBytes.{Appends};
 ghost use Rattle.ds_log.specs.Sent.{AppendsPart};
 ghost use Rattle.ds_trace.specs.Boundaries.{boundary_text};
@@ -16,6 +17,7 @@ use crate::ends::push_end;
 use crate::lines::{push_unit, was_done};
 use crate::processor::{ProcessorCounts, push_processor};
 use crate::start::Start;
+use crate::window::WindowEnd;
 use ds_log::{WriteFailed, send};
 use ds_station::Station;
 use ds_tlb::Lookaside;
@@ -180,19 +182,21 @@ impl Sheet {
         self.push_changes(view, before, station)
     }
 
-    /// Adds what the processor did, where that is wanted.
+    /// Adds what is told of where the window ended, and what the processor did, where that is wanted.
     pub(crate) fn push_processor<L: Lookaside>(
         &mut self,
         view: &View,
+        window: &WindowEnd,
         counts: &ProcessorCounts,
         station: &Station<L>,
     ) -> Result<(), AllocError>
-        ensures { OnOk result (self.new.text.items
-            ≡ self.old.text.items ++ processor_held view.now counts.now station.now) }
+        ensures { OnOk result (self.new.text.items ≡ self.old.text.items
+            ++ processor_held view.now (string_bytes window.now.lines) counts.now station.now) }
     {
         if !view.processor {
             return Ok(());
         }
+        self.text.extend_from_slice(window.lines.as_bytes())?;
         self.line.clear();
         push_processor(&mut self.line, counts, station)?;
         self.text.extend_from_slice(self.line.as_bytes())

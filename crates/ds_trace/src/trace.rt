@@ -1,14 +1,15 @@
 //! A run that is told unit by unit.
 ghost use Rattle.std.specs.Prelude.{◌≡◌, ◌<◌, ◌≤◌, ◌^◌, ◌++◌, ◌||◌, if◌then◌else◌, IfErr, IfOk, OnErr, OnOk, None, [], false, is_some, min, nat_lt, true};
+ghost use Rattle.std.specs.String.{string_bytes};
 ghost use Rattle.std.specs.Io.KnownBytes.{Appends};
 ghost use Rattle.ds_log.specs.Sent.{AppendsPart};
 ghost use Rattle.ds_refinement.specs.Stands.{IsSound};
 ghost use Rattle.ds_station.specs.Headline.{held_text};
 ghost use Rattle.ds_trace.specs.Advanced.{Adds, Advances, is_last};
-ghost use Rattle.ds_trace.specs.Counted.{CountsStep, HasCounted};
+ghost use Rattle.ds_trace.specs.Counted.{CountsStep, HasCounted, WatchesAfter};
 ghost use Rattle.ds_trace.specs.Counts.{none_counted};
 ghost use Rattle.ds_trace.specs.Handed.{IsFinished, IsHandedOn, IsLate};
-ghost use Rattle.ds_trace.specs.Processors.{none_processed, told_from, total};
+ghost use Rattle.ds_trace.specs.Processors.{none_processed, told_from, total, window_end};
 ghost use Rattle.ds_trace.specs.Shows.{TellsAll, Traces, TracesPart, end_held, half_held, progress_held};
 ghost use Rattle.ds_view.specs.Views.{has_lines};
 
@@ -17,6 +18,7 @@ use crate::counts::Counts;
 use crate::processor::ProcessorCounts;
 use crate::progress::Progress;
 use crate::sheet::Sheet;
+use crate::window::WindowEnd;
 use ds_station::{Fault, Station, Step, deliver};
 use ds_tlb::Lookaside;
 use ds_view::View;
@@ -77,14 +79,16 @@ fn is_last(step: Step) -> bool
     }
 }
 
-/// One step of a station, told of where it ends a half turn, and counted. It answers whether that
-/// found all processes ended, or the fault by which there was none.
+/// One step of a station, told of where it ends a half turn, and counted, and a look at whether the
+/// window ends there. It answers whether the step found all processes ended, or the fault by which
+/// there was none.
 fn advance<L: Lookaside>(
     view: &View,
     station: &mut Station<L>,
     sheet: &mut Sheet,
     progress: &mut Progress,
     counts: &mut ProcessorCounts,
+    window: &mut WindowEnd,
 ) -> Result<Result<bool, Fault>, AllocError>
     requires early { station.old.kept.state.owed ≡ None
         → station.old.kept.state.time < 1000000000 }
@@ -94,6 +98,8 @@ fn advance<L: Lookaside>(
         sheet.old.text.items progress.old sheet.new.text.items progress.new) }
     ensures counted { IfOk result
         (λ r. CountsStep r station.old station.new counts.old counts.new) }
+    ensures watches { IfOk result (λ r. WatchesAfter r progress.new.before.owed station.new
+        window.old window.new) }
 {
     let stage = station.stage();
     let step = match station.step() {
@@ -102,6 +108,7 @@ fn advance<L: Lookaside>(
     };
     counts.count(stage);
     tell_step(view, station, step, sheet, progress)?;
+    window.watch(station, progress.before.owed)?;
     Ok(Ok(is_last(step)))
 }
 
@@ -154,7 +161,8 @@ fn silent_until(view: &View, n: u64) -> u64
 
 /// Follows a station to the end of a run for n, tells of it, and counts what the processor does.
 /// What comes before the first turn that is told goes by `run`. It answers the fault that cut the run
-/// short, if one did. What is left to be written is in the sheet, and what was counted in the counts.
+/// short, if one did. What is left to be written is in the sheet, what was counted in the counts, and
+/// what the buffer held where the window ended in its lines.
 fn follow<L: Lookaside, W: Write>(
     view: &View,
     station: &mut Station<L>,
@@ -162,6 +170,7 @@ fn follow<L: Lookaside, W: Write>(
     progress: &mut Progress,
     sheet: &mut Sheet,
     counts: &mut ProcessorCounts,
+    window: &mut WindowEnd,
     out: &mut W,
 ) -> Result<Option<Fault>, Fault>
     requires few { n ≤ 1000000000 }
@@ -172,21 +181,26 @@ fn follow<L: Lookaside, W: Write>(
     requires empty { sheet.old.text.items ≡ [] }
     requires none { progress.old.counts ≡ none_counted }
     requires uncounted { counts.old ≡ none_processed }
+    requires awaited { window.old.awaited ≡ window_end view.now }
+    requires unleft { string_bytes window.old.lines ≡ [] }
     ensures ok { IfOk result (λ cut. TellsAll cut view.now n station.old station.new
         (W.contents out.old) (W.contents out.new) sheet.new.text.items progress.new.counts) }
     ensures counted { OnOk result
-        (HasCounted (told_from view.now n) n station.old station.new counts.new) }
+        (HasCounted (window_end view.now) (told_from view.now n) n station.old station.new
+        counts.new (string_bytes window.new.lines)) }
     ensures err { OnErr result
         (TracesPart view.now n station.old (W.contents out.old) (W.contents out.new)) }
     ensures late { IfErr result IsLate }
 {
-    match station.run(silent_until(view, n)) {
+    let ran = station.run(silent_until(view, n));
+    window.watch(station, false)?;
+    match ran {
         Ok(()) => {}
         Err(fault) => return Ok(Some(fault)),
     }
     progress.before.look(station, false)?;
     while is_before(station, n, &progress.before) {
-        match advance(view, station, sheet, progress, counts)? {
+        match advance(view, station, sheet, progress, counts, window)? {
             Ok(false) => {}
             Ok(true) => return Ok(None),
             Err(fault) => return Ok(Some(fault)),
@@ -221,8 +235,9 @@ fn finish<L: Lookaside, W: Write>(
     }
 }
 
-/// Runs a station for n, and writes the trace of the run, what the processor did where that is wanted,
-/// the end's text, and the text of the state in which it ended. Where memory runs out or a write fails, a prefix of that is written.
+/// Runs a station for n, and writes the trace of the run; where that is wanted what the buffer held
+/// where the window ended, and what the processor did; the end's text; and the text of the state in
+/// which it ended. Where memory runs out or a write fails, a prefix of that is written.
 pub(crate) fn tell<L: Lookaside, W: Write>(
     alloc: Global,
     view: &View,
@@ -243,6 +258,7 @@ pub(crate) fn tell<L: Lookaside, W: Write>(
     let mut sheet = Sheet::new(alloc);
     let mut progress = Progress::new(alloc);
     let mut counts = ProcessorCounts::new();
+    let mut window = WindowEnd::new(alloc, view);
     let cut = follow(
         view,
         station,
@@ -250,9 +266,10 @@ pub(crate) fn tell<L: Lookaside, W: Write>(
         &mut progress,
         &mut sheet,
         &mut counts,
+        &mut window,
         out,
     )?;
-    sheet.push_processor(view, &counts, station)?;
+    sheet.push_processor(view, &window, &counts, station)?;
     finish(alloc, view, &progress.counts, station, &mut sheet, out)?;
     match cut {
         None => Ok(()),

@@ -7,35 +7,42 @@ use Rattle.ds_station.specs.Faults.{IsFaultAfter, IsNewFault}
 use Rattle.ds_station.specs.declared.fault.Fault.{Fault}
 use Rattle.ds_trace.specs.Looks.{Looked}
 use Rattle.ds_trace.specs.Advanced.{Advances, HasStepped, HasHalted}
-use Rattle.ds_trace.proofs.Following.{cut_early, cut_part, cut_spent, end_told, first_told, halted_told, handed_told, last_told, nothing_part, part_none, ran_whole, ran_within, step_on, step_owed, step_told}
-use Rattle.ds_trace.specs.Counted.{CountsStep}
-use Rattle.ds_trace.proofs.Processing.{counted_step, counting_cut, counting_done, counting_few, counting_first, counting_last, counting_more, none_counted_yet}
+use Rattle.ds_trace.proofs.Following.{cut_early, cut_part, cut_spent, end_told, first_told, first_within, halted_told, handed_told, last_counting, last_told, nothing_part, part_none, ran_whole, ran_within, step_counting, step_on, step_owed, step_told}
+use Rattle.ds_trace.specs.Counted.{CountsStep, WatchesAfter}
+use Rattle.ds_trace.specs.Processors.{window_end}
+use Rattle.ds_trace.proofs.Processing.{counting_cut, counting_done, counting_few, counting_first, none_counted_yet, watched_first}
 use Rattle.ds_trace.proofs.trace.follow.Goals as goal
 
 -- a fault cut short what comes before the first turn that is told
 pub returns-in-Err-clause-ok : goal.returns-in-Err-clause-ok
 returns-in-Err-clause-ok g c =
     let v = c.args.view.now in
-    let new : Held = c.run.new.self in
+    let new : Held = c.run-ran.new.self in
     let is : IsNewFault c.in-Err.fault = subst (λ (failed : Bool). IsFaultAfter failed c.in-Err.fault) c.requires.working c.in-Err.ensures.faults in
     let within : RunsWithin _ c.args.station.now new = subst (λ (k : ℕ). RunsWithin k c.args.station.now new) c.silent_until.ensures c.in-Err.ensures.err in
     cut_early v c.args.n c.args.station.now new (g.W.Write.contents c.args.out.now) c.requires.unowed within
     c.in-Err.ensures.whole (cut_spent c.in-Err.fault c.args.station.now new c.in-Err.ensures.cut is) c.in-Err.fault c.args.sheet.now.text.items c.args.progress.now.counts c.requires.empty c.requires.none is
 
+pub returns-in_err-watch-clause-err : goal.returns-in_err-watch-clause-err
+returns-in_err-watch-clause-err g c = at_err c.from_residual.result (nothing_part c.args.view.now c.args.n c.args.station.now (g.W.Write.contents c.args.out.now) c.requires.spent)
+
 pub returns-in_err-look-clause-err : goal.returns-in_err-look-clause-err
-returns-in_err-look-clause-err g c = at_err c.from_residual.result (nothing_part c.args.view.now c.args.n c.args.station.now (g.W.Write.contents c.args.out.now) c.requires.spent)
+returns-in_err-look-clause-err g c = at_err c.from_residual-in_err-look.result (nothing_part c.args.view.now c.args.n c.args.station.now (g.W.Write.contents c.args.out.now) c.requires.spent)
 
 pub returns-in-Err-clause-counted : goal.returns-in-Err-clause-counted
 returns-in-Err-clause-counted g c =
-    let new : Held = c.run.new.self in
+    let new : Held = c.run-ran.new.self in
     let is : IsNewFault c.in-Err.fault = subst (λ (failed : Bool). IsFaultAfter failed c.in-Err.fault) c.requires.working c.in-Err.ensures.faults in
     let within : RunsWithin _ c.args.station.now new = subst (λ (k : ℕ). RunsWithin k c.args.station.now new) c.silent_until.ensures c.in-Err.ensures.err in
-    none_counted_yet _ c.args.n c.args.station.now new c.args.counts.now within (cut_spent c.in-Err.fault c.args.station.now new c.in-Err.ensures.cut is) c.requires.uncounted
+    let spent : new.own.spent ≡ 0 = cut_spent c.in-Err.fault c.args.station.now new c.in-Err.ensures.cut is in
+    none_counted_yet (window_end c.args.view.now) _ c.args.n c.args.station.now new c.args.counts.now _ within spent c.requires.uncounted
+    (watched_first (window_end c.args.view.now) c.args.n c.args.station.now new c.args.window.now c.watch.new.self c.requires.awaited c.requires.unleft c.in_ok-watch.ensures c.in-Err.ensures.whole spent
+    (first_within c.args.view.now c.args.n c.args.station.now new (g.W.Write.contents c.args.out.now) c.requires.unowed within c.in-Err.ensures.whole spent)).left
 
 pub loop-station-init : goal.loop-station-init
 loop-station-init g c =
     let v = c.args.view.now in
-    let new : Held = c.run.new.self in
+    let new : Held = c.run-ran.new.self in
     let none : new.own.spent ≡ 0 = c.in-Ok.ensures.unit (inl c.requires.spent) in
     let owes = ran_whole _ new c.in-Ok.ensures.over in
     let within : RunsWithin _ c.args.station.now new = subst (λ (k : ℕ). RunsWithin k c.args.station.now new) c.silent_until.ensures (ran_within _ c.args.station.now new c.in-Ok.ensures.ok) in
@@ -45,15 +52,17 @@ loop-station-init g c =
       working = c.in-Ok.ensures.good;
       owed = ap (λ (x : Looked). x.owed) c.in_ok-look.ensures ∙ sym (ap is_some owes);
       begun = λ some. absurd (omega (arith, none, some));
-      counting = counting_first _ c.args.n c.args.station.now new c.args.counts.now within
-          (subst (λ (k : ℕ). held_goes_on k new ≡ false) c.silent_until.ensures c.in-Ok.ensures.over) none c.requires.uncounted c.requires.few;
+      counting = counting_first (window_end v) _ c.args.n c.args.station.now new c.args.counts.now c.watch.new.self within
+          (subst (λ (k : ℕ). held_goes_on k new ≡ false) c.silent_until.ensures c.in-Ok.ensures.over) none c.requires.uncounted c.requires.few
+          (watched_first (window_end v) c.args.n c.args.station.now new c.args.window.now c.watch.new.self c.requires.awaited c.requires.unleft c.in_ok-watch.ensures owes none
+          (first_within v c.args.n c.args.station.now new (g.W.Write.contents c.args.out.now) c.requires.unowed within owes none));
     }
 
 pub returns-in_err-advance-clause-err : goal.returns-in_err-advance-clause-err
 returns-in_err-advance-clause-err g c =
     let b = c.loop-station in
     at_err c.from_residual-in_err-advance.result
-    (cut_part c.args.view.now c.args.n c.args.station.now b.station _ _ _ b.sheet.text.items b.counts (counting_done _ c.args.n c.args.station.now b.station b.counts b.invariant.counting) b.progress b.invariant.tells (part_none _ b.sheet.text.items))
+    (cut_part c.args.view.now c.args.n c.args.station.now b.station _ _ _ b.sheet.text.items b.counts _ (counting_done (window_end c.args.view.now) _ c.args.n c.args.station.now b.station b.counts b.window b.invariant.counting) b.progress b.invariant.tells (part_none _ b.sheet.text.items))
 
 pub returns-in-Ok-true-clause-ok : goal.returns-in-Ok-true-clause-ok
 returns-in-Ok-true-clause-ok g c =
@@ -96,8 +105,8 @@ loop-station-preserved g c =
       working = on.working ∙ b.invariant.working;
       owed = step_owed v c.args.n b.station new.station b.sheet.text.items new.sheet.text.items b.progress new.progress s b.invariant.sound b.invariant.owed test;
       begun = on.begun;
-      counting = counting_more _ c.args.n c.args.station.now b.station new.station b.counts new.counts (sym (ap (λ (owes : Bool). owes || nat_lt b.station.kept.state.time c.args.n) b.invariant.owed) ∙ test)
-          (counted_step false b.station new.station b.counts new.counts _ is c.in_ok-advance.ensures.counted) on.nearer b.invariant.counting;
+      counting = step_counting v c.args.n b.station new.station b.sheet.text.items new.sheet.text.items b.progress new.progress s b.invariant.sound b.invariant.owed test (window_end v) _ c.args.station.now _ _
+          b.counts new.counts b.window new.window _ is c.in_ok-advance.ensures.counted c.in_ok-advance.ensures.watches b.invariant.tells b.invariant.counting;
     }
 
 pub returns-in_err-hand_on-clause-err : goal.returns-in_err-hand_on-clause-err
@@ -108,11 +117,11 @@ returns-in_err-hand_on-clause-err g c =
     let is : c.in_ok-advance.field-0 ≡ Ok false = c.in-Ok-false.is ∙ ap (λ (x : Bool). Ok x) c.in-Ok-false.field-0-test in
     let s : HasStepped false v b.station new.station b.sheet.text.items b.progress new.sheet.text.items new.progress = subst (λ (r : Result Bool Fault). Advances r v b.station new.station b.sheet.text.items b.progress new.sheet.text.items new.progress) is c.in_ok-advance.ensures.tells in
     let test = sym c.is_before.ensures ∙ c.loop-station-test.true in
-    let on = step_on v c.args.n b.station new.station b.sheet.text.items new.sheet.text.items b.progress new.progress s b.invariant.sound b.invariant.owed test in
-    let counted = counted_step false b.station new.station b.counts new.counts _ is c.in_ok-advance.ensures.counted in
+    let counting = step_counting v c.args.n b.station new.station b.sheet.text.items new.sheet.text.items b.progress new.progress s b.invariant.sound b.invariant.owed test (window_end v) _ c.args.station.now _ _
+    b.counts new.counts b.window new.window _ is c.in_ok-advance.ensures.counted c.in_ok-advance.ensures.watches b.invariant.tells b.invariant.counting in
     at_err c.from_residual-in_err-hand_on.result
-    (cut_part v c.args.n c.args.station.now new.station _ _ _ new.sheet.text.items new.counts
-    (counting_done _ c.args.n c.args.station.now new.station new.counts (counting_more _ c.args.n c.args.station.now b.station new.station b.counts new.counts (sym (ap (λ (owes : Bool). owes || nat_lt b.station.kept.state.time c.args.n) b.invariant.owed) ∙ test) counted on.nearer b.invariant.counting)) new.progress
+    (cut_part v c.args.n c.args.station.now new.station _ _ _ new.sheet.text.items new.counts _
+    (counting_done (window_end v) _ c.args.n c.args.station.now new.station new.counts new.window counting) new.progress
     (step_told v c.args.n b.station new.station b.sheet.text.items new.sheet.text.items b.progress new.progress s b.invariant.sound b.invariant.owed test c.args.station.now _ _ b.invariant.tells) c.in_err-hand_on.ensures.err)
 
 pub returns-clause-ok : goal.returns-clause-ok
@@ -124,26 +133,29 @@ returns-clause-ok g c =
 
 pub returns-in-Ok-true-clause-counted : goal.returns-in-Ok-true-clause-counted
 returns-in-Ok-true-clause-counted g c =
+    let v = c.args.view.now in
     let b = c.loop-station in
     let new = c.advance.new in
     let is : c.in_ok-advance.field-0 ≡ Ok true = c.in-Ok-true.is ∙ ap (λ (x : Bool). Ok x) c.in-Ok-true.field-0-test in
+    let s : HasStepped true v b.station new.station b.sheet.text.items b.progress new.sheet.text.items new.progress = subst (λ (r : Result Bool Fault). Advances r v b.station new.station b.sheet.text.items b.progress new.sheet.text.items new.progress) is c.in_ok-advance.ensures.tells in
     let test = sym c.is_before.ensures ∙ c.loop-station-test.true in
-    counting_last _ c.args.n c.args.station.now b.station new.station b.counts new.counts (sym (ap (λ (owes : Bool). owes || nat_lt b.station.kept.state.time c.args.n) b.invariant.owed) ∙ test)
-    (counted_step true b.station new.station b.counts new.counts _ is c.in_ok-advance.ensures.counted) b.invariant.counting
+    last_counting v c.args.n b.station new.station b.sheet.text.items new.sheet.text.items b.progress new.progress s b.invariant.sound (window_end v) _ c.args.station.now b.counts new.counts b.window new.window _ is
+    c.in_ok-advance.ensures.counted c.in_ok-advance.ensures.watches (sym (ap (λ (owes : Bool). owes || nat_lt b.station.kept.state.time c.args.n) b.invariant.owed) ∙ test) b.invariant.owed b.invariant.counting
 
 pub returns-in-Err-2-clause-counted : goal.returns-in-Err-2-clause-counted
 returns-in-Err-2-clause-counted g c =
     let b = c.loop-station in
     let new = c.advance.new in
-    counting_cut _ c.args.n c.args.station.now b.station new.station b.counts new.counts
-    (subst (λ (r : Result Bool Fault). CountsStep r b.station new.station b.counts new.counts) c.in-Err-2.is c.in_ok-advance.ensures.counted) b.invariant.counting
+    counting_cut (window_end c.args.view.now) _ c.args.n c.args.station.now b.station new.station b.counts new.counts b.window new.window
+    (subst (λ (r : Result Bool Fault). CountsStep r b.station new.station b.counts new.counts) c.in-Err-2.is c.in_ok-advance.ensures.counted)
+    (subst (λ (r : Result Bool Fault). WatchesAfter r new.progress.before.owed new.station b.window new.window) c.in-Err-2.is c.in_ok-advance.ensures.watches) b.invariant.counting
 
 pub returns-clause-counted : goal.returns-clause-counted
 returns-clause-counted g c =
     let b = c.loop-station in
-    counting_done _ c.args.n c.args.station.now b.station b.counts b.invariant.counting
+    counting_done (window_end c.args.view.now) _ c.args.n c.args.station.now b.station b.counts b.window b.invariant.counting
 
 pub advance-requires-clause-few : goal.advance-requires-clause-few
 advance-requires-clause-few g c =
     let b = c.loop-station in
-    counting_few _ c.args.n c.args.station.now b.station b.counts b.invariant.counting
+    counting_few (window_end c.args.view.now) _ c.args.n c.args.station.now b.station b.counts b.window b.invariant.counting

@@ -2,7 +2,7 @@ use Rattle.std.proofs.Common.{◌≡◌, ◌<◌, false}
 use Rattle.std.specs.Prelude.{is_some}
 use Rattle.ds_kernel.specs.Going.{rank}
 use Rattle.ds_refinement.specs.Stands.{IsSound}
-use Rattle.ds_trace.specs.Processors.{told_from}
+use Rattle.ds_trace.specs.Processors.{told_from, window_end}
 use Rattle.ds_trace.specs.Counted.{IsCounting}
 use Rattle.ds_trace.specs.Shows.{TellsSo}
 use Rattle.ds_trace.proofs.trace.follow.Given as goal
@@ -14,7 +14,7 @@ invariant-loop-station g l = record {
   working : l.station.own.failed ≡ false;
   owed : l.progress.before.owed ≡ is_some l.station.kept.state.owed;
   begun : 0 < l.station.own.spent → l.station.kept.state.time < l.n;
-  counting : IsCounting (told_from l.view l.n) l.n l.fn.station l.station l.counts;
+  counting : IsCounting (window_end l.view) (told_from l.view l.n) l.n l.fn.station l.station l.counts l.window;
 }
 
 abbrev pub decreases-loop-station : goal.decreases-loop-station

@@ -1,5 +1,6 @@
 use Rattle.std.proofs.Common.{None, Option, List, ℕ, subst}
 use Rattle.std.specs.Prelude.{◌++◌}
+use Rattle.std.specs.String.{string_bytes}
 use Rattle.ds_log.specs.Sent.{AppendsPart}
 use Rattle.ds_log.proofs.Sends.{at_err}
 use Rattle.ds_station.specs.Headline.{held_text}
@@ -14,13 +15,13 @@ returns-in_err-push_processor-clause-err g c =
     let came = c.follow.new in
     let all = c.in_ok-cut.ensures.ok in
     at_err c.from_residual-in_err-push_processor.result
-    (cut_part c.args.view.now c.args.n c.args.station.now came.station _ _ _ came.sheet.text.items came.counts c.in_ok-cut.ensures.counted all.progress all.tells (part_none _ came.sheet.text.items))
+    (cut_part c.args.view.now c.args.n c.args.station.now came.station _ _ _ came.sheet.text.items came.counts (string_bytes came.window.lines) c.in_ok-cut.ensures.counted all.progress all.tells (part_none _ came.sheet.text.items))
 
 pub returns-in_err-finish-clause-err : goal.returns-in_err-finish-clause-err
 returns-in_err-finish-clause-err g c =
     let came = c.follow.new in
     at_err c.from_residual-in_err-finish.result
-    (cut_traces c.args.view.now c.args.n c.args.station.now came.station _ _ _ came.sheet.text.items came.counts c.in_ok-cut.ensures.counted c.in_ok-cut.cut came.progress.counts c.in_ok-cut.ensures.ok
+    (cut_traces c.args.view.now c.args.n c.args.station.now came.station _ _ _ came.sheet.text.items came.counts (string_bytes came.window.lines) c.in_ok-cut.ensures.counted c.in_ok-cut.cut came.progress.counts c.in_ok-cut.ensures.ok
     (subst (λ (text : List ℕ). AppendsPart (g.W.Write.contents came.out) (g.W.Write.contents c.finish.new.out) (text ++ end_held c.args.view.now came.progress.counts came.station ++ held_text came.station)) c.in_ok-push_processor.ensures c.in_err-finish.ensures.err))
 
 pub returns-in-None-clause-ok : goal.returns-in-None-clause-ok
@@ -29,11 +30,11 @@ returns-in-None-clause-ok g c =
     let came = c.follow.new in
     let told : TellsAll None v c.args.n c.args.station.now came.station (g.W.Write.contents c.args.out.now) (g.W.Write.contents came.out) came.sheet.text.items came.progress.counts =
     subst (λ (cut : Option Fault). TellsAll cut v c.args.n c.args.station.now came.station (g.W.Write.contents c.args.out.now) (g.W.Write.contents came.out) came.sheet.text.items came.progress.counts) c.in-None.is c.in_ok-cut.ensures.ok in
-    finished_traces v c.args.n c.args.station.now came.station _ _ _ came.sheet.text.items came.counts c.in_ok-cut.ensures.counted came.progress.counts told
+    finished_traces v c.args.n c.args.station.now came.station _ _ _ came.sheet.text.items came.counts (string_bytes came.window.lines) c.in_ok-cut.ensures.counted came.progress.counts told
     (subst (λ (text : List ℕ). IsFinished v came.progress.counts (g.W.Write.contents came.out) (g.W.Write.contents c.finish.new.out) text came.station) c.in_ok-push_processor.ensures c.in_ok-finish.ensures.ok)
 
 pub returns-clause-err : goal.returns-clause-err
 returns-clause-err g c =
     let came = c.follow.new in
-    cut_traces c.args.view.now c.args.n c.args.station.now came.station _ _ _ came.sheet.text.items came.counts c.in_ok-cut.ensures.counted c.in_ok-cut.cut came.progress.counts c.in_ok-cut.ensures.ok
+    cut_traces c.args.view.now c.args.n c.args.station.now came.station _ _ _ came.sheet.text.items came.counts (string_bytes came.window.lines) c.in_ok-cut.ensures.counted c.in_ok-cut.cut came.progress.counts c.in_ok-cut.ensures.ok
     (subst (λ (text : List ℕ). AppendsPart (g.W.Write.contents came.out) (g.W.Write.contents c.finish.new.out) (text ++ end_held c.args.view.now came.progress.counts came.station ++ held_text came.station)) c.in_ok-push_processor.ensures (all_part c.args.view.now came.progress.counts (g.W.Write.contents came.out) (g.W.Write.contents c.finish.new.out) _ came.station c.in_ok-finish.ensures.ok))
