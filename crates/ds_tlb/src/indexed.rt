@@ -2,7 +2,7 @@
 ghost use Rattle.std.specs.Prelude.{◌≡◌, ◌+◌, ◌-◌, ◌<◌, ◌≤◌, ◌%◌, length, IfSome, true, false};
 ghost use Rattle.std.proofs.Math.Nat.{le-add_right};
 ghost use Rattle.ds_isa.specs.Access.{is_store};
-ghost use Rattle.ds_tlb.specs.Frames.{base_of};
+ghost use Rattle.ds_tlb.specs.Frames.{base_of, entry_in};
 ghost use Rattle.ds_tlb.specs.Entries.{find, empty_entries};
 ghost use Rattle.ds_tlb.specs.Buckets.{bucket_of, IsBucketOf, IsIndexOf};
 ghost use Rattle.ds_tlb.specs.Windows.{AreRight};
@@ -24,7 +24,7 @@ pub struct Indexed<const N: usize, const WIRED: usize> {
     buckets: [u64; BUCKETS],
     // How far Random is above the first slot that isn't wired.
     above: usize,
-    // Pages that a search found, for each kind of access. A write forgets those of its entries.
+    // Pages that a search found, for each kind of access. A write forgets what its entries answer for.
     code: Windows,
     loads: Windows,
     stores: Windows,
@@ -88,12 +88,12 @@ impl<const N: usize, const WIRED: usize> Lookaside for Indexed<N, WIRED> {
 
     #[inline(always)]
     fn write(&mut self, slot: usize, entry: Entry) {
-        let page = self.entries[slot].vpn;
-        self.buckets[bucket_of(page)] &= !(1 << slot);
+        let was = self.entries[slot];
+        self.buckets[bucket_of(was.vpn)] &= !(1 << slot);
         self.buckets[bucket_of(entry.vpn)] |= 1 << slot;
-        self.code.forget(page, entry.vpn);
-        self.loads.forget(page, entry.vpn);
-        self.stores.forget(page, entry.vpn);
+        self.code.forget(&was, &entry);
+        self.loads.forget(&was, &entry);
+        self.stores.forget(&was, &entry);
         self.entries[slot] = entry;
     }
 
@@ -160,12 +160,26 @@ impl<const N: usize, const WIRED: usize> Indexed<N, WIRED> {
         ensures same { self.new.entries ≡ self.old.entries }
         ensures random { self.new.above ≡ self.old.above }
     {
-        if let Some(base) = self.searched(Kind::Store, vpn, asid) {
+        let Some(entry) = self.entry(vpn, asid) else {
+            return;
+        };
+        if let Some(base) = entry.base_for(Kind::Store) {
             self.stores.remember(vpn, asid, base);
             self.loads.remember(vpn, asid, base);
-        } else if let Some(base) = self.searched(Kind::Load, vpn, asid) {
+        } else if let Some(base) = entry.base_for(Kind::Load) {
             self.code.remember(vpn, asid, base);
             self.loads.remember(vpn, asid, base);
+        }
+    }
+
+    /// The entry that answers for a page.
+    #[inline(always)]
+    fn entry(&self, vpn: u32, asid: u8) -> Option<Entry>
+        ensures { result ≡ entry_in self.now.entries (find self.now.entries vpn asid) }
+    {
+        match first_match(&self.entries, self.buckets[bucket_of(vpn)], vpn, asid) {
+            Some(slot) => Some(self.entries[slot]),
+            None => None,
         }
     }
 
@@ -174,8 +188,8 @@ impl<const N: usize, const WIRED: usize> Indexed<N, WIRED> {
         ensures base { result ≡ base_of self.now.entries (is_store kind) vpn asid }
         ensures whole { IfSome result (λ base. base % 4096 ≡ 0) }
     {
-        match first_match(&self.entries, self.buckets[bucket_of(vpn)], vpn, asid) {
-            Some(slot) => self.entries[slot].base_for(kind),
+        match self.entry(vpn, asid) {
+            Some(entry) => entry.base_for(kind),
             None => None,
         }
     }
