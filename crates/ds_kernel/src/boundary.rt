@@ -95,7 +95,7 @@ impl<L: Lookaside> Parts<L> {
           };
         } }
     {
-        self.monitor.expire(self.bus.memory(), &mut self.core.tlb);
+        self.monitor.expire(&mut self.bus, &mut self.core.tlb);
     }
 
     /// The commands that are due are done.
@@ -135,7 +135,7 @@ impl<L: Lookaside> Parts<L> {
           };
         } }
     {
-        self.monitor.commands(self.bus.memory(), &mut self.core.tlb);
+        self.monitor.commands(&mut self.bus, &mut self.core.tlb);
     }
 
     /// The turn whose boundary is owed is over: who ran is in its seat, the rights that have ended by

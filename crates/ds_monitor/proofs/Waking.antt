@@ -1,9 +1,11 @@
 -- Processes that wake.
-use Rattle.std.proofs.Common.{◌≡◌, ◌∙◌, ℕ, zero, suc, ◌+◌, ◌-◌, ◌<◌, Bool, cond, List, [], ◌∷◌, length, map, refl, sym, ap, subst, arith}
-use Rattle.std.specs.Prelude.{slice_index_or, slice_set, All}
+use Rattle.std.proofs.Common.{◌≡◌, ◌∙◌, ℕ, zero, suc, ◌+◌, ◌-◌, ◌<◌, Bool, true, false, ◌&&◌, ◌||◌, cond, if◌then◌else◌, List, [], ◌∷◌, length, map, refl, sym, ap, subst, arith}
+use Rattle.std.specs.Prelude.{slice_index_or, slice_set, nat_lt, All}
+use Rattle.std.specs.List.{list_any}
 use Rattle.std.proofs.lemmas.List.{get_or-map, length-map}
 use Rattle.ds_procs.specs.declared.process.Standing.{Standing}
-use Rattle.ds_pagemap.specs.Machine.{State, Process, no_process, made_ready}
+use Rattle.ds_pagemap.specs.Machine.{State, Process, no_process, process_of, is_waiting, made_ready}
+use Rattle.ds_pagemap.specs.Calls.{queue_of}
 use Rattle.ds_pagemap.specs.Boundary.{wakes, woken}
 use Rattle.ds_refinement.specs.Held.{Kept}
 use Rattle.ds_monitor.specs.Kept.{kept_after}
@@ -32,3 +34,28 @@ line_there qs i within all = subst (λ (n : ℕ). n < 4) (get_or-map (λ (q : Pr
 -- one process
 pub woken_by : (b : Bool) (k n : Kept) (p : ℕ) → wakes k.state p ≡ b → n ≡ record k { state = cond b (made_ready k.state p) k.state } → n ≡ kept_after (λ (m : State). woken m p 1) k
 woken_by b k n p e is = is ∙ ap (λ (x : Bool). record k { state = cond x (made_ready k.state p) k.state }) (sym e)
+
+-- where no character is there nobody wakes
+or_left : (a b : Bool) → a || b ≡ false → a ≡ false
+or_left true b is = absurd cc
+or_left false b is = refl
+
+or_right : (a b : Bool) → a || b ≡ false → b ≡ false
+or_right true b is = absurd cc
+or_right false b is = is
+
+and_no : (a b : Bool) → b ≡ false → a && b ≡ false
+and_no true b is = is
+and_no false b is = refl
+
+none_at : (f : List ℕ → Bool) (qs : List (List ℕ)) (i : ℕ) (d : List ℕ) → list_any f qs ≡ false → f d ≡ false → f (slice_index_or qs i d) ≡ false
+none_at f [] i d none default = default
+none_at f (q ∷ qs) zero d none default = or_left (f q) (list_any f qs) none
+none_at f (q ∷ qs) (suc i) d none default = none_at f qs i d (or_right (f q) (list_any f qs) none) default
+
+no_wake : (m : State) (p : ℕ) → list_any (λ (q : List ℕ). nat_lt 0 (length q)) m.queues ≡ false → wakes m p ≡ false
+no_wake m p none = and_no (is_waiting (process_of m p).standing) (nat_lt 0 (length (queue_of m p))) (none_at (λ (q : List ℕ). nat_lt 0 (length q)) m.queues (process_of m p).line [] none refl)
+
+pub none_wakes : (m : State) (p n : ℕ) → list_any (λ (q : List ℕ). nat_lt 0 (length q)) m.queues ≡ false → woken m p n ≡ m
+none_wakes m p zero none = refl
+none_wakes m p (suc n) none = ap (λ (b : Bool). woken (if b then made_ready m p else m) (p + 1) n) (no_wake m p none) ∙ none_wakes m (p + 1) n none

@@ -1,6 +1,6 @@
 //! What a boundary does to the processes and their queues.
-ghost use Rattle.std.specs.Prelude.{◌≡◌, ◌<◌, ◌≤◌, ◌^◌, ℕ, length, map, IfSome, None};
-ghost use Rattle.std.specs.List.{All};
+ghost use Rattle.std.specs.Prelude.{◌≡◌, ◌<◌, ◌≤◌, ◌^◌, ℕ, List, length, map, nat_lt, IfSome, None};
+ghost use Rattle.std.specs.List.{All, list_any};
 ghost use Rattle.ds_pagemap.specs.Machine.{State, Process, process_of, first};
 ghost use Rattle.ds_pagemap.specs.Boundary.{queued, wakes, woken, rotated};
 ghost use Rattle.ds_monitor.specs.Kept.{kept_of, kept_after};
@@ -85,7 +85,16 @@ impl Monitor {
         }
     }
 
-    /// Those that wait for a character that is there become ready, the lowest number first.
+    /// Whether a character waits on any line.
+    fn has_characters(&self) -> bool
+        ensures { result
+            ≡ list_any (λ (queue : List ℕ). nat_lt 0 (length queue)) self.now.queues.items }
+    {
+        self.queues.iter().any(|queue| !queue.is_empty())
+    }
+
+    /// Those that wait for a character that is there become ready, the lowest number first. Where
+    /// none is there it costs nothing.
     pub fn wake(&mut self)
         requires few { length self.old.seats.items ≤ 100 }
         requires lines { All (λ l. l < 4) (map (λ (q : Process). q.line) self.old.seats.items) }
@@ -97,6 +106,9 @@ impl Monitor {
           ready = self.new.ready;
         } }
     {
+        if !self.has_characters() {
+            return;
+        }
         let count = self.seats.len() as u32;
         let mut process = 1;
         while process <= count {

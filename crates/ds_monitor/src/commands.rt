@@ -15,6 +15,7 @@ ghost use Rattle.ds_monitor.specs.Orderly.{IsOrderly};
 ghost use Rattle.ds_monitor.specs.Room.{HasLogRoom};
 
 use crate::monitor::Monitor;
+use ds_dev::Bus;
 use ds_grants::GrantFault;
 use ds_log::Line;
 use ds_mem::Memory;
@@ -206,24 +207,25 @@ impl Monitor {
         }
     }
 
-    /// Does the commands that are due, in their order.
-    pub fn commands<L: Lookaside>(&mut self, memory: &mut Memory, tlb: &mut L)
+    /// Does the commands that are due, in their order. Where none is due, the bus lends no memory.
+    pub fn commands<L: Lookaside>(&mut self, bus: &mut Bus, tlb: &mut L)
         requires orderly { IsOrderly (kept_of self.old) }
         requires early { self.old.time < 2 ^ 62 }
         requires count { self.old.lines + length self.old.due.commands < 2 ^ 63 }
         requires room { HasLogRoom (commands_by self.old.time self.old.due.commands) self.old }
         ensures serves { Serves (commanded self.old.time)
-            (kept_of self.old) memory.old (kept_of self.new) memory.new }
+            (kept_of self.old) bus.old.memory (kept_of self.new) bus.new.memory }
         ensures orderly { IsOrderly (kept_of self.new) }
         ensures named { self.new.grants.named ≡ self.old.grants.named }
         ensures count { self.new.lines + length self.new.due.commands
             ≤ self.old.lines + length self.old.due.commands }
-        ensures low { IsLow memory.old memory.new }
+        ensures low { IsLow bus.old.memory bus.new.memory }
         ensures keeps { Keeps
-            (L.entries tlb.old) memory.old self.old.tables self.old.spaces self.old.grants
-            (L.entries tlb.new) memory.new self.new.tables self.new.spaces self.new.grants }
+            (L.entries tlb.old) bus.old.memory self.old.tables self.old.spaces self.old.grants
+            (L.entries tlb.new) bus.new.memory self.new.tables self.new.spaces self.new.grants }
         ensures pairs { HasNoNewPairs (L.entries tlb.old) (L.entries tlb.new) }
         ensures random { L.random_place tlb.new ≡ L.random_place tlb.old }
+        ensures bus { bus.new ≡ record bus.old { memory = bus.new.memory } }
         ensures rest { self.new ≡ record self.old {
           grants = self.new.grants;
           tables = self.new.tables;
@@ -236,7 +238,7 @@ impl Monitor {
         } }
     {
         while let Some(order) = self.due.take_command(self.time) {
-            self.command(order, memory, tlb);
+            self.command(order, bus.memory(), tlb);
         }
     }
 }

@@ -11,7 +11,7 @@ ghost use Rattle.ds_monitor.specs.Orderly.{IsOrderly};
 
 use crate::due::NEVER;
 use crate::monitor::Monitor;
-use ds_mem::Memory;
+use ds_dev::Bus;
 use ds_tlb::Lookaside;
 
 /// The time of an end, or never where there is none.
@@ -27,19 +27,20 @@ pub(crate) fn end_or_never(end: Option<u32>) -> u64
 
 impl Monitor {
     /// The rights that have ended by now end. Where none has, it costs nothing: a time before which none
-    /// ends is kept.
-    pub fn expire<L: Lookaside>(&mut self, memory: &mut Memory, tlb: &mut L)
+    /// ends is kept, and the bus lends no memory.
+    pub fn expire<L: Lookaside>(&mut self, bus: &mut Bus, tlb: &mut L)
         requires orderly { IsOrderly (kept_of self.old) }
         ensures serves { Serves (with_ends self.old.time)
-            (kept_of self.old) memory.old (kept_of self.new) memory.new }
+            (kept_of self.old) bus.old.memory (kept_of self.new) bus.new.memory }
         ensures orderly { IsOrderly (kept_of self.new) }
         ensures named { self.new.grants.named ≡ self.old.grants.named }
-        ensures low { IsLow memory.old memory.new }
+        ensures low { IsLow bus.old.memory bus.new.memory }
         ensures keeps { Keeps
-            (L.entries tlb.old) memory.old self.old.tables self.old.spaces self.old.grants
-            (L.entries tlb.new) memory.new self.new.tables self.new.spaces self.new.grants }
+            (L.entries tlb.old) bus.old.memory self.old.tables self.old.spaces self.old.grants
+            (L.entries tlb.new) bus.new.memory self.new.tables self.new.spaces self.new.grants }
         ensures pairs { HasNoNewPairs (L.entries tlb.old) (L.entries tlb.new) }
         ensures random { L.random_place tlb.new ≡ L.random_place tlb.old }
+        ensures bus { bus.new ≡ record bus.old { memory = bus.new.memory } }
         ensures rest { self.new ≡ record self.old {
           grants = self.new.grants;
           tables = self.new.tables;
@@ -47,8 +48,7 @@ impl Monitor {
         } }
     {
         if self.ends <= self.time {
-            self.grants
-                .expire(self.time, memory, &mut self.tables, &self.spaces, tlb);
+            self.grants.expire(self.time, bus.memory(), &mut self.tables, &self.spaces, tlb);
             self.ends = end_or_never(self.grants.table().next_end());
         }
     }

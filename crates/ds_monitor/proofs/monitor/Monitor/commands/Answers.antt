@@ -5,6 +5,8 @@ use Rattle.ds_policy.specs.InputFacts.{has_time}
 use Rattle.ds_pagemap.specs.Machine.{State}
 use Rattle.ds_pagemap.specs.Calls.{after_command}
 use Rattle.ds_monitor.specs.Orderly.{IsOrderly}
+use Rattle.ds_grants.specs.Represented.{IsLow, Keeps}
+use Rattle.ds_dev.specs.Bus.{BusState}
 use Rattle.ds_refinement.specs.Held.{Kept}
 use Rattle.ds_refinement.specs.Services.{Serves}
 use Rattle.ds_refinement.proofs.NoNewPairs.{same_pairs, joined_pairs}
@@ -27,11 +29,12 @@ loop-order-init g c = record {
   orderly = c.requires.orderly;
   named = refl;
   count = omega arith;
-  low = low_same c.args.memory.now;
+  low = low_same c.args.bus.now.memory;
   keeps = λ holds. holds;
   pairs = same_pairs (g.L.Lookaside.entries c.args.tlb.now);
   random = refl;
   room = c.requires.room;
+  bus = refl;
   rest = refl;
 }
 
@@ -72,19 +75,28 @@ loop-order-preserved g c =
     let longer : length last.due.commands ≡ length left.commands + 1 = ap (λ (cs : List TimedCommand). length cs) first ∙ (omega arith) in
     let same : length next.due.commands ≡ length left.commands = ap (λ (d : InputValue). length d.commands) still in
     let there = taken_is last left c.take_command.ensures.rest in
+    let before = c.loop-order.bus.memory in
+    let later = c.command.new.memory in
+    let lent = c.memory.ensures.value in
+    let tlb = g.L.Lookaside.entries c.loop-order.tlb in
+    let tlb_later = g.L.Lookaside.entries c.command.new.tlb in
     record {
       serves = λ z w s. i.serves z w
-          (commanded_then now (kept_of last) (kept_of next) z c.loop-order.memory c.command.new.memory w order left.commands first soon
-          (subst (λ (k : Kept). Serves (λ (m : State). after_command m order.number order.command) k c.loop-order.memory (kept_of next) c.command.new.memory) there c.command.ensures.serves) s);
+          (commanded_then now (kept_of last) (kept_of next) z before later w order left.commands first soon
+          (subst (λ (k : Kept). Serves (λ (m : State). after_command m order.number order.command) k before (kept_of next) later) there
+          (subst (λ (x : List ℕ). Serves (λ (m : State). after_command m order.number order.command) (kept_of (record last { due = left })) x (kept_of next) later) lent c.command.ensures.serves)) s);
       orderly = c.command.ensures.orderly;
       named = c.command.ensures.named ∙ i.named;
       count = (let all = i.count in let one = c.command.ensures.lines in omega (arith, all, one, longer, same));
-      low = low_then c.args.memory.now c.loop-order.memory c.command.new.memory i.low c.command.ensures.low;
-      keeps = λ holds. c.command.ensures.keeps (i.keeps holds);
-      pairs = joined_pairs (g.L.Lookaside.entries c.args.tlb.now) (g.L.Lookaside.entries c.loop-order.tlb) (g.L.Lookaside.entries c.command.new.tlb) i.pairs c.command.ensures.pairs;
+      low = low_then c.args.bus.now.memory before later i.low (subst (λ (x : List ℕ). IsLow x later) lent c.command.ensures.low);
+      keeps = λ holds.
+          subst (λ (x : List ℕ). Keeps tlb x last.tables last.spaces last.grants tlb_later later next.tables next.spaces next.grants) lent c.command.ensures.keeps
+          (i.keeps holds);
+      pairs = joined_pairs (g.L.Lookaside.entries c.args.tlb.now) tlb tlb_later i.pairs c.command.ensures.pairs;
       random = c.command.ensures.random ∙ i.random;
       room = subst (λ (d : InputValue). HasLogRoom (commands_by now d.commands) next) (sym still)
           (c.command.ensures.room (commands_by now left.commands) (fewer_lines (commands_by now left.commands + 1) (commands_by now last.due.commands) (record last { due = left }) (omega (arith, more)) i.room));
+      bus = ap (λ (b : BusState). record b { memory = later }) i.bus;
       rest =
           c.command.ensures.rest
           ∙ (ap (λ (d : InputValue). record last { grants = next.grants; tables = next.tables; spaces = next.spaces; seats = next.seats; ready = next.ready; log = next.log; lines = next.lines; due = d }) c.take_command.ensures.rest
@@ -98,7 +110,7 @@ returns-clause-serves g c =
     let last = c.loop-order.self in
     let now = c.args.self.now.time in
     let same : kept_of (record last { due = c.take_command.new.self }) ≡ kept_of last = ap (λ (d : InputValue). kept_of (record last { due = d })) (c.in_default.ensures.none refl) in
-    subst (λ (k : Kept). Serves (commanded now) (kept_of c.args.self.now) c.args.memory.now k c.loop-order.memory) (sym same)
-    (i.serves (kept_of last) c.loop-order.memory
-    (commanded_end now (kept_of last) c.loop-order.memory (record { memory = refl; log = refl })
+    subst (λ (k : Kept). Serves (commanded now) (kept_of c.args.self.now) c.args.bus.now.memory k c.loop-order.bus.memory) (sym same)
+    (i.serves (kept_of last) c.loop-order.bus.memory
+    (commanded_end now (kept_of last) c.loop-order.bus.memory (record { memory = refl; log = refl })
     (subst (λ (t : ℕ). All (λ (x : TimedCommand). t < has_time x) last.due.commands) (ap (λ (m : Monitor). m.time) i.rest) (c.in_default.ensures.later refl))))

@@ -11,15 +11,16 @@ use Rattle.ds_monitor.proofs.monitor.Monitor.commands.Given as goal
 
 abbrev pub invariant-loop-order : goal.invariant-loop-order
 invariant-loop-order g l = record {
-  serves : (z : Kept) (w : List ℕ) → Serves (commanded l.fn.self.time) (kept_of l.self) l.memory z w → Serves (commanded l.fn.self.time) (kept_of l.fn.self) l.fn.memory z w;
+  serves : (z : Kept) (w : List ℕ) → Serves (commanded l.fn.self.time) (kept_of l.self) l.bus.memory z w → Serves (commanded l.fn.self.time) (kept_of l.fn.self) l.fn.bus.memory z w;
   orderly : IsOrderly (kept_of l.self);
   named : l.self.grants.named ≡ l.fn.self.grants.named;
   count : l.self.lines + length l.self.due.commands ≤ l.fn.self.lines + length l.fn.self.due.commands;
-  low : IsLow l.fn.memory l.memory;
-  keeps : Keeps (g.L.Lookaside.entries l.fn.tlb) l.fn.memory l.fn.self.tables l.fn.self.spaces l.fn.self.grants (g.L.Lookaside.entries l.tlb) l.memory l.self.tables l.self.spaces l.self.grants;
+  low : IsLow l.fn.bus.memory l.bus.memory;
+  keeps : Keeps (g.L.Lookaside.entries l.fn.tlb) l.fn.bus.memory l.fn.self.tables l.fn.self.spaces l.fn.self.grants (g.L.Lookaside.entries l.tlb) l.bus.memory l.self.tables l.self.spaces l.self.grants;
   pairs : HasNoNewPairs (g.L.Lookaside.entries l.fn.tlb) (g.L.Lookaside.entries l.tlb);
   random : g.L.Lookaside.random_place l.tlb ≡ g.L.Lookaside.random_place l.fn.tlb;
   room : HasLogRoom (commands_by l.fn.self.time l.self.due.commands) l.self;
+  bus : l.bus ≡ record l.fn.bus { memory = l.bus.memory };
   rest : l.self ≡ record l.fn.self {
     grants = l.self.grants;
     tables = l.self.tables;

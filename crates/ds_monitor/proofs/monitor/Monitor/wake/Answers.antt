@@ -1,10 +1,10 @@
-use Rattle.std.proofs.Common.{◌<◌, ◌+◌, ◌-◌, ◌∙◌, sym, ap, subst, refl, arith, List, ℕ}
+use Rattle.std.proofs.Common.{◌<◌, ◌+◌, ◌-◌, ◌∙◌, sym, ap, subst, refl, arith, List, ℕ, length}
 use Rattle.std.specs.Prelude.{All}
 use Rattle.ds_pagemap.specs.Machine.{State}
 use Rattle.ds_pagemap.specs.Boundary.{woken}
 use Rattle.ds_refinement.specs.Held.{Kept}
 use Rattle.ds_monitor.specs.Kept.{kept_of, kept_after}
-use Rattle.ds_monitor.proofs.Waking.{line_there, wakes_on, wakes_end}
+use Rattle.ds_monitor.proofs.Waking.{line_there, wakes_on, wakes_end, none_wakes}
 use Rattle.ds_monitor.proofs.monitor.Monitor.wake.Goals as goal
 
 pub wake_one-requires-clause-line : goal.wake_one-requires-clause-line
@@ -38,3 +38,8 @@ returns-clause-kept c =
     let k = kept_of c.loop-process.self in
     ap (λ (s : State). record k { state = s }) (sym (wakes_end k.state c.loop-process.process c.len-count.result c.loop-process-test.false))
     ∙ (i.same ∙ ap (λ (n : ℕ). kept_after (λ (m : State). woken m 1 n) (kept_of c.args.self.now)) i.counted)
+
+pub returns-then-not-has_characters-clause-kept : goal.returns-then-not-has_characters-clause-kept
+returns-then-not-has_characters-clause-kept c =
+    let k = kept_of c.args.self.now in
+    ap (λ (s : State). record k { state = s }) (sym (none_wakes k.state 1 (length k.state.processes) (sym c.has_characters.ensures ∙ c.if-not-has_characters.true)))
