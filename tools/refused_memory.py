@@ -4,7 +4,8 @@
 A run that is cut short for want of memory has to end with status 3 and to write its text so far: that of some number
 of whole turns, which are known from runs without a refusal. Where a growth of the preparation is refused,
 nothing is written, and no contract tells the two apart. For n = 0 all is preparation, so a growth that is refused for
-n = 0 too is none of the run.
+n = 0 too is none of the run. A run that is refused a page of known operations does without, and ends as if
+nothing had been refused: the guest's code is one page.
 
 `rt try --fail-alloc N --cases` builds the program once and refuses the Nth growth in each case. The cases differ in a
 comment in the input: it is twice as long from case to case, and to read it takes one growth more, so the Nth growth is
@@ -18,15 +19,16 @@ from pathlib import Path
 from typing import NamedTuple, Optional
 
 PROGRAM = Path(__file__).resolve().parent.parent / "crates" / "dsmon"
-GROWTH = 205  # (the one before the last of the preparation is of a list that grows otherwise where it is refused, and refuses nothing)
-STEP = 4  # so far it is moved where it does not fit
-MOST_BUILDS = 6
+GROWTH = 209  # (the one before the last of the preparation is of a list that grows otherwise where it is refused, and refuses nothing)
+STEP = 3  # so far it is moved where it does not fit
+MOST_BUILDS = 8
 # (of the comments, each one growth more than the one before; a longer one takes as long to read as the whole run)
 LENGTHS = [0] + [3 << (k + 7) for k in range(1, 12)]
 BYTES = 257  # one more than a console makes room for at once
 TICKS = 2 * BYTES + 6  # of the whole run, which is denied at time 515
 KNOWN = [*range(4), *range(2 * BYTES - 6, TICKS + 1)]  # the times near the growths of the run
 MEMORY = 3  # the status
+PAGES = 1  # of known operations, one for each page of code that is run
 
 POLICY = """\
 version = 1
@@ -120,9 +122,13 @@ def column(runs, kind):
 
 def misfit(runs):
     """How far the refused growth has to be moved, so that it goes through the whole run: 0 where it does."""
-    if any(run.status == MEMORY for run in [*column(runs, "known"), column(runs, "whole")[0]]):
+    whole = [run.status for run in column(runs, "whole")]
+    if any(run.status == MEMORY for run in column(runs, "known")) or whole[0] == MEMORY:
         return STEP
-    return 0 if column(runs, "none")[-1].status == MEMORY else -STEP
+    if column(runs, "none")[-1].status != MEMORY:
+        return -STEP
+    # (a page is done without, and growths come after it: where none is seen to be cut, the page's is the first of all)
+    return 0 if MEMORY in whole and 0 in whole[whole.index(MEMORY):] else STEP
 
 
 def place(none, whole, known):
@@ -149,8 +155,12 @@ def cut_texts(runs):
         raise Wrong("a run without a refusal does not end well")
     pairs = list(zip(column(runs, "none"), column(runs, "whole")))
     places = [place(none, whole, known) for none, whole in pairs]
-    if places != sorted(places) or set(places) != {0, 1, 2}:
+    spared = [k for k, at in enumerate(places) if at == 0 and 1 in places[:k]]
+    ordered = [at for k, at in enumerate(places) if k not in spared]
+    if ordered != sorted(ordered) or set(ordered) != {0, 1, 2}:
         raise Wrong(f"the refused growth does not go through the run: {places}")
+    if len(spared) != PAGES:
+        raise Wrong(f"of {PAGES} pages {len(spared)} were done without: {places}")
     cuts = [known.index(whole.text) for at, (_, whole) in zip(places, pairs) if at == 1]
     if cuts != sorted(cuts, reverse=True):
         raise Wrong(f"an earlier growth was refused later: {cuts}")

@@ -11,9 +11,11 @@ from refused_memory import BYTES, GROWTH, LENGTHS, MOST_BUILDS, STEP, TICKS, Run
 from refused_memory import cases, fitting, read, verdict  # noqa: E402
 
 PREPARATION = GROWTH - 10  # the growths before the run
-CUTS = [0, 0, 0, 0, 0, 514, 516]  # the time at which each growth of the run comes
+PAGE = TICKS  # no time: a page of known operations is done without
+CUTS = [0, 0, 0, 0, 0, PAGE, 514, 516]  # the time at which each growth of the run comes
 FIRST = next(k for k in range(len(LENGTHS)) if PREPARATION + k + len(CUTS) >= GROWTH)  # the first case that is cut
 CUT = f"whole-{FIRST:02}"
+SPARED = FIRST + 2  # the case in which a page is done without
 
 
 def text(ticks):
@@ -80,15 +82,16 @@ class Tests(unittest.TestCase):
         self.assert_wrong("the status is 0", whole_00=Run(0, text(3)))
 
     def test_a_growth_that_is_left_out_is_told_where_the_order_shows_it(self):
-        self.assert_wrong("does not go through", **{f"whole-{FIRST + 1:02}": Run(0, text(TICKS))})
+        self.assert_wrong("2 were done without", **{f"whole-{FIRST + 1:02}": Run(0, text(TICKS))})
+        self.assert_wrong("0 were done without", **{f"whole-{SPARED:02}": Run(3, text(0))})
         self.assert_wrong("was refused later", **{f"whole-{FIRST + 3:02}": Run(3, text(516))})
 
     def test_a_guest_that_grows_too_little_is_wrong(self):
         for at, why in [(0, "behind a line of the log"), (1, "behind a byte")]:
-            names = {f"whole-{k:02}": Run(3, text(0)) for k in range(FIRST, FIRST + len(CUTS))}
+            names = {f"whole-{k:02}": Run(3, text(0)) for k in range(FIRST, FIRST + len(CUTS)) if k != SPARED}
             names.update({CUT: Run(3, text(514 if at == 0 else 516))})
             self.assert_wrong(why, **names)
-        names = {f"whole-{k:02}": Run(3, text(514)) for k in range(FIRST + 1, FIRST + len(CUTS))}
+        names = {f"whole-{k:02}": Run(3, text(514)) for k in range(FIRST + 1, FIRST + len(CUTS)) if k != SPARED}
         self.assert_wrong("before its first turn", **names)
 
     def test_what_is_written_is_read(self):
@@ -106,7 +109,7 @@ class Tests(unittest.TestCase):
             with contextlib.redirect_stdout(said):
                 found = fitting(lambda growth: runs(growth, PREPARATION + moved))
             self.assertIn("7 growths", verdict(found), moved)
-        self.assertIn(f"write GROWTH = {GROWTH + STEP}", said.getvalue())
+        self.assertIn(f"write GROWTH = {GROWTH + 2 * STEP}", said.getvalue())
         with self.assertRaisesRegex(Wrong, "no growth near"):
             fitting(lambda growth: runs(growth, PREPARATION + MOST_BUILDS * STEP + 9))
 

@@ -3,3 +3,6 @@ pub mod Slots
 pub mod Codes
 pub mod Wholes
 pub mod Stretches
+pub mod Lates
+pub mod Runs
+pub mod Turns

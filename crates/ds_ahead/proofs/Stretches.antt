@@ -26,7 +26,7 @@ use Rattle.ds_ahead.specs.Ahead.{Hardware, hardware_of, after_steps, Advances, A
 use Rattle.ds_ahead.proofs.Advances.{advances_on, comes_on, advances_join, after_both}
 
 -- where no interrupt is to be taken the effect of an operation that does what the instruction means is the step
-is_step : (o : Operation) (c : CoreState) (b : BusState) → is_pending c.system (lines b).0 (lines b).1 ≡ false → (fetched : IsFetched o c b) → o.kind ≢ Other
+pub is_step : (o : Operation) (c : CoreState) (b : BusState) → is_pending c.system (lines b).0 (lines b).1 ≡ false → (fetched : IsFetched o c b) → o.kind ≢ Other
     → with_tick (effect c b fetched.instr (does o c.pc c.registers)) ≡ step c b
 is_step o c b calm fetched some =
     let means : does o c.pc c.registers ≡ meaning fetched.instr c.pc c.registers = fetched.means some c.pc c.registers in

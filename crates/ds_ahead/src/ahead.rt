@@ -1,10 +1,11 @@
 //! Many steps at once.
-ghost use Rattle.std.specs.Prelude.{◌≡◌, ◌<◌, ◌≤◌, ◌+◌, ◌^◌, ℕ, Some, None, IsNone, IfSome};
+ghost use Rattle.std.specs.Prelude.{◌≡◌, ◌<◌, ◌≤◌, ◌+◌, ◌^◌, ℕ, Some, None, IsNone, IfSome, true, false};
 ghost use Rattle.ds_cp0.specs.declared.exception.ExceptionCode.TheVariants.{SystemCall};
 ghost use Rattle.ds_dev.specs.Bus.{BusState};
 ghost use Rattle.ds_core.specs.Core.{with_tick, trapped};
 ghost use Rattle.ds_ahead.specs.Ahead.{hardware_of, after_steps, AdvancesTo, ComesByWords, ticks, owed_tick};
 
+use crate::next::Next;
 use crate::stretch::stretch;
 use ds_core::{Core, Event};
 use ds_cp0::{Exception, ExceptionCode};
@@ -72,16 +73,28 @@ pub fn run_ahead<L: Lookaside>(core: &mut Core<L>, bus: &mut Bus, limit: u32) ->
     Ahead::calm(steps)
 }
 
-/// A stretch, and after it a plain step where it has fewer steps than `left`, which is one at
-/// least.
+/// Whether a plain step comes after a stretch of so many steps, with the limit to them: it made no
+/// way, or left what comes next.
 #[inline(always)]
-fn stretch_and_step<L: Lookaside>(core: &mut Core<L>, bus: &mut Bus, left: u32) -> Ahead
+fn is_followed(next: Next, steps: u32, limit: u32) -> bool
+    requires some { 0 < limit }
+    requires plain { next ≡ Next.Plain → steps < limit }
+    ensures step { result ≡ true → steps < limit }
+    ensures on { result ≡ false → 0 < steps }
+{
+    steps == 0 || matches!(next, Next::Plain)
+}
+
+/// A stretch of `limit` steps at most, which are one at least, and after it a plain step where it makes
+/// no way or left what comes next.
+#[inline(always)]
+fn stretch_and_step<L: Lookaside>(core: &mut Core<L>, bus: &mut Bus, limit: u32) -> Ahead
     requires slots { L.SLOTS ≡ 64 }
     requires wired { L.WIRED ≡ 8 }
-    requires some { 0 < left }
-    ensures within { result.steps ≤ left }
+    requires some { 0 < limit }
+    ensures within { result.steps ≤ limit }
     ensures on { IsNone result.raised → 0 < result.steps }
-    ensures fewer { IfSome result.raised (λ _. result.steps < left) }
+    ensures fewer { IfSome result.raised (λ _. result.steps < limit) }
     ensures steps { AdvancesTo result.steps result.raised
         (hardware_of core.old bus.old)
         (hardware_of core.new bus.new) }
@@ -90,18 +103,20 @@ fn stretch_and_step<L: Lookaside>(core: &mut Core<L>, bus: &mut Bus, left: u32) 
     ensures raised { IfSome result.raised (λ _.
         (after_steps result.steps (hardware_of core.old bus.old)).core.pc < 2 ^ 32) }
 {
-    let stretch = stretch(core, bus, left);
+    let mut left = limit;
+    let next = stretch(core, bus, &mut left);
+    let done = limit - left;
     let _here = core.pc;
-    if stretch.calls {
-        return call_after(core, stretch.steps);
+    if let Next::Call = next {
+        return call_after(core, done);
     }
-    if stretch.steps == left {
-        return Ahead::calm(left);
+    if !is_followed(next, done, limit) {
+        return Ahead::calm(done);
     }
     if let Event::Raised(code) = core.step(bus) {
-        return Ahead::stopped(stretch.steps, code);
+        return Ahead::stopped(done, code);
     }
-    Ahead::calm(stretch.steps + 1)
+    Ahead::calm(done + 1)
 }
 
 /// Enters the exception of a system call, after so many steps.

@@ -68,7 +68,8 @@ impl CodePage {
 #[inline(always)]
 #[tactic(auto, using(crate::proofs::Wholes::base_is_whole))]
 pub(crate) fn code_page<L: Lookaside>(core: &Core<L>) -> CodePage
-    ensures { KnowsPage result.vpn result.base core.now }
+    ensures knows { KnowsPage result.vpn result.base core.now }
+    ensures page { result.vpn < 2 ^ 32 → result.vpn ≡ core.now.pc / 2 ^ 12 }
 {
     if core.pc >= KSEG0 || !only_devices_interrupt(core) {
         return CodePage::none();

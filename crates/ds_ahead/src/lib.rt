@@ -4,10 +4,14 @@
 
 mod ahead;
 mod code;
+mod here;
+mod in_page;
 pub mod laws;
+mod next;
 mod operate;
 mod operations;
 mod position;
+mod run;
 mod stretch;
 
 pub use ahead::{Ahead, run_ahead};

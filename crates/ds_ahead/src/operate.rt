@@ -2,9 +2,11 @@
 ghost use Rattle.std.specs.Prelude.{◌≡◌, slice_index};
 ghost use Rattle.ds_isa.specs.Registers.{read};
 ghost use Rattle.ds_operations.specs.Does.{does};
+ghost use Rattle.ds_pages.specs.Does.{single};
 ghost use Rattle.ds_dev.specs.Bus.{lines};
 ghost use Rattle.ds_ahead.specs.Placed.{registers_at};
 ghost use Rattle.ds_ahead.specs.Operations.{ComesTo};
+ghost use Rattle.ds_ahead.specs.Goes.{GoesBy, KeepsFrame};
 
 use crate::operations::{
     Outcome, address_by, general, in_region, jump, jump_and_link, leave_byte, leave_half,
@@ -25,12 +27,14 @@ use ds_word::{
 /// Does an operation as a step, where it reads no register whose load is late and no interrupt is
 /// to be taken; or says why not, and changes nothing. It is compiled once for each `WAY` that leads
 /// here: it is long, and with two callers it would be a call, for 30 host instructions on each.
+/// A store into the frame that begins at `own` is left.
 #[inline(always)]
 pub(crate) fn operate<L: Lookaside, const WAY: usize>(
     core: &mut Core<L>,
     operation: Operation,
     at: &mut Position,
     bus: &mut Bus,
+    own: u32,
 ) -> Outcome
     requires first { read (registers_at core.old at.old) operation.first.number
         ≡ slice_index core.old.registers.general operation.first.number }
@@ -43,6 +47,8 @@ pub(crate) fn operate<L: Lookaside, const WAY: usize>(
     ensures entries { core.new.entries ≡ core.old.entries }
     ensures lines { lines bus.new ≡ lines bus.old }
     ensures known { operation.kind ≡ OperationKind.Other → result ≡ Outcome.Left }
+    ensures goes { GoesBy (single operation.kind) result core.old operation.to.number at.old at.new }
+    ensures frame { KeepsFrame own bus.old.memory bus.new.memory }
 {
     let Operation {
         kind,
@@ -255,6 +261,7 @@ pub(crate) fn operate<L: Lookaside, const WAY: usize>(
                 address_by(core, first, immediate),
                 at,
                 bus,
+                own,
             )
         }
         OperationKind::Sh => {
@@ -264,6 +271,7 @@ pub(crate) fn operate<L: Lookaside, const WAY: usize>(
                 address_by(core, first, immediate),
                 at,
                 bus,
+                own,
             )
         }
         OperationKind::Sw => {
@@ -273,6 +281,7 @@ pub(crate) fn operate<L: Lookaside, const WAY: usize>(
                 address_by(core, first, immediate),
                 at,
                 bus,
+                own,
             )
         }
         OperationKind::Syscall => Outcome::Called,

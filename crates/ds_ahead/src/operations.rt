@@ -1,14 +1,17 @@
 //! One operation of a stretch: what seldom comes is left to the plain step.
-ghost use Rattle.std.specs.Prelude.{◌≡◌, ◌+◌, ◌*◌, ◌<◌, ◌^◌, slice_index, Ok, IfSome};
+ghost use Rattle.std.specs.Prelude.{◌≡◌, ◌≢◌, ◌+◌, ◌-◌, ◌*◌, ◌%◌, ◌<◌, ◌^◌, slice_index, Ok, IfSome};
 ghost use Rattle.ds_isa.specs.Registers.{written, loaded, settled};
 ghost use Rattle.ds_isa.specs.Meaning.{written_or_trap, loads, stores, with_hi_lo, behind_slot, Branches};
 ghost use Rattle.ds_isa.specs.declared.instr.Size.TheVariants as size;
+ghost use Rattle.ds_isa.specs.declared.instr.Kind.TheVariants.{Store};
 ghost use Rattle.ds_word.specs.Word.{word, bits, sign_extended};
 ghost use Rattle.ds_word.specs.Merge.{with_bits};
+ghost use Rattle.ds_word.specs.Bytes.{with_word};
 ghost use Rattle.ds_operations.specs.Does.{target_by, in_region};
 ghost use Rattle.ds_dev.specs.Bus.{lines};
 ghost use Rattle.ds_core.specs.Access.{reached};
 ghost use Rattle.ds_ahead.specs.Placed.{registers_at, with_general, at_next};
+ghost use Rattle.ds_ahead.specs.Goes.{at_load, GoesOn, GoesLate, GoesAway, KeepsFrame};
 ghost use Rattle.ds_ahead.specs.Operations.{ComesTo};
 
 use crate::position::Position;
@@ -93,7 +96,7 @@ pub(crate) fn put_late<L: Lookaside>(
 ) -> Outcome
     ensures loaded { result ≡ Outcome.Loaded }
     ensures core { core.new ≡ record core.old { registers = core.new.registers } }
-    ensures at { at.new ≡ record (at_next at.old) { late = at.new.late } }
+    ensures at { at.new ≡ at_load core.old to.number at.old }
     ensures registers { registers_at core.new at.new
         ≡ loaded (registers_at core.old at.old) to.number value }
 {
@@ -121,6 +124,7 @@ pub(crate) fn put_or_leave<L: Lookaside>(
         core.old at.old bus.now core.new at.new bus.now }
     ensures system { core.new.system ≡ core.old.system }
     ensures entries { core.new.entries ≡ core.old.entries }
+    ensures goes { GoesOn result at.old at.new }
 {
     match value {
         Some(value) => put(core, to, value, at),
@@ -140,6 +144,7 @@ pub(crate) fn jump<L: Lookaside>(
         core.old at.old bus.now core.new at.new bus.now }
     ensures system { core.new.system ≡ core.old.system }
     ensures entries { core.new.entries ≡ core.old.entries }
+    ensures goes { GoesAway result at.old at.new }
 {
     if at.slot {
         Outcome::Left
@@ -162,6 +167,7 @@ pub(crate) fn jump_and_link<L: Lookaside>(
         core.old at.old bus.now core.new at.new bus.now }
     ensures system { core.new.system ≡ core.old.system }
     ensures entries { core.new.entries ≡ core.old.entries }
+    ensures goes { GoesAway result at.old at.new }
 {
     if at.slot {
         return Outcome::Left;
@@ -183,6 +189,7 @@ pub(crate) fn put_hi_lo<L: Lookaside>(
         core.old at.old bus.now core.new at.new bus.now }
     ensures system { core.new.system ≡ core.old.system }
     ensures entries { core.new.entries ≡ core.old.entries }
+    ensures goes { GoesOn result at.old at.new }
 {
     core.hi = hi;
     core.lo = lo;
@@ -214,6 +221,37 @@ pub(crate) fn remembered<L: Lookaside>(
     recalled(address, access, &core.tlb, core.cp0.asid())
 }
 
+/// The place in memory of a store, where the buffer remembers its page; none in the frame that
+/// begins at `own`.
+#[inline(always)]
+fn place_apart<L: Lookaside>(core: &Core<L>, size: Size, address: u32, own: u32) -> Option<Physical>
+    ensures value { IfSome result (λ place. reached core.now Store size address ≡ Ok place) }
+    ensures inside { IfSome result (λ place. place.0 < 2 ^ 23) }
+    ensures apart { IfSome result (λ place. place.0 - place.0 % 4096 ≢ own) }
+{
+    let Physical(place) = remembered(core, Access::Store, size, address)?;
+    if place - place % 4096 == own {
+        return None;
+    }
+    Some(Physical(place))
+}
+
+/// Replaces a word outside the frame that begins at `own`.
+#[inline(always)]
+fn put_word_apart(bus: &mut Bus, place: u32, word: u32, own: u32)
+    requires inside { place < 2 ^ 23 }
+    requires apart { place - place % 4096 ≢ own }
+    ensures state { bus.new ≡ record bus.old {
+      memory = with_word bus.old.memory place word;
+    } }
+    ensures frame { KeepsFrame own bus.old.memory bus.new.memory }
+{
+    // Its size is looked at, so that it is known that each word has a place.
+    let _size = bus.memory_size();
+    let _ = own;
+    bus.put_word(place, word);
+}
+
 /// Loads a byte with its sign.
 #[inline(always)]
 pub(crate) fn take_byte<L: Lookaside>(
@@ -227,6 +265,7 @@ pub(crate) fn take_byte<L: Lookaside>(
         (λ w b. sign_extended 8 (bits w (8 * b) 8))) core.old at.old bus.now core.new at.new bus.now }
     ensures system { core.new.system ≡ core.old.system }
     ensures entries { core.new.entries ≡ core.old.entries }
+    ensures goes { GoesLate result core.old to.number at.old at.new }
 {
     match remembered(core, Access::Load, Size::Byte, address) {
         Some(Physical(place)) => {
@@ -249,6 +288,7 @@ pub(crate) fn take_byte_unsigned<L: Lookaside>(
         (λ w b. bits w (8 * b) 8)) core.old at.old bus.now core.new at.new bus.now }
     ensures system { core.new.system ≡ core.old.system }
     ensures entries { core.new.entries ≡ core.old.entries }
+    ensures goes { GoesLate result core.old to.number at.old at.new }
 {
     match remembered(core, Access::Load, Size::Byte, address) {
         Some(Physical(place)) => {
@@ -271,6 +311,7 @@ pub(crate) fn take_half<L: Lookaside>(
         (λ w b. sign_extended 16 (bits w (8 * b) 16))) core.old at.old bus.now core.new at.new bus.now }
     ensures system { core.new.system ≡ core.old.system }
     ensures entries { core.new.entries ≡ core.old.entries }
+    ensures goes { GoesLate result core.old to.number at.old at.new }
 {
     match remembered(core, Access::Load, Size::Half, address) {
         Some(Physical(place)) => {
@@ -293,6 +334,7 @@ pub(crate) fn take_half_unsigned<L: Lookaside>(
         (λ w b. bits w (8 * b) 16)) core.old at.old bus.now core.new at.new bus.now }
     ensures system { core.new.system ≡ core.old.system }
     ensures entries { core.new.entries ≡ core.old.entries }
+    ensures goes { GoesLate result core.old to.number at.old at.new }
 {
     match remembered(core, Access::Load, Size::Half, address) {
         Some(Physical(place)) => {
@@ -315,6 +357,7 @@ pub(crate) fn take_word<L: Lookaside>(
         core.old at.old bus.now core.new at.new bus.now }
     ensures system { core.new.system ≡ core.old.system }
     ensures entries { core.new.entries ≡ core.old.entries }
+    ensures goes { GoesLate result core.old to.number at.old at.new }
 {
     match remembered(core, Access::Load, Size::Word, address) {
         Some(Physical(place)) => put_late(core, to, bus.word(place), at),
@@ -330,17 +373,20 @@ pub(crate) fn leave_byte<L: Lookaside>(
     address: u32,
     at: &mut Position,
     bus: &mut Bus,
+    own: u32,
 ) -> Outcome
     ensures comes { ComesTo result (stores size.Byte address (λ w b. with_bits w (8 * b) 8 value))
         core.old at.old bus.old core.new at.new bus.new }
     ensures system { core.new.system ≡ core.old.system }
     ensures entries { core.new.entries ≡ core.old.entries }
+    ensures goes { GoesOn result at.old at.new }
+    ensures frame { KeepsFrame own bus.old.memory bus.new.memory }
     ensures lines { lines bus.new ≡ lines bus.old }
 {
-    match remembered(core, Access::Store, Size::Byte, address) {
+    match place_apart(core, Size::Byte, address, own) {
         Some(Physical(place)) => {
             let word = bus.word(place);
-            bus.put_word(place, store_byte(word, value, address % 4));
+            put_word_apart(bus, place, store_byte(word, value, address % 4), own);
             at.go_on()
         }
         None => Outcome::Left,
@@ -355,17 +401,20 @@ pub(crate) fn leave_half<L: Lookaside>(
     address: u32,
     at: &mut Position,
     bus: &mut Bus,
+    own: u32,
 ) -> Outcome
     ensures comes { ComesTo result (stores size.Half address (λ w b. with_bits w (8 * b) 16 value))
         core.old at.old bus.old core.new at.new bus.new }
     ensures system { core.new.system ≡ core.old.system }
     ensures entries { core.new.entries ≡ core.old.entries }
+    ensures goes { GoesOn result at.old at.new }
+    ensures frame { KeepsFrame own bus.old.memory bus.new.memory }
     ensures lines { lines bus.new ≡ lines bus.old }
 {
-    match remembered(core, Access::Store, Size::Half, address) {
+    match place_apart(core, Size::Half, address, own) {
         Some(Physical(place)) => {
             let word = bus.word(place);
-            bus.put_word(place, store_half(word, value, address % 4));
+            put_word_apart(bus, place, store_half(word, value, address % 4), own);
             at.go_on()
         }
         None => Outcome::Left,
@@ -380,16 +429,19 @@ pub(crate) fn leave_word<L: Lookaside>(
     address: u32,
     at: &mut Position,
     bus: &mut Bus,
+    own: u32,
 ) -> Outcome
     ensures comes { ComesTo result (stores size.Word address (λ w b. value))
         core.old at.old bus.old core.new at.new bus.new }
     ensures system { core.new.system ≡ core.old.system }
     ensures entries { core.new.entries ≡ core.old.entries }
+    ensures goes { GoesOn result at.old at.new }
+    ensures frame { KeepsFrame own bus.old.memory bus.new.memory }
     ensures lines { lines bus.new ≡ lines bus.old }
 {
-    match remembered(core, Access::Store, Size::Word, address) {
+    match place_apart(core, Size::Word, address, own) {
         Some(Physical(place)) => {
-            bus.put_word(place, value);
+            put_word_apart(bus, place, value, own);
             at.go_on()
         }
         None => Outcome::Left,

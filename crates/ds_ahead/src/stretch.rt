@@ -1,5 +1,6 @@
 //! A stretch: operations one after the other, while nothing that seldom comes gets in their way.
-ghost use Rattle.std.specs.Prelude.{◌≡◌, ◌<◌, ◌≤◌, ◌-◌, ◌^◌, ℕ, true, false, None, IfSome};
+ghost use Rattle.std.specs.Prelude.{◌≡◌, ◌+◌, ◌/◌, ◌%◌, ◌<◌, ◌≤◌, ◌-◌, ◌^◌, ℕ, true, false, None, IfSome};
+ghost use Rattle.ds_word.specs.Word.{word};
 ghost use Rattle.ds_cp0.specs.System.{is_pending};
 ghost use Rattle.ds_dev.specs.Bus.{lines};
 ghost use Rattle.ds_cp0.specs.declared.exception.ExceptionCode.TheVariants.{SystemCall};
@@ -11,6 +12,8 @@ ghost use Rattle.ds_core.specs.Effect.{step};
 ghost use Rattle.ds_ahead.specs.Ahead.{hardware_of, after_steps, Advances};
 
 use crate::code::{CodePage, code_page};
+use crate::in_page::stretch_in_page;
+use crate::next::Next;
 use crate::operate::operate;
 use crate::operations::Outcome;
 use crate::position::{Position, position_of, settle};
@@ -18,14 +21,18 @@ use ds_core::Core;
 use ds_dev::Bus;
 use ds_operations::Operation;
 use ds_tlb::Lookaside;
+use ds_word::wrapping_sum;
 
-/// How far a stretch went.
+/// No frame begins here.
+const NO_FRAME: u32 = 1;
+
+/// How far a walk went.
 #[derive(Clone, Copy)]
-pub(crate) struct Stretched {
+struct Walked {
     /// The number of steps that were done.
     pub steps: u32,
-    /// A system call comes next.
-    pub calls: bool,
+    /// What comes after them.
+    pub next: Next,
 }
 
 /// The operation at a position, where its page is known.
@@ -63,7 +70,7 @@ fn operate_at<L: Lookaside>(
     ensures calm { StaysCalm core.old bus.old core.new bus.new }
 {
     match operation_at(core, at, bus, code) {
-        Some(operation) => operate::<L, 0>(core, operation, at, bus),
+        Some(operation) => operate::<L, 0>(core, operation, at, bus, NO_FRAME),
         None => Outcome::Left,
     }
 }
@@ -86,7 +93,7 @@ fn operate_after_load<L: Lookaside>(
             if at.is_awaited(&operation) {
                 Outcome::Left
             } else {
-                operate::<L, 1>(core, operation, at, bus)
+                operate::<L, 1>(core, operation, at, bus, NO_FRAME)
             }
         }
         None => Outcome::Left,
@@ -173,38 +180,170 @@ fn do_operations<L: Lookaside>(
 #[inline(always)]
 fn is_calm<L: Lookaside>(core: &Core<L>, bus: &Bus, code: &CodePage) -> bool
     requires known { KnowsPage code.now.vpn code.now.base core.now }
-    ensures { result ≡ true
+    ensures calm { result ≡ true
         → is_pending core.now.system (lines bus.now).0 (lines bus.now).1 ≡ false }
+    ensures some { result ≡ true → code.now.vpn < 2 ^ 32 }
 {
     code.is_known() && !bus.asks()
 }
 
-/// A stretch of `limit` operations at most: until a system call, or what is left to the plain
-/// step.
+/// Whether the program goes straight on from a word.
 #[inline(always)]
-pub(crate) fn stretch<L: Lookaside>(core: &mut Core<L>, bus: &mut Bus, limit: u32) -> Stretched
+fn is_straight<L: Lookaside>(core: &Core<L>) -> bool
+    ensures straight { result ≡ true → core.now.slot ≡ false }
+    ensures next { result ≡ true → core.now.next ≡ word (core.now.pc + 4) }
+    ensures aligned { result ≡ true → core.now.pc % 4 ≡ 0 }
+{
+    !core.slot && core.next == wrapping_sum(core.pc, 4) && core.pc % 4 == 0
+}
+
+/// What comes after a walk that a system call may end, after which so many steps are left of it.
+#[inline(always)]
+fn next_after(calls: bool, left: u32) -> Next
+    ensures call { result ≡ Next.Call → calls ≡ true }
+    ensures plain { result ≡ Next.Plain → 0 < left }
+{
+    if calls {
+        Next::Call
+    } else if left > 0 {
+        Next::Plain
+    } else {
+        Next::Any
+    }
+}
+
+/// A stretch of `limit` operations at most that looks at each word, where the page is known. It stays
+/// a call: with its copies of `operate` beside those of a run, `stretch` would be too long to be
+/// compiled into its caller.
+#[inline(never)]
+fn walk<L: Lookaside>(core: &mut Core<L>, bus: &mut Bus, code: &CodePage, limit: u32) -> Walked
     requires slots { L.SLOTS ≡ 64 }
     requires wired { L.WIRED ≡ 8 }
+    requires settled { core.old.registers.late ≡ None }
+    requires known { KnowsPage code.now.vpn code.now.base core.old }
+    requires calm { is_pending core.old.system (lines bus.old).0 (lines bus.old).1 ≡ false }
     ensures within { result.steps ≤ limit }
-    ensures fewer { result.calls ≡ true → result.steps < limit }
-    ensures calls { result.calls ≡ true
+    ensures fewer { result.next ≡ Next.Call → result.steps < limit }
+    ensures plain { result.next ≡ Next.Plain → result.steps < limit }
+    ensures calls { result.next ≡ Next.Call
         → with_tick (trapped core.new bus.new SystemCall) ≡ step core.new bus.new }
     ensures steps { Advances result.steps (hardware_of core.old bus.old)
         (hardware_of core.new bus.new) }
     ensures words { (k : ℕ) → k < result.steps
         → (after_steps k (hardware_of core.old bus.old)).core.pc < 2 ^ 32 }
 {
-    let code = code_page(core);
-    if !is_calm(core, bus, &code) || core.late.is_some() {
-        return Stretched {
-            steps: 0,
-            calls: false,
-        };
-    }
     let mut at = position_of(core);
     let mut left = limit;
-    let calls = do_operations(core, &mut at, bus, &code, &mut left);
+    let calls = do_operations(core, &mut at, bus, code, &mut left);
     let steps = limit - left;
     settle(core, &at, steps);
-    Stretched { steps, calls }
+    Walked {
+        steps,
+        next: next_after(calls, left),
+    }
+}
+
+/// The same, for some of the `left` steps at most, and one less is left for each. What comes next is
+/// answered.
+#[inline(always)]
+fn walk_on<L: Lookaside>(
+    core: &mut Core<L>,
+    bus: &mut Bus,
+    code: &CodePage,
+    limit: u32,
+    left: &mut u32,
+) -> Next
+    requires fits { limit ≤ left.old }
+    requires slots { L.SLOTS ≡ 64 }
+    requires wired { L.WIRED ≡ 8 }
+    requires settled { core.old.registers.late ≡ None }
+    requires known { KnowsPage code.now.vpn code.now.base core.old }
+    requires calm { is_pending core.old.system (lines bus.old).0 (lines bus.old).1 ≡ false }
+    ensures within { left.new ≤ left.old }
+    ensures some { result ≡ Next.Call → 0 < left.new }
+    ensures plain { result ≡ Next.Plain → 0 < left.new }
+    ensures calls { result ≡ Next.Call
+        → with_tick (trapped core.new bus.new SystemCall) ≡ step core.new bus.new }
+    ensures steps { Advances (left.old - left.new) (hardware_of core.old bus.old)
+        (hardware_of core.new bus.new) }
+    ensures words { (k : ℕ) → k < left.old - left.new
+        → (after_steps k (hardware_of core.old bus.old)).core.pc < 2 ^ 32 }
+{
+    let walked = walk(core, bus, code, limit);
+    *left -= walked.steps;
+    walked.next
+}
+
+/// The steps that are done without a page where one will serve after them: of a slot and one more.
+#[inline(always)]
+fn few(left: u32) -> u32
+    ensures { result ≤ left }
+{
+    if left < 2 { left } else { 2 }
+}
+
+/// A stretch from a word where the program goes straight on: through a page of known operations,
+/// where the bus has one into which the first block fits, else word by word.
+#[inline(always)]
+fn stretch_straight<L: Lookaside>(
+    core: &mut Core<L>,
+    bus: &mut Bus,
+    code: &CodePage,
+    left: &mut u32,
+) -> Next
+    requires slots { L.SLOTS ≡ 64 }
+    requires wired { L.WIRED ≡ 8 }
+    requires known { KnowsPage code.now.vpn code.now.base core.old }
+    requires some { code.now.vpn < 2 ^ 32 }
+    requires page { code.now.vpn ≡ core.old.pc / 2 ^ 12 }
+    requires aligned { core.old.pc % 4 ≡ 0 }
+    requires straight { core.old.slot ≡ false }
+    requires next { core.old.next ≡ word (core.old.pc + 4) }
+    requires settled { core.old.registers.late ≡ None }
+    requires calm { is_pending core.old.system (lines bus.old).0 (lines bus.old).1 ≡ false }
+    ensures within { left.new ≤ left.old }
+    ensures some { result ≡ Next.Call → 0 < left.new }
+    ensures plain { result ≡ Next.Plain → 0 < left.new }
+    ensures calls { result ≡ Next.Call
+        → with_tick (trapped core.new bus.new SystemCall) ≡ step core.new bus.new }
+    ensures steps { Advances (left.old - left.new) (hardware_of core.old bus.old)
+        (hardware_of core.new bus.new) }
+    ensures words { (k : ℕ) → k < left.old - left.new
+        → (after_steps k (hardware_of core.old bus.old)).core.pc < 2 ^ 32 }
+{
+    let limit = *left;
+    let next = stretch_in_page(core, bus, code, left);
+    if next.is_known() || *left < limit {
+        return next;
+    }
+    walk_on(core, bus, code, limit, left)
+}
+
+/// A stretch of `left` operations at most, and one less is left for each: until a system call, or
+/// what is left to the plain step. What comes next is answered. It goes through a page of known
+/// operations where the bus has one.
+#[inline(always)]
+pub(crate) fn stretch<L: Lookaside>(core: &mut Core<L>, bus: &mut Bus, left: &mut u32) -> Next
+    requires slots { L.SLOTS ≡ 64 }
+    requires wired { L.WIRED ≡ 8 }
+    ensures within { left.new ≤ left.old }
+    ensures some { result ≡ Next.Call → 0 < left.new }
+    ensures plain { result ≡ Next.Plain → 0 < left.new }
+    ensures calls { result ≡ Next.Call
+        → with_tick (trapped core.new bus.new SystemCall) ≡ step core.new bus.new }
+    ensures steps { Advances (left.old - left.new) (hardware_of core.old bus.old)
+        (hardware_of core.new bus.new) }
+    ensures words { (k : ℕ) → k < left.old - left.new
+        → (after_steps k (hardware_of core.old bus.old)).core.pc < 2 ^ 32 }
+{
+    let code = code_page(core);
+    if !is_calm(core, bus, &code) || core.late.is_some() {
+        return Next::Any;
+    }
+    if is_straight(core) {
+        stretch_straight(core, bus, &code, left)
+    } else {
+        let limit = few(*left);
+        walk_on(core, bus, &code, limit, left)
+    }
 }

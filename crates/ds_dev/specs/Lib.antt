@@ -3,4 +3,5 @@ pub mod Serial
 pub mod Clock
 pub mod Bus
 pub mod Lending
+pub mod Known
 pub mod Worked

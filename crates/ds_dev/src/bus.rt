@@ -1,29 +1,35 @@
 //! Memory and devices at their physical addresses.
-ghost use Rattle.std.specs.Prelude.{◌≡◌, ◌%◌, ◌^◌, ◌<◌, ◌≤◌, OnErr};
+ghost use Rattle.std.specs.Prelude.{◌≡◌, ◌+◌, ◌%◌, ◌^◌, ◌<◌, ◌≤◌, IfSome, OnErr, length};
 ghost use Rattle.std.specs.Borrow.{sem};
 ghost use Rattle.ds_isa.specs.Instruction.{instruction_of};
 ghost use Rattle.ds_isa.specs.declared.instr.Size.TheVariants.{Word};
 ghost use Rattle.ds_operations.specs.Does.{MeansAs};
 ghost use Rattle.ds_word.specs.Bytes.{word_at, with_word};
+ghost use Rattle.ds_pages.specs.Page.{HoldsWords};
 ghost use Rattle.ds_dev.specs.Bus.{at_start, alignment, load, store, register_load, register_store, after_ticks, lines, devices_ask, asks, with_serial};
 ghost use Rattle.ds_dev.specs.Serial.{received, sent};
 ghost use Rattle.ds_dev.specs.Lending.{LendsMemory};
+ghost use Rattle.ds_pages.specs.Page.{HoldsWords};
 
 use crate::access;
 use crate::clock::{self, Clock};
 use crate::fault::BusError;
+use crate::known::KnownMemory;
 use crate::memo::{Memo, PAGE_WORDS};
+use crate::pages::Pages;
 use crate::serial::{self, SerialLines};
 use crate::system::{self, SystemRegister};
 use ds_isa::{Instr, Size};
-use ds_mem::{Memory, SIZE};
+use ds_mem::{FRAME_SIZE, Memory, SIZE};
 use ds_operations::Operation;
+use ds_pages::Page;
 use std::marker::Model;
 
 /// The bus, which contracts see as the record of its memory and its devices.
 #[derive(Drop)]
 pub struct Bus {
-    memory: Memory,
+    // Memory with its pages, which contracts don't see.
+    memory: KnownMemory,
     // What was fetched from memory before. Contracts don't see it.
     memo: Memo,
     serial: SerialLines,
@@ -58,8 +64,23 @@ fn devices_ask(serial: &SerialLines, system: &SystemRegister, clock: &Clock) -> 
 }
 
 impl Bus {
-    /// New devices over a memory: every register, flag and time zero, and no character.
+    /// New devices over a memory: every register, flag and time zero, and no character. It has no
+    /// pages of known operations.
     pub fn new(memory: Memory) -> Bus
+        ensures { result ≡ at_start memory }
+    {
+        Bus::over(KnownMemory::new(memory, None))
+    }
+
+    /// New devices over a memory, and room for the pages of known operations of its frames.
+    pub fn with_pages(memory: Memory, pages: Pages) -> Bus
+        ensures { result ≡ at_start memory }
+    {
+        Bus::over(KnownMemory::new(memory, Some(pages)))
+    }
+
+    /// New devices over a memory with its pages.
+    fn over(memory: KnownMemory) -> Bus
         ensures { result ≡ at_start memory }
     {
         Bus {
@@ -78,7 +99,32 @@ impl Bus {
         ensures* writes_back { sem 𝓛 (LendsMemory self.entry result) }
         ensures value { result.now ≡ self.old.memory }
     {
-        &mut self.memory
+        self.memory.lend()
+    }
+
+    /// Takes out the page of the frame that begins at a place of memory: it holds the frame's words.
+    /// There is none where the bus was given no pages, where the host has no room for it, or where
+    /// memory was found to differ from it too often. Whoever has it has to tell it of each word that
+    /// changes there, and gives it back (`give`).
+    #[inline(always)]
+    pub fn take(&mut self, base: u32) -> Option<Box<Page>>
+        requires whole { base % 4096 ≡ 0 }
+        requires inside { base + 4096 ≤ SIZE }
+        ensures holds { IfSome result (λ page. HoldsWords page.value self.old.memory base) }
+        ensures same { self.new ≡ self.old }
+    {
+        self.memory.take(base as usize / FRAME_SIZE)
+    }
+
+    /// Takes back the page of the frame that begins at a place of memory.
+    #[inline(always)]
+    pub fn give(&mut self, base: u32, page: Box<Page>)
+        requires whole { base % 4096 ≡ 0 }
+        requires inside { base + 4096 ≤ SIZE }
+        requires holds { HoldsWords page.value self.old.memory base }
+        ensures same { self.new ≡ self.old }
+    {
+        self.memory.give(base as usize / FRAME_SIZE, page);
     }
 
     /// The requests to the processor: IP2, of the system register, and IP3, of the clock.
@@ -111,7 +157,7 @@ impl Bus {
         ensures refused { OnErr result (self.new ≡ self.old) }
     {
         if (physical as usize) < SIZE {
-            return Ok(access::load(&self.memory, physical, size));
+            return Ok(access::load(self.memory.memory(), physical, size));
         }
         match size {
             Size::Word => self.load_register(physical),
@@ -128,7 +174,7 @@ impl Bus {
         ensures value { result ≡ instruction_of (word_at self.old.memory physical) }
         ensures state { self.new ≡ self.old }
     {
-        let word = access::load(&self.memory, physical, Size::Part);
+        let word = access::load(self.memory.memory(), physical, Size::Part);
         let place = physical as usize / 4 % PAGE_WORDS;
         self.memo.decoded(place, word)
     }
@@ -142,7 +188,7 @@ impl Bus {
         ensures value { MeansAs result (instruction_of (word_at self.old.memory physical)) }
         ensures state { self.new ≡ self.old }
     {
-        let word = self.memory.word(physical);
+        let word = self.memory.memory().word(physical);
         self.memo.operation(offset as usize / 4 % PAGE_WORDS, word)
     }
 
@@ -152,7 +198,18 @@ impl Bus {
         requires { physical < SIZE }
         ensures { result ≡ word_at self.now.memory physical }
     {
-        access::load(&self.memory, physical, Size::Part)
+        access::load(self.memory.memory(), physical, Size::Part)
+    }
+
+    /// The number of bytes of memory.
+    #[inline(always)]
+    pub fn memory_size(&self) -> usize
+        ensures value { result ≡ SIZE }
+        ensures size { length self.now.memory ≡ SIZE }
+    {
+        // A word is looked at, so that it is known that there are so many.
+        let _word = self.memory.memory().word(0);
+        SIZE
     }
 
     /// Replaces the aligned word that holds a place in memory.
@@ -163,7 +220,7 @@ impl Bus {
           memory = with_word self.old.memory physical word;
         } }
     {
-        access::store(&mut self.memory, physical, Size::Part, word);
+        self.memory.store(physical, Size::Part, word);
     }
 
     /// Writes at a physical address: in memory the byte, half or word, or for a part of a word
@@ -176,7 +233,7 @@ impl Bus {
         ensures refused { OnErr result (self.new ≡ self.old) }
     {
         if (physical as usize) < SIZE {
-            access::store(&mut self.memory, physical, size, value);
+            self.memory.store(physical, size, value);
             return Ok(());
         }
         match size {

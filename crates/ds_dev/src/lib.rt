@@ -6,9 +6,12 @@ mod access;
 mod bus;
 mod clock;
 mod fault;
+mod known;
 mod memo;
+mod pages;
 mod serial;
 mod system;
 
 pub use bus::Bus;
 pub use fault::BusError;
+pub use pages::Pages;

@@ -14,7 +14,7 @@ use crate::seats::{USER_STATUS, entry_hi_of};
 use ds_asm::Image;
 use ds_core::Core;
 use ds_cp0::{Cp0, register};
-use ds_dev::Bus;
+use ds_dev::{Bus, Pages};
 use ds_isa::Size;
 use ds_mem::{Memory, OutOfMemory};
 use ds_monitor::Monitor;
@@ -80,11 +80,11 @@ fn first_core<L: Lookaside>(tlb: L, pc: u32) -> Core<L>
 }
 
 /// The devices over a memory, set as a station has them, with the clock at a rate.
-fn first_bus(memory: Memory, rate: u32) -> Bus
+fn first_bus(memory: Memory, pages: Pages, rate: u32) -> Bus
     requires { rate ≤ 15 }
     ensures { result ≡ first_bus memory rate }
 {
-    let mut bus = Bus::new(memory);
+    let mut bus = Bus::with_pages(memory, pages);
     // Each of these registers takes a word.
     let _ = bus.store(SERIAL_CONTROL, Size::Word, SERIAL_ON);
     let _ = bus.store(CLOCK_RATE, Size::Word, rate);
@@ -119,13 +119,14 @@ impl<L: Lookaside> Parts<L> {
     {
         let mut memory = Memory::new(alloc)?;
         install(&mut memory);
+        let pages = Pages::new(alloc)?;
         let monitor = Monitor::new(alloc, policy, images, events, &mut memory, &mut tlb)?;
         // All of memory is there, and each page that the table names lies in it.
         let _ = memory.word(0);
         let _ = monitor.grants.table();
         let parts = Parts {
             core: first_core(tlb, policy.processes()[0].start),
-            bus: first_bus(memory, policy.rate()),
+            bus: first_bus(memory, pages, policy.rate()),
             monitor,
             failed: false,
             spent: 0,

@@ -1,7 +1,7 @@
 //! Memory and devices as a program sees them.
-ghost use Rattle.std.specs.Prelude.{◌≤◌};
+ghost use Rattle.std.specs.Prelude.{◌≡◌, ◌*◌, ◌%◌, ◌<◌, ◌≤◌};
 
-use ds_dev::{Bus, BusError};
+use ds_dev::{Bus, BusError, Pages};
 use ds_isa::Size;
 use ds_mem::{Memory, OutOfMemory};
 use std::alloc::Global;
@@ -190,5 +190,109 @@ fn the_memory_is_that_of_the_bus(rt: HostRuntime) -> Result<(), Fail> {
     let put_behind = read(&mut bus, 0x44) == Ok(0x9abc_def0);
     let stored = write(&mut bus, 0x48, 7) && bus.memory().word(0x48) == 7;
     assert!(rt; put_before && put_behind && stored);
+    Ok(())
+}
+
+/// A bus over a new memory with room for pages.
+fn bus_with_pages(alloc: Global) -> Result<Bus, OutOfMemory> {
+    Ok(Bus::with_pages(Memory::new(alloc)?, Pages::new(alloc)?))
+}
+
+/// Where a frame begins. Of the number the low eleven bits count.
+fn base_of(frame: u32) -> u32
+    ensures { result ≡ 4096 * (frame % 2048) }
+{
+    frame % 2048 * 4096
+}
+
+/// The word at a place of a frame's page, if the frame has one.
+fn word_of_page(bus: &mut Bus, frame: u32, i: usize) -> Option<u32>
+    requires { i < 1024 }
+{
+    let base = base_of(frame);
+    let page = bus.take(base)?;
+    let word = page.word(i);
+    bus.give(base, page);
+    Some(word)
+}
+
+/// A way to change memory.
+#[derive(Clone, Copy)]
+enum Way {
+    Put,
+    StoredByte,
+    StoredHalf,
+    StoredWord,
+    StoredPart,
+    Lent,
+}
+
+/// Changes the lowest byte of the second word of a frame; whether the bus took it.
+fn change(bus: &mut Bus, frame: u32, way: Way) -> bool {
+    let place = base_of(frame) + 4;
+    match way {
+        Way::Put => bus.put_word(place, 5),
+        Way::StoredByte => return bus.store(place, Size::Byte, 5).is_ok(),
+        Way::StoredHalf => return bus.store(place, Size::Half, 5).is_ok(),
+        Way::StoredWord => return bus.store(place, Size::Word, 5).is_ok(),
+        Way::StoredPart => return bus.store(place, Size::Part, 5).is_ok(),
+        Way::Lent => bus.memory().put_word(place, 5),
+    }
+    true
+}
+
+/// Each way to change memory, with a frame of its own.
+const WAYS: [(u32, Way); 6] = [
+    (1, Way::Put),
+    (2, Way::StoredByte),
+    (3, Way::StoredHalf),
+    (4, Way::StoredWord),
+    (5, Way::StoredPart),
+    (6, Way::Lent),
+];
+
+#[test]
+fn a_page_has_the_words_of_its_frame_however_memory_changes(rt: HostRuntime) -> Result<(), Fail> {
+    let mut bus = bus_with_pages(rt.alloc())?;
+    for (frame, way) in WAYS {
+        let before = word_of_page(&mut bus, frame, 1) == Some(0);
+        let changed = change(&mut bus, frame, way);
+        let after = word_of_page(&mut bus, frame, 1) == Some(5);
+        let beside = word_of_page(&mut bus, frame, 2) == Some(0);
+        let elsewhere = word_of_page(&mut bus, 7, 1) == Some(0);
+        assert!(rt; before && changed && after && beside && elsewhere);
+    }
+    Ok(())
+}
+
+#[test]
+fn a_page_that_is_out_is_not_there(rt: HostRuntime) -> Result<(), Fail> {
+    let mut bus = bus_with_pages(rt.alloc())?;
+    let first = word_of_page(&mut bus, 2047, 1023) == Some(0);
+    let taken = bus.take(2047 * 4096).is_some();
+    let out = bus.take(2047 * 4096).is_none();
+    assert!(rt; first && taken && out);
+    Ok(())
+}
+
+#[test]
+fn a_page_that_was_spoiled_64_times_is_given_up(rt: HostRuntime) -> Result<(), Fail> {
+    let mut bus = bus_with_pages(rt.alloc())?;
+    let mut right = word_of_page(&mut bus, 1, 0) == Some(0);
+    for word in 1..65 {
+        bus.put_word(0x1000, word);
+        right = right && word_of_page(&mut bus, 1, 0) == Some(word);
+    }
+    bus.put_word(0x1000, 65);
+    let given_up = word_of_page(&mut bus, 1, 0).is_none();
+    let others = word_of_page(&mut bus, 2, 0) == Some(0);
+    assert!(rt; right && given_up && others);
+    Ok(())
+}
+
+#[test]
+fn a_bus_without_room_has_no_page(rt: HostRuntime) -> Result<(), Fail> {
+    let mut bus = new_bus(rt.alloc())?;
+    assert!(rt; bus.take(0).is_none());
     Ok(())
 }

@@ -206,6 +206,11 @@ dsmon trace p.toml in 10 --from 1 --from 2|cannot be used multiple times
 dsmon trace p.toml in 10 --to 1000000001|1000000001 is not in 0..=1000000000
 dsmon trace p.toml in 10 --process 0|0 is not in 1..=100
 dsmon trace p.toml in 10 --process 101|101 is not in 1..=100
+dsmon trace p.toml in 10 --process x|'x'
+dsmon trace p.toml in 10 --process 1 --process 0|0 is not in 1..=100
+dsmon trace p.toml in 10 --process 0 --process 1|0 is not in 1..=100
+dsmon trace p.toml in 10 --process 1 --process|--process
+dsmon trace p.toml in 10 --process 1 2|unexpected argument '2'
 dsmon trace p.toml in 10 --only|--only
 dsmon trace p.toml in 10 --only keys|--only takes end, calls, denials, switches or units
 dsmon --help|Usage: dsmon
@@ -215,6 +220,7 @@ dsmon run --help|[default: 63]
 dsmon run --help|from 0 to 1000000000
 dsmon trace --help|[default: 0]
 dsmon trace --help|  2 1 00400008 syscall  put 41  $2=00000000
+dsmon trace --help|--process 2 --process 3
 dsmon demo -h|Usage: dsmon demo
 dsmon list --help|  1  00400000  24020000    end:  addiu $2,$0,0
 dsmon check --help|  00400000 read  code, part 0 of guest.s, rule 1

@@ -6,7 +6,7 @@ use ds_ahead::{Ahead, run_ahead};
 use ds_asm::Image;
 use ds_core::{Core, Event};
 use ds_cp0::{Cp0, ExceptionCode, register};
-use ds_dev::Bus;
+use ds_dev::{Bus, Pages};
 use ds_isa::Size;
 use ds_mem::Memory;
 use ds_tlb::{Entry, Lookaside};
@@ -73,12 +73,12 @@ impl<L: Lookaside> Machine<L> {
         requires slots { L.SLOTS ≡ 64 }
         requires wired { L.WIRED ≡ 8 }
     {
-        let Ok(memory) = Memory::new(alloc) else {
+        let (Ok(memory), Ok(pages)) = (Memory::new(alloc), Pages::new(alloc)) else {
             return Err(io::Error::from(ErrorKind::OutOfMemory));
         };
         Ok(Machine {
             core: blank_core()?,
-            bus: Bus::new(memory),
+            bus: Bus::with_pages(memory, pages),
         })
     }
 

@@ -30,7 +30,7 @@ pub returns-clause-first : goal.returns-clause-first
 returns-clause-first g c =
     let none : PolicyProcess = record { start = 0; line = 0 } in
     let policy = c.args.policy.now in
-    let random = g.L.Lookaside.random_place c.new-2.new.tlb in
+    let random = g.L.Lookaside.random_place c.new-3.new.tlb in
     let all : c.processes.result.now ≡ policy.processes = c.processes.ensures.all in
     let pc : (get_or c.processes.result.now 0 none).start ≡ (slice_index_or (map first_process policy.processes) 0 no_process).pc = ap (λ (ps : List PolicyProcess). (get_or ps 0 none).start) all ∙ first_place policy.processes none c.processes.ensures.some in
     let entries = c.in_ok-monitor.ensures.entries ∙ ap empty_entries c.requires.slots in
@@ -49,10 +49,10 @@ returns-clause-first g c =
       size = ap length memory ∙ c.word.ensures.size;
       kept = c.in_ok-monitor.ensures.first;
       tables = subst (λ (m : List ℕ). HasWords m c.in_ok-monitor.monitor.tables (first_grants policy)) (sym memory)
-          (subst (λ (x : GrantsState). HasWords c.new-2.new.memory c.in_ok-monitor.monitor.tables x) grants
+          (subst (λ (x : GrantsState). HasWords c.new-3.new.memory c.in_ok-monitor.monitor.tables x) grants
           (record { words = represented.words; places = represented.places; empty = represented.empty }));
       vectors = subst (λ (m : List ℕ). handler.HasWords m) (sym memory)
-          (vectors_first c.install.new.memory c.new-2.new.memory (c.in_ok-monitor.ensures.elsewhere 0 (omega arith)) c.install.ensures.words);
+          (vectors_first c.install.new.memory c.new-3.new.memory (c.in_ok-monitor.ensures.elsewhere 0 (omega arith)) c.install.ensures.words);
       own = refl;
     }
 

@@ -1,5 +1,5 @@
 use Rattle.ds_ahead.proofs.Stretches.{advances_placed, words_placed}
-use Rattle.ds_ahead.proofs.stretch.stretch.Goals as goal
+use Rattle.ds_ahead.proofs.stretch.walk.Goals as goal
 
 pub returns-clause-steps : goal.returns-clause-steps
 returns-clause-steps g c = advances_placed _ c.args.core.now c.position_of-at.result c.args.bus.now c.do_operations-calls.new.core c.do_operations-calls.new.at c.do_operations-calls.new.bus c.settle.new.core
