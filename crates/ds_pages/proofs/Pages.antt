@@ -1,5 +1,5 @@
 -- A page, when something in it changes.
-use Rattle.std.proofs.Common.{◌≡◌, ◌≢◌, ℕ, ◌<◌, ◌≤◌, List, false, refl, arith, ap, ◌∙◌, sym, subst, inl, inr}
+use Rattle.std.proofs.Common.{◌≡◌, ◌≢◌, ℕ, ◌+◌, ◌-◌, ◌<◌, ◌≤◌, List, Bool, true, false, ◌&&◌, not, refl, arith, ap, ◌∙◌, sym, subst, inl, inr}
 use Rattle.std.specs.Prelude.{slice_index, slice_set}
 use Rattle.std.proofs.lemmas.Bool.{cases_eq}
 use Rattle.std.proofs.lemmas.List.{get_or-set_other}
@@ -9,8 +9,9 @@ use Rattle.ds_operations.specs.declared.operation.Operation.{Operation}
 use Rattle.ds_operations.specs.Does.{MeansAs}
 use Rattle.ds_operations.specs.declared.operation.OperationKind.TheVariants as kind
 use Rattle.ds_pages.specs.declared.places.Places.{Places}
-use Rattle.ds_pages.specs.Places.{Fields, fields_of, fields_at, known_at, FitsAt}
-use Rattle.ds_pages.specs.Page.{Means, IsPage}
+use Rattle.ds_pages.specs.Does.{has_slot}
+use Rattle.ds_pages.specs.Places.{Fields, fields_of, does_at, fields_at, known_at, FitsAt}
+use Rattle.ds_pages.specs.Page.{PageState, knows, Means, IsPage}
 
 -- an operation that is none means anything
 pub none_means : (f : Fields) (w : ℕ) → f.kind ≡ kind.Other → Means f (instruction_of w)
@@ -55,3 +56,42 @@ page_put ws p q i inside page fits fields known means blank = record {
   ];
   last = known 1024 (omega arith) ∙ page.last;
 }
+
+unknown_elsewhere : (p : Places) (i k : ℕ) → known_at p i ≡ false → known_at p k ≡ true → k ≢ i
+unknown_elsewhere p i k unknown known e = absurd (cc (ap (known_at p) e, known, unknown))
+
+-- what was known has the operation that it had, where one was put at a place that was not known
+pub fields_kept : (p q : Places) (i : ℕ) → known_at p i ≡ false → ((k : ℕ) → k ≢ i → fields_at q k ≡ fields_at p k) →
+    (k : ℕ) → known_at p k ≡ true → fields_at q k ≡ fields_at p k
+fields_kept p q i unknown fields k known = fields k (unknown_elsewhere p i k unknown known)
+
+-- what was known is known after one more is
+pub known_kept : (s t : PageState) (i : ℕ) → knows t i ≡ true → ((k : ℕ) → k ≢ i → knows t k ≡ knows s k) → (k : ℕ) → knows s k ≡ true → knows t k ≡ true
+known_kept s t i here others k known = elim (cases_eq k i) [
+  | inl same ↦ subst (λ (n : ℕ). knows t n ≡ true) (sym same) here
+  | inr other ↦ others k other ∙ known
+]
+
+and_not_true : (a b : Bool) → b ≡ true → (a && not b) ≡ false
+and_not_true false b e = refl
+and_not_true true b e = ap not e
+
+and_not_false : (a b : Bool) → b ≡ false → (a && not b) ≡ a
+and_not_false false b e = refl
+and_not_false true b e = ap not e
+
+-- where the place before has a slot, it is forgotten with that slot
+pub branch_forgotten : (s m t : PageState) (i k : ℕ) → k + 1 ≡ i → has_slot (does_at s.places (i - 1)) ≡ true → knows m (i - 1) ≡ false →
+    ((k : ℕ) → k ≢ i → knows t k ≡ knows m k) → knows t k ≡ (knows s k && not (has_slot (does_at s.places k)))
+branch_forgotten s m t i k next slot gone others =
+    let here : i - 1 ≡ k = omega arith in
+    others k (λ e. omega arith) ∙ (subst (λ (n : ℕ). knows m n ≡ false) here gone
+    ∙ sym (and_not_true (knows s k) (has_slot (does_at s.places k)) (subst (λ (n : ℕ). has_slot (does_at s.places n) ≡ true) here slot)))
+
+-- where it has none, it stays
+pub others_stay : (s t : PageState) (i k : ℕ) → k + 1 ≡ i → has_slot (does_at s.places (i - 1)) ≡ false →
+    ((k : ℕ) → k ≢ i → knows t k ≡ knows s k) → knows t k ≡ (knows s k && not (has_slot (does_at s.places k)))
+others_stay s t i k next none others =
+    let here : i - 1 ≡ k = omega arith in
+    others k (λ e. omega arith)
+    ∙ sym (and_not_false (knows s k) (has_slot (does_at s.places k)) (subst (λ (n : ℕ). has_slot (does_at s.places n) ≡ false) here none))

@@ -1,5 +1,5 @@
 //! A page of code: its words, and what is known of each.
-ghost use Rattle.std.specs.Prelude.{◌≡◌, ◌≢◌, ℕ, ◌+◌, ◌*◌, ◌<◌, ◌≤◌, true, false, slice_set};
+ghost use Rattle.std.specs.Prelude.{◌≡◌, ◌≢◌, ℕ, ◌+◌, ◌*◌, ◌<◌, ◌≤◌, true, false, not, ◌&&◌, slice_set};
 ghost use Rattle.ds_isa.specs.Instruction.{instruction_of};
 ghost use Rattle.ds_operations.specs.Does.{MeansAs};
 ghost use Rattle.ds_pages.specs.Does.{single, steps, is_known, is_branch, has_slot, is_load};
@@ -131,6 +131,8 @@ impl Page {
         ensures words { self.new.words ≡ self.old.words }
         ensures known { knows self.new i ≡ true }
         ensures others { (k : ℕ) → k ≢ i → knows self.new k ≡ knows self.old k }
+        ensures fields { (k : ℕ) → knows self.old k ≡ true
+            → fields_at self.new.places k ≡ fields_at self.old.places k }
     {
         if !self.places.is_known(i) {
             let operation = Operation::of(decode(self.words[i]));
@@ -166,6 +168,9 @@ impl Page {
         ensures words { self.new.words ≡ self.old.words }
         ensures known { knows self.new start ≡ true }
         ensures kept { (k : ℕ) → knows self.old k ≡ true → knows self.new k ≡ true }
+        ensures fields { (k : ℕ) → knows self.old k ≡ true
+            → fields_at self.new.places k ≡ fields_at self.old.places k }
+        ensures before { (k : ℕ) → k < start → knows self.new k ≡ knows self.old k }
     {
         let mut at = self.end_from(start) + 1;
         while at > start {
@@ -180,6 +185,7 @@ impl Page {
         ensures words { self.new.words ≡ self.old.words }
         ensures unknown { knows self.new i ≡ false }
         ensures others { (k : ℕ) → k ≢ i → knows self.new k ≡ knows self.old k }
+        ensures fields { (k : ℕ) → k ≢ i → fields_at self.new.places k ≡ fields_at self.old.places k }
     {
         if self.places.is_known(i) {
             self.places.put(i, OperationKind::Other, NOWHERE);
@@ -191,7 +197,11 @@ impl Page {
         requires { i < 1024 }
         ensures words { self.new.words ≡ self.old.words }
         ensures unknown { knows self.new i ≡ false }
+        ensures branch { (k : ℕ) → k + 1 ≡ i
+            → knows self.new k ≡ (knows self.old k && not (has_slot (does_at self.old.places k))) }
         ensures others { (k : ℕ) → k ≢ i → k + 1 ≢ i → knows self.new k ≡ knows self.old k }
+        ensures fields { (k : ℕ) → knows self.new k ≡ true
+            → fields_at self.new.places k ≡ fields_at self.old.places k }
     {
         if i > 0 && self.places.does(i - 1).has_slot() {
             self.forget_operation(i - 1);
@@ -218,8 +228,13 @@ impl Page {
         requires { i < 1024 }
         ensures words { self.new.words ≡ slice_set self.old.words i word }
         ensures word { word_at self.new i ≡ word }
+        ensures same { word ≡ word_at self.old i → self.new ≡ self.old }
         ensures forgotten { word ≢ word_at self.old i → knows self.new i ≡ false }
+        ensures branch { word ≢ word_at self.old i → (k : ℕ) → k + 1 ≡ i
+            → knows self.new k ≡ (knows self.old k && not (has_slot (does_at self.old.places k))) }
         ensures others { (k : ℕ) → k ≢ i → k + 1 ≢ i → knows self.new k ≡ knows self.old k }
+        ensures fields { (k : ℕ) → knows self.new k ≡ true
+            → fields_at self.new.places k ≡ fields_at self.old.places k }
     {
         if self.words[i] == word {
             return;

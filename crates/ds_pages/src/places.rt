@@ -189,6 +189,7 @@ impl Places {
         ensures fits { FitsAt self.new i }
         ensures known { known_at self.new i ≡ known_at self.old i }
         ensures calm { result ≡ false → length_at self.new i ≡ length_at self.old i }
+        ensures changed { result ≡ true → length_at self.new i ≢ length_at self.old i }
     {
         let does = self.renewed(i);
         let length = does.steps(self.length(i + 1));
