@@ -1,11 +1,12 @@
 -- Worked rows of rights that end.
-use Rattle.std.specs.Prelude.{refl, ◌≡◌, ℕ, true, false, List, [], ◌∷◌, map, Option, Some, None}
+use Rattle.std.specs.Prelude.{refl, ◌≡◌, ℕ, zero, suc, true, false, [], ◌∷◌, map, Option, Some, None}
+use Rattle.std.proofs.Common.{arith}
 use Rattle.ds_policy.specs.declared.grant.Right.{Right}
 use Rattle.ds_policy.specs.declared.grant.Right.TheVariants.{Nothing, Read, Write}
 use Rattle.ds_policy.specs.declared.grant.Entry.{Entry}
 use Rattle.ds_policy.specs.Pages.{Table, Pages}
 use Rattle.ds_policy.specs.Grants.{PageState}
-use Rattle.ds_policy.specs.Ends.{has_expired, expired_entry, has_some_expired, expired_table, expired, first_expired}
+use Rattle.ds_policy.specs.Ends.{has_expired, expired_entry, has_some_expired, expired_table, expired, first_expired, NoneEndsBefore}
 
 -- an entry for page 1 by rule 7, shared by process 2, with its right and its end
 abbrev entry : ℕ → Right → Option ℕ → Entry
@@ -62,3 +63,14 @@ a_copy_goes_with_its_last_right = refl
 pub nothing_changes_before_an_end : expired (state (Some [] ∷ Some [] ∷ Some [] ∷ []) (entry 4096 Write (Some 2))) 1
     ≡ state (Some [] ∷ Some [] ∷ Some [] ∷ []) (entry 4096 Write (Some 2))
 nothing_changes_before_an_end = refl
+
+pub no_right_ends_before_2 : NoneEndsBefore 2 table
+no_right_ends_before_2 zero early = refl
+no_right_ends_before_2 (suc zero) early = refl
+no_right_ends_before_2 (suc (suc n)) early = absurd (omega arith)
+
+true_is_not_false : true ≡ false → ⊥
+true_is_not_false e = cc
+
+pub a_right_ends_before_3 : NoneEndsBefore 3 table → ⊥
+a_right_ends_before_3 none = true_is_not_false (none 2 (omega arith))
