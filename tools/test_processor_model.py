@@ -46,9 +46,27 @@ def turns(run, n):
 
 
 def told(*flags):
-    """The lines of the processor of the run that puts A."""
+    """The lines of the processor of the run that puts A, with those of where a window ended."""
     lines = traced(files_in(DATA / "runs" / "put_a"), [*PUT_A, *map(str, flags)]).decode().splitlines()
-    return [it for it in lines if it.startswith(("processor", "entry"))]
+    return [it for it in lines if it.startswith(("processor", "entries", "entry"))]
+
+
+def at_the_end(*flags):
+    """Those of the end alone."""
+    lines = told(*flags)
+    return lines[next(k for k, it in enumerate(lines) if it.startswith("processor")):]
+
+
+def at_to(*flags):
+    """Those of where a window ended alone."""
+    return told(*flags)[:-len(at_the_end(*flags))]
+
+
+def in_counts(n, to):
+    """The lines of where a window ended of the run of `traces/counts`."""
+    lines = traced(files_in(DATA / "traces" / "counts"), ["trace", "two.toml", "keys.input", *map(str, (n, "--only", "calls", "--processor", "--to", to))]).decode().splitlines()
+    begin, end = (next(k for k, it in enumerate(lines) if it.startswith(word)) for word in ("entries", "processor"))
+    return lines[begin:end]
 
 
 def case(text, policy=None):
@@ -77,12 +95,40 @@ class Tests(unittest.TestCase):
 
     def test_a_later_beginning_counts_what_comes_from_then_on(self):
         self.assertEqual("processor instructions 4 refills 0 double 0 services 2, as Random fell", told(100, "--processor", "--from", 1)[0])
-        self.assertEqual("processor instructions 1 refills 0 double 0 services 1, as Random fell", told(100, "--processor", "--from", 4, "--to", 0)[0])
+        self.assertEqual("processor instructions 1 refills 0 double 0 services 1, as Random fell", at_the_end(100, "--processor", "--from", 4, "--to", 0)[0])
 
     def test_with_the_end_alone_nothing_is_counted_and_the_entries_are_told(self):
         nothing, *entries = told(100, "--processor", "--only", "end")
         self.assertEqual("processor instructions 0 refills 0 double 0 services 0, as Random fell", nothing)
         self.assertEqual(told(100, "--processor")[1:], entries)
+
+    # The page of the code is there once the first unit is done, at time 1, and nothing before. The run ends at time 5.
+    def test_the_entries_where_a_window_ends(self):
+        found = told(100, "--processor")[1:]
+        self.assertEqual(["entries at 0, as Random fell"], at_to(100, "--processor", "--to", 0))
+        for time in (1, 2, 5):
+            self.assertEqual([f"entries at {time}, as Random fell", *found], at_to(100, "--processor", "--to", time))
+        self.assertEqual(["entries at 3, as Random fell", *found], at_to(3, "--processor", "--to", 3))
+        for n, *flags in ((100, "--to", 6), (3, "--to", 4), (100,), (100, "--to", 2, "--only", "end")):
+            self.assertEqual([], at_to(n, "--processor", *flags), flags)
+        self.assertEqual([], told(100, "--to", 2))
+
+    def test_where_no_line_is_told_the_entries_are_those_where_what_is_told_would_begin(self):
+        for begin, at in ((1, 1), (3, 3), (5, 5), (6, 5)):
+            self.assertEqual(f"entries at {at}, as Random fell", at_to(100, "--processor", "--from", begin, "--to", 1)[0])
+
+    # Those at a time are those of the end of a run for so many ticks.
+    def test_a_window_ends_with_the_entries_of_a_run_that_ends_there(self):
+        for time in range(81):
+            line, *entries = in_counts(80, time)
+            self.assertEqual(f"entries at {time}, as Random fell", line)
+            self.assertEqual(in_counts(time, time)[1:], entries, time)
+
+    # A branch with its slot is two ticks. One begins at 20.
+    def test_a_branch_may_go_past_the_end_of_a_window(self):
+        for time, at in ((20, 20), (21, 22), (22, 22)):
+            lines = traced(files_in(DATA / "traces" / "keys"), ["trace", "two.toml", "few.input", "60", "--only", "denials", "--processor", "--to", str(time)]).decode().splitlines()
+            self.assertEqual(f"entries at {at}, as Random fell", lines[0])
 
     # docs/architecture.md, "How a user instruction travels": steps 1 to 4, 6 to 15, 16 to 25 and 26 are instructions and words, 5 a service.
     def test_a_load_that_misses_its_instruction_and_its_data(self):

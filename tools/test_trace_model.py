@@ -81,6 +81,15 @@ class Tests(unittest.TestCase):
             for name, kind in (("call", "calls"), ("denied", "denials")):
                 self.assertEqual(sum(int(it.split()[2]) for it in counts if it.startswith(f"{name} ")), count(found, kind), kind)
 
+    def test_neither_the_order_nor_the_repetition_of_processes_means_anything(self):
+        both = lines("--process", 1, "--process", 2)
+        self.assertEqual(both, lines("--process", 2, "--process", 1, "--process", 2))
+        self.assertEqual(both, lines())
+        self.assertEqual(lines("--process", 2), lines("--process", 2, "--process", 100))
+
+    def test_a_number_that_no_process_has_is_named_all_the_same(self):
+        self.assertEqual([], [it for it in told(lines("--process", 100))[0] if re.match(r"\d+ \d+ |denied|.* runs$", it)])
+
     def test_neither_a_process_nor_a_kind_changes_the_counts(self):
         for flags in (("--process", 2), ("--only", "units"), ("--only", "denials"), ("--only", "calls"), ("--only", "switches")):
             self.assertEqual(told(lines())[1], told(lines(*flags))[1], flags)

@@ -142,7 +142,7 @@ class Traced(Processor):
 
     def __init__(self, *begun):
         *begun, self.view = begun
-        self.began, self.lines = 0, []
+        self.began, self.lines, self.left = 0, [], []
         self.happened, self.called, self.denied = Counter(), Counter(), Counter()
         super().__init__(*begun)
 
@@ -288,7 +288,14 @@ class Traced(Processor):
         self.enter()
         self.tell_changes(before)
 
+    def leave(self):
+        """The entries are told once, at the first time that is no longer in the window."""
+        if self.view["processor"] and self.view["only"] != "end" and self.time >= self.view["to"] and not self.left:
+            self.left = [f"entries at {self.time}, as Random fell", *self.entries()]
+
     def turn(self):
+        if self.time >= self.view["from"]:  # (what comes before goes by at once)
+            self.leave()
         self.began, runner = self.time, self.ready[0] if self.ready else None
         if runner:
             self.unit_half(runner)
@@ -312,9 +319,11 @@ class Traced(Processor):
         yield from (f"denied {rule} {times}" for rule, times in denied.items())
 
     def of_the_processor(self):
-        """The lines of what the processor did and of its buffer, where they are asked for."""
+        """The lines of its buffer where the window ended, of what the processor did, and of its buffer at the end, where they are asked for."""
         if not self.view["processor"]:
             return
+        self.leave()
+        yield from self.left
         n = self.done
         yield f"processor instructions {n['instruction']} refills {n['refill']} double {n['double']} services {n['service']}, as Random fell"
         yield from self.entries()
