@@ -1,5 +1,6 @@
 //! The page whose instructions a stretch goes through, remembered while nothing can change it.
 ghost use Rattle.std.specs.Prelude.{◌≡◌, ◌+◌, ◌*◌, ◌/◌, ◌%◌, ◌<◌, ◌≤◌, ◌^◌, IfSome, true, false};
+ghost use Rattle.ds_cp0.specs.System.{asid_of};
 ghost use Rattle.ds_core.specs.Coprocessor.{only_devices_interrupt};
 ghost use Rattle.ds_ahead.specs.Code.{KnowsPage};
 
@@ -13,11 +14,12 @@ const NO_PAGE: u64 = 0x1_0000_0000;
 /// The first address that is not mapped.
 const KSEG0: u32 = 0x8000_0000;
 
-/// A page of code, its first address, and that of its frame in memory.
+/// A page of code, its first address, that of its frame in memory, and its address space.
 #[derive(Clone, Copy)]
 pub(crate) struct CodePage {
     pub vpn: u64,
     pub base: u32,
+    pub asid: u8,
     first: u64,
     ghost low: { vpn ≤ 2 ^ 32 },
     ghost begins: { first ≡ vpn * 4096 },
@@ -28,12 +30,14 @@ pub(crate) struct CodePage {
 impl CodePage {
     /// No page is known.
     #[inline(always)]
-    fn none() -> CodePage
-        ensures { result.vpn ≡ 2 ^ 32 }
+    fn none(asid: u8) -> CodePage
+        ensures vpn { result.vpn ≡ 2 ^ 32 }
+        ensures space { result.asid ≡ asid }
     {
         CodePage {
             vpn: NO_PAGE,
             base: 0,
+            asid,
             first: NO_PAGE * 4096,
         }
     }
@@ -70,18 +74,21 @@ impl CodePage {
 pub(crate) fn code_page<L: Lookaside>(core: &Core<L>) -> CodePage
     ensures knows { KnowsPage result.vpn result.base core.now }
     ensures page { result.vpn < 2 ^ 32 → result.vpn ≡ core.now.pc / 2 ^ 12 }
+    ensures space { result.asid ≡ asid_of core.now.system }
 {
+    let asid = core.cp0.asid();
     if core.pc >= KSEG0 || !only_devices_interrupt(core) {
-        return CodePage::none();
+        return CodePage::none(asid);
     }
     let vpn = core.pc >> 12;
-    match core.tlb.recalled(Access::Fetch, vpn, core.cp0.asid()) {
+    match core.tlb.recalled(Access::Fetch, vpn, asid) {
         Some(base) => CodePage {
             vpn: u64::from(vpn),
             base,
+            asid,
             first: u64::from(vpn) * 4096,
         },
-        None => CodePage::none(),
+        None => CodePage::none(asid),
     }
 }
 

@@ -1,7 +1,7 @@
 //! A stretch through a page that the bus has: it is taken out, run through and given back.
 ghost use Rattle.std.specs.Prelude.{◌≡◌, ◌+◌, ◌-◌, ◌<◌, ◌≤◌, ◌/◌, ◌%◌, ◌^◌, ℕ, false, None};
 ghost use Rattle.ds_word.specs.Word.{word};
-ghost use Rattle.ds_cp0.specs.System.{is_pending};
+ghost use Rattle.ds_cp0.specs.System.{asid_of, is_pending};
 ghost use Rattle.ds_cp0.specs.declared.exception.ExceptionCode.TheVariants.{SystemCall};
 ghost use Rattle.ds_dev.specs.Bus.{lines};
 ghost use Rattle.ds_pages.specs.Page.{HoldsWords};
@@ -44,6 +44,7 @@ fn run_from<L: Lookaside>(
     requires slots { L.SLOTS ≡ 64 }
     requires wired { L.WIRED ≡ 8 }
     requires known { KnowsPage code.now.vpn code.now.base core.old }
+    requires space { code.now.asid ≡ asid_of core.old.system }
     requires some { code.now.vpn < 2 ^ 32 }
     requires page { code.now.vpn ≡ core.old.pc / 2 ^ 12 }
     requires aligned { core.old.pc % 4 ≡ 0 }
@@ -89,6 +90,7 @@ fn run_in<L: Lookaside>(
     requires slots { L.SLOTS ≡ 64 }
     requires wired { L.WIRED ≡ 8 }
     requires known { KnowsPage code.now.vpn code.now.base core.old }
+    requires space { code.now.asid ≡ asid_of core.old.system }
     requires some { code.now.vpn < 2 ^ 32 }
     requires page { code.now.vpn ≡ core.old.pc / 2 ^ 12 }
     requires aligned { core.old.pc % 4 ≡ 0 }
@@ -126,6 +128,7 @@ pub(crate) fn stretch_in_page<L: Lookaside>(
     requires slots { L.SLOTS ≡ 64 }
     requires wired { L.WIRED ≡ 8 }
     requires known { KnowsPage code.now.vpn code.now.base core.old }
+    requires space { code.now.asid ≡ asid_of core.old.system }
     requires some { code.now.vpn < 2 ^ 32 }
     requires page { code.now.vpn ≡ core.old.pc / 2 ^ 12 }
     requires aligned { core.old.pc % 4 ≡ 0 }

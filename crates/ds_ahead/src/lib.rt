@@ -3,6 +3,7 @@
 #![tactic(auto)]
 
 mod ahead;
+mod branch;
 mod code;
 mod here;
 mod in_page;

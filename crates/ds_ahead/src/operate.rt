@@ -3,6 +3,7 @@ ghost use Rattle.std.specs.Prelude.{◌≡◌, slice_index};
 ghost use Rattle.ds_isa.specs.Registers.{read};
 ghost use Rattle.ds_operations.specs.Does.{does};
 ghost use Rattle.ds_pages.specs.Does.{single};
+ghost use Rattle.ds_cp0.specs.System.{asid_of};
 ghost use Rattle.ds_dev.specs.Bus.{lines};
 ghost use Rattle.ds_ahead.specs.Placed.{registers_at};
 ghost use Rattle.ds_ahead.specs.Operations.{ComesTo};
@@ -35,7 +36,9 @@ pub(crate) fn operate<L: Lookaside, const WAY: usize>(
     at: &mut Position,
     bus: &mut Bus,
     own: u32,
+    asid: u8,
 ) -> Outcome
+    requires space { asid ≡ asid_of core.old.system }
     requires first { read (registers_at core.old at.old) operation.first.number
         ≡ slice_index core.old.registers.general operation.first.number }
     requires second { read (registers_at core.old at.old) operation.second.number
@@ -245,14 +248,14 @@ pub(crate) fn operate<L: Lookaside, const WAY: usize>(
         OperationKind::Jal => jump_and_link(core, to, in_region(at.pc, immediate), at, bus),
         OperationKind::Jr => jump(core, general(core, first), at, bus),
         OperationKind::Jalr => jump_and_link(core, to, general(core, first), at, bus),
-        OperationKind::Lb => take_byte(core, to, address_by(core, first, immediate), at, bus),
-        OperationKind::Lh => take_half(core, to, address_by(core, first, immediate), at, bus),
-        OperationKind::Lw => take_word(core, to, address_by(core, first, immediate), at, bus),
+        OperationKind::Lb => take_byte(core, to, address_by(core, first, immediate), at, bus, asid),
+        OperationKind::Lh => take_half(core, to, address_by(core, first, immediate), at, bus, asid),
+        OperationKind::Lw => take_word(core, to, address_by(core, first, immediate), at, bus, asid),
         OperationKind::Lbu => {
-            take_byte_unsigned(core, to, address_by(core, first, immediate), at, bus)
+            take_byte_unsigned(core, to, address_by(core, first, immediate), at, bus, asid)
         }
         OperationKind::Lhu => {
-            take_half_unsigned(core, to, address_by(core, first, immediate), at, bus)
+            take_half_unsigned(core, to, address_by(core, first, immediate), at, bus, asid)
         }
         OperationKind::Sb => {
             leave_byte(
@@ -262,6 +265,7 @@ pub(crate) fn operate<L: Lookaside, const WAY: usize>(
                 at,
                 bus,
                 own,
+                asid,
             )
         }
         OperationKind::Sh => {
@@ -272,6 +276,7 @@ pub(crate) fn operate<L: Lookaside, const WAY: usize>(
                 at,
                 bus,
                 own,
+                asid,
             )
         }
         OperationKind::Sw => {
@@ -282,6 +287,7 @@ pub(crate) fn operate<L: Lookaside, const WAY: usize>(
                 at,
                 bus,
                 own,
+                asid,
             )
         }
         OperationKind::Syscall => Outcome::Called,

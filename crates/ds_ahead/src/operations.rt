@@ -9,6 +9,7 @@ ghost use Rattle.ds_word.specs.Merge.{with_bits};
 ghost use Rattle.ds_word.specs.Bytes.{with_word};
 ghost use Rattle.ds_operations.specs.Does.{target_by, in_region};
 ghost use Rattle.ds_dev.specs.Bus.{lines};
+ghost use Rattle.ds_cp0.specs.System.{asid_of};
 ghost use Rattle.ds_core.specs.Access.{reached};
 ghost use Rattle.ds_ahead.specs.Placed.{registers_at, with_general, at_next};
 ghost use Rattle.ds_ahead.specs.Goes.{at_load, GoesOn, GoesLate, GoesAway, KeepsFrame};
@@ -211,25 +212,34 @@ pub(crate) fn remembered<L: Lookaside>(
     access: Access,
     size: Size,
     address: u32,
+    asid: u8,
 ) -> Option<Physical>
+    requires space { asid ≡ asid_of core.now.system }
     ensures value { IfSome result (λ place. reached core.now access size address ≡ Ok place) }
     ensures inside { IfSome result (λ place. place.0 < 2 ^ 23) }
 {
     if !size.is_aligned(address) {
         return None;
     }
-    recalled(address, access, &core.tlb, core.cp0.asid())
+    recalled(address, access, &core.tlb, asid)
 }
 
 /// The place in memory of a store, where the buffer remembers its page; none in the frame that
 /// begins at `own`.
 #[inline(always)]
-fn place_apart<L: Lookaside>(core: &Core<L>, size: Size, address: u32, own: u32) -> Option<Physical>
+fn place_apart<L: Lookaside>(
+    core: &Core<L>,
+    size: Size,
+    address: u32,
+    own: u32,
+    asid: u8,
+) -> Option<Physical>
+    requires space { asid ≡ asid_of core.now.system }
     ensures value { IfSome result (λ place. reached core.now Store size address ≡ Ok place) }
     ensures inside { IfSome result (λ place. place.0 < 2 ^ 23) }
     ensures apart { IfSome result (λ place. place.0 - place.0 % 4096 ≢ own) }
 {
-    let Physical(place) = remembered(core, Access::Store, size, address)?;
+    let Physical(place) = remembered(core, Access::Store, size, address, asid)?;
     if place - place % 4096 == own {
         return None;
     }
@@ -260,14 +270,16 @@ pub(crate) fn take_byte<L: Lookaside>(
     address: u32,
     at: &mut Position,
     bus: &Bus,
+    asid: u8,
 ) -> Outcome
+    requires space { asid ≡ asid_of core.old.system }
     ensures comes { ComesTo result (loads size.Byte (registers_at core.old at.old) to.number address
         (λ w b. sign_extended 8 (bits w (8 * b) 8))) core.old at.old bus.now core.new at.new bus.now }
     ensures system { core.new.system ≡ core.old.system }
     ensures entries { core.new.entries ≡ core.old.entries }
     ensures goes { GoesLate result core.old to.number at.old at.new }
 {
-    match remembered(core, Access::Load, Size::Byte, address) {
+    match remembered(core, Access::Load, Size::Byte, address, asid) {
         Some(Physical(place)) => {
             put_late(core, to, byte_signed(bus.word(place), address % 4), at)
         }
@@ -283,14 +295,16 @@ pub(crate) fn take_byte_unsigned<L: Lookaside>(
     address: u32,
     at: &mut Position,
     bus: &Bus,
+    asid: u8,
 ) -> Outcome
+    requires space { asid ≡ asid_of core.old.system }
     ensures comes { ComesTo result (loads size.Byte (registers_at core.old at.old) to.number address
         (λ w b. bits w (8 * b) 8)) core.old at.old bus.now core.new at.new bus.now }
     ensures system { core.new.system ≡ core.old.system }
     ensures entries { core.new.entries ≡ core.old.entries }
     ensures goes { GoesLate result core.old to.number at.old at.new }
 {
-    match remembered(core, Access::Load, Size::Byte, address) {
+    match remembered(core, Access::Load, Size::Byte, address, asid) {
         Some(Physical(place)) => {
             put_late(core, to, byte_unsigned(bus.word(place), address % 4), at)
         }
@@ -306,14 +320,16 @@ pub(crate) fn take_half<L: Lookaside>(
     address: u32,
     at: &mut Position,
     bus: &Bus,
+    asid: u8,
 ) -> Outcome
+    requires space { asid ≡ asid_of core.old.system }
     ensures comes { ComesTo result (loads size.Half (registers_at core.old at.old) to.number address
         (λ w b. sign_extended 16 (bits w (8 * b) 16))) core.old at.old bus.now core.new at.new bus.now }
     ensures system { core.new.system ≡ core.old.system }
     ensures entries { core.new.entries ≡ core.old.entries }
     ensures goes { GoesLate result core.old to.number at.old at.new }
 {
-    match remembered(core, Access::Load, Size::Half, address) {
+    match remembered(core, Access::Load, Size::Half, address, asid) {
         Some(Physical(place)) => {
             put_late(core, to, half_signed(bus.word(place), address % 4), at)
         }
@@ -329,14 +345,16 @@ pub(crate) fn take_half_unsigned<L: Lookaside>(
     address: u32,
     at: &mut Position,
     bus: &Bus,
+    asid: u8,
 ) -> Outcome
+    requires space { asid ≡ asid_of core.old.system }
     ensures comes { ComesTo result (loads size.Half (registers_at core.old at.old) to.number address
         (λ w b. bits w (8 * b) 16)) core.old at.old bus.now core.new at.new bus.now }
     ensures system { core.new.system ≡ core.old.system }
     ensures entries { core.new.entries ≡ core.old.entries }
     ensures goes { GoesLate result core.old to.number at.old at.new }
 {
-    match remembered(core, Access::Load, Size::Half, address) {
+    match remembered(core, Access::Load, Size::Half, address, asid) {
         Some(Physical(place)) => {
             put_late(core, to, half_unsigned(bus.word(place), address % 4), at)
         }
@@ -352,14 +370,16 @@ pub(crate) fn take_word<L: Lookaside>(
     address: u32,
     at: &mut Position,
     bus: &Bus,
+    asid: u8,
 ) -> Outcome
+    requires space { asid ≡ asid_of core.old.system }
     ensures comes { ComesTo result (loads size.Word (registers_at core.old at.old) to.number address (λ w b. w))
         core.old at.old bus.now core.new at.new bus.now }
     ensures system { core.new.system ≡ core.old.system }
     ensures entries { core.new.entries ≡ core.old.entries }
     ensures goes { GoesLate result core.old to.number at.old at.new }
 {
-    match remembered(core, Access::Load, Size::Word, address) {
+    match remembered(core, Access::Load, Size::Word, address, asid) {
         Some(Physical(place)) => put_late(core, to, bus.word(place), at),
         None => Outcome::Left,
     }
@@ -374,7 +394,9 @@ pub(crate) fn leave_byte<L: Lookaside>(
     at: &mut Position,
     bus: &mut Bus,
     own: u32,
+    asid: u8,
 ) -> Outcome
+    requires space { asid ≡ asid_of core.old.system }
     ensures comes { ComesTo result (stores size.Byte address (λ w b. with_bits w (8 * b) 8 value))
         core.old at.old bus.old core.new at.new bus.new }
     ensures system { core.new.system ≡ core.old.system }
@@ -383,7 +405,7 @@ pub(crate) fn leave_byte<L: Lookaside>(
     ensures frame { KeepsFrame own bus.old.memory bus.new.memory }
     ensures lines { lines bus.new ≡ lines bus.old }
 {
-    match place_apart(core, Size::Byte, address, own) {
+    match place_apart(core, Size::Byte, address, own, asid) {
         Some(Physical(place)) => {
             let word = bus.word(place);
             put_word_apart(bus, place, store_byte(word, value, address % 4), own);
@@ -402,7 +424,9 @@ pub(crate) fn leave_half<L: Lookaside>(
     at: &mut Position,
     bus: &mut Bus,
     own: u32,
+    asid: u8,
 ) -> Outcome
+    requires space { asid ≡ asid_of core.old.system }
     ensures comes { ComesTo result (stores size.Half address (λ w b. with_bits w (8 * b) 16 value))
         core.old at.old bus.old core.new at.new bus.new }
     ensures system { core.new.system ≡ core.old.system }
@@ -411,7 +435,7 @@ pub(crate) fn leave_half<L: Lookaside>(
     ensures frame { KeepsFrame own bus.old.memory bus.new.memory }
     ensures lines { lines bus.new ≡ lines bus.old }
 {
-    match place_apart(core, Size::Half, address, own) {
+    match place_apart(core, Size::Half, address, own, asid) {
         Some(Physical(place)) => {
             let word = bus.word(place);
             put_word_apart(bus, place, store_half(word, value, address % 4), own);
@@ -430,7 +454,9 @@ pub(crate) fn leave_word<L: Lookaside>(
     at: &mut Position,
     bus: &mut Bus,
     own: u32,
+    asid: u8,
 ) -> Outcome
+    requires space { asid ≡ asid_of core.old.system }
     ensures comes { ComesTo result (stores size.Word address (λ w b. value))
         core.old at.old bus.old core.new at.new bus.new }
     ensures system { core.new.system ≡ core.old.system }
@@ -439,7 +465,7 @@ pub(crate) fn leave_word<L: Lookaside>(
     ensures frame { KeepsFrame own bus.old.memory bus.new.memory }
     ensures lines { lines bus.new ≡ lines bus.old }
 {
-    match place_apart(core, Size::Word, address, own) {
+    match place_apart(core, Size::Word, address, own, asid) {
         Some(Physical(place)) => {
             put_word_apart(bus, place, value, own);
             at.go_on()

@@ -1,7 +1,7 @@
 //! A run: the operations of a page in hand, one after the other by their places.
 ghost use Rattle.std.specs.Prelude.{◌≡◌, ◌≢◌, ◌+◌, ◌*◌, ◌-◌, ◌<◌, ◌≤◌, ◌^◌, ◌&&◌, nat_lt, true, false, None, IfSome, IsSome};
 ghost use Rattle.ds_word.specs.Word.{word};
-ghost use Rattle.ds_cp0.specs.System.{is_pending};
+ghost use Rattle.ds_cp0.specs.System.{asid_of, is_pending};
 ghost use Rattle.ds_dev.specs.Bus.{lines};
 ghost use Rattle.ds_pages.specs.Does.{is_known, single};
 ghost use Rattle.ds_pages.specs.Places.{does_at, fields_at, length_at};
@@ -11,6 +11,7 @@ ghost use Rattle.ds_ahead.specs.Operations.{IsCalled, HasOutcome, StaysCalm, Lea
 ghost use Rattle.ds_ahead.specs.Goes.{GoesBy};
 ghost use Rattle.ds_ahead.specs.Run.{place_in, slot_in, position_here, left_here, next_by, IsFreeOf, StandsIn, IsFreeHere, MovesAt, Begins, Lands, Ran, ComesOut};
 
+use crate::branch::do_branch;
 use crate::code::CodePage;
 use crate::here::{Here, NOWHERE, Way, place};
 use crate::next::Next;
@@ -41,6 +42,7 @@ fn do_operation<L: Lookaside, const WAY: usize>(
     requires some { kind ≢ OperationKind.Other }
     requires here { at.old ≡ place_in (code.now.vpn * 4096) i }
     requires known { KnowsPage code.now.vpn code.now.base core.old }
+    requires space { code.now.asid ≡ asid_of core.old.system }
     requires some_page { code.now.vpn < 2 ^ 32 }
     requires calm { is_pending core.old.system (lines bus.old).0 (lines bus.old).1 ≡ false }
     requires holds { HoldsWords page.now bus.old.memory code.now.base }
@@ -51,7 +53,7 @@ fn do_operation<L: Lookaside, const WAY: usize>(
     ensures calm { StaysCalm core.old bus.old core.new bus.new }
     ensures holds { HoldsWords page.now bus.new.memory code.now.base }
 {
-    operate::<L, WAY>(core, page.operation(i, kind), at, bus, code.base)
+    operate::<L, WAY>(core, page.operation(i, kind), at, bus, code.base, code.asid)
 }
 
 /// The kind of the operation that is done at a place, where one is done.
@@ -121,36 +123,6 @@ fn kind_done(does: Does) -> Option<OperationKind>
     Some(kind)
 }
 
-/// Does the operation at a place of the page; or says why not, and changes nothing.
-#[inline(always)]
-fn do_at<L: Lookaside>(
-    core: &mut Core<L>,
-    page: &Page,
-    i: usize,
-    at: &mut Position,
-    bus: &mut Bus,
-    code: &CodePage,
-) -> Outcome
-    requires inside { i ≤ 1024 }
-    requires here { at.old ≡ place_in (code.now.vpn * 4096) i }
-    requires known { KnowsPage code.now.vpn code.now.base core.old }
-    requires some_page { code.now.vpn < 2 ^ 32 }
-    requires calm { is_pending core.old.system (lines bus.old).0 (lines bus.old).1 ≡ false }
-    requires holds { HoldsWords page.now bus.old.memory code.now.base }
-    ensures moves { MovesAt page.now.places i result core.old at.old bus.old
-        core.new at.new bus.new }
-    ensures goes { GoesBy (does_at page.now.places i) result core.old
-        (fields_at page.now.places i).to at.old at.new }
-    ensures calm { StaysCalm core.old bus.old core.new bus.new }
-    ensures holds { HoldsWords page.now bus.new.memory code.now.base }
-    ensures inside { result ≡ Outcome.Called → i < 1024 }
-{
-    match kind_done(page.does(i)) {
-        Some(kind) => do_operation::<L, 2>(core, page, i, kind, at, bus, code),
-        None => Outcome::Left,
-    }
-}
-
 /// Does the operation at a place of the page, which is of this kind, as that of a slot; or leaves
 /// it, and changes nothing.
 #[inline(always)]
@@ -164,19 +136,21 @@ fn do_slot_operation<L: Lookaside, const WAY: usize>(
     code: &CodePage,
 ) -> Outcome
     requires inside { i < 1024 }
-    requires kind { (fields_at page.now.places i).kind ≡ kind }
+    requires single { does_at page.now.places i ≡ single kind }
+    requires some { kind ≢ OperationKind.Other }
     requires here { at.old ≡ slot_in (code.now.vpn * 4096 + 4 * i) at.old.next }
     requires known { KnowsPage code.now.vpn code.now.base core.old }
+    requires space { code.now.asid ≡ asid_of core.old.system }
     requires some_page { code.now.vpn < 2 ^ 32 }
     requires calm { is_pending core.old.system (lines bus.old).0 (lines bus.old).1 ≡ false }
     requires holds { HoldsWords page.now bus.old.memory code.now.base }
     ensures outcome { HasOutcome result core.old at.old bus.old core.new at.new bus.new }
-    ensures goes { GoesBy (single (fields_at page.now.places i).kind) result core.old
+    ensures goes { GoesBy (does_at page.now.places i) result core.old
         (fields_at page.now.places i).to at.old at.new }
     ensures calm { StaysCalm core.old bus.old core.new bus.new }
     ensures holds { HoldsWords page.now bus.new.memory code.now.base }
 {
-    operate::<L, WAY>(core, page.slot(i, kind), at, bus, code.base)
+    operate::<L, WAY>(core, page.operation(i, kind), at, bus, code.base, code.asid)
 }
 
 /// Does the operation at a place of the page as that of a slot; or leaves it, and changes nothing.
@@ -192,16 +166,20 @@ fn do_slot<L: Lookaside>(
     requires inside { i < 1024 }
     requires here { at.old ≡ slot_in (code.now.vpn * 4096 + 4 * i) at.old.next }
     requires known { KnowsPage code.now.vpn code.now.base core.old }
+    requires space { code.now.asid ≡ asid_of core.old.system }
     requires some_page { code.now.vpn < 2 ^ 32 }
     requires calm { is_pending core.old.system (lines bus.old).0 (lines bus.old).1 ≡ false }
     requires holds { HoldsWords page.now bus.old.memory code.now.base }
     ensures outcome { HasOutcome result core.old at.old bus.old core.new at.new bus.new }
-    ensures goes { GoesBy (single (fields_at page.now.places i).kind) result core.old
+    ensures goes { GoesBy (does_at page.now.places i) result core.old
         (fields_at page.now.places i).to at.old at.new }
     ensures calm { StaysCalm core.old bus.old core.new bus.new }
     ensures holds { HoldsWords page.now bus.new.memory code.now.base }
 {
-    do_slot_operation::<L, 3>(core, page, i, page.kind(i), at, bus, code)
+    match kind_done(page.does(i)) {
+        Some(kind) => do_slot_operation::<L, 3>(core, page, i, kind, at, bus, code),
+        None => Outcome::Left,
+    }
 }
 
 /// The place of an address in the page that begins at `first`, or the one after its last; of other
@@ -333,6 +311,7 @@ fn through_slot<L: Lookaside>(
     requires stands { StandsIn here.old }
     requires fits { rest.old + 1 < 2 ^ 32 }
     requires known { KnowsPage code.now.vpn code.now.base core.old }
+    requires space { code.now.asid ≡ asid_of core.old.system }
     requires calm { is_pending core.old.system (lines bus.old).0 (lines bus.old).1 ≡ false }
     requires holds { HoldsWords page.now bus.old.memory code.now.base }
     ensures ran { Ran result (rest.old + 1) core.old at.old bus.old page.now.places first
@@ -372,6 +351,7 @@ fn turn<L: Lookaside>(
     requires free { IsFreeHere page.now.places here.old }
     requires fits { left_here page.now.places here.old rest.old < 2 ^ 32 }
     requires known { KnowsPage code.now.vpn code.now.base core.old }
+    requires space { code.now.asid ≡ asid_of core.old.system }
     requires calm { is_pending core.old.system (lines bus.old).0 (lines bus.old).1 ≡ false }
     requires holds { HoldsWords page.now bus.old.memory code.now.base }
     ensures ran { Ran result (left_here page.now.places here.old rest.old) core.old
@@ -385,10 +365,15 @@ fn turn<L: Lookaside>(
 {
     let i = here.place;
     *at = place(first, i);
-    // What is known of the place is looked at, for the proof alone.
-    let _does = page.does(i);
+    // The length is looked at, for the proof alone.
     let _length = page.length(i);
-    match do_at(core, page, i, at, bus, code) {
+    let Some(kind) = kind_done(page.does(i)) else {
+        return Way::Leaves;
+    };
+    if let Some(to) = do_branch(core, page, i, kind, first, at, bus, code) {
+        return through_slot(core, page, code, first, to, here, rest, at, bus);
+    }
+    match do_operation::<L, 2>(core, page, i, kind, at, bus, code) {
         Outcome::Done => {
             here.go_on();
             Way::On
@@ -472,6 +457,7 @@ pub(crate) fn run<L: Lookaside>(
     requires here { at.old ≡ place_in first start }
     requires fits { length_at page.now.places start ≤ left.old }
     requires known { KnowsPage code.now.vpn code.now.base core.old }
+    requires space { code.now.asid ≡ asid_of core.old.system }
     requires calm { is_pending core.old.system (lines bus.old).0 (lines bus.old).1 ≡ false }
     requires holds { HoldsWords page.now bus.old.memory code.now.base }
     ensures within { left.new ≤ left.old }

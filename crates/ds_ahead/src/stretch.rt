@@ -1,7 +1,7 @@
 //! A stretch: operations one after the other, while nothing that seldom comes gets in their way.
 ghost use Rattle.std.specs.Prelude.{◌≡◌, ◌+◌, ◌/◌, ◌%◌, ◌<◌, ◌≤◌, ◌-◌, ◌^◌, ℕ, true, false, None, IfSome};
 ghost use Rattle.ds_word.specs.Word.{word};
-ghost use Rattle.ds_cp0.specs.System.{is_pending};
+ghost use Rattle.ds_cp0.specs.System.{asid_of, is_pending};
 ghost use Rattle.ds_dev.specs.Bus.{lines};
 ghost use Rattle.ds_cp0.specs.declared.exception.ExceptionCode.TheVariants.{SystemCall};
 ghost use Rattle.ds_core.specs.Core.{with_tick, trapped};
@@ -69,8 +69,9 @@ fn operate_at<L: Lookaside>(
     ensures outcome { HasOutcome result core.old at.old bus.old core.new at.new bus.new }
     ensures calm { StaysCalm core.old bus.old core.new bus.new }
 {
+    let asid = core.cp0.asid();
     match operation_at(core, at, bus, code) {
-        Some(operation) => operate::<L, 0>(core, operation, at, bus, NO_FRAME),
+        Some(operation) => operate::<L, 0>(core, operation, at, bus, NO_FRAME, asid),
         None => Outcome::Left,
     }
 }
@@ -88,12 +89,13 @@ fn operate_after_load<L: Lookaside>(
     ensures outcome { HasOutcome result core.old at.old bus.old core.new at.new bus.new }
     ensures calm { StaysCalm core.old bus.old core.new bus.new }
 {
+    let asid = core.cp0.asid();
     match operation_at(core, at, bus, code) {
         Some(operation) => {
             if at.is_awaited(&operation) {
                 Outcome::Left
             } else {
-                operate::<L, 1>(core, operation, at, bus, NO_FRAME)
+                operate::<L, 1>(core, operation, at, bus, NO_FRAME, asid)
             }
         }
         None => Outcome::Left,
@@ -294,6 +296,7 @@ fn stretch_straight<L: Lookaside>(
     requires slots { L.SLOTS ≡ 64 }
     requires wired { L.WIRED ≡ 8 }
     requires known { KnowsPage code.now.vpn code.now.base core.old }
+    requires space { code.now.asid ≡ asid_of core.old.system }
     requires some { code.now.vpn < 2 ^ 32 }
     requires page { code.now.vpn ≡ core.old.pc / 2 ^ 12 }
     requires aligned { core.old.pc % 4 ≡ 0 }

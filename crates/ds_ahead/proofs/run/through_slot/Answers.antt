@@ -1,6 +1,5 @@
 use Rattle.std.proofs.Common.{◌+◌, subst, refl, ap, arith}
-use Rattle.ds_pages.specs.Does.{single}
-use Rattle.ds_pages.specs.Places.{fields_at}
+use Rattle.ds_pages.specs.Places.{does_at, fields_at}
 use Rattle.ds_ahead.specs.declared.operations.Outcome.{Outcome}
 use Rattle.ds_ahead.specs.Placed.{Place}
 use Rattle.ds_ahead.specs.Operations.{HasOutcome}
@@ -22,7 +21,7 @@ returns-in-Loaded-clause-ran g c =
 
 pub returns-in_default : goal.returns-in_default
 returns-in_default g c =
-    let same = slot_not_done (single (fields_at c.args.page.now.places (c.args.here.now.place + 1)).kind) c.do_slot.result c.args.core.now (fields_at c.args.page.now.places (c.args.here.now.place + 1)).to
+    let same = slot_not_done (does_at c.args.page.now.places (c.args.here.now.place + 1)) c.do_slot.result c.args.core.now (fields_at c.args.page.now.places (c.args.here.now.place + 1)).to
     c.args.at.now c.args.bus.now c.do_slot.new.core c.do_slot.new.at c.do_slot.new.bus (ap (λ (a : Place). a.slot) c.requires.slot) c.in_default.not-Done c.in_default.not-Loaded c.do_slot.ensures.goes c.do_slot.ensures.outcome in
     record {
       ran = slot_left c.args.page.now.places c.args.first c.args.rest.now c.args.here.now c.args.core.now c.args.at.now c.args.bus.now c.do_slot.new.core c.do_slot.new.at c.do_slot.new.bus same.0 same.1 same.2;
