@@ -6,7 +6,8 @@
 
 A run of dsmon for which a growth is refused before its first turn writes nothing. One that is cut short writes the text of some number
 of whole turns. Both end with status 3 and the line of want of memory. Where a growth alone is refused, the program may ask for less
-instead, and then the run is whole. The tests whose names begin with `for_want_of_memory` or `after_want_of_memory` pass whichever
+instead, or do without, and then the run is whole. Where all from one on are refused, it may be whole only if it is so with each of them
+refused alone. The tests whose names begin with `for_want_of_memory` or `after_want_of_memory` pass whichever
 growths are refused. Which growth is refused says tools/refuse.c, a library that a C compiler makes: where there is no compiler, or a
 program was not built, this is said, nothing is tried there, and the status is 0. It is 1 where an answer is wrong.
 """
@@ -84,9 +85,9 @@ def rows(folder):
             Row("guest", folder, "guest.toml", TICKS, tuple(KNOWN))]
 
 
-def judged(run, growth, on, before, whole, known):
+def judged(run, growth, may_be_whole, before, whole, known):
     """The place of a text among those that are known, none where nothing was written, or Wrong."""
-    if run == Run(0, whole, b"") and not on:
+    if run == Run(0, whole, b"") and may_be_whole:
         return len(known) - 1
     if run.status != MEMORY or run.err != TOLD:
         raise Wrong(f"the status is {run.status}, and it said {run.err!r} and wrote {run.out!r}")
@@ -106,6 +107,7 @@ def tried(program, row, lanes):
     known = [it.out for it in lanes.map(lambda n: program.run(row.words(n), row.folder), row.times)]
     if whole.status or whole.out != known[-1] or not 0 < before < growths:
         raise Wrong(f"{row.name}: without a refusal it ends with {whole.status}, and has {before} growths before the run and {growths} in all")
+    spared = set()  # the growths that a run can do without
     wholes = 0
     for on in (False, True):
         marks = [f"{growth}{'..' if on else ''}" for growth in range(1, growths + 1)]
@@ -113,10 +115,12 @@ def tried(program, row, lanes):
         places = []
         for growth, run in enumerate(runs, 1):
             try:
-                place = judged(run, growth, on, before, whole.out, known)
+                place = judged(run, growth, not on or spared.issuperset(range(growth, growths + 1)), before, whole.out, known)
             except Wrong as wrong:
                 raise Wrong(f"{row.name}, growth {marks[growth - 1]} of {growths}: {wrong}") from None
             wholes += run.status == 0
+            if run.status == 0 and not on:
+                spared.add(growth)
             places += [place] if run.status and place is not None else []
         if places != sorted(places):
             raise Wrong(f"{row.name}: a later growth was refused earlier: {places}")

@@ -83,6 +83,12 @@ class Tests(unittest.TestCase):
         self.assert_wrong("growth 3.. of 9: the status is 0", _3on=Run(0, WHOLE, b""))
         self.assert_wrong("growth 2 of 9: the status is 0", _2=Run(0, b"time 2\n", b""))
 
+    def test_a_run_may_do_without_the_last_growths(self):
+        whole = Run(0, WHOLE, b"")
+        self.assertEqual(tried(Played(_8=whole, _9=whole, _8on=whole, _9on=whole), ROW, self.lanes), (ALL, ALL - BEFORE, 5))
+        self.assert_wrong("growth 8.. of 9: the status is 0", _9=whole, _8on=whole, _9on=whole)
+        self.assert_wrong("growth 8.. of 9: the status is 0", _8=whole, _8on=whole)
+
     def test_another_status_or_line_is_wrong(self):
         for run in (Run(1, b"", TOLD), Run(-11, b"", b""), Run(MEMORY, b"", b""), Run(MEMORY, b"", b"dsmon: 23 WriteFault\n")):
             self.assert_wrong("growth 4 of 9: the status is", _4=run)
