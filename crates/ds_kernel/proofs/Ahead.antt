@@ -50,20 +50,20 @@ goes_two p good none goes =
     (below_both (first_time has_time p.monitor.due.commands) (first_time comes_at p.monitor.due.characters) last ordered first) passes) none)
 
 -- the time at which the last boundary of a block comes
-pub within_quiet : (time n q end : ℕ) → end ≡ min n (q - 2) → time + 1 < end → time + (end - time - 1) + 1 < q
-within_quiet time n q end is some =
-    let most : min n (q - 2) ≤ q - 2 = min-le_right n (q - 2) in
+pub within_quiet : (time n q owed end : ℕ) → end ≡ min n (q - (1 + owed)) → time + 1 < end → time + (end - time - 1) + 1 < q
+within_quiet time n q owed end is some =
+    let most : min n (q - (1 + owed)) ≤ q - (1 + owed) = min-le_right n (q - (1 + owed)) in
     omega (arith, is, some, most)
 
 -- after a block of some instructions there is a unit's time before anything comes
-pub before_quiet : (time n q limit : ℕ) → time + limit + 1 ≡ min n (q - 2) → 1 ≤ limit → time + limit + 3 ≤ q
-before_quiet time n q limit is some =
-    let most : min n (q - 2) ≤ q - 2 = min-le_right n (q - 2) in
+pub before_quiet : (time n q owed limit : ℕ) → time + limit + 1 ≡ min n (q - (1 + owed)) → 1 ≤ limit → time + limit + 2 + owed ≤ q
+before_quiet time n q owed limit is some =
+    let most : min n (q - (1 + owed)) ≤ q - (1 + owed) = min-le_right n (q - (1 + owed)) in
     omega (arith, is, some, most)
 
-pub no_end : (time n q end : ℕ) → end ≡ min n (q - 2) → end ≤ time + 1 → time + 1 < n → time + 2 + 1 < q → ⊥
-no_end time n q end is few soon quiet =
-    let past : time + 1 < min n (q - 2) = below_both n (q - 2) (time + 1) soon (omega (arith, quiet)) in
+pub no_end : (time n q owed end : ℕ) → owed ≤ 1 → end ≡ min n (q - (1 + owed)) → end ≤ time + 1 → time + 1 < n → time + 2 + 1 < q → ⊥
+no_end time n q owed end small is few soon quiet =
+    let past : time + 1 < min n (q - (1 + owed)) = below_both n (q - (1 + owed)) (time + 1) soon (omega (arith, quiet, small)) in
     omega (arith, is, few, past)
 
 pub none_owed : (o : Option Turn) → is_some o ≡ false → o ≡ None

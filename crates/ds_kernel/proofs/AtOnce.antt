@@ -377,6 +377,7 @@ module _ {L : Type 0} (p answer : ℕ) (asked : Call) (queues consoles : List (L
     ready = ap (λ (k : Kept). k.state.ready) kept;
     user = ap (λ (c : CoreState). is_user c.system) core;
     begins = spent ∙ sym (ap (λ (c : CoreState). owed_tick c.slot) core);
+    outside = ap (λ (c : CoreState). c.slot) core;
     until = until;
     log = log;
   }

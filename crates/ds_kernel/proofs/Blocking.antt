@@ -142,7 +142,7 @@ counted_fresh : (own : Own) (s : ℕ) → IsFresh own → IsFresh (record own { 
 counted_fresh own s f = ap (λ (n : Counts). record n { spent = s }) f
 
 -- A block of at most so many instructions from the old parts.
-module _ {L : Type 0} (limit n : ℕ) (old : Parts L) (c : CoreState) (b : BusState) (passed spent : ℕ) (good : IsGood old) (goes : MayRunAhead limit (held old)) (room : HasRoom 1 old.monitor) (in_time : old.monitor.time + limit + 1 ≤ 1000000000) (soon : old.monitor.time + limit + 3 ≤ old.monitor.quiet_until)
+module _ {L : Type 0} (limit n : ℕ) (old : Parts L) (c : CoreState) (b : BusState) (passed spent : ℕ) (good : IsGood old) (goes : MayRunAhead limit (held old)) (room : HasRoom 1 old.monitor) (in_time : old.monitor.time + limit + 1 ≤ 1000000000) (soon : old.monitor.time + limit + 2 + owed_tick old.core.slot ≤ old.monitor.quiet_until)
     (words : ComesByWords n (hardware_of old.core old.bus)) where
   abbrev new : Parts L
   new = counted old c b passed spent

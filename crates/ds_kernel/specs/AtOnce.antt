@@ -33,11 +33,13 @@ pub record IsAnswered {L : Type 0} (old new : Parts L) : Type 0 where
   pub ready : new.monitor.ready ≡ old.monitor.ready
   pub user : is_user new.core.system ≡ true
   pub begins : new.spent ≡ owed_tick new.core.slot
+  pub outside : new.core.slot ≡ false
   pub until : new.monitor.quiet_until ≡ old.monitor.quiet_until
   pub log : HasLogRoom 1 old.monitor → HasLogRoom 1 new.monitor
 
 -- a block of some instructions may begin, after which a unit still begins before a time
 pub record MayGoOn {L : Type 0} (end : ℕ) (p : Parts L) : Type 0 where
   pub early : p.monitor.time + 1 < end
+  pub outside : p.core.slot ≡ false
   pub ahead : MayRunAhead (end - p.monitor.time - 1) (held p)
   pub room : HasRoom 1 p.monitor

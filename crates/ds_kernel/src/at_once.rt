@@ -84,7 +84,8 @@ impl<L: Lookaside> Parts<L> {
         requires ready { self.now.monitor.ready ≢ [] }
         requires user { is_user self.now.core.system ≡ true }
         requires begins { self.now.spent ≡ owed_tick self.now.core.slot }
-        requires quiet { end + 2 ≤ self.now.monitor.quiet_until }
+        requires outside { self.now.core.slot ≡ false }
+        requires quiet { end + 1 ≤ self.now.monitor.quiet_until }
         requires log { HasLogRoom 1 self.now.monitor }
         ensures { result ≡ true → MayGoOn end self.now }
     {

@@ -47,7 +47,8 @@ impl<L: Lookaside> Parts<L> {
 
     /// The most instructions that may run ahead in a run for n, if any may: the process is in user
     /// mode, at the beginning of its unit or in the slot of its branch, and each unit begins before
-    /// n, and so early that no command is due after it.
+    /// n, and so early that no command is due after it. A slot leaves a tick less, since its unit
+    /// takes two.
     #[inline(always)]
     pub(crate) fn may_run_ahead(&self, n: u64) -> Option<u32>
         requires good { IsGood self.now }
@@ -55,7 +56,7 @@ impl<L: Lookaside> Parts<L> {
         ensures ahead { IfSome result (λ limit. MayRunAhead limit (held self.now)) }
         ensures some { IfSome result (λ limit. 1 ≤ limit) }
         ensures end { IfSome result (λ limit. self.now.monitor.time + limit + 1
-            ≡ min n (self.now.monitor.quiet_until - 2)) }
+            ≡ min n (self.now.monitor.quiet_until - (1 + owed_tick self.now.core.slot))) }
         ensures any { self.now.monitor.time + 1 < n
             → self.now.monitor.time + 3 < self.now.monitor.ends
             → MayRunAhead 2 (held self.now) → IsSome result }
@@ -67,11 +68,13 @@ impl<L: Lookaside> Parts<L> {
             return None;
         }
         self.monitor.due.look_at_order();
-        let end = n.min(self.monitor.quiet_until.saturating_sub(2));
+        let before = self.slot_tick();
+        let last = self.monitor.quiet_until.saturating_sub(u64::from(1 + before));
+        let end = n.min(last);
         if end <= self.monitor.time + 1 {
             return None;
         }
-        let whole = self.spent == self.slot_tick();
+        let whole = self.spent == before;
         if whole && self.monitor.first_ready().is_some() {
             Some((end - self.monitor.time - 1) as u32)
         } else {
@@ -143,13 +146,15 @@ impl<L: Lookaside> Parts<L> {
         requires ahead { MayRunAhead limit (held self.old) }
         requires some { 1 ≤ limit }
         requires early { self.old.monitor.time + limit + 1 ≤ 1000000000 }
-        requires before { self.old.monitor.time + limit + 3 ≤ self.old.monitor.quiet_until }
+        requires before { self.old.monitor.time + limit + 2 + owed_tick self.old.core.slot
+            ≤ self.old.monitor.quiet_until }
         requires room { HasRoom 1 self.old.monitor }
         ensures good { IsGood self.new }
         ensures goes { (n : ℕ) → self.old.monitor.time + limit + owed_tick self.old.core.slot ≤ n
             → GoesOn n (held self.old) (held self.new) }
         ensures called { result ≡ true → IsCalled self.new.core }
-        ensures soon { self.new.monitor.time ≤ self.old.monitor.time + limit + 1 }
+        ensures soon { self.new.monitor.time
+            ≤ self.old.monitor.time + limit + owed_tick self.old.core.slot }
         ensures rest { self.new ≡ record self.old {
           core = self.new.core;
           bus = self.new.bus;

@@ -1,5 +1,6 @@
 //! Runs of a station, by blocks of instructions where it can and by single steps elsewhere.
 ghost use Rattle.std.specs.Prelude.{◌≡◌, ◌⊎◌, ℕ, ◌+◌, ◌<◌, ◌≤◌, true, false, IfErr, OnOk, OnErr, IsErrOf};
+ghost use Rattle.ds_ahead.specs.Ahead.{owed_tick};
 ghost use Rattle.ds_refinement.specs.Held.{Held};
 ghost use Rattle.ds_refinement.specs.Units.{is_served};
 ghost use Rattle.ds_refinement.specs.Runs.{held_goes_on};
@@ -77,7 +78,7 @@ impl<L: Lookaside> Parts<L> {
         requires few { n ≤ 1000000000 }
         requires begun { 0 < self.old.spent → self.old.monitor.time < n }
         requires early { self.old.monitor.time + 1 < self.old.monitor.quiet_until }
-        requires quiet { end + 2 ≤ self.old.monitor.quiet_until }
+        requires quiet { end + 1 ≤ self.old.monitor.quiet_until }
         requires log { HasLogRoom 1 self.old.monitor }
         requires called { called ≡ true → IsCalled self.old.core }
         ensures good { IsGood self.new }
@@ -120,7 +121,9 @@ impl<L: Lookaside> Parts<L> {
         requires some { 1 ≤ limit }
         requires end { self.old.monitor.time + limit + 1 ≡ end }
         requires within { end ≤ n }
-        requires quiet { end + 2 ≤ self.old.monitor.quiet_until }
+        requires before { self.old.monitor.time + limit + 2 + owed_tick self.old.core.slot
+            ≤ self.old.monitor.quiet_until }
+        requires quiet { end + 1 ≤ self.old.monitor.quiet_until }
         requires room { HasRoom 1 self.old.monitor }
         ensures good { IsGood self.new }
         ensures goes { GoesOn n (held self.old) (held self.new) }
@@ -144,7 +147,8 @@ impl<L: Lookaside> Parts<L> {
         requires ahead { MayRunAhead limit (held self.old) }
         requires some { 1 ≤ limit }
         requires end { self.old.monitor.time + limit + 1 ≤ n }
-        requires before { self.old.monitor.time + limit + 3 ≤ self.old.monitor.quiet_until }
+        requires before { self.old.monitor.time + limit + 2 + owed_tick self.old.core.slot
+            ≤ self.old.monitor.quiet_until }
         requires room { HasRoom 1 self.old.monitor }
         ensures good { IsGood self.new }
         ensures goes { GoesOn n (held self.old) (held self.new) }

@@ -6,8 +6,9 @@ pub returns-then-self-end : goal.returns-then-self-end
 returns-then-self-end g c = λ room.
     let p = c.args.self.now in
     let early : p.monitor.time + 1 < c.args.end = c.if-self-end.true in
-    let quiet : c.args.end + 2 ≤ p.monitor.quiet_until = c.requires.quiet in record {
+    let quiet : c.args.end + 1 ≤ p.monitor.quiet_until = c.requires.quiet in record {
       early = early;
+      outside = c.requires.outside;
       ahead = may_run_ahead p (c.args.end - p.monitor.time - 1) c.requires.good c.look_at_order.ensures.commands c.look_at_order.ensures.order c.requires.unowed c.requires.ready c.requires.user c.requires.begins (omega (arith, early, quiet));
       room = record { consoles = c.have_room.ensures room; log = c.requires.log };
     }

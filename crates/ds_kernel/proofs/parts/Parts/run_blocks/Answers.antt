@@ -1,4 +1,5 @@
-use Rattle.std.proofs.Common.{◌≡◌, ◌+◌, ◌<◌, ◌≤◌, ◌∙◌, arith}
+use Rattle.std.proofs.Common.{◌≡◌, ◌+◌, ◌<◌, ◌≤◌, ◌∙◌, ap, arith}
+use Rattle.ds_ahead.specs.Ahead.{owed_tick}
 use Rattle.ds_kernel.specs.Parts.{held}
 use Rattle.ds_kernel.specs.Going.{GoesOn}
 use Rattle.ds_kernel.proofs.Running.{goes_join}
@@ -10,7 +11,8 @@ loop-ahead-preserved g c =
     let new = c.run_and_serve.new.self in
     let gone : GoesOn c.args.n (held old) (held new) = c.run_and_serve.ensures.goes in
     let early : new.monitor.time + 1 < c.args.self.now.monitor.time + c.from.result + 1 = (c.run_and_serve.ensures.on c.loop-ahead-test.true).early in
-    let quiet : c.args.self.now.monitor.time + c.from.result + 1 + 2 ≤ old.monitor.quiet_until = c.loop-ahead.invariant.quiet in
+    let quiet : c.args.self.now.monitor.time + c.from.result + 1 + 1 ≤ old.monitor.quiet_until = c.loop-ahead.invariant.quiet in
+    let outside : owed_tick new.core.slot ≡ 0 = ap owed_tick (c.run_and_serve.ensures.on c.loop-ahead-test.true).outside in
     let until : new.monitor.quiet_until ≡ old.monitor.quiet_until = c.run_and_serve.ensures.until c.loop-ahead-test.true in record {
       good = c.run_and_serve.ensures.good;
       working = gone.working ∙ c.loop-ahead.invariant.working;
@@ -19,6 +21,7 @@ loop-ahead-preserved g c =
       some = omega (arith, early);
       end = omega (arith, early);
       quiet = omega (arith, quiet, until);
+      before = omega (arith, early, quiet, until, outside);
       room = (c.run_and_serve.ensures.on c.loop-ahead-test.true).room;
     }
 

@@ -1,4 +1,5 @@
 use Rattle.std.proofs.Common.{◌≡◌, false, ◌+◌, ◌≤◌}
+use Rattle.ds_ahead.specs.Ahead.{owed_tick}
 use Rattle.ds_refinement.specs.Blocks.{MayRunAhead}
 use Rattle.ds_refinement.specs.Held.{Held}
 use Rattle.ds_monitor.specs.Room.{HasRoom}
@@ -15,7 +16,8 @@ invariant-loop-ahead g l = record {
   ahead : MayRunAhead l.ahead (held l.self);
   some : 1 ≤ l.ahead;
   end : l.self.monitor.time + l.ahead + 1 ≡ l.end;
-  quiet : l.end + 2 ≤ l.self.monitor.quiet_until;
+  quiet : l.end + 1 ≤ l.self.monitor.quiet_until;
+  before : l.self.monitor.time + l.ahead + 2 + owed_tick l.self.core.slot ≤ l.self.monitor.quiet_until;
   room : HasRoom 1 l.self.monitor;
 }
 
