@@ -1,10 +1,12 @@
--- Processes that wake.
+-- Processes that wake, and the one that goes to the end.
 use Rattle.std.proofs.Common.{◌≡◌, ◌∙◌, ℕ, zero, suc, ◌+◌, ◌-◌, ◌<◌, Bool, true, false, ◌&&◌, ◌||◌, cond, if◌then◌else◌, List, [], ◌∷◌, length, map, refl, sym, ap, subst, arith}
-use Rattle.std.specs.Prelude.{slice_index_or, slice_set, nat_lt, All}
+use Rattle.std.specs.Prelude.{slice_index_or, slice_set, nat_lt, All, ◌≢◌, ◌==◌, not, drop, take, ◌++◌, Some}
+use Rattle.std.proofs.lemmas.Bool.Decides.{nat_tests}
 use Rattle.std.specs.List.{list_any}
 use Rattle.std.proofs.lemmas.List.{get_or-map, length-map}
 use Rattle.ds_procs.specs.declared.process.Standing.{Standing}
-use Rattle.ds_pagemap.specs.Machine.{State, Process, no_process, process_of, is_waiting, made_ready}
+use Rattle.ds_procs.specs.Queue.{IsQueue, without}
+use Rattle.ds_pagemap.specs.Machine.{State, Process, no_process, process_of, is_waiting, made_ready, first}
 use Rattle.ds_pagemap.specs.Calls.{queue_of}
 use Rattle.ds_pagemap.specs.Boundary.{wakes, woken}
 use Rattle.ds_refinement.specs.Held.{Kept}
@@ -59,3 +61,25 @@ no_wake m p none = and_no (is_waiting (process_of m p).standing) (nat_lt 0 (leng
 pub none_wakes : (m : State) (p n : ℕ) → list_any (λ (q : List ℕ). nat_lt 0 (length q)) m.queues ≡ false → woken m p n ≡ m
 none_wakes m p zero none = refl
 none_wakes m p (suc n) none = ap (λ (b : Bool). woken (if b then made_ready m p else m) (p + 1) n) (no_wake m p none) ∙ none_wakes m (p + 1) n none
+
+-- who is not in a list is not missed there
+without_none : (xs : List ℕ) (p : ℕ) → ((k : ℕ) → k < length xs → slice_index_or xs k 0 ≢ p) → without xs p ≡ xs
+without_none [] p apart = refl
+without_none (x ∷ xs) p apart =
+    let other : x ≢ p = apart zero (omega arith) in
+    let no : (x == p) ≡ false = grind (arith, nat_tests) in
+    ap (λ (b : Bool). cond (not b) (x ∷ without xs p) (without xs p)) no
+    ∙ ap (λ (rest : List ℕ). x ∷ rest) (without_none xs p (λ k within. apart (suc k) (omega (arith, within))))
+
+without_head : (x : ℕ) (xs : List ℕ) → IsQueue (x ∷ xs) → without (x ∷ xs) x ≡ xs
+without_head x xs queue =
+    let same : (x == x) ≡ true = grind (arith, nat_tests) in
+    ap (λ (b : Bool). cond (not b) (x ∷ without xs x) (without xs x)) same
+    ∙ without_none xs x (λ k within e. queue.distinct zero (suc k) 0 (omega arith) (omega (arith, within)) (sym e))
+
+-- the first of a queue goes to its end
+pub first_to_end : (xs : List ℕ) (p : ℕ) → IsQueue xs → first xs ≡ Some p → drop 1 xs ++ take 1 xs ≡ without xs p ++ p ∷ []
+first_to_end [] p queue is = absurd (cc)
+first_to_end (x ∷ xs) p queue is =
+    let same : x ≡ p = cc in
+    subst (λ (q : ℕ). xs ++ x ∷ [] ≡ without (x ∷ xs) q ++ q ∷ []) same (ap (λ (ys : List ℕ). ys ++ x ∷ []) (sym (without_head x xs queue)))

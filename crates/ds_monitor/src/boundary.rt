@@ -131,7 +131,7 @@ impl Monitor {
     {
         if let Some(process) = runner {
             if self.first_ready() == Some(process) {
-                self.make_ready(process);
+                self.rotate_first(process);
             }
         }
     }

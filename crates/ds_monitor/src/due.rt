@@ -2,7 +2,7 @@
 ghost use Rattle.std.specs.Prelude.{◌≡◌, ◌∷◌, ◌<◌, ◌≤◌, IfSome, IsNone, All, length};
 ghost use Rattle.std.specs.List.Sorted.{IsNonDecreasingBy};
 ghost use Rattle.ds_policy.specs.InputFacts.{has_time, comes_at};
-ghost use Rattle.ds_monitor.specs.Coming.{first_event};
+ghost use Rattle.ds_monitor.specs.Coming.{first_time, first_event};
 ghost use Rattle.ds_monitor.specs.Commands.{commands_by};
 
 use ds_policy::{Character, Events, TimedCommand};
@@ -110,14 +110,23 @@ impl Due {
         }
     }
 
+    /// When the first command comes, or never.
+    #[inline(always)]
+    pub fn next_command(&self) -> u64
+        ensures { result ≡ first_time has_time self.now.commands }
+    {
+        match self.events.commands().get(self.taken) {
+            Some(command) => command.time,
+            None => NEVER,
+        }
+    }
+
     /// When the first command or character comes, or never.
+    #[inline(always)]
     pub fn next_time(&self) -> u64
         ensures { result ≡ first_event self.now }
     {
-        let command = match self.events.commands().get(self.taken) {
-            Some(command) => command.time,
-            None => NEVER,
-        };
+        let command = self.next_command();
         let character = match self.events.characters().first() {
             Some(character) => character.time,
             None => NEVER,

@@ -1,7 +1,7 @@
 //! The processes in their seats, and who is ready.
-ghost use Rattle.std.specs.Prelude.{◌≡◌, ◌<◌, ◌≤◌, length, None};
+ghost use Rattle.std.specs.Prelude.{◌≡◌, ◌<◌, ◌≤◌, length, None, Some};
 ghost use Rattle.ds_procs.specs.declared.process.Standing.{Standing};
-ghost use Rattle.ds_pagemap.specs.Machine.{State, Process, process_of, with_process, made_ready, made_unready};
+ghost use Rattle.ds_pagemap.specs.Machine.{State, Process, process_of, with_process, made_ready, made_unready, first};
 ghost use Rattle.ds_pagemap.specs.Unit.{at_pc};
 ghost use Rattle.ds_pagemap.specs.Calls.{answered};
 ghost use Rattle.ds_monitor.specs.Kept.{kept_of, kept_after};
@@ -65,6 +65,38 @@ impl Monitor {
     {
         self.seats[process as usize - 1].stand(Standing::Ready);
         self.ready.to_end(process);
+    }
+
+    /// The process stands otherwise.
+    #[inline(always)]
+    fn stand(&mut self, process: u32, standing: Standing)
+        requires above { 0 < process }
+        requires within { process ≤ length self.old.seats.items }
+        ensures kept { kept_of self.new ≡ kept_after (λ (m : State). with_process m process
+            (record (process_of m process) { standing = standing }))
+            (kept_of self.old) }
+        ensures rest { self.new ≡ record self.old { seats = self.new.seats } }
+    {
+        self.seats[process as usize - 1].stand(standing);
+    }
+
+    /// The first of those that are ready goes to the end of the list, and is ready.
+    #[inline(always)]
+    pub(crate) fn rotate_first(&mut self, process: u32)
+        requires above { 0 < process }
+        requires within { process ≤ length self.old.seats.items }
+        requires first { first self.old.ready ≡ Some process }
+        ensures kept { kept_of self.new
+            ≡ kept_after (λ (m : State). made_ready m process) (kept_of self.old) }
+        ensures rest { self.new ≡ record self.old {
+          seats = self.new.seats;
+          ready = self.new.ready;
+        } }
+    {
+        // It is a queue, in which nobody is twice.
+        let _first = self.ready.first();
+        self.stand(process, Standing::Ready);
+        self.ready.rotate();
     }
 
     /// The process stands otherwise, and is not among those that are ready.
