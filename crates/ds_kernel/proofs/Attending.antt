@@ -9,7 +9,7 @@ use Rattle.ds_cp0.specs.System.{is_user, pushed}
 use Rattle.ds_dev.specs.declared.serial.Character.{Character as Received}
 use Rattle.ds_dev.specs.Serial.{SerialState}
 use Rattle.ds_dev.specs.Clock.{ClockState, rings, clock_after}
-use Rattle.ds_dev.specs.Bus.{BusState}
+use Rattle.ds_dev.specs.Bus.{BusState, is_enabled}
 use Rattle.ds_core.specs.Core.{CoreState}
 use Rattle.ds_policy.specs.declared.command.Character.{Character}
 use Rattle.ds_pagemap.specs.declared.turn.Turn.{Turn}
@@ -23,7 +23,7 @@ use Rattle.ds_refinement.specs.Stands.{IsSound, RunningBy, OnProcessor, AreResti
 use Rattle.ds_refinement.specs.Services.{Serves, seated_process, with_first_seated}
 use Rattle.ds_refinement.proofs.Boundaries.{owed_is, kernel_owes}
 use Rattle.ds_monitor.specs.Commands.{with_ends, commanded}
-use Rattle.ds_kernel.specs.Devices.{typed, emptied, interrupted}
+use Rattle.ds_kernel.specs.Devices.{typed, emptied, interrupted, TellsReceived}
 use Rattle.ds_kernel.specs.Attended.{to_come, bus_at, read_out, unowed, ruled}
 use Rattle.ds_kernel.proofs.Characters.{as_received, silo_of, emptied_all, typed_alike, first_typed}
 use Rattle.ds_kernel.proofs.Clocks.{rings_as, passed_since, none_since, time_is}
@@ -117,6 +117,12 @@ module _ (b : BusState) (k : Kept) (resting : AreResting b k) where
 
   pub is_empty : b.serial.silo ≡ []
   is_empty = empty
+
+  pub tells : TellsReceived b
+  tells = record {
+    serial = ap (λ (d : SerialState). d.receiver_interrupts) resting.serial;
+    system = ap is_enabled resting.system;
+  }
 
   few : length b.serial.silo ≤ 64
   few = (let none : length b.serial.silo ≡ 0 = ap (λ (silo : List Received). length silo) empty in omega (arith, none))

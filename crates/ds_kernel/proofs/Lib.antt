@@ -25,3 +25,4 @@ pub mod Running
 pub mod Refilling
 pub mod IdleTurns
 pub mod AtOnce
+pub mod Hearing

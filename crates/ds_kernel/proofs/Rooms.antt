@@ -20,16 +20,21 @@ room_later n m time owed r = record { consoles = r.consoles; log = r.log }
 pub unit_room : (m : Monitor) → HasTurnRoom m → HasRoom 1 m
 unit_room m r = record { consoles = r.consoles; log = fewer_lines 1 (1 + commands_by (m.time + 2) m.due.commands) m (omega arith) r.log }
 
--- before anything is due it is the same
+-- before the first command comes it is the same
+pub early_room : (m : Monitor) → HasRoom 1 m → m.time + 2 < first_time has_time m.due.commands → HasTurnRoom m
+early_room m r early =
+    let none : commands_by (m.time + 2) m.due.commands ≡ 0 = by_none (m.time + 2) m.due.commands early in
+    let one : 1 + commands_by (m.time + 2) m.due.commands ≡ 1 = omega (arith, none) in
+    subst (λ (n : ℕ). HasRoom n m) (sym one) r
+
+-- and before anything is due
 pub turn_room : (m : Monitor) → HasRoom 1 m → m.quiet_until ≡ next_due (kept_of m) → m.time + 2 < m.quiet_until → HasTurnRoom m
 turn_room m r next early =
     let comes : ℕ = min (first_event m.due) (period_end m.rate m.ticked) in
     let soonest : next_due (kept_of m) ≤ comes = min-le_left comes m.ends in
     let first : comes ≤ first_event m.due = min-le_left (first_event m.due) (period_end m.rate m.ticked) in
     let command : first_event m.due ≤ first_time has_time m.due.commands = min-le_left (first_time has_time m.due.commands) (first_time comes_at m.due.characters) in
-    let none : commands_by (m.time + 2) m.due.commands ≡ 0 = by_none (m.time + 2) m.due.commands (omega (arith, early, next, soonest, first, command)) in
-    let one : 1 + commands_by (m.time + 2) m.due.commands ≡ 1 = omega (arith, none) in
-    subst (λ (n : ℕ). HasRoom n m) (sym one) r
+    early_room m r (omega (arith, early, next, soonest, first, command))
 
 -- at the same time, with another turn
 pub turn_room_still : (m : Monitor) (time : ℕ) (owed : Option Turn) → time ≡ m.time → HasTurnRoom m → HasTurnRoom (record m { time = time; owed = owed })

@@ -44,6 +44,12 @@ runner_of (Some turn) = turn.runner
 abbrev pub unowed : Kept → Kept
 unowed k = record k { state = record k.state { owed = None } }
 
+-- these characters are queued, and who waits for one that is there becomes ready
+abbrev pub heard : List Character → State → State
+heard cs m =
+    let typed : State = record m { queues = all_queued m.queues cs } in
+    woken typed 1 (length typed.processes)
+
 -- These characters are queued, who waits for one that is there becomes ready, and where a period has ended the process that ran goes to the end.
 abbrev pub shared : List Character → Bool → Option ℕ → State → State
 shared cs passed runner m =

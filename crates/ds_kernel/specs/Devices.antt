@@ -1,7 +1,8 @@
 -- What a boundary makes of the devices.
-use Rattle.std.specs.Prelude.{◌<◌, ◌^◌, Bool, false, if◌then◌else◌, List, [], ◌∷◌, Option, Some, None}
+use Rattle.std.specs.Prelude.{◌≡◌, ◌<◌, ◌^◌, Bool, true, false, if◌then◌else◌, List, [], ◌∷◌, Option, Some, None}
 use Rattle.ds_dev.specs.declared.serial.Character.{Character as Received}
 use Rattle.ds_dev.specs.Serial.{SerialState, received}
+use Rattle.ds_dev.specs.Bus.{BusState, is_enabled}
 use Rattle.ds_cp0.specs.declared.exception.ExceptionCode.TheVariants.{Interrupt}
 use Rattle.ds_core.specs.Core.{CoreState, exception, core_at_vector}
 use Rattle.ds_policy.specs.declared.command.Character.{Character}
@@ -34,6 +35,11 @@ lost_behind (c ∷ rest) lost = false
 -- the lines once all that was received is read
 abbrev pub emptied : SerialState → SerialState
 emptied d = record d { silo = []; overrun = lost_behind d.silo d.overrun }
+
+-- a character that was received asks for the processor
+pub record TellsReceived (b : BusState) : Type 0 where
+  pub serial : b.serial.receiver_interrupts ≡ true
+  pub system : is_enabled b.system ≡ true
 
 -- the processor at the vector of an interrupt, where one was asked for
 abbrev pub interrupted : Bool → CoreState → CoreState

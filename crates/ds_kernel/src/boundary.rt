@@ -9,9 +9,9 @@ ghost use Rattle.ds_monitor.specs.Orderly as monitor;
 ghost use Rattle.ds_monitor.specs.Room.{HasBoundaryRoom};
 ghost use Rattle.ds_kernel.specs.Parts.{held};
 ghost use Rattle.ds_kernel.specs.Good.{IsGood};
-ghost use Rattle.ds_kernel.specs.Devices.{IsOfLine, typed, emptied};
+ghost use Rattle.ds_kernel.specs.Devices.{IsOfLine, TellsReceived, typed, emptied};
 ghost use Rattle.ds_dev.specs.Bus.{with_serial};
-ghost use Rattle.ds_kernel.specs.Attended.{runner_of, unowed, shared, ruled, read_out, HasAttended, IsBounded};
+ghost use Rattle.ds_kernel.specs.Attended.{runner_of, unowed, heard, shared, ruled, read_out, HasAttended, IsBounded};
 
 use crate::devices::read_clock;
 use crate::parts::Parts;
@@ -44,10 +44,38 @@ impl<L: Lookaside> Parts<L> {
         }
     }
 
+    /// What was received goes to the queues, and who waits for a character that is there becomes
+    /// ready. Where no device asks for the processor, there is nothing.
+    #[inline(always)]
+    fn hear(&mut self)
+        requires lines { All IsOfLine self.old.bus.serial.silo }
+        requires tells { TellsReceived self.old.bus }
+        requires orderly { monitor.IsOrderly (kept_of self.old.monitor) }
+        ensures kept { kept_of self.new.monitor
+            ≡ kept_after (heard (map typed self.old.bus.serial.silo)) (kept_of self.old.monitor) }
+        ensures orderly { monitor.IsOrderly (kept_of self.new.monitor) }
+        ensures bus { self.new.bus ≡ with_serial self.old.bus (emptied self.old.bus.serial) }
+        ensures rest { self.new ≡ record self.old {
+          bus = self.new.bus;
+          monitor = record self.old.monitor {
+            seats = self.new.monitor.seats;
+            ready = self.new.monitor.ready;
+            queues = self.new.monitor.queues;
+          };
+        } }
+    {
+        if self.bus.asks() {
+            self.drain();
+            self.monitor.wake();
+        }
+    }
+
     /// What was received goes to the queues, who waits for a character that is there becomes ready,
     /// and where a period has ended the process that ran goes to the end.
+    #[inline(always)]
     fn share(&mut self, passed: bool, runner: Option<u32>)
         requires lines { All IsOfLine self.old.bus.serial.silo }
+        requires tells { TellsReceived self.old.bus }
         requires orderly { monitor.IsOrderly (kept_of self.old.monitor) }
         ensures kept { kept_of self.new.monitor
             ≡ kept_after (shared (map typed self.old.bus.serial.silo) passed runner)
@@ -63,8 +91,7 @@ impl<L: Lookaside> Parts<L> {
           };
         } }
     {
-        self.drain();
-        self.monitor.wake();
+        self.hear();
         if passed {
             self.monitor.rotate(runner);
         }
@@ -143,6 +170,7 @@ impl<L: Lookaside> Parts<L> {
     /// read and served.
     fn serve_turn(&mut self)
         requires lines { All IsOfLine self.old.bus.serial.silo }
+        requires tells { TellsReceived self.old.bus }
         requires orderly { monitor.IsOrderly (kept_of self.old.monitor) }
         requires early { self.old.monitor.time < 2 ^ 62 }
         requires count { self.old.monitor.lines + length self.old.monitor.due.commands < 2 ^ 63 }

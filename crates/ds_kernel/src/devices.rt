@@ -7,13 +7,13 @@ ghost use Rattle.ds_dev.specs.Bus.{with_clock, with_serial, after_ticks, asks};
 ghost use Rattle.ds_pagemap.specs.Machine.{State};
 ghost use Rattle.ds_pagemap.specs.Boundary.{all_queued};
 ghost use Rattle.ds_pagemap_laws.specs.Due.{come};
-ghost use Rattle.ds_refinement.specs.Units.{user_status};
 ghost use Rattle.ds_monitor.specs.Kept.{kept_of, kept_after};
 ghost use Rattle.ds_kernel.specs.Devices.{IsOfLine, oldest, all_received, typed, emptied, interrupted};
 ghost use Rattle.ds_kernel.specs.Attended.{to_come, bus_at};
 
 use crate::parts::Parts;
 use ds_core::Core;
+use ds_cp0::{Exception, ExceptionCode};
 use ds_dev::Bus;
 use ds_isa::Size;
 use ds_tlb::Lookaside;
@@ -60,15 +60,19 @@ fn read_character(bus: &mut Bus) -> Option<Typed>
 
 /// Takes the interrupt that a device asks for, if one does, while a user runs: the processor is at
 /// the vector, and EPC tells where the program goes on.
-fn take_interrupt<L: Lookaside>(core: &mut Core<L>, bus: &mut Bus)
-    requires slots { L.SLOTS ≡ 64 }
-    requires wired { L.WIRED ≡ 8 }
-    requires mode { core.old.system.status ≡ user_status }
-    ensures core { core.new ≡ interrupted (asks bus.old) core.old }
-    ensures bus { bus.new ≡ bus.old }
+#[inline(always)]
+fn take_interrupt<L: Lookaside>(core: &mut Core<L>, bus: &Bus)
+    ensures { core.new ≡ interrupted (asks bus.now) core.old }
 {
     if bus.asks() {
-        core.step(bus);
+        core.raise(Exception {
+            code: ExceptionCode::Interrupt,
+            pc: core.pc,
+            slot: core.slot,
+            unit: 0,
+            addr: None,
+            miss: false,
+        });
     }
 }
 
@@ -109,13 +113,10 @@ impl<L: Lookaside> Parts<L> {
     /// The clock is brought to the time, what is due comes in, and the interrupt is taken that a
     /// device then asks for.
     pub(crate) fn arrive(&mut self)
-        requires slots { L.SLOTS ≡ 64 }
-        requires wired { L.WIRED ≡ 8 }
         requires before { self.old.monitor.ticked ≤ self.old.monitor.time }
         requires early { self.old.monitor.time < 2 ^ 62 }
         requires on { self.old.bus.serial.master_scan ≡ true }
         requires lines { All IsOfLine self.old.bus.serial.silo }
-        requires mode { self.old.core.system.status ≡ user_status }
         ensures state { self.new ≡ record self.old {
           core = interrupted (asks (bus_at self.old.bus (kept_of self.old.monitor))) self.old.core;
           bus = bus_at self.old.bus (kept_of self.old.monitor);
@@ -130,10 +131,11 @@ impl<L: Lookaside> Parts<L> {
     {
         self.catch_up();
         self.receive();
-        take_interrupt(&mut self.core, &mut self.bus);
+        take_interrupt(&mut self.core, &self.bus);
     }
 
     /// Each character that was received goes to the queue of its line.
+    #[inline(always)]
     pub(crate) fn drain(&mut self)
         requires lines { All IsOfLine self.old.bus.serial.silo }
         requires queues { length self.old.monitor.queues.items ≡ 4 }

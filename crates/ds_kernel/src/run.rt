@@ -174,11 +174,15 @@ impl<L: Lookaside> Parts<L> {
         ensures goes { result ≡ true → GoesOn n (held self.old) (held self.new) }
         ensures still { result ≡ false → self.new ≡ self.old }
     {
-        self.refill_missed() || self.idle_ahead(n)
+        if self.monitor.first_ready().is_some() {
+            self.refill_missed()
+        } else {
+            self.idle_ahead(n)
+        }
     }
 
     /// A block of instructions where one may begin, with the service of the exception that ends it,
-    /// or else what may be done at once, or one step.
+    /// or else what may be done at once, or one step and the boundary after it.
     #[inline(always)]
     fn run_blocks_or_step(&mut self, n: u64) -> Result<(), Halt>
         requires slots { L.SLOTS ≡ 64 }
@@ -200,6 +204,7 @@ impl<L: Lookaside> Parts<L> {
             None => {
                 if !self.go_at_once(n) {
                     self.step()?;
+                    self.do_owed();
                 }
             }
         }

@@ -5,7 +5,6 @@ ghost use Rattle.ds_pagemap.specs.Run.{is_over};
 ghost use Rattle.ds_refinement.specs.Units.{is_served};
 ghost use Rattle.ds_refinement.specs.Services.{with_failure};
 ghost use Rattle.ds_monitor.specs.Kept.{kept_of};
-ghost use Rattle.ds_monitor.specs.Coming.{next_due};
 ghost use Rattle.ds_monitor.specs.Room.{HasRoom, HasTurnRoom};
 ghost use Rattle.ds_kernel.specs.Parts.{held};
 ghost use Rattle.ds_kernel.specs.Good.{IsGood};
@@ -49,17 +48,16 @@ impl<L: Lookaside> Parts<L> {
     }
 
     /// Whether there is room for what one unit and the commands that are due after it may write;
-    /// it is made where there is none, or where commands may be due.
+    /// it is made where there is none, or where commands are due.
     #[inline(always)]
     pub(crate) fn make_room(&mut self) -> bool
         requires early { self.old.monitor.time < 2 ^ 62 }
-        requires next { self.old.monitor.quiet_until ≡ next_due (kept_of self.old.monitor) }
         ensures room { result ≡ true → HasTurnRoom self.new.monitor }
         ensures full { HasTurnRoom self.old.monitor → result ≡ true }
         ensures held { held self.new ≡ held self.old }
         ensures next { self.new.monitor.quiet_until ≡ self.old.monitor.quiet_until }
     {
-        if self.monitor.has_room() && self.monitor.time + 2 < self.monitor.quiet_until {
+        if self.monitor.has_room() && self.monitor.time + 2 < self.monitor.due.next_command() {
             return true;
         }
         self.reserve()

@@ -6,8 +6,8 @@ use Rattle.ds_monitor.specs.declared.monitor.Monitor.{Monitor}
 use Rattle.ds_monitor.specs.Kept.{kept_of}
 use Rattle.ds_monitor.specs.Room.{HasBoundaryRoom}
 use Rattle.ds_kernel.specs.declared.parts.Parts.{Parts}
-use Rattle.ds_kernel.specs.Parts.{held}
-use Rattle.ds_kernel.proofs.Attending.{at_boundary, is_scanned, is_empty}
+use Rattle.ds_kernel.proofs.Attending.{is_scanned, is_empty, tells}
+use Rattle.ds_kernel.proofs.Hearing.{arrived_tells}
 use Rattle.ds_kernel.proofs.Served.{none_received, arrived_orderly, has_attended}
 use Rattle.ds_kernel.proofs.parts.Parts.attend.Goals as goal
 
@@ -15,14 +15,11 @@ pub arrive-requires : goal.arrive-requires
 arrive-requires g c =
     let old = c.args.self.now in
     let sound = c.requires.good.sound in
-    let turn = some_turn old.monitor.owed c.requires.owed in record {
-      slots = c.requires.slots;
-      wired = c.requires.wired;
+    record {
       before = c.requires.good.orderly.ticked;
       early = c.requires.early;
       on = is_scanned old.bus (kept_of old.monitor) sound.stands.agrees.devices;
       lines = none_received old.bus.serial.silo (is_empty old.bus (kept_of old.monitor) sound.stands.agrees.devices);
-      mode = (at_boundary (held old) turn.0 sound turn.1).0;
     }
 
 pub serve_turn-requires : goal.serve_turn-requires
@@ -36,6 +33,7 @@ serve_turn-requires g c =
     let same : came.monitor.lines + length came.monitor.due.commands ≡ old.monitor.lines + length old.monitor.due.commands = ap (λ (p : Parts g.row.L.Denot). p.monitor.lines + length p.monitor.due.commands) state in
     record {
       lines = c.arrive.ensures.lines;
+      tells = arrived_tells old.bus came.bus (kept_of old.monitor) (ap (λ (p : Parts g.row.L.Denot). p.bus) state) (tells old.bus (kept_of old.monitor) c.requires.good.sound.stands.agrees.devices);
       orderly = arrived_orderly (kept_of old.monitor) (kept_of came.monitor) (ap (λ (p : Parts g.row.L.Denot). kept_of p.monitor) state) c.requires.good.orderly.kept;
       early = omega (arith, early, time);
       count = omega (arith, few, early, same);

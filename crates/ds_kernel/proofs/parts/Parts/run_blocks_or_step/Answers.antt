@@ -15,5 +15,5 @@ pub returns-in_ok-step-in-None-clause-goes : goal.returns-in_ok-step-in-None-cla
 returns-in_ok-step-in-None-clause-goes g c =
     let old = c.args.self.now in
     let same = c.go_at_once.ensures.still c.if-not-go_at_once.true in
-    step_goes c.in_ok-step-in-None.field-0 c.args.n (held old) (held c.step.new.self) c.requires.going c.requires.good.sound
-    (subst (λ (p : Parts g.row.L.Denot). Does c.in_ok-step-in-None.field-0 (held p) (held c.step.new.self)) same c.in_ok-step-in-None.ensures.does)
+    c.do_owed.ensures.goes c.args.n (held old) (step_goes c.in_ok-step-in-None.field-0 c.args.n (held old) (held c.step.new.self) c.requires.going c.requires.good.sound
+    (subst (λ (p : Parts g.row.L.Denot). Does c.in_ok-step-in-None.field-0 (held p) (held c.step.new.self)) same c.in_ok-step-in-None.ensures.does))

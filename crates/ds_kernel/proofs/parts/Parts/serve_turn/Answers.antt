@@ -1,6 +1,6 @@
 use Rattle.std.proofs.Common.{◌≡◌, ◌∙◌, ℕ, List, map, refl, sym, ap, subst}
 use Rattle.ds_tlb.specs.declared.entry.Entry.{Entry}
-use Rattle.ds_dev.specs.Bus.{BusState}
+use Rattle.ds_dev.specs.Bus.{BusState, is_enabled}
 use Rattle.ds_grants.specs.Represented.{IsRepresented, IsLow}
 use Rattle.ds_refinement.specs.Held.{Kept}
 use Rattle.ds_refinement.specs.Pairs.{HasNoNewPairs}
@@ -70,3 +70,13 @@ returns-clause-keeps g c = λ it.
     (c.command.ensures.keeps (c.expire.ensures.keeps
     (subst (λ (m : Monitor). IsRepresented left.core.entries left.bus.memory m.tables m.spaces m.grants) (sym c.take_owed.ensures.rest)
     (subst (λ (p : Parts g.row.L.Denot). IsRepresented p.core.entries p.bus.memory p.monitor.tables p.monitor.spaces p.monitor.grants) (sym c.leave_first.ensures.rest) it)))))
+
+pub share-requires-clause-tells : goal.share-requires-clause-tells
+share-requires-clause-tells g c =
+    let left = c.leave_first.ensures.rest in
+    let ended = c.expire.ensures.rest in
+    let done = c.command.ensures.rest in
+    let read = c.read_clock-passed.ensures.state in record {
+      serial = ap (λ (b : BusState). b.serial.receiver_interrupts) read ∙ (ap (λ (p : Parts g.row.L.Denot). p.bus.serial.receiver_interrupts) done ∙ (ap (λ (p : Parts g.row.L.Denot). p.bus.serial.receiver_interrupts) ended ∙ (ap (λ (p : Parts g.row.L.Denot). p.bus.serial.receiver_interrupts) left ∙ c.requires.tells.serial)));
+      system = ap (λ (b : BusState). is_enabled b.system) read ∙ (ap (λ (p : Parts g.row.L.Denot). is_enabled p.bus.system) done ∙ (ap (λ (p : Parts g.row.L.Denot). is_enabled p.bus.system) ended ∙ (ap (λ (p : Parts g.row.L.Denot). is_enabled p.bus.system) left ∙ c.requires.tells.system)));
+    }
