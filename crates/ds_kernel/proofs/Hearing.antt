@@ -8,7 +8,7 @@ use Rattle.ds_dev.specs.Clock.{clock_requests}
 use Rattle.ds_dev.specs.Bus.{BusState, with_serial, is_enabled, asks}
 use Rattle.ds_policy.specs.declared.command.Character.{Character}
 use Rattle.ds_pagemap.specs.Machine.{State, made_ready}
-use Rattle.ds_pagemap.specs.Boundary.{wakes, woken}
+use Rattle.ds_pagemap.specs.Boundary.{woken}
 use Rattle.ds_pagemap_laws.specs.Due.{NobodyWakes, come}
 use Rattle.ds_refinement.specs.Held.{Kept}
 use Rattle.ds_monitor.specs.Kept.{kept_after}
