@@ -69,7 +69,10 @@ impl<L: Lookaside> Parts<L> {
         }
         self.monitor.due.look_at_order();
         let before = self.slot_tick();
-        let last = self.monitor.quiet_until.saturating_sub(u64::from(1 + before));
+        let last = self
+            .monitor
+            .quiet_until
+            .saturating_sub(u64::from(1 + before));
         let end = n.min(last);
         if end <= self.monitor.time + 1 {
             return None;
