@@ -197,6 +197,48 @@ fn place_of(first: u32, target: u32) -> usize
     }
 }
 
+/// Does the operation at a place of the page, which is of this kind; or says why not, and changes
+/// nothing. After a branch or jump `to` is the place where it leads, if that is in the page.
+#[inline(always)]
+fn do_at<L: Lookaside>(
+    core: &mut Core<L>,
+    page: &Page,
+    i: usize,
+    kind: OperationKind,
+    first: u32,
+    at: &mut Position,
+    bus: &mut Bus,
+    code: &CodePage,
+    to: &mut usize,
+) -> Outcome
+    requires inside { i < 1024 }
+    requires single { does_at page.now.places i ≡ single kind }
+    requires some { kind ≢ OperationKind.Other }
+    requires begins { first ≡ code.now.vpn * 4096 }
+    requires low { first < 2 ^ 31 }
+    requires here { at.old ≡ place_in (code.now.vpn * 4096) i }
+    requires known { KnowsPage code.now.vpn code.now.base core.old }
+    requires space { code.now.asid ≡ asid_of core.old.system }
+    requires calm { is_pending core.old.system (lines bus.old).0 (lines bus.old).1 ≡ false }
+    requires holds { HoldsWords page.now bus.old.memory code.now.base }
+    ensures moves { MovesAt page.now.places i result core.old at.old bus.old
+        core.new at.new bus.new }
+    ensures goes { GoesBy (does_at page.now.places i) result core.old
+        (fields_at page.now.places i).to at.old at.new }
+    ensures leads { result ≡ Outcome.Branched → to.new ≤ 1024
+        → at.new.next ≡ first + 4 * to.new }
+    ensures calm { StaysCalm core.old bus.old core.new bus.new }
+    ensures holds { HoldsWords page.now bus.new.memory code.now.base }
+{
+    if let Some(place) = do_branch(core, page, i, kind, first, at, bus, code) {
+        *to = place;
+        return Outcome::Branched;
+    }
+    let outcome = do_operation::<L, 2>(core, page, i, kind, at, bus, code);
+    *to = place_of(first, at.next);
+    outcome
+}
+
 /// Begins the block at a place, where it fits into what is left.
 #[inline(always)]
 fn begin(page: &Page, i: usize, rest: &mut u32) -> Way
@@ -370,10 +412,8 @@ fn turn<L: Lookaside>(
     let Some(kind) = kind_done(page.does(i)) else {
         return Way::Leaves;
     };
-    if let Some(to) = do_branch(core, page, i, kind, first, at, bus, code) {
-        return through_slot(core, page, code, first, to, here, rest, at, bus);
-    }
-    match do_operation::<L, 2>(core, page, i, kind, at, bus, code) {
+    let mut to = NOWHERE;
+    match do_at(core, page, i, kind, first, at, bus, code, &mut to) {
         Outcome::Done => {
             here.go_on();
             Way::On
@@ -382,10 +422,7 @@ fn turn<L: Lookaside>(
             here.go_after_load(i, i + 1, at);
             Way::On
         }
-        Outcome::Branched => {
-            let to = place_of(first, at.next);
-            through_slot(core, page, code, first, to, here, rest, at, bus)
-        }
+        Outcome::Branched => through_slot(core, page, code, first, to, here, rest, at, bus),
         Outcome::Called => Way::Calls,
         Outcome::Left => Way::Leaves,
     }

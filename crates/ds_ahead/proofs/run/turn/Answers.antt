@@ -1,5 +1,4 @@
-use Rattle.std.proofs.Common.{◌≡◌, ℕ, ◌+◌, ◌∙◌, true, refl, sym, subst, arith}
-use Rattle.std.specs.Prelude.{◌≢◌, Option, None, Some, IsNone}
+use Rattle.std.proofs.Common.{◌≡◌, ◌+◌, ◌∙◌, true, sym, subst, arith}
 use Rattle.ds_pages.specs.Does.{is_load}
 use Rattle.ds_pages.specs.Places.{does_at, fields_at}
 use Rattle.ds_ahead.specs.declared.here.Here.{Here}
@@ -11,79 +10,62 @@ use Rattle.ds_ahead.specs.Run.{place_in, MovesAt, Ran, left_here, position_here}
 use Rattle.ds_ahead.proofs.Turns.{ran_both, turn_done, turn_loaded, turn_branched, turn_called, turn_left}
 use Rattle.ds_ahead.proofs.run.turn.Goals as goal
 
-none_of : (o : Option ℕ) → ((n : ℕ) → o ≢ Some n) → IsNone o
-none_of None none = refl
-none_of (Some n) none = absurd (none n refl)
-
-pub returns-in-Some-do_branch-clause-ran : goal.returns-in-Some-do_branch-clause-ran
-returns-in-Some-do_branch-clause-ran g c =
-    let p = c.args.page.now.places in
-    let h = c.args.here.now in
-    let at : Place = record { pc = c.at-2.inside.pc; next = c.at-2.inside.next; slot = c.at-2.inside.slot; late = c.at-2.inside.late } in
-    let is : at ≡ place_in c.args.first h.place = c.at-2.view_is ∙ c.place.ensures in
-    let turn = turn_branched p c.args.first c.args.rest.now h c.args.core.now (fields_at p h.place).to at c.args.bus.now c.args.core.now c.do_branch.new.at c.args.bus.now
-    is c.requires.free c.requires.low (sym c.length-length.ensures.value ∙ c.length-length.ensures.steps) (omega (arith, c.length-length.ensures.value, c.length-length.ensures.within))
-    c.in-Some-do_branch.ensures.moves c.in-Some-do_branch.ensures.goes (record { system = refl; entries = refl; lines = refl }) in
-    ran_both c.through_slot.result (left_here p h c.args.rest.now) (c.args.rest.now + 1) c.args.core.now (position_here p c.args.first h) c.args.bus.now c.args.core.now c.do_branch.new.at c.args.bus.now
-    p c.args.first c.through_slot.new.here c.through_slot.new.rest c.through_slot.new.core c.through_slot.new.at c.through_slot.new.bus
-    (omega (arith, turn.1)) turn.3 c.through_slot.ensures.ran
-
 pub returns-in-Done-clause-ran : goal.returns-in-Done-clause-ran
 returns-in-Done-clause-ran g c =
     let p = c.args.page.now.places in
     let h = c.args.here.now in
-    let at = c.do_branch.new.at in
-    let is : at ≡ place_in c.args.first h.place = c.do_branch.ensures.same (none_of c.do_branch.result c.in_default-do_branch.not-Some) ∙ (c.at-2.view_is ∙ c.place.ensures) in
-    let moves = subst (λ (o : Outcome). MovesAt p h.place o c.args.core.now at c.args.bus.now c.do_operation.new.core c.do_operation.new.at c.do_operation.new.bus) c.in-Done.is c.do_operation.ensures.moves in
-    let goes = subst (λ (o : Outcome). GoesBy (does_at p h.place) o c.args.core.now (fields_at p h.place).to at c.do_operation.new.at) c.in-Done.is c.do_operation.ensures.goes in
-    let turn = turn_done p c.args.first c.args.rest.now h c.args.core.now (fields_at p h.place).to at c.args.bus.now c.do_operation.new.core c.do_operation.new.at c.do_operation.new.bus
+    let at : Place = record { pc = c.place.result.pc; next = c.place.result.next; slot = c.place.result.slot; late = c.place.result.late } in
+    let is : at ≡ place_in c.args.first h.place = c.place.ensures in
+    let moves = subst (λ (o : Outcome). MovesAt p h.place o c.args.core.now at c.args.bus.now c.do_at.new.core c.do_at.new.at c.do_at.new.bus) c.in-Done.is c.do_at.ensures.moves in
+    let goes = subst (λ (o : Outcome). GoesBy (does_at p h.place) o c.args.core.now (fields_at p h.place).to at c.do_at.new.at) c.in-Done.is c.do_at.ensures.goes in
+    let turn = turn_done p c.args.first c.args.rest.now h c.args.core.now (fields_at p h.place).to at c.args.bus.now c.do_at.new.core c.do_at.new.at c.do_at.new.bus
     is c.requires.stands c.requires.free c.requires.low (sym c.length-length.ensures.value ∙ c.length-length.ensures.steps) (omega (arith, c.length-length.ensures.value, c.length-length.ensures.within))
-    moves goes c.do_operation.ensures.calm in
-    subst (λ (x : Here). Ran On (left_here p h c.args.rest.now) c.args.core.now (position_here p c.args.first h) c.args.bus.now p c.args.first x c.args.rest.now c.do_operation.new.core c.do_operation.new.at c.do_operation.new.bus) (sym c.go_on.ensures) turn.3
+    moves goes c.do_at.ensures.calm in
+    subst (λ (x : Here). Ran On (left_here p h c.args.rest.now) c.args.core.now (position_here p c.args.first h) c.args.bus.now p c.args.first x c.args.rest.now c.do_at.new.core c.do_at.new.at c.do_at.new.bus) (sym c.go_on.ensures) turn.3
 
 pub returns-in-Loaded-clause-ran : goal.returns-in-Loaded-clause-ran
 returns-in-Loaded-clause-ran g c =
     let p = c.args.page.now.places in
     let h = c.args.here.now in
-    let at = c.do_branch.new.at in
-    let is : at ≡ place_in c.args.first h.place = c.do_branch.ensures.same (none_of c.do_branch.result c.in_default-do_branch.not-Some) ∙ (c.at-2.view_is ∙ c.place.ensures) in
-    let moves = subst (λ (o : Outcome). MovesAt p h.place o c.args.core.now at c.args.bus.now c.do_operation.new.core c.do_operation.new.at c.do_operation.new.bus) c.in-Loaded.is c.do_operation.ensures.moves in
-    let goes = subst (λ (o : Outcome). GoesBy (does_at p h.place) o c.args.core.now (fields_at p h.place).to at c.do_operation.new.at) c.in-Loaded.is c.do_operation.ensures.goes in
-    (turn_loaded p c.args.first c.args.rest.now h c.go_after_load.new.self c.args.core.now at c.args.bus.now c.do_operation.new.core c.do_operation.new.at c.do_operation.new.bus
+    let at : Place = record { pc = c.place.result.pc; next = c.place.result.next; slot = c.place.result.slot; late = c.place.result.late } in
+    let is : at ≡ place_in c.args.first h.place = c.place.ensures in
+    let moves = subst (λ (o : Outcome). MovesAt p h.place o c.args.core.now at c.args.bus.now c.do_at.new.core c.do_at.new.at c.do_at.new.bus) c.in-Loaded.is c.do_at.ensures.moves in
+    let goes = subst (λ (o : Outcome). GoesBy (does_at p h.place) o c.args.core.now (fields_at p h.place).to at c.do_at.new.at) c.in-Loaded.is c.do_at.ensures.goes in
+    (turn_loaded p c.args.first c.args.rest.now h c.go_after_load.new.self c.args.core.now at c.args.bus.now c.do_at.new.core c.do_at.new.at c.do_at.new.bus
     is c.requires.free c.requires.low (sym c.length-length.ensures.value ∙ c.length-length.ensures.steps) (omega (arith, c.length-length.ensures.value, c.length-length.ensures.within))
-    moves goes c.do_operation.ensures.calm c.go_after_load.ensures.place c.go_after_load.ensures.late c.go_after_load.ensures.from c.go_after_load.ensures.old
+    moves goes c.do_at.ensures.calm c.go_after_load.ensures.place c.go_after_load.ensures.late c.go_after_load.ensures.from c.go_after_load.ensures.old
     (λ load. c.does.ensures.free (subst (λ d. is_load d ≡ true) (sym c.does.ensures.value) load))).3
 
 pub returns-in-Branched-clause-ran : goal.returns-in-Branched-clause-ran
 returns-in-Branched-clause-ran g c =
     let p = c.args.page.now.places in
     let h = c.args.here.now in
-    let at = c.do_branch.new.at in
-    let is : at ≡ place_in c.args.first h.place = c.do_branch.ensures.same (none_of c.do_branch.result c.in_default-do_branch.not-Some) ∙ (c.at-2.view_is ∙ c.place.ensures) in
-    let moves = subst (λ (o : Outcome). MovesAt p h.place o c.args.core.now at c.args.bus.now c.do_operation.new.core c.do_operation.new.at c.do_operation.new.bus) c.in-Branched.is c.do_operation.ensures.moves in
-    let goes = subst (λ (o : Outcome). GoesBy (does_at p h.place) o c.args.core.now (fields_at p h.place).to at c.do_operation.new.at) c.in-Branched.is c.do_operation.ensures.goes in
-    let turn = turn_branched p c.args.first c.args.rest.now h c.args.core.now (fields_at p h.place).to at c.args.bus.now c.do_operation.new.core c.do_operation.new.at c.do_operation.new.bus
+    let at : Place = record { pc = c.place.result.pc; next = c.place.result.next; slot = c.place.result.slot; late = c.place.result.late } in
+    let is : at ≡ place_in c.args.first h.place = c.place.ensures in
+    let moves = subst (λ (o : Outcome). MovesAt p h.place o c.args.core.now at c.args.bus.now c.do_at.new.core c.do_at.new.at c.do_at.new.bus) c.in-Branched.is c.do_at.ensures.moves in
+    let goes = subst (λ (o : Outcome). GoesBy (does_at p h.place) o c.args.core.now (fields_at p h.place).to at c.do_at.new.at) c.in-Branched.is c.do_at.ensures.goes in
+    let turn = turn_branched p c.args.first c.args.rest.now h c.args.core.now (fields_at p h.place).to at c.args.bus.now c.do_at.new.core c.do_at.new.at c.do_at.new.bus
     is c.requires.free c.requires.low (sym c.length-length.ensures.value ∙ c.length-length.ensures.steps) (omega (arith, c.length-length.ensures.value, c.length-length.ensures.within))
-    moves goes c.do_operation.ensures.calm in
-    ran_both c.through_slot-in-Branched.result (left_here p h c.args.rest.now) (c.args.rest.now + 1) c.args.core.now (position_here p c.args.first h) c.args.bus.now c.do_operation.new.core c.do_operation.new.at c.do_operation.new.bus
-    p c.args.first c.through_slot-in-Branched.new.here c.through_slot-in-Branched.new.rest c.through_slot-in-Branched.new.core c.through_slot-in-Branched.new.at c.through_slot-in-Branched.new.bus
-    (omega (arith, turn.1)) turn.3 c.through_slot-in-Branched.ensures.ran
+    moves goes c.do_at.ensures.calm in
+    ran_both c.through_slot.result (left_here p h c.args.rest.now) (c.args.rest.now + 1) c.args.core.now (position_here p c.args.first h) c.args.bus.now c.do_at.new.core c.do_at.new.at c.do_at.new.bus
+    p c.args.first c.through_slot.new.here c.through_slot.new.rest c.through_slot.new.core c.through_slot.new.at c.through_slot.new.bus
+    (omega (arith, turn.1)) turn.3 c.through_slot.ensures.ran
 
 pub returns-in-Called-clause-ran : goal.returns-in-Called-clause-ran
 returns-in-Called-clause-ran g c =
     let p = c.args.page.now.places in
     let h = c.args.here.now in
-    let at = c.do_branch.new.at in
-    let is : at ≡ place_in c.args.first h.place = c.do_branch.ensures.same (none_of c.do_branch.result c.in_default-do_branch.not-Some) ∙ (c.at-2.view_is ∙ c.place.ensures) in
-    let moves = subst (λ (o : Outcome). MovesAt p h.place o c.args.core.now at c.args.bus.now c.do_operation.new.core c.do_operation.new.at c.do_operation.new.bus) c.in-Called.is c.do_operation.ensures.moves in
-    let goes = subst (λ (o : Outcome). GoesBy (does_at p h.place) o c.args.core.now (fields_at p h.place).to at c.do_operation.new.at) c.in-Called.is c.do_operation.ensures.goes in
-    turn_called p c.args.first c.args.rest.now h c.args.core.now (fields_at p h.place).to at c.args.bus.now c.do_operation.new.core c.do_operation.new.at c.do_operation.new.bus
+    let at : Place = record { pc = c.place.result.pc; next = c.place.result.next; slot = c.place.result.slot; late = c.place.result.late } in
+    let is : at ≡ place_in c.args.first h.place = c.place.ensures in
+    let moves = subst (λ (o : Outcome). MovesAt p h.place o c.args.core.now at c.args.bus.now c.do_at.new.core c.do_at.new.at c.do_at.new.bus) c.in-Called.is c.do_at.ensures.moves in
+    let goes = subst (λ (o : Outcome). GoesBy (does_at p h.place) o c.args.core.now (fields_at p h.place).to at c.do_at.new.at) c.in-Called.is c.do_at.ensures.goes in
+    turn_called p c.args.first c.args.rest.now h c.args.core.now (fields_at p h.place).to at c.args.bus.now c.do_at.new.core c.do_at.new.at c.do_at.new.bus
     is c.requires.free (c.does.ensures.inside c.in-Some.ensures.known) (sym c.length-length.ensures.value ∙ c.length-length.ensures.steps) moves goes
 
 pub returns-in-Left-clause-ran : goal.returns-in-Left-clause-ran
 returns-in-Left-clause-ran g c =
     let p = c.args.page.now.places in
     let h = c.args.here.now in
-    let at = c.do_branch.new.at in
-    let moves = subst (λ (o : Outcome). MovesAt p h.place o c.args.core.now at c.args.bus.now c.do_operation.new.core c.do_operation.new.at c.do_operation.new.bus) c.in-Left.is c.do_operation.ensures.moves in
-    turn_left p c.args.first c.args.rest.now h c.args.core.now at c.args.bus.now c.do_operation.new.core c.do_operation.new.at c.do_operation.new.bus c.requires.fits moves
+    let at : Place = record { pc = c.place.result.pc; next = c.place.result.next; slot = c.place.result.slot; late = c.place.result.late } in
+    let moves = subst (λ (o : Outcome). MovesAt p h.place o c.args.core.now at c.args.bus.now c.do_at.new.core c.do_at.new.at c.do_at.new.bus) c.in-Left.is c.do_at.ensures.moves in
+    turn_left p c.args.first c.args.rest.now h c.args.core.now at c.args.bus.now c.do_at.new.core c.do_at.new.at c.do_at.new.bus c.requires.fits moves
