@@ -214,7 +214,8 @@ impl<L: Lookaside> Station<L> {
 
     /// How many slots the translation lookaside buffer has: 64.
     pub fn slots(&self) -> usize
-        ensures { result ≡ length self.now.core.entries }
+        ensures all { result ≡ length self.now.core.entries }
+        ensures number { result ≡ 64 }
     {
         let _spent = self.parts.spent;
         64

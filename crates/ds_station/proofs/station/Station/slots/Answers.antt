@@ -3,5 +3,5 @@ use Rattle.ds_refinement.specs.Stands.{IsSound}
 use Rattle.ds_station.proofs.Reading.{all_slots}
 use Rattle.ds_station.proofs.station.Station.slots.Goals as goal
 
-pub returns : goal.returns
-returns g c = sym (all_slots c.args.self.now (subst IsSound c.self.view_is c.self.invariant.good.sound))
+pub returns-clause-all : goal.returns-clause-all
+returns-clause-all g c = sym (all_slots c.args.self.now (subst IsSound c.self.view_is c.self.invariant.good.sound))
