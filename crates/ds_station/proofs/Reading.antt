@@ -3,7 +3,8 @@ use Rattle.std.proofs.Common.{◌≡◌, ℕ, ◌+◌, ◌*◌, ◌^◌, ◌<◌
 use Rattle.std.specs.Prelude.{IfSome}
 use Rattle.std.specs.List.{All}
 use Rattle.std.proofs.lemmas.List.Elements.{All-head}
-use Rattle.ds_pagemap.specs.Machine.{State, first}
+use Rattle.ds_procs.specs.declared.process.Standing.TheVariants.{Ready}
+use Rattle.ds_pagemap.specs.Machine.{State, first, process_of}
 use Rattle.ds_pagemap_laws.specs.Lawful.{IsReady}
 use Rattle.ds_word.specs.Bytes.{word_at}
 use Rattle.ds_isa.specs.declared.instr.Kind.TheVariants.{Fetch}
@@ -43,6 +44,16 @@ first_seat m (q ∷ rest) (Some p) all is =
     let head = All-head (IsReady m) q rest all in
     let same : q ≡ p = cc in
     subst (λ (x : ℕ). (0 < x) × (x ≤ length m.processes)) same (head.0, head.1)
+
+-- and is ready
+pub first_stands : (m : State) (ready : List ℕ) (o : Option ℕ) → All (IsReady m) ready → o ≡ first ready → IfSome o (λ p. (process_of m p).standing ≡ Ready)
+first_stands m [] None all is = tt
+first_stands m [] (Some p) all is = absurd (cc)
+first_stands m (q ∷ rest) None all is = tt
+first_stands m (q ∷ rest) (Some p) all is =
+    let head = All-head (IsReady m) q rest all in
+    let same : q ≡ p = cc in
+    subst (λ (x : ℕ). (process_of m x).standing ≡ Ready) same head.2
 
 -- the buffer has 64 slots
 pub all_slots : (h : Held) → IsSound h → length h.core.entries ≡ 64

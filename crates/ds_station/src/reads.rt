@@ -2,6 +2,7 @@
 ghost use Rattle.std.specs.Prelude.{◌≡◌, ◌<◌, ◌≤◌, [], length, slice_get, slice_index_or, IfSome, Some};
 ghost use Rattle.ds_pagemap.specs.Boundary.{is_first};
 ghost use Rattle.ds_pagemap.specs.Machine.{first, process_of};
+ghost use Rattle.ds_procs.specs.declared.process.Standing.TheVariants.{Ready};
 ghost use Rattle.ds_refinement.specs.Held.{last_boundary};
 ghost use Rattle.ds_refinement.specs.Units.{has_left_user};
 ghost use Rattle.ds_station.specs.Reads.{address_held, fetched, general_held, is_at, memory_held, stage_in_unit, stage_of, unit_on, ShowsGeneral};
@@ -39,6 +40,8 @@ impl<L: Lookaside> Station<L> {
         ensures held { result ≡ first self.now.kept.state.ready }
         ensures seat { IfSome result
             (λ p. (0 < p) × (p ≤ length self.now.kept.state.processes)) }
+        ensures ready { IfSome result
+            (λ p. (process_of self.now.kept.state p).standing ≡ Ready) }
     {
         self.parts.monitor.first_ready()
     }
