@@ -1,4 +1,5 @@
 pub mod BareLemmas
+pub mod BareOrders
 pub mod Cuts
 pub mod Faulty
 pub mod HeldFiles
@@ -6,3 +7,4 @@ pub mod Noting
 pub mod Stops
 pub mod Tellings
 pub mod TraceLemmas
+pub mod Untaken

@@ -1,4 +1,5 @@
 pub mod AtFault
+pub mod BareOrder
 pub mod BareRuns
 pub mod Demo
 pub mod Listed

@@ -1,5 +1,6 @@
 //! A source run on the bare machine.
 ghost use Rattle.std.specs.Prelude.{◌≡◌, ℕ, List, IfErr, IfOk};
+ghost use Rattle.ds_drive.specs.BareOrder.{IsRefusedAfter};
 ghost use Rattle.ds_drive.specs.BareRuns.{RunsOrIsFaulty, BareFailsBy, of_bare};
 
 use crate::check::input_of;
@@ -28,7 +29,7 @@ fn fault_of(fault: BareFault) -> Fault
 
 /// Reads the source, and the input where one is named, and runs the source's image on the bare
 /// machine, or answers the faults of the source. Nothing is written before both are read and good.
-#[tactic(auto, using(crate::proofs::BareLemmas::source_unread, crate::proofs::BareLemmas::input_unread, crate::proofs::BareLemmas::memory_keeps))]
+#[tactic(auto, using(crate::proofs::BareLemmas::source_unread, crate::proofs::BareLemmas::input_unread, crate::proofs::BareLemmas::memory_keeps, crate::proofs::BareOrders::unread_after, crate::proofs::BareOrders::input_unread_after, crate::proofs::BareOrders::line_after, crate::proofs::BareOrders::start_after))]
 pub fn bare_file<'a, F: Files, W: Write>(
     alloc: Global,
     request: &BareRequest<'a>,
@@ -39,6 +40,7 @@ pub fn bare_file<'a, F: Files, W: Write>(
         (W.contents out.old) (W.contents out.new)) }
     ensures err { IfErr result (λ f. BareFailsBy f (F.holds files.old) (F.lacks files.old)
         request.now (W.contents out.old) (W.contents out.new)) }
+    ensures after { IfErr result (λ f. IsRefusedAfter f (F.holds files.old) request.now) }
     ensures kept { (file bytes : List ℕ) → F.holds files.new file bytes
         → F.holds files.old file bytes }
     ensures lacked { (file : List ℕ) → F.lacks files.new file → F.lacks files.old file }

@@ -1,11 +1,12 @@
 //! The whole program, which takes its words, files and streams from its caller.
 ghost use Rattle.std.specs.Prelude.{◌≡◌, ◌≢◌, ◌≤◌, ◌⊎◌, ◌∷◌, List, [], ℕ, codes, map, string_bytes};
 ghost use Rattle.std.specs.Io.KnownBytes.{Keeps};
+ghost use Rattle.clap.specs.Words.{fault_of};
 ghost use Rattle.ds_drive.specs.Done.{IsCutShort, IsDone, IsStopped, WantsMemory, stream};
 ghost use Rattle.ds_drive.specs.Failures.{memory_failure};
 ghost use Rattle.ds_drive.specs.Told.{failure_line};
 ghost use Rattle.ds_log.specs.Sent.{AppendsPart};
-ghost use Rattle.ds_words.specs.Words.{AsksForSomething};
+ghost use Rattle.ds_words.specs.Words.{AsksForSomething, dsmon_app};
 
 use crate::bare::bare_file;
 use crate::check::{Checking, check_files};
@@ -41,6 +42,10 @@ pub fn drive<F: Files, W: Write, E: Write>(
     ensures alone { (program : List ℕ) → map string_bytes words.now ≡ program ∷ codes "demo" ∷ []
         → result ≢ 1 }
     ensures refused { result ≡ 1 → W.contents out.new ≡ W.contents out.old }
+    ensures unasked { result ≡ 1 → files.new ≡ files.old }
+    ensures kind { result ≡ 1 → fault_of dsmon_app (map string_bytes words.now) ≡ []
+        → AppendsPart (E.contents err.old) (E.contents err.new)
+        (codes "dsmon: --only takes end, calls, denials, switches or units\n") }
     ensures done { result ≡ 0
         → IsDone (map string_bytes words.now) (F.holds files.old) (W.contents out.old)
         (W.contents out.new) }

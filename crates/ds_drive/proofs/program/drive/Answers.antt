@@ -10,6 +10,7 @@ use Rattle.ds_drive.proofs.Cuts.{check_cut, demo_cut, list_cut, run_cut}
 use Rattle.ds_drive.proofs.Noting.{check_noted}
 use Rattle.ds_drive.proofs.Stops.{list_faulty, no_fault_is_done}
 use Rattle.ds_drive.proofs.TraceLemmas.{trace_cut, trace_done}
+use Rattle.ds_drive.proofs.Untaken.{taken_for_memory}
 use Rattle.ds_words.proofs.WordLemmas.{alone, fails_for_memory, only_memory_fails}
 use Rattle.ds_drive.proofs.program.drive.Goals as goal
 
@@ -45,6 +46,11 @@ returns-in-Err-2-clause-alone g c program same =
 pub returns-in-Err-2-clause-taken : goal.returns-in-Err-2-clause-taken
 returns-in-Err-2-clause-taken g c asked =
     let memory = only_memory_fails _ c.in-Err-2.error asked c.in-Err-2.ensures.refused in
+    search (rules, memory)
+
+pub returns-in-Err-2-clause-kind : goal.returns-in-Err-2-clause-kind
+returns-in-Err-2-clause-kind g c one taken =
+    let memory = taken_for_memory (map string_bytes c.args.words.now) c.in-Err-2.error taken c.in-Err-2.ensures.refused in
     search (rules, memory)
 
 pub returns-in-Ok-None-clause-alone : goal.returns-in-Ok-None-clause-alone
