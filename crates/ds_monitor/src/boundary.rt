@@ -142,7 +142,7 @@ impl Monitor {
         requires early { self.old.ticked < 2 ^ 62 }
         ensures { self.new ≡ record self.old { quiet_until = next_due (kept_of self.old) } }
     {
-        let comes = self.due.next_time();
+        let comes = self.due.next_due();
         self.quiet_until = comes.min(period_end(self.rate, self.ticked)).min(self.ends);
     }
 }

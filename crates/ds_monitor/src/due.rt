@@ -2,7 +2,7 @@
 ghost use Rattle.std.specs.Prelude.{◌≡◌, ◌∷◌, ◌<◌, ◌≤◌, IfSome, IsNone, All, length};
 ghost use Rattle.std.specs.List.Sorted.{IsNonDecreasingBy};
 ghost use Rattle.ds_policy.specs.InputFacts.{has_time, comes_at};
-ghost use Rattle.ds_monitor.specs.Coming.{first_time, first_event};
+ghost use Rattle.ds_monitor.specs.Coming.{first_time, first_event, first_due};
 ghost use Rattle.ds_monitor.specs.Commands.{commands_by};
 
 use ds_policy::{Character, Events, TimedCommand};
@@ -121,17 +121,32 @@ impl Due {
         }
     }
 
+    /// When the first character comes, or never.
+    #[inline(always)]
+    fn next_character(&self) -> u64
+        ensures { result ≡ first_time comes_at self.now.characters }
+    {
+        match self.events.characters().first() {
+            Some(character) => character.time,
+            None => NEVER,
+        }
+    }
+
     /// When the first command or character comes, or never.
     #[inline(always)]
     pub fn next_time(&self) -> u64
         ensures { result ≡ first_event self.now }
     {
-        let command = self.next_command();
-        let character = match self.events.characters().first() {
-            Some(character) => character.time,
-            None => NEVER,
-        };
-        command.min(character)
+        self.next_command().min(self.next_character())
+    }
+
+    /// When the first character comes, or a tick before the first command does.
+    #[inline(always)]
+    pub fn next_due(&self) -> u64
+        ensures { result ≡ first_due self.now }
+    {
+        let command = self.next_command().saturating_sub(1);
+        command.min(self.next_character())
     }
 
     /// How many commands are due at a time.
