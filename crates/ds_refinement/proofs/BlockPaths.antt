@@ -18,15 +18,15 @@ use Rattle.ds_pagemap.specs.Machine.{first}
 use Rattle.ds_refinement.specs.declared.step.Step.{Step}
 use Rattle.ds_refinement.specs.declared.step.Step.TheVariants.{Inside, Unit, Boundary}
 use Rattle.ds_refinement.specs.Told.{is_delayed}
-use Rattle.ds_refinement.specs.Held.{Held, Kept}
+use Rattle.ds_refinement.specs.Held.{Held, Kept, Own}
 use Rattle.ds_refinement.specs.Units.{user_status, is_general, is_served}
 use Rattle.ds_refinement.specs.Handling.{IsWhole}
-use Rattle.ds_refinement.specs.Counts.{Counts, with_counts, IsFresh}
+use Rattle.ds_refinement.specs.Counts.{Counts, counts_of, fresh, one_more}
 use Rattle.ds_refinement.specs.Steps.{Follows, Moves, ticks_of}
 use Rattle.ds_refinement.specs.Services.{after_event, step_of, with_one_spent, with_boundary}
 use Rattle.ds_refinement.specs.Real.{IsReal, RealPath}
 use Rattle.ds_refinement.specs.Quiet.{IsQuiet}
-use Rattle.ds_refinement.specs.Blocks.{moved, time_behind, with_block, with_exception, at_time, IsQuietUntil, MayRunAhead}
+use Rattle.ds_refinement.specs.Blocks.{moved, more_counted, counts_behind, time_behind, with_block, with_exception, at_time, IsQuietUntil, MayRunAhead}
 use Rattle.ds_refinement.proofs.Boundaries.{quiet}
 use Rattle.ds_refinement.proofs.Counting.{user_moves}
 use Rattle.ds_refinement.proofs.Meets.{barred}
@@ -48,6 +48,36 @@ ticks_of_slot false = refl
 
 some_is_not_none : (turn : Turn) → Some turn ≡ None → ⊥
 some_is_not_none turn e = cc
+
+-- The counts after a block.
+
+-- whose turn it is among the first slots is no matter of instructions
+more_wired : (n : ℕ) (c : Counts) → (more_counted n c).wired ≡ c.wired
+more_wired zero c = refl
+more_wired (suc n) c = more_wired n c
+
+counts_wired : (n t : ℕ) (slot : Bool) (own : Own) → (counts_behind n t slot own).wired ≡ own.wired
+counts_wired n zero slot own = more_wired n (counts_of own)
+counts_wired n (suc t) slot own = refl
+
+-- once time has passed, a unit has begun anew
+counts_past : (n t : ℕ) (slot : Bool) (own : Own) → 0 < t → counts_behind n t slot own ≡ record (fresh own.wired) { spent = owed_tick slot }
+counts_past n zero slot own some = absurd (omega (arith, some))
+counts_past n (suc t) slot own some = refl
+
+-- a branch more is an instruction more of the unit
+counts_branched : (n t : ℕ) (was is : Bool) (own : Own) → was ≡ false → is ≡ true → one_more (counts_behind n t was own) ≡ counts_behind (suc n) t is own
+counts_branched n zero was is own none some = refl
+counts_branched n (suc t) false true own none some = refl
+counts_branched n (suc t) true is own none some = absurd (cc)
+counts_branched n (suc t) false false own none some = absurd (cc)
+
+-- few are counted where few were, and no more than one of them since
+pub counts_few : (n t : ℕ) (slot : Bool) (own : Own) → own.spent ≤ 61 → (t ≡ 0 → n ≤ 1) → (counts_behind n t slot own).spent ≤ 62
+counts_few zero zero slot own few one = omega (arith, few)
+counts_few (suc zero) zero slot own few one = omega (arith, few)
+counts_few (suc (suc n)) zero slot own few one = absurd (let most = one refl in omega (arith, most))
+counts_few n (suc t) slot own few one = (let small = owed_small slot in omega (arith, small))
 
 -- a step, with its event named
 abbrev told_as : Event → core.Step → core.Step
@@ -118,7 +148,7 @@ quiet_owed : (k : Kept) (owed : Option Turn) → IsQuiet k → IsQuiet (record k
 quiet_owed k owed q = record { commands = q.commands; characters = q.characters; asleep = q.asleep; period = q.period; ends = q.ends }
 
 -- Many instructions, from h on.
-module _ (h : Held) (owed : h.kept.state.owed ≡ None) (ready : h.kept.state.ready ≢ []) (mode : h.core.system.status ≡ user_status) (spent : h.own.spent ≡ owed_tick h.core.slot) (unmet : IsFresh h.own) (last : ℕ) (calm_until : IsQuietUntil last h.kept) (end : ℕ) (P : Held → Type 0) (carries : Carries end P) (begun : P h) where
+module _ (h : Held) (owed : h.kept.state.owed ≡ None) (ready : h.kept.state.ready ≢ []) (mode : h.core.system.status ≡ user_status) (few : h.own.spent ≤ 61) (last : ℕ) (calm_until : IsQuietUntil last h.kept) (end : ℕ) (P : Held → Type 0) (carries : Carries end P) (begun : P h) where
   abbrev start : Hardware
   start = hardware_of h.core h.bus
 
@@ -142,11 +172,16 @@ module _ (h : Held) (owed : h.kept.state.owed ≡ None) (ready : h.kept.state.re
   none : P (with_block 0 h start)
   none = subst P
       (let same : h.kept.state.time ≡ h.kept.state.time + 0 = omega arith in
-      ap (λ (n : Counts). record h { own = with_counts h.own n }) unmet
-      ∙ ap (λ (n : ℕ). moved h start h.kept.state.time h.kept.state.owed n) spent
-      ∙ (ap (λ (o : Option Turn). moved h start h.kept.state.time o (owed_tick h.core.slot)) owed
-      ∙ ap (λ (t : ℕ). moved h start t None (owed_tick h.core.slot)) same))
+      ap (λ (o : Option Turn). moved h start h.kept.state.time o (counts_of h.own)) owed
+      ∙ ap (λ (t : ℕ). moved h start t None (counts_of h.own)) same)
       begun
+
+  -- where no time has passed, no more than a branch is done
+  few_counted : (n : ℕ) → IsCalm n → (with_block n h (at n)).own.spent ≤ 62
+  few_counted n calm =
+      let all : ticks n start + owed_tick (at n).core.slot ≡ n + owed_tick h.core.slot = ticks_of_advance n start (at n) (record { state = refl; calm = calm }) in
+      let small : owed_tick (at n).core.slot ≤ 1 = owed_small (at n).core.slot in
+      counts_few n (ticks n start) (at n).core.slot h.own few (λ none. omega (arith, all, small, none))
 
   -- a unit among so many steps begins before the end
   begins : (n : ℕ) → IsCalm n → h.kept.state.time + suc n + owed_tick h.core.slot ≤ end → time_behind n h < end
@@ -156,7 +191,7 @@ module _ (h : Held) (owed : h.kept.state.owed ≡ None) (ready : h.kept.state.re
       before
 
   -- One step more.
-  module _ (n : ℕ) (calm : IsCalm (suc n)) (words : (at n).core.pc < 2 ^ 32) (early : h.kept.state.time + suc n + 1 ≤ last) (soon : h.kept.state.time + suc n + owed_tick h.core.slot ≤ end) (path : P (with_block n h (at n))) where
+  module _ (n : ℕ) (calm : IsCalm (suc n)) (words : (at n).core.pc < 2 ^ 32) (early : h.kept.state.time + suc n + owed_tick h.core.slot ≤ last) (soon : h.kept.state.time + suc n + owed_tick h.core.slot ≤ end) (path : P (with_block n h (at n))) where
     abbrev b : Held
     b = with_block n h (at n)
 
@@ -186,32 +221,36 @@ module _ (h : Held) (owed : h.kept.state.owed ≡ None) (ready : h.kept.state.re
     by Retired is quiet_step =
         let more : ticks (suc n) start ≡ ticks n start + (1 + owed_tick (at n).core.slot) = more_ticks Retired is in
         let unit : ticks_of (at n).core.slot ≡ 1 + owed_tick (at n).core.slot = ticks_of_slot (at n).core.slot in
-        let small : owed_tick h.core.slot ≤ 1 = owed_small h.core.slot in
         let all : ticks (suc n) start + owed_tick s.core.slot ≡ suc n + owed_tick h.core.slot = all_ticks in
         let time : ℕ = h.kept.state.time + ticks n start + ticks_of (at n).core.slot in
         let time_is : time ≡ h.kept.state.time + ticks (suc n) start = omega (arith, more, unit) in
-        let no_slot : owed_tick s.core.slot ≡ 0 = ap owed_tick (slots Retired is) in
-        let upto : time ≤ last = omega (arith, time_is, all, small, early) in
+        let some : 0 < ticks (suc n) start = omega (arith, more) in
+        let wired : (counts_behind n (ticks n start) (at n).core.slot h.own).wired ≡ h.own.wired = counts_wired n (ticks n start) (at n).core.slot h.own in
+        let counts : fresh (counts_behind n (ticks n start) (at n).core.slot h.own).wired ≡ counts_behind (suc n) (ticks (suc n) start) s.core.slot h.own =
+        ap fresh wired ∙ (ap (λ (slot : Bool). record (fresh h.own.wired) { spent = owed_tick slot }) (sym (slots Retired is)) ∙ sym (counts_past (suc n) (ticks (suc n) start) s.core.slot h.own some)) in
+        let upto : time ≤ last = omega (arith, time_is, all, early) in
         let later : h.kept.state.time ≤ time = omega (arith, time_is) in
         let q : IsQuiet (at_time time h.kept) = calm_until.quiet time later upto in
         let since : h.kept.ticked ≤ time = (let before : h.kept.ticked ≤ h.kept.state.time = calm_until.ticked in omega (arith, before, later)) in
         let turn : Option Turn = Some (record { began = h.kept.state.time + ticks n start; runner = first h.kept.state.ready }) in
         subst P
-        (ap₂ (λ (t k : ℕ). moved h (left_by s) t None k) time_is (sym no_slot))
+        (ap₂ (λ (t : ℕ) (k : Counts). moved h (left_by s) t None k) time_is counts)
         (unit_carries b s refl refl ready user words complete end P carries path before_end is since (quiet_owed (at_time time h.kept) turn q))
     by Branched is quiet_step =
         let more : ticks (suc n) start ≡ ticks n start + 0 = more_ticks Branched is in
         let time_is : h.kept.state.time + ticks n start ≡ h.kept.state.time + ticks (suc n) start = omega (arith, more) in
-        let before : owed_tick (at n).core.slot ≡ 0 = ap owed_tick (slots Branched is).0 in
-        let after : owed_tick s.core.slot ≡ 1 = ap owed_tick (slots Branched is).1 in
-        let count : owed_tick (at n).core.slot + 1 ≡ owed_tick s.core.slot = omega (arith, before, after) in
+        let none : ticks (suc n) start ≡ ticks n start = omega (arith, more) in
+        let counts : one_more (counts_behind n (ticks n start) (at n).core.slot h.own) ≡ counts_behind (suc n) (ticks (suc n) start) s.core.slot h.own =
+        counts_branched n (ticks n start) (at n).core.slot s.core.slot h.own (slots Branched is).0 (slots Branched is).1
+        ∙ ap (λ (t : ℕ). counts_behind (suc n) t s.core.slot h.own) (sym none) in
+        let most = few_counted n (λ k below. calm k (omega (arith, below))) in
         subst P
-        (ap₂ (λ (t k : ℕ). moved h (left_by s) t None k) time_is count)
-        (inside_carries b s refl refl ready user words complete end P Branched carries path before_end is refl (omega (arith, before)))
+        (ap₂ (λ (t : ℕ) (k : Counts). moved h (left_by s) t None k) time_is counts)
+        (inside_carries b s refl refl ready user words complete end P Branched carries path before_end is refl (omega (arith, most)))
     by (Raised code) is quiet_step = absurd (cc)
 
   -- steps that enter no exception
-  block : (n : ℕ) → IsCalm n → ComesByWords n start → h.kept.state.time + n + 1 ≤ last → h.kept.state.time + n + owed_tick h.core.slot ≤ end → P (with_block n h (at n))
+  block : (n : ℕ) → IsCalm n → ComesByWords n start → h.kept.state.time + n + owed_tick h.core.slot ≤ last → h.kept.state.time + n + owed_tick h.core.slot ≤ end → P (with_block n h (at n))
   block zero calm words early soon = none
   block (suc n) calm words early soon =
       by n calm (words n (omega arith)) early soon
@@ -219,18 +258,18 @@ module _ (h : Held) (owed : h.kept.state.owed ≡ None) (ready : h.kept.state.re
       (ahead.step_of (at n)).event refl (calm n (omega arith))
 
   -- and after them one that does
-  raised : (n : ℕ) (hw : Hardware) (code : ExceptionCode) → IsCalm n → ComesByWords n start → h.kept.state.time + n + 1 ≤ last → h.kept.state.time + suc n + owed_tick h.core.slot ≤ end
+  raised : (n : ℕ) (hw : Hardware) (code : ExceptionCode) → IsCalm n → ComesByWords n start → h.kept.state.time + n + owed_tick h.core.slot ≤ last → h.kept.state.time + suc n + owed_tick h.core.slot ≤ end
       → IsWhole hw.core → record { event = Raised code; core = hw.core; bus = hw.bus } ≡ ahead.step_of (at n) → P (with_exception n h hw)
   raised n hw code calm words early soon all is =
       let s : core.Step = record { event = Raised code; core = hw.core; bus = hw.bus } in
       let user : is_user (at n).core.system ≡ true = user_kept n calm in
-      let small : owed_tick (at n).core.slot ≤ 1 = owed_small (at n).core.slot in
+      let most = few_counted n calm in
       let told : is_delayed hw.core.system ≡ (at n).core.slot = slot_told_by s (at n) code is refl in
       let here : (at n).core.pc < 2 ^ 32 = words n (omega arith) in
       subst P
-      (ap (λ (slot : Bool). moved h hw (time_behind n h) None (owed_tick slot + 1)) (sym told))
+      (ap (λ (slot : Bool). moved h hw (time_behind n h) None (one_more (counts_behind n (ticks n start) slot h.own))) (sym told))
       (inside_carries (with_block n h (at n)) s is refl ready user here (λ raised. all) end P (Raised code) carries
-      (block n calm words early (omega (arith, soon))) (begins n calm soon) refl refl (omega (arith, small)))
+      (block n calm words early (omega (arith, soon))) (begins n calm soon) refl refl (omega (arith, most)))
 
 -- The laws.
 
@@ -239,12 +278,12 @@ module _ (n limit : ℕ) (h : Held) (hw : Hardware) (g : MayRunAhead limit h) (w
   block_carries : Advances n (hardware_of h.core h.bus) hw → h.kept.state.time + n + owed_tick h.core.slot ≤ end → P (with_block n h hw)
   block_carries advances soon =
       subst (λ (x : Hardware). P (with_block n h x)) (sym advances.state)
-      (block h g.owed g.ready g.mode g.spent g.fresh (h.kept.state.time + limit + 1) g.quiet end P carries begun n advances.calm words (omega (arith, within)) soon)
+      (block h g.owed g.ready g.mode g.few (h.kept.state.time + limit + owed_tick h.core.slot) g.quiet end P carries begun n advances.calm words (omega (arith, within)) soon)
 
   -- such steps and one that enters an exception
   raised_carries : (code : ExceptionCode) → AdvancesTo n (Some code) (hardware_of h.core h.bus) hw → IsWhole hw.core → h.kept.state.time + suc n + owed_tick h.core.slot ≤ end → P (with_exception n h hw)
   raised_carries code leads all soon =
-      raised h g.owed g.ready g.mode g.spent g.fresh (h.kept.state.time + limit + 1) g.quiet end P carries begun n hw code leads.1.calm words (omega (arith, within)) soon all
+      raised h g.owed g.ready g.mode g.few (h.kept.state.time + limit + owed_tick h.core.slot) g.quiet end P carries begun n hw code leads.1.calm words (omega (arith, within)) soon all
       (leads.2 ∙ ap ahead.step_of leads.1.state)
 
 -- They are paths.

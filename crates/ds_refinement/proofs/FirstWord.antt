@@ -133,17 +133,17 @@ module _ (h : Held) (m : State) (p : ℕ) (rest : List ℕ) (k : Agrees h m) (re
       let no : Retired ≡ Raised LoadMiss = ap (λ (d : Step). d.event) (sym last.3.1 ∙ third) in
       absurd cc
 
-  -- after nine words that are all done the mode is a user's
-  pub comes_back : (t : CoreState) → RunsInside 0 handler_events h.core h.bus t → is_user t.system ≡ true
+  -- after nine words that are all done the mode is a user's, and the program stands in no slot
+  pub comes_back : (t : CoreState) → RunsInside 0 handler_events h.core h.bus t → (is_user t.system ≡ true) × (t.slot ≡ false)
   comes_back t run = by (find h.core.entries (0xC0000 + before.vpn / 1024) (space_of h.kept p)) refl
     where
-      by : (found : Option ℕ) → find h.core.entries (0xC0000 + before.vpn / 1024) (space_of h.kept p) ≡ found → is_user t.system ≡ true
+      by : (found : Option ℕ) → find h.core.entries (0xC0000 + before.vpn / 1024) (space_of h.kept p) ≡ found → (is_user t.system ≡ true) × (t.slot ≡ false)
       by None found = absurd (misses t found run)
       by (Some slot) found =
           let w : ℕ = granted_word h.kept.grants p before.vpn in
           let whole = at_once_runs h.core h.bus w k.vectors in_kernel at next_is before.slot none_late before.whole.size before.whole.nought (loads slot found) in
-          ap (λ (d : CoreState). is_user d.system) (same_end 0 handler_events h.core h.bus t (after_refill h.core w) run whole)
-          ∙ ap (λ (n : ℕ). is_user (returned (record h.core.system { status = n }))) before.status
+          let end = same_end 0 handler_events h.core h.bus t (after_refill h.core w) run whole in
+          (ap (λ (d : CoreState). is_user d.system) end ∙ ap (λ (n : ℕ). is_user (returned (record h.core.system { status = n }))) before.status, ap (λ (d : CoreState). d.slot) end)
 
 -- The same of a station that stands for some state.
 module _ (h : Held) (sound : IsSound h) (some : h.kept.state.ready ≢ []) (user : is_user h.core.system ≡ false) (at : h.core.pc ≡ 0x80000000) where
@@ -165,11 +165,14 @@ module _ (h : Held) (sound : IsSound h) (some : h.kept.state.ready ≢ []) (user
   pub first_late : h.core.registers.late ≡ None
   first_late = none_late h sound.state first.0 first.1 sound.stands.agrees first.2 user at
 
-  pub back_to_user : (t : CoreState) → RunsInside 0 handler_events h.core h.bus t → is_user t.system ≡ true
+  pub back_to_user : (t : CoreState) → RunsInside 0 handler_events h.core h.bus t → (is_user t.system ≡ true) × (t.slot ≡ false)
   back_to_user t run = comes_back h sound.state first.0 first.1 sound.stands.agrees first.2 user at t run
 
 pub first_words : (h : Held) → IsSound h → HasWords h.bus.memory
 first_words h sound = sound.stands.agrees.vectors
 
 pub refill_user : (h : Held) (t : CoreState) → IsSound h → h.kept.state.ready ≢ [] → is_user h.core.system ≡ false → h.core.pc ≡ 0x80000000 → RunsInside 0 handler_events h.core h.bus t → is_user t.system ≡ true
-refill_user h t sound some user at run = back_to_user h sound some user at t run
+refill_user h t sound some user at run = (back_to_user h sound some user at t run).0
+
+pub refill_outside : (h : Held) (t : CoreState) → IsSound h → h.kept.state.ready ≢ [] → is_user h.core.system ≡ false → h.core.pc ≡ 0x80000000 → RunsInside 0 handler_events h.core h.bus t → t.slot ≡ false
+refill_outside h t sound some user at run = (back_to_user h sound some user at t run).1

@@ -96,8 +96,8 @@ pub fn the_handler_begins()
 {}
 
 /// A whole refill at once is a path of nine steps, each an instruction of the processor that counts
-/// and ends no unit, and each followed by the machine: it is touched with the seventh. In user mode
-/// the unit begins again.
+/// and ends no unit, and each followed by the machine: it is touched with the seventh. In user mode,
+/// and in no slot, the unit begins again.
 pub fn a_refill_is_a_path()
     ensures path { (h : Held) (c : CoreState) → IsSound h → h.kept.state.ready ≢ []
         → h.kept.state.owed ≡ None → RunsInside 0 handler_events h.core h.bus c
@@ -108,4 +108,7 @@ pub fn a_refill_is_a_path()
     ensures user { (h : Held) (t : CoreState) → IsSound h → h.kept.state.ready ≢ []
         → is_user h.core.system ≡ false → h.core.pc ≡ 0x80000000
         → RunsInside 0 handler_events h.core h.bus t → is_user t.system ≡ true }
+    ensures outside { (h : Held) (t : CoreState) → IsSound h → h.kept.state.ready ≢ []
+        → is_user h.core.system ≡ false → h.core.pc ≡ 0x80000000
+        → RunsInside 0 handler_events h.core h.bus t → t.slot ≡ false }
 {}

@@ -1,4 +1,4 @@
-use Rattle.ds_refinement.proofs.FirstWord.{refill_user}
+use Rattle.ds_refinement.proofs.FirstWord.{refill_user, refill_outside}
 use Rattle.ds_refinement.proofs.Nine.{refill_path, refill_within}
 use Rattle.ds_refinement.proofs.handler.a_refill_is_a_path.Goals as goal
 
@@ -10,3 +10,6 @@ returns-clause-within c = refill_within
 
 pub returns-clause-user : goal.returns-clause-user
 returns-clause-user c = refill_user
+
+pub returns-clause-outside : goal.returns-clause-outside
+returns-clause-outside c = refill_outside
