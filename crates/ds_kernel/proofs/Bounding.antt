@@ -1,5 +1,5 @@
 -- Boundaries with nothing to do and boundaries that are served, as steps of a station.
-use Rattle.std.proofs.Common.{◌≡◌, ◌≢◌, inl, inr, ℕ, zero, suc, ◌+◌, ◌<◌, ◌≤◌, true, false, [], length, Option, None, refl, sym, ap, subst, ◌∙◌, arith}
+use Rattle.std.proofs.Common.{◌≡◌, ◌≢◌, inl, inr, ℕ, zero, suc, ◌+◌, ◌-◌, ◌<◌, ◌≤◌, true, false, [], length, Option, None, refl, sym, ap, subst, ◌∙◌, arith}
 use Rattle.std.specs.Prelude.{IsSome, ◌==◌, min}
 use Rattle.std.specs.List.Sorted.{IsNonDecreasingBy}
 use Rattle.std.proofs.Math.Nat.{min-le_left, min-le_right}
@@ -21,7 +21,7 @@ use Rattle.ds_refinement.proofs.NoNewPairs.{same_pairs}
 use Rattle.ds_refinement.specs.Counts.{HasNone}
 use Rattle.ds_refinement.proofs.Counting.{boundary_moves, idle_moves}
 use Rattle.ds_refinement.proofs.Attended.{boundary_served, idle_served, served_moves, idle_served_moves}
-use Rattle.ds_monitor.specs.Coming.{first_time, first_event, period_end, next_due}
+use Rattle.ds_monitor.specs.Coming.{first_time, first_due, period_end, next_due}
 use Rattle.ds_monitor.specs.Kept.{kept_of}
 use Rattle.ds_monitor.specs.Orderly as monitor
 use Rattle.ds_monitor.specs.Room.{HasBoundaryRoom, HasTurnRoom}
@@ -43,13 +43,13 @@ pub nothing_due : (m : Monitor) (time : ℕ) (owed : Option Turn) → IsNonDecre
     → IsQuiet (record (kept_of m) { state = record (kept_of m).state { time = time; owed = owed } })
 nothing_due m time owed commands order next early kept =
     let before : time < next_due (kept_of m) = subst (λ (n : ℕ). time < n) next early in
-    let comes : ℕ = min (first_event m.due) (period_end m.rate m.ticked) in
+    let comes : ℕ = min (first_due m.due) (period_end m.rate m.ticked) in
     let soonest : next_due (kept_of m) ≤ comes = min-le_left comes m.ends in
     let ends : next_due (kept_of m) ≤ m.ends = min-le_right comes m.ends in
-    let first : comes ≤ first_event m.due = min-le_left (first_event m.due) (period_end m.rate m.ticked) in
-    let last : comes ≤ period_end m.rate m.ticked = min-le_right (first_event m.due) (period_end m.rate m.ticked) in
-    let command : first_event m.due ≤ first_time has_time m.due.commands = min-le_left (first_time has_time m.due.commands) (first_time comes_at m.due.characters) in
-    let character : first_event m.due ≤ first_time comes_at m.due.characters = min-le_right (first_time has_time m.due.commands) (first_time comes_at m.due.characters) in
+    let first : comes ≤ first_due m.due = min-le_left (first_due m.due) (period_end m.rate m.ticked) in
+    let last : comes ≤ period_end m.rate m.ticked = min-le_right (first_due m.due) (period_end m.rate m.ticked) in
+    let command : first_due m.due ≤ first_time has_time m.due.commands - 1 = min-le_left (first_time has_time m.due.commands - 1) (first_time comes_at m.due.characters) in
+    let character : first_due m.due ≤ first_time comes_at m.due.characters = min-le_right (first_time has_time m.due.commands - 1) (first_time comes_at m.due.characters) in
     record {
       commands = none_due has_time time m.due.commands commands (omega (arith, before, soonest, first, command));
       characters = none_due comes_at time m.due.characters order (omega (arith, before, soonest, first, character));

@@ -80,11 +80,8 @@ module _ {L : Type 0} (old new : Parts L) (good : IsGood old) (ready : old.monit
   count : new.spent ≡ old.spent + 9
   count = ap (λ (x : Held). x.own.spent) is
 
-  pub refill_few : new.spent ≤ 61
+  refill_few : new.spent ≤ 61
   refill_few = (few_of (held new) sound.state sound.stands).spent
-
-  pub refill_begun : 0 < new.spent
-  refill_begun = let nine = count in omega (arith, nine)
 
   pub refill_good : IsGood new
   refill_good =

@@ -1,11 +1,11 @@
 -- Room for what a unit and the commands after it may write.
-use Rattle.std.proofs.Common.{◌≡◌, ℕ, ◌+◌, ◌<◌, ◌≤◌, Option, sym, ap, subst, arith}
+use Rattle.std.proofs.Common.{◌≡◌, ℕ, ◌+◌, ◌-◌, ◌<◌, ◌≤◌, Option, sym, ap, subst, arith}
 use Rattle.std.specs.Prelude.{min}
 use Rattle.std.proofs.Math.Nat.{min-le_left}
 use Rattle.ds_policy.specs.Value.{InputValue}
 use Rattle.ds_policy.specs.InputFacts.{has_time, comes_at}
 use Rattle.ds_pagemap.specs.declared.turn.Turn.{Turn}
-use Rattle.ds_monitor.specs.Coming.{first_time, first_event, period_end, next_due}
+use Rattle.ds_monitor.specs.Coming.{first_time, first_due, period_end, next_due}
 use Rattle.ds_monitor.specs.Commands.{commands_by}
 use Rattle.ds_monitor.specs.Kept.{kept_of}
 use Rattle.ds_monitor.specs.Room.{HasLogRoom, HasRoom, HasBoundaryRoom, HasTurnRoom}
@@ -27,13 +27,13 @@ early_room m r early =
     let one : 1 + commands_by (m.time + 2) m.due.commands ≡ 1 = omega (arith, none) in
     subst (λ (n : ℕ). HasRoom n m) (sym one) r
 
--- and before anything is due
-pub turn_room : (m : Monitor) → HasRoom 1 m → m.quiet_until ≡ next_due (kept_of m) → m.time + 2 < m.quiet_until → HasTurnRoom m
+-- and where nothing is due before the longest unit is over
+pub turn_room : (m : Monitor) → HasRoom 1 m → m.quiet_until ≡ next_due (kept_of m) → m.time + 2 ≤ m.quiet_until → HasTurnRoom m
 turn_room m r next early =
-    let comes : ℕ = min (first_event m.due) (period_end m.rate m.ticked) in
+    let comes : ℕ = min (first_due m.due) (period_end m.rate m.ticked) in
     let soonest : next_due (kept_of m) ≤ comes = min-le_left comes m.ends in
-    let first : comes ≤ first_event m.due = min-le_left (first_event m.due) (period_end m.rate m.ticked) in
-    let command : first_event m.due ≤ first_time has_time m.due.commands = min-le_left (first_time has_time m.due.commands) (first_time comes_at m.due.characters) in
+    let first : comes ≤ first_due m.due = min-le_left (first_due m.due) (period_end m.rate m.ticked) in
+    let command : first_due m.due ≤ first_time has_time m.due.commands - 1 = min-le_left (first_time has_time m.due.commands - 1) (first_time comes_at m.due.characters) in
     early_room m r (omega (arith, early, next, soonest, first, command))
 
 -- at the same time, with another turn

@@ -1,5 +1,6 @@
 -- A run of a station, by blocks of instructions and by steps.
 use Rattle.std.proofs.Common.{◌≡◌, ℕ, ◌+◌, ◌-◌, ◌*◌, ◌<◌, ◌≤◌, Bool, true, false, cond, List, [], ◌∷◌, Option, Some, None, refl, sym, ap, subst, ◌∙◌, arith, inr, zero, suc}
+use Rattle.std.proofs.lemmas.Bool.{false≢true}
 use Rattle.std.proofs.lemmas.Bool.Decides.{nat_tests}
 use Rattle.std.specs.Prelude.{IsSome, is_some, not, ◌||◌, ◌&&◌, nat_lt}
 use Rattle.ds_word.specs.Word.{truth}
@@ -17,6 +18,8 @@ use Rattle.ds_refinement.specs.Runs.{held_goes_on}
 use Rattle.ds_refinement.proofs.Joined.{one_step, path_join}
 use Rattle.ds_refinement.proofs.RunSteps.{goes_alike, begins_goes, within_start, within_step}
 use Rattle.ds_kernel.specs.declared.halt.Halt.TheVariants.{Failed}
+use Rattle.ds_kernel.specs.declared.parts.Parts.{Parts}
+use Rattle.ds_kernel.specs.Parts.{held}
 use Rattle.ds_kernel.specs.Good.{IsOrderly}
 use Rattle.ds_kernel.specs.Ended.{Does}
 use Rattle.ds_kernel.specs.Ran.{HasRun, WasCut}
@@ -167,6 +170,10 @@ owed_goes_on n h owed = ap (λ (b : Bool). b || (nat_lt h.kept.state.time n && n
 
 pub no_run : (n : ℕ) (h : Held) → HasRun n h h
 no_run n h = record { path = record { path = []; through = refl }; within = within_start n h }
+
+-- where a run was over, it does not go on
+pub still_goes : {L : Type 0} (n : ℕ) (old last : Parts L) → last ≡ old → held_goes_on n (held last) ≡ true → held_goes_on n (held old) ≡ false → ⊥
+still_goes {L} n old last same going over = false≢true (sym over ∙ (ap (λ (p : Parts L). held_goes_on n (held p)) (sym same) ∙ going))
 
 -- a failure that stands is told again
 pub failed_again : (n : ℕ) (h : Held) → h.own.failed ≡ true → WasCut n Failed h h

@@ -75,17 +75,16 @@ impl<L: Lookaside> Parts<L> {
         true
     }
 
-    /// Whether another block may begin where a unit does, so that a unit still begins before a time
-    /// after it.
+    /// Whether another block may begin where a process is in its unit, so that a unit still begins
+    /// before a time after it.
     #[inline(always)]
     pub(crate) fn may_go_on(&self, end: u64) -> bool
         requires good { IsGood self.now }
         requires unowed { self.now.monitor.owed ≡ None }
         requires ready { self.now.monitor.ready ≢ [] }
         requires user { is_user self.now.core.system ≡ true }
-        requires begins { self.now.spent ≡ owed_tick self.now.core.slot }
         requires outside { self.now.core.slot ≡ false }
-        requires quiet { end + 1 ≤ self.now.monitor.quiet_until }
+        requires quiet { end ≤ self.now.monitor.quiet_until }
         requires log { HasLogRoom 1 self.now.monitor }
         ensures { result ≡ true → MayGoOn end self.now }
     {

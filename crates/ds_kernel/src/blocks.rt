@@ -1,11 +1,12 @@
 //! Many instructions of a process at once, with one bookkeeping for all their units.
-ghost use Rattle.std.specs.Prelude.{[], ◌≢◌, ◌≡◌, ◌<◌, ◌≤◌, ◌+◌, ◌-◌, min, ℕ, None, true, false, IfSome, IfErr, OnOk, OnErr, IsNone, IsSome};
+ghost use Rattle.std.specs.Prelude.{[], ◌≢◌, ◌≡◌, ◌<◌, ◌≤◌, ◌+◌, ◌-◌, ◌^◌, min, ℕ, None, true, false, IfSome, IfErr, OnOk, OnErr, IsNone, IsSome};
 ghost use Rattle.ds_cp0.specs.declared.exception.ExceptionCode.TheVariants as exception;
 ghost use Rattle.ds_ahead.specs.Ahead.{hardware_of, AdvancesTo, ComesByWords, ticks, owed_tick};
-ghost use Rattle.ds_refinement.specs.Blocks.{MayRunAhead};
+ghost use Rattle.ds_refinement.specs.Blocks.{MayRunAhead, counts_behind};
+ghost use Rattle.ds_refinement.specs.Counts.{fresh, with_counts};
 ghost use Rattle.ds_refinement.specs.Services.{with_failure};
 ghost use Rattle.ds_monitor.specs.Room.{HasRoom};
-ghost use Rattle.ds_kernel.specs.Parts.{held};
+ghost use Rattle.ds_kernel.specs.Parts.{held, own_of, with_counts_of};
 ghost use Rattle.ds_kernel.specs.Good.{IsGood};
 ghost use Rattle.ds_kernel.specs.Going.{GoesOn};
 ghost use Rattle.ds_kernel.specs.AtOnce.{IsCalled};
@@ -37,18 +38,25 @@ fn is_call(code: ExceptionCode) -> bool
 }
 
 impl<L: Lookaside> Parts<L> {
+    /// Whether the processor stands in the slot of a branch.
+    #[inline(always)]
+    fn is_in_slot(&self) -> bool
+        ensures { result ≡ self.now.core.slot }
+    {
+        self.core.slot
+    }
+
     /// The tick that is left to the slot in which the processor stands, if it does.
     #[inline(always)]
     fn slot_tick(&self) -> u32
         ensures { result ≡ owed_tick self.now.core.slot }
     {
-        owed_tick(self.core.slot)
+        owed_tick(self.is_in_slot())
     }
 
     /// The most instructions that may run ahead in a run for n, if any may: the process is in user
-    /// mode, at the beginning of its unit or in the slot of its branch, and each unit begins before
-    /// n, and so early that no command is due after it. A slot leaves a tick less, since its unit
-    /// takes two.
+    /// mode, each unit begins before n, and no boundary after one has anything to do. A slot leaves a
+    /// tick less, since its unit takes two.
     #[inline(always)]
     pub(crate) fn may_run_ahead(&self, n: u64) -> Option<u32>
         requires good { IsGood self.now }
@@ -56,9 +64,9 @@ impl<L: Lookaside> Parts<L> {
         ensures ahead { IfSome result (λ limit. MayRunAhead limit (held self.now)) }
         ensures some { IfSome result (λ limit. 1 ≤ limit) }
         ensures end { IfSome result (λ limit. self.now.monitor.time + limit + 1
-            ≡ min n (self.now.monitor.quiet_until - (1 + owed_tick self.now.core.slot))) }
+            ≡ min n (self.now.monitor.quiet_until - owed_tick self.now.core.slot)) }
         ensures any { self.now.monitor.time + 1 < n
-            → self.now.monitor.time + 3 < self.now.monitor.ends
+            → self.now.monitor.time + 2 < self.now.monitor.ends
             → MayRunAhead 2 (held self.now) → IsSome result }
     {
         if !self.is_user() {
@@ -69,16 +77,12 @@ impl<L: Lookaside> Parts<L> {
         }
         self.monitor.due.look_at_order();
         let before = self.slot_tick();
-        let last = self
-            .monitor
-            .quiet_until
-            .saturating_sub(u64::from(1 + before));
+        let last = self.monitor.quiet_until.saturating_sub(u64::from(before));
         let end = n.min(last);
         if end <= self.monitor.time + 1 {
             return None;
         }
-        let whole = self.spent == before;
-        if whole && self.monitor.first_ready().is_some() {
+        if self.monitor.first_ready().is_some() {
             Some((end - self.monitor.time - 1) as u32)
         } else {
             None
@@ -107,17 +111,65 @@ impl<L: Lookaside> Parts<L> {
         Ok(())
     }
 
-    /// So many ticks are over, and the unit has taken so many instructions.
+    /// So many ticks are over.
     #[inline(always)]
-    pub(crate) fn count(&mut self, ticks: u32, spent: u32)
+    pub(crate) fn pass(&mut self, ticks: u32)
         requires early { self.old.monitor.time ≤ 1000000000 }
         ensures { self.new ≡ record self.old {
           monitor = record self.old.monitor { time = self.old.monitor.time + ticks };
-          spent = spent;
         } }
     {
         self.monitor.time += u64::from(ticks);
-        self.spent = spent;
+    }
+
+    /// A unit has begun anew, and its branch is done if the next instruction stands in its slot.
+    #[inline(always)]
+    fn count_anew(&mut self, slot: bool)
+        ensures own { own_of self.new ≡ with_counts (own_of self.old)
+            (record (fresh (own_of self.old).wired) { spent = owed_tick slot }) }
+        ensures rest { self.new ≡ with_counts_of self.new self.old }
+    {
+        self.count_none();
+        self.spent = owed_tick(slot);
+    }
+
+    /// So many steps were taken in so many ticks, and the next stands in a slot or not.
+    #[inline(always)]
+    fn count_steps(&mut self, steps: u32, ticks: u32, slot: bool)
+        requires spent { self.old.spent ≤ 64 }
+        requires since { self.old.since < 56 }
+        requires branch { ticks ≡ 0 → steps ≤ 1 }
+        ensures own { own_of self.new ≡ with_counts (own_of self.old)
+            (counts_behind steps ticks slot (own_of self.old)) }
+        ensures rest { self.new ≡ with_counts_of self.new self.old }
+    {
+        if ticks > 0 {
+            self.count_anew(slot);
+        } else if steps > 0 {
+            self.count_one();
+        }
+    }
+
+    /// So many steps were taken, the first after so many ticks were left to a slot, and the next stands
+    /// in a slot or not: their ticks are over, and what is counted of the unit is as they leave it.
+    #[inline(always)]
+    fn count_block(&mut self, steps: u32, before: u32, slot: bool)
+        requires early { self.old.monitor.time ≤ 1000000000 }
+        requires fits { steps + before < 2 ^ 32 }
+        requires some { owed_tick slot ≤ steps + before }
+        requires spent { self.old.spent ≤ 64 }
+        requires since { self.old.since < 56 }
+        ensures own { own_of self.new ≡ with_counts (own_of self.old)
+            (counts_behind steps (steps + before - owed_tick slot) slot (own_of self.old)) }
+        ensures rest { self.new ≡ record (with_counts_of self.new self.old) {
+          monitor = record self.old.monitor {
+            time = self.old.monitor.time + (steps + before - owed_tick slot);
+          };
+        } }
+    {
+        let ticks = steps + before - owed_tick(slot);
+        self.pass(ticks);
+        self.count_steps(steps, ticks, slot);
     }
 
     /// Takes so many instructions, or fewer and then one that raises an exception.
@@ -149,34 +201,33 @@ impl<L: Lookaside> Parts<L> {
         requires ahead { MayRunAhead limit (held self.old) }
         requires some { 1 ≤ limit }
         requires early { self.old.monitor.time + limit + 1 ≤ 1000000000 }
-        requires before { self.old.monitor.time + limit + 2 + owed_tick self.old.core.slot
+        requires before { self.old.monitor.time + limit + 1 + owed_tick self.old.core.slot
             ≤ self.old.monitor.quiet_until }
         requires room { HasRoom 1 self.old.monitor }
         ensures good { IsGood self.new }
         ensures goes { (n : ℕ) → self.old.monitor.time + limit + owed_tick self.old.core.slot ≤ n
             → GoesOn n (held self.old) (held self.new) }
         ensures called { result ≡ true → IsCalled self.new.core }
-        ensures soon { self.new.monitor.time
-            ≤ self.old.monitor.time + limit + owed_tick self.old.core.slot }
-        ensures rest { self.new ≡ record self.old {
+        ensures early { result ≡ true → self.new.monitor.time + 1 < self.old.monitor.quiet_until }
+        ensures rest { self.new ≡ record (with_counts_of self.new self.old) {
           core = self.new.core;
           bus = self.new.bus;
           monitor = record self.old.monitor { time = self.new.monitor.time };
-          spent = self.new.spent;
         } }
     {
         let before = self.slot_tick();
         let ahead = self.run_ahead(limit);
         match ahead.raised {
             None => {
-                let left = self.slot_tick();
-                self.count(ahead.steps + before - left, left);
+                let slot = self.is_in_slot();
+                self.count_block(ahead.steps, before, slot);
                 false
             }
             Some(code) => {
                 self.look_at_processor();
-                let left = owed_tick(self.is_delayed());
-                self.count(ahead.steps + before - left, left + 1);
+                let slot = self.is_delayed();
+                self.count_block(ahead.steps, before, slot);
+                self.count_one();
                 is_call(code)
             }
         }

@@ -44,7 +44,7 @@ impl<L: Lookaside> Parts<L> {
     #[inline(always)]
     pub(crate) fn count_one(&mut self)
         requires spent { self.old.spent ≤ 64 }
-        requires since { self.old.since < 56 }
+        requires since { self.old.since ≤ 56 }
         ensures own { own_of self.new ≡ with_one_spent (own_of self.old) }
         ensures rest { self.new ≡ with_counts_of self.new self.old }
     {

@@ -1,5 +1,4 @@
-//! A whole refill at once, where a page of the process that runs was missed, and the instruction that
-//! it is for.
+//! A whole refill at once, where a page of the process that runs was missed.
 ghost use Rattle.std.specs.Prelude.{◌≡◌, ◌≢◌, ℕ, ◌+◌, ◌<◌, [], true, false};
 ghost use Rattle.ds_cp0.specs.System.{is_user};
 ghost use Rattle.ds_refill_laws.specs.Refill.{handler_events};
@@ -27,10 +26,10 @@ impl<L: Lookaside> Parts<L> {
         !self.core.cp0.user() && self.core.pc == MISS_VECTOR
     }
 
-    /// The handler's nine words at once, where the unit may take so many instructions more, and one
-    /// after them. Whether they were done: they are left to single steps where the page-table word
-    /// can't be loaded.
-    #[inline(always)]
+    /// The handler's nine words at once, after which the process is in its unit again. Whether they
+    /// were done: they are left to single steps where the page-table word can't be loaded.
+    // It stands apart, so that what a block needs stays in registers.
+    #[inline(never)]
     fn refill(&mut self) -> bool
         requires slots { L.SLOTS ≡ 64 }
         requires wired { L.WIRED ≡ 8 }
@@ -42,8 +41,8 @@ impl<L: Lookaside> Parts<L> {
             → RunsInside 0 handler_events self.old.core self.old.bus self.new.core }
         ensures nearer { result ≡ true → (n : ℕ) → self.old.monitor.time < n
             → GoesOn n (held self.old) (held self.new) }
-        ensures begun { result ≡ true → 0 < self.new.spent }
-        ensures few { result ≡ true → self.new.spent < 64 }
+        ensures user { result ≡ true → is_user self.new.core.system ≡ true }
+        ensures outside { result ≡ true → self.new.core.slot ≡ false }
         ensures still { result ≡ false → self.new ≡ self.old }
         ensures rest { self.new ≡ record (with_counts_of self.new self.old) {
           core = self.new.core;
@@ -58,73 +57,29 @@ impl<L: Lookaside> Parts<L> {
         }
     }
 
-    /// The instruction whose page was missed, once more, and the boundary after it, where it ends
-    /// its unit.
-    #[inline(always)]
-    fn retry(&mut self)
-        requires slots { L.SLOTS ≡ 64 }
-        requires wired { L.WIRED ≡ 8 }
-        requires good { IsGood self.old }
-        requires working { self.old.failed ≡ false }
-        requires ready { self.old.monitor.ready ≢ [] }
-        requires user { is_user self.old.core.system ≡ true }
-        requires early { self.old.monitor.time < 1000000000 }
-        requires begun { 0 < self.old.spent }
-        requires few { self.old.spent < 64 }
-        ensures good { IsGood self.new }
-        ensures nearer { (n : ℕ) → self.old.monitor.time < n
-            → GoesOn n (held self.old) (held self.new) }
-    {
-        self.look_at_program();
-        self.execute();
-        self.look_at_processor();
-        self.do_owed();
-    }
-
-    /// A whole refill, and the instruction that it was for. Whether the refill was done.
-    // It stands apart, so that what a block needs stays in registers.
-    #[inline(never)]
-    fn refill_and_retry(&mut self) -> bool
-        requires slots { L.SLOTS ≡ 64 }
-        requires wired { L.WIRED ≡ 8 }
-        requires good { IsGood self.old }
-        requires working { self.old.failed ≡ false }
-        requires early { self.old.monitor.time < 1000000000 }
-        requires ready { self.old.monitor.ready ≢ [] }
-        requires missed { has_missed self.old.core ≡ true }
-        ensures good { IsGood self.new }
-        ensures nearer { result ≡ true → (n : ℕ) → self.old.monitor.time < n
-            → GoesOn n (held self.old) (held self.new) }
-        ensures still { result ≡ false → self.new ≡ self.old }
-    {
-        if !self.refill() {
-            return false;
-        }
-        if self.is_user() {
-            self.retry();
-        }
-        true
-    }
-
-    /// Where a page of the process that runs was missed, the handler's nine words at once, and the
-    /// instruction that missed it once more. Whether they were done.
+    /// Where a page of the process that runs was missed, the handler's nine words at once. Whether
+    /// they were done: then the process is in its unit again, before the instruction that missed.
     #[inline(always)]
     pub(crate) fn refill_missed(&mut self) -> bool
         requires slots { L.SLOTS ≡ 64 }
         requires wired { L.WIRED ≡ 8 }
         requires good { IsGood self.old }
-        requires working { self.old.failed ≡ false }
-        requires early { 0 < self.old.spent → self.old.monitor.time < 1000000000 }
         ensures good { IsGood self.new }
         ensures missed { result ≡ true → has_missed self.old.core ≡ true }
+        ensures ready { result ≡ true → self.old.monitor.ready ≢ [] }
         ensures nearer { result ≡ true → (n : ℕ) → self.old.monitor.time < n
             → GoesOn n (held self.old) (held self.new) }
         ensures goes { (n : ℕ) (start : Held) → (0 < self.old.spent → self.old.monitor.time < n)
             → GoesOn n start (held self.old) → GoesOn n start (held self.new) }
+        ensures user { result ≡ true → is_user self.new.core.system ≡ true }
+        ensures outside { result ≡ true → self.new.core.slot ≡ false }
         ensures still { result ≡ false → self.new ≡ self.old }
+        ensures rest { self.new ≡ record (with_counts_of self.new self.old) {
+          core = self.new.core;
+        } }
     {
         if self.has_missed() && self.monitor.first_ready().is_some() {
-            return self.refill_and_retry();
+            return self.refill();
         }
         false
     }

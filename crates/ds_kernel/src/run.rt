@@ -1,5 +1,5 @@
 //! Runs of a station, by blocks of instructions where it can and by single steps elsewhere.
-ghost use Rattle.std.specs.Prelude.{◌≡◌, ◌⊎◌, ℕ, ◌+◌, ◌<◌, ◌≤◌, true, false, IfErr, OnOk, OnErr, IsErrOf};
+ghost use Rattle.std.specs.Prelude.{◌≡◌, ◌⊎◌, ℕ, ◌+◌, ◌<◌, ◌≤◌, true, false, IfErr, OnOk, OnErr, IsOk, IsErrOf};
 ghost use Rattle.ds_ahead.specs.Ahead.{owed_tick};
 ghost use Rattle.ds_refinement.specs.Held.{Held};
 ghost use Rattle.ds_refinement.specs.Units.{is_served};
@@ -67,8 +67,8 @@ impl<L: Lookaside> Parts<L> {
 
     /// The service of the exception that waits, where one does, and the boundary after it, where
     /// that ended the unit; or the refill, where a page was missed. Whether another block may begin
-    /// at once, as it may after a call that was answered at once; it is to leave time for a unit
-    /// before the end.
+    /// at once, as it may after a refill, and after a call that was answered at once; it is to leave
+    /// time for a unit before the end.
     #[inline(always)]
     fn serve_raised(&mut self, n: u64, end: u64, called: bool) -> bool
         requires slots { L.SLOTS ≡ 64 }
@@ -77,8 +77,8 @@ impl<L: Lookaside> Parts<L> {
         requires working { self.old.failed ≡ false }
         requires few { n ≤ 1000000000 }
         requires begun { 0 < self.old.spent → self.old.monitor.time < n }
-        requires early { self.old.monitor.time + 1 < self.old.monitor.quiet_until }
-        requires quiet { end + 1 ≤ self.old.monitor.quiet_until }
+        requires early { called ≡ true → self.old.monitor.time + 1 < self.old.monitor.quiet_until }
+        requires quiet { end ≤ self.old.monitor.quiet_until }
         requires log { HasLogRoom 1 self.old.monitor }
         requires called { called ≡ true → IsCalled self.old.core }
         ensures good { IsGood self.new }
@@ -101,10 +101,7 @@ impl<L: Lookaside> Parts<L> {
                 self.serve_waiting(n, process);
                 false
             }
-            _ => {
-                self.refill_missed();
-                false
-            }
+            _ => self.refill_missed() && self.may_go_on(end),
         }
     }
 
@@ -121,9 +118,9 @@ impl<L: Lookaside> Parts<L> {
         requires some { 1 ≤ limit }
         requires end { self.old.monitor.time + limit + 1 ≡ end }
         requires within { end ≤ n }
-        requires before { self.old.monitor.time + limit + 2 + owed_tick self.old.core.slot
+        requires before { self.old.monitor.time + limit + 1 + owed_tick self.old.core.slot
             ≤ self.old.monitor.quiet_until }
-        requires quiet { end + 1 ≤ self.old.monitor.quiet_until }
+        requires quiet { end ≤ self.old.monitor.quiet_until }
         requires room { HasRoom 1 self.old.monitor }
         ensures good { IsGood self.new }
         ensures goes { GoesOn n (held self.old) (held self.new) }
@@ -136,7 +133,8 @@ impl<L: Lookaside> Parts<L> {
     }
 
     /// Blocks of instructions, the first of so many, each with the service of the exception that ends
-    /// it: one after the other as long as that is a call that is answered at once.
+    /// it: one after the other as long as that is a miss that is refilled at once, or a call that is
+    /// answered at once.
     #[inline(always)]
     fn run_blocks(&mut self, n: u64, limit: u32)
         requires slots { L.SLOTS ≡ 64 }
@@ -147,7 +145,7 @@ impl<L: Lookaside> Parts<L> {
         requires ahead { MayRunAhead limit (held self.old) }
         requires some { 1 ≤ limit }
         requires end { self.old.monitor.time + limit + 1 ≤ n }
-        requires before { self.old.monitor.time + limit + 2 + owed_tick self.old.core.slot
+        requires before { self.old.monitor.time + limit + 1 + owed_tick self.old.core.slot
             ≤ self.old.monitor.quiet_until }
         requires room { HasRoom 1 self.old.monitor }
         ensures good { IsGood self.new }
@@ -212,7 +210,8 @@ impl<L: Lookaside> Parts<L> {
     }
 
     /// Does the boundary that is owed, if one is, and then runs until the time is n or all
-    /// processes have ended. After a failure it answers that, and nothing changes.
+    /// processes have ended. Where that is so already, or after a failure, which it answers, nothing
+    /// changes.
     // It stands apart, so that its loop is compiled alike wherever it is called from.
     #[inline(never)]
     pub fn run(&mut self, n: u64) -> Result<(), Halt>
@@ -231,6 +230,8 @@ impl<L: Lookaside> Parts<L> {
             → OnErr result (held_goes_on n (held self.new) ≡ true) }
         ensures again { self.old.failed ≡ true
             → IsErrOf result Halt.Failed × (self.new ≡ self.old) }
+        ensures rest { self.old.failed ≡ false → held_goes_on n (held self.old) ≡ false
+            → IsOk result × (self.new ≡ self.old) }
     {
         if self.failed {
             return Err(Halt::Failed);

@@ -177,7 +177,7 @@ impl<L: Lookaside> Parts<L> {
         self.core.registers[2] = answer;
         self.begin_at(behind);
         self.count_none();
-        self.count(1, 0);
+        self.pass(1);
     }
 
     /// The process comes on the processor in its address space, touched, at the beginning of its unit.

@@ -14,6 +14,7 @@ ghost use Rattle.std.specs.Prelude.{
   IfErr,
   OnOk,
   OnErr,
+  IsOk,
   IsErrOf,
   None,
   true,
@@ -183,8 +184,9 @@ impl<L: Lookaside> Station<L> {
     }
 
     /// Does the boundary that is owed, if one is, and then runs until the time is n or all processes
-    /// have ended: at most a turn for each tick that is left. After a failure it answers `Failed`, and
-    /// nothing changes. No two entries of the buffer match the same page.
+    /// have ended: at most a turn for each tick that is left. Where that is so already nothing changes.
+    /// After a failure it answers `Failed`, and nothing changes. No two entries of the buffer match the
+    /// same page.
     #[tactic(auto, using(crate::proofs::Runs::sound_single, crate::proofs::Runs::ran_to, crate::proofs::Runs::ran_in_time, crate::proofs::Runs::cut_in_time, crate::proofs::Runs::cut_within, crate::proofs::Runs::cut_after, crate::proofs::Guarded::run_guarded, crate::proofs::Guarded::cut_guarded))]
     pub fn run(&mut self, n: u64) -> Result<(), Fault>
         requires { n ≤ 1000000000 }
@@ -206,6 +208,8 @@ impl<L: Lookaside> Station<L> {
         ensures failed { OnErr result (self.new.own.failed ≡ true) }
         ensures again { self.old.own.failed ≡ true
             → IsErrOf result Fault.Failed × (self.new ≡ self.old) }
+        ensures rest { self.old.own.failed ≡ false → held_goes_on n self.old ≡ false
+            → IsOk result × (self.new ≡ self.old) }
         ensures guarded { RunsGuarded n self.old self.new }
         ensures quiet { (m : State) → Stands self.old m → HaveRegisters m → IsQuiet n m
             → OnOk result (ShowsUntouched n m self.new) }

@@ -1,4 +1,5 @@
-use Rattle.std.proofs.Common.{◌+◌, ◌-◌, ◌<◌, ◌≤◌, arith}
+use Rattle.std.proofs.Common.{◌≡◌, ◌+◌, ◌-◌, ◌<◌, ◌≤◌, ap, arith}
+use Rattle.ds_ahead.specs.Ahead.{owed_tick}
 use Rattle.ds_kernel.proofs.Ahead.{may_run_ahead}
 use Rattle.ds_kernel.proofs.parts.Parts.may_go_on.Goals as goal
 
@@ -6,9 +7,10 @@ pub returns-then-self-end : goal.returns-then-self-end
 returns-then-self-end g c = λ room.
     let p = c.args.self.now in
     let early : p.monitor.time + 1 < c.args.end = c.if-self-end.true in
-    let quiet : c.args.end + 1 ≤ p.monitor.quiet_until = c.requires.quiet in record {
+    let quiet : c.args.end ≤ p.monitor.quiet_until = c.requires.quiet in
+    let none : owed_tick p.core.slot ≡ 0 = ap owed_tick c.requires.outside in record {
       early = early;
       outside = c.requires.outside;
-      ahead = may_run_ahead p (c.args.end - p.monitor.time - 1) c.requires.good c.look_at_order.ensures.commands c.look_at_order.ensures.order c.requires.unowed c.requires.ready c.requires.user c.requires.begins (omega (arith, early, quiet));
+      ahead = may_run_ahead p (c.args.end - p.monitor.time - 1) c.requires.good c.look_at_order.ensures.commands c.look_at_order.ensures.order c.requires.unowed c.requires.ready c.requires.user (omega (arith, early, quiet, none));
       room = record { consoles = c.have_room.ensures room; log = c.requires.log };
     }

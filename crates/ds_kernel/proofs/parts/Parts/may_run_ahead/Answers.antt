@@ -1,7 +1,6 @@
-use Rattle.std.proofs.Common.{◌≡◌, ◌-◌, ◌==◌, ◌≤◌, ℕ, true, false, ap, sym, subst, ◌∙◌, arith}
+use Rattle.std.proofs.Common.{◌≡◌, ◌+◌, ◌-◌, ◌==◌, ◌<◌, ℕ, true, false, ap, sym, subst, ◌∙◌, arith}
 use Rattle.std.specs.Prelude.{Option, is_some, min}
 use Rattle.ds_word.specs.Word.{bits}
-use Rattle.ds_kernel.proofs.Doing.{owed_small}
 use Rattle.ds_kernel.proofs.Ahead.{may_run_ahead, goes_two, within_quiet, no_end, none_owed, some_ready}
 use Rattle.ds_kernel.proofs.parts.Parts.may_run_ahead.Goals as goal
 
@@ -12,8 +11,9 @@ returns-then-not-is_user-clause-any g c = λ soon none goes.
 pub returns-then-end-self-clause-any : goal.returns-then-end-self-clause-any
 returns-then-end-self-clause-any g c = λ soon none goes.
     let m = c.args.self.now.monitor in
-    let small : c.slot_tick-before.result ≤ 1 = subst (λ (k : ℕ). k ≤ 1) (sym c.slot_tick-before.ensures) (owed_small c.args.self.now.core.slot) in
-    absurd (no_end m.time c.args.n m.quiet_until c.slot_tick-before.result c.min-end.result small (c.min-end.ensures ∙ ap (λ (q : ℕ). min c.args.n q) (c.saturating_sub-last.ensures ∙ ap (λ (k : ℕ). m.quiet_until - k) c.from.ensures)) c.if-end-self.true soon (goes_two c.args.self.now c.requires.good (omega (arith, none)) goes))
+    let quiet : m.time + 1 + c.slot_tick-before.result < m.quiet_until =
+    subst (λ (k : ℕ). m.time + 1 + k < m.quiet_until) (sym c.slot_tick-before.ensures) (goes_two c.args.self.now c.requires.good (omega (arith, none)) goes) in
+    absurd (no_end m.time c.args.n m.quiet_until c.slot_tick-before.result c.min-end.result (c.min-end.ensures ∙ ap (λ (q : ℕ). min c.args.n q) (c.saturating_sub-last.ensures ∙ ap (λ (k : ℕ). m.quiet_until - k) c.from.ensures)) c.if-end-self.true soon quiet)
 
 pub returns-then-is_some-2-clause-ahead : goal.returns-then-is_some-2-clause-ahead
 returns-then-is_some-2-clause-ahead g c =
@@ -21,7 +21,6 @@ returns-then-is_some-2-clause-ahead g c =
     let later = c.if-end-self.false in
     may_run_ahead c.args.self.now (c.min-end.result - m.time - 1) c.requires.good c.look_at_order.ensures.commands c.look_at_order.ensures.order
     (none_owed m.owed (sym c.is_some.ensures ∙ c.if-is_some.false))
-    (some_ready m.ready (sym (c.is_some-then-whole.ensures ∙ ap (λ (o : Option ℕ). is_some o) c.first_ready.ensures) ∙ c.if-is_some-2.true))
+    (some_ready m.ready (sym (c.is_some-2.ensures ∙ ap (λ (o : Option ℕ). is_some o) c.first_ready.ensures) ∙ c.if-is_some-2.true))
     (sym c.is_user.ensures ∙ c.if-not-is_user.false)
-    (c.if-whole.true ∙ c.slot_tick-before.ensures)
-    (within_quiet m.time c.args.n m.quiet_until c.slot_tick-before.result c.min-end.result (c.min-end.ensures ∙ ap (λ (q : ℕ). min c.args.n q) (c.saturating_sub-last.ensures ∙ ap (λ (k : ℕ). m.quiet_until - k) c.from.ensures)) (omega (arith, later)))
+    (subst (λ (k : ℕ). m.time + (c.min-end.result - m.time - 1) + k < m.quiet_until) c.slot_tick-before.ensures (within_quiet m.time c.args.n m.quiet_until c.slot_tick-before.result c.min-end.result (c.min-end.ensures ∙ ap (λ (q : ℕ). min c.args.n q) (c.saturating_sub-last.ensures ∙ ap (λ (k : ℕ). m.quiet_until - k) c.from.ensures)) (omega (arith, later))))

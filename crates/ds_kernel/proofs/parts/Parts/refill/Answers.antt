@@ -3,11 +3,13 @@ use Rattle.std.specs.Prelude.{is_some}
 use Rattle.ds_core.specs.Core.{CoreState}
 use Rattle.ds_refill_laws.specs.Refill.{handler_events}
 use Rattle.ds_handler.specs.Refills.{RunsInside}
+use Rattle.ds_refinement.proofs.FirstWord.{first_next, refill_user, refill_outside}
 use Rattle.ds_refinement.proofs.Tallied.{few_of}
 use Rattle.ds_refinement.proofs.WordTallies.{word_room}
 use Rattle.ds_kernel.specs.declared.parts.Parts.{Parts}
 use Rattle.ds_kernel.specs.Parts.{held}
-use Rattle.ds_kernel.proofs.Refilling.{missed_kernel, missed_at, refilled_is, refill_good, refill_few, refill_begun, refill_goes}
+use Rattle.ds_kernel.specs.Good.{IsGood}
+use Rattle.ds_kernel.proofs.Refilling.{missed_kernel, missed_at, refilled_is, refill_good, refill_goes}
 use Rattle.ds_kernel.proofs.parts.Parts.refill.Goals as goal
 
 -- What is counted before leaves room.
@@ -46,19 +48,24 @@ returns-in-Some-clause-nearer g c = λ done n soon.
     (refilled_is old new c.refill_at_once.new.core c.in-Some.slot c.in-Some.ensures.slot c.count_refill.ensures.own c.count_refill.ensures.rest)
     (ap (λ (x : Parts g.row.L.Denot). x.monitor) c.count_refill.ensures.rest) (returns-in-Some-clause-words g c done) n soon
 
-pub returns-in-Some-clause-few : goal.returns-in-Some-clause-few
-returns-in-Some-clause-few g c = λ done.
+pub returns-in-Some-clause-user : goal.returns-in-Some-clause-user
+returns-in-Some-clause-user g c = λ done.
     let old = c.args.self.now in
-    let new = c.count_refill.new.self in
-    let few = refill_few old new c.requires.good c.requires.ready (missed_kernel old.core c.requires.missed)
-    (refilled_is old new c.refill_at_once.new.core c.in-Some.slot c.in-Some.ensures.slot c.count_refill.ensures.own c.count_refill.ensures.rest)
-    (ap (λ (x : Parts g.row.L.Denot). x.monitor) c.count_refill.ensures.rest) (returns-in-Some-clause-words g c done) in
-    omega (arith, few)
+    refill_user (held old) c.count_refill.new.self.core c.requires.good.sound c.requires.ready (missed_kernel old.core c.requires.missed) (missed_at old.core c.requires.missed) (returns-in-Some-clause-words g c done)
 
-pub returns-in-Some-clause-begun : goal.returns-in-Some-clause-begun
-returns-in-Some-clause-begun g c = λ done.
+pub returns-in-Some-clause-outside : goal.returns-in-Some-clause-outside
+returns-in-Some-clause-outside g c = λ done.
     let old = c.args.self.now in
-    let new = c.count_refill.new.self in
-    refill_begun old new c.requires.good c.requires.ready (missed_kernel old.core c.requires.missed)
-    (refilled_is old new c.refill_at_once.new.core c.in-Some.slot c.in-Some.ensures.slot c.count_refill.ensures.own c.count_refill.ensures.rest)
-    (ap (λ (x : Parts g.row.L.Denot). x.monitor) c.count_refill.ensures.rest) (returns-in-Some-clause-words g c done)
+    refill_outside (held old) c.count_refill.new.self.core c.requires.good.sound c.requires.ready (missed_kernel old.core c.requires.missed) (missed_at old.core c.requires.missed) (returns-in-Some-clause-words g c done)
+
+-- The processor is before the first word; where the word of the page table can't be loaded it stays there.
+
+pub refill_at_once-requires-clause-next : goal.refill_at_once-requires-clause-next
+refill_at_once-requires-clause-next g c =
+    let old = c.args.self.now in
+    first_next (held old) c.requires.good.sound c.requires.ready (missed_kernel old.core c.requires.missed) (missed_at old.core c.requires.missed)
+
+pub returns-in-None-clause-good : goal.returns-in-None-clause-good
+returns-in-None-clause-good g c =
+    let old = c.args.self.now in
+    subst (λ (d : CoreState). IsGood {L = g.row.L.Denot} (record old { core = d })) (sym (c.refill_at_once.ensures.still (ap is_some c.in-None.is))) c.requires.good

@@ -4,4 +4,4 @@ use Rattle.ds_kernel.proofs.parts.Parts.refill_missed.Goals as goal
 
 pub returns-then-is_some-clause-goes : goal.returns-then-is_some-clause-goes
 returns-then-is_some-clause-goes g c = λ n start before begun.
-    refilled_goes n start c.args.self.now c.refill_and_retry.new.self c.refill_and_retry.result c.requires.good (sym c.has_missed.ensures ∙ c.if-has_missed.true) c.refill_and_retry.ensures.nearer c.refill_and_retry.ensures.still before begun
+    refilled_goes n start c.args.self.now c.refill.new.self c.refill.result c.requires.good (sym c.has_missed.ensures ∙ c.if-has_missed.true) c.refill.ensures.nearer c.refill.ensures.still before begun

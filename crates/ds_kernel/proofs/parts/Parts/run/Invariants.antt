@@ -1,4 +1,5 @@
 use Rattle.std.proofs.Common.{◌≡◌, ◌<◌, ◌⊎◌, false}
+use Rattle.ds_refinement.specs.Runs.{held_goes_on}
 use Rattle.ds_kernel.specs.Parts.{held}
 use Rattle.ds_kernel.specs.Good.{IsGood}
 use Rattle.ds_kernel.specs.Ran.{HasRun}
@@ -10,6 +11,7 @@ invariant-loop-self g l = record {
   ran : HasRun l.n (held l.fn.self) (held l.self);
   good : IsGood l.self;
   working : l.self.failed ≡ false;
+  rest : held_goes_on l.n (held l.fn.self) ≡ false → l.self ≡ l.fn.self;
   begun : ((l.fn.self.spent ≡ 0) ⊎ (l.fn.self.monitor.time < l.n)) → 0 < l.self.spent → l.self.monitor.time < l.n;
 }
 

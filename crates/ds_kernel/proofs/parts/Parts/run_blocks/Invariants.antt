@@ -16,8 +16,8 @@ invariant-loop-ahead g l = record {
   ahead : MayRunAhead l.ahead (held l.self);
   some : 1 ≤ l.ahead;
   end : l.self.monitor.time + l.ahead + 1 ≡ l.end;
-  quiet : l.end + 1 ≤ l.self.monitor.quiet_until;
-  before : l.self.monitor.time + l.ahead + 2 + owed_tick l.self.core.slot ≤ l.self.monitor.quiet_until;
+  quiet : l.end ≤ l.self.monitor.quiet_until;
+  before : l.self.monitor.time + l.ahead + 1 + owed_tick l.self.core.slot ≤ l.self.monitor.quiet_until;
   room : HasRoom 1 l.self.monitor;
 }
 

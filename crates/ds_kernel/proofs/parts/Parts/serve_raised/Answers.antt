@@ -5,6 +5,7 @@ use Rattle.ds_kernel.specs.Good.{IsBusy}
 use Rattle.ds_kernel.specs.Going.{GoesOn}
 use Rattle.ds_kernel.proofs.Doing.{kernel_of, busy_served}
 use Rattle.ds_kernel.proofs.Running.{goes_join}
+use Rattle.ds_kernel.proofs.Refilling.{missed_kernel}
 use Rattle.ds_kernel.proofs.parts.Parts.serve_raised.Goals as goal
 
 pub returns-then-answer_at_once-clause-nearer : goal.returns-then-answer_at_once-clause-nearer
@@ -23,8 +24,14 @@ returns-else-answer_at_once-clause-goes g c = λ start before.
     let same = c.answer_at_once.ensures.still c.if-answer_at_once.false in
     c.serve_waiting.ensures.goes start (subst (λ (p : Parts g.row.L.Denot). GoesOn c.args.n start (held p)) (sym same) before)
 
-pub returns-in_default-clause-goes : goal.returns-in_default-clause-goes
-returns-in_default-clause-goes g c = λ start before. c.refill_missed.ensures.goes c.args.n start c.requires.begun before
+pub returns-then-refill_missed-clause-goes : goal.returns-then-refill_missed-clause-goes
+returns-then-refill_missed-clause-goes g c = λ start before. c.refill_missed.ensures.goes c.args.n start c.requires.begun before
+
+pub returns-then-refill_missed-clause-nearer : goal.returns-then-refill_missed-clause-nearer
+returns-then-refill_missed-clause-nearer g c = λ _.
+    let done = c.if-refill_missed.true in
+    let kernel = missed_kernel c.args.self.now.core (c.refill_missed.ensures.missed done) in
+    c.refill_missed.ensures.nearer done c.args.n (c.requires.begun (c.requires.good.orderly.raised kernel))
 
 pub answer_at_once-requires-clause-busy : goal.answer_at_once-requires-clause-busy
 answer_at_once-requires-clause-busy g c =
