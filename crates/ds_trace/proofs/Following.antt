@@ -39,7 +39,7 @@ use Rattle.ds_trace.specs.Traces.{told_to}
 use Rattle.ds_trace.specs.Shows.{looked_held, end_held, processor_held, IsTold, TellsSo, TellsAll, IsStopped, Traces, TracesPart}
 use Rattle.ds_trace.specs.Advanced.{Adds, HasStepped, HasHalted, is_last}
 use Rattle.ds_trace.specs.Handed.{IsFinished, IsHandedOn, IsLate}
-use Rattle.ds_trace.proofs.Processing.{counted_step, counting_last, counting_more, never_out, nothing_counted, processor_told, watched_more, watched_step, within_before}
+use Rattle.ds_trace.proofs.Processing.{counted_step, counting_last, counting_more, failed_within, never_out, nothing_counted, nothing_more, processor_told, watched_more, watched_step, within_before}
 use Rattle.ds_trace.proofs.Silence.{untold_until, until_within, until_silent}
 use Rattle.ds_trace.proofs.Telling.{told_first, told_inside, told_same, told_unit, told_boundary, told_handed, told_part, finished, finished_part, going_now}
 
@@ -265,6 +265,17 @@ module _ (v : View) (n : ℕ) (from new : Held) (a : Option (List ℕ)) (unowed 
       let b : Progress = record { before = looked_held false new; counts = none_counted } in
       record { progress = b; tells = first_told text b empty refl refl; counts = sym uncounted; stopped = new_is f is; spent = none }
 
+-- and nothing is counted
+pub cut_counted : (v : View) (n : ℕ) (f : Fault) (from new : Held) (c : ProcessorCounts) (e d : WindowEnd) → from.kept.state.owed ≡ None → IsCut f from new → IsNewFault f → RunsWithin (told_from v n) from new → new.kept.state.owed ≡ None
+    → c ≡ none_processed → e.awaited ≡ window_end v → string_bytes e.lines ≡ [] → WatchesAt false new e d → HasCounted (window_end v) (told_from v n) n from new c (string_bytes d.lines)
+cut_counted v n f from new c e d unowed cut is runs owes none awaited empty watches =
+    let spent : new.own.spent ≡ 0 = cut_spent f from new cut is in
+    let last : Held = cut.last in
+    let within : RunsWithin (told_from v n) from last = failed_within (told_from v n) n from last new cut.path cut.marked runs in
+    nothing_more (told_from v n) n from last new cut.path cut.marked (window_end v) c e d runs
+    (first_within v n from last None unowed within (sym (ap (λ (x : Held). x.kept.state.owed) cut.marked) ∙ owes) (sym (ap (λ (x : Held). x.own.spent) cut.marked) ∙ spent))
+    owes spent none awaited empty watches
+
 pub end_told : (v : View) (n : ℕ) (from h : Held) (a d : Option (List ℕ)) (text : List ℕ) (b : Progress) → TellsSo v n from h a d text b → b.before.owed ≡ is_some h.kept.state.owed → (b.before.owed || nat_lt h.kept.state.time n) ≡ false → (0 < h.own.spent → h.kept.state.time < n) → TellsAll None v n from h a d text b.counts
 end_told v n from h a d text b tells owed test begun = record {
   progress = b;
@@ -284,21 +295,21 @@ module _ (v : View) (n : ℕ) (from h : Held) (a d e : Option (List ℕ)) (text 
   cut_part b tells part = record {
     traces = λ m k.
         let told = tells.tells m k in
-        told_part v n m h a d e text b told (processor_held v lines c h) (processor_told v n from h c lines m (touched told.early (after n told.choices m)) counted k told.stands) part;
+        told_part v n m h a d e text b told from (processor_held v lines c h) (processor_told v n from h c lines m (touched told.early (after n told.choices m)) counted k told.stands) part;
   }
 
   pub finished_traces : (counts : Counted) → TellsAll None v n from h a d text counts → IsFinished v counts d e (text ++ processor_held v lines c h) h → Traces v n from a e
   finished_traces counts all done = record {
     traces = λ m k.
         let told = all.tells.tells m k in
-        finished v n m h a d e text all.progress told (processor_held v lines c h) (processor_told v n from h c lines m (touched told.early (after n told.choices m)) counted k told.stands) counts all.counts all.spent all.stopped done;
+        finished v n m h a d e text all.progress told from (processor_held v lines c h) (processor_told v n from h c lines m (touched told.early (after n told.choices m)) counted k told.stands) counts all.counts all.spent all.stopped done;
   }
 
   pub cut_traces : (cut : Option Fault) (counts : Counted) → TellsAll cut v n from h a d text counts → AppendsPart d e (text ++ processor_held v lines c h ++ end_held v counts h ++ held_text h) → TracesPart v n from a e
   cut_traces cut counts all part = record {
     traces = λ m k.
         let told = all.tells.tells m k in
-        finished_part v n m h a d e text all.progress told (processor_held v lines c h) (processor_told v n from h c lines m (touched told.early (after n told.choices m)) counted k told.stands) counts all.counts all.spent part;
+        finished_part v n m h a d e text all.progress told from (processor_held v lines c h) (processor_told v n from h c lines m (touched told.early (after n told.choices m)) counted k told.stands) counts all.counts all.spent part;
   }
 
 -- all of it is a prefix too

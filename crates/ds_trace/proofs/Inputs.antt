@@ -1,18 +1,26 @@
 -- From the inputs of a trace to what is written.
-use Rattle.std.proofs.Common.{◌≡◌, ℕ, List, Option, Result, Ok, Err, sym, ◌∙◌, subst, inl, inr}
-use Rattle.std.specs.Prelude.{OnOk, OnErr, IfErr}
+use Rattle.std.proofs.Common.{◌≡◌, ℕ, List, [], Option, Result, Ok, Err, refl, sym, ap, ◌∙◌, subst, inl, inr}
+use Rattle.std.specs.Prelude.{OnOk, OnErr, IfErr, ◌&&◌, codes, nat_le, nat_lt}
 use Rattle.std.specs.Io.KnownBytes.{Keeps}
+use Rattle.ds_word.specs.ResultBinding.{◌>>=◌}
+use Rattle.ds_policy.specs.Value.{PolicyValue, InputValue}
+use Rattle.ds_policy.specs.PolicyParts.{sources_of}
+use Rattle.ds_policy.specs.InputText.{input_of}
 use Rattle.ds_pagemap.specs.Machine.{State}
-use Rattle.ds_pagemap.specs.Inputs.{Refusal}
+use Rattle.ds_pagemap.specs.First.{first_state}
+use Rattle.ds_pagemap.specs.Inputs.{Refusal, Sources, check, images_from, input_read, inputs_under, inputs_under_by}
+use Rattle.ds_pagemap.specs.Inputs as refusal
 use Rattle.ds_refinement.specs.Held.{Held}
 use Rattle.ds_refinement.specs.Stands.{Stands}
-use Rattle.ds_station.specs.Headline.{Begins, Refuses, IsRefused}
+use Rattle.ds_station.specs.Headline.{Begins, BeginsWith, IsRefused, Loaded, Refuses, loaded}
 use Rattle.ds_station.specs.declared.fault.Fault.{Fault}
 use Rattle.ds_station.specs.declared.fault.Fault.TheVariants as fault
 use Rattle.ds_view.specs.declared.view.View.{View}
-use Rattle.ds_trace.specs.Traces.{TraceEndsBy, WritesTrace, WritesTracePart}
+use Rattle.ds_trace.specs.Traces.{TraceEndsBy, TraceEndsReally, WritesTold, WritesToldPart, WritesTrace, WritesTracePart, WritesTracePartReally, WritesTraceReally}
 use Rattle.ds_trace.specs.Shows.{Traces, TracesPart}
 use Rattle.ds_trace.specs.Handed.{IsLate}
+use Rattle.ds_trace.specs.Processors.{TellsFrom}
+use Rattle.ds_trace.proofs.Processing.{processor_of_some}
 
 -- refused inputs
 pub refused_untold : (f : Fault) (v : View) (read : Result State Refusal) (old new : Option (List ℕ)) (n : ℕ) → Refuses f read → Keeps old new → TraceEndsBy f v read old new n
@@ -27,15 +35,36 @@ late_by fault.Memory v read old new n late b = inr b
 late_by fault.WriteFault v read old new n late b = b
 late_by f v read old new n late b = absurd late
 
+-- what is told of a station's run is told of a run
+of_some : (v : View) (old new : Option (List ℕ)) (n : ℕ) (s : Held) (m : State) → WritesTold v old new n m (TellsFrom v n s m) → WritesTrace v old new n m
+of_some v old new n s m t = record {
+  last = t.last;
+  ends = t.ends;
+  processor = t.processor;
+  processed = processor_of_some v n s m t.last t.processor t.processed;
+  between = t.between;
+  trace = t.trace;
+  written = t.written;
+}
+
+part_of_some : (v : View) (old new : Option (List ℕ)) (n : ℕ) (s : Held) (m : State) → WritesToldPart v old new n m (TellsFrom v n s m) → WritesTracePart v old new n m
+part_of_some v old new n s m t = record {
+  last = t.last;
+  reached = t.reached;
+  processor = t.processor;
+  processed = processor_of_some v n s m t.last t.processor t.processed;
+  written = t.written;
+}
+
 -- a run that was told to its end
 pub told_ok : {T : Type 0} (r : Result T Fault) (v : View) (read : Result State Refusal) (s : Held) (old new : Option (List ℕ)) (n : ℕ) → Begins read (Stands s) → OnOk r (Traces v n s old new) → OnOk r (Begins read (WritesTrace v old new n))
-told_ok (Ok x) v read s old new n b t = (b.0, b.1, t.traces b.0 b.2)
+told_ok (Ok x) v read s old new n b t = (b.0, b.1, of_some v old new n s b.0 (t.traces b.0 b.2))
 told_ok (Err f) v read s old new n b t = tt
 
 -- or not
 pub told_err : {T : Type 0} (r : Result T Fault) (v : View) (read : Result State Refusal) (s : Held) (old new : Option (List ℕ)) (n : ℕ) → Begins read (Stands s) → OnErr r (TracesPart v n s old new) → IfErr r IsLate → IfErr r (λ f. TraceEndsBy f v read old new n)
 told_err (Ok x) v read s old new n b t late = tt
-told_err (Err f) v read s old new n b t late = late_by f v read old new n late (b.0, b.1, t.traces b.0 b.2)
+told_err (Err f) v read s old new n b t late = late_by f v read old new n late (b.0, b.1, part_of_some v old new n s b.0 (t.traces b.0 b.2))
 
 begun_not : (read : Result State Refusal) (P : State → Type 0) (r : Refusal) → Begins read P → read ≡ Err r → ⊥
 begun_not read P r b e = let no : Ok b.0 ≡ Err r = sym b.1 ∙ e in cc
@@ -52,3 +81,60 @@ ends_refused f v read old new n r e w = w
 pub refused_only : {T : Type 0} (result : Result T Fault) (v : View) (read : Result State Refusal) (old new : Option (List ℕ)) (n : ℕ) → OnOk result (Begins read (WritesTrace v old new n)) → IfErr result (λ f. TraceEndsBy f v read old new n) → (r : Refusal) → read ≡ Err r → IsRefused result r old new
 refused_only (Ok x) v read old new n ok err r e = absurd (begun_not read (WritesTrace v old new n) r ok e)
 refused_only (Err f) v read old new n ok err r e = let w = ends_refused f v read old new n r e err in (subst (Refuses f) e w.0, w.1)
+
+-- What the processor did.
+
+-- the first state of what a run begins with
+abbrev first_in : Result Loaded Refusal → Result State Refusal
+first_in (Ok l) = Ok (first_state l.policy l.images l.input)
+first_in (Err r) = Err r
+
+first_then : {X : Type 0} (x : Result X Refusal) (f : X → Result Loaded Refusal) (g : X → Result State Refusal) → ((y : X) → g y ≡ first_in (f y)) → (x >>= g) ≡ first_in (x >>= f)
+first_then (Ok y) f g same = same y
+first_then (Err r) f g same = refl
+
+-- so it is made of the inputs
+first_of : (policy : PolicyValue) (sources : Sources) (input : List ℕ) (n random : ℕ) → inputs_under policy sources input n random ≡ first_in (inputs_under_by loaded policy sources input n random)
+unfolding inputs_under inputs_under_by
+first_of policy sources input n random =
+    first_then (images_from sources [] (sources_of policy.pages)) _ _ (λ images.
+    first_then (input_read (input_of policy.pages input)) _ _ (λ events.
+    first_then (check (nat_le n 1000000000) (refusal.Limit (codes "n"))) _ _ (λ few.
+    first_then (check (nat_le 8 random && nat_lt random 64) refusal.BadRandom) _ _ (λ good. refl))))
+
+-- a station began with these, and stands for their first state
+abbrev pub BeginsAt : ℕ → Held → Loaded → Type 0
+BeginsAt start h l = BeginsWith start h l × Stands h (first_state l.policy l.images l.input)
+
+abbrev state_or : State → Result State Refusal → State
+state_or other (Ok m) = m
+state_or other (Err r) = other
+
+-- a station that was prepared of the inputs does
+pub begins_at : (h : Held) (policy : PolicyValue) (sources : Sources) (input : List ℕ) (n random start : ℕ) → Begins (inputs_under policy sources input n random) (Stands h) → Begins (inputs_under_by loaded policy sources input n random) (BeginsWith start h)
+    → Begins (inputs_under_by loaded policy sources input n random) (BeginsAt start h)
+begins_at h policy sources input n random start b l =
+    let same : Ok b.0 ≡ Ok (first_state l.0.policy l.0.images l.0.input) = sym b.1 ∙ (first_of policy sources input n random ∙ ap first_in l.1) in
+    (l.0, l.1, (l.2, subst (Stands h) (ap (state_or b.0) same) b.2))
+
+-- a run that was told to its end
+pub told_really : {T : Type 0} (r : Result T Fault) (v : View) (read : Result Loaded Refusal) (s : Held) (old new : Option (List ℕ)) (n start : ℕ) → Begins read (BeginsAt start s) → OnOk r (Traces v n s old new) → OnOk r (Begins read (WritesTraceReally v old new n start))
+told_really (Ok x) v read s old new n start b t = (b.0, b.1, record { first = s; begins = b.2.0; written = t.traces (first_state b.0.policy b.0.images b.0.input) b.2.1 })
+told_really (Err f) v read s old new n start b t = tt
+
+late_really : (f : Fault) (v : View) (read : Result Loaded Refusal) (old new : Option (List ℕ)) (n start : ℕ) → IsLate f → Begins read (WritesTracePartReally v old new n start) → TraceEndsReally f v read old new n start
+late_really fault.Memory v read old new n start late b = inr b
+late_really fault.WriteFault v read old new n start late b = b
+late_really f v read old new n start late b = tt
+
+-- or not
+pub cut_really : {T : Type 0} (r : Result T Fault) (v : View) (read : Result Loaded Refusal) (s : Held) (old new : Option (List ℕ)) (n start : ℕ) → Begins read (BeginsAt start s) → OnErr r (TracesPart v n s old new) → IfErr r IsLate → IfErr r (λ f. TraceEndsReally f v read old new n start)
+cut_really (Ok x) v read s old new n start b t late = tt
+cut_really (Err f) v read s old new n start b t late =
+    late_really f v read old new n start late (b.0, b.1, record { first = s; begins = b.2.0; written = t.traces (first_state b.0.policy b.0.images b.0.input) b.2.1 })
+
+-- where the inputs are refused, it did nothing
+pub refused_really : {Y : Type 0} (f : Fault) (v : View) (any : Result Y Refusal) (read : Result Loaded Refusal) (old new : Option (List ℕ)) (n start : ℕ) → Refuses f any → Keeps old new → TraceEndsReally f v read old new n start
+refused_really fault.Memory v any read old new n start i k = inl k
+refused_really fault.WriteFault v any read old new n start i k = absurd i
+refused_really f v any read old new n start i k = tt

@@ -14,11 +14,13 @@ use Rattle.ds_refinement.specs.Units.{is_served}
 use Rattle.ds_core.specs.Core.{CoreState}
 use Rattle.ds_refinement.specs.Stands.{CountedBy, Stands}
 use Rattle.ds_refinement.specs.Steps.{steps_left}
+use Rattle.ds_refinement.specs.Real.{RealPath}
 use Rattle.ds_refinement.specs.Runs.{RunsWithin, held_goes_on}
 use Rattle.ds_refinement.specs.Services.{with_failure}
 use Rattle.ds_refinement.proofs.RunSteps.{goes_alike}
 use Rattle.ds_refinement.proofs.Standing.{own_unseen}
 use Rattle.ds_kernel.specs.Going.{rank}
+use Rattle.ds_kernel.specs.Ran.{HasRun}
 use Rattle.ds_station.specs.declared.fault.Fault.{Fault}
 use Rattle.ds_station.specs.declared.stage.Stage.{Stage}
 use Rattle.ds_station.specs.declared.stage.Stage.TheVariants.{Rest, Instruction, Refill, Service, DoubleMiss}
@@ -27,7 +29,7 @@ use Rattle.ds_view.specs.declared.view.View.{View}
 use Rattle.ds_view.specs.Views.{is_before}
 use Rattle.ds_trace.specs.declared.processor.ProcessorCounts.{ProcessorCounts}
 use Rattle.ds_trace.specs.declared.window.WindowEnd.{WindowEnd}
-use Rattle.ds_trace.specs.Processors.{HasProcessed, IsEarly, IsPassed, StepsTo, TellsIf, TellsProcessor, entries_text, entry_text, is_within, left_along, left_by, left_text, none_processed, processor_after, processor_text, stage_after, told_from, total, window_end, window_text}
+use Rattle.ds_trace.specs.Processors.{HasProcessed, HasProcessedFrom, IsEarly, IsPassed, StepsTo, TellsFrom, TellsIf, TellsProcessor, entries_text, entry_text, is_within, left_along, left_by, left_text, none_processed, processor_after, processor_text, stage_after, told_from, total, window_end, window_text}
 use Rattle.ds_trace.specs.Counted.{CountsStep, HasCounted, HasLeft, HasPassed, IsCounting, IsStepped, IsWatched, WatchesAfter, WatchesAt, WatchesBy}
 use Rattle.ds_trace.specs.Shows.{processor_held}
 
@@ -110,11 +112,11 @@ watched_first window n start new e d awaited empty watches owes unbegun within =
 none_steps : (n : ℕ) (h : Held) (c : ProcessorCounts) → c ≡ none_processed → StepsTo n h h c
 none_steps n h c none = record { path = []; through = refl; early = All-nil (IsEarly n); counts = none }
 
-pub counting_first : (window : Option ℕ) (k n : ℕ) (start new : Held) (c : ProcessorCounts) (e : WindowEnd) → RunsWithin k start new → held_goes_on k new ≡ false → new.own.spent ≡ 0 → c ≡ none_processed → n ≤ 1000000000 → IsWatched window n start (left_by window None new) e → IsCounting window k n start new c e
+pub counting_first : (window : Option ℕ) (k n : ℕ) (start new : Held) (c : ProcessorCounts) (e : WindowEnd) → HasRun k start new → held_goes_on k new ≡ false → new.own.spent ≡ 0 → c ≡ none_processed → n ≤ 1000000000 → IsWatched window n start (left_by window None new) e → IsCounting window k n start new c e
 unfolding none_steps
-counting_first window k n start new c e runs over unbegun none few watched = record {
+counting_first window k n start new c e ran over unbegun none few watched = record {
   from = new;
-  runs = runs;
+  ran = ran;
   over = over;
   unbegun = unbegun;
   steps = none_steps n new c none;
@@ -143,7 +145,7 @@ pub counting_more : (window : Option ℕ) (k n : ℕ) (start h new : Held) (c d 
 unfolding steps_more
 counting_more window k n start h new c d e f early stepped nearer counting watched = record {
   from = counting.from;
-  runs = counting.runs;
+  ran = counting.ran;
   over = counting.over;
   unbegun = counting.unbegun;
   steps = steps_more n counting.from h new c d early stepped.0 stepped.1 counting.steps;
@@ -159,7 +161,7 @@ counting_more window k n start h new c d e f early stepped nearer counting watch
 pub counting_done : (window : Option ℕ) (k n : ℕ) (start h : Held) (c : ProcessorCounts) (e : WindowEnd) → IsCounting window k n start h c e → HasCounted window k n start h c (string_bytes e.lines)
 counting_done window k n start h c e counting = record {
   from = counting.from;
-  runs = counting.runs;
+  ran = counting.ran;
   unbegun = counting.unbegun;
   to = h;
   steps = counting.steps;
@@ -174,7 +176,7 @@ pub counting_last : (window : Option ℕ) (k n : ℕ) (start h new : Held) (c d 
 unfolding steps_more
 counting_last window k n start h new c d e f early stepped counting watched = record {
   from = counting.from;
-  runs = counting.runs;
+  ran = counting.ran;
   unbegun = counting.unbegun;
   to = new;
   steps = steps_more n counting.from h new c d early stepped.0 stepped.1 counting.steps;
@@ -195,7 +197,7 @@ unfailed h m k = record { agrees = own_unseen (with_failure h) h.own m k.agrees;
 pub counting_cut : (window : Option ℕ) (k n : ℕ) (start h new : Held) (c d : ProcessorCounts) (e f : WindowEnd) → (new ≡ with_failure h) × (d ≡ c) → f ≡ e → IsCounting window k n start h c e → HasCounted window k n start new d (string_bytes f.lines)
 counting_cut window k n start h new c d e f cut same counting = record {
   from = counting.from;
-  runs = counting.runs;
+  ran = counting.ran;
   unbegun = counting.unbegun;
   to = h;
   steps = record {
@@ -211,19 +213,43 @@ counting_cut window k n start h new c d e f cut same counting = record {
 }
 
 -- a run that was cut short before the first step
-pub none_counted_yet : (window : Option ℕ) (k n : ℕ) (start new : Held) (c : ProcessorCounts) (lines : List ℕ) → RunsWithin k start new → new.own.spent ≡ 0 → c ≡ none_processed → HasLeft n start (left_by window None new) lines → HasCounted window k n start new c lines
+pub none_counted_yet : (window : Option ℕ) (k n : ℕ) (start last new : Held) (c : ProcessorCounts) (lines : List ℕ) → HasRun k start last → last.own.spent ≡ 0 → c ≡ none_processed → HasLeft n start (left_by window None last) lines
+    → new.core ≡ last.core → ((m : State) → Stands new m → Stands last m) → HasCounted window k n start new c lines
 unfolding none_steps
-none_counted_yet window k n start new c lines runs unbegun none left = record {
-  from = new;
-  runs = runs;
+none_counted_yet window k n start last new c lines ran unbegun none left core stands = record {
+  from = last;
+  ran = ran;
   unbegun = unbegun;
-  to = new;
-  steps = none_steps n new c none;
+  to = last;
+  steps = none_steps n last c none;
   begins = inr refl;
   left = left;
-  core = refl;
-  stands = λ m k. k;
+  core = core;
+  stands = stands;
 }
+
+-- what is watched of a failure is watched of where it came
+watches_failed : (b : Bool) (h : Held) (e d : WindowEnd) → WatchesBy b (with_failure h) e d → WatchesBy b h e d
+watches_failed true h e d same = same
+watches_failed false h e d tells = tells
+
+-- where a failure cut the run for k short
+module _ (k n : ℕ) (start last new : Held) (path : RealPath start last) (marked : new ≡ with_failure last) where
+  failed_stands : (m : State) → Stands new m → Stands last m
+  failed_stands m s = unfailed last m (subst (λ (x : Held). Stands x m) marked s)
+
+  pub failed_within : RunsWithin k start new → RunsWithin k start last
+  failed_within runs = record { runs = λ m s. let u = runs.runs m s in (u.0, u.1, failed_stands u.0 u.2) }
+
+  pub nothing_more : (window : Option ℕ) (c : ProcessorCounts) (e d : WindowEnd) → RunsWithin k start new → RunsWithin n start last → new.kept.state.owed ≡ None → new.own.spent ≡ 0 → c ≡ none_processed → e.awaited ≡ window → string_bytes e.lines ≡ [] → WatchesAt false new e d
+      → HasCounted window k n start new c (string_bytes d.lines)
+  nothing_more window c e d runs within owes spent none awaited empty watches =
+      let unbegun : last.own.spent ≡ 0 = sym (ap (λ (x : Held). x.own.spent) marked) ∙ spent in
+      let unowed : last.kept.state.owed ≡ None = sym (ap (λ (x : Held). x.kept.state.owed) marked) ∙ owes in
+      let here : WatchesAt false (with_failure last) e d = subst (λ (x : Held). WatchesAt false x e d) marked watches in
+      none_counted_yet window k n start last new c (string_bytes d.lines) (record { path = path; within = failed_within runs }) unbegun none
+      (watched_first window n start last e d awaited empty (watches_failed (is_before e.awaited last.kept.state.time) last e d here) unowed unbegun within).left
+      (ap (λ (x : Held). x.core) marked) failed_stands
 
 -- or has not begun
 runs_nowhere : (k : ℕ) (h : Held) → RunsWithin k h h
@@ -239,8 +265,8 @@ passed_nowhere window n h unbegun = by (is_within window h)
 
 pub nothing_counted : (window : Option ℕ) (k n : ℕ) (h : Held) → h.own.spent ≡ 0 → HasCounted window k n h h none_processed (window_text (left_by window None h))
 nothing_counted window k n h unbegun =
-    none_counted_yet window k n h h none_processed (window_text (left_by window None h)) (runs_nowhere k h) unbegun refl
-    (record { passed = passed_nowhere window n h unbegun; told = refl })
+    none_counted_yet window k n h h h none_processed (window_text (left_by window None h)) (record { path = record { path = []; through = refl }; within = runs_nowhere k h }) unbegun refl
+    (record { passed = passed_nowhere window n h unbegun; told = refl }) refl (λ m s. s)
 
 -- What is told.
 
@@ -248,39 +274,50 @@ passed_from : (n : ℕ) (start : Held) (m : State) (left : Option Held) → Stan
 passed_from n start m None begin passed = tt
 passed_from n start m (Some h) begin passed = (passed.0, passed.1.runs m begin)
 
-has_processed : (window : Option ℕ) (k n : ℕ) (start h : Held) (c : ProcessorCounts) (lines : List ℕ) (m last : State) → HasCounted window k n start h c lines → Stands start m → Stands h last → HasProcessed window k n m last (lines ++ processor_text c h.core.entries)
-has_processed window k n start h c lines m last counted begin end =
-    let t = counted.runs.runs m begin in
-    let left : Option Held = left_along window (counted.to ∷ counted.steps.path) in record {
-      begin = t.0;
-      reached = t.1;
-      from = counted.from;
-      stands = t.2;
-      unbegun = counted.unbegun;
-      to = counted.to;
-      counts = c;
-      steps = counted.steps;
-      begins = begun t.0 t.2 counted.begins;
-      comes = counted.stands last end;
-      left = left;
-      leaves = refl;
-      passed = passed_from n start m left begin counted.left.passed;
-      told = ap (λ (l : List ℕ). l ++ processor_text c h.core.entries) counted.left.told
-          ∙ ap (λ (x : CoreState). window_text left ++ processor_text c x.entries) counted.core;
+processed_from : (v : View) (n : ℕ) (start h : Held) (c : ProcessorCounts) (lines : List ℕ) (m last : State) → HasCounted (window_end v) (told_from v n) n start h c lines → Stands start m → Stands h last → HasProcessedFrom v n start m last (lines ++ processor_text c h.core.entries)
+processed_from v n start h c lines m last counted begin end =
+    let t = counted.ran.within.runs m begin in
+    let left : Option Held = left_along (window_end v) (counted.to ∷ counted.steps.path) in record {
+      processed = record {
+        begin = t.0;
+        reached = t.1;
+        from = counted.from;
+        stands = t.2;
+        unbegun = counted.unbegun;
+        to = counted.to;
+        counts = c;
+        steps = counted.steps;
+        begins = begun t.0 t.2 counted.begins;
+        comes = counted.stands last end;
+        left = left;
+        leaves = refl;
+        passed = passed_from n start m left begin counted.left.passed;
+        told = ap (λ (l : List ℕ). l ++ processor_text c h.core.entries) counted.left.told
+            ∙ ap (λ (x : CoreState). window_text left ++ processor_text c x.entries) counted.core;
+      };
+      path = counted.ran.path;
     }
   where
-    begun : (x : State) → Stands counted.from x → (held_goes_on k counted.from ≡ false) ⊎ (counted.steps.path ≡ []) → (goes_on k x ≡ false) ⊎ (counted.steps.path ≡ [])
-    begun x there (inl over) = inl (goes_alike k counted.from x there ∙ over)
+    begun : (x : State) → Stands counted.from x → (held_goes_on (told_from v n) counted.from ≡ false) ⊎ (counted.steps.path ≡ []) → (goes_on (told_from v n) x ≡ false) ⊎ (counted.steps.path ≡ [])
+    begun x there (inl over) = inl (goes_alike (told_from v n) counted.from x there ∙ over)
     begun x there (inr none) = inr none
 
-told_if : (b : Bool) (window : Option ℕ) (k n : ℕ) (m last : State) (text : List ℕ) → HasProcessed window k n m last text → TellsIf b window k n m last (cond b text [])
-told_if true window k n m last text told = told
-told_if false window k n m last text told = refl
+told_if : (b : Bool) (Tells : List ℕ → Type 0) (text : List ℕ) → Tells text → TellsIf b Tells (cond b text [])
+told_if true Tells text told = told
+told_if false Tells text told = refl
 
 -- what a view wants of it
-pub processor_told : (v : View) (n : ℕ) (start h : Held) (c : ProcessorCounts) (lines : List ℕ) (m last : State) → HasCounted (window_end v) (told_from v n) n start h c lines → Stands start m → Stands h last → TellsProcessor v n m last (processor_held v lines c h)
+pub processor_told : (v : View) (n : ℕ) (start h : Held) (c : ProcessorCounts) (lines : List ℕ) (m last : State) → HasCounted (window_end v) (told_from v n) n start h c lines → Stands start m → Stands h last → TellsFrom v n start m last (processor_held v lines c h)
 processor_told v n start h c lines m last counted begin end =
-    told_if v.processor (window_end v) (told_from v n) n m last (lines ++ processor_text c h.core.entries) (has_processed (window_end v) (told_from v n) n start h c lines m last counted begin end)
+    told_if v.processor (HasProcessedFrom v n start m last) (lines ++ processor_text c h.core.entries) (processed_from v n start h c lines m last counted begin end)
+
+-- what is told of this station's run is told of a run
+pub processor_of_some : (v : View) (n : ℕ) (start : Held) (m last : State) (text : List ℕ) → TellsFrom v n start m last text → TellsProcessor v n m last text
+processor_of_some v n start m last text told = by v.processor told
+  where
+    by : (b : Bool) → TellsIf b (HasProcessedFrom v n start m last) text → TellsIf b (HasProcessed (window_end v) (told_from v n) n m last) text
+    by true told = told.processed
+    by false told = told
 
 -- Entries, one after another.
 

@@ -30,9 +30,9 @@ use Rattle.ds_trace.specs.Looks.{Looked}
 use Rattle.ds_trace.specs.Counts.{Counted, none_counted, counts_after}
 use Rattle.ds_trace.specs.Halves.{looked_of, found_of, process_in, half_after, half_text, half_counts}
 use Rattle.ds_trace.specs.Ends.{end_text}
-use Rattle.ds_trace.specs.Processors.{TellsProcessor}
+use Rattle.ds_trace.specs.Processors.{TellsFrom}
 use Rattle.ds_trace.specs.declared.progress.Progress.{Progress}
-use Rattle.ds_trace.specs.Traces.{counts_along, trace_along, told_to, WritesTrace, WritesTracePart}
+use Rattle.ds_trace.specs.Traces.{counts_along, trace_along, told_to, WritesTold, WritesToldPart}
 use Rattle.ds_trace.specs.Handed.{IsFinished, IsHandedOn}
 use Rattle.ds_trace.specs.Shows.{looked_held, half_held, counts_held, progress_held, end_held, IsTold}
 use Rattle.ds_trace.specs.Advanced.{is_last}
@@ -339,7 +339,7 @@ after_lines : (sent text lines processor : List ℕ) → sent ++ text ≡ lines 
 after_lines sent text lines processor is = sym (append_assoc sent text processor) ∙ ap (λ (l : List ℕ). l ++ processor) is
 
 -- a prefix of what is to be written is written: so is one of the trace and the text
-module _ (v : View) (n : ℕ) (m : State) (h : Held) (a d e : Option (List ℕ)) (text : List ℕ) (b : Progress) (told : IsTold v n m h a d text b) (processor : List ℕ) (processed : TellsProcessor v n m (touched told.early (after n told.choices m)) processor) where
+module _ (v : View) (n : ℕ) (m : State) (h : Held) (a d e : Option (List ℕ)) (text : List ℕ) (b : Progress) (told : IsTold v n m h a d text b) (start : Held) (processor : List ℕ) (processed : TellsFrom v n start m (touched told.early (after n told.choices m)) processor) where
   abbrev last_state : State
   last_state = touched told.early (after n told.choices m)
 
@@ -355,7 +355,7 @@ module _ (v : View) (n : ℕ) (m : State) (h : Held) (a d e : Option (List ℕ))
   last_text : held_text h ≡ text_of last_state
   last_text = text_alike h last_state told.stands
 
-  pub told_part : AppendsPart d e text → WritesTracePart v a e n m
+  pub told_part : AppendsPart d e text → WritesToldPart v a e n m (TellsFrom v n start m)
   told_part part = record {
     last = last_state;
     reached = last_reached;
@@ -379,7 +379,7 @@ module _ (v : View) (n : ℕ) (m : State) (h : Held) (a d e : Option (List ℕ))
       trace_is = after_lines told.sent (text ++ processor) (trace_along v n told.choices m ++ processor) (end_text v last_counts last_state)
           (after_lines told.sent text (trace_along v n told.choices m) processor told.told)
 
-  pub finished_part : (k : Counted) → b.counts ≡ k → h.own.spent ≡ 0 → AppendsPart d e (text ++ processor ++ end_held v k h ++ held_text h) → WritesTracePart v a e n m
+  pub finished_part : (k : Counted) → b.counts ≡ k → h.own.spent ≡ 0 → AppendsPart d e (text ++ processor ++ end_held v k h ++ held_text h) → WritesToldPart v a e n m (TellsFrom v n start m)
   finished_part k is none part = record {
     last = last_state;
     reached = last_reached;
@@ -388,7 +388,7 @@ module _ (v : View) (n : ℕ) (m : State) (h : Held) (a d e : Option (List ℕ))
     written = subst (AppendsPart a e) (both_are k is none) (part_behind a d e told.sent (text ++ processor ++ end_held v k h ++ held_text h) told.appends part);
   }
 
-  pub finished : (k : Counted) → b.counts ≡ k → h.own.spent ≡ 0 → held_goes_on n h ≡ false → IsFinished v k d e (text ++ processor) h → WritesTrace v a e n m
+  pub finished : (k : Counted) → b.counts ≡ k → h.own.spent ≡ 0 → held_goes_on n h ≡ false → IsFinished v k d e (text ++ processor) h → WritesTold v a e n m (TellsFrom v n start m)
   finished k is none over done = record {
     last = last_state;
     ends = record { reached = last_reached; over = goes_alike n h last_state told.stands ∙ over };

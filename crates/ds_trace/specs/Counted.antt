@@ -9,6 +9,7 @@ use Rattle.ds_refinement.specs.Runs.{RunsWithin, held_goes_on}
 use Rattle.ds_refinement.specs.Services.{with_failure}
 use Rattle.ds_kernel.specs.Ended.{Does}
 use Rattle.ds_kernel.specs.Going.{rank}
+use Rattle.ds_kernel.specs.Ran.{HasRun}
 use Rattle.ds_station.specs.declared.fault.Fault.{Fault}
 use Rattle.ds_trace.specs.declared.processor.ProcessorCounts.{ProcessorCounts}
 use Rattle.ds_trace.specs.declared.window.WindowEnd.{WindowEnd}
@@ -61,7 +62,7 @@ pub record IsWatched (window : Option ℕ) (n : ℕ) (start : Held) (at : Option
 -- A run for n is followed from where that for k was over; so many steps are counted and may still come.
 pub record IsCounting (window : Option ℕ) (k n : ℕ) (start h : Held) (c : ProcessorCounts) (e : WindowEnd) : Type 0 where
   pub from : Held
-  pub runs : RunsWithin k start from
+  pub ran : HasRun k start from
   pub over : held_goes_on k from ≡ false
   pub unbegun : from.own.spent ≡ 0
   pub steps : StepsTo n from h c
@@ -71,7 +72,7 @@ pub record IsCounting (window : Option ℕ) (k n : ℕ) (start h : Held) (c : Pr
 -- It was followed, or the run for k was cut short, and then nothing is counted. A failure has come since, or none.
 pub record HasCounted (window : Option ℕ) (k n : ℕ) (start h : Held) (c : ProcessorCounts) (lines : List ℕ) : Type 0 where
   pub from : Held
-  pub runs : RunsWithin k start from
+  pub ran : HasRun k start from
   pub unbegun : from.own.spent ≡ 0
   pub to : Held
   pub steps : StepsTo n from to c

@@ -7,7 +7,7 @@ use Rattle.ds_pagemap.specs.Machine.{State}
 use Rattle.ds_pagemap.specs.Run.{goes_on, Reaches}
 use Rattle.ds_refinement.specs.Held.{Held}
 use Rattle.ds_refinement.specs.Stands.{Stands}
-use Rattle.ds_refinement.specs.Real.{Through}
+use Rattle.ds_refinement.specs.Real.{RealPath, Through}
 use Rattle.ds_station.specs.declared.stage.Stage.{Stage}
 use Rattle.ds_station.specs.declared.stage.Stage.TheVariants.{Rest, Instruction, Refill, Service, DoubleMiss}
 use Rattle.ds_station.specs.Reads.{stage_of}
@@ -149,11 +149,20 @@ pub record HasProcessed (window : Option ℕ) (k n : ℕ) (first last : State) (
 abbrev pub told_from : View → ℕ → ℕ
 told_from v n = if has_lines v then min v.from n else n
 
--- this tells what the processor did if that is wanted, and else nothing
-abbrev pub TellsIf : Bool → Option ℕ → ℕ → ℕ → State → State → List ℕ → Type 0
-TellsIf false window k n first last text = text ≡ []
-TellsIf true window k n first last text = HasProcessed window k n first last text
+-- The same of a run of this station, as a view wants it: it came by real steps to where the steps that are counted begin.
+pub record HasProcessedFrom (v : View) (n : ℕ) (start : Held) (first last : State) (text : List ℕ) : Type 0 where
+  pub processed : HasProcessed (window_end v) (told_from v n) n first last text
+  pub path : RealPath start processed.from
 
--- as a view wants it
+-- a text tells this if it is wanted, and else nothing
+abbrev pub TellsIf : Bool → (List ℕ → Type 0) → List ℕ → Type 0
+TellsIf false Tells text = text ≡ []
+TellsIf true Tells text = Tells text
+
+-- what the processor did, as a view wants it
 abbrev pub TellsProcessor : View → ℕ → State → State → List ℕ → Type 0
-TellsProcessor v n first last text = TellsIf v.processor (window_end v) (told_from v n) n first last text
+TellsProcessor v n first last text = TellsIf v.processor (HasProcessed (window_end v) (told_from v n) n first last) text
+
+-- what it did in a run of this station
+abbrev pub TellsFrom : View → ℕ → Held → State → State → List ℕ → Type 0
+TellsFrom v n start first last text = TellsIf v.processor (HasProcessedFrom v n start first last) text

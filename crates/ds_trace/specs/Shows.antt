@@ -21,8 +21,8 @@ use Rattle.ds_trace.specs.Summaries.{summary_text}
 use Rattle.ds_trace.specs.Ends.{process_text}
 use Rattle.ds_trace.specs.declared.processor.ProcessorCounts.{ProcessorCounts}
 use Rattle.ds_trace.specs.declared.progress.Progress.{Progress}
-use Rattle.ds_trace.specs.Processors.{processor_text}
-use Rattle.ds_trace.specs.Traces.{counts_along, trace_along, WritesTrace, WritesTracePart}
+use Rattle.ds_trace.specs.Processors.{processor_text, TellsFrom}
+use Rattle.ds_trace.specs.Traces.{counts_along, trace_along, WritesTold, WritesToldPart}
 
 -- the unit of a process, if there is one
 abbrev pub start_held : Held → Option ℕ → Option Start
@@ -115,10 +115,10 @@ pub record TellsAll (cut : Option Fault) (v : View) (n : ℕ) (from h : Held) (o
   pub stopped : IsStopped cut n h
   pub spent : h.own.spent ≡ 0
 
--- each run from there is traced to its end
+-- each run from there is traced to its end, with what the processor did in this one
 pub record Traces (v : View) (n : ℕ) (from : Held) (old new : Option (List ℕ)) : Type 0 where
-  pub traces : (m : State) → Stands from m → WritesTrace v old new n m
+  pub traces : (m : State) → Stands from m → WritesTold v old new n m (TellsFrom v n from m)
 
 -- or a prefix of what is told of it is written
 pub record TracesPart (v : View) (n : ℕ) (from : Held) (old new : Option (List ℕ)) : Type 0 where
-  pub traces : (m : State) → Stands from m → WritesTracePart v old new n m
+  pub traces : (m : State) → Stands from m → WritesToldPart v old new n m (TellsFrom v n from m)

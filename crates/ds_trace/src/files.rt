@@ -1,8 +1,8 @@
 //! The trace of a run, from texts to a text.
 ghost use Rattle.std.specs.Prelude.{◌≡◌, IfErr, OnOk, Err};
-ghost use Rattle.ds_pagemap.specs.Inputs.{Refusal, inputs, inputs_under};
-ghost use Rattle.ds_station.specs.Headline.{Begins, IsRefused, sources_seen};
-ghost use Rattle.ds_trace.specs.Traces.{TraceEndsBy, WritesTrace};
+ghost use Rattle.ds_pagemap.specs.Inputs.{Refusal, inputs, inputs_by, inputs_under, inputs_under_by};
+ghost use Rattle.ds_station.specs.Headline.{Begins, IsRefused, loaded, sources_seen};
+ghost use Rattle.ds_trace.specs.Traces.{TraceEndsBy, TraceEndsReally, WritesTrace, WritesTraceReally};
 
 use crate::trace::tell;
 use ds_policy::Policy;
@@ -30,9 +30,15 @@ pub fn trace_files<W: Write>(
     ensures ok { OnOk result (Begins
         (inputs policy.now (sources_seen sources.now) input.now n random)
         (WritesTrace view.now (W.contents out.old) (W.contents out.new) n)) }
+    ensures real { OnOk result (Begins
+        (inputs_by loaded policy.now (sources_seen sources.now) input.now n random)
+        (WritesTraceReally view.now (W.contents out.old) (W.contents out.new) n random)) }
     ensures err { IfErr result (λ f. TraceEndsBy f view.now
         (inputs policy.now (sources_seen sources.now) input.now n random)
         (W.contents out.old) (W.contents out.new) n) }
+    ensures cut { IfErr result (λ f. TraceEndsReally f view.now
+        (inputs_by loaded policy.now (sources_seen sources.now) input.now n random)
+        (W.contents out.old) (W.contents out.new) n random) }
     ensures refused { (refusal : Refusal)
         → inputs policy.now (sources_seen sources.now) input.now n random ≡ Err refusal
         → IsRefused result refusal (W.contents out.old) (W.contents out.new) }
@@ -58,9 +64,15 @@ pub fn trace_policy<W: Write>(
     ensures ok { OnOk result (Begins
         (inputs_under policy.now (sources_seen sources.now) input.now n random)
         (WritesTrace view.now (W.contents out.old) (W.contents out.new) n)) }
+    ensures real { OnOk result (Begins
+        (inputs_under_by loaded policy.now (sources_seen sources.now) input.now n random)
+        (WritesTraceReally view.now (W.contents out.old) (W.contents out.new) n random)) }
     ensures err { IfErr result (λ f. TraceEndsBy f view.now
         (inputs_under policy.now (sources_seen sources.now) input.now n random)
         (W.contents out.old) (W.contents out.new) n) }
+    ensures cut { IfErr result (λ f. TraceEndsReally f view.now
+        (inputs_under_by loaded policy.now (sources_seen sources.now) input.now n random)
+        (W.contents out.old) (W.contents out.new) n random) }
     ensures refused { (refusal : Refusal)
         → inputs_under policy.now (sources_seen sources.now) input.now n random ≡ Err refusal
         → IsRefused result refusal (W.contents out.old) (W.contents out.new) }

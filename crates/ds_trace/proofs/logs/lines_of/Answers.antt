@@ -1,5 +1,4 @@
 use Rattle.std.proofs.Common.{◌==◌, rules}
-use Rattle.std.specs.Slice.Iter as slice
 use Rattle.std.proofs.lemmas.Iterator.Splits.{YieldsList-from_slice_split}
 use Rattle.std.proofs.lemmas.Iterator.Consumers.{map_from_collect}
 use borrow.Author.Tests.{tests}

@@ -7,10 +7,10 @@ use Rattle.ds_station.specs.Faults.{IsFaultAfter, IsNewFault}
 use Rattle.ds_station.specs.declared.fault.Fault.{Fault}
 use Rattle.ds_trace.specs.Looks.{Looked}
 use Rattle.ds_trace.specs.Advanced.{Advances, HasStepped, HasHalted}
-use Rattle.ds_trace.proofs.Following.{cut_early, cut_part, cut_spent, end_told, first_told, first_within, halted_told, handed_told, last_counting, last_told, nothing_part, part_none, ran_whole, ran_within, step_counting, step_on, step_owed, step_told}
+use Rattle.ds_trace.proofs.Following.{cut_counted, cut_early, cut_part, cut_spent, end_told, first_told, first_within, halted_told, handed_told, last_counting, last_told, nothing_part, part_none, ran_whole, ran_within, step_counting, step_on, step_owed, step_told}
 use Rattle.ds_trace.specs.Counted.{CountsStep, WatchesAfter}
 use Rattle.ds_trace.specs.Processors.{window_end}
-use Rattle.ds_trace.proofs.Processing.{counting_cut, counting_done, counting_few, counting_first, none_counted_yet, watched_first}
+use Rattle.ds_trace.proofs.Processing.{counting_cut, counting_done, counting_few, counting_first, watched_first}
 use Rattle.ds_trace.proofs.trace.follow.Goals as goal
 
 -- a fault cut short what comes before the first turn that is told
@@ -33,11 +33,8 @@ pub returns-in-Err-clause-counted : goal.returns-in-Err-clause-counted
 returns-in-Err-clause-counted g c =
     let new : Held = c.run-ran.new.self in
     let is : IsNewFault c.in-Err.fault = subst (λ (failed : Bool). IsFaultAfter failed c.in-Err.fault) c.requires.working c.in-Err.ensures.faults in
-    let within : RunsWithin _ c.args.station.now new = subst (λ (k : ℕ). RunsWithin k c.args.station.now new) c.silent_until.ensures c.in-Err.ensures.err in
-    let spent : new.own.spent ≡ 0 = cut_spent c.in-Err.fault c.args.station.now new c.in-Err.ensures.cut is in
-    none_counted_yet (window_end c.args.view.now) _ c.args.n c.args.station.now new c.args.counts.now _ within spent c.requires.uncounted
-    (watched_first (window_end c.args.view.now) c.args.n c.args.station.now new c.args.window.now c.watch.new.self c.requires.awaited c.requires.unleft c.in_ok-watch.ensures c.in-Err.ensures.whole spent
-    (first_within c.args.view.now c.args.n c.args.station.now new (g.W.Write.contents c.args.out.now) c.requires.unowed within c.in-Err.ensures.whole spent)).left
+    cut_counted c.args.view.now c.args.n c.in-Err.fault c.args.station.now new c.args.counts.now c.args.window.now c.watch.new.self c.requires.unowed c.in-Err.ensures.cut is
+    (subst (λ (k : ℕ). RunsWithin k c.args.station.now new) c.silent_until.ensures c.in-Err.ensures.err) c.in-Err.ensures.whole c.requires.uncounted c.requires.awaited c.requires.unleft c.in_ok-watch.ensures
 
 pub loop-station-init : goal.loop-station-init
 loop-station-init g c =
@@ -52,7 +49,7 @@ loop-station-init g c =
       working = c.in-Ok.ensures.good;
       owed = ap (λ (x : Looked). x.owed) c.in_ok-look.ensures ∙ sym (ap is_some owes);
       begun = λ some. absurd (omega (arith, none, some));
-      counting = counting_first (window_end v) _ c.args.n c.args.station.now new c.args.counts.now c.watch.new.self within
+      counting = counting_first (window_end v) _ c.args.n c.args.station.now new c.args.counts.now c.watch.new.self (record { path = c.in-Ok.ensures.real; within = within })
           (subst (λ (k : ℕ). held_goes_on k new ≡ false) c.silent_until.ensures c.in-Ok.ensures.over) none c.requires.uncounted c.requires.few
           (watched_first (window_end v) c.args.n c.args.station.now new c.args.window.now c.watch.new.self c.requires.awaited c.requires.unleft c.in_ok-watch.ensures owes none
           (first_within v c.args.n c.args.station.now new (g.W.Write.contents c.args.out.now) c.requires.unowed within owes none));
