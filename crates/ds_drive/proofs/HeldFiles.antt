@@ -7,16 +7,17 @@ use Rattle.ds_policy.specs.PolicyParts.{sources_of}
 use Rattle.ds_policy.specs.Value.{PolicyValue}
 use Rattle.ds_policy.specs.Refusal.{PolicyRefusal}
 use Rattle.ds_pagemap.specs.Machine.{State}
-use Rattle.ds_pagemap.specs.Inputs.{Refusal, Sources, inputs, inputs_under}
-use Rattle.ds_station.proofs.Preparing.{under_policy}
+use Rattle.ds_pagemap.specs.Inputs.{Refusal, Sources, inputs, inputs_under, inputs_under_by}
+use Rattle.ds_station.proofs.Preparing.{under_policy, under_policy_by}
+use Rattle.ds_station.proofs.Guarded.{files_guarded_if}
 use Rattle.std.specs.Prelude.{Option, Some, None}
 use Rattle.std.specs.Borrow.{Bor}
-use Rattle.ds_station.specs.Headline.{Begins}
+use Rattle.ds_station.specs.Headline.{Begins, Loaded, loaded}
 use Rattle.ds_drive.specs.Checked.{IsInput}
 use Rattle.ds_words.specs.declared.words.Request.{Request}
 use Rattle.ds_drive.specs.declared.run.SourceText.{SourceText}
-use Rattle.ds_drive.specs.AtFault.{texts_seen}
-use Rattle.ds_drive.specs.Failures.{AreHeld, HoldsInputs, OfHeld}
+use Rattle.ds_drive.specs.Failures.{AreHeld, HoldsInputs, OfHeld, RunsFiles}
+use Rattle.ds_drive.specs.Ran.{OfHeldLoaded, RunsGuarded}
 
 names_of : (texts : List SourceText) → map (λ (s : List ℕ × List ℕ). s.0) (map (λ s. (s.name, s.text.items)) texts) ≡ map (λ s. s.name) texts
 names_of [] = refl
@@ -93,4 +94,27 @@ of_held holds request P value s t i j inputs e f so = record {
   input = j;
   held = inputs.held;
   so = of_texts P value inputs.policy s t i j request.most_time request.random inputs.read e f so;
+}
+
+-- so of what a run begins with
+pub of_held_loaded : (holds : List ℕ → List ℕ → Type 0) (request : Request) (P : Result Loaded Refusal → Type 0) (value : PolicyValue) (s t : Sources) (i j : List ℕ)
+    → HoldsInputs holds request value t j → s ≡ t → i ≡ j → P (inputs_under_by loaded value s i request.most_time request.random) → OfHeldLoaded holds request P
+of_held_loaded holds request P value s t i j inputs e f so = record {
+  policy = inputs.policy;
+  sources = t;
+  input = j;
+  held = inputs.held;
+  so = subst P (sym (under_policy_by loaded value inputs.policy t j request.most_time request.random inputs.read))
+      (subst (λ (x : List ℕ). P (inputs_under_by loaded value t x request.most_time request.random)) f
+      (subst (λ (x : Sources). P (inputs_under_by loaded value x i request.most_time request.random)) e so));
+}
+
+-- a run of files is guarded
+pub guarded_held : (holds : List ℕ → List ℕ → Type 0) (request : Request) (old new : Option (List ℕ)) → RunsFiles holds request old new → RunsGuarded holds request old new
+guarded_held holds request old new r = record {
+  policy = r.policy;
+  sources = r.sources;
+  input = r.input;
+  held = r.held;
+  so = files_guarded_if {T = Unit {0}} {E = Unit {0}} (Ok tt) r.policy r.sources r.input request.most_time request.random old new r.so;
 }

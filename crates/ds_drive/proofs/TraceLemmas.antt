@@ -6,7 +6,7 @@ use Rattle.clap.specs.Words.{Text}
 use Rattle.ds_log.specs.Sent.{AppendsPart}
 use Rattle.ds_pagemap.specs.Machine.{State}
 use Rattle.ds_pagemap.specs.Inputs.{Refusal}
-use Rattle.ds_station.specs.Headline.{Begins, Refuses}
+use Rattle.ds_station.specs.Headline.{Begins}
 use Rattle.ds_station.specs.declared.fault.Fault.{Fault}
 use Rattle.ds_station.specs.declared.fault.Fault.TheVariants as fault
 use Rattle.ds_station.proofs.Headlines.{keeps_same}
@@ -19,6 +19,7 @@ use Rattle.ds_drive.specs.declared.failure.Failure.{Failure}
 use Rattle.ds_drive.specs.declared.failure.Failure.TheVariants as failure
 use Rattle.ds_drive.specs.Done.{IsCutShort, IsDone, IsStopped, stream}
 use Rattle.ds_drive.specs.Failures.{IsUnreadRun, failure_number}
+use Rattle.ds_drive.specs.Ran.{TracesReally}
 use Rattle.ds_drive.specs.Statuses.{fault_status}
 use Rattle.ds_drive.specs.Told.{failure_line}
 use Rattle.ds_drive.specs.TraceRuns.{CutsTrace, TracesFiles, TraceStopsBy}
@@ -57,8 +58,8 @@ trace_cut words holds lacks request f old new asks stops = elim (trace_leaves f 
 ]
 
 -- the trace that the words ask for
-pub trace_done : (words : List Text) (holds : List ℕ → List ℕ → Type 0) (request : TraceRequest) (old new : Option (List ℕ)) → AsksForTrace words request → TracesFiles holds request old new → IsDone words holds old new
-trace_done words holds request old new asks traces = inr (inr (inr (inr (inr (request, asks, traces)))))
+pub trace_done : (words : List Text) (holds : List ℕ → List ℕ → Type 0) (request : TraceRequest) (old new : Option (List ℕ)) → AsksForTrace words request → TracesFiles holds request old new → TracesReally holds request old new → IsDone words holds old new
+trace_done words holds request old new asks traces real = inr (inr (inr (inr (inr (request, asks, record { traces = traces; real = real })))))
 
 -- What the program says of it.
 pub trace_stopped : (words : List Text) (holds : List ℕ → List ℕ → Type 0) (lacks : List ℕ → Type 0) (status : ℕ) (old new err_old err_new : Option (List ℕ)) (request : TraceRequest) (f : Failure)

@@ -4,7 +4,7 @@ use Rattle.std.specs.Io.KnownBytes.{Keeps}
 use Rattle.clap.specs.Words.{Text}
 use Rattle.ds_asm.specs.declared.fault.SourceFault.{SourceFault}
 use Rattle.ds_station.specs.Faults.{number_of}
-use Rattle.ds_station.specs.Headline.{Begins, Writes, WritesPart, EndsBy}
+use Rattle.ds_station.specs.Headline.{Begins, WritesPart, EndsBy}
 use Rattle.ds_station.specs.declared.fault.Fault.{Fault}
 use Rattle.ds_drive.specs.declared.failure.Failure.{Failure}
 use Rattle.ds_words.specs.declared.words.BareRequest.{BareRequest}
@@ -15,26 +15,27 @@ use Rattle.ds_words.specs.declared.words.TraceRequest.{TraceRequest}
 use Rattle.ds_drive.specs.Demo.{demo_inputs}
 use Rattle.ds_drive.specs.declared.failure.Failure.TheVariants as failure
 use Rattle.ds_drive.specs.declared.refused.Refused.{Refused}
-use Rattle.ds_drive.specs.Failures.{RunsFiles, CutsFiles, StopsBy, failure_number, memory_failure}
+use Rattle.ds_drive.specs.Failures.{CutsFiles, StopsBy, failure_number, memory_failure}
 use Rattle.ds_drive.specs.Told.{failure_line, listed_faults, refused_text}
 use Rattle.ds_log.specs.Sent.{AppendsPart}
 use Rattle.ds_drive.specs.Statuses.{fault_status}
 use Rattle.ds_drive.specs.BareRuns.{RunsBare, CutsBare, BareFailsBy, HasBareFaults}
 use Rattle.ds_drive.specs.Checked.{Explains, CutsExplanation, ChecksBy, HasNotes}
 use Rattle.ds_drive.specs.Listed.{ListsFile, CutsListing, FailsBy, HasFaults}
-use Rattle.ds_drive.specs.TraceRuns.{TracesFiles, CutsTrace, TraceStopsBy}
+use Rattle.ds_drive.specs.Ran.{HasRunDemo, HasRunFiles, HasTracedFiles}
+use Rattle.ds_drive.specs.TraceRuns.{CutsTrace, TraceStopsBy}
 use Rattle.ds_words.specs.Words.{AsksForBare, AsksForDemo, AsksForRun, AsksForList, AsksForCheck, AsksForTrace}
 
 -- what the words ask for was run, listed or explained, and its text is written; a run is under a
 -- policy, with its trace or without, or on the bare machine
 abbrev pub IsDone : List Text → (List ℕ → List ℕ → Type 0) → Option (List ℕ) → Option (List ℕ) → Type 0
 IsDone words holds old new =
-    (AsksForDemo words × Begins demo_inputs (Writes old new 100))
-    ⊎ (((request : Request) × AsksForRun words request × RunsFiles holds request old new)
+    (AsksForDemo words × HasRunDemo old new)
+    ⊎ (((request : Request) × AsksForRun words request × HasRunFiles holds request old new)
     ⊎ (((request : ListRequest) × AsksForList words request × ListsFile holds request old new)
     ⊎ (((request : CheckRequest) × AsksForCheck words request × Explains holds request old new)
     ⊎ (((request : BareRequest) × AsksForBare words request × RunsBare holds request old new)
-    ⊎ ((request : TraceRequest) × AsksForTrace words request × TracesFiles holds request old new)))))
+    ⊎ ((request : TraceRequest) × AsksForTrace words request × HasTracedFiles holds request old new)))))
 
 -- nothing is written; or what the words ask for was run, and a front of the text of a run that was
 -- cut short between two turns, or has ended, is written and nothing else; or a front of

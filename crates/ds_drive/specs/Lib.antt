@@ -8,6 +8,7 @@ pub mod Done
 pub mod Failures
 pub mod Noted
 pub mod PolicyPlaces
+pub mod Ran
 pub mod Statuses
 pub mod Told
 pub mod TraceRuns

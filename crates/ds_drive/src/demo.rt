@@ -1,7 +1,8 @@
 //! The demonstration: one process that writes `A` to its console and exits.
 ghost use Rattle.std.specs.Prelude.{IfErr, OnOk};
-ghost use Rattle.ds_station.specs.Headline.{Begins, EndsBy, Writes};
-ghost use Rattle.ds_drive.specs.Demo.{demo_inputs};
+ghost use Rattle.ds_station.specs.Headline.{Begins, EndsBy, Writes, WritesReally};
+ghost use Rattle.ds_station.specs.Written.{WritesWholeGuarded};
+ghost use Rattle.ds_drive.specs.Demo.{demo_inputs, demo_loaded};
 
 use ds_station::{Fault, run_files};
 use std::alloc::Global;
@@ -43,6 +44,10 @@ const RANDOM: u8 = 63;
 pub fn run_demo<W: Write>(alloc: Global, out: &mut W) -> Result<(), Fault>
     ensures ok { OnOk result (Begins demo_inputs
         (Writes (W.contents out.old) (W.contents out.new) 100)) }
+    ensures real { OnOk result (Begins demo_loaded
+        (WritesReally (W.contents out.old) (W.contents out.new) 100 63)) }
+    ensures guarded { OnOk result (Begins demo_inputs
+        (WritesWholeGuarded (W.contents out.old) (W.contents out.new) 100)) }
     ensures err { IfErr result (λ fault.
         EndsBy fault demo_inputs (W.contents out.old) (W.contents out.new) 100) }
 {

@@ -3,6 +3,7 @@ ghost use Rattle.std.specs.Prelude.{◌≡◌, ◌≤◌, ℕ, List, IfErr, IfOk
 ghost use Rattle.ds_station.specs.Headline.{sources_seen};
 ghost use Rattle.ds_drive.specs.AtFault.{texts_seen};
 ghost use Rattle.ds_drive.specs.Failures.{AreUnread, HoldsInputs, IsUnread, IsUnreadRun, RunsFiles, StopsBy};
+ghost use Rattle.ds_drive.specs.Ran.{RunsGuarded, RunsReally};
 
 use crate::failure::Failure;
 use crate::files::{FileFault, Files};
@@ -38,6 +39,10 @@ pub fn run_request<'a, F: Files, W: Write>(
 ) -> Result<(), Failure<'a>>
     ensures ok { OnOk result
         (RunsFiles (F.holds files.old) request.now (W.contents out.old) (W.contents out.new)) }
+    ensures real { OnOk result
+        (RunsReally (F.holds files.old) request.now (W.contents out.old) (W.contents out.new)) }
+    ensures guarded { OnOk result
+        (RunsGuarded (F.holds files.old) request.now (W.contents out.old) (W.contents out.new)) }
     ensures err { IfErr result
         (λ f. StopsBy f (F.holds files.old) (F.lacks files.old) request.now
         (W.contents out.old) (W.contents out.new)) }

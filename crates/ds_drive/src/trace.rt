@@ -1,5 +1,6 @@
 //! The trace of a run of files.
 ghost use Rattle.std.specs.Prelude.{ℕ, List, IfErr, OnOk};
+ghost use Rattle.ds_drive.specs.Ran.{TracesReally};
 ghost use Rattle.ds_drive.specs.TraceRuns.{TracesFiles, TraceStopsBy};
 
 use crate::failure::Failure;
@@ -21,6 +22,8 @@ pub fn trace_request<'a, F: Files, W: Write>(
 ) -> Result<(), Failure<'a>>
     ensures ok { OnOk result
         (TracesFiles (F.holds files.old) request.now (W.contents out.old) (W.contents out.new)) }
+    ensures real { OnOk result
+        (TracesReally (F.holds files.old) request.now (W.contents out.old) (W.contents out.new)) }
     ensures err { IfErr result
         (λ f. TraceStopsBy f (F.holds files.old) (F.lacks files.old) request.now
         (W.contents out.old) (W.contents out.new)) }

@@ -1,4 +1,4 @@
-use Rattle.std.proofs.Common.{◌∙◌, map, ap, refl, subst, sym, rules, ℕ, List}
+use Rattle.std.proofs.Common.{◌∙◌, map, ap, refl, subst, rules}
 use Rattle.ds_policy_reasons.specs.Policies.{policy_reason}
 use Rattle.ds_station.specs.Headline.{sources_seen}
 use Rattle.ds_drive.specs.declared.run.SourceText.{SourceText}

@@ -6,7 +6,7 @@ use Rattle.ds_drive.specs.Failures.{failure_number}
 use Rattle.ds_drive.specs.Listed.{Lists}
 use Rattle.ds_drive.specs.BareRuns.{RunsOrIsFaulty}
 use Rattle.ds_drive.proofs.BareLemmas.{bare_cut, bare_faulty}
-use Rattle.ds_drive.proofs.Cuts.{check_cut, demo_cut, list_cut, run_cut}
+use Rattle.ds_drive.proofs.Cuts.{check_cut, demo_cut, demo_done, list_cut, run_cut, run_done}
 use Rattle.ds_drive.proofs.Noting.{check_noted}
 use Rattle.ds_drive.proofs.Stops.{list_faulty, no_fault_is_done}
 use Rattle.ds_drive.proofs.TraceLemmas.{trace_cut, trace_done}
@@ -81,9 +81,13 @@ returns-in-Ok-Noted-clause-stopped g c two =
     let checks = subst (λ (came : Checking). Checks came holds c.in-Ok-Some-Check.request old new) c.in-Ok-Noted.field-0-is c.in-Ok-Noted.ensures.ok in
     check_noted (map string_bytes c.args.words.now) holds (g.F.Files.lacks c.args.files.now) 2 old new (g.E.Write.contents c.args.err.now) (g.E.Write.contents c.tell_notes.new.err) c.in-Ok-Some-Check.request c.in-Ok-Noted.notes.items refl (search rules) checks.0 checks.1 (search rules)
 
+pub returns-in-Ok-run_request-clause-done : goal.returns-in-Ok-run_request-clause-done
+returns-in-Ok-run_request-clause-done g c zero =
+    run_done _ (g.F.Files.holds c.args.files.now) _ (g.W.Write.contents c.args.out.now) (g.W.Write.contents c.run_request.new.out) (search rules) c.in-Ok-run_request.ensures.ok c.in-Ok-run_request.ensures.real c.in-Ok-run_request.ensures.guarded
+
 pub returns-in-Ok-trace_request-clause-done : goal.returns-in-Ok-trace_request-clause-done
 returns-in-Ok-trace_request-clause-done g c zero =
-    trace_done _ (g.F.Files.holds c.args.files.now) _ (g.W.Write.contents c.args.out.now) (g.W.Write.contents c.trace_request.new.out) (search rules) c.in-Ok-trace_request.ensures.ok
+    trace_done _ (g.F.Files.holds c.args.files.now) _ (g.W.Write.contents c.args.out.now) (g.W.Write.contents c.trace_request.new.out) (search rules) c.in-Ok-trace_request.ensures.ok c.in-Ok-trace_request.ensures.real
 
 pub returns-in-Err-check_files-clause-done : goal.returns-in-Err-check_files-clause-done
 returns-in-Err-check_files-clause-done g c zero = absurd (no_fault_is_done (failure_number c.in-Err-check_files.refused.failure) (sym c.tell_refused.ensures.status ∙ zero))
