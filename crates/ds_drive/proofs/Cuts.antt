@@ -46,8 +46,8 @@ cut_by f read old new n w = inl w.1
 -- whatever the failure over the files of a run, nothing is written, or what a fault leaves
 pub files_cut_by : (ends : Fault → Result State Refusal → Type 0) (Q : Result State Refusal → Type 0) (f : Failure) (holds : List ℕ → List ℕ → Type 0) (lacks : List ℕ → Type 0) (request : Request) (old new : Option (List ℕ))
     → ((e : Fault) (read : Result State Refusal) → ends e read → Keeps old new ⊎ Q read) → FilesStop ends f holds lacks request old new → Keeps old new ⊎ OfHeld holds request Q
-files_cut_by ends Q (failure.UnreadableFile name) holds lacks request old new leaves stops = inl stops.2
-files_cut_by ends Q (failure.UnreadableSource name) holds lacks request old new leaves stops = inl stops.2
+files_cut_by ends Q (failure.UnreadableFile name) holds lacks request old new leaves stops = inl stops.1
+files_cut_by ends Q (failure.UnreadableSource name) holds lacks request old new leaves stops = inl stops.1
 files_cut_by ends Q (failure.Fault f) holds lacks request old new leaves (inl memory) = inl memory.1
 files_cut_by ends Q (failure.Fault f) holds lacks request old new leaves (inr stops) =
     elim (leaves f (inputs stops.policy stops.sources stops.input request.most_time request.random) stops.so) [

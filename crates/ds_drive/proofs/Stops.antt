@@ -1,10 +1,10 @@
 -- Why a run or a check is stopped, and what the program says of it.
-use Rattle.std.proofs.Common.{◌≡◌, ◌∙◌, ◌⊎◌, inl, inr, ℕ, ◌<◌, Bool, true, false, List, [], refl, sym, ap, map, subst, Bor, length, get_or}
-use Rattle.std.specs.Prelude.{Option, Some, None, Result, Ok, Err, All, Contains, IfSome, is_ok, if◌then◌else◌}
+use Rattle.std.proofs.Common.{◌≡◌, ◌∙◌, ◌⊎◌, inl, inr, ℕ, ◌<◌, Bool, true, false, List, [], refl, sym, ap, map, subst, Bor, length, get_or, take}
+use Rattle.std.specs.Prelude.{Option, Some, None, Result, Ok, Err, All, Contains, IfErr, IfSome, is_ok, if◌then◌else◌}
 use Rattle.std.specs.Io.KnownBytes.{Keeps}
 use Rattle.std.proofs.lemmas.Bool.{true≢false}
 use Rattle.std.proofs.lemmas.List.{get_or_default}
-use Rattle.std.proofs.lemmas.List.Elements.{All-nil}
+use Rattle.std.proofs.lemmas.List.Elements.{All-map, All-nil, All-weaker}
 use Rattle.clap.specs.Words.{Text}
 use Rattle.ds_asm.specs.declared.fault.SourceFault.{SourceFault}
 use Rattle.ds_policy.specs.PolicyText.{policy_of}
@@ -39,7 +39,7 @@ use Rattle.ds_drive.specs.Told.{failure_line, listed_faults, refused_text}
 use Rattle.ds_drive.specs.declared.refused.Refused.{Refused}
 use Rattle.ds_drive.proofs.Faulty.{nothing_mapped, plain_is, policy_at, texts_at}
 use Rattle.ds_log.specs.Sent.{AppendsPart}
-use Rattle.ds_drive.specs.Failures.{AreUnread, FilesStop, IsUnread, IsUnreadRun, StopsBy, failure_number}
+use Rattle.ds_drive.specs.Failures.{AreUnread, FilesStop, IsNext, IsUnread, IsUnreadRun, MayBeRead, StopsBy, failure_number}
 use Rattle.ds_drive.specs.Listed.{FailsBy, HasFaults}
 use Rattle.ds_drive.specs.Statuses.{fault_status, refuses_input}
 
@@ -51,9 +51,32 @@ by_status false is = absurd cc
 pub no_fault_is_done : (number : ℕ) → fault_status number ≡ 0 → ⊥
 no_fault_is_done number is = by_status (refuses_input number) is
 
+-- what holds of an error
+pub if_err_is : {T E : Type 0} (r : Result T E) (e : E) (P : E → Type 0) → r ≡ Err e → P e → IfErr r P
+if_err_is {T} {E} r e P is holds = subst (λ (x : Result T E). IfErr x P) (sym is) holds
+
 -- the name at a place is one of them
 pub named : (names : List (List ℕ)) (k : ℕ) (d told : List ℕ) → k < length names → told ≡ get_or names k d → Contains names told
 named names k d told within is = (k, within, get_or_default names k told d within ∙ sym is)
+
+-- all before it were read
+read_before : (holds : List ℕ → List ℕ → Type 0) (texts : List SourceText) (names : List (List ℕ)) → map (λ s. s.name) texts ≡ names → All (λ s. holds s.name s.text.items) texts → All (MayBeRead holds) names
+read_before holds texts names are found =
+    subst (All (MayBeRead holds)) are
+    (All-map (MayBeRead holds) (λ (s : SourceText). s.name) texts
+    (All-weaker (λ (s : SourceText). holds s.name s.text.items) (λ (s : SourceText). MayBeRead holds s.name) (λ s h. (s.text.items, h)) texts found))
+
+-- so it is the next that is lacking
+pub next_lacking : (holds : List ℕ → List ℕ → Type 0) (lacks : List ℕ → Type 0) (names : List (List ℕ)) (k : ℕ) (d told : List ℕ) (texts : List SourceText) → k < length names → told ≡ get_or names k d
+    → map (λ s. s.name) texts ≡ take k names → All (λ s. holds s.name s.text.items) texts → lacks told → AreUnread holds lacks names (failure.UnreadableSource told)
+unfolding named
+next_lacking holds lacks names k d told texts within is are found lacking = ((named names k d told within is, read_before holds texts (take k names) are found), lacking)
+
+-- what might be read after it might be read before
+next_of : (holds after : List ℕ → List ℕ → Type 0) (names sources : List (List ℕ)) (told : List ℕ) → ((file bytes : List ℕ) → after file bytes → holds file bytes) → names ≡ sources → IsNext after names told → IsNext holds sources told
+next_of holds after names sources told kept are next =
+    subst (λ (l : List (List ℕ)). IsNext holds l told) are
+    (next.0, All-weaker (MayBeRead after) (MayBeRead holds) (λ file read. (read.0, kept file read.0 read.1)) (take next.0.0 names) next.1)
 
 -- the policy's file was not read
 pub policy_unread : (holds : List ℕ → List ℕ → Type 0) (lacks : List ℕ → Type 0) (request : Request) (f : Failure)
@@ -62,29 +85,31 @@ policy_unread holds lacks request (failure.UnreadableFile told) unread = (inl un
 policy_unread holds lacks request (failure.Fault fault.Memory) unread = inl refl
 policy_unread holds lacks request f none = absurd none
 
--- the input's file was not read
-pub input_unread : (holds : List ℕ → List ℕ → Type 0) (lacks later : List ℕ → Type 0) (request : Request) (f : Failure)
-    → ((file : List ℕ) → later file → lacks file) → IsUnread later request.input.now f → IsUnreadRun f holds lacks request
-input_unread holds lacks later request (failure.UnreadableFile told) lacked unread = (inr unread.0, lacked told.now (subst later (sym unread.0) unread.1))
-input_unread holds lacks later request (failure.Fault fault.Memory) lacked unread = inl refl
-input_unread holds lacks later request f lacked none = absurd none
+-- the policy's was, and the input's file was not
+pub input_unread : (holds : List ℕ → List ℕ → Type 0) (lacks later : List ℕ → Type 0) (request : Request) (policy : List ℕ) (f : Failure)
+    → ((file : List ℕ) → later file → lacks file) → holds request.policy.now policy → IsUnread later request.input.now f → IsUnreadRun f holds lacks request
+input_unread holds lacks later request policy (failure.UnreadableFile told) lacked held unread = (inr (unread.0, (policy, held)), lacked told.now (subst later (sym unread.0) unread.1))
+input_unread holds lacks later request policy (failure.Fault fault.Memory) lacked held unread = inl refl
+input_unread holds lacks later request policy f lacked held none = absurd none
 
--- the file of a source was not read
-pub source_unread : (holds : List ℕ → List ℕ → Type 0) (lacks later : List ℕ → Type 0) (request : Request) (policy : List ℕ) (value : PolicyValue) (names : List (List ℕ)) (f : Failure)
-    → ((file : List ℕ) → later file → lacks file) → holds request.policy.now policy → policy_of policy ≡ Ok value → names ≡ sources_of value.pages
-    → AreUnread later names f → IsUnreadRun f holds lacks request
-source_unread holds lacks later request policy value names (failure.UnreadableSource told) lacked held read are unread = (
-  record { policy = policy; value = value; held = held; read = read; among = subst (λ (l : List (List ℕ)). Contains l told) are unread.0 },
+-- both were, and the file of a source was not
+pub source_unread : (holds between after : List ℕ → List ℕ → Type 0) (lacks later : List ℕ → Type 0) (request : Request) (policy input : List ℕ) (value : PolicyValue) (names : List (List ℕ)) (f : Failure)
+    → ((file : List ℕ) → later file → lacks file) → ((file bytes : List ℕ) → between file bytes → holds file bytes) → ((file bytes : List ℕ) → after file bytes → between file bytes)
+    → holds request.policy.now policy → between request.input.now input → policy_of policy ≡ Ok value → names ≡ sources_of value.pages
+    → AreUnread after later names f → IsUnreadRun f holds lacks request
+source_unread holds between after lacks later request policy input value names (failure.UnreadableSource told) lacked kept still held second read are unread = (
+  (input, kept request.input.now input second),
+  record { policy = policy; value = value; held = held; read = read; next = next_of holds after names (sources_of value.pages) told (λ file bytes h. kept file bytes (still file bytes h)) are unread.0 },
   lacked told unread.1,
 )
-source_unread holds lacks later request policy value names (failure.Fault fault.Memory) lacked held read are unread = inl refl
-source_unread holds lacks later request policy value names f lacked held read are none = absurd none
+source_unread holds between after lacks later request policy input value names (failure.Fault fault.Memory) lacked kept still held second read are unread = inl refl
+source_unread holds between after lacks later request policy input value names f lacked kept still held second read are none = absurd none
 
 -- where not all is read, nothing is written, and what refuses the inputs ends what was to be done with them
 pub unread_stops : (holds : List ℕ → List ℕ → Type 0) (lacks : List ℕ → Type 0) (ends : Fault → Result State Refusal → Type 0) (request : Request) (f : Failure) (known : Option (List ℕ))
     → ((refused : Fault) (read : Result State Refusal) → Refuses refused read → ends refused read) → IsUnreadRun f holds lacks request → FilesStop ends f holds lacks request known known
-unread_stops holds lacks ends request (failure.UnreadableFile name) known so unread = (unread.0, unread.1, keeps_same known)
-unread_stops holds lacks ends request (failure.UnreadableSource name) known so unread = (unread.0, unread.1, keeps_same known)
+unread_stops holds lacks ends request (failure.UnreadableFile name) known so unread = (unread, keeps_same known)
+unread_stops holds lacks ends request (failure.UnreadableSource name) known so unread = (unread, keeps_same known)
 unread_stops holds lacks ends request (failure.Fault f) known so (inl memory) = inl (memory, keeps_same known)
 unread_stops holds lacks ends request (failure.Fault f) known so (inr o) = inr (record { policy = o.policy; sources = o.sources; input = o.input; held = o.held; so = so f _ o.so })
 
@@ -209,18 +234,18 @@ module _ (holds : List ℕ → List ℕ → Type 0) (lacks : List ℕ → Type 0
   check_input_unread later request f lacked unread = check_input_by later request request.input f lacked refl unread
 
   -- nor a source's
-  pub check_source_unread : (later : List ℕ → Type 0) (request : CheckRequest) (policy : List ℕ) (value : PolicyValue) (names : List (List ℕ)) (f : Failure)
-      → ((file : List ℕ) → later file → lacks file) → holds request.policy.now policy → policy_of policy ≡ Ok value → names ≡ sources_of value.pages
-      → AreUnread later names f → RefusesCheck (plain f) holds lacks request
-  check_source_unread later request policy value names (failure.UnreadableSource told) lacked held read are unread = inl (
+  pub check_source_unread : (after : List ℕ → List ℕ → Type 0) (later : List ℕ → Type 0) (request : CheckRequest) (policy : List ℕ) (value : PolicyValue) (names : List (List ℕ)) (f : Failure)
+      → ((file : List ℕ) → later file → lacks file) → ((file bytes : List ℕ) → after file bytes → holds file bytes) → holds request.policy.now policy → policy_of policy ≡ Ok value → names ≡ sources_of value.pages
+      → AreUnread after later names f → RefusesCheck (plain f) holds lacks request
+  check_source_unread after later request policy value names (failure.UnreadableSource told) lacked kept held read are unread = inl (
     refl,
     (
-      record { policy = policy; value = value; held = held; read = read; among = subst (λ (l : List (List ℕ)). Contains l told) are unread.0 },
+      record { policy = policy; value = value; held = held; read = read; next = next_of holds after names (sources_of value.pages) told kept are unread.0 },
       lacked told unread.1,
     ),
   )
-  check_source_unread later request policy value names (failure.Fault fault.Memory) lacked held read are unread = inl (refl, tt)
-  check_source_unread later request policy value names f lacked held read are none = absurd none
+  check_source_unread after later request policy value names (failure.Fault fault.Memory) lacked kept held read are unread = inl (refl, tt)
+  check_source_unread after later request policy value names f lacked kept held read are none = absurd none
 
   -- the run of what the files hold ended by that fault
   pub run_refuses : (later : List ℕ → List ℕ → Type 0) (r : Refused) (request : CheckRequest) (policy input : List ℕ) (texts : List SourceText) (s t : Sources) (i : List ℕ) (value : PolicyValue) (f : Fault) (cause : Option InputCause) (old new : Option (List ℕ))

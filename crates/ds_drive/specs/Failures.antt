@@ -1,5 +1,5 @@
 -- Why the program could not do what its words ask for, and what was written then.
-use Rattle.std.specs.Prelude.{◌≡◌, ◌⊎◌, ℕ, List, map, Option, Result, Ok, All, Contains, ⊤}
+use Rattle.std.specs.Prelude.{◌≡◌, ◌⊎◌, ℕ, List, map, Option, Result, Ok, All, Contains, take, ⊤}
 use Rattle.std.specs.Io.KnownBytes.{Keeps}
 use Rattle.ds_policy.specs.PolicyText.{policy_of}
 use Rattle.ds_policy.specs.PolicyParts.{sources_of}
@@ -30,19 +30,27 @@ IsUnread lacks name (failure.UnreadableFile told) = (told.now ≡ name) × lacks
 IsUnread lacks name (failure.Fault Memory) = ⊤
 IsUnread lacks name f = ⊥
 
--- the file of one of these sources was not read
-abbrev pub AreUnread : (List ℕ → Type 0) → List (List ℕ) → Failure → Type 0
-AreUnread lacks names (failure.UnreadableSource told) = Contains names told × lacks told
-AreUnread lacks names (failure.Fault Memory) = ⊤
-AreUnread lacks names f = ⊥
+-- this file may be read
+abbrev pub MayBeRead : (List ℕ → List ℕ → Type 0) → List ℕ → Type 0
+MayBeRead holds file = (bytes : List ℕ) × holds file bytes
 
--- the policy that this file holds names this source
+-- this is one of these names, and the files of those before it may be read
+abbrev pub IsNext : (List ℕ → List ℕ → Type 0) → List (List ℕ) → List ℕ → Type 0
+IsNext holds names name = (among : Contains names name) × All (MayBeRead holds) (take among.0 names)
+
+-- the file of one of these sources was not read, and those before it were
+abbrev pub AreUnread : (List ℕ → List ℕ → Type 0) → (List ℕ → Type 0) → List (List ℕ) → Failure → Type 0
+AreUnread holds lacks names (failure.UnreadableSource told) = IsNext holds names told × lacks told
+AreUnread holds lacks names (failure.Fault Memory) = ⊤
+AreUnread holds lacks names f = ⊥
+
+-- the policy that this file holds names this source, and those before it may be read
 pub record NamesSource (holds : List ℕ → List ℕ → Type 0) (file name : List ℕ) : Type 0 where
   pub policy : List ℕ
   pub value : PolicyValue
   pub held : holds file policy
   pub read : policy_of policy ≡ Ok value
-  pub among : Contains (sources_of value.pages) name
+  pub next : IsNext holds (sources_of value.pages) name
 
 -- a policy, the sources that it names and an input, each as its file holds it
 pub record AreHeld (holds : List ℕ → List ℕ → Type 0) (request : Request) (policy : List ℕ) (sources : Sources) (input : List ℕ) : Type 0 where
@@ -65,16 +73,24 @@ pub record HoldsInputs (holds : List ℕ → List ℕ → Type 0) (request : Req
   pub read : policy_of policy ≡ Ok value
   pub held : AreHeld holds request policy sources input
 
+-- of the files that the words name this is the first that is lacking: the policy's, or the input's where that of the policy was read
+abbrev pub LacksFile : (List ℕ → List ℕ → Type 0) → (List ℕ → Type 0) → Request → List ℕ → Type 0
+LacksFile holds lacks request name = ((name ≡ request.policy.now) ⊎ ((name ≡ request.input.now) × MayBeRead holds request.policy.now)) × lacks name
+
+-- the file of this source is lacking, where that of the input was read and the policy names it
+abbrev pub LacksSource : (List ℕ → List ℕ → Type 0) → (List ℕ → Type 0) → Request → List ℕ → Type 0
+LacksSource holds lacks request name = MayBeRead holds request.input.now × NamesSource holds request.policy.now name × lacks name
+
 -- why not all that a run is made of is read: a file is lacking, memory ran out, or what was read is refused
 abbrev pub IsUnreadRun : Failure → (List ℕ → List ℕ → Type 0) → (List ℕ → Type 0) → Request → Type 0
-IsUnreadRun (failure.UnreadableFile name) holds lacks request = ((name.now ≡ request.policy.now) ⊎ (name.now ≡ request.input.now)) × lacks name.now
-IsUnreadRun (failure.UnreadableSource name) holds lacks request = NamesSource holds request.policy.now name × lacks name
+IsUnreadRun (failure.UnreadableFile name) holds lacks request = LacksFile holds lacks request name.now
+IsUnreadRun (failure.UnreadableSource name) holds lacks request = LacksSource holds lacks request name
 IsUnreadRun (failure.Fault fault) holds lacks request = (fault ≡ Memory) ⊎ OfHeld holds request (λ read. Refuses fault read)
 
 -- why each failure comes of what is done with the files of a run, and what it leaves: nothing is written before all files are read, and without a run want of memory alone is told of as a fault; a run ends by a fault as `ends` has it
 abbrev pub FilesStop : (Fault → Result State Refusal → Type 0) → Failure → (List ℕ → List ℕ → Type 0) → (List ℕ → Type 0) → Request → Option (List ℕ) → Option (List ℕ) → Type 0
-FilesStop ends (failure.UnreadableFile name) holds lacks request old new = ((name.now ≡ request.policy.now) ⊎ (name.now ≡ request.input.now)) × lacks name.now × Keeps old new
-FilesStop ends (failure.UnreadableSource name) holds lacks request old new = NamesSource holds request.policy.now name × lacks name × Keeps old new
+FilesStop ends (failure.UnreadableFile name) holds lacks request old new = LacksFile holds lacks request name.now × Keeps old new
+FilesStop ends (failure.UnreadableSource name) holds lacks request old new = LacksSource holds lacks request name × Keeps old new
 FilesStop ends (failure.Fault fault) holds lacks request old new = ((fault ≡ Memory) × Keeps old new) ⊎ OfHeld holds request (λ read. ends fault read)
 
 -- they were run, and the text of that run is written

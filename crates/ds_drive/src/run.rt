@@ -67,7 +67,7 @@ pub fn run_request<'a, F: Files, W: Write>(
 }
 
 /// Reads the policy, then the input, then, where the policy is good, each source by its name.
-#[tactic(auto, using(crate::proofs::Stops::policy_unread, crate::proofs::Stops::input_unread, crate::proofs::Stops::source_unread, crate::proofs::Stops::policy_unsound))]
+#[tactic(auto, using(crate::proofs::Stops::policy_unread, crate::proofs::Stops::input_unread, crate::proofs::Stops::policy_unsound))]
 pub(crate) fn read_inputs<'a, F: Files>(
     alloc: Global,
     request: &Request<'a>,
@@ -116,7 +116,6 @@ pub(crate) fn named_file<'a, F: Files>(
 }
 
 /// The texts of the files of these sources, in order.
-#[tactic(auto, using(crate::proofs::Stops::named))]
 pub(crate) fn source_texts<'a, F: Files>(
     alloc: Global,
     files: &mut F,
@@ -125,7 +124,7 @@ pub(crate) fn source_texts<'a, F: Files>(
     ensures names { IfOk result (λ texts. map (λ s. s.name) texts.items ≡ names.now) }
     ensures found { IfOk result
         (λ texts. All (λ s. F.holds files.old s.name s.text.items) texts.items) }
-    ensures unread { IfErr result (AreUnread (F.lacks files.old) names.now) }
+    ensures unread { IfErr result (AreUnread (F.holds files.old) (F.lacks files.old) names.now) }
     ensures kept { (file bytes : List ℕ) → F.holds files.new file bytes
         → F.holds files.old file bytes }
     ensures lacked { (file : List ℕ) → F.lacks files.new file → F.lacks files.old file }

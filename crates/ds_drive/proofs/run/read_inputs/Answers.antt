@@ -3,7 +3,7 @@ use Rattle.ds_drive.specs.declared.failure.Failure.{Failure}
 use Rattle.ds_drive.specs.declared.failure.Failure.TheVariants as failure
 use Rattle.ds_drive.specs.Failures.{IsUnreadRun}
 use Rattle.ds_drive.proofs.HeldFiles.{are_held}
-use Rattle.ds_drive.proofs.Stops.{policy_unsound}
+use Rattle.ds_drive.proofs.Stops.{if_err_is, policy_unsound, source_unread}
 use Rattle.ds_drive.proofs.run.read_inputs.Goals as goal
 
 pub returns-clause-ok : goal.returns-clause-ok
@@ -27,3 +27,11 @@ returns-in-Err-clause-err g c =
     subst (λ (f : Failure). IsUnreadRun f holds lacks c.args.request.now) (sym (ap failure.Fault c.from.ensures))
     (policy_unsound holds lacks c.in-Err.fault c.args.request.now c.in_ok-policy_text.policy_text.items c.in_ok-input.input.items c.in_ok-policy_text.ensures.found
     (c.in_ok-policy_text.ensures.kept _ _ c.in_ok-input.ensures.found) (search rules))
+
+pub returns-in_err-texts-clause-err : goal.returns-in_err-texts-clause-err
+returns-in_err-texts-clause-err g c =
+    if_err_is c.from_residual-in_err-texts.result c.in_err-texts.field-0.0 _ (search rules)
+    (source_unread (g.F.Files.holds c.args.files.now) (g.F.Files.holds c.named_file.new.files) (g.F.Files.holds c.named_file-2.new.files) (g.F.Files.lacks c.args.files.now) (g.F.Files.lacks c.named_file-2.new.files)
+    c.args.request.now c.in_ok-policy_text.policy_text.items c.in_ok-input.input.items c.in-Ok.policy _ _
+    (search rules) c.in_ok-policy_text.ensures.kept c.in_ok-input.ensures.kept c.in_ok-policy_text.ensures.found c.in_ok-input.ensures.found (search rules) c.sources.ensures.all
+    c.in_err-texts.ensures.unread)
