@@ -6,8 +6,7 @@ use Rattle.clap.specs.Words.{Text}
 use Rattle.ds_pagemap.specs.Machine.{State}
 use Rattle.ds_pagemap.specs.Text.{text_of}
 use Rattle.ds_pagemap.specs.Inputs.{Refusal, inputs}
-use Rattle.ds_station.specs.Headline.{Begins, Writes, WritesPrefix, WritesPart, WritesReally, EndsBy}
-use Rattle.ds_station.specs.Written.{WritesWholeGuarded}
+use Rattle.ds_station.specs.Headline.{Begins, WritesPrefix, WritesPart, EndsBy}
 use Rattle.ds_station.specs.declared.fault.Fault.{Fault}
 use Rattle.ds_station.specs.declared.fault.Fault.TheVariants as fault
 use Rattle.ds_station.proofs.Headlines.{keeps_same}
@@ -17,7 +16,7 @@ use Rattle.ds_drive.specs.declared.refused.Refused.{Refused}
 use Rattle.ds_words.specs.declared.words.CheckRequest.{CheckRequest}
 use Rattle.ds_words.specs.declared.words.ListRequest.{ListRequest}
 use Rattle.ds_words.specs.declared.words.Request.{Request}
-use Rattle.ds_drive.specs.Demo.{demo_inputs, demo_loaded}
+use Rattle.ds_drive.specs.Demo.{demo_inputs}
 use Rattle.ds_drive.specs.Done.{IsCutShort, IsDone}
 use Rattle.ds_drive.specs.Failures.{CutsFiles, FilesStop, IsUnread, OfHeld, RunsFiles, StopsBy}
 use Rattle.ds_drive.specs.Ran.{RunsGuarded, RunsReally}
@@ -98,14 +97,7 @@ pub check_cut : (words : List Text) (holds : List ℕ → List ℕ → Type 0) (
 check_cut words holds lacks request r old new asks (inl refused) = inl refused.1
 check_cut words holds lacks request r old new asks (inr cut) = inr (inr (inr (inr (inl (request, asks, cut.1)))))
 
--- What was done.
-
--- the demonstration
-pub demo_done : (words : List Text) (holds : List ℕ → List ℕ → Type 0) (old new : Option (List ℕ)) → AsksForDemo words → Begins demo_inputs (Writes old new 100) → Begins demo_loaded (WritesReally old new 100 63)
-    → Begins demo_inputs (WritesWholeGuarded old new 100) → IsDone words holds old new
-demo_done words holds old new asks runs real guarded = inl (asks, record { runs = runs; real = real; guarded = guarded })
-
--- a run of files
+-- a run of files that was done
 pub run_done : (words : List Text) (holds : List ℕ → List ℕ → Type 0) (request : Request) (old new : Option (List ℕ)) → AsksForRun words request → RunsFiles holds request old new → RunsReally holds request old new
     → RunsGuarded holds request old new → IsDone words holds old new
 run_done words holds request old new asks runs real guarded = inr (inl (request, asks, record { runs = runs; real = real; guarded = guarded }))

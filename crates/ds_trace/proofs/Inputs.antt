@@ -3,7 +3,7 @@ use Rattle.std.proofs.Common.{◌≡◌, ℕ, List, [], Option, Result, Ok, Err,
 use Rattle.std.specs.Prelude.{OnOk, OnErr, IfErr, ◌&&◌, codes, nat_le, nat_lt}
 use Rattle.std.specs.Io.KnownBytes.{Keeps}
 use Rattle.ds_word.specs.ResultBinding.{◌>>=◌}
-use Rattle.ds_policy.specs.Value.{PolicyValue, InputValue}
+use Rattle.ds_policy.specs.Value.{PolicyValue}
 use Rattle.ds_policy.specs.PolicyParts.{sources_of}
 use Rattle.ds_policy.specs.InputText.{input_of}
 use Rattle.ds_pagemap.specs.Machine.{State}

@@ -6,7 +6,7 @@ use Rattle.ds_drive.specs.Failures.{failure_number}
 use Rattle.ds_drive.specs.Listed.{Lists}
 use Rattle.ds_drive.specs.BareRuns.{RunsOrIsFaulty}
 use Rattle.ds_drive.proofs.BareLemmas.{bare_cut, bare_faulty}
-use Rattle.ds_drive.proofs.Cuts.{check_cut, demo_cut, demo_done, list_cut, run_cut, run_done}
+use Rattle.ds_drive.proofs.Cuts.{check_cut, demo_cut, list_cut, run_cut, run_done}
 use Rattle.ds_drive.proofs.Noting.{check_noted}
 use Rattle.ds_drive.proofs.Stops.{list_faulty, no_fault_is_done}
 use Rattle.ds_drive.proofs.TraceLemmas.{trace_cut, trace_done}
