@@ -7,6 +7,7 @@
 //!     part_cases SOURCE N     N instructions of one program ahead, for `bench/run --core`
 #![tactic(auto)]
 
+mod buffer;
 mod grants;
 mod machine;
 mod programs;
@@ -25,7 +26,7 @@ fn main(rt: HostRuntime) -> io::Result<ExitCode> {
     let well = match words.len() {
         3 => {
             let count = words[2].parse().unwrap_or(0);
-            run_ahead(&rt, rt.alloc(), words[1].as_str(), count)?
+            run_ahead(&rt, words[1].as_str(), count)?
         }
         2 => run_random(&rt, rt.alloc(), words[1].parse().unwrap_or(0))?,
         _ => run_all(&rt)?,
@@ -37,7 +38,7 @@ fn main(rt: HostRuntime) -> io::Result<ExitCode> {
 fn run_all(rt: &HostRuntime) -> io::Result<bool> {
     let cases = run_cases(rt)?;
     let grants = replay_all(rt)?;
-    let programs = run_programs(rt, rt.alloc())?;
+    let programs = run_programs(rt)?;
     let random = run_random(rt, rt.alloc(), RANDOM_PROGRAMS)?;
     Ok(cases && grants && programs && random)
 }

@@ -13,63 +13,68 @@ use program::{PROGRAMS, image_of};
 use random::Pair;
 pub use random::run_random;
 use std::alloc::Global;
-use std::io;
+use std::io::{self, ErrorKind};
 use std::rt::Files;
 
 /// Goes so many instructions of one program ahead.
-pub fn run_ahead<R: Files + Print>(
+pub fn run_ahead<R: Files + Print + AllocGlobal>(
     rt: &R,
-    alloc: Global,
     name: &str,
     count: u32,
 ) -> io::Result<bool> {
-    let image = image_of(rt, alloc, name)?;
-    let mut machine: Machine<Indexed<64, 8>> = Machine::blank(alloc)?;
-    machine.load(&image);
-    machine.leave_kernel();
-    machine.run(count);
-    let (pc, four) = (machine.core.pc, machine.core.registers[4]);
+    let image = image_of(rt, name)?;
+    let Some((pc, four)) = came_to(rt.alloc(), &image, count) else {
+        return Err(io::Error::from(ErrorKind::OutOfMemory));
+    };
     println!(rt; "{pc} {four}")?;
     Ok(true)
 }
 
-/// Goes through a program both ways; what register 17 holds then, if they went alike.
-fn go_both_ways<A: Lookaside, B: Lookaside>(alloc: Global, image: &Image) -> io::Result<Option<u32>>
+/// Where a program stands after so many instructions ahead, and what register 4 holds then.
+fn came_to(alloc: Global, image: &Image, count: u32) -> Option<(u32, u32)> {
+    let mut machine: Machine<Indexed<64, 8>> = Machine::blank(alloc)?;
+    Some(machine.come_to(image, count))
+}
+
+/// Goes through a program both ways; what register 17 holds then, if they went alike. None where
+/// there is no memory for it, too.
+fn go_both_ways<A: Lookaside, B: Lookaside>(alloc: Global, image: &Image) -> Option<u32>
     requires slots { A.SLOTS ≡ 64 }
     requires wired { A.WIRED ≡ 8 }
     requires ahead_slots { B.SLOTS ≡ 64 }
     requires ahead_wired { B.WIRED ≡ 8 }
 {
     let mut pair: Pair<A, B> = Pair::new(alloc)?;
-    if pair.go_alike(image) {
-        Ok(Some(pair.plain.core.registers[17]))
-    } else {
-        Ok(None)
-    }
+    pair.wrong(image)
 }
 
 /// Goes through a program both ways, over either buffer; whether both times they went alike.
-fn run_program<R: Files + Print>(rt: &R, alloc: Global, name: &str) -> io::Result<bool> {
-    let image = image_of(rt, alloc, name)?;
-    let over_indexed = go_both_ways::<Tlb<64, 8>, Indexed<64, 8>>(alloc, &image)?;
-    let over_tlb = go_both_ways::<Indexed<64, 8>, Tlb<64, 8>>(alloc, &image)?;
-    match (over_indexed, over_tlb) {
-        (Some(_), Some(wrong)) => {
-            println!(rt; "{name}: alike, {wrong} wrong")?;
-            Ok(true)
-        }
-        _ => {
-            println!(rt; "{name}: not alike")?;
-            Ok(false)
-        }
+fn run_program<R: Files + Print + AllocGlobal>(rt: &R, name: &str) -> io::Result<bool> {
+    let image = image_of(rt, name)?;
+    let wrong = wrong_of(rt.alloc(), &image);
+    match wrong {
+        Some(wrong) => tell_wrong(rt, name, wrong)?,
+        None => println!(rt; "{name}: not alike")?,
     }
+    Ok(wrong.is_some())
+}
+
+/// Tells what a program that went alike counted.
+fn tell_wrong<R: Print>(rt: &R, name: &str, wrong: u32) -> io::Result<()> {
+    println!(rt; "{name}: alike, {wrong} wrong")
+}
+
+/// What register 17 holds after a program, if both ways went alike over either buffer.
+fn wrong_of(alloc: Global, image: &Image) -> Option<u32> {
+    go_both_ways::<Tlb<64, 8>, Indexed<64, 8>>(alloc, image)?;
+    go_both_ways::<Indexed<64, 8>, Tlb<64, 8>>(alloc, image)
 }
 
 /// Goes through each program of data/; whether all went alike.
-pub fn run_programs<R: Files + Print>(rt: &R, alloc: Global) -> io::Result<bool> {
+pub fn run_programs<R: Files + Print + AllocGlobal>(rt: &R) -> io::Result<bool> {
     let mut all = true;
     for name in PROGRAMS {
-        all = run_program(rt, alloc, name)? && all;
+        all = run_program(rt, name)? && all;
     }
     Ok(all)
 }

@@ -24,15 +24,39 @@ pub fn answer<L: Lookaside>(
             let is_filled = replay.fill(*process, *address);
             said(alloc, if is_filled { "filled" } else { "nothing" })
         }
-        ("entry", [process, address]) => told_entry(alloc, replay.entry(*process, *address)),
-        ("addresses", [process]) => addresses(alloc, replay, *process),
         ("byte", [page]) => told_byte(alloc, byte_of(replay, *page)),
         ("frame", [page]) => told_frame(alloc, replay.frame(*page)),
+        _ => answer_of_table(alloc, replay, verb, operands),
+    }
+}
+
+/// What a step on the table of entries answers.
+fn answer_of_table<L: Lookaside>(
+    alloc: Global,
+    replay: &mut Replay<L>,
+    verb: &str,
+    operands: &[u32],
+) -> Result<Option<String>, AllocError> {
+    match (verb, operands) {
+        ("entry", [process, address]) => told_entry(alloc, replay.entry(*process, *address)),
+        ("addresses", [process]) => addresses(alloc, replay, *process),
+        ("next", []) => told_end(alloc, replay.grants.table().next_end()),
+        ("due", [process, now]) => told_due(alloc, replay, *process, *now),
+        _ => answer_of_spaces(alloc, replay, verb, operands),
+    }
+}
+
+/// What a step on the address spaces and the buffer answers.
+fn answer_of_spaces<L: Lookaside>(
+    alloc: Global,
+    replay: &mut Replay<L>,
+    verb: &str,
+    operands: &[u32],
+) -> Result<Option<String>, AllocError> {
+    match (verb, operands) {
         ("enter", [first, last]) => entered(alloc, replay, *first, *last),
         ("space", [process]) => told_space(alloc, replay.space_of(*process)),
         ("translation", [process, address]) => translation(alloc, replay, *process, *address),
-        ("next", []) => told_end(alloc, replay.grants.table().next_end()),
-        ("due", [process, now]) => told_due(alloc, replay, *process, *now),
         _ => called(alloc, replay, verb, operands),
     }
 }
@@ -120,6 +144,20 @@ fn word_of(right: Right) -> &'static str {
     }
 }
 
+/// Adds the number of an entry's page, or - for none.
+fn push_page(text: &mut String, page: Option<u32>) -> Result<(), AllocError> {
+    match page {
+        Some(page) => write!(text, " {page}"),
+        None => text.push_str(" -"),
+    }
+}
+
+/// Adds an entry's rule, whether it may be given on, and who gave it.
+fn push_rule(text: &mut String, rule: u32, give: bool, giver: u32) -> Result<(), AllocError> {
+    let give = if give { "give" } else { "keep" };
+    write!(text, " {rule} {give} {giver}")
+}
+
 /// Adds where an entry was shared from, if it was.
 fn push_parent(text: &mut String, parent: Option<EntryPlace>) -> Result<(), AllocError> {
     match parent {
@@ -166,12 +204,9 @@ fn told_entry(alloc: Global, grant: Option<Grant>) -> Result<Option<String>, All
     let Some(grant) = grant else {
         return said(alloc, "none");
     };
-    let (right, rule, giver) = (word_of(grant.right), grant.rule, grant.giver);
-    let give = if grant.give { "give" } else { "keep" };
-    let mut text = match grant.page {
-        Some(page) => format!(in alloc; "{right} {page} {rule} {give} {giver}")?,
-        None => format!(in alloc; "{right} - {rule} {give} {giver}")?,
-    };
+    let mut text = String::from_str(alloc, word_of(grant.right))?;
+    push_page(&mut text, grant.page)?;
+    push_rule(&mut text, grant.rule, grant.give, grant.giver)?;
     push_parent(&mut text, grant.parent)?;
     push_end(&mut text, grant.until)?;
     Ok(Some(text))
@@ -250,17 +285,38 @@ fn translation<L: Lookaside>(
     let fetched = frame_of(&mut replay.buffer, Kind::Fetch, address, asid);
     let loaded = frame_of(&mut replay.buffer, Kind::Load, address, asid);
     let stored = frame_of(&mut replay.buffer, Kind::Store, address, asid);
-    match (loaded, stored) {
-        (None, None) if fetched.is_none() => said(alloc, "none"),
-        (Some(frame), None) if fetched == loaded => told_lookup(alloc, "read", frame),
-        (Some(frame), Some(_)) if fetched == loaded && stored == loaded => {
-            told_lookup(alloc, "write", frame)
-        }
-        _ => said(alloc, "mixed"),
+    match right_of(fetched, loaded, stored) {
+        Some(right) => told_lookup(alloc, right, loaded),
+        None => said(alloc, "mixed"),
+    }
+}
+
+/// What may be done with the frame to which accesses of the three kinds lead; none where they do
+/// not lead to one.
+fn right_of(
+    fetched: Option<u32>,
+    loaded: Option<u32>,
+    stored: Option<u32>,
+) -> Option<&'static str> {
+    if fetched != loaded {
+        None
+    } else if stored.is_none() {
+        Some("read")
+    } else if stored == loaded {
+        Some("write")
+    } else {
+        None
     }
 }
 
 /// A frame, and what may be done with it.
-fn told_lookup(alloc: Global, right: &str, frame: u32) -> Result<Option<String>, AllocError> {
-    Ok(Some(format!(in alloc; "{right} {frame}")?))
+fn told_lookup(
+    alloc: Global,
+    right: &str,
+    frame: Option<u32>,
+) -> Result<Option<String>, AllocError> {
+    match frame {
+        Some(frame) => Ok(Some(format!(in alloc; "{right} {frame}")?)),
+        None => said(alloc, "none"),
+    }
 }

@@ -125,14 +125,26 @@ pub fn fits_at<L: Lookaside>(replay: &Replay<L>, places: &[EntryPlace]) -> bool 
 pub fn fits_after<L: Lookaside>(replay: &Replay<L>, verb: &str, operands: &[u32]) -> bool {
     match (verb, operands) {
         ("give", [_, _, process, address, 3]) | ("split", [process, address]) => {
-            fits(replay, *process, *address >> 22) && fits_everywhere(replay)
+            fits_at_all(replay, *process, *address)
         }
         ("give", [_, _, process, address, _]) | ("take", [_, process, address]) => {
             fits(replay, *process, *address >> 22)
         }
+        _ => fits_after_other(replay, verb, operands),
+    }
+}
+
+/// The same of a call that neither gives nor takes.
+fn fits_after_other<L: Lookaside>(replay: &Replay<L>, verb: &str, operands: &[u32]) -> bool {
+    match (verb, operands) {
         ("end", [process]) => fits_all(replay, *process),
         ("expire", [_]) => fits_everywhere(replay),
         (_, [process, address, ..]) => fits(replay, *process, *address >> 22),
         _ => true,
     }
+}
+
+/// Whether the words of a region lie in memory, and those of all entries.
+fn fits_at_all<L: Lookaside>(replay: &Replay<L>, process: u32, address: u32) -> bool {
+    fits(replay, process, address >> 22) && fits_everywhere(replay)
 }

@@ -14,18 +14,28 @@ fn push_pages(text: &mut String, pages: u32) -> Result<(), AllocError> {
 /// Adds one rule, whose right has no end where that is 0.
 fn push_rule(text: &mut String, rule: [u32; 6]) -> Result<(), AllocError> {
     let [process, address, page, right, give, until] = rule;
-    let right = if right == 1 { "write" } else { "read" };
     write!(
         text,
-        "[[rule]]\nprocess = {process}\naddress = {address}\nright = \"{right}\"\npage = \"p{page}\"\n"
+        "[[rule]]\nprocess = {process}\naddress = {address}\npage = \"p{page}\"\n"
     )?;
-    if give == 1 {
-        text.push_str("give = true\n")?;
-    }
+    push_rights(text, right == 1, give == 1)?;
     if until == 0 {
         return Ok(());
     }
     write!(text, "until = {until}\n")
+}
+
+/// Adds what a rule's right is, and that it may be given on, if it may.
+fn push_rights(text: &mut String, writes: bool, gives: bool) -> Result<(), AllocError> {
+    text.push_str(if writes {
+        "right = \"write\"\n"
+    } else {
+        "right = \"read\"\n"
+    })?;
+    if gives {
+        text.push_str("give = true\n")?;
+    }
+    Ok(())
 }
 
 /// Adds the rules, each of six numbers.

@@ -3,24 +3,22 @@
 ghost use Rattle.std.specs.Prelude.{◌≡◌, ◌<◌, ◌≤◌, true, length, IfSome, Some};
 ghost use Rattle.ds_policy.specs.Pages.{entry_at};
 
+use crate::buffer::new_buffer;
 use crate::grants::frames::{FIRST_FRAME, Frames, PAGES, named_pages, note_pages};
 use ds_asid::Asids;
 use ds_asm::Image;
 use ds_grants::{GrantFault, Grants};
-use ds_mem::{Memory, OutOfMemory};
+use ds_mem::Memory;
 use ds_policy::{Grant, Policy, Right};
 use ds_tables::Tables;
 use ds_tlb::{Entry, Lookaside};
-use std::alloc::Global;
+use std::alloc::{AllocError, Global};
 
 /// The most processes.
 pub const PROCESSES: u32 = 100;
 
 /// The mode of a give by which the receiver gets a copy.
 const COPY: u32 = 3;
-
-/// Where Random starts.
-const RANDOM: usize = 63;
 
 /// What a file is replayed on.
 #[derive(Drop)]
@@ -45,19 +43,25 @@ impl<L: Lookaside> Replay<L> {
         processes: u32,
         frames: u32,
         named: u32,
-    ) -> Result<Replay<L>, OutOfMemory>
+    ) -> Result<Replay<L>, AllocError>
         requires slots { L.SLOTS ≡ 64 }
         requires wired { L.WIRED ≡ 8 }
     {
         let processes = processes.min(PROCESSES) as usize;
         let frames = frames.min(PAGES as u32);
         let named = named.min(frames);
+        let Ok(grants) = Grants::empty(alloc, processes, frames, named) else {
+            return Err(AllocError);
+        };
+        let Ok(memory) = Memory::new(alloc) else {
+            return Err(AllocError);
+        };
         Ok(Replay {
-            grants: Grants::empty(alloc, processes, frames, named)?,
+            grants,
             frames,
             named,
             lying: Frames::new(),
-            memory: Memory::new(alloc)?,
+            memory,
             tables: Tables::new(processes),
             spaces: Asids::new(),
             buffer: new_buffer(),
@@ -65,7 +69,7 @@ impl<L: Lookaside> Replay<L> {
     }
 
     /// Grants of a policy none of whose pages has a source; none of another policy.
-    pub fn of_policy(alloc: Global, policy: &Policy) -> Result<Option<Replay<L>>, OutOfMemory>
+    pub fn of_policy(alloc: Global, policy: &Policy) -> Result<Option<Replay<L>>, AllocError>
         requires slots { L.SLOTS ≡ 64 }
         requires wired { L.WIRED ≡ 8 }
     {
@@ -73,11 +77,13 @@ impl<L: Lookaside> Replay<L> {
             return Ok(None);
         }
         let images: [Image; 0] = [];
-        let mut memory = Memory::new(alloc)?;
+        let Ok(mut memory) = Memory::new(alloc) else {
+            return Err(AllocError);
+        };
         let mut tables = Tables::new(policy.processes().len());
         let mut spaces = Asids::new();
         let mut buffer = new_buffer();
-        let grants = Grants::new(
+        let Ok(grants) = Grants::new(
             alloc,
             policy,
             images.as_slice(),
@@ -85,7 +91,9 @@ impl<L: Lookaside> Replay<L> {
             &mut tables,
             &mut spaces,
             &mut buffer,
-        )?;
+        ) else {
+            return Err(AllocError);
+        };
         Ok(Some(Replay {
             grants,
             frames: policy.frames(),
@@ -124,16 +132,29 @@ impl<L: Lookaside> Replay<L> {
                 self.give(*caller, *address, *receiver, *to, *mode)
             }
             ("grant", [process, address, page, right @ 0..=1, give @ 0..=1, rule]) => {
-                let right = if *right == 1 {
-                    Right::Write
-                } else {
-                    Right::Read
-                };
-                self.grant(*process, *address, *page, right, *give == 1, *rule)
+                self.grant(
+                    *process,
+                    *address,
+                    *page,
+                    right_of(*right),
+                    *give == 1,
+                    *rule,
+                )
             }
             ("drop", [process, address, by_command @ 0..=1]) => {
                 self.drop_page(*process, *address, *by_command == 1)
             }
+            _ => self.call_without_page(verb, operands),
+        }
+    }
+
+    /// The outcome of a call that names no page.
+    fn call_without_page(
+        &mut self,
+        verb: &str,
+        operands: &[u32],
+    ) -> Option<Result<(), GrantFault>> {
+        match (verb, operands) {
             ("end", [process]) => self.end(*process),
             ("split", [process, address]) => self.split(*process, *address),
             ("expire", [now]) => self.expire(*now),
@@ -143,23 +164,50 @@ impl<L: Lookaside> Replay<L> {
 
     /// The outcome of a call that is asked whoever the process is.
     fn call_anyhow(&mut self, verb: &str, operands: &[u32]) -> Option<Result<(), GrantFault>> {
-        let (memory, tables) = (&mut self.memory, &mut self.tables);
-        let (spaces, buffer) = (&mut self.spaces, &mut self.buffer);
-        let outcome = match (verb, operands) {
-            ("take", [caller, process, address]) => {
-                self.grants.take(*caller, *process, *address, memory, tables, spaces, buffer)
-            }
-            ("revoke", [process, address, rule]) => {
-                self.grants
-                    .revoke(*process, *address, *rule, memory, tables, spaces, buffer)
-            }
-            ("narrow", [process, address]) => {
-                self.grants
-                    .narrow(*process, *address, memory, tables, spaces, buffer)
-            }
-            _ => return None,
-        };
-        Some(outcome)
+        match (verb, operands) {
+            ("take", [caller, process, address]) => Some(self.take(*caller, *process, *address)),
+            ("revoke", [process, address, rule]) => Some(self.revoke(*process, *address, *rule)),
+            ("narrow", [process, address]) => Some(self.narrow(*process, *address)),
+            _ => None,
+        }
+    }
+
+    /// A process takes back what it gave.
+    fn take(&mut self, caller: u32, process: u32, address: u32) -> Result<(), GrantFault> {
+        self.grants.take(
+            caller,
+            process,
+            address,
+            &mut self.memory,
+            &mut self.tables,
+            &mut self.spaces,
+            &mut self.buffer,
+        )
+    }
+
+    /// The operator revokes an entry.
+    fn revoke(&mut self, process: u32, address: u32, rule: u32) -> Result<(), GrantFault> {
+        self.grants.revoke(
+            process,
+            address,
+            rule,
+            &mut self.memory,
+            &mut self.tables,
+            &mut self.spaces,
+            &mut self.buffer,
+        )
+    }
+
+    /// The operator narrows an entry.
+    fn narrow(&mut self, process: u32, address: u32) -> Result<(), GrantFault> {
+        self.grants.narrow(
+            process,
+            address,
+            &mut self.memory,
+            &mut self.tables,
+            &mut self.spaces,
+            &mut self.buffer,
+        )
     }
 
     /// A process gives what it has.
@@ -355,13 +403,11 @@ impl<L: Lookaside> Replay<L> {
     }
 }
 
-/// A buffer with nothing in it.
-fn new_buffer<L: Lookaside>() -> L
-    requires slots { L.SLOTS ≡ 64 }
-    requires wired { L.WIRED ≡ 8 }
-{
-    match L::new(RANDOM) {
-        Ok(buffer) => buffer,
-        Err(_) => unreachable!(),
+/// The right of a number: 1 to write, or else to read.
+fn right_of(number: u32) -> Right {
+    if number == 1 {
+        Right::Write
+    } else {
+        Right::Read
     }
 }

@@ -7,7 +7,6 @@ use crate::grants::replay::Replay;
 use crate::grants::words::operands;
 use crate::machine::case::step_of;
 use crate::machine::told::said;
-use ds_mem::OutOfMemory;
 use ds_tlb::{Indexed, Lookaside, Tlb};
 use std::alloc::{AllocError, Global};
 use std::io::{Print, Write};
@@ -37,22 +36,6 @@ struct Tally {
     differ: u64,
 }
 
-/// Grants anew.
-fn restarted<L: Lookaside>(
-    alloc: Global,
-    processes: u32,
-    frames: u32,
-    named: u32,
-) -> Result<Replay<L>, AllocError>
-    requires slots { L.SLOTS ≡ 64 }
-    requires wired { L.WIRED ≡ 8 }
-{
-    match Replay::new(alloc, processes, frames, named) {
-        Ok(replay) => Ok(replay),
-        Err(OutOfMemory) => Err(AllocError),
-    }
-}
-
 /// Grants anew, of a policy; none where there is no such policy.
 fn begun<L: Lookaside>(
     alloc: Global,
@@ -64,12 +47,9 @@ fn begun<L: Lookaside>(
     requires slots { L.SLOTS ≡ 64 }
     requires wired { L.WIRED ≡ 8 }
 {
-    let Some(policy) = policy_of(alloc, processes, frames, named, rules)? else {
-        return Ok(None);
-    };
-    match Replay::of_policy(alloc, &policy) {
-        Ok(replay) => Ok(replay),
-        Err(OutOfMemory) => Err(AllocError),
+    match policy_of(alloc, processes, frames, named, rules)? {
+        Some(policy) => Replay::of_policy(alloc, &policy),
+        None => Ok(None),
     }
 }
 
@@ -113,41 +93,70 @@ fn answered<L: Lookaside>(
 {
     match (verb, operands) {
         ("start", [processes, frames, named]) => {
-            *replay = restarted(alloc, *processes, *frames, *named)?;
+            start(alloc, replay, *processes, *frames, *named)?;
             said(alloc, "ok")
         }
         ("begin", [processes, frames, named, rules @ ..]) => {
-            match begun(alloc, *processes, *frames, *named, rules)? {
-                Some(begun) => *replay = begun,
-                None => return Ok(None),
-            }
-            said(alloc, "ok")
+            begin(alloc, replay, *processes, *frames, *named, rules)
         }
         _ => answer(alloc, replay, verb, operands),
     }
 }
 
-/// What a line asks for, as the text that comes of it; none where nobody can ask so.
-fn came_of<L: Lookaside>(
+/// Begins anew, with no entries.
+fn start<L: Lookaside>(
     alloc: Global,
     replay: &mut Replay<L>,
-    asked: &str,
+    processes: u32,
+    frames: u32,
+    named: u32,
+) -> Result<(), AllocError>
+    requires slots { L.SLOTS ≡ 64 }
+    requires wired { L.WIRED ≡ 8 }
+{
+    *replay = Replay::new(alloc, processes, frames, named)?;
+    Ok(())
+}
+
+/// Begins anew, with the entries of a policy; `ok`, or none where there is no such policy.
+fn begin<L: Lookaside>(
+    alloc: Global,
+    replay: &mut Replay<L>,
+    processes: u32,
+    frames: u32,
+    named: u32,
+    rules: &[u32],
 ) -> Result<Option<String>, AllocError>
     requires slots { L.SLOTS ≡ 64 }
     requires wired { L.WIRED ≡ 8 }
 {
-    let (verb, rest) = step_of(asked);
-    match operands(alloc, rest)? {
-        Some(operands) => answered(alloc, replay, verb, &operands),
+    match begun(alloc, processes, frames, named, rules)? {
+        Some(begun) => {
+            *replay = begun;
+            said(alloc, "ok")
+        }
         None => Ok(None),
     }
 }
 
-/// The text that came, or words that no line wants.
-fn text_of(came: &Option<String>) -> &str {
+/// What a line asks for, as the text that comes of it; words that no line wants where nobody can ask
+/// so.
+fn came_of<L: Lookaside>(
+    alloc: Global,
+    replay: &mut Replay<L>,
+    asked: &str,
+) -> Result<String, AllocError>
+    requires slots { L.SLOTS ≡ 64 }
+    requires wired { L.WIRED ≡ 8 }
+{
+    let (verb, rest) = step_of(asked);
+    let came = match operands(alloc, rest)? {
+        Some(operands) => answered(alloc, replay, verb, &operands)?,
+        None => None,
+    };
     match came {
-        Some(came) => came.as_str(),
-        None => "nothing, since nobody can ask so",
+        Some(came) => Ok(came),
+        None => String::from_str(alloc, "nothing, since nobody can ask so"),
     }
 }
 
@@ -201,15 +210,55 @@ fn replay_line<L: Lookaside, W: Write>(
         return Ok(());
     }
     let came = came_of(alloc, replay, asked)?;
-    let came = text_of(&came);
-    tally.count(is_call(asked), came == wanted);
-    if came == wanted || tally.differ > TOLD {
+    let is_as_wanted = came.as_str() == wanted;
+    tally.count(is_call(asked), is_as_wanted);
+    if is_as_wanted || tally.differ > TOLD {
         return Ok(());
     }
+    write_difference(place, asked, wanted, came.as_str(), out)
+}
+
+/// Writes what came of a line in place of what has to be answered.
+fn write_difference<W: Write>(
+    place: (&str, usize),
+    asked: &str,
+    wanted: &str,
+    came: &str,
+    out: &mut W,
+) -> io::Result<()> {
     let (file, line) = place;
     write!(
         out,
         "{file}:{line}: {asked}: wanted {wanted}, came {came}\n"
+    )
+}
+
+/// Replays the lines of a file, and writes the first of those that differ; how they came out.
+fn replay_lines<L: Lookaside, W: Write>(
+    alloc: Global,
+    replay: &mut Replay<L>,
+    file: &str,
+    text: &str,
+    out: &mut W,
+) -> io::Result<Tally>
+    requires slots { L.SLOTS ≡ 64 }
+    requires wired { L.WIRED ≡ 8 }
+{
+    let mut tally = Tally::new();
+    let mut number: usize = 0;
+    for line in text.lines() {
+        number = number.saturating_add(1);
+        replay_line(alloc, replay, &mut tally, (file, number), line, out)?;
+    }
+    Ok(tally)
+}
+
+/// Writes how the lines of a file came out.
+fn write_tally<W: Write>(file: &str, buffer: &str, tally: Tally, out: &mut W) -> io::Result<()> {
+    let (calls, others, differ) = (tally.calls, tally.others, tally.differ);
+    write!(
+        out,
+        "{file}, {buffer} buffer: {calls} calls, {others} other lines, {differ} differ\n"
     )
 }
 
@@ -225,18 +274,10 @@ fn report<L: Lookaside, R: Files + Print + AllocGlobal>(
 {
     let text = fs::read_to_string(rt, file)?;
     let out = &mut io::writer(rt);
-    let mut replay = restarted::<L>(rt.alloc(), 0, 0, 0)?;
-    let mut tally = Tally::new();
-    for (i, line) in text.as_str().lines().enumerate() {
-        let place = (file, i.saturating_add(1));
-        replay_line(rt.alloc(), &mut replay, &mut tally, place, line, out)?;
-    }
-    let (calls, others, differ) = (tally.calls, tally.others, tally.differ);
-    write!(
-        out,
-        "{file}, {buffer} buffer: {calls} calls, {others} other lines, {differ} differ\n"
-    )?;
-    Ok(differ == 0)
+    let mut replay: Replay<L> = Replay::new(rt.alloc(), 0, 0, 0)?;
+    let tally = replay_lines(rt.alloc(), &mut replay, file, text.as_str(), out)?;
+    write_tally(file, buffer, tally, out)?;
+    Ok(tally.differ == 0)
 }
 
 /// Replays each file over either buffer, and tells which lines do not come out as they have to;

@@ -1,4 +1,5 @@
 //! Steps on the bus.
+ghost use Rattle.std.specs.Prelude.{◌≤◌};
 
 use crate::machine::told::Answer;
 use ds_dev::Bus;
@@ -14,12 +15,19 @@ pub fn answer(bus: &mut Bus, step: &str, operands: &[u32]) -> Option<Answer> {
             Some(Answer::Said(if taken { "taken" } else { "lost" }))
         }
         ("tick", [ticks @ 1..=2, times]) => {
-            for _ in 0..*times {
-                bus.tick(*ticks);
-            }
+            tick(bus, *ticks, *times);
             Some(Answer::Said("done"))
         }
         _ => access(bus, size_of(step)?, operands),
+    }
+}
+
+/// Lets so many ticks pass, so many times.
+fn tick(bus: &mut Bus, ticks: u32, times: u32)
+    requires { (1 ≤ ticks) × (ticks ≤ 2) }
+{
+    for _ in 0..times {
+        bus.tick(ticks);
     }
 }
 

@@ -44,12 +44,17 @@ impl<'a> Line<'a> {
 pub fn numbers(alloc: Global, text: &str) -> Result<Option<Vec<u32>>, AllocError> {
     let mut numbers = Vec::new(alloc);
     for word in text.split_whitespace() {
-        match u32::from_str_radix(word, 16) {
-            Ok(number) => numbers.push(number)?,
-            Err(_) => return Ok(None),
+        match number(word) {
+            Some(number) => numbers.push(number)?,
+            None => return Ok(None),
         }
     }
     Ok(Some(numbers))
+}
+
+/// A number in hexadecimal digits.
+fn number(word: &str) -> Option<u32> {
+    u32::from_str_radix(word, 16).ok()
 }
 
 /// The name of a step and what follows it.

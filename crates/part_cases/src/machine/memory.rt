@@ -19,6 +19,18 @@ pub fn answer(
         ("put", [place, value]) => put(memory, *place, *value),
         ("byte", [frame, offset]) => byte(memory, *frame, *offset),
         ("set", [frame, offset, value]) => set(memory, *frame, *offset, *value),
+        _ => of_frames(memory, tables, step, operands),
+    }
+}
+
+/// What whole frames answer to a step.
+fn of_frames(
+    memory: &mut Memory,
+    tables: &mut Tables,
+    step: &str,
+    operands: &[u32],
+) -> Option<u32> {
+    match (step, operands) {
         ("fill", [frame, value]) => fill(memory, *frame, *value),
         ("filled", [frame]) => filled(memory, *frame),
         ("frames", [value]) => Some(frames(memory, *value)),

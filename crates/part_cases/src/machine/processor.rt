@@ -1,6 +1,7 @@
 //! The processor in which the cases' programs run.
 ghost use Rattle.std.specs.Prelude.{◌≡◌};
 
+use crate::buffer::new_buffer;
 use ds_core::Core;
 use ds_cp0::{Cp0, register};
 use ds_dev::Bus;
@@ -27,11 +28,11 @@ fn page(vpn: u32, pfn: u32, d: bool, v: bool) -> Entry {
 
 /// A buffer with the program's page, and after it a page that is not valid, a clean one, one
 /// where nothing is, and the serial lines; page 00406 in address space 2.
-fn new_tlb<L: Lookaside>() -> Option<L>
+fn new_tlb<L: Lookaside>() -> L
     requires slots { L.SLOTS ≡ 64 }
     requires wired { L.WIRED ≡ 8 }
 {
-    let mut tlb = L::new(63).ok()?;
+    let mut tlb: L = new_buffer();
     tlb.write(8, page(0x400, 1, true, true));
     tlb.write(9, page(0x401, 1, true, false));
     tlb.write(10, page(0x402, 1, false, true));
@@ -44,12 +45,12 @@ fn new_tlb<L: Lookaside>() -> Option<L>
             ..page(0x406, 1, true, true)
         },
     );
-    Some(tlb)
+    tlb
 }
 
 /// A processor in address space 1 whose registers hold 7 but register 0, and register 8 what is
 /// asked for.
-pub fn new_core<L: Lookaside>(status: u32, pc: u32, eighth: u32) -> Option<Core<L>>
+pub fn new_core<L: Lookaside>(status: u32, pc: u32, eighth: u32) -> Core<L>
     requires slots { L.SLOTS ≡ 64 }
     requires wired { L.WIRED ≡ 8 }
 {
@@ -59,7 +60,7 @@ pub fn new_core<L: Lookaside>(status: u32, pc: u32, eighth: u32) -> Option<Core<
     let mut cp0 = Cp0::new();
     cp0.write(register::STATUS, status);
     cp0.write(register::ENTRY_HI, 0x40);
-    Some(Core {
+    Core {
         registers,
         hi: 0,
         lo: 0,
@@ -68,8 +69,8 @@ pub fn new_core<L: Lookaside>(status: u32, pc: u32, eighth: u32) -> Option<Core<
         next: pc.wrapping_add(4),
         slot: false,
         cp0,
-        tlb: new_tlb()?,
-    })
+        tlb: new_tlb(),
+    }
 }
 
 /// Puts a program's words one after the other at the programs' place.

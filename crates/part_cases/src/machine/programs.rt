@@ -3,7 +3,7 @@ ghost use Rattle.std.specs.Prelude.{◌≡◌};
 
 use crate::machine::processor::{KERNEL, new_core, put_program};
 use crate::machine::told::Answer;
-use ds_core::Event;
+use ds_core::{Core, Event};
 use ds_cp0::{Cp0, ExceptionCode, register};
 use ds_dev::Bus;
 use ds_tlb::Lookaside;
@@ -18,7 +18,7 @@ pub fn fault_of<L: Lookaside>(bus: &mut Bus, given: &[u32]) -> Option<Answer>
         return None;
     };
     put_program(bus, words);
-    let mut core = new_core::<L>(*status, *pc, *eighth)?;
+    let mut core: Core<L> = new_core(*status, *pc, *eighth);
     for _ in 0..4 {
         if let Event::Raised(code) = core.step(bus) {
             return Some(fault(code, &core.cp0, core.pc));
@@ -41,16 +41,16 @@ fn fault(code: ExceptionCode, cp0: &Cp0, pc: u32) -> Answer {
 
 /// What registers 4 and 9 hold after the words that are given, run by the kernel with register 8
 /// at their first.
-pub fn registers_behind<L: Lookaside>(bus: &mut Bus, words: &[u32]) -> Option<Answer>
+pub fn registers_behind<L: Lookaside>(bus: &mut Bus, words: &[u32]) -> Answer
     requires slots { L.SLOTS ≡ 64 }
     requires wired { L.WIRED ≡ 8 }
 {
     put_program(bus, words);
-    let mut core = new_core::<L>(0, KERNEL, KERNEL)?;
+    let mut core: Core<L> = new_core(0, KERNEL, KERNEL);
     for _ in words {
         core.step(bus);
     }
-    Some(Answer::Two(core.registers[4], core.registers[9]))
+    Answer::Two(core.registers[4], core.registers[9])
 }
 
 /// What Index, EntryHi, EntryLo and register 9 hold after the kernel's words. Given are Index,
@@ -63,7 +63,7 @@ pub fn entry_behind<L: Lookaside>(bus: &mut Bus, given: &[u32]) -> Option<Answer
         return None;
     };
     put_program(bus, words);
-    let mut core = new_core::<L>(0, KERNEL, 0)?;
+    let mut core: Core<L> = new_core(0, KERNEL, 0);
     put_entry(&mut core.cp0, *index, *high, *low);
     for _ in words {
         core.step(bus);

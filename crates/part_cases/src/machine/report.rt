@@ -28,17 +28,31 @@ fn new_machine(alloc: Global) -> io::Result<Machine> {
 fn is_as_wanted<W: Write>(
     alloc: Global,
     subject: Subject,
+    name: &str,
     machine: &mut Machine,
     case: &Case<'_>,
     out: &mut W,
 ) -> io::Result<bool> {
-    let (given, wanted) = (case.given, case.wanted);
-    match subject.outcome(alloc, machine, given)? {
-        Some(came) if came.as_str() == wanted => return Ok(true),
-        Some(came) => write!(out, "{subject}: {given}: wanted {wanted}, came {came}\n")?,
-        None => write!(out, "{subject}: {given}: no case that can be run\n")?,
+    let came = match subject.outcome(alloc, machine, case.given)? {
+        Some(came) => came,
+        None => String::from_str(alloc, "no case that can be run")?,
+    };
+    let is_as_wanted = came.as_str() == case.wanted;
+    if !is_as_wanted {
+        write_difference(name, case, came.as_str(), out)?;
     }
-    Ok(false)
+    Ok(is_as_wanted)
+}
+
+/// Writes what came of a case in place of what has to come.
+fn write_difference<W: Write>(
+    name: &str,
+    case: &Case<'_>,
+    came: &str,
+    out: &mut W,
+) -> io::Result<()> {
+    let (given, wanted) = (case.given, case.wanted);
+    write!(out, "{name}: {given}: wanted {wanted}, came {came}\n")
 }
 
 /// How the cases of a file came out.
@@ -63,6 +77,7 @@ impl Tally {
 fn run_line<W: Write>(
     alloc: Global,
     subject: Subject,
+    name: &str,
     machine: &mut Machine,
     tally: &mut Tally,
     line: &str,
@@ -71,36 +86,73 @@ fn run_line<W: Write>(
     match Line::read(line) {
         Line::Blank => {}
         Line::Title => *machine = new_machine(alloc)?,
-        Line::Case(case) => tally.count(is_as_wanted(alloc, subject, machine, &case, out)?),
+        Line::Case(case) => {
+            let is_right = is_as_wanted(alloc, subject, name, machine, &case, out)?;
+            tally.count(is_right);
+        }
     }
     Ok(())
 }
 
-/// Writes a line for each case that did not come out as it has to, and one that tells how many did;
-/// whether all did.
-fn report<W: Write>(alloc: Global, subject: Subject, text: &str, out: &mut W) -> io::Result<bool> {
-    let mut machine = new_machine(alloc)?;
+/// Runs the cases of a text, from a machine on; how they came out.
+fn run_lines<W: Write>(
+    alloc: Global,
+    subject: Subject,
+    name: &str,
+    machine: &mut Machine,
+    text: &str,
+    out: &mut W,
+) -> io::Result<Tally> {
     let mut tally = Tally {
         as_wanted: 0,
         others: 0,
     };
     for line in text.lines() {
-        run_line(alloc, subject, &mut machine, &mut tally, line, out)?;
+        run_line(alloc, subject, name, machine, &mut tally, line, out)?;
     }
+    Ok(tally)
+}
+
+/// Writes a line for each case that did not come out as it has to, and one that tells how many did;
+/// whether all did.
+fn report<W: Write>(
+    alloc: Global,
+    subject: Subject,
+    name: &str,
+    text: &str,
+    out: &mut W,
+) -> io::Result<bool> {
+    let mut machine = new_machine(alloc)?;
+    let tally = run_lines(alloc, subject, name, &mut machine, text, out)?;
     let as_wanted = tally.as_wanted;
-    write!(out, "{subject}: {as_wanted} cases as wanted\n")?;
+    write!(out, "{name}: {as_wanted} cases as wanted\n")?;
     Ok(tally.others == 0)
+}
+
+/// Runs the cases of a subject, from its file; whether all come out as they have to.
+fn run_file<R: Files + Print + AllocGlobal>(
+    rt: &R,
+    subject: Subject,
+    file: &str,
+    words: &str,
+) -> io::Result<bool> {
+    let text = fs::read_to_string(rt, file)?;
+    let name = format!(in rt.alloc(); "{file}{words}")?;
+    report(
+        rt.alloc(),
+        subject,
+        name.as_str(),
+        text.as_str(),
+        &mut io::writer(rt),
+    )
 }
 
 /// Runs the cases of each subject, from its file, and tells which do not come out as they have to;
 /// whether all do.
 pub fn run_cases<R: Files + Print + AllocGlobal>(rt: &R) -> io::Result<bool> {
     let mut well = true;
-    for subject in SUBJECTS {
-        let text = fs::read_to_string(rt, subject.file())?;
-        if !report(rt.alloc(), subject, text.as_str(), &mut io::writer(rt))? {
-            well = false;
-        }
+    for (subject, file, words) in SUBJECTS {
+        well = run_file(rt, subject, file, words)? && well;
     }
     Ok(well)
 }

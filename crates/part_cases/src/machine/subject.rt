@@ -11,7 +11,6 @@ use ds_dev::Bus;
 use ds_tables::Tables;
 use ds_tlb::{Indexed, Lookaside, Tlb};
 use std::alloc::{AllocError, Global};
-use std::fmt;
 
 /// Which translation buffer the processor has.
 #[derive(Clone, Copy)]
@@ -20,16 +19,6 @@ pub enum Buffer {
     Searched,
     /// The one that has an index.
     Indexed,
-}
-
-impl Buffer {
-    /// Its name, in what is told.
-    fn name(self) -> &'static str {
-        match self {
-            Buffer::Searched => "searched",
-            Buffer::Indexed => "indexed",
-        }
-    }
 }
 
 /// What the cases of a file are about.
@@ -59,23 +48,41 @@ pub enum Subject {
     Entries(Buffer),
 }
 
-/// All of them, in the order in which they are told.
-pub const SUBJECTS: [Subject; 14] = [
-    Subject::Arithmetic,
-    Subject::Decoded,
-    Subject::Registers,
-    Subject::Operations,
-    Subject::Rowless,
-    Subject::System,
-    Subject::Bus,
-    Subject::Memory,
-    Subject::Faults(Buffer::Searched),
-    Subject::Faults(Buffer::Indexed),
-    Subject::Late(Buffer::Searched),
-    Subject::Late(Buffer::Indexed),
-    Subject::Entries(Buffer::Searched),
-    Subject::Entries(Buffer::Indexed),
+/// All of them, in the order in which they are told, each with the file of its cases and the words
+/// after its name.
+pub const SUBJECTS: [(Subject, &str, &str); 14] = [
+    (Subject::Arithmetic, "machine/arithmetic", ""),
+    (Subject::Decoded, "machine/decoded", ""),
+    (Subject::Registers, "machine/registers", ""),
+    (Subject::Operations, "machine/operations", ""),
+    (Subject::Rowless, "machine/rowless", ""),
+    (Subject::System, "machine/system", ""),
+    (Subject::Bus, "machine/bus", ""),
+    (Subject::Memory, "machine/memory", ""),
+    (
+        Subject::Faults(Buffer::Searched),
+        "machine/faults",
+        SEARCHED,
+    ),
+    (Subject::Faults(Buffer::Indexed), "machine/faults", INDEXED),
+    (Subject::Late(Buffer::Searched), "machine/late", SEARCHED),
+    (Subject::Late(Buffer::Indexed), "machine/late", INDEXED),
+    (
+        Subject::Entries(Buffer::Searched),
+        "machine/entries",
+        SEARCHED,
+    ),
+    (
+        Subject::Entries(Buffer::Indexed),
+        "machine/entries",
+        INDEXED,
+    ),
 ];
+
+/// What is told after the name of a file whose programs run over a buffer.
+const SEARCHED: &str = ", searched buffer";
+
+const INDEXED: &str = ", indexed buffer";
 
 /// What the cases that are steps go on with.
 #[derive(Drop)]
@@ -86,23 +93,6 @@ pub struct Machine {
 }
 
 impl Subject {
-    /// The file of its cases.
-    pub fn file(self) -> &'static str {
-        match self {
-            Subject::Arithmetic => "machine/arithmetic",
-            Subject::Decoded => "machine/decoded",
-            Subject::Registers => "machine/registers",
-            Subject::Operations => "machine/operations",
-            Subject::Rowless => "machine/rowless",
-            Subject::System => "machine/system",
-            Subject::Bus => "machine/bus",
-            Subject::Memory => "machine/memory",
-            Subject::Faults(_) => "machine/faults",
-            Subject::Late(_) => "machine/late",
-            Subject::Entries(_) => "machine/entries",
-        }
-    }
-
     /// What comes of a case, from what is given; none where that is no case of the subject, or where
     /// a program ends in no fault.
     pub fn outcome(
@@ -172,22 +162,9 @@ impl Subject {
     {
         match self {
             Subject::Faults(_) => fault_of::<L>(bus, given),
-            Subject::Late(_) => registers_behind::<L>(bus, given),
+            Subject::Late(_) => Some(registers_behind::<L>(bus, given)),
             Subject::Entries(_) => entry_behind::<L>(bus, given),
             _ => None,
-        }
-    }
-}
-
-impl fmt::Display for Subject {
-    fn fmt<W: fmt::Write>(&self, f: &mut fmt::Formatter<W>) -> fmt::Result {
-        let file = self.file();
-        match self {
-            Subject::Faults(buffer) | Subject::Late(buffer) | Subject::Entries(buffer) => {
-                let name = buffer.name();
-                write!(f, "{file}, {name} buffer")
-            }
-            _ => write!(f, "{file}"),
         }
     }
 }

@@ -1,4 +1,5 @@
 //! Steps on the system coprocessor.
+ghost use Rattle.std.specs.Prelude.{◌≤◌};
 
 use crate::machine::told::Answer;
 use ds_cp0::{Cp0, Exception, ExceptionCode};
@@ -16,6 +17,14 @@ pub fn answer(cp0: &mut Cp0, step: &str, operands: &[u32]) -> Option<Answer> {
             cp0.rfe();
             Some(Answer::Said("done"))
         }
+        ("enter", operands) => enter(cp0, operands),
+        _ => shown(cp0, step, operands),
+    }
+}
+
+/// What is answered to a step that changes nothing.
+fn shown(cp0: &Cp0, step: &str, operands: &[u32]) -> Option<Answer> {
+    match (step, operands) {
         ("mode", []) => Some(Answer::Said(if cp0.user() { "user" } else { "kernel" })),
         ("address_space", []) => Some(Answer::Number(u32::from(cp0.asid()))),
         ("pending", [system, clock]) => {
@@ -23,7 +32,6 @@ pub fn answer(cp0: &mut Cp0, step: &str, operands: &[u32]) -> Option<Answer> {
             Some(Answer::Said(if pending { "true" } else { "false" }))
         }
         ("nonzero", []) => Some(Answer::Registers(registers(cp0))),
-        ("enter", operands) => enter(cp0, operands),
         _ => None,
     }
 }
@@ -43,15 +51,31 @@ fn enter(cp0: &mut Cp0, operands: &[u32]) -> Option<Answer> {
     let [cause, unit @ 0..=3, slot, miss, refused @ ..] = operands else {
         return None;
     };
-    let vector = cp0.enter(Exception {
-        code: code_of(*cause)?,
-        pc: 0x40_0000,
-        slot: *slot == 1,
-        unit: *unit as u8,
-        addr: refused.first().copied(),
-        miss: *miss == 1,
-    });
+    let code = code_of(*cause)?;
+    let addr = refused.first().copied();
+    let vector = enter_from(cp0, code, *unit as u8, *slot == 1, *miss == 1, addr);
     Some(Answer::Number(vector))
+}
+
+/// Enters an exception of the instruction at 00400000; its vector.
+fn enter_from(
+    cp0: &mut Cp0,
+    code: ExceptionCode,
+    unit: u8,
+    slot: bool,
+    miss: bool,
+    addr: Option<u32>,
+) -> u32
+    requires { unit ≤ 3 }
+{
+    cp0.enter(Exception {
+        code,
+        pc: 0x40_0000,
+        slot,
+        unit,
+        addr,
+        miss,
+    })
 }
 
 /// The cause that Cause shows by a number.

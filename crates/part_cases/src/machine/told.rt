@@ -34,11 +34,11 @@ pub enum Answer {
 impl fmt::Display for Answer {
     fn fmt<W: fmt::Write>(&self, f: &mut fmt::Formatter<W>) -> fmt::Result {
         match self {
-            Answer::Said(word) => write!(f, "{word}"),
-            Answer::Number(number) => write!(f, "{number:08x}"),
-            Answer::Two(a, b) => write!(f, "{a:08x} {b:08x}"),
-            Answer::Four(a, b, c, d) => write!(f, "{a:08x} {b:08x} {c:08x} {d:08x}"),
-            Answer::Fields([a, b, c, d, e, g]) => write!(f, "{a} {b} {c} {d} {e} {g}"),
+            Answer::Said(word) => f.write_str(word),
+            Answer::Number(number) => write_words(f, &[*number]),
+            Answer::Two(a, b) => write_words(f, &[*a, *b]),
+            Answer::Four(a, b, c, d) => write_words(f, &[*a, *b, *c, *d]),
+            Answer::Fields(fields) => write_fields(f, fields),
             Answer::Sent(line, byte) => write!(f, "{line} {byte:02x}"),
             Answer::Registers(values) => write_registers(f, values),
             Answer::Fault {
@@ -52,16 +52,46 @@ impl fmt::Display for Answer {
     }
 }
 
+/// Writes numbers with a blank between.
+fn write_words<W: fmt::Write>(f: &mut fmt::Formatter<W>, words: &[u32]) -> fmt::Result {
+    let mut between = "";
+    for word in words {
+        write!(f, "{between}{word:08x}")?;
+        between = " ";
+    }
+    Ok(())
+}
+
+/// Writes fields in decimal digits, with a blank between.
+fn write_fields<W: fmt::Write>(f: &mut fmt::Formatter<W>, fields: &[u8; 6]) -> fmt::Result {
+    let mut between = "";
+    for field in fields {
+        write!(f, "{between}{field}")?;
+        between = " ";
+    }
+    Ok(())
+}
+
 /// Writes the registers that do not read 0, with a blank between.
 fn write_registers<W: fmt::Write>(f: &mut fmt::Formatter<W>, values: &[u32; 32]) -> fmt::Result {
     let mut between = "";
-    for (number, value) in values.iter().enumerate() {
-        if *value != 0 {
-            write!(f, "{between}{number:x} {value:08x}")?;
+    for number in 0..32 {
+        if values[number] != 0 {
+            write_register(f, between, number, values[number])?;
             between = " ";
         }
     }
     Ok(())
+}
+
+/// Writes a register after what stands between.
+fn write_register<W: fmt::Write>(
+    f: &mut fmt::Formatter<W>,
+    between: &str,
+    number: usize,
+    value: u32,
+) -> fmt::Result {
+    write!(f, "{between}{number:x} {value:08x}")
 }
 
 /// An answer of one word, as a text.

@@ -10,12 +10,17 @@ use std::fmt;
 /// The instruction of a word, and the word again where encoding does not give it back.
 pub fn instruction_of(alloc: Global, word: u32) -> Result<String, AllocError> {
     let instr = decode(word);
-    let again = encode(&instr);
+    let mut text = format!(in alloc; "{instr:?}")?;
+    push_other(&mut text, encode(&instr), word)?;
+    Ok(text)
+}
+
+/// Adds the word that encoding gives back, where it is another.
+fn push_other(text: &mut String, again: u32, word: u32) -> Result<(), AllocError> {
     if again == word {
-        format!(in alloc; "{instr:?}")
-    } else {
-        format!(in alloc; "{instr:?} as {again:08x}")
+        return Ok(());
     }
+    write!(text, " as {again:08x}")
 }
 
 /// A register's number, or - for none.

@@ -3,9 +3,8 @@ ghost use Rattle.std.specs.Prelude.{◌≡◌, ◌+◌, ◌≤◌};
 
 use crate::programs::machine::Machine;
 use crate::programs::random::Reached;
-use ds_ahead::run_ahead;
 use ds_core::Core;
-use ds_cp0::Cp0;
+use ds_cp0::{Cp0, ExceptionCode};
 use ds_dev::Bus;
 use ds_tlb::Lookaside;
 
@@ -44,13 +43,22 @@ fn go_alike_for<A: Lookaside, B: Lookaside>(
     requires ahead_wired { B.WIRED ≡ 8 }
 {
     let walked = plain.walk(limit, reached);
-    let went = run_ahead(&mut ahead.core, &mut ahead.bus, limit);
+    let went = ahead.run_on(limit);
     let alike = went == walked && are_alike(plain, ahead);
-    if let Some(code) = went.raised {
+    serve_both(plain, ahead, went.raised);
+    alike && are_frames_alike(&mut plain.bus, &mut ahead.bus, 0, FRAMES)
+}
+
+/// Serves an exception on both, if there was one.
+fn serve_both<A: Lookaside, B: Lookaside>(
+    plain: &mut Machine<A>,
+    ahead: &mut Machine<B>,
+    raised: Option<ExceptionCode>,
+) {
+    if let Some(code) = raised {
         plain.serve(code);
         ahead.serve(code);
     }
-    alike && are_frames_alike(&mut plain.bus, &mut ahead.bus, 0, FRAMES)
 }
 
 /// Whether two machines are in one state, but for their memories.
@@ -74,11 +82,15 @@ pub fn are_frames_alike(a: &mut Bus, b: &mut Bus, first: u32, count: u32) -> boo
     alike
 }
 
+/// What a processor has in registers with names of their own, and where it stands.
+fn words_of<L: Lookaside>(core: &Core<L>) -> [u32; 4] {
+    [core.hi, core.lo, core.pc, core.next]
+}
+
 /// Whether two processors have the same registers, and stand at the same place.
 fn are_cores_alike<A: Lookaside, B: Lookaside>(a: &Core<A>, b: &Core<B>) -> bool {
-    let registers = a.registers == b.registers && a.hi == b.hi && a.lo == b.lo && a.late == b.late;
-    let place = a.pc == b.pc && a.next == b.next && a.slot == b.slot;
-    registers && place && are_systems_alike(&a.cp0, &b.cp0)
+    let words = a.registers == b.registers && words_of(a) == words_of(b);
+    words && a.late == b.late && a.slot == b.slot && are_systems_alike(&a.cp0, &b.cp0)
 }
 
 /// Whether two system coprocessors have the same registers.

@@ -1,6 +1,7 @@
 //! A processor and its bus, with a program.
-ghost use Rattle.std.specs.Prelude.{◌≡◌};
+ghost use Rattle.std.specs.Prelude.{◌≡◌, ◌≤◌};
 
+use crate::buffer::new_buffer;
 use crate::programs::random::Reached;
 use ds_ahead::{Ahead, run_ahead};
 use ds_asm::Image;
@@ -11,7 +12,6 @@ use ds_isa::Size;
 use ds_mem::Memory;
 use ds_tlb::{Entry, Lookaside};
 use std::alloc::Global;
-use std::io::{self, ErrorKind};
 
 /// Where programs begin.
 const START: u32 = 0x40_0000;
@@ -47,14 +47,11 @@ fn page(vpn: u32, asid: u8, pfn: u32, d: bool) -> Entry {
 }
 
 /// A processor in kernel mode and address space 0, with zeros and an empty buffer.
-pub fn blank_core<L: Lookaside>() -> io::Result<Core<L>>
+fn blank_core<L: Lookaside>() -> Core<L>
     requires slots { L.SLOTS ≡ 64 }
     requires wired { L.WIRED ≡ 8 }
 {
-    let Ok(tlb) = L::new(63) else {
-        return Err(io::Error::from(ErrorKind::InvalidInput));
-    };
-    Ok(Core {
+    Core {
         registers: [0; 32],
         hi: 0,
         lo: 0,
@@ -63,23 +60,48 @@ pub fn blank_core<L: Lookaside>() -> io::Result<Core<L>>
         next: 4,
         slot: false,
         cp0: Cp0::new(),
-        tlb,
-    })
+        tlb: new_buffer(),
+    }
+}
+
+/// Goes back from an exception; answers after which address the program goes on: that of its
+/// instruction, or where an interrupt came, whose request is taken away, right before it.
+fn place_after(cp0: &mut Cp0, code: ExceptionCode) -> u32 {
+    let epc = cp0.read(register::EPC);
+    let pc = if code == ExceptionCode::Interrupt {
+        cp0.write(register::CAUSE, 0);
+        epc
+    } else {
+        epc.wrapping_add(4)
+    };
+    cp0.rfe();
+    pc
+}
+
+/// Writes the entries of a program in a fresh buffer: its code is page 00400 of spaces 1 and 2.
+fn map_program<L: Lookaside>(tlb: &mut L)
+    requires slots { L.SLOTS ≡ 64 }
+{
+    tlb.write(8, page(0x400, 1, 1, true));
+    tlb.write(9, page(0x410, 1, 2, true));
+    tlb.write(10, page(0x411, 1, 3, false));
+    tlb.write(11, page(0x400, 2, 1, true));
+    tlb.write(12, page(0x410, 2, 4, true));
 }
 
 impl<L: Lookaside> Machine<L> {
-    /// A machine with such a processor, and a memory of zeros.
-    pub fn blank(alloc: Global) -> io::Result<Machine<L>>
+    /// A machine with such a processor, and a memory of zeros; none where there is no memory for it.
+    pub fn blank(alloc: Global) -> Option<Machine<L>>
         requires slots { L.SLOTS ≡ 64 }
         requires wired { L.WIRED ≡ 8 }
     {
-        let (Ok(memory), Ok(pages)) = (Memory::new(alloc), Pages::new(alloc)) else {
-            return Err(io::Error::from(ErrorKind::OutOfMemory));
-        };
-        Ok(Machine {
-            core: blank_core()?,
-            bus: Bus::with_pages(memory, pages),
-        })
+        match (Memory::new(alloc), Pages::new(alloc)) {
+            (Ok(memory), Ok(pages)) => Some(Machine {
+                core: blank_core(),
+                bus: Bus::with_pages(memory, pages),
+            }),
+            _ => None,
+        }
     }
 
     /// Puts a program into a blank machine, which stands at its start in address space 1. Its code
@@ -89,12 +111,7 @@ impl<L: Lookaside> Machine<L> {
         requires slots { L.SLOTS ≡ 64 }
     {
         image.page(0, self.bus.memory().frame_mut(1));
-        let tlb: &mut L = &mut self.core.tlb;
-        tlb.write(8, page(0x400, 1, 1, true));
-        tlb.write(9, page(0x410, 1, 2, true));
-        tlb.write(10, page(0x411, 1, 3, false));
-        tlb.write(11, page(0x400, 2, 1, true));
-        tlb.write(12, page(0x410, 2, 4, true));
+        map_program(&mut self.core.tlb);
         self.core.cp0.write(register::ENTRY_HI, 0x40);
         self.go_on_at(START);
     }
@@ -118,18 +135,25 @@ impl<L: Lookaside> Machine<L> {
         self.core.cp0.write(register::STATUS, USER_STATUS);
     }
 
+    /// Where a program stands after so many instructions ahead in user mode, and what register 4
+    /// holds then.
+    pub fn come_to(&mut self, image: &Image, count: u32) -> (u32, u32)
+        requires slots { L.SLOTS ≡ 64 }
+        requires wired { L.WIRED ≡ 8 }
+    {
+        self.load(image);
+        self.leave_kernel();
+        self.run(count);
+        (self.core.pc, self.core.registers[4])
+    }
+
     /// Serves an exception: after the instruction, or where an interrupt came, whose request it
     /// takes away.
     pub fn serve(&mut self, code: ExceptionCode) {
-        let epc = self.core.cp0.read(register::EPC);
-        let pc = if code == ExceptionCode::Interrupt {
-            self.core.cp0.write(register::CAUSE, 0);
+        if code == ExceptionCode::Interrupt {
             let _ = self.bus.load(CLOCK_FLAGS, Size::Word);
-            epc
-        } else {
-            epc.wrapping_add(4)
-        };
-        self.core.cp0.rfe();
+        }
+        let pc = place_after(&mut self.core.cp0, code);
         self.go_on_at(pc);
     }
 
@@ -154,6 +178,15 @@ impl<L: Lookaside> Machine<L> {
         }
     }
 
+    /// Runs ahead, for so many steps at most.
+    pub fn run_on(&mut self, limit: u32) -> Ahead
+        requires slots { L.SLOTS ≡ 64 }
+        requires wired { L.WIRED ≡ 8 }
+        ensures { result.steps ≤ limit }
+    {
+        run_ahead(&mut self.core, &mut self.bus, limit)
+    }
+
     /// Takes so many steps, running ahead from exception to exception.
     #[inline(never)]
     pub fn run(&mut self, count: u32)
@@ -165,7 +198,7 @@ impl<L: Lookaside> Machine<L> {
             if left == 0 {
                 break;
             }
-            let ahead = run_ahead(&mut self.core, &mut self.bus, left);
+            let ahead = self.run_on(left);
             left -= ahead.steps;
             if let Some(code) = ahead.raised {
                 left = left.saturating_sub(1);

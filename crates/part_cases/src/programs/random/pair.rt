@@ -9,13 +9,12 @@ use super::turn::Turn;
 use super::words::random_word;
 use crate::programs::lockstep::{are_alike, are_frames_alike, go_alike};
 use crate::programs::machine::Machine;
-use ds_ahead::run_ahead;
+use ds_ahead::Ahead;
 use ds_asm::Image;
 use ds_cp0::{ExceptionCode, register};
 use ds_mem::FRAMES;
 use ds_tlb::Lookaside;
 use std::alloc::Global;
-use std::io;
 
 /// The most steps ahead.
 const LONGEST: u32 = 200;
@@ -31,17 +30,17 @@ pub struct Pair<A: Lookaside, B: Lookaside> {
 }
 
 impl<A: Lookaside, B: Lookaside> Pair<A, B> {
-    /// Two machines with memories of zeros.
-    pub fn new(alloc: Global) -> io::Result<Pair<A, B>>
+    /// Two machines with memories of zeros; none where there is no memory for them.
+    pub fn new(alloc: Global) -> Option<Pair<A, B>>
         requires slots { A.SLOTS ≡ 64 }
         requires wired { A.WIRED ≡ 8 }
         requires ahead_slots { B.SLOTS ≡ 64 }
         requires ahead_wired { B.WIRED ≡ 8 }
     {
-        Ok(Pair {
-            plain: Machine::blank(alloc)?,
-            ahead: Machine::blank(alloc)?,
-        })
+        match (Machine::blank(alloc), Machine::blank(alloc)) {
+            (Some(plain), Some(ahead)) => Some(Pair { plain, ahead }),
+            _ => None,
+        }
     }
 
     /// Puts a program into both machines, and goes through it; whether they went alike.
@@ -56,9 +55,23 @@ impl<A: Lookaside, B: Lookaside> Pair<A, B> {
         go_alike(&mut self.plain, &mut self.ahead)
     }
 
+    /// What register 17 holds after a program, if both machines went alike.
+    pub fn wrong(&mut self, image: &Image) -> Option<u32>
+        requires slots { A.SLOTS ≡ 64 }
+        requires wired { A.WIRED ≡ 8 }
+        requires ahead_slots { B.SLOTS ≡ 64 }
+        requires ahead_wired { B.WIRED ≡ 8 }
+    {
+        if self.go_alike(image) {
+            Some(self.plain.core.registers[17])
+        } else {
+            None
+        }
+    }
+
     /// Goes through the program of a number. Answers where the two were found to differ, if they
     /// were: after so many steps.
-    pub fn differ(&mut self, number: u32, reached: &mut Reached) -> io::Result<Option<u32>>
+    pub fn differ(&mut self, number: u32, reached: &mut Reached) -> Option<u32>
         requires slots { A.SLOTS ≡ 64 }
         requires wired { A.WIRED ≡ 8 }
         requires ahead_slots { B.SLOTS ≡ 64 }
@@ -66,20 +79,34 @@ impl<A: Lookaside, B: Lookaside> Pair<A, B> {
     {
         let mut dice = Dice::new(number);
         let start = Start::drawn(&mut dice);
-        self.begin(&mut dice, &start)?;
+        self.begin(&mut dice, &start);
+        let (done, went_alike) = self.run_through(&mut dice, &start, reached);
+        let alike = went_alike
+            && self.have_like_frames(HANDLERS, 1)
+            && self.have_like_frames(FIRST_PAGE, PAGES);
+        if alike { None } else { Some(done) }
+    }
+
+    /// Goes through a program that has begun: how many steps, and whether the two were in one state
+    /// throughout.
+    fn run_through(&mut self, dice: &mut Dice, start: &Start, reached: &mut Reached) -> (u32, bool)
+        requires slots { A.SLOTS ≡ 64 }
+        requires wired { A.WIRED ≡ 8 }
+        requires ahead_slots { B.SLOTS ≡ 64 }
+        requires ahead_wired { B.WIRED ≡ 8 }
+    {
         let mut done = 0;
         for _ in 0..2 * STEPS {
             if done >= STEPS {
                 break;
             }
             let limit = dice.below(LONGEST + 1).min(STEPS - done);
-            match self.run_both(&mut dice, &start, limit, reached) {
+            match self.run_both(dice, start, limit, reached) {
                 Some(steps) => done = steps.saturating_add(done),
-                None => return Ok(Some(done)),
+                None => return (done, false),
             }
         }
-        let alike = self.have_like_frames(HANDLERS, 1) && self.have_like_frames(FIRST_PAGE, PAGES);
-        Ok(if alike { None } else { Some(done) })
+        (done, true)
     }
 
     /// Whether all of memory is the same.
@@ -95,18 +122,17 @@ impl<A: Lookaside, B: Lookaside> Pair<A, B> {
     }
 
     /// Puts a program into both machines.
-    fn begin(&mut self, dice: &mut Dice, start: &Start) -> io::Result<()>
+    fn begin(&mut self, dice: &mut Dice, start: &Start)
         requires slots { A.SLOTS ≡ 64 }
         requires wired { A.WIRED ≡ 8 }
         requires ahead_slots { B.SLOTS ≡ 64 }
         requires ahead_wired { B.WIRED ≡ 8 }
     {
-        self.plain.begin(start)?;
-        self.ahead.begin(start)?;
+        self.plain.begin(start);
+        self.ahead.begin(start);
         self.put_code(dice, HANDLERS, start.system);
         self.put_code(dice, FIRST_PAGE, start.system);
         self.put_code(dice, FIRST_PAGE + 1, start.system);
-        Ok(())
     }
 
     /// Fills a frame of both machines with the same random code.
@@ -136,18 +162,24 @@ impl<A: Lookaside, B: Lookaside> Pair<A, B> {
         requires ahead_wired { B.WIRED ≡ 8 }
     {
         let walked = self.plain.walk(limit, reached);
-        let went = run_ahead(&mut self.ahead.core, &mut self.ahead.bus, limit);
+        let went = self.ahead.run_on(limit);
         if went != walked || !are_alike(&self.plain, &self.ahead) {
             return None;
         }
-        let steps = walked
-            .steps
-            .saturating_add(u32::from(walked.raised.is_some()));
+        let steps = steps_of(walked);
         let epc = self.plain.core.cp0.read(register::EPC);
         let turn = turn_after(dice, start, walked.raised, epc);
         self.plain.turn(turn, steps);
         self.ahead.turn(turn, steps);
         Some(steps)
+    }
+}
+
+/// How many steps there were, with one that entered an exception.
+fn steps_of(walked: Ahead) -> u32 {
+    match walked.raised {
+        Some(_) => walked.steps.saturating_add(1),
+        None => walked.steps,
     }
 }
 

@@ -3,10 +3,11 @@ ghost use Rattle.std.specs.Prelude.{◌≡◌};
 
 use super::dice::Dice;
 use super::words::random_word;
-use crate::programs::machine::{Machine, blank_core};
-use ds_cp0::register;
+use crate::buffer::new_buffer;
+use crate::programs::machine::Machine;
+use ds_core::Core;
+use ds_cp0::{Cp0, register};
 use ds_tlb::{Entry, Lookaside};
-use std::io;
 
 /// The first page of programs, and the frame that it has as a rule.
 pub const FIRST_PAGE: u32 = 0x400;
@@ -167,38 +168,54 @@ pub fn entry(dice: &mut Dice, vpn: u32, asid: u8) -> Entry {
     }
 }
 
+/// The system coprocessor of a program that begins.
+fn new_system(start: &Start) -> Cp0 {
+    let mut cp0 = Cp0::new();
+    cp0.write(register::STATUS, start.status);
+    cp0.write(register::ENTRY_LO, start.entry_lo);
+    cp0.write(register::ENTRY_HI, 64);
+    cp0
+}
+
+/// A buffer with the entries in the first slots that are not wired.
+fn buffer_of<L: Lookaside>(entries: &[Entry; ENTRIES]) -> L
+    requires slots { L.SLOTS ≡ 64 }
+    requires wired { L.WIRED ≡ 8 }
+{
+    let mut tlb: L = new_buffer();
+    for number in 0..ENTRIES {
+        tlb.write(number + 8, entries[number]);
+    }
+    tlb
+}
+
+/// The processor of a program that begins. Register 0 holds 0, whatever is drawn for it.
+fn new_core<L: Lookaside>(start: &Start) -> Core<L>
+    requires slots { L.SLOTS ≡ 64 }
+    requires wired { L.WIRED ≡ 8 }
+{
+    let mut registers = start.registers;
+    registers[0] = 0;
+    Core {
+        registers,
+        hi: start.hi,
+        lo: start.lo,
+        late: None,
+        pc: start.place,
+        next: start.place.wrapping_add(4),
+        slot: false,
+        cp0: new_system(start),
+        tlb: buffer_of(&start.entries),
+    }
+}
+
 impl<L: Lookaside> Machine<L> {
     /// Begins a program, whose words are put in beside.
-    pub fn begin(&mut self, start: &Start) -> io::Result<()>
+    pub fn begin(&mut self, start: &Start)
         requires slots { L.SLOTS ≡ 64 }
         requires wired { L.WIRED ≡ 8 }
     {
-        self.core = blank_core()?;
-        self.core.hi = start.hi;
-        self.core.lo = start.lo;
-        self.core.cp0.write(register::STATUS, start.status);
-        self.core.cp0.write(register::ENTRY_LO, start.entry_lo);
-        self.core.cp0.write(register::ENTRY_HI, 64);
-        self.put_registers(&start.registers);
-        self.put_entries(&start.entries);
+        self.core = new_core(start);
         self.start_clock(start.rate);
-        self.go_on_at(start.place);
-        Ok(())
-    }
-
-    /// Gives each register its value, but for register 0.
-    fn put_registers(&mut self, values: &[u32; 32]) {
-        for number in 1..32 {
-            self.core.registers[number] = values[number];
-        }
-    }
-
-    /// Writes the entries into the first slots that are not wired.
-    fn put_entries(&mut self, entries: &[Entry; ENTRIES])
-        requires slots { L.SLOTS ≡ 64 }
-    {
-        for number in 0..ENTRIES {
-            self.core.tlb.write(number + 8, entries[number]);
-        }
     }
 }

@@ -4,7 +4,7 @@ ghost use Rattle.std.specs.Prelude.{◌≡◌};
 use super::dice::Dice;
 use super::start::{CODE_SIZE, FIRST_ADDRESS, FIRST_PAGE, PAGES, Start, entry, place};
 use crate::programs::machine::Machine;
-use ds_cp0::{ExceptionCode, register};
+use ds_cp0::{Cp0, ExceptionCode, register};
 use ds_tlb::{Entry, Lookaside};
 
 /// What is done to both machines before they run on.
@@ -73,6 +73,13 @@ impl Turn {
     }
 }
 
+/// Gives the system coprocessor an EntryHi, a Status and a Cause.
+fn set_system(cp0: &mut Cp0, entry_hi: u32, status: u32, cause: u32) {
+    cp0.write(register::ENTRY_HI, entry_hi);
+    cp0.write(register::STATUS, status);
+    cp0.write(register::CAUSE, cause);
+}
+
 impl<L: Lookaside> Machine<L> {
     /// Does a turn, after so many steps.
     pub fn turn(&mut self, turn: Turn, steps: u32)
@@ -88,9 +95,7 @@ impl<L: Lookaside> Machine<L> {
                 status,
                 cause,
             } => {
-                self.core.cp0.write(register::ENTRY_HI, entry_hi);
-                self.core.cp0.write(register::STATUS, status);
-                self.core.cp0.write(register::CAUSE, cause);
+                set_system(&mut self.core.cp0, entry_hi, status, cause);
                 self.go_on_at(place);
             }
             Turn::Map { slot, entry } => self.core.tlb.write(slot as usize % 64, entry),
