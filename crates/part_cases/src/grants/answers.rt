@@ -7,7 +7,7 @@ use crate::machine::memory::{MIXED, fill, filled};
 use crate::machine::told::said;
 use ds_grants::GrantFault;
 use ds_isa::Kind;
-use ds_policy::{EntryPlace, Grant, Right};
+use ds_policy::{Entry, EntryPlace, Grant, Right};
 use ds_tlb::Lookaside;
 use std::alloc::{AllocError, Global};
 
@@ -204,12 +204,18 @@ fn told_entry(alloc: Global, grant: Option<Grant>) -> Result<Option<String>, All
     let Some(grant) = grant else {
         return said(alloc, "none");
     };
-    let mut text = String::from_str(alloc, word_of(grant.right))?;
-    push_page(&mut text, grant.page)?;
-    push_rule(&mut text, grant.rule, grant.give, grant.giver)?;
-    push_parent(&mut text, grant.parent)?;
-    push_end(&mut text, grant.until)?;
+    let mut text = String::new(alloc);
+    push_entry(&mut text, grant)?;
     Ok(Some(text))
+}
+
+/// Adds an entry in words.
+fn push_entry(text: &mut String, grant: Grant) -> Result<(), AllocError> {
+    text.push_str(word_of(grant.right))?;
+    push_page(text, grant.page)?;
+    push_rule(text, grant.rule, grant.give, grant.giver)?;
+    push_parent(text, grant.parent)?;
+    push_end(text, grant.until)
 }
 
 /// The addresses of a process's entries, one after the other.
@@ -222,10 +228,16 @@ fn addresses<L: Lookaside>(
         return Ok(None);
     }
     let mut text = String::new(alloc);
-    for entry in replay.grants.table().entries(process) {
-        push_address(&mut text, entry.address)?;
-    }
+    push_addresses(&mut text, replay.grants.table().entries(process))?;
     Ok(Some(text))
+}
+
+/// Adds the addresses of entries.
+fn push_addresses(text: &mut String, entries: &[Entry]) -> Result<(), AllocError> {
+    for entry in entries {
+        push_address(text, entry.address)?;
+    }
+    Ok(())
 }
 
 /// Adds an address, after a blank where it is not the first.

@@ -48,21 +48,26 @@ fn push_rules(text: &mut String, rules: &[u32]) -> Result<(), AllocError> {
     Ok(())
 }
 
-/// The text of a policy of version 2.
-fn text_of(
-    alloc: Global,
+/// Adds so many processes.
+fn push_processes(text: &mut String, processes: u32) -> Result<(), AllocError> {
+    for _ in 0..processes {
+        text.push_str("[[process]]\nstart = 0\nline = 0\n")?;
+    }
+    Ok(())
+}
+
+/// Adds a policy of version 2.
+fn push_policy(
+    text: &mut String,
     processes: u32,
     frames: u32,
     pages: u32,
     rules: &[u32],
-) -> Result<String, AllocError> {
-    let mut text = format!(in alloc; "version = 2\nframes = {frames}\n")?;
-    for _ in 0..processes {
-        text.push_str("[[process]]\nstart = 0\nline = 0\n")?;
-    }
-    push_pages(&mut text, pages)?;
-    push_rules(&mut text, rules)?;
-    Ok(text)
+) -> Result<(), AllocError> {
+    write!(text, "version = 2\nframes = {frames}\n")?;
+    push_processes(text, processes)?;
+    push_pages(text, pages)?;
+    push_rules(text, rules)
 }
 
 /// A policy of so many processes, frames and zero pages, with rules of six numbers each: the process,
@@ -75,7 +80,8 @@ pub fn policy_of(
     pages: u32,
     rules: &[u32],
 ) -> Result<Option<Policy>, AllocError> {
-    let text = text_of(alloc, processes, frames, pages, rules)?;
+    let mut text = String::new(alloc);
+    push_policy(&mut text, processes, frames, pages, rules)?;
     match Policy::read(alloc, text.as_bytes()) {
         Ok(policy) => Ok(Some(policy)),
         Err(PolicyFault::Memory) => Err(AllocError),

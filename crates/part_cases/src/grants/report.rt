@@ -139,8 +139,23 @@ fn begin<L: Lookaside>(
     }
 }
 
-/// What a line asks for, as the text that comes of it; words that no line wants where nobody can ask
-/// so.
+/// What a line asks for, as the text that comes of it; none where nobody can ask so.
+fn answer_of<L: Lookaside>(
+    alloc: Global,
+    replay: &mut Replay<L>,
+    asked: &str,
+) -> Result<Option<String>, AllocError>
+    requires slots { L.SLOTS ≡ 64 }
+    requires wired { L.WIRED ≡ 8 }
+{
+    let (verb, rest) = step_of(asked);
+    match operands(alloc, rest)? {
+        Some(operands) => answered(alloc, replay, verb, &operands),
+        None => Ok(None),
+    }
+}
+
+/// The same, with words that no line wants where nobody can ask so.
 fn came_of<L: Lookaside>(
     alloc: Global,
     replay: &mut Replay<L>,
@@ -149,12 +164,7 @@ fn came_of<L: Lookaside>(
     requires slots { L.SLOTS ≡ 64 }
     requires wired { L.WIRED ≡ 8 }
 {
-    let (verb, rest) = step_of(asked);
-    let came = match operands(alloc, rest)? {
-        Some(operands) => answered(alloc, replay, verb, &operands)?,
-        None => None,
-    };
-    match came {
+    match answer_of(alloc, replay, asked)? {
         Some(came) => Ok(came),
         None => String::from_str(alloc, "nothing, since nobody can ask so"),
     }
@@ -210,22 +220,22 @@ fn replay_line<L: Lookaside, W: Write>(
         return Ok(());
     }
     let came = came_of(alloc, replay, asked)?;
-    let is_as_wanted = came.as_str() == wanted;
-    tally.count(is_call(asked), is_as_wanted);
-    if is_as_wanted || tally.differ > TOLD {
-        return Ok(());
-    }
-    write_difference(place, asked, wanted, came.as_str(), out)
+    tell(tally, place, asked, wanted, came.as_str(), out)
 }
 
-/// Writes what came of a line in place of what has to be answered.
-fn write_difference<W: Write>(
+/// Counts a line, and writes one of the first that differ.
+fn tell<W: Write>(
+    tally: &mut Tally,
     place: (&str, usize),
     asked: &str,
     wanted: &str,
     came: &str,
     out: &mut W,
 ) -> io::Result<()> {
+    tally.count(is_call(asked), came == wanted);
+    if came == wanted || tally.differ > TOLD {
+        return Ok(());
+    }
     let (file, line) = place;
     write!(
         out,
@@ -262,22 +272,35 @@ fn write_tally<W: Write>(file: &str, buffer: &str, tally: Tally, out: &mut W) ->
     )
 }
 
-/// Replays a file over a buffer, and writes how many lines differ, after the first of these;
-/// whether none does.
-fn report<L: Lookaside, R: Files + Print + AllocGlobal>(
-    rt: &R,
+/// Replays the text of a file over a buffer, and writes how many lines differ, after the first of
+/// these; whether none does.
+fn report<L: Lookaside, W: Write>(
+    alloc: Global,
     file: &str,
     buffer: &str,
+    text: &str,
+    out: &mut W,
 ) -> io::Result<bool>
     requires slots { L.SLOTS ≡ 64 }
     requires wired { L.WIRED ≡ 8 }
 {
-    let text = fs::read_to_string(rt, file)?;
-    let out = &mut io::writer(rt);
-    let mut replay: Replay<L> = Replay::new(rt.alloc(), 0, 0, 0)?;
-    let tally = replay_lines(rt.alloc(), &mut replay, file, text.as_str(), out)?;
+    let mut replay: Replay<L> = Replay::new(alloc, 0, 0, 0)?;
+    let tally = replay_lines(alloc, &mut replay, file, text, out)?;
     write_tally(file, buffer, tally, out)?;
     Ok(tally.differ == 0)
+}
+
+/// Replays the text of a file over either buffer; whether no line differs.
+fn report_both<W: Write>(alloc: Global, file: &str, text: &str, out: &mut W) -> io::Result<bool> {
+    let searched = report::<Tlb<64, 8>, W>(alloc, file, "searched", text, out)?;
+    let indexed = report::<Indexed<64, 8>, W>(alloc, file, "indexed", text, out)?;
+    Ok(searched && indexed)
+}
+
+/// Replays a file over either buffer; whether no line differs.
+fn replay_file<R: Files + Print + AllocGlobal>(rt: &R, file: &str) -> io::Result<bool> {
+    let text = fs::read_to_string(rt, file)?;
+    report_both(rt.alloc(), file, text.as_str(), &mut io::writer(rt))
 }
 
 /// Replays each file over either buffer, and tells which lines do not come out as they have to;
@@ -285,9 +308,7 @@ fn report<L: Lookaside, R: Files + Print + AllocGlobal>(
 pub fn replay_all<R: Files + Print + AllocGlobal>(rt: &R) -> io::Result<bool> {
     let mut well = true;
     for file in FILES {
-        let searched = report::<Tlb<64, 8>, R>(rt, file, "searched")?;
-        let indexed = report::<Indexed<64, 8>, R>(rt, file, "indexed")?;
-        well = well && searched && indexed;
+        well = replay_file(rt, file)? && well;
     }
     Ok(well)
 }

@@ -43,13 +43,22 @@ impl<'a> Line<'a> {
 /// The numbers of a text with blanks between them, where all are numbers.
 pub fn numbers(alloc: Global, text: &str) -> Result<Option<Vec<u32>>, AllocError> {
     let mut numbers = Vec::new(alloc);
+    if push_numbers(&mut numbers, text)? {
+        Ok(Some(numbers))
+    } else {
+        Ok(None)
+    }
+}
+
+/// Adds the numbers of a text; whether all of its words are numbers.
+fn push_numbers(numbers: &mut Vec<u32>, text: &str) -> Result<bool, AllocError> {
     for word in text.split_whitespace() {
         match number(word) {
             Some(number) => numbers.push(number)?,
-            None => return Ok(None),
+            None => return Ok(false),
         }
     }
-    Ok(Some(numbers))
+    Ok(true)
 }
 
 /// A number in hexadecimal digits.

@@ -23,36 +23,37 @@ fn new_machine(alloc: Global) -> io::Result<Machine> {
     }
 }
 
-/// Runs a case, and writes a line where something else came out than it has to; whether it came out
-/// as it has to.
-fn is_as_wanted<W: Write>(
+/// What comes of a case, as a text; words that no case wants where it can't be run.
+fn text_of(
     alloc: Global,
     subject: Subject,
-    name: &str,
     machine: &mut Machine,
-    case: &Case<'_>,
-    out: &mut W,
-) -> io::Result<bool> {
-    let came = match subject.outcome(alloc, machine, case.given)? {
-        Some(came) => came,
-        None => String::from_str(alloc, "no case that can be run")?,
-    };
-    let is_as_wanted = came.as_str() == case.wanted;
-    if !is_as_wanted {
-        write_difference(name, case, came.as_str(), out)?;
+    given: &str,
+) -> Result<String, AllocError> {
+    match subject.outcome(alloc, machine, given)? {
+        Some(came) => Ok(came),
+        None => String::from_str(alloc, "no case that can be run"),
     }
-    Ok(is_as_wanted)
 }
 
-/// Writes what came of a case in place of what has to come.
-fn write_difference<W: Write>(
-    name: &str,
+/// Counts a case, and writes a line where something else came out than it has to.
+fn tell<W: Write>(
+    tally: &mut Tally,
+    name: (&str, &str),
     case: &Case<'_>,
     came: &str,
     out: &mut W,
 ) -> io::Result<()> {
     let (given, wanted) = (case.given, case.wanted);
-    write!(out, "{name}: {given}: wanted {wanted}, came {came}\n")
+    tally.count(came == wanted);
+    if came == wanted {
+        return Ok(());
+    }
+    let (file, words) = name;
+    write!(
+        out,
+        "{file}{words}: {given}: wanted {wanted}, came {came}\n"
+    )
 }
 
 /// How the cases of a file came out.
@@ -73,24 +74,40 @@ impl Tally {
     }
 }
 
+/// Runs a case, and counts it.
+fn run_case<W: Write>(
+    alloc: Global,
+    subject: Subject,
+    name: (&str, &str),
+    machine: &mut Machine,
+    tally: &mut Tally,
+    case: &Case<'_>,
+    out: &mut W,
+) -> io::Result<()> {
+    let came = text_of(alloc, subject, machine, case.given)?;
+    tell(tally, name, case, came.as_str(), out)
+}
+
 /// Runs the case of a line, and counts it; after a title the machine is a new one.
 fn run_line<W: Write>(
     alloc: Global,
     subject: Subject,
-    name: &str,
+    name: (&str, &str),
     machine: &mut Machine,
     tally: &mut Tally,
     line: &str,
     out: &mut W,
 ) -> io::Result<()> {
     match Line::read(line) {
-        Line::Blank => {}
-        Line::Title => *machine = new_machine(alloc)?,
-        Line::Case(case) => {
-            let is_right = is_as_wanted(alloc, subject, name, machine, &case, out)?;
-            tally.count(is_right);
-        }
+        Line::Blank => Ok(()),
+        Line::Title => restart(alloc, machine),
+        Line::Case(case) => run_case(alloc, subject, name, machine, tally, &case, out),
     }
+}
+
+/// Begins with a new machine.
+fn restart(alloc: Global, machine: &mut Machine) -> io::Result<()> {
+    *machine = new_machine(alloc)?;
     Ok(())
 }
 
@@ -98,7 +115,7 @@ fn run_line<W: Write>(
 fn run_lines<W: Write>(
     alloc: Global,
     subject: Subject,
-    name: &str,
+    name: (&str, &str),
     machine: &mut Machine,
     text: &str,
     out: &mut W,
@@ -113,35 +130,39 @@ fn run_lines<W: Write>(
     Ok(tally)
 }
 
+/// Writes how many cases came out as they have to; whether all did.
+fn write_tally<W: Write>(tally: Tally, name: (&str, &str), out: &mut W) -> io::Result<bool> {
+    let (file, words) = name;
+    let as_wanted = tally.as_wanted;
+    write!(out, "{file}{words}: {as_wanted} cases as wanted\n")?;
+    Ok(tally.others == 0)
+}
+
 /// Writes a line for each case that did not come out as it has to, and one that tells how many did;
 /// whether all did.
 fn report<W: Write>(
     alloc: Global,
     subject: Subject,
-    name: &str,
+    name: (&str, &str),
     text: &str,
     out: &mut W,
 ) -> io::Result<bool> {
     let mut machine = new_machine(alloc)?;
     let tally = run_lines(alloc, subject, name, &mut machine, text, out)?;
-    let as_wanted = tally.as_wanted;
-    write!(out, "{name}: {as_wanted} cases as wanted\n")?;
-    Ok(tally.others == 0)
+    write_tally(tally, name, out)
 }
 
 /// Runs the cases of a subject, from its file; whether all come out as they have to.
 fn run_file<R: Files + Print + AllocGlobal>(
     rt: &R,
     subject: Subject,
-    file: &str,
-    words: &str,
+    name: (&str, &str),
 ) -> io::Result<bool> {
-    let text = fs::read_to_string(rt, file)?;
-    let name = format!(in rt.alloc(); "{file}{words}")?;
+    let text = fs::read_to_string(rt, name.0)?;
     report(
         rt.alloc(),
         subject,
-        name.as_str(),
+        name,
         text.as_str(),
         &mut io::writer(rt),
     )
@@ -152,7 +173,7 @@ fn run_file<R: Files + Print + AllocGlobal>(
 pub fn run_cases<R: Files + Print + AllocGlobal>(rt: &R) -> io::Result<bool> {
     let mut well = true;
     for (subject, file, words) in SUBJECTS {
-        well = run_file(rt, subject, file, words)? && well;
+        well = run_file(rt, subject, (file, words))? && well;
     }
     Ok(well)
 }

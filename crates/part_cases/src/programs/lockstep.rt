@@ -3,6 +3,7 @@ ghost use Rattle.std.specs.Prelude.{◌≡◌, ◌+◌, ◌≤◌};
 
 use crate::programs::machine::Machine;
 use crate::programs::random::Reached;
+use ds_ahead::Ahead;
 use ds_core::Core;
 use ds_cp0::{Cp0, ExceptionCode};
 use ds_dev::Bus;
@@ -42,11 +43,27 @@ fn go_alike_for<A: Lookaside, B: Lookaside>(
     requires ahead_slots { B.SLOTS ≡ 64 }
     requires ahead_wired { B.WIRED ≡ 8 }
 {
+    let (walked, alike) = step_both(plain, ahead, limit, reached);
+    serve_both(plain, ahead, walked.raised);
+    alike && are_frames_alike(&mut plain.bus, &mut ahead.bus, 0, FRAMES)
+}
+
+/// Takes steps on both. Answers how far the one by single steps went, and whether the other went as
+/// far, and the two are in one state.
+pub fn step_both<A: Lookaside, B: Lookaside>(
+    plain: &mut Machine<A>,
+    ahead: &mut Machine<B>,
+    limit: u32,
+    reached: &mut Reached,
+) -> (Ahead, bool)
+    requires slots { A.SLOTS ≡ 64 }
+    requires wired { A.WIRED ≡ 8 }
+    requires ahead_slots { B.SLOTS ≡ 64 }
+    requires ahead_wired { B.WIRED ≡ 8 }
+{
     let walked = plain.walk(limit, reached);
     let went = ahead.run_on(limit);
-    let alike = went == walked && are_alike(plain, ahead);
-    serve_both(plain, ahead, went.raised);
-    alike && are_frames_alike(&mut plain.bus, &mut ahead.bus, 0, FRAMES)
+    (walked, went == walked && are_alike(plain, ahead))
 }
 
 /// Serves an exception on both, if there was one.
@@ -62,7 +79,7 @@ fn serve_both<A: Lookaside, B: Lookaside>(
 }
 
 /// Whether two machines are in one state, but for their memories.
-pub fn are_alike<A: Lookaside, B: Lookaside>(a: &Machine<A>, b: &Machine<B>) -> bool
+fn are_alike<A: Lookaside, B: Lookaside>(a: &Machine<A>, b: &Machine<B>) -> bool
     requires slots { A.SLOTS ≡ 64 }
     requires ahead_slots { B.SLOTS ≡ 64 }
 {

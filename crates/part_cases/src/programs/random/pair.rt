@@ -7,7 +7,7 @@ use super::reached::Reached;
 use super::start::{FIRST_PAGE, PAGES, Start};
 use super::turn::Turn;
 use super::words::random_word;
-use crate::programs::lockstep::{are_alike, are_frames_alike, go_alike};
+use crate::programs::lockstep::{are_frames_alike, go_alike, step_both};
 use crate::programs::machine::Machine;
 use ds_ahead::Ahead;
 use ds_asm::Image;
@@ -161,16 +161,16 @@ impl<A: Lookaside, B: Lookaside> Pair<A, B> {
         requires ahead_slots { B.SLOTS ≡ 64 }
         requires ahead_wired { B.WIRED ≡ 8 }
     {
-        let walked = self.plain.walk(limit, reached);
-        let went = self.ahead.run_on(limit);
-        if went != walked || !are_alike(&self.plain, &self.ahead) {
+        let (plain, ahead) = (&mut self.plain, &mut self.ahead);
+        let (walked, alike) = step_both(plain, ahead, limit, reached);
+        if !alike {
             return None;
         }
         let steps = steps_of(walked);
-        let epc = self.plain.core.cp0.read(register::EPC);
+        let epc = plain.core.cp0.read(register::EPC);
         let turn = turn_after(dice, start, walked.raised, epc);
-        self.plain.turn(turn, steps);
-        self.ahead.turn(turn, steps);
+        plain.turn(turn, steps);
+        ahead.turn(turn, steps);
         Some(steps)
     }
 }
