@@ -1,7 +1,6 @@
 //! What a source assembles to, where no run shows it.
 use ds_asm::{AsmFault, Image, assemble};
 use std::alloc::{AllocError, Global};
-use std::test::*;
 
 /// Sources with bars between them, each after the length of its image and an equals sign.
 const LENGTHS: &str =
@@ -18,13 +17,18 @@ fn is_as_long(alloc: Global, case: &str) -> bool {
     }
 }
 
-#[test]
-fn blanks_comments_and_ends_of_lines_are_free(rt: HostRuntime) {
+/// Whether the image of each case has its length.
+fn are_as_long(alloc: Global) -> bool {
     let mut right = true;
     for case in LENGTHS.split('|') {
-        right = is_as_long(rt.alloc(), case) && right;
+        right = is_as_long(alloc, case) && right;
     }
-    assert!(rt; right);
+    right
+}
+
+#[test]
+fn blanks_comments_and_ends_of_lines_are_free(rt: HostRuntime) {
+    assert!(rt; are_as_long(rt.alloc()));
 }
 
 /// A page of an image, put over other bytes.
@@ -43,16 +47,27 @@ fn ends_in_zeros(image: &Image) -> bool {
     zero
 }
 
-#[test]
-fn a_page_past_the_end_is_zero(rt: HostRuntime) -> Result<(), AsmFault> {
-    let text = b".space 4094\n.byte 1\n.byte 2\n.byte -3\n".as_slice();
-    let image = assemble(rt.alloc(), text)?;
-    let page = page_of(&image, 0);
+/// Whether an image of 4,097 bytes has the last three in two pages, and zeros after them.
+fn has_two_pages(image: &Image) -> bool {
+    let page = page_of(image, 0);
     let first = page[0] == 0 && page[4093] == 0 && page[4094] == 1 && page[4095] == 2;
-    let page = page_of(&image, 1);
+    let page = page_of(image, 1);
     let second = page[0] == 253 && page[1] == 0 && page[4095] == 0;
-    assert!(rt; image.len() == 4097 && first && second && ends_in_zeros(&image));
-    Ok(())
+    image.len() == 4097 && first && second && ends_in_zeros(image)
+}
+
+/// Whether a source of 4,097 bytes is assembled so.
+fn fills_two_pages(alloc: Global) -> bool {
+    let text = b".space 4094\n.byte 1\n.byte 2\n.byte -3\n".as_slice();
+    match assemble(alloc, text) {
+        Ok(image) => has_two_pages(&image),
+        Err(_) => false,
+    }
+}
+
+#[test]
+fn a_page_past_the_end_is_zero(rt: HostRuntime) {
+    assert!(rt; fills_two_pages(rt.alloc()));
 }
 
 /// Whether each front of a text has an image of 20 bytes at most or a fault, and memory for it.
@@ -86,13 +101,25 @@ fn source_of_labels(alloc: Global) -> Result<String, AllocError> {
     Ok(text)
 }
 
-#[test]
-fn a_label_of_many_is_found(rt: HostRuntime) -> Result<(), Fail> {
-    let text = source_of_labels(rt.alloc())?;
-    let image = assemble(rt.alloc(), text.as_bytes())?;
+/// Whether an image ends in the three words.
+fn has_labels(image: &Image) -> bool {
     let words = [0, 0, 0x40, 0, 0x6C, 0x17, 0x40, 0, 0xDC, 0x2E, 0x40, 0];
-    let page = page_of(&image, 2);
-    let found = &page[3808..3820] == words.as_slice();
-    assert!(rt; image.len() == 12_012 && found);
-    Ok(())
+    let page = page_of(image, 2);
+    image.len() == 12_012 && &page[3808..3820] == words.as_slice()
+}
+
+/// Whether the source of the labels is assembled so.
+fn finds_labels(alloc: Global) -> bool {
+    let Ok(text) = source_of_labels(alloc) else {
+        return false;
+    };
+    match assemble(alloc, text.as_bytes()) {
+        Ok(image) => has_labels(&image),
+        Err(_) => false,
+    }
+}
+
+#[test]
+fn a_label_of_many_is_found(rt: HostRuntime) {
+    assert!(rt; finds_labels(rt.alloc()));
 }

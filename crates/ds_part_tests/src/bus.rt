@@ -3,9 +3,8 @@ ghost use Rattle.std.specs.Prelude.{◌≡◌, ◌*◌, ◌%◌, ◌<◌, ◌≤
 
 use ds_dev::{Bus, BusError, Pages};
 use ds_isa::Size;
-use ds_mem::{Memory, OutOfMemory};
+use ds_mem::Memory;
 use std::alloc::Global;
-use std::test::Fail;
 
 const CONTROL: u32 = 0x1fe0_0000;
 
@@ -23,9 +22,12 @@ const SYSTEM: u32 = 0x1ff0_0000;
 
 const SIZES: [Size; 4] = [Size::Byte, Size::Half, Size::Word, Size::Part];
 
-/// A bus over a new memory.
-fn new_bus(alloc: Global) -> Result<Bus, OutOfMemory> {
-    Ok(Bus::new(Memory::new(alloc)?))
+/// A bus over a new memory, if there is one.
+fn new_bus(alloc: Global) -> Option<Bus> {
+    match Memory::new(alloc) {
+        Ok(memory) => Some(Bus::new(memory)),
+        Err(_) => None,
+    }
 }
 
 /// What the register in a word reads.
@@ -75,30 +77,38 @@ fn rings(bus: &mut Bus, ticks: u32, turns: u32, mask: u32) -> bool
     right
 }
 
+/// Whether a clock of a rate rings so, from a time on.
+fn one_rings(alloc: Global, start: u32, ticks: u32, turns: u32, rate: (u32, u32)) -> bool
+    requires { (1 ≤ ticks) × (ticks ≤ 2) }
+{
+    let (rate, mask) = rate;
+    let Some(mut bus) = new_bus(alloc) else {
+        return false;
+    };
+    write(&mut bus, RATE, rate);
+    bus.pass(u64::from(start));
+    rings(&mut bus, ticks, turns, mask)
+}
+
 /// Whether a clock of each rate rings so, from a time on.
-fn all_ring(alloc: Global, start: u32, ticks: u32, turns: u32) -> Result<bool, OutOfMemory>
+fn all_ring(alloc: Global, start: u32, ticks: u32, turns: u32) -> bool
     requires { (1 ≤ ticks) × (ticks ≤ 2) }
 {
     let mut right = true;
-    for (rate, mask) in RATES {
-        let mut bus = new_bus(alloc)?;
-        write(&mut bus, RATE, rate);
-        bus.pass(u64::from(start));
-        right = right && rings(&mut bus, ticks, turns, mask);
+    for rate in RATES {
+        right = right && one_rings(alloc, start, ticks, turns, rate);
     }
-    Ok(right)
+    right
 }
 
 #[test]
-fn a_clock_rings_at_each_multiple_past_the_wrap_of_its_time(rt: HostRuntime) -> Result<(), Fail> {
-    assert!(rt; all_ring(rt.alloc(), 0, 1, 0x2_0100)?);
-    Ok(())
+fn a_clock_rings_at_each_multiple_past_the_wrap_of_its_time(rt: HostRuntime) {
+    assert!(rt; all_ring(rt.alloc(), 0, 1, 0x2_0100));
 }
 
 #[test]
-fn two_ticks_pass_each_multiple_too(rt: HostRuntime) -> Result<(), Fail> {
-    assert!(rt; all_ring(rt.alloc(), 1, 2, 0x1_0100)?);
-    Ok(())
+fn two_ticks_pass_each_multiple_too(rt: HostRuntime) {
+    assert!(rt; all_ring(rt.alloc(), 1, 2, 0x1_0100));
 }
 
 /// Whether a place takes words exactly where a register is, and no other size.
@@ -136,15 +146,26 @@ fn are_right(bus: &mut Bus, first: u32, last: u32) -> bool {
     right
 }
 
-#[test]
-fn registers_take_words_alone_and_no_place_around_them_does(rt: HostRuntime) -> Result<(), Fail> {
-    let mut bus = new_bus(rt.alloc())?;
+/// Whether each place of a bus takes what it should.
+fn all_are_right(bus: &mut Bus) -> bool {
     let mut right = true;
     for (first, last) in PLACES {
-        right = right && are_right(&mut bus, first, last);
+        right = right && are_right(bus, first, last);
     }
-    assert!(rt; right);
-    Ok(())
+    right
+}
+
+/// Whether each place of a new bus takes what it should.
+fn takes_words(alloc: Global) -> bool {
+    match new_bus(alloc) {
+        Some(mut bus) => all_are_right(&mut bus),
+        None => false,
+    }
+}
+
+#[test]
+fn registers_take_words_alone_and_no_place_around_them_does(rt: HostRuntime) {
+    assert!(rt; takes_words(rt.alloc()));
 }
 
 /// Whether a character goes out of two buses alike: of the one by two stores of words, of the other
@@ -166,36 +187,68 @@ fn leave_alike(stored: &mut Bus, named: &mut Bus) -> bool {
     alike
 }
 
-#[test]
-fn a_character_goes_out_by_name_as_by_address(rt: HostRuntime) -> Result<(), Fail> {
-    let mut stored = new_bus(rt.alloc())?;
-    let mut named = new_bus(rt.alloc())?;
-    let closed = leaves_alike(&mut stored, &mut named, 2, 0x41) && named.sent().is_none();
-    let opened = write(&mut stored, CONTROL, 0x20) && write(&mut named, CONTROL, 0x20);
-    let alike = leave_alike(&mut stored, &mut named);
+/// Whether characters go out of two buses alike, with the lines closed and open.
+fn send_alike(stored: &mut Bus, named: &mut Bus) -> bool {
+    let closed = leaves_alike(stored, named, 2, 0x41) && named.sent().is_none();
+    let opened = write(stored, CONTROL, 0x20) && write(named, CONTROL, 0x20);
+    let alike = leave_alike(stored, named);
     named.set_enables(0x1c);
     named.transmit(0x141);
     let sent = named.sent() == Some((2, 0x41)) && named.sent().is_none();
-    assert!(rt; closed && opened && alike && sent);
-    Ok(())
+    closed && opened && alike && sent
+}
+
+/// Whether characters go out of a bus and a new one alike.
+fn goes_out_of(alloc: Global, stored: &mut Bus) -> bool {
+    match new_bus(alloc) {
+        Some(mut named) => send_alike(stored, &mut named),
+        None => false,
+    }
+}
+
+/// Whether characters go out of two new buses alike.
+fn goes_out(alloc: Global) -> bool {
+    match new_bus(alloc) {
+        Some(mut stored) => goes_out_of(alloc, &mut stored),
+        None => false,
+    }
 }
 
 #[test]
-fn the_memory_is_that_of_the_bus(rt: HostRuntime) -> Result<(), Fail> {
-    let mut memory = Memory::new(rt.alloc())?;
+fn a_character_goes_out_by_name_as_by_address(rt: HostRuntime) {
+    assert!(rt; goes_out(rt.alloc()));
+}
+
+/// Whether a bus has the words that its memory was given before and after, and a word that is
+/// stored.
+fn keeps_words(mut memory: Memory) -> bool {
     memory.put_word(0x40, 0x1234_5678);
     let mut bus = Bus::new(memory);
     bus.memory().put_word(0x44, 0x9abc_def0);
     let put_before = read(&mut bus, 0x40) == Ok(0x1234_5678);
     let put_behind = read(&mut bus, 0x44) == Ok(0x9abc_def0);
-    let stored = write(&mut bus, 0x48, 7) && bus.memory().word(0x48) == 7;
-    assert!(rt; put_before && put_behind && stored);
-    Ok(())
+    put_before && put_behind && write(&mut bus, 0x48, 7) && bus.memory().word(0x48) == 7
 }
 
-/// A bus over a new memory with room for pages.
-fn bus_with_pages(alloc: Global) -> Result<Bus, OutOfMemory> {
-    Ok(Bus::with_pages(Memory::new(alloc)?, Pages::new(alloc)?))
+/// Whether a bus over a new memory does so.
+fn shares_words(alloc: Global) -> bool {
+    match Memory::new(alloc) {
+        Ok(memory) => keeps_words(memory),
+        Err(_) => false,
+    }
+}
+
+#[test]
+fn the_memory_is_that_of_the_bus(rt: HostRuntime) {
+    assert!(rt; shares_words(rt.alloc()));
+}
+
+/// A bus over a new memory with room for pages, if there is one.
+fn bus_with_pages(alloc: Global) -> Option<Bus> {
+    match (Memory::new(alloc), Pages::new(alloc)) {
+        (Ok(memory), Ok(pages)) => Some(Bus::with_pages(memory, pages)),
+        _ => None,
+    }
 }
 
 /// Where a frame begins. Of the number the low eleven bits count.
@@ -251,48 +304,92 @@ const WAYS: [(u32, Way); 6] = [
     (6, Way::Lent),
 ];
 
-#[test]
-fn a_page_has_the_words_of_its_frame_however_memory_changes(rt: HostRuntime) -> Result<(), Fail> {
-    let mut bus = bus_with_pages(rt.alloc())?;
+/// Whether a change of a frame changes the word of its page, and no word beside it or elsewhere.
+fn follows(bus: &mut Bus, frame: u32, way: Way) -> bool {
+    let before = word_of_page(bus, frame, 1) == Some(0);
+    let changed = change(bus, frame, way);
+    let after = word_of_page(bus, frame, 1) == Some(5);
+    let beside = word_of_page(bus, frame, 2) == Some(0);
+    before && changed && after && beside && word_of_page(bus, 7, 1) == Some(0)
+}
+
+/// Whether each way to change memory does so.
+fn follows_each(bus: &mut Bus) -> bool {
+    let mut right = true;
     for (frame, way) in WAYS {
-        let before = word_of_page(&mut bus, frame, 1) == Some(0);
-        let changed = change(&mut bus, frame, way);
-        let after = word_of_page(&mut bus, frame, 1) == Some(5);
-        let beside = word_of_page(&mut bus, frame, 2) == Some(0);
-        let elsewhere = word_of_page(&mut bus, 7, 1) == Some(0);
-        assert!(rt; before && changed && after && beside && elsewhere);
+        right = follows(bus, frame, way) && right;
     }
-    Ok(())
+    right
+}
+
+/// Whether the pages of a new bus have the words of their frames.
+fn has_words(alloc: Global) -> bool {
+    match bus_with_pages(alloc) {
+        Some(mut bus) => follows_each(&mut bus),
+        None => false,
+    }
 }
 
 #[test]
-fn a_page_that_is_out_is_not_there(rt: HostRuntime) -> Result<(), Fail> {
-    let mut bus = bus_with_pages(rt.alloc())?;
-    let first = word_of_page(&mut bus, 2047, 1023) == Some(0);
+fn a_page_has_the_words_of_its_frame_however_memory_changes(rt: HostRuntime) {
+    assert!(rt; has_words(rt.alloc()));
+}
+
+/// Whether a page is there before it is taken, and not after it.
+fn is_taken_once(bus: &mut Bus) -> bool {
+    let first = word_of_page(bus, 2047, 1023) == Some(0);
     let taken = bus.take(2047 * 4096).is_some();
-    let out = bus.take(2047 * 4096).is_none();
-    assert!(rt; first && taken && out);
-    Ok(())
+    first && taken && bus.take(2047 * 4096).is_none()
+}
+
+/// Whether a page of a new bus is taken once.
+fn is_out(alloc: Global) -> bool {
+    match bus_with_pages(alloc) {
+        Some(mut bus) => is_taken_once(&mut bus),
+        None => false,
+    }
 }
 
 #[test]
-fn a_page_that_was_spoiled_64_times_is_given_up(rt: HostRuntime) -> Result<(), Fail> {
-    let mut bus = bus_with_pages(rt.alloc())?;
-    let mut right = word_of_page(&mut bus, 1, 0) == Some(0);
+fn a_page_that_is_out_is_not_there(rt: HostRuntime) {
+    assert!(rt; is_out(rt.alloc()));
+}
+
+/// Whether a page has each of 64 words that its frame gets one after the other.
+fn follows_64_times(bus: &mut Bus) -> bool {
+    let mut right = word_of_page(bus, 1, 0) == Some(0);
     for word in 1..65 {
         bus.put_word(0x1000, word);
-        right = right && word_of_page(&mut bus, 1, 0) == Some(word);
+        right = right && word_of_page(bus, 1, 0) == Some(word);
     }
+    right
+}
+
+/// Whether a page is given up after that, and no other is.
+fn gives_up(alloc: Global) -> bool {
+    let Some(mut bus) = bus_with_pages(alloc) else {
+        return false;
+    };
+    let right = follows_64_times(&mut bus);
     bus.put_word(0x1000, 65);
     let given_up = word_of_page(&mut bus, 1, 0).is_none();
-    let others = word_of_page(&mut bus, 2, 0) == Some(0);
-    assert!(rt; right && given_up && others);
-    Ok(())
+    right && given_up && word_of_page(&mut bus, 2, 0) == Some(0)
 }
 
 #[test]
-fn a_bus_without_room_has_no_page(rt: HostRuntime) -> Result<(), Fail> {
-    let mut bus = new_bus(rt.alloc())?;
-    assert!(rt; bus.take(0).is_none());
-    Ok(())
+fn a_page_that_was_spoiled_64_times_is_given_up(rt: HostRuntime) {
+    assert!(rt; gives_up(rt.alloc()));
+}
+
+/// Whether a bus without room for pages has none.
+fn has_no_page(alloc: Global) -> bool {
+    match new_bus(alloc) {
+        Some(mut bus) => bus.take(0).is_none(),
+        None => false,
+    }
+}
+
+#[test]
+fn a_bus_without_room_has_no_page(rt: HostRuntime) {
+    assert!(rt; has_no_page(rt.alloc()));
 }

@@ -1,11 +1,10 @@
 //! Rights of the permission table that end by themselves.
-ghost use Rattle.std.specs.Prelude.{◌≡◌, ◌≤◌, length, IfOk};
+ghost use Rattle.std.specs.Prelude.{◌≡◌, ◌≤◌, length, IfSome};
 
 use ds_policy::{
     Access, Entry, Grant, Kind, Policy, PolicyRule, Right, Rule, Size, Table, Verdict, forbidden_by,
 };
 use std::alloc::Global;
-use std::test::*;
 
 /// Two processes with a page. Rule 1 ends at time 5, rule 3 at time 3, and the others do not end.
 const POLICY: &str =
@@ -24,15 +23,20 @@ fn granted(right: Right, rule: u32, until: Option<u32>) -> Grant {
     }
 }
 
-/// The table of the policy; an empty one where it has not two processes.
-fn new_table(alloc: Global) -> Result<Table, Fail>
-    ensures { IfOk result (λ table. length table ≡ 2) }
+/// The table of the policy; none where it has not two processes.
+fn new_table(alloc: Global) -> Option<Table>
+    ensures { IfSome result (λ table. length table ≡ 2) }
 {
-    let policy = Policy::read(alloc, POLICY.as_bytes())?;
+    let Ok(policy) = Policy::read(alloc, POLICY.as_bytes()) else {
+        return None;
+    };
     if policy.processes().len() != 2 {
-        return Ok(Table::empty(alloc, 2)?);
+        return None;
     }
-    Ok(Table::new(alloc, &policy)?)
+    match Table::new(alloc, &policy) {
+        Ok(table) => Some(table),
+        Err(_) => None,
+    }
 }
 
 /// Whether these are the entries of processes 1 and 2 at 1000, and the others are as the policy has
@@ -66,18 +70,30 @@ fn end_as_they_say(rules: &[PolicyRule]) -> bool {
         && fourth.until.is_none()
 }
 
-#[test]
-fn a_rule_of_version_2_may_have_an_end(rt: HostRuntime) -> Result<(), Fail> {
-    let policy = Policy::read(rt.alloc(), POLICY.as_bytes())?;
-    assert!(rt; end_as_they_say(policy.rules()));
-    Ok(())
+/// Whether the policy is read, and its rules end when their texts say.
+fn is_read(alloc: Global) -> bool {
+    match Policy::read(alloc, POLICY.as_bytes()) {
+        Ok(policy) => end_as_they_say(policy.rules()),
+        Err(_) => false,
+    }
 }
 
 #[test]
-fn an_entry_of_the_policy_has_its_rules_end(rt: HostRuntime) -> Result<(), Fail> {
-    let table = new_table(rt.alloc())?;
-    assert!(rt; has(&table, first(), second()));
-    Ok(())
+fn a_rule_of_version_2_may_have_an_end(rt: HostRuntime) {
+    assert!(rt; is_read(rt.alloc()));
+}
+
+/// Whether the table of the policy has the ends of its rules.
+fn has_ends(alloc: Global) -> bool {
+    match new_table(alloc) {
+        Some(table) => has(&table, first(), second()),
+        None => false,
+    }
+}
+
+#[test]
+fn an_entry_of_the_policy_has_its_rules_end(rt: HostRuntime) {
+    assert!(rt; has_ends(rt.alloc()));
 }
 
 /// Ends what ends by a time: whether these are the entries then, and what is left ends so.
@@ -87,29 +103,36 @@ fn ends(table: &mut Table, now: u64, first: Grant, second: Grant, next: Option<u
 }
 
 /// Whether nothing ends at time 2, the right of process 2 at 3, and that of process 1 at 5.
-fn end_in_turn(table: &mut Table) -> bool {
+fn end_in_turn(alloc: Global) -> bool {
+    let Some(mut table) = new_table(alloc) else {
+        return false;
+    };
     let whole = table.next_end() == Some(3);
-    let nothing = ends(table, 2, first(), second(), Some(3));
-    let one = ends(table, 3, first(), forbidden_by(3), Some(5));
-    let still = ends(table, 4, first(), forbidden_by(3), Some(5));
-    let both = ends(table, 5, forbidden_by(1), forbidden_by(3), None);
+    let nothing = ends(&mut table, 2, first(), second(), Some(3));
+    let one = ends(&mut table, 3, first(), forbidden_by(3), Some(5));
+    let still = ends(&mut table, 4, first(), forbidden_by(3), Some(5));
+    let both = ends(&mut table, 5, forbidden_by(1), forbidden_by(3), None);
     whole && nothing && one && still && both
 }
 
 #[test]
-fn rights_end_at_their_times(rt: HostRuntime) -> Result<(), Fail> {
-    let mut table = new_table(rt.alloc())?;
-    assert!(rt; end_in_turn(&mut table));
-    Ok(())
+fn rights_end_at_their_times(rt: HostRuntime) {
+    assert!(rt; end_in_turn(rt.alloc()));
+}
+
+/// Whether both rights have ended at a late time.
+fn end_late(alloc: Global) -> bool {
+    let late = 0x1_0000_0000;
+    match new_table(alloc) {
+        Some(mut table) => ends(&mut table, late, forbidden_by(1), forbidden_by(3), None),
+        None => false,
+    }
 }
 
 /// Times have more bits than ends.
 #[test]
-fn all_that_ends_has_ended_at_a_late_time(rt: HostRuntime) -> Result<(), Fail> {
-    let mut table = new_table(rt.alloc())?;
-    let late = 0x1_0000_0000;
-    assert!(rt; ends(&mut table, late, forbidden_by(1), forbidden_by(3), None));
-    Ok(())
+fn all_that_ends_has_ended_at_a_late_time(rt: HostRuntime) {
+    assert!(rt; end_late(rt.alloc()));
 }
 
 /// The address of the first entry of a process whose right has ended by a time, and its rule.
@@ -122,28 +145,28 @@ fn first_expired(table: &Table, process: u32, now: u64) -> Option<(u32, u32)>
 }
 
 /// Whether the entries that have ended are found, each of its own process, until they are ended.
-fn finds_what_ended(table: &mut Table) -> bool
-    requires { length table.old ≡ 2 }
-{
-    let neither = first_expired(table, 1, 4).is_none() && first_expired(table, 2, 2).is_none();
-    let one = first_expired(table, 1, 5) == Some((0x1000, 1));
-    let other = first_expired(table, 2, 3) == Some((0x1000, 3));
+fn finds_what_ended(alloc: Global) -> bool {
+    let Some(mut table) = new_table(alloc) else {
+        return false;
+    };
+    let neither = first_expired(&table, 1, 4).is_none() && first_expired(&table, 2, 2).is_none();
+    let one = first_expired(&table, 1, 5) == Some((0x1000, 1));
+    let other = first_expired(&table, 2, 3) == Some((0x1000, 3));
     table.expire(3);
     let left = table.processes() == 2
-        && first_expired(table, 2, 9).is_none()
-        && first_expired(table, 1, 9) == Some((0x1000, 1));
+        && first_expired(&table, 2, 9).is_none()
+        && first_expired(&table, 1, 9) == Some((0x1000, 1));
     neither && one && other && left
 }
 
 #[test]
-fn the_first_entry_that_has_ended_is_found(rt: HostRuntime) -> Result<(), Fail> {
-    let mut table = new_table(rt.alloc())?;
-    assert!(rt; finds_what_ended(&mut table));
-    Ok(())
+fn the_first_entry_that_has_ended_is_found(rt: HostRuntime) {
+    assert!(rt; finds_what_ended(rt.alloc()));
 }
 
 /// What a store of process 2 is answered after time 3.
-fn after_3(table: &mut Table) -> Option<Verdict> {
+fn after_3(alloc: Global) -> Option<Verdict> {
+    let mut table = new_table(alloc)?;
     table.expire(3);
     if table.processes() != 2 {
         return None;
@@ -156,19 +179,23 @@ fn after_3(table: &mut Table) -> Option<Verdict> {
 }
 
 #[test]
-fn an_access_is_denied_by_the_rule_whose_right_ended(rt: HostRuntime) -> Result<(), Fail> {
-    let mut table = new_table(rt.alloc())?;
+fn an_access_is_denied_by_the_rule_whose_right_ended(rt: HostRuntime) {
     let denied = Verdict::Denied {
         rule: Rule::Number(3),
         code: 3,
     };
-    assert!(rt; after_3(&mut table) == Some(denied));
-    Ok(())
+    assert!(rt; after_3(rt.alloc()) == Some(denied));
+}
+
+/// Whether there is an empty table, and it has no end.
+fn has_no_end(alloc: Global) -> bool {
+    match Table::empty(alloc, 2) {
+        Ok(table) => table.next_end().is_none(),
+        Err(_) => false,
+    }
 }
 
 #[test]
-fn an_empty_table_has_no_end(rt: HostRuntime) -> Result<(), Fail> {
-    let table = Table::empty(rt.alloc(), 2)?;
-    assert!(rt; table.next_end().is_none());
-    Ok(())
+fn an_empty_table_has_no_end(rt: HostRuntime) {
+    assert!(rt; has_no_end(rt.alloc()));
 }

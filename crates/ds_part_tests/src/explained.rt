@@ -68,22 +68,32 @@ fn is_mended(number: u32, first: &str) -> bool {
     }
 }
 
-#[test]
-fn refusals_are_mended_by_their_numbers(rt: HostRuntime) {
+/// Whether each number's words begin so.
+fn are_mended() -> bool {
     let mut right = true;
     for (number, first) in MENDED {
         right = right && is_mended(number, first);
     }
-    assert!(rt; right);
+    right
 }
 
 #[test]
-fn other_numbers_are_not_mended(rt: HostRuntime) {
+fn refusals_are_mended_by_their_numbers(rt: HostRuntime) {
+    assert!(rt; are_mended());
+}
+
+/// Whether none of the other numbers has words.
+fn are_others_left() -> bool {
     let mut none = true;
     for number in [0, 2, 11, 19, 21, 23, 27u32] {
         none = none && mend_text(number).is_none();
     }
-    assert!(rt; none);
+    none
+}
+
+#[test]
+fn other_numbers_are_not_mended(rt: HostRuntime) {
+    assert!(rt; are_others_left());
 }
 
 /// Whether a rule of the policy stands at the beginning of this line, or its key does; or in none.
@@ -94,8 +104,8 @@ fn stands_in(number: u32, key: Option<&str>, line: Option<u64>) -> bool {
     }
 }
 
-#[test]
-fn a_rule_stands_at_its_header_and_its_key_below_it(rt: HostRuntime) {
+/// Whether rules and their keys stand in their lines.
+fn stand_in_lines() -> bool {
     let mut right = true;
     for (number, key, line) in [
         (1, None, Some(21)),
@@ -108,7 +118,12 @@ fn a_rule_stands_at_its_header_and_its_key_below_it(rt: HostRuntime) {
     ] {
         right = right && stands_in(number, key, line);
     }
-    assert!(rt; right);
+    right
+}
+
+#[test]
+fn a_rule_stands_at_its_header_and_its_key_below_it(rt: HostRuntime) {
+    assert!(rt; stand_in_lines());
 }
 
 #[test]

@@ -1,10 +1,9 @@
 //! Families of shares in the permission table.
-ghost use Rattle.std.specs.Prelude.{◌≡◌, ◌<◌, ◌≤◌, ◌%◌, ◌^◌, length, IfOk};
+ghost use Rattle.std.specs.Prelude.{◌≡◌, ◌<◌, ◌≤◌, ◌%◌, ◌^◌, length, IfSome};
 
 use crate::table::is_free;
 use ds_policy::{EntryPlace, Grant, NoGrant, Right, Table};
 use std::alloc::Global;
-use std::test::*;
 
 /// Where process 1 has its page.
 const TOP: EntryPlace = EntryPlace {
@@ -81,19 +80,30 @@ fn is_shared(table: &mut Table, from: EntryPlace, to: EntryPlace) -> bool
     is_free(table, to.process, to.address) && table.set(to.process, to.address, shared).is_ok()
 }
 
-/// A table of three processes with the four entries; none of them where one could not be set.
-fn new_family(alloc: Global) -> Result<Table, Fail>
-    ensures { IfOk result (λ table. length table ≡ 3) }
+/// Gives a table of three processes the four entries; whether each could be set.
+fn is_family(table: &mut Table) -> bool
+    requires { length table.old ≡ 3 }
+    ensures { length table.new ≡ 3 }
 {
-    let mut table = Table::empty(alloc, 3)?;
-    let top = is_free(&table, 1, 0x1000) && table.set(1, 0x1000, granted(0, None)).is_ok();
-    let shared = is_shared(&mut table, TOP, SHARE);
-    let next = is_shared(&mut table, SHARE, NEXT);
-    let last = is_shared(&mut table, NEXT, LAST);
-    if !(top && shared && next && last) {
-        return Ok(Table::empty(alloc, 3)?);
+    let top = is_free(table, 1, 0x1000) && table.set(1, 0x1000, granted(0, None)).is_ok();
+    let shared = is_shared(table, TOP, SHARE);
+    let next = is_shared(table, SHARE, NEXT);
+    let last = is_shared(table, NEXT, LAST);
+    top && shared && next && last
+}
+
+/// A table of three processes with the four entries; none where one could not be set.
+fn new_family(alloc: Global) -> Option<Table>
+    ensures { IfSome result (λ table. length table ≡ 3) }
+{
+    let Ok(mut table) = Table::empty(alloc, 3) else {
+        return None;
+    };
+    if is_family(&mut table) {
+        Some(table)
+    } else {
+        None
     }
-    Ok(table)
 }
 
 /// Whether the top has what it had.
@@ -118,95 +128,122 @@ fn number_of(outcome: Result<(), NoGrant>) -> u32 {
     }
 }
 
-#[test]
-fn a_share_has_the_entry_that_it_was_shared_from(rt: HostRuntime) -> Result<(), Fail> {
-    let table = new_family(rt.alloc())?;
+/// Whether each share has the entry that it was shared from.
+fn has_parents(alloc: Global) -> bool {
+    let Some(table) = new_family(alloc) else {
+        return false;
+    };
     let share = Some(granted(1, Some(TOP)));
     let next = Some(granted(2, Some(SHARE)));
     let last = Some(granted(3, Some(NEXT)));
-    assert!(rt; has_top(&table) && has_shares(&table, share, next, last));
-    Ok(())
+    has_top(&table) && has_shares(&table, share, next, last)
 }
 
 #[test]
-fn what_was_shared_from_a_removed_entry_has_its_parent(rt: HostRuntime) -> Result<(), Fail> {
-    let mut table = new_family(rt.alloc())?;
+fn a_share_has_the_entry_that_it_was_shared_from(rt: HostRuntime) {
+    assert!(rt; has_parents(rt.alloc()));
+}
+
+/// Removes the share of the top: whether what was shared from it has the top as its parent.
+fn is_skipped(alloc: Global) -> bool {
+    let Some(mut table) = new_family(alloc) else {
+        return false;
+    };
     let removed = table.remove(2, 0x2000).is_ok();
     let next = Some(granted(2, Some(TOP)));
     let last = Some(granted(3, Some(NEXT)));
-    assert!(rt; removed && has_top(&table) && has_shares(&table, None, next, last));
-    Ok(())
+    removed && has_top(&table) && has_shares(&table, None, next, last)
 }
 
 #[test]
-fn what_was_shared_from_the_first_has_no_parent_without_it(rt: HostRuntime) -> Result<(), Fail> {
-    let mut table = new_family(rt.alloc())?;
+fn what_was_shared_from_a_removed_entry_has_its_parent(rt: HostRuntime) {
+    assert!(rt; is_skipped(rt.alloc()));
+}
+
+/// Removes the top: whether what was shared from it has no parent.
+fn is_without_top(alloc: Global) -> bool {
+    let Some(mut table) = new_family(alloc) else {
+        return false;
+    };
     let removed = table.remove(1, 0x1000).is_ok();
     let share = Some(granted(1, None));
     let next = Some(granted(2, Some(SHARE)));
     let last = Some(granted(3, Some(NEXT)));
-    assert!(rt; removed && has(&table, TOP, None) && has_shares(&table, share, next, last));
-    Ok(())
-}
-
-/// Clears process 2: whether nothing of it is left, and what it shared has the top as its parent.
-fn is_cleared(table: &mut Table) -> bool
-    requires { length table.old ≡ 3 }
-{
-    table.clear(2);
-    let next = Some(granted(2, Some(TOP)));
-    table.processes() == 3 && has_top(table) && has_shares(table, None, next, None)
+    removed && has(&table, TOP, None) && has_shares(&table, share, next, last)
 }
 
 #[test]
-fn what_a_cleared_process_shared_has_the_nearest_parent_that_stays(
-    rt: HostRuntime,
-) -> Result<(), Fail> {
-    let mut table = new_family(rt.alloc())?;
-    assert!(rt; is_cleared(&mut table));
-    Ok(())
+fn what_was_shared_from_the_first_has_no_parent_without_it(rt: HostRuntime) {
+    assert!(rt; is_without_top(rt.alloc()));
+}
+
+/// Clears process 2: whether nothing of it is left, and what it shared has the top as its parent.
+fn is_cleared(alloc: Global) -> bool {
+    let Some(mut table) = new_family(alloc) else {
+        return false;
+    };
+    table.clear(2);
+    let next = Some(granted(2, Some(TOP)));
+    table.processes() == 3 && has_top(&table) && has_shares(&table, None, next, None)
+}
+
+#[test]
+fn what_a_cleared_process_shared_has_the_nearest_parent_that_stays(rt: HostRuntime) {
+    assert!(rt; is_cleared(rt.alloc()));
 }
 
 /// Cuts off the share of the top: whether all below it is gone, the top stays, and a second time
 /// there is nothing.
-fn is_cut(table: &mut Table) -> bool
-    requires { length table.old ≡ 3 }
-{
+fn is_cut(alloc: Global) -> bool {
+    let Some(mut table) = new_family(alloc) else {
+        return false;
+    };
     let cut = table.cut(2, 0x2000).is_ok();
-    let gone = has_top(table) && has_shares(table, None, None, None);
+    let gone = has_top(&table) && has_shares(&table, None, None, None);
     let refused = number_of(table.cut(2, 0x2000)) == 14;
-    cut && gone && refused && has_top(table)
+    cut && gone && refused && has_top(&table)
 }
 
 #[test]
-fn an_entry_is_cut_with_all_that_descends_from_it(rt: HostRuntime) -> Result<(), Fail> {
-    let mut table = new_family(rt.alloc())?;
-    assert!(rt; is_cut(&mut table));
-    Ok(())
+fn an_entry_is_cut_with_all_that_descends_from_it(rt: HostRuntime) {
+    assert!(rt; is_cut(rt.alloc()));
 }
 
-#[test]
-fn a_cut_leaves_what_is_above(rt: HostRuntime) -> Result<(), Fail> {
-    let mut table = new_family(rt.alloc())?;
+/// Cuts off the share of the share: whether all above it stays.
+fn is_cut_below(alloc: Global) -> bool {
+    let Some(mut table) = new_family(alloc) else {
+        return false;
+    };
     let cut = table.cut(3, 0x3000).is_ok();
     let share = Some(granted(1, Some(TOP)));
-    assert!(rt; cut && has_top(&table) && has_shares(&table, share, None, None));
-    Ok(())
+    cut && has_top(&table) && has_shares(&table, share, None, None)
 }
 
 #[test]
-fn an_entry_is_forbidden_with_all_that_descends_from_it(rt: HostRuntime) -> Result<(), Fail> {
-    let mut table = new_family(rt.alloc())?;
+fn a_cut_leaves_what_is_above(rt: HostRuntime) {
+    assert!(rt; is_cut_below(rt.alloc()));
+}
+
+/// Forbids the share of the top: whether all below it is forbidden, and the top stays.
+fn is_forbidden(alloc: Global) -> bool {
+    let Some(mut table) = new_family(alloc) else {
+        return false;
+    };
     let forbidden = table.forbid(2, 0x2000, 1001).is_ok();
     let none = Some(FORBIDDEN);
-    assert!(rt; forbidden && has_top(&table) && has_shares(&table, none, none, none));
-    Ok(())
+    forbidden && has_top(&table) && has_shares(&table, none, none, none)
+}
+
+#[test]
+fn an_entry_is_forbidden_with_all_that_descends_from_it(rt: HostRuntime) {
+    assert!(rt; is_forbidden(rt.alloc()));
 }
 
 /// Forbids an entry that was forbidden, and is the first of nothing: whether its rule alone changes.
-fn is_forbidden_anew(table: &mut Table) -> bool
-    requires { length table.old ≡ 3 }
-{
+fn is_forbidden_anew(alloc: Global) -> bool {
+    let Some(mut table) = new_family(alloc) else {
+        return false;
+    };
     let forbidden = table.forbid(3, 0x3000, 1001).is_ok();
     let again = table.forbid(3, 0x3000, 1002).is_ok();
     let changed = Grant {
@@ -214,12 +251,11 @@ fn is_forbidden_anew(table: &mut Table) -> bool
         ..FORBIDDEN
     };
     let share = Some(granted(1, Some(TOP)));
-    forbidden && again && has_top(table) && has_shares(table, share, Some(changed), Some(FORBIDDEN))
+    let left = has_shares(&table, share, Some(changed), Some(FORBIDDEN));
+    forbidden && again && has_top(&table) && left
 }
 
 #[test]
-fn nothing_descends_from_an_entry_that_was_forbidden(rt: HostRuntime) -> Result<(), Fail> {
-    let mut table = new_family(rt.alloc())?;
-    assert!(rt; is_forbidden_anew(&mut table));
-    Ok(())
+fn nothing_descends_from_an_entry_that_was_forbidden(rt: HostRuntime) {
+    assert!(rt; is_forbidden_anew(rt.alloc()));
 }

@@ -164,8 +164,11 @@ fn for_want_of_memory_an_input_says_nothing_else(rt: HostRuntime) {
 /// Whether the list has so many commands, one a tick.
 fn has_commands(list: &EventList, count: usize) -> bool {
     let mut right = list.commands().len() == count;
-    for (i, command) in list.commands().iter().enumerate() {
-        right = right && command.time == i as u64 && command.number as usize == i.saturating_add(1);
+    let mut time: u64 = 0;
+    for command in list.commands() {
+        right = right && command.time == time;
+        time = time.saturating_add(1);
+        right = right && u64::from(command.number) == time;
     }
     right
 }

@@ -2,17 +2,16 @@
 ghost use Rattle.std.specs.Prelude.{◌≡◌, ◌<◌};
 ghost use Rattle.std.specs.Option.{ForSome};
 
-use ds_asm::assemble;
+use ds_asm::{Image, assemble};
 use ds_core::{Core, Event};
 use ds_cp0::{Cp0, Exception, ExceptionCode, register};
 use ds_dev::Bus;
 use ds_isa::Late;
-use ds_mem::{Memory, OutOfMemory};
+use ds_mem::Memory;
 use ds_refill::{WORDS, install, phase};
 use ds_tables::{Tables, pte_address};
 use ds_tlb::{Entry, Indexed, Lookaside, Tlb};
 use std::alloc::Global;
-use std::test::Fail;
 
 /// The handler in assembly language.
 const TEXT: &str = "mfc0 $26,$4
@@ -46,24 +45,43 @@ fn has_words(memory: &Memory) -> bool {
     right
 }
 
-#[test]
-fn the_words_are_those_of_the_text(rt: HostRuntime) -> Result<(), Fail> {
-    let image = assemble(rt.alloc(), TEXT.as_bytes())?;
-    let mut memory = Memory::new(rt.alloc())?;
+/// Whether an image has the nine words and no more, and gives them to a memory.
+fn gives_words(alloc: Global, image: &Image) -> bool {
+    let Ok(mut memory) = Memory::new(alloc) else {
+        return false;
+    };
     image.page(0, memory.frame_mut(0));
-    assert!(rt; image.len() == 36 && has_words(&memory));
-    Ok(())
+    image.len() == 36 && has_words(&memory)
+}
+
+/// Whether the text of the handler is assembled to the nine words.
+fn is_assembled(alloc: Global) -> bool {
+    match assemble(alloc, TEXT.as_bytes()) {
+        Ok(image) => gives_words(alloc, &image),
+        Err(_) => false,
+    }
 }
 
 #[test]
-fn the_words_are_installed_at_the_beginning_of_memory(rt: HostRuntime) -> Result<(), Fail> {
-    let mut memory = Memory::new(rt.alloc())?;
+fn the_words_are_those_of_the_text(rt: HostRuntime) {
+    assert!(rt; is_assembled(rt.alloc()));
+}
+
+/// Whether the nine words are put at the beginning of a memory, and no others change.
+fn is_installed(alloc: Global) -> bool {
+    let Ok(mut memory) = Memory::new(alloc) else {
+        return false;
+    };
     memory.put_word(36, 5);
     memory.put_word(0x1000, 6);
     install(&mut memory);
     let others = memory.word(36) == 5 && memory.word(0x1000) == 6;
-    assert!(rt; others && has_words(&memory));
-    Ok(())
+    others && has_words(&memory)
+}
+
+#[test]
+fn the_words_are_installed_at_the_beginning_of_memory(rt: HostRuntime) {
+    assert!(rt; is_installed(rt.alloc()));
 }
 
 /// Places that have no word of the handler.
@@ -77,29 +95,42 @@ const ELSEWHERE: [u32; 7] = [
     0xa000_0000,
 ];
 
-#[test]
-fn a_place_has_the_phase_of_its_word(rt: HostRuntime) {
-    let seventh = phase(0x8000_0018) == Some(6);
-    let mut right = seventh && phase(0x8000_0000) == Some(0) && phase(0x8000_0020) == Some(8);
+/// Whether the other places have no phase.
+fn have_no_phase() -> bool {
+    let mut right = true;
     for pc in ELSEWHERE {
         right = right && phase(pc).is_none();
     }
-    assert!(rt; right);
+    right
+}
+
+#[test]
+fn a_place_has_the_phase_of_its_word(rt: HostRuntime) {
+    let seventh = phase(0x8000_0018) == Some(6);
+    let ends = phase(0x8000_0000) == Some(0) && phase(0x8000_0020) == Some(8);
+    assert!(rt; seventh && ends && have_no_phase());
+}
+
+/// Puts the word of the page that missed into process 1's table, and answers the frame of that
+/// table, or 0 where there is none.
+fn frame_of_table(memory: &mut Memory) -> u32 {
+    let mut tables = Tables::new(1);
+    if tables.put_entry(memory, 1, MISSED, WORD).is_ok() {
+        tables.page_of_table(1, MISSED >> 22) as u32
+    } else {
+        0
+    }
 }
 
 /// A bus whose memory has the handler, and in process 1's table the word of the page that missed;
 /// and the frame of that table.
-fn new_bus(alloc: Global) -> Result<(Bus, u32), OutOfMemory> {
-    let mut memory = Memory::new(alloc)?;
-    install(&mut memory);
-    let mut tables = Tables::new(1);
-    let put = tables.put_entry(&mut memory, 1, MISSED, WORD).is_ok();
-    let frame = if put {
-        tables.page_of_table(1, MISSED >> 22) as u32
-    } else {
-        0
+fn new_bus(alloc: Global) -> Option<(Bus, u32)> {
+    let Ok(mut memory) = Memory::new(alloc) else {
+        return None;
     };
-    Ok((Bus::new(memory), frame))
+    install(&mut memory);
+    let frame = frame_of_table(&mut memory);
+    Some((Bus::new(memory), frame))
 }
 
 /// What is late before each word of the handler.
@@ -241,13 +272,19 @@ fn goes_back_from_each<L: Lookaside>(bus: &mut Bus, table: u32) -> bool
     right
 }
 
-#[test]
-fn the_handler_refills_from_each_of_its_places(rt: HostRuntime) -> Result<(), Fail> {
-    let (mut bus, table) = new_bus(rt.alloc())?;
+/// Whether it goes back from each of its places, over either buffer.
+fn goes_back_over_both(alloc: Global) -> bool {
+    let Some((mut bus, table)) = new_bus(alloc) else {
+        return false;
+    };
     let searched = goes_back_from_each::<Tlb<64, 8>>(&mut bus, table);
     let indexed = goes_back_from_each::<Indexed<64, 8>>(&mut bus, table);
-    assert!(rt; table == 2 && searched && indexed);
-    Ok(())
+    table == 2 && searched && indexed
+}
+
+#[test]
+fn the_handler_refills_from_each_of_its_places(rt: HostRuntime) {
+    assert!(rt; goes_back_over_both(rt.alloc()));
 }
 
 /// The handler where the buffer lacks the page of the table: whether its third word misses it, and
@@ -267,9 +304,15 @@ fn misses<L: Lookaside>(bus: &mut Bus) -> bool
     is_missed && told && core.pc == 0x8000_0080 && core.registers[27] == PROGRAM
 }
 
+/// Whether it misses the page of the table over either buffer.
+fn misses_over_both(alloc: Global) -> bool {
+    match new_bus(alloc) {
+        Some((mut bus, _)) => misses::<Tlb<64, 8>>(&mut bus) && misses::<Indexed<64, 8>>(&mut bus),
+        None => false,
+    }
+}
+
 #[test]
-fn a_page_of_a_table_may_be_missed(rt: HostRuntime) -> Result<(), Fail> {
-    let (mut bus, _) = new_bus(rt.alloc())?;
-    assert!(rt; misses::<Tlb<64, 8>>(&mut bus) && misses::<Indexed<64, 8>>(&mut bus));
-    Ok(())
+fn a_page_of_a_table_may_be_missed(rt: HostRuntime) {
+    assert!(rt; misses_over_both(rt.alloc()));
 }

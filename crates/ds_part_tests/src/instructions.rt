@@ -29,14 +29,19 @@ fn operation_comes_back(op: u32, word: &mut u32) -> bool
     right
 }
 
-#[test]
-fn every_word_comes_back(rt: HostRuntime) {
+/// Whether words of each operation come back.
+fn operations_come_back() -> bool {
     let mut word: u32 = 1;
     let mut right = true;
     for op in 0..64_u32 {
         right = operation_comes_back(op, &mut word) && right;
     }
-    assert!(rt; right);
+    right
+}
+
+#[test]
+fn every_word_comes_back(rt: HostRuntime) {
+    assert!(rt; operations_come_back());
 }
 
 /// Whether words of operation 0 come back: of all fields, and of rs, rt and rd alone.
@@ -50,14 +55,19 @@ fn function_comes_back(funct: u32, word: &mut u32) -> bool {
     right
 }
 
-#[test]
-fn every_word_of_operation_0_comes_back(rt: HostRuntime) {
+/// Whether words of operation 0 come back, of each function.
+fn functions_come_back() -> bool {
     let mut word: u32 = 1;
     let mut right = true;
     for funct in 0..64_u32 {
         right = function_comes_back(funct, &mut word) && right;
     }
-    assert!(rt; right);
+    right
+}
+
+#[test]
+fn every_word_of_operation_0_comes_back(rt: HostRuntime) {
+    assert!(rt; functions_come_back());
 }
 
 /// Whether words of an operation and a field come back: with rd and what lies below it, and with

@@ -2,7 +2,7 @@
 
 use ds_log::{Denied, LINE_ROOM, Line, append, line_fits};
 use ds_policy::Rule;
-use std::test::Fail;
+use std::alloc::Global;
 
 // A denial to process 1.
 fn denial(time: u64, pc: u32, kind: Denied, addr: u32, rule: Rule, code: u32) -> Line {
@@ -29,15 +29,18 @@ const LINES: &str = "0 1 00400000 load 00000000 r0 2
 5 command 1 refused 12
 ";
 
-#[test]
-fn lines_have_the_text_of_the_worked_examples(rt: HostRuntime) -> Result<(), Fail> {
-    let refused = Line::Refused {
-        time: 5,
+/// The refusal of the first command.
+fn refusal(time: u64, number: u32) -> Line {
+    Line::Refused {
+        time,
         command: 1,
-        number: 12,
-    };
-    let mut text = Vec::new(rt.alloc());
-    for line in [
+        number,
+    }
+}
+
+/// The worked examples.
+fn examples() -> [Line; 9] {
+    [
         denial(0, 0x0040_0000, Denied::Load, 0, Rule::Number(0), 2),
         denial(
             1,
@@ -67,30 +70,43 @@ fn lines_have_the_text_of_the_worked_examples(rt: HostRuntime) -> Result<(), Fai
             3,
         ),
         denial(17, 0x7FFF_FFFC, Denied::Load, 0x89AB_CDEF, Rule::K, 4),
-        refused,
-    ] {
-        append(&mut text, &line)?;
+        refusal(5, 12),
+    ]
+}
+
+/// Whether the worked examples have their text.
+fn have_text(alloc: Global) -> bool {
+    let mut text = Vec::new(alloc);
+    for line in examples() {
+        if append(&mut text, &line).is_err() {
+            return false;
+        }
     }
-    assert!(rt; text.as_slice() == LINES.as_bytes());
-    Ok(())
+    text.as_slice() == LINES.as_bytes()
 }
 
 #[test]
-fn a_line_takes_no_memory_where_it_has_room(rt: HostRuntime) -> Result<(), Fail> {
-    let want = "1 command 1 refused 15\n";
-    let mut text = Vec::with_capacity(rt.alloc(), want.len())?;
-    let line = Line::Refused {
-        time: 1,
-        command: 1,
-        number: 15,
+fn lines_have_the_text_of_the_worked_examples(rt: HostRuntime) {
+    assert!(rt; have_text(rt.alloc()));
+}
+
+/// Whether a line has a text, and takes no more memory than a list with so much room has.
+fn has_room(alloc: Global, line: &Line, room: usize, wanted: &str) -> bool {
+    let Ok(mut text) = Vec::with_capacity(alloc, room) else {
+        return false;
     };
-    append(&mut text, &line)?;
-    assert!(rt; text.as_slice() == want.as_bytes() && text.capacity() == want.len());
-    Ok(())
+    let is_added = append(&mut text, line).is_ok();
+    is_added && text.as_slice() == wanted.as_bytes() && text.capacity() == room
 }
 
 #[test]
-fn the_longest_short_line_fills_its_room(rt: HostRuntime) -> Result<(), Fail> {
+fn a_line_takes_no_memory_where_it_has_room(rt: HostRuntime) {
+    let wanted = "1 command 1 refused 15\n";
+    assert!(rt; has_room(rt.alloc(), &refusal(1, 15), wanted.len(), wanted));
+}
+
+#[test]
+fn the_longest_short_line_fills_its_room(rt: HostRuntime) {
     let line = Line::Denial {
         time: 9_999_999_999,
         process: u32::MAX,
@@ -101,9 +117,6 @@ fn the_longest_short_line_fills_its_room(rt: HostRuntime) -> Result<(), Fail> {
         code: 99_999,
     };
     line_fits(&line);
-    let mut text = Vec::with_capacity(rt.alloc(), LINE_ROOM)?;
-    append(&mut text, &line)?;
-    let want = "9999999999 4294967295 FFFFFFFF store FFFFFFFF r4294967295 99999\n";
-    assert!(rt; text.as_slice() == want.as_bytes() && text.capacity() == LINE_ROOM);
-    Ok(())
+    let wanted = "9999999999 4294967295 FFFFFFFF store FFFFFFFF r4294967295 99999\n";
+    assert!(rt; has_room(rt.alloc(), &line, LINE_ROOM, wanted));
 }

@@ -1,6 +1,6 @@
 //! What a policy and an input say, where no row shows it.
 use ds_policy::{Events, EventsFault, Policy, address_of};
-use std::test::*;
+use std::alloc::Global;
 
 /// A process, its code, a page of data, and a rule over the code.
 const POLICY: &str =
@@ -29,25 +29,46 @@ fn is_address(line: &str) -> bool {
     }
 }
 
-#[test]
-fn an_address_is_eight_hexadecimal_digits(rt: HostRuntime) {
+/// Whether each word is the address that stands behind it.
+fn are_addresses() -> bool {
     let mut right = true;
     for line in ADDRESSES.lines() {
         right = is_address(line) && right;
     }
-    assert!(rt; right);
+    right
 }
 
 #[test]
-fn a_long_text_is_read(rt: HostRuntime) -> Result<(), Fail> {
-    let policy = Policy::read(rt.alloc(), POLICY.as_bytes())?;
-    let mut text: Vec<u8> = Vec::new(rt.alloc());
-    text.resize(100_000, b'\n')?;
-    text.resize(200_000, b' ')?;
-    let is_fault = match Events::read(rt.alloc(), &text, &policy) {
+fn an_address_is_eight_hexadecimal_digits(rt: HostRuntime) {
+    assert!(rt; are_addresses());
+}
+
+/// Whether an input of a policy is refused in its line 100,001.
+fn is_refused(alloc: Global, text: &[u8], policy: &Policy) -> bool {
+    match Events::read(alloc, text, policy) {
         Ok(_) => false,
         Err(fault) => fault == EventsFault::InputFault(100_001),
-    };
-    assert!(rt; is_fault);
-    Ok(())
+    }
+}
+
+/// Whether an input of 100,000 empty lines, and blanks in the last, is refused there.
+fn is_read(alloc: Global, policy: &Policy) -> bool {
+    let mut text: Vec<u8> = Vec::new(alloc);
+    if text.resize(100_000, b'\n').is_err() || text.resize(200_000, b' ').is_err() {
+        return false;
+    }
+    is_refused(alloc, &text, policy)
+}
+
+/// Whether the long text is read up to its last line.
+fn reads_to_the_end(alloc: Global) -> bool {
+    match Policy::read(alloc, POLICY.as_bytes()) {
+        Ok(policy) => is_read(alloc, &policy),
+        Err(_) => false,
+    }
+}
+
+#[test]
+fn a_long_text_is_read(rt: HostRuntime) {
+    assert!(rt; reads_to_the_end(rt.alloc()));
 }
