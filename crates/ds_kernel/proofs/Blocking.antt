@@ -86,9 +86,22 @@ counts_more : (n t : ℕ) (slot : Bool) (own : Own) → t ≡ 0 → (counts_behi
 counts_more n zero slot own none = more_spent n (counts_of own)
 counts_more n (suc t) slot own none = absurd (omega (arith, none))
 
--- a branch alone is one instruction more
-pub counts_of_branch : (steps ticks : ℕ) (slot : Bool) (own : Own) → ticks ≡ 0 → steps ≡ 1 → with_one_spent own ≡ with_counts own (counts_behind steps ticks slot own)
-counts_of_branch steps ticks slot own none one = ap₂ (λ (s t : ℕ). with_counts own (counts_behind s t slot own)) (sym one) (sym none)
+-- where nothing but a unit's branch was counted, so it is after the block
+pub whole_counts : (n t before : ℕ) (slot : Bool) (own : Own) → IsFresh own → own.spent ≡ before → t + owed_tick slot ≡ n + before → with_counts own (counts_behind n t slot own) ≡ record own { spent = owed_tick slot }
+whole_counts n (suc t) before slot own fresh is sum = sym (ap (λ (c : Counts). with_counts own (record c { spent = owed_tick slot })) fresh)
+whole_counts zero zero before slot own fresh is sum = ap (λ (s : ℕ). record own { spent = s }) (omega (arith, is, sum))
+whole_counts (suc zero) zero before slot own fresh is sum =
+    ap (λ (c : Counts). with_counts own (one_more c)) fresh
+    ∙ (sym (ap (λ (c : Counts). with_counts own (record c { spent = own.spent + 1 })) fresh)
+    ∙ ap (λ (s : ℕ). record own { spent = s }) (omega (arith, is, sum)))
+whole_counts (suc (suc n)) zero before slot own fresh is sum = absurd (let small = owed_small slot in omega (arith, small, sum))
+
+-- and with an instruction more
+pub whole_raised : (n t before : ℕ) (slot : Bool) (own : Own) → IsFresh own → own.spent ≡ before → t + owed_tick slot ≡ n + before → with_counts own (one_more (counts_behind n t slot own)) ≡ record own { spent = owed_tick slot + 1 }
+whole_raised n t before slot own fresh is sum =
+    ap with_one_spent (whole_counts n t before slot own fresh is sum)
+    ∙ (ap (λ (c : Counts). with_counts own (one_more (record c { spent = owed_tick slot }))) fresh
+    ∙ sym (ap (λ (c : Counts). with_counts own (record c { spent = owed_tick slot + 1 })) fresh))
 
 -- Random has gone no more than a step on since the first refill of the unit
 later_small : (written : List ℕ) (since : ℕ) → later written since ≤ since + 1
@@ -102,12 +115,9 @@ counts_since (suc (suc n)) zero slot own early one = absurd (let most = one refl
 counts_since n (suc t) slot own early one = omega arith
 
 -- So what is counted after a block leaves room for one more, which its exception takes.
-pub counts_leave_room : (n before : ℕ) (was slot : Bool) (own : Own) → before ≡ owed_tick was → own.spent ≤ 61 → own.since < 56
-    → ((counts_behind n (n + before - owed_tick slot) slot own).spent ≤ 62) × ((counts_behind n (n + before - owed_tick slot) slot own).since ≤ 56)
-counts_leave_room n before was slot own is few early =
-    let small : owed_tick slot ≤ 1 = owed_small slot in
-    let one : n + before - owed_tick slot ≡ 0 → n ≤ 1 = λ none. omega (arith, small, none) in
-    (counts_few n (n + before - owed_tick slot) slot own few one, counts_since n (n + before - owed_tick slot) slot own early one)
+pub counts_leave_room : (n t : ℕ) (slot : Bool) (own : Own) → (t ≡ 0 → n ≤ 1) → own.spent ≤ 61 → own.since < 56
+    → ((counts_behind n t slot own).spent ≤ 62) × ((counts_behind n t slot own).since ≤ 56)
+counts_leave_room n t slot own one few early = (counts_few n t slot own few one, counts_since n t slot own early one)
 
 -- after some steps a unit is begun where the next stands in a slot
 begun_in_slot : (n t : ℕ) (slot : Bool) (own : Own) → (t ≡ 0 → owed_tick slot ≡ 1) → 0 < (counts_behind n t slot own).spent → owed_tick slot ≡ 1
@@ -177,9 +187,6 @@ IsMoved old new c b passed = new ≡ record (with_counts_of new old) { core = c;
 pub counted_is : {L : Type 0} (old mid new : Parts L) (passed : ℕ) → mid ≡ record old { core = mid.core; bus = mid.bus }
     → new ≡ record (with_counts_of new mid) { monitor = record mid.monitor { time = mid.monitor.time + passed } } → IsMoved old new mid.core mid.bus passed
 counted_is {L = L} old mid new passed rest by = by ∙ ap (λ (x : Parts L). record (with_counts_of new x) { monitor = record x.monitor { time = x.monitor.time + passed } }) rest
-
-pub counted_once_more : {L : Type 0} (old mid new : Parts L) (c : CoreState) (b : BusState) (passed : ℕ) → IsMoved old mid c b passed → new ≡ with_counts_of new mid → IsMoved old new c b passed
-counted_once_more {L = L} old mid new c b passed moves by = by ∙ ap (λ (x : Parts L). with_counts_of new x) moves
 
 -- A block of at most so many instructions from the old parts.
 module _ {L : Type 0} (limit n : ℕ) (old new : Parts L) (c : CoreState) (b : BusState) (passed : ℕ) (good : IsGood old) (goes : MayRunAhead limit (held old)) (room : HasRoom 1 old.monitor) (in_time : old.monitor.time + limit + 1 ≤ 1000000000)

@@ -3,7 +3,7 @@ ghost use Rattle.std.specs.Prelude.{[], ◌≢◌, ◌≡◌, ◌<◌, ◌≤◌
 ghost use Rattle.ds_cp0.specs.declared.exception.ExceptionCode.TheVariants as exception;
 ghost use Rattle.ds_ahead.specs.Ahead.{hardware_of, AdvancesTo, ComesByWords, ticks, owed_tick};
 ghost use Rattle.ds_refinement.specs.Blocks.{MayRunAhead, counts_behind};
-ghost use Rattle.ds_refinement.specs.Counts.{fresh, with_counts};
+ghost use Rattle.ds_refinement.specs.Counts.{IsFresh, fresh, one_more, with_counts};
 ghost use Rattle.ds_refinement.specs.Services.{with_failure};
 ghost use Rattle.ds_monitor.specs.Room.{HasRoom};
 ghost use Rattle.ds_kernel.specs.Parts.{held, own_of, with_counts_of};
@@ -133,27 +133,31 @@ impl<L: Lookaside> Parts<L> {
         self.spent = owed_tick(slot);
     }
 
-    /// So many steps were taken in so many ticks, and the next stands in a slot or not.
-    #[inline(always)]
-    fn count_steps(&mut self, steps: u32, ticks: u32, slot: bool)
+    /// So many ticks are over, after so many were left to a slot, and the next instruction stands in
+    /// a slot or not: where none is over, a branch was done, or nothing.
+    // It stands apart, since most blocks begin where a unit does.
+    #[cold]
+    #[inline(never)]
+    fn count_steps(&mut self, ticks: u32, before: u32, slot: bool)
         requires spent { self.old.spent ≤ 64 }
         requires since { self.old.since < 56 }
-        requires branch { ticks ≡ 0 → steps ≤ 1 }
         ensures own { own_of self.new ≡ with_counts (own_of self.old)
-            (counts_behind steps ticks slot (own_of self.old)) }
+            (counts_behind (ticks + owed_tick slot - before) ticks slot (own_of self.old)) }
         ensures rest { self.new ≡ with_counts_of self.new self.old }
     {
         if ticks > 0 {
             self.count_anew(slot);
-        } else if steps > 0 {
+        } else if owed_tick(slot) > before {
             self.count_one();
         }
     }
 
     /// So many steps were taken, the first after so many ticks were left to a slot, and the next stands
     /// in a slot or not: their ticks are over, and what is counted of the unit is as they leave it.
+    /// Where the block began with its unit, nothing else is counted than that.
     #[inline(always)]
     fn count_block(&mut self, steps: u32, before: u32, slot: bool)
+        requires fresh { self.old.spent ≡ before → IsFresh (own_of self.old) }
         requires early { self.old.monitor.time ≤ 1000000000 }
         requires fits { steps + before < 2 ^ 32 }
         requires some { owed_tick slot ≤ steps + before }
@@ -169,7 +173,38 @@ impl<L: Lookaside> Parts<L> {
     {
         let ticks = steps + before - owed_tick(slot);
         self.pass(ticks);
-        self.count_steps(steps, ticks, slot);
+        if self.spent == before {
+            self.spent = owed_tick(slot);
+        } else {
+            self.count_steps(ticks, before, slot);
+        }
+    }
+
+    /// The same, with one instruction more, which raised an exception: it stood in a slot or not.
+    #[inline(always)]
+    fn count_raised(&mut self, steps: u32, before: u32, slot: bool)
+        requires fresh { self.old.spent ≡ before → IsFresh (own_of self.old) }
+        requires early { self.old.monitor.time ≤ 1000000000 }
+        requires fits { steps + before < 2 ^ 32 }
+        requires some { owed_tick slot ≤ steps + before }
+        requires spent { self.old.spent ≤ 61 }
+        requires since { self.old.since < 56 }
+        ensures own { own_of self.new ≡ with_counts (own_of self.old)
+            (one_more (counts_behind steps (steps + before - owed_tick slot) slot (own_of self.old))) }
+        ensures rest { self.new ≡ record (with_counts_of self.new self.old) {
+          monitor = record self.old.monitor {
+            time = self.old.monitor.time + (steps + before - owed_tick slot);
+          };
+        } }
+    {
+        let ticks = steps + before - owed_tick(slot);
+        self.pass(ticks);
+        if self.spent == before {
+            self.spent = owed_tick(slot) + 1;
+        } else {
+            self.count_steps(ticks, before, slot);
+            self.count_one();
+        }
     }
 
     /// Takes so many instructions, or fewer and then one that raises an exception.
@@ -226,8 +261,7 @@ impl<L: Lookaside> Parts<L> {
             Some(code) => {
                 self.look_at_processor();
                 let slot = self.is_delayed();
-                self.count_block(ahead.steps, before, slot);
-                self.count_one();
+                self.count_raised(ahead.steps, before, slot);
                 is_call(code)
             }
         }

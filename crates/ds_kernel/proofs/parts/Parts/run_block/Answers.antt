@@ -5,13 +5,12 @@ use Rattle.ds_ahead.specs.Ahead.{hardware_of, AdvancesTo, ticks, owed_tick}
 use Rattle.ds_refinement.specs.Counts.{with_counts, one_more}
 use Rattle.ds_refinement.specs.Blocks.{counts_behind}
 use Rattle.ds_refinement.specs.Held.{Own}
-use Rattle.ds_refinement.specs.Services.{with_one_spent}
 use Rattle.ds_refinement.specs.Told.{is_delayed}
 use Rattle.ds_refinement.proofs.BlockPaths.{raised_ticks}
 use Rattle.ds_refinement.proofs.Tallied.{few_of}
 use Rattle.ds_kernel.specs.declared.parts.Parts.{Parts}
 use Rattle.ds_kernel.specs.Parts.{held, own_of}
-use Rattle.ds_kernel.proofs.Blocking.{counts_leave_room, counted_is, counted_once_more, calm_good, calm_goes, raised_good, raised_goes, raised_soon, raised_call}
+use Rattle.ds_kernel.proofs.Blocking.{counted_is, calm_good, calm_goes, raised_good, raised_goes, raised_soon, raised_call}
 use Rattle.ds_kernel.proofs.parts.Parts.run_block.Goals as goal
 
 -- What is counted leaves room.
@@ -21,13 +20,13 @@ count_block-requires-clause-since g c =
     let sound = c.requires.good.sound in
     subst (λ (p : Parts g.row.L.Denot). p.since < 56) (sym c.run_ahead-ahead.ensures.rest) (few_of (held c.args.self.now) sound.state sound.stands).since
 
-pub count_block-requires-in-Some-clause-since : goal.count_block-requires-in-Some-clause-since
-count_block-requires-in-Some-clause-since g c =
+pub count_raised-requires-clause-since : goal.count_raised-requires-clause-since
+count_raised-requires-clause-since g c =
     let sound = c.requires.good.sound in
     subst (λ (p : Parts g.row.L.Denot). p.since < 56) (sym c.run_ahead-ahead.ensures.rest) (few_of (held c.args.self.now) sound.state sound.stands).since
 
-pub count_block-requires-in-Some-clause-some : goal.count_block-requires-in-Some-clause-some
-count_block-requires-in-Some-clause-some g c =
+pub count_raised-requires-clause-some : goal.count_raised-requires-clause-some
+count_raised-requires-clause-some g c =
     let old = c.args.self.now in
     let mid = c.run_ahead-ahead.new.self in
     let n = c.run_ahead-ahead.result.steps in
@@ -40,25 +39,6 @@ count_block-requires-in-Some-clause-some g c =
 -- what was counted before the block is counted after its instructions
 kept_counts : {L : Type 0} (old mid : Parts L) → mid ≡ record old { core = mid.core; bus = mid.bus } → own_of mid ≡ own_of old
 kept_counts {L = L} old mid rest = ap (λ (p : Parts L). own_of p) rest
-
-pub count_one-requires-clause-spent : goal.count_one-requires-clause-spent
-count_one-requires-clause-spent g c =
-    let sound = c.requires.good.sound in
-    let counts = few_of (held c.args.self.now) sound.state sound.stands in
-    let kept = kept_counts c.args.self.now c.run_ahead-ahead.new.self c.run_ahead-ahead.ensures.rest in
-    let room = counts_leave_room c.run_ahead-ahead.result.steps c.slot_tick-before.result c.args.self.now.core.slot c.is_delayed-slot.result (own_of c.run_ahead-ahead.new.self) c.slot_tick-before.ensures
-    (subst (λ (o : Own). o.spent ≤ 61) (sym kept) counts.spent) (subst (λ (o : Own). o.since < 56) (sym kept) counts.since) in
-    let few : c.count_block-in-Some.new.self.spent ≤ 62 = subst (λ (o : Own). o.spent ≤ 62) (sym c.count_block-in-Some.ensures.own) room.0 in
-    omega (arith, few)
-
-pub count_one-requires-clause-since : goal.count_one-requires-clause-since
-count_one-requires-clause-since g c =
-    let sound = c.requires.good.sound in
-    let counts = few_of (held c.args.self.now) sound.state sound.stands in
-    let kept = kept_counts c.args.self.now c.run_ahead-ahead.new.self c.run_ahead-ahead.ensures.rest in
-    let room = counts_leave_room c.run_ahead-ahead.result.steps c.slot_tick-before.result c.args.self.now.core.slot c.is_delayed-slot.result (own_of c.run_ahead-ahead.new.self) c.slot_tick-before.ensures
-    (subst (λ (o : Own). o.spent ≤ 61) (sym kept) counts.spent) (subst (λ (o : Own). o.since < 56) (sym kept) counts.since) in
-    subst (λ (o : Own). o.since ≤ 56) (sym c.count_block-in-Some.ensures.own) room.1
 
 -- No instruction raised an exception.
 
@@ -98,11 +78,10 @@ returns-in-None-clause-goes g c = λ end soon.
 
 -- The one after them did.
 
--- the exception's instruction is counted after them
-raised_counts : {L : Type 0} (old mid between : Parts L) (n before : ℕ) (slot : Bool) → mid ≡ record old { core = mid.core; bus = mid.bus } → own_of between ≡ with_counts (own_of mid) (counts_behind n (n + before - owed_tick slot) slot (own_of mid))
-    → slot ≡ is_delayed mid.core.system → with_one_spent (own_of between) ≡ with_counts (own_of old) (one_more (counts_behind n (n + before - owed_tick slot) (is_delayed mid.core.system) (own_of old)))
-raised_counts {L = L} old mid between n before slot rest own told =
-    ap with_one_spent own
+raised_counts : {L : Type 0} (old mid new : Parts L) (n before : ℕ) (slot : Bool) → mid ≡ record old { core = mid.core; bus = mid.bus } → own_of new ≡ with_counts (own_of mid) (one_more (counts_behind n (n + before - owed_tick slot) slot (own_of mid)))
+    → slot ≡ is_delayed mid.core.system → own_of new ≡ with_counts (own_of old) (one_more (counts_behind n (n + before - owed_tick slot) (is_delayed mid.core.system) (own_of old)))
+raised_counts {L = L} old mid new n before slot rest own told =
+    own
     ∙ (ap (λ (o : Own). with_counts o (one_more (counts_behind n (n + before - owed_tick slot) slot o))) (kept_counts old mid rest)
     ∙ ap (λ (s : Bool). with_counts (own_of old) (one_more (counts_behind n (n + before - owed_tick slot) s (own_of old)))) told)
 
@@ -113,11 +92,11 @@ returns-in-Some-clause-good g c =
     let n = c.run_ahead-ahead.result.steps in
     let leads = subst (λ (o : Option ExceptionCode). AdvancesTo n o (hardware_of old.core old.bus) (hardware_of mid.core mid.bus)) c.in-Some.is c.run_ahead-ahead.ensures.steps in
     let fewer = subst (λ (o : Option ExceptionCode). IfSome o (λ (code : ExceptionCode). n < c.args.limit)) c.in-Some.is c.run_ahead-ahead.ensures.fewer in
-    raised_good c.args.limit n old c.count_one.new.self mid.core mid.bus _ c.requires.good c.requires.ahead c.requires.room c.requires.early c.requires.before c.run_ahead-ahead.ensures.words
-    (counted_once_more old c.count_block-in-Some.new.self c.count_one.new.self mid.core mid.bus _ (counted_is old mid c.count_block-in-Some.new.self _ c.run_ahead-ahead.ensures.rest c.count_block-in-Some.ensures.rest) c.count_one.ensures.rest)
+    raised_good c.args.limit n old c.count_raised.new.self mid.core mid.bus _ c.requires.good c.requires.ahead c.requires.room c.requires.early c.requires.before c.run_ahead-ahead.ensures.words
+    (counted_is old mid c.count_raised.new.self _ c.run_ahead-ahead.ensures.rest c.count_raised.ensures.rest)
     c.in-Some.code fewer leads c.look_at_processor.ensures.whole (raised_ticks n c.in-Some.code (hardware_of old.core old.bus) (hardware_of mid.core mid.bus) leads)
     (ap₂ (λ (x : ℕ) (slot : Bool). n + x - owed_tick slot) c.slot_tick-before.ensures c.is_delayed-slot.ensures)
-    (c.count_one.ensures.own ∙ raised_counts old mid c.count_block-in-Some.new.self n c.slot_tick-before.result c.is_delayed-slot.result c.run_ahead-ahead.ensures.rest c.count_block-in-Some.ensures.own c.is_delayed-slot.ensures)
+    (raised_counts old mid c.count_raised.new.self n c.slot_tick-before.result c.is_delayed-slot.result c.run_ahead-ahead.ensures.rest c.count_raised.ensures.own c.is_delayed-slot.ensures)
 
 pub returns-in-Some-clause-goes : goal.returns-in-Some-clause-goes
 returns-in-Some-clause-goes g c = λ end soon.
@@ -126,11 +105,11 @@ returns-in-Some-clause-goes g c = λ end soon.
     let n = c.run_ahead-ahead.result.steps in
     let leads = subst (λ (o : Option ExceptionCode). AdvancesTo n o (hardware_of old.core old.bus) (hardware_of mid.core mid.bus)) c.in-Some.is c.run_ahead-ahead.ensures.steps in
     let fewer = subst (λ (o : Option ExceptionCode). IfSome o (λ (code : ExceptionCode). n < c.args.limit)) c.in-Some.is c.run_ahead-ahead.ensures.fewer in
-    raised_goes c.args.limit n old c.count_one.new.self mid.core mid.bus _ c.requires.good c.requires.ahead c.requires.room c.requires.early c.requires.before c.run_ahead-ahead.ensures.words
-    (counted_once_more old c.count_block-in-Some.new.self c.count_one.new.self mid.core mid.bus _ (counted_is old mid c.count_block-in-Some.new.self _ c.run_ahead-ahead.ensures.rest c.count_block-in-Some.ensures.rest) c.count_one.ensures.rest)
+    raised_goes c.args.limit n old c.count_raised.new.self mid.core mid.bus _ c.requires.good c.requires.ahead c.requires.room c.requires.early c.requires.before c.run_ahead-ahead.ensures.words
+    (counted_is old mid c.count_raised.new.self _ c.run_ahead-ahead.ensures.rest c.count_raised.ensures.rest)
     c.in-Some.code fewer leads c.look_at_processor.ensures.whole (raised_ticks n c.in-Some.code (hardware_of old.core old.bus) (hardware_of mid.core mid.bus) leads)
     (ap₂ (λ (x : ℕ) (slot : Bool). n + x - owed_tick slot) c.slot_tick-before.ensures c.is_delayed-slot.ensures)
-    (c.count_one.ensures.own ∙ raised_counts old mid c.count_block-in-Some.new.self n c.slot_tick-before.result c.is_delayed-slot.result c.run_ahead-ahead.ensures.rest c.count_block-in-Some.ensures.own c.is_delayed-slot.ensures) end soon
+    (raised_counts old mid c.count_raised.new.self n c.slot_tick-before.result c.is_delayed-slot.result c.run_ahead-ahead.ensures.rest c.count_raised.ensures.own c.is_delayed-slot.ensures) end soon
 
 pub returns-in-Some-clause-called : goal.returns-in-Some-clause-called
 returns-in-Some-clause-called g c = λ is.
@@ -139,11 +118,11 @@ returns-in-Some-clause-called g c = λ is.
     let n = c.run_ahead-ahead.result.steps in
     let leads = subst (λ (o : Option ExceptionCode). AdvancesTo n o (hardware_of old.core old.bus) (hardware_of mid.core mid.bus)) c.in-Some.is c.run_ahead-ahead.ensures.steps in
     let fewer = subst (λ (o : Option ExceptionCode). IfSome o (λ (code : ExceptionCode). n < c.args.limit)) c.in-Some.is c.run_ahead-ahead.ensures.fewer in
-    raised_call c.args.limit n old c.count_one.new.self mid.core mid.bus _ c.requires.good c.requires.ahead c.requires.room c.requires.early c.requires.before c.run_ahead-ahead.ensures.words
-    (counted_once_more old c.count_block-in-Some.new.self c.count_one.new.self mid.core mid.bus _ (counted_is old mid c.count_block-in-Some.new.self _ c.run_ahead-ahead.ensures.rest c.count_block-in-Some.ensures.rest) c.count_one.ensures.rest)
+    raised_call c.args.limit n old c.count_raised.new.self mid.core mid.bus _ c.requires.good c.requires.ahead c.requires.room c.requires.early c.requires.before c.run_ahead-ahead.ensures.words
+    (counted_is old mid c.count_raised.new.self _ c.run_ahead-ahead.ensures.rest c.count_raised.ensures.rest)
     c.in-Some.code fewer leads c.look_at_processor.ensures.whole (raised_ticks n c.in-Some.code (hardware_of old.core old.bus) (hardware_of mid.core mid.bus) leads)
     (ap₂ (λ (x : ℕ) (slot : Bool). n + x - owed_tick slot) c.slot_tick-before.ensures c.is_delayed-slot.ensures)
-    (c.count_one.ensures.own ∙ raised_counts old mid c.count_block-in-Some.new.self n c.slot_tick-before.result c.is_delayed-slot.result c.run_ahead-ahead.ensures.rest c.count_block-in-Some.ensures.own c.is_delayed-slot.ensures) (c.is_call.ensures is)
+    (raised_counts old mid c.count_raised.new.self n c.slot_tick-before.result c.is_delayed-slot.result c.run_ahead-ahead.ensures.rest c.count_raised.ensures.own c.is_delayed-slot.ensures) (c.is_call.ensures is)
 
 pub returns-in-Some-clause-early : goal.returns-in-Some-clause-early
 returns-in-Some-clause-early g c = λ is.
@@ -152,8 +131,8 @@ returns-in-Some-clause-early g c = λ is.
     let n = c.run_ahead-ahead.result.steps in
     let leads = subst (λ (o : Option ExceptionCode). AdvancesTo n o (hardware_of old.core old.bus) (hardware_of mid.core mid.bus)) c.in-Some.is c.run_ahead-ahead.ensures.steps in
     let fewer = subst (λ (o : Option ExceptionCode). IfSome o (λ (code : ExceptionCode). n < c.args.limit)) c.in-Some.is c.run_ahead-ahead.ensures.fewer in
-    raised_soon c.args.limit n old c.count_one.new.self mid.core mid.bus _ c.requires.good c.requires.ahead c.requires.room c.requires.early c.requires.before c.run_ahead-ahead.ensures.words
-    (counted_once_more old c.count_block-in-Some.new.self c.count_one.new.self mid.core mid.bus _ (counted_is old mid c.count_block-in-Some.new.self _ c.run_ahead-ahead.ensures.rest c.count_block-in-Some.ensures.rest) c.count_one.ensures.rest)
+    raised_soon c.args.limit n old c.count_raised.new.self mid.core mid.bus _ c.requires.good c.requires.ahead c.requires.room c.requires.early c.requires.before c.run_ahead-ahead.ensures.words
+    (counted_is old mid c.count_raised.new.self _ c.run_ahead-ahead.ensures.rest c.count_raised.ensures.rest)
     c.in-Some.code fewer leads c.look_at_processor.ensures.whole (raised_ticks n c.in-Some.code (hardware_of old.core old.bus) (hardware_of mid.core mid.bus) leads)
     (ap₂ (λ (x : ℕ) (slot : Bool). n + x - owed_tick slot) c.slot_tick-before.ensures c.is_delayed-slot.ensures)
-    (c.count_one.ensures.own ∙ raised_counts old mid c.count_block-in-Some.new.self n c.slot_tick-before.result c.is_delayed-slot.result c.run_ahead-ahead.ensures.rest c.count_block-in-Some.ensures.own c.is_delayed-slot.ensures)
+    (raised_counts old mid c.count_raised.new.self n c.slot_tick-before.result c.is_delayed-slot.result c.run_ahead-ahead.ensures.rest c.count_raised.ensures.own c.is_delayed-slot.ensures)
