@@ -1,5 +1,5 @@
 //! Rows: a command each, with the text that is expected of it.
-ghost use Rattle.std.specs.Prelude.{◌≡◌, IfOk, map};
+ghost use Rattle.std.specs.Prelude.{◌≡◌, ◌≢◌, IfOk, map, true, false};
 ghost use Rattle.ds_rows.specs.Rows.{AllRun, EachRuns, RunsAsExpected};
 
 use crate::came::Came;
@@ -47,12 +47,20 @@ fn run_lines<F: Files + Copy + Drop, W: Write, E: Write>(
     for line in lines {
         let words = words_of(alloc, line)?;
         let outcome = run_row(alloc, words.as_slice(), files, err)?;
-        if outcome != Outcome::AsExpected {
+        if is_other(outcome) {
             status = 1;
         }
         write!(out, "{line}: {outcome}\n")?;
     }
     Ok(status)
+}
+
+/// Whether an outcome is another than what is expected.
+pub(crate) fn is_other(outcome: Outcome) -> bool
+    ensures expected { result ≡ false → outcome ≡ Outcome.AsExpected }
+    ensures other { result ≡ true → outcome ≢ Outcome.AsExpected }
+{
+    outcome != Outcome::AsExpected
 }
 
 /// Runs the row of these words, and compares its outcome with what is expected. At status 0
@@ -75,7 +83,7 @@ fn run_row<F: Files + Copy + Drop, E: Write>(
     let command = command_of(alloc, words)?;
     let came = Came::of(alloc, command.as_slice(), FolderFiles::of(files, folder));
     let outcome = came.compared(alloc, status, text.as_slice())?;
-    if outcome != Outcome::AsExpected {
+    if is_other(outcome) {
         err.write_all(came.told.as_slice())?;
         return Ok(outcome);
     }

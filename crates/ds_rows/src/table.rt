@@ -4,6 +4,7 @@ ghost use Rattle.ds_rows.specs.Tables.{AllTablesRun, CameAs, CaseRuns, EachTable
 
 use crate::came::Came;
 use crate::files::{FolderFiles, Put};
+use crate::row::is_other;
 use ds_cases::{Case, Expected, Outcome, cases_of, command_of, first_three, index_lines, words_of};
 use ds_drive::Files;
 use ds_steps::stations_write;
@@ -157,7 +158,7 @@ fn run_cases<'a, F: Files + Copy + Drop, W: Write, E: Write>(
     let mut well = true;
     for case in cases {
         let outcome = run_case(alloc, files, table, case, err)?;
-        if outcome != Outcome::AsExpected {
+        if is_other(outcome) {
             well = false;
             write!(out, "{}: {outcome}\n", case.name)?;
         }
@@ -180,7 +181,7 @@ fn run_case<'a, F: Files + Copy + Drop, E: Write>(
 {
     let came = Came::of(alloc, table.command, table.place(files, case));
     let outcome = case_outcome(alloc, case, &came)?;
-    if outcome != Outcome::AsExpected {
+    if is_other(outcome) {
         err.write_all(came.told.as_slice())?;
         return Ok(outcome);
     }

@@ -1,4 +1,4 @@
-use Rattle.std.proofs.Common.{◌≡◌, map, string_bytes, ℕ, List, [], Some, subst, arith}
+use Rattle.std.proofs.Common.{map, string_bytes, ℕ, List, Some, subst, arith}
 use Rattle.ds_drive.specs.Done.{IsDone}
 use Rattle.ds_rows.proofs.came.Came.of.Goals as goal
 use Rattle.ds_rows.proofs.came.Came.of.Goals.{then-status-eq0, else-status-eq0}
