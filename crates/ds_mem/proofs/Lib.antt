@@ -1,3 +1,4 @@
 pub mod Frames
 pub mod Zeros
 pub mod Words
+pub mod Parts

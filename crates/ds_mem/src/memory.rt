@@ -1,9 +1,11 @@
 //! Memory as one list of bytes.
 
-ghost use Rattle.std.specs.Prelude.{◌≡◌, ◌%◌, ◌<◌, length, vec_len, IfOk};
+ghost use Rattle.std.specs.Prelude.{◌≡◌, ◌+◌, ◌*◌, ◌/◌, ◌%◌, ◌<◌, ◌^◌, length, vec_len, slice_index, slice_set, IfOk};
 ghost use Rattle.std.specs.Borrow.{sem};
+ghost use Rattle.ds_word.specs.Word.{bits};
+ghost use Rattle.ds_word.specs.Merge.{with_bits};
 ghost use Rattle.ds_word.specs.Bytes.{word_at, with_word};
-ghost use Rattle.ds_mem.specs.Memory.{zeros, frame_of, with_frame};
+ghost use Rattle.ds_mem.specs.Memory.{AreBytes, zeros, frame_of, with_frame};
 ghost use Rattle.ds_mem.specs.Lending.{LendsFrame};
 
 use crate::fault::OutOfMemory;
@@ -71,6 +73,61 @@ impl Memory {
         LittleEndian::write_u32(&mut self.bytes[place..place + 4], word);
     }
 
+    /// The byte at a physical address.
+    #[inline(always)]
+    #[tactic(auto, using(crate::proofs::Parts::byte_of_word))]
+    pub fn byte(&self, physical: u32) -> u8
+        requires { physical < SIZE }
+        ensures value { result ≡ slice_index self.now physical }
+        ensures part { result ≡ bits (word_at self.now physical) (8 * (physical % 4)) 8 }
+    {
+        let bytes = self.bytes.as_slice();
+        bytes[physical as usize]
+    }
+
+    /// Replaces the byte at a physical address by the lowest of a value.
+    #[inline(always)]
+    pub fn put_byte(&mut self, physical: u32, value: u32)
+        requires { physical < SIZE }
+        ensures value { self.new ≡ slice_set self.old physical (value % 2 ^ 8) }
+        ensures part { self.new ≡ with_word self.old physical
+            (with_bits (word_at self.old physical) (8 * (physical % 4)) 8 value) }
+    {
+        are_bytes(&self.bytes);
+        self.bytes[physical as usize] = (value % 256) as u8;
+    }
+
+    /// The half at a physical address.
+    #[inline(always)]
+    #[tactic(auto, using(crate::proofs::Parts::half_of_word))]
+    pub fn half(&self, physical: u32) -> u16
+        requires aligned { physical % 2 ≡ 0 }
+        requires in_range { physical < SIZE }
+        ensures value { result
+            ≡ slice_index self.now physical + 2 ^ 8 * slice_index self.now (physical + 1) }
+        ensures part { result ≡ bits (word_at self.now physical) (8 * (physical % 4)) 16 }
+    {
+        let place = physical as usize;
+        let bytes = self.bytes.as_slice();
+        u16::from(bytes[place]) + 256 * u16::from(bytes[place + 1])
+    }
+
+    /// Replaces the half at a physical address by the lower one of a value.
+    #[inline(always)]
+    pub fn put_half(&mut self, physical: u32, value: u32)
+        requires aligned { physical % 2 ≡ 0 }
+        requires in_range { physical < SIZE }
+        ensures value { self.new ≡ slice_set (slice_set self.old physical (value % 2 ^ 8))
+            (physical + 1) (value / 2 ^ 8 % 2 ^ 8) }
+        ensures part { self.new ≡ with_word self.old physical
+            (with_bits (word_at self.old physical) (8 * (physical % 4)) 16 value) }
+    {
+        are_bytes(&self.bytes);
+        let place = physical as usize;
+        self.bytes[place] = (value % 256) as u8;
+        self.bytes[place + 1] = (value / 256 % 256) as u8;
+    }
+
     /// The bytes of a frame.
     pub fn frame(&self, f: u32) -> &[u8]
         requires { f < FRAMES }
@@ -104,6 +161,12 @@ impl Memory {
             .copy_within(start..start + FRAME_SIZE, to as usize * FRAME_SIZE);
     }
 }
+
+/// Each byte is below 256. It does nothing: what it is called for is known behind it.
+#[inline(always)]
+fn are_bytes(bytes: &[u8])
+    ensures { AreBytes bytes.now }
+{}
 
 /// So many zeros.
 fn zeros(alloc: Global, count: usize) -> Result<Vec<u8>, OutOfMemory>
