@@ -1,9 +1,11 @@
 //! Memory and devices at their physical addresses.
-ghost use Rattle.std.specs.Prelude.{◌≡◌, ◌+◌, ◌%◌, ◌^◌, ◌<◌, ◌≤◌, IfSome, OnErr, length};
+ghost use Rattle.std.specs.Prelude.{◌≡◌, ◌+◌, ◌*◌, ◌%◌, ◌^◌, ◌<◌, ◌≤◌, IfSome, OnErr, length};
 ghost use Rattle.std.specs.Borrow.{sem};
 ghost use Rattle.ds_isa.specs.Instruction.{instruction_of};
 ghost use Rattle.ds_isa.specs.declared.instr.Size.TheVariants.{Word};
 ghost use Rattle.ds_operations.specs.Does.{MeansAs};
+ghost use Rattle.ds_word.specs.Word.{bits};
+ghost use Rattle.ds_word.specs.Merge.{with_bits};
 ghost use Rattle.ds_word.specs.Bytes.{word_at, with_word};
 ghost use Rattle.ds_pages.specs.Page.{HoldsWords};
 ghost use Rattle.ds_dev.specs.Bus.{at_start, alignment, load, store, register_load, register_store, after_ticks, lines, devices_ask, asks, with_serial};
@@ -201,6 +203,35 @@ impl Bus {
         access::load(self.memory.memory(), physical, Size::Part)
     }
 
+    /// The word at a place in memory.
+    #[inline(always)]
+    pub fn aligned_word(&self, physical: u32) -> u32
+        requires aligned { physical % 4 ≡ 0 }
+        requires inside { physical < SIZE }
+        ensures { result ≡ word_at self.now.memory physical }
+    {
+        self.memory.memory().word(physical)
+    }
+
+    /// The half at a place in memory.
+    #[inline(always)]
+    pub fn half(&self, physical: u32) -> u16
+        requires aligned { physical % 2 ≡ 0 }
+        requires inside { physical < SIZE }
+        ensures { result ≡ bits (word_at self.now.memory physical) (8 * (physical % 4)) 16 }
+    {
+        self.memory.memory().half(physical)
+    }
+
+    /// The byte at a place in memory.
+    #[inline(always)]
+    pub fn byte(&self, physical: u32) -> u8
+        requires { physical < SIZE }
+        ensures { result ≡ bits (word_at self.now.memory physical) (8 * (physical % 4)) 8 }
+    {
+        self.memory.memory().byte(physical)
+    }
+
     /// The number of bytes of memory.
     #[inline(always)]
     pub fn memory_size(&self) -> usize
@@ -221,6 +252,43 @@ impl Bus {
         } }
     {
         self.memory.store(physical, Size::Part, word);
+    }
+
+    /// Replaces the word at a place in memory.
+    #[inline(always)]
+    pub fn put_aligned_word(&mut self, physical: u32, word: u32)
+        requires aligned { physical % 4 ≡ 0 }
+        requires inside { physical < SIZE }
+        ensures { self.new ≡ record self.old {
+          memory = with_word self.old.memory physical word;
+        } }
+    {
+        self.memory.store(physical, Size::Word, word);
+    }
+
+    /// Replaces the half at a place in memory by the lower one of a value.
+    #[inline(always)]
+    pub fn put_half(&mut self, physical: u32, value: u32)
+        requires aligned { physical % 2 ≡ 0 }
+        requires inside { physical < SIZE }
+        ensures { self.new ≡ record self.old {
+          memory = with_word self.old.memory physical
+              (with_bits (word_at self.old.memory physical) (8 * (physical % 4)) 16 value);
+        } }
+    {
+        self.memory.put_half(physical, value);
+    }
+
+    /// Replaces the byte at a place in memory by the lowest of a value.
+    #[inline(always)]
+    pub fn put_byte(&mut self, physical: u32, value: u32)
+        requires { physical < SIZE }
+        ensures { self.new ≡ record self.old {
+          memory = with_word self.old.memory physical
+              (with_bits (word_at self.old.memory physical) (8 * (physical % 4)) 8 value);
+        } }
+    {
+        self.memory.put_byte(physical, value);
     }
 
     /// Writes at a physical address: in memory the byte, half or word, or for a part of a word

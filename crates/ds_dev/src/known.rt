@@ -1,6 +1,8 @@
 //! Memory with the pages of what is known of it.
-ghost use Rattle.std.specs.Prelude.{◌≡◌, ◌%◌, ◌*◌, ◌<◌, IfSome, length};
+ghost use Rattle.std.specs.Prelude.{◌≡◌, ◌%◌, ◌*◌, ◌/◌, ◌<◌, false, slice_set, IfSome, length};
 ghost use Rattle.std.specs.Borrow.{sem};
+ghost use Rattle.ds_word.specs.Merge.{with_bits};
+ghost use Rattle.ds_word.specs.Bytes.{word_at, with_word};
 ghost use Rattle.ds_pages.specs.Page.{HoldsWords};
 ghost use Rattle.ds_dev.specs.Bus.{alignment, memory_store};
 ghost use Rattle.ds_dev.specs.Lending.{LendsBytes};
@@ -85,7 +87,30 @@ impl KnownMemory {
         ensures { self.new ≡ memory_store self.old physical size value }
     {
         access::store(&mut self.memory, physical, size, value);
-        self.sure[physical as usize / FRAME_SIZE] = false;
+        make_unsure(&mut self.sure, physical);
+    }
+
+    /// Replaces the byte at a place by the lowest of a value.
+    #[inline(always)]
+    pub fn put_byte(&mut self, physical: u32, value: u32)
+        requires { physical < SIZE }
+        ensures { self.new ≡ with_word self.old physical
+            (with_bits (word_at self.old physical) (8 * (physical % 4)) 8 value) }
+    {
+        self.memory.put_byte(physical, value);
+        make_unsure(&mut self.sure, physical);
+    }
+
+    /// Replaces the half at a place by the lower one of a value.
+    #[inline(always)]
+    pub fn put_half(&mut self, physical: u32, value: u32)
+        requires in_range { physical < SIZE }
+        requires aligned { physical % 2 ≡ 0 }
+        ensures { self.new ≡ with_word self.old physical
+            (with_bits (word_at self.old physical) (8 * (physical % 4)) 16 value) }
+    {
+        self.memory.put_half(physical, value);
+        make_unsure(&mut self.sure, physical);
     }
 
     /// Takes out the page of a frame, which holds its words. There is none where the host has no room
@@ -133,6 +158,15 @@ impl KnownMemory {
         }
         Some(page)
     }
+}
+
+/// The page of the frame of a place is not sure any more.
+#[inline(always)]
+fn make_unsure(sure: &mut [bool; FRAMES], physical: u32)
+    requires { physical < SIZE }
+    ensures { sure.new ≡ slice_set sure.old (physical / 4096) false }
+{
+    sure[physical as usize / FRAME_SIZE] = false;
 }
 
 /// Counts one more time that the page of a frame was spoiled, if it was.

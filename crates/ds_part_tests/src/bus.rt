@@ -230,6 +230,28 @@ fn keeps_words(mut memory: Memory) -> bool {
     put_before && put_behind && write(&mut bus, 0x48, 7) && bus.memory().word(0x48) == 7
 }
 
+/// Whether a word has a byte and a half that are put into it, and is read by such.
+fn keeps_parts(mut bus: Bus) -> bool {
+    bus.put_aligned_word(0x40, 0x8899_aabb);
+    bus.put_byte(0x41, 0x1ff);
+    bus.put_half(0x42, 0x1_2345);
+    let read = bus.byte(0x43) == 0x23 && bus.half(0x40) == 0xffbb;
+    read && bus.aligned_word(0x40) == 0x2345_ffbb
+}
+
+/// Whether a bus over a new memory does so.
+fn shares_parts(alloc: Global) -> bool {
+    match Memory::new(alloc) {
+        Ok(memory) => keeps_parts(Bus::new(memory)),
+        Err(_) => false,
+    }
+}
+
+#[test]
+fn a_word_has_the_parts_that_are_put_into_it(rt: HostRuntime) {
+    assert!(rt; shares_parts(rt.alloc()));
+}
+
 /// Whether a bus over a new memory does so.
 fn shares_words(alloc: Global) -> bool {
     match Memory::new(alloc) {

@@ -1,0 +1,7 @@
+use Rattle.ds_isa.specs.declared.instr.Size.TheVariants.{Half}
+use Rattle.ds_dev.proofs.Sure.{stored}
+use Rattle.ds_dev.proofs.known.KnownMemory.put_half.Goals as goal
+
+pub invariant_of-self : goal.invariant_of-self
+invariant_of-self c = λ whole. rw (c.put_half.ensures.value, c.make_unsure.ensures) (stored c.self.inside.memory c.self.inside.pages c.self.inside.sure c.args.physical c.args.value Half
+    c.requires.in_range c.requires.aligned (c.self.invariant whole))
