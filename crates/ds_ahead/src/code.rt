@@ -6,13 +6,11 @@ ghost use Rattle.ds_ahead.specs.Code.{KnowsPage};
 
 use ds_amap::Access;
 use ds_core::Core;
+use ds_isa::Size;
 use ds_tlb::Lookaside;
 
 /// The page number of a page that isn't known: no page has it.
 const NO_PAGE: u64 = 0x1_0000_0000;
-
-/// The first address that is not mapped.
-const KSEG0: u32 = 0x8000_0000;
 
 /// A page of code, its first address, that of its frame in memory, and its address space.
 #[derive(Clone, Copy)]
@@ -70,25 +68,24 @@ impl CodePage {
 /// The page of the instruction at `pc`, where the buffer remembers it, and no instruction can
 /// change what it is: only a device can interrupt, so coprocessor 0 may not be used.
 #[inline(always)]
-#[tactic(auto, using(crate::proofs::Wholes::base_is_whole))]
 pub(crate) fn code_page<L: Lookaside>(core: &Core<L>) -> CodePage
     ensures knows { KnowsPage result.vpn result.base core.now }
     ensures page { result.vpn < 2 ^ 32 → result.vpn ≡ core.now.pc / 2 ^ 12 }
     ensures space { result.asid ≡ asid_of core.now.system }
 {
     let asid = core.cp0.asid();
-    if core.pc >= KSEG0 || !only_devices_interrupt(core) {
+    if !only_devices_interrupt(core) {
         return CodePage::none(asid);
     }
-    let vpn = core.pc >> 12;
-    match core.tlb.recalled(Access::Fetch, vpn, asid) {
-        Some(base) => CodePage {
-            vpn: u64::from(vpn),
-            base,
-            asid,
-            first: u64::from(vpn) * 4096,
-        },
-        None => CodePage::none(asid),
+    let Some(place) = core.tlb.place(Access::Fetch, Size::Word, core.pc, asid) else {
+        return CodePage::none(asid);
+    };
+    let vpn = u64::from(core.pc >> 12);
+    CodePage {
+        vpn,
+        base: place - core.pc % 4096,
+        asid,
+        first: vpn * 4096,
     }
 }
 

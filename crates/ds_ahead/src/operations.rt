@@ -1,14 +1,14 @@
 //! One operation of a stretch: what seldom comes is left to the plain step.
-ghost use Rattle.std.specs.Prelude.{◌≡◌, ◌≢◌, ◌+◌, ◌-◌, ◌*◌, ◌%◌, ◌<◌, ◌^◌, slice_index, Ok, IfSome};
+ghost use Rattle.std.specs.Prelude.{◌≡◌, ◌≢◌, ◌+◌, ◌-◌, ◌*◌, ◌%◌, ◌<◌, ◌≤◌, ◌^◌, slice_index, Ok, IfSome};
 ghost use Rattle.ds_isa.specs.Registers.{written, loaded, settled};
 ghost use Rattle.ds_isa.specs.Meaning.{written_or_trap, loads, stores, with_hi_lo, behind_slot, Branches};
 ghost use Rattle.ds_isa.specs.declared.instr.Size.TheVariants as size;
 ghost use Rattle.ds_isa.specs.declared.instr.Kind.TheVariants.{Store};
 ghost use Rattle.ds_word.specs.Word.{word, bits, sign_extended};
 ghost use Rattle.ds_word.specs.Merge.{with_bits};
-ghost use Rattle.ds_word.specs.Bytes.{with_word};
+ghost use Rattle.ds_word.specs.Bytes.{word_at, with_word};
 ghost use Rattle.ds_operations.specs.Does.{target_by, in_region};
-ghost use Rattle.ds_dev.specs.Bus.{lines};
+ghost use Rattle.ds_dev.specs.Bus.{alignment, lines};
 ghost use Rattle.ds_cp0.specs.System.{asid_of};
 ghost use Rattle.ds_core.specs.Access.{reached};
 ghost use Rattle.ds_ahead.specs.Placed.{registers_at, with_general, at_next};
@@ -16,15 +16,16 @@ ghost use Rattle.ds_ahead.specs.Goes.{at_load, GoesOn, GoesLate, GoesAway, Keeps
 ghost use Rattle.ds_ahead.specs.Operations.{ComesTo};
 
 use crate::position::Position;
-use ds_amap::{Access, Physical, recalled};
+use ds_amap::{Access, Physical, recalled_aligned};
 use ds_core::{Core, after_slot};
 use ds_dev::Bus;
 use ds_isa::{Late, Size};
 use ds_operations::{Register, Target};
 use ds_tlb::Lookaside;
-use ds_word::{
-    byte_signed, byte_unsigned, half_signed, half_unsigned, store_byte, store_half, wrapping_sum,
-};
+use ds_word::{PAGE_SIZE, sign16, wrapping_sum};
+
+/// The bytes of a page, as an address has them.
+const PAGE: u32 = PAGE_SIZE as u32;
 
 /// What became of an operation.
 #[derive(Clone, Copy)]
@@ -205,8 +206,10 @@ pub(crate) fn address_by<L: Lookaside>(core: &Core<L>, base: Register, immediate
     wrapping_sum(general(core, base), immediate)
 }
 
-/// The place in memory of an access, where the buffer remembers its page.
+/// The place in memory of an access, where the buffer remembers its page and the address suits its
+/// size.
 #[inline(always)]
+#[tactic(auto, using(crate::proofs::Places::suits_place))]
 pub(crate) fn remembered<L: Lookaside>(
     core: &Core<L>,
     access: Access,
@@ -217,15 +220,14 @@ pub(crate) fn remembered<L: Lookaside>(
     requires space { asid ≡ asid_of core.now.system }
     ensures value { IfSome result (λ place. reached core.now access size address ≡ Ok place) }
     ensures inside { IfSome result (λ place. place.0 < 2 ^ 23) }
+    ensures suits { IfSome result (λ place. place.0 % alignment size ≡ 0) }
+    ensures offset { IfSome result (λ place. place.0 % 4 ≡ address % 4) }
 {
-    if !size.is_aligned(address) {
-        return None;
-    }
-    recalled(address, access, &core.tlb, asid)
+    recalled_aligned(address, access, size, &core.tlb, asid)
 }
 
-/// The place in memory of a store, where the buffer remembers its page; none in the frame that
-/// begins at `own`.
+/// The place in memory of a store, where the buffer remembers its page and the address suits its
+/// size; none in the frame that begins at `own`.
 #[inline(always)]
 fn place_apart<L: Lookaside>(
     core: &Core<L>,
@@ -237,19 +239,53 @@ fn place_apart<L: Lookaside>(
     requires space { asid ≡ asid_of core.now.system }
     ensures value { IfSome result (λ place. reached core.now Store size address ≡ Ok place) }
     ensures inside { IfSome result (λ place. place.0 < 2 ^ 23) }
+    ensures suits { IfSome result (λ place. place.0 % alignment size ≡ 0) }
+    ensures offset { IfSome result (λ place. place.0 % 4 ≡ address % 4) }
     ensures apart { IfSome result (λ place. place.0 - place.0 % 4096 ≢ own) }
 {
     let Physical(place) = remembered(core, Access::Store, size, address, asid)?;
-    if place - place % 4096 == own {
+    if place / PAGE == own / PAGE {
         return None;
     }
     Some(Physical(place))
+}
+
+/// The byte at the place of an address.
+#[inline(always)]
+fn byte_at(bus: &Bus, place: u32, address: u32) -> u8
+    requires inside { place < 2 ^ 23 }
+    requires offset { place % 4 ≡ address % 4 }
+    ensures { result ≡ bits (word_at bus.now.memory place) (8 * (address % 4)) 8 }
+{
+    let _ = address;
+    bus.byte(place)
+}
+
+/// The half at the place of an address.
+#[inline(always)]
+fn half_at(bus: &Bus, place: u32, address: u32) -> u16
+    requires inside { place < 2 ^ 23 }
+    requires suits { place % 2 ≡ 0 }
+    requires offset { place % 4 ≡ address % 4 }
+    ensures { result ≡ bits (word_at bus.now.memory place) (8 * (address % 4)) 16 }
+{
+    let _ = address;
+    bus.half(place)
+}
+
+/// A byte with its sign carried to 32 bits.
+#[inline(always)]
+fn sign8(byte: u8) -> u32
+    ensures { result ≡ sign_extended 8 byte }
+{
+    u32::from(byte.wrapping_add(0x80)).wrapping_sub(0x80)
 }
 
 /// Replaces a word outside the frame that begins at `own`.
 #[inline(always)]
 fn put_word_apart(bus: &mut Bus, place: u32, word: u32, own: u32)
     requires inside { place < 2 ^ 23 }
+    requires suits { place % 4 ≡ 0 }
     requires apart { place - place % 4096 ≢ own }
     ensures state { bus.new ≡ record bus.old {
       memory = with_word bus.old.memory place word;
@@ -259,7 +295,44 @@ fn put_word_apart(bus: &mut Bus, place: u32, word: u32, own: u32)
     // Its size is looked at, so that it is known that each word has a place.
     let _size = bus.memory_size();
     let _ = own;
-    bus.put_word(place, word);
+    bus.put_aligned_word(place, word);
+}
+
+/// Replaces the half at the place of an address outside the frame that begins at `own`.
+#[inline(always)]
+fn put_half_apart(bus: &mut Bus, place: u32, address: u32, value: u32, own: u32)
+    requires inside { place < 2 ^ 23 }
+    requires suits { place % 2 ≡ 0 }
+    requires offset { place % 4 ≡ address % 4 }
+    requires apart { place - place % 4096 ≢ own }
+    ensures state { bus.new ≡ record bus.old {
+      memory = with_word bus.old.memory place
+          (with_bits (word_at bus.old.memory place) (8 * (address % 4)) 16 value);
+    } }
+    ensures frame { KeepsFrame own bus.old.memory bus.new.memory }
+{
+    // Its size is looked at, so that it is known that each word has a place.
+    let _size = bus.memory_size();
+    let _ = (own, address);
+    bus.put_half(place, value);
+}
+
+/// Replaces the byte at the place of an address outside the frame that begins at `own`.
+#[inline(always)]
+fn put_byte_apart(bus: &mut Bus, place: u32, address: u32, value: u32, own: u32)
+    requires inside { place < 2 ^ 23 }
+    requires offset { place % 4 ≡ address % 4 }
+    requires apart { place - place % 4096 ≢ own }
+    ensures state { bus.new ≡ record bus.old {
+      memory = with_word bus.old.memory place
+          (with_bits (word_at bus.old.memory place) (8 * (address % 4)) 8 value);
+    } }
+    ensures frame { KeepsFrame own bus.old.memory bus.new.memory }
+{
+    // Its size is looked at, so that it is known that each word has a place.
+    let _size = bus.memory_size();
+    let _ = (own, address);
+    bus.put_byte(place, value);
 }
 
 /// Loads a byte with its sign.
@@ -280,9 +353,7 @@ pub(crate) fn take_byte<L: Lookaside>(
     ensures goes { GoesLate result core.old to.number at.old at.new }
 {
     match remembered(core, Access::Load, Size::Byte, address, asid) {
-        Some(Physical(place)) => {
-            put_late(core, to, byte_signed(bus.word(place), address % 4), at)
-        }
+        Some(Physical(place)) => { put_late(core, to, sign8(byte_at(bus, place, address)), at) }
         None => Outcome::Left,
     }
 }
@@ -305,9 +376,7 @@ pub(crate) fn take_byte_unsigned<L: Lookaside>(
     ensures goes { GoesLate result core.old to.number at.old at.new }
 {
     match remembered(core, Access::Load, Size::Byte, address, asid) {
-        Some(Physical(place)) => {
-            put_late(core, to, byte_unsigned(bus.word(place), address % 4), at)
-        }
+        Some(Physical(place)) => { put_late(core, to, u32::from(byte_at(bus, place, address)), at) }
         None => Outcome::Left,
     }
 }
@@ -330,9 +399,7 @@ pub(crate) fn take_half<L: Lookaside>(
     ensures goes { GoesLate result core.old to.number at.old at.new }
 {
     match remembered(core, Access::Load, Size::Half, address, asid) {
-        Some(Physical(place)) => {
-            put_late(core, to, half_signed(bus.word(place), address % 4), at)
-        }
+        Some(Physical(place)) => { put_late(core, to, sign16(half_at(bus, place, address)), at) }
         None => Outcome::Left,
     }
 }
@@ -355,9 +422,7 @@ pub(crate) fn take_half_unsigned<L: Lookaside>(
     ensures goes { GoesLate result core.old to.number at.old at.new }
 {
     match remembered(core, Access::Load, Size::Half, address, asid) {
-        Some(Physical(place)) => {
-            put_late(core, to, half_unsigned(bus.word(place), address % 4), at)
-        }
+        Some(Physical(place)) => { put_late(core, to, u32::from(half_at(bus, place, address)), at) }
         None => Outcome::Left,
     }
 }
@@ -380,7 +445,7 @@ pub(crate) fn take_word<L: Lookaside>(
     ensures goes { GoesLate result core.old to.number at.old at.new }
 {
     match remembered(core, Access::Load, Size::Word, address, asid) {
-        Some(Physical(place)) => put_late(core, to, bus.word(place), at),
+        Some(Physical(place)) => put_late(core, to, bus.aligned_word(place), at),
         None => Outcome::Left,
     }
 }
@@ -407,8 +472,7 @@ pub(crate) fn leave_byte<L: Lookaside>(
 {
     match place_apart(core, Size::Byte, address, own, asid) {
         Some(Physical(place)) => {
-            let word = bus.word(place);
-            put_word_apart(bus, place, store_byte(word, value, address % 4), own);
+            put_byte_apart(bus, place, address, value, own);
             at.go_on()
         }
         None => Outcome::Left,
@@ -437,8 +501,7 @@ pub(crate) fn leave_half<L: Lookaside>(
 {
     match place_apart(core, Size::Half, address, own, asid) {
         Some(Physical(place)) => {
-            let word = bus.word(place);
-            put_word_apart(bus, place, store_half(word, value, address % 4), own);
+            put_half_apart(bus, place, address, value, own);
             at.go_on()
         }
         None => Outcome::Left,

@@ -1,5 +1,5 @@
 -- What the buffer names for a page is what translation answers for its addresses.
-use Rattle.std.proofs.Common.{◌≡◌, ℕ, ◌+◌, ◌*◌, ◌/◌, ◌%◌, ◌<◌, ◌^◌, Bool, true, false, cond, List, sym, ap, arith}
+use Rattle.std.proofs.Common.{◌≡◌, ℕ, ◌+◌, ◌-◌, ◌*◌, ◌/◌, ◌%◌, ◌<◌, ◌^◌, Bool, true, false, cond, List, sym, ap, ◌∙◌, arith}
 use Rattle.std.specs.Prelude.{Option, Some, None, Ok, Err, nat_le, not, ◌&&◌, ◌||◌, slice_get}
 use Rattle.std.proofs.lemmas.Bool.Decides.{nat_tests}
 use Rattle.ds_tlb.specs.declared.entry.Entry.{Entry}
@@ -37,3 +37,10 @@ pub translate_by_base : (entries : List Entry) (asid : ℕ) (mode : Mode) (acces
     → translate entries asid mode access addr ≡ Ok (at_physical (base + addr % 2 ^ 12))
 translate_by_base entries asid mode access addr base small is =
     rw (is_lower addr small) (through_place entries (find entries (addr / 2 ^ 12) asid) access addr base (sym is))
+
+-- the same by the place
+pub translate_by_place : (entries : List Entry) (asid : ℕ) (mode : Mode) (access : Kind) (addr place : ℕ) → addr < 2 ^ 31
+    → base_of entries (is_store access) (addr / 2 ^ 12) asid ≡ Some (place - addr % 2 ^ 12) → place % 2 ^ 12 ≡ addr % 2 ^ 12 → translate entries asid mode access addr ≡ Ok (at_physical place)
+translate_by_place entries asid mode access addr place small is offset =
+    let whole : place - addr % 2 ^ 12 + addr % 2 ^ 12 ≡ place = omega (arith, offset) in
+    translate_by_base entries asid mode access addr (place - addr % 2 ^ 12) small (sym is) ∙ ap (λ (n : ℕ). Ok (at_physical n)) whole

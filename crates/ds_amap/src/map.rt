@@ -1,9 +1,11 @@
 //! From an address to its place in physical memory.
-ghost use Rattle.std.specs.Prelude.{◌≡◌, ◌≢◌, ◌↔◌, ◌<◌, ◌/◌, ◌^◌, All, Ok, Err, IfSome, IsNone, IsTrue, not};
+ghost use Rattle.std.specs.Prelude.{◌≡◌, ◌≢◌, ◌↔◌, ◌<◌, ◌/◌, ◌%◌, ◌^◌, true, All, Ok, Err, IfSome, IsNone, IsTrue, not};
+ghost use Rattle.ds_isa.specs.Access.{is_aligned};
 ghost use Rattle.ds_tlb.specs.Entries.{find, matches};
 ghost use Rattle.ds_amap.specs.Map.{is_modified, place, through, mapped, translate, IsMissing, NeedsRefill};
 
 use crate::Access;
+use ds_isa::Size;
 use ds_tlb::{Entry, Lookaside};
 use ds_word::PAGE_SIZE;
 
@@ -66,17 +68,32 @@ pub fn translate<L: Lookaside>(
 /// The place of an address in memory, where the buffer remembers its page. In the lower half of the
 /// addresses alone, which is mapped in either mode.
 #[inline(always)]
-#[tactic(auto, using(crate::proofs::Bases::translate_by_base))]
 pub fn recalled<L: Lookaside>(addr: u32, access: Access, tlb: &L, asid: u8) -> Option<Physical>
     ensures value { (mode : Mode)
         → IfSome result (λ place. translate (L.entries tlb.now) asid mode access addr ≡ Ok place) }
     ensures inside { IfSome result (λ place. place.0 < 2 ^ 23) }
 {
-    if addr >= KSEG0 {
-        return None;
-    }
-    match tlb.recalled(access, addr >> 12, asid) {
-        Some(base) => Some(Physical(base + addr % PAGE_SIZE as u32)),
+    recalled_aligned(addr, access, Size::Byte, tlb, asid)
+}
+
+/// The same where the address suits the size of the access.
+#[inline(always)]
+#[tactic(auto, using(crate::proofs::Bases::translate_by_place))]
+pub fn recalled_aligned<L: Lookaside>(
+    addr: u32,
+    access: Access,
+    size: Size,
+    tlb: &L,
+    asid: u8,
+) -> Option<Physical>
+    ensures aligned { IfSome result (λ place. is_aligned size addr ≡ true) }
+    ensures value { (mode : Mode)
+        → IfSome result (λ place. translate (L.entries tlb.now) asid mode access addr ≡ Ok place) }
+    ensures offset { IfSome result (λ place. place.0 % 2 ^ 12 ≡ addr % 2 ^ 12) }
+    ensures inside { IfSome result (λ place. place.0 < 2 ^ 23) }
+{
+    match tlb.place(access, size, addr, asid) {
+        Some(place) => Some(Physical(place)),
         None => None,
     }
 }

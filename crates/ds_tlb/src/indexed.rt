@@ -10,7 +10,7 @@ ghost use Rattle.ds_tlb.specs.Windows.{AreRight};
 use crate::entry::{Entry, empty_entries};
 use crate::lookaside::{BadRandom, Lookaside, index_word_of};
 use crate::windows::Windows;
-use ds_isa::Kind;
+use ds_isa::{Kind, Size};
 
 /// The number of buckets, which the low six bits of a virtual page number tell apart, and whether
 /// it lies in the upper half of the addresses.
@@ -33,9 +33,9 @@ pub struct Indexed<const N: usize, const WIRED: usize> {
     ghost some_wired: { 1 ≤ WIRED },
     ghost few: { N ≤ 64 },
     ghost indexed: { IsIndexOf buckets entries },
-    ghost code_right: { AreRight code.tags code.bases false entries },
-    ghost loads_right: { AreRight loads.tags loads.bases false entries },
-    ghost stores_right: { AreRight stores.tags stores.bases true entries },
+    ghost code_right: { AreRight code.tags code.distances false entries },
+    ghost loads_right: { AreRight loads.tags loads.distances false entries },
+    ghost stores_right: { AreRight stores.tags stores.distances true entries },
 }
 
 impl<const N: usize, const WIRED: usize> Lookaside for Indexed<N, WIRED> {
@@ -133,11 +133,12 @@ impl<const N: usize, const WIRED: usize> Lookaside for Indexed<N, WIRED> {
     }
 
     #[inline(always)]
-    fn recalled(&self, kind: Kind, vpn: u32, asid: u8) -> Option<u32> {
+    #[tactic(auto, using(crate::proofs::Frames::found_lower, crate::proofs::Frames::found_base, crate::proofs::Frames::found_offset, crate::proofs::Frames::found_inside))]
+    fn place(&self, kind: Kind, size: Size, address: u32, asid: u8) -> Option<u32> {
         match kind {
-            Kind::Fetch => self.code.frame(vpn, asid),
-            Kind::Load => self.loads.frame(vpn, asid),
-            Kind::Store => self.stores.frame(vpn, asid),
+            Kind::Fetch => self.code.place(size, address, asid),
+            Kind::Load => self.loads.place(size, address, asid),
+            Kind::Store => self.stores.place(size, address, asid),
         }
     }
 

@@ -1,12 +1,12 @@
 //! What every translation lookaside buffer does, whichever way it is searched.
-ghost use Rattle.std.specs.Prelude.{◌≡◌, ℕ, ◌+◌, ◌%◌, ◌^◌, ◌<◌, ◌≤◌, ◌↔◌, All, List, length, slice_get, slice_set, IsTrue, IsOk, IfOk, IsNone, IfSome, not};
-ghost use Rattle.ds_isa.specs.Access.{is_store};
+ghost use Rattle.std.specs.Prelude.{◌≡◌, ℕ, ◌-◌, ◌/◌, ◌%◌, ◌^◌, ◌<◌, ◌≤◌, ◌↔◌, true, All, List, length, slice_get, slice_set, IsTrue, IsOk, IfOk, IsNone, IfSome, not};
+ghost use Rattle.ds_isa.specs.Access.{is_store, is_aligned};
 ghost use Rattle.ds_tlb.specs.Entries.{matches, find, empty_entries, ticked, passed, index_word};
 ghost use Rattle.ds_tlb.specs.Frames.{base_of};
 ghost use Rattle.ds_tlb.specs.Singles.{IsSingle, IsOnlyMatch, MatchesAt};
 
 use crate::entry::Entry;
-use ds_isa::Kind;
+use ds_isa::{Kind, Size};
 use thiserror::Error;
 
 /// Random can't start at a wired slot, nor past the last slot.
@@ -109,14 +109,18 @@ pub trait Lookaside: Drop {
     fn probe(&self, vpn: u32, asid: u8) -> u32
         ensures { result ≡ index_word (find (entries self.now) vpn asid) };
 
-    /// The first physical address of the frame that a page of an address space has for an access of
-    /// this kind, where the buffer remembers it. What is remembered lies in memory, the first 8
-    /// MiB, and never in a device.
+    /// The place in memory of an access of this kind and size in an address space, where the buffer
+    /// remembers its page and the address suits its size. What is remembered is a page of the lower
+    /// half of the addresses, and its frame lies in memory, the first 8 MiB, and never in a device.
     #[inline(always)]
-    fn recalled(&self, kind: Kind, vpn: u32, asid: u8) -> Option<u32>
-        ensures base { IfSome result
-            (λ base. base_of (entries self.now) (is_store kind) vpn asid ≡ Some base) }
-        ensures inside { IfSome result (λ base. base + 4096 ≤ 2 ^ 23) }
+    fn place(&self, kind: Kind, size: Size, address: u32, asid: u8) -> Option<u32>
+        ensures aligned { IfSome result (λ place. is_aligned size address ≡ true) }
+        ensures lower { IfSome result (λ place. address < 2 ^ 31) }
+        ensures base { IfSome result (λ place.
+            base_of (entries self.now) (is_store kind) (address / 2 ^ 12) asid
+            ≡ Some (place - address % 2 ^ 12)) }
+        ensures offset { IfSome result (λ place. place % 2 ^ 12 ≡ address % 2 ^ 12) }
+        ensures inside { IfSome result (λ place. place < 2 ^ 23) }
     {
         None
     }

@@ -6,7 +6,7 @@ use crate::grants::replay::Replay;
 use crate::machine::memory::{MIXED, fill, filled};
 use crate::machine::told::said;
 use ds_grants::GrantFault;
-use ds_isa::Kind;
+use ds_isa::{Kind, Size};
 use ds_policy::{Entry, EntryPlace, Grant, Right};
 use ds_tlb::Lookaside;
 use std::alloc::{AllocError, Global};
@@ -275,12 +275,11 @@ fn told_space(alloc: Global, number: Option<u8>) -> Result<Option<String>, Alloc
 /// The number among the frames of pages of that to which the buffer leads an access of this kind in
 /// an address space, if to one.
 fn frame_of<L: Lookaside>(buffer: &mut L, kind: Kind, address: u32, asid: u8) -> Option<u32> {
-    let vpn = address >> 12;
-    let base = match buffer.recalled(kind, vpn, asid) {
-        Some(base) => base,
-        None => buffer.base(kind, vpn, asid)?,
+    let place = match buffer.place(kind, Size::Byte, address, asid) {
+        Some(place) => place,
+        None => buffer.base(kind, address >> 12, asid)?,
     };
-    (base / 4096).checked_sub(FIRST_FRAME)
+    (place / 4096).checked_sub(FIRST_FRAME)
 }
 
 /// What the buffer answers to a process: the frame that it may read, or also write. A process that

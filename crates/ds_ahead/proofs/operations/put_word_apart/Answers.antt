@@ -2,4 +2,4 @@ use Rattle.ds_ahead.proofs.Runs.{keeps_apart}
 use Rattle.ds_ahead.proofs.operations.put_word_apart.Goals as goal
 
 pub returns-clause-frame : goal.returns-clause-frame
-returns-clause-frame c = rw c.put_word.ensures (keeps_apart c.args.bus.now.memory c.args.own c.args.place c.args.word c.memory_size-size.ensures.size c.requires.inside c.requires.apart)
+returns-clause-frame c = rw c.put_aligned_word.ensures (keeps_apart c.args.bus.now.memory c.args.own c.args.place c.args.word c.memory_size-size.ensures.size c.requires.inside c.requires.apart)

@@ -11,14 +11,14 @@ invariant_of-self-clause-indexed g c =
 pub invariant_of-self-clause-code_right : goal.invariant_of-self-clause-code_right
 invariant_of-self-clause-code_right g c =
     let buffer = c.args.self.now in
-    right_after buffer.entries false c.args.slot _ c.args.entry buffer.code.tags buffer.code.bases _ _ refl c.forget.ensures buffer.code_right
+    right_after buffer.entries false c.args.slot _ c.args.entry buffer.code.tags buffer.code.distances _ _ refl c.forget.ensures buffer.code_right
 
 pub invariant_of-self-clause-loads_right : goal.invariant_of-self-clause-loads_right
 invariant_of-self-clause-loads_right g c =
     let buffer = c.args.self.now in
-    right_after buffer.entries false c.args.slot _ c.args.entry buffer.loads.tags buffer.loads.bases _ _ refl c.forget-2.ensures buffer.loads_right
+    right_after buffer.entries false c.args.slot _ c.args.entry buffer.loads.tags buffer.loads.distances _ _ refl c.forget-2.ensures buffer.loads_right
 
 pub invariant_of-self-clause-stores_right : goal.invariant_of-self-clause-stores_right
 invariant_of-self-clause-stores_right g c =
     let buffer = c.args.self.now in
-    right_after buffer.entries true c.args.slot _ c.args.entry buffer.stores.tags buffer.stores.bases _ _ refl c.forget-3.ensures buffer.stores_right
+    right_after buffer.entries true c.args.slot _ c.args.entry buffer.stores.tags buffer.stores.distances _ _ refl c.forget-3.ensures buffer.stores_right
