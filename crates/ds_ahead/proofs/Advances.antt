@@ -15,6 +15,10 @@ calm_event Retired none = refl
 calm_event Branched none = refl
 calm_event (Raised code) none = absurd (none code refl)
 
+-- no step leads nowhere else
+pub advances_none : (h : Hardware) → Advances 0 h h
+advances_none h = record { state = refl; calm = λ k below. absurd (omega (arith, below)) }
+
 -- a calm step more
 pub advances_on : (n : ℕ) (old h t : Hardware) (e : Event) → Advances n old h → record { event = e; core = t.core; bus = t.bus } ≡ step_of h → is_raised e ≡ false → Advances (n + 1) old t
 advances_on n old h t e advances done calm =

@@ -76,7 +76,7 @@ pub join_to : (a b : ℕ) (raised : Option ExceptionCode) (x y z : Hardware) →
 join_to a b None x y z first leads = advances_join a b x y z first leads
 join_to a b (Some code) x y z first leads = (leads.0, advances_join a b x y leads.0 first leads.1, leads.2)
 
-at_sum : (a b : ℕ) (x y : Hardware) → Advances a x y → after_steps b y ≡ after_steps (a + b) x
+pub at_sum : (a b : ℕ) (x y : Hardware) → Advances a x y → after_steps b y ≡ after_steps (a + b) x
 at_sum a b x y first = ap (after_steps b) first.state ∙ sym (after_both a b x)
 
 -- a + b steps on, the program stands at an address of 32 bits if it does so b steps after a calm steps

@@ -4,3 +4,4 @@ pub mod Placed
 pub mod Operations
 pub mod Goes
 pub mod Run
+pub mod Ride

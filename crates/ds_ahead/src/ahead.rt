@@ -1,11 +1,13 @@
 //! Many steps at once.
-ghost use Rattle.std.specs.Prelude.{◌≡◌, ◌<◌, ◌≤◌, ◌+◌, ◌^◌, ℕ, Some, None, IsNone, IfSome, true, false};
+ghost use Rattle.std.specs.Prelude.{◌≡◌, ◌<◌, ◌≤◌, ◌+◌, ◌-◌, ◌^◌, ℕ, Some, None, IsNone, IfSome, true, false};
 ghost use Rattle.ds_cp0.specs.declared.exception.ExceptionCode.TheVariants.{SystemCall};
 ghost use Rattle.ds_dev.specs.Bus.{BusState};
 ghost use Rattle.ds_core.specs.Core.{with_tick, trapped};
-ghost use Rattle.ds_ahead.specs.Ahead.{hardware_of, after_steps, AdvancesTo, ComesByWords, ticks, owed_tick};
+ghost use Rattle.ds_core.specs.Effect.{step};
+ghost use Rattle.ds_ahead.specs.Ahead.{hardware_of, after_steps, Advances, AdvancesTo, ComesByWords, ticks, owed_tick};
 
 use crate::next::Next;
+use crate::ride::Ride;
 use crate::stretch::stretch;
 use ds_core::{Core, Event};
 use ds_cp0::{Exception, ExceptionCode};
@@ -85,10 +87,10 @@ fn is_followed(next: Next, steps: u32, limit: u32) -> bool
     steps == 0 || matches!(next, Next::Plain)
 }
 
-/// A stretch of `limit` steps at most, which are one at least, and after it a plain step where it makes
-/// no way or left what comes next.
+/// A stretch word by word of `limit` steps at most, which are one at least, and after it a plain step
+/// where it makes no way or left what comes next.
 #[inline(always)]
-fn stretch_and_step<L: Lookaside>(core: &mut Core<L>, bus: &mut Bus, limit: u32) -> Ahead
+fn walk_and_step<L: Lookaside>(core: &mut Core<L>, bus: &mut Bus, limit: u32) -> Ahead
     requires slots { L.SLOTS ≡ 64 }
     requires wired { L.WIRED ≡ 8 }
     requires some { 0 < limit }
@@ -117,6 +119,125 @@ fn stretch_and_step<L: Lookaside>(core: &mut Core<L>, bus: &mut Bus, limit: u32)
         return Ahead::stopped(done, code);
     }
     Ahead::calm(done + 1)
+}
+
+/// Goes on where a ride ended or none was, with what comes next there, which is known where the ride
+/// found a call or left what comes next. Where none made way, one step is taken at least; `left` at
+/// most are.
+#[inline(always)]
+pub fn go_on<L: Lookaside>(
+    core: &mut Core<L>,
+    bus: &mut Bus,
+    next: Next,
+    went: bool,
+    left: u32,
+) -> Ahead
+    requires slots { L.SLOTS ≡ 64 }
+    requires wired { L.WIRED ≡ 8 }
+    requires some { next ≡ Next.Call → 0 < left }
+    requires plain { next ≡ Next.Plain → 0 < left }
+    requires stands { went ≡ false → 0 < left }
+    requires calls { next ≡ Next.Call
+        → with_tick (trapped core.old bus.old SystemCall) ≡ step core.old bus.old }
+    ensures within { result.steps ≤ left }
+    ensures on { went ≡ false → IsNone result.raised → 0 < result.steps }
+    ensures fewer { IfSome result.raised (λ _. result.steps < left) }
+    ensures steps { AdvancesTo result.steps result.raised
+        (hardware_of core.old bus.old)
+        (hardware_of core.new bus.new) }
+    ensures words { (k : ℕ) → k < result.steps
+        → (after_steps k (hardware_of core.old bus.old)).core.pc < 2 ^ 32 }
+    ensures raised { IfSome result.raised (λ _.
+        (after_steps result.steps (hardware_of core.old bus.old)).core.pc < 2 ^ 32) }
+{
+    let _here = core.pc;
+    match next {
+        Next::Call => call_after(core, 0),
+        Next::Plain => step(core, bus),
+        Next::Any => {
+            if went {
+                Ahead::calm(0)
+            } else {
+                walk_and_step(core, bus, left)
+            }
+        }
+    }
+}
+
+/// One plain step.
+#[inline(always)]
+fn step<L: Lookaside>(core: &mut Core<L>, bus: &mut Bus) -> Ahead
+    requires slots { L.SLOTS ≡ 64 }
+    requires wired { L.WIRED ≡ 8 }
+    ensures within { result.steps ≤ 1 }
+    ensures on { IsNone result.raised → result.steps ≡ 1 }
+    ensures fewer { IfSome result.raised (λ _. result.steps ≡ 0) }
+    ensures steps { AdvancesTo result.steps result.raised
+        (hardware_of core.old bus.old)
+        (hardware_of core.new bus.new) }
+    ensures word { core.old.pc < 2 ^ 32 }
+{
+    let _here = core.pc;
+    let event = core.step(bus);
+    if let Event::Raised(code) = event {
+        return Ahead::stopped(0, code);
+    }
+    Ahead::calm(1)
+}
+
+/// A ride of `left` steps at most, if there is one, and one less is left for each. What comes next is
+/// answered.
+#[inline(always)]
+fn ride<L: Lookaside>(core: &mut Core<L>, bus: &mut Bus, left: &mut u32) -> Next
+    requires slots { L.SLOTS ≡ 64 }
+    requires wired { L.WIRED ≡ 8 }
+    requires any { 0 < left.old }
+    ensures within { left.new ≤ left.old }
+    ensures some { result ≡ Next.Call → 0 < left.new }
+    ensures plain { result ≡ Next.Plain → 0 < left.new }
+    ensures calls { result ≡ Next.Call
+        → with_tick (trapped core.new bus.new SystemCall) ≡ step core.new bus.new }
+    ensures steps { Advances (left.old - left.new) (hardware_of core.old bus.old)
+        (hardware_of core.new bus.new) }
+    ensures words { (k : ℕ) → k < left.old - left.new
+        → (after_steps k (hardware_of core.old bus.old)).core.pc < 2 ^ 32 }
+{
+    match Ride::open(core, bus, *left) {
+        Ok(begun) => {
+            let mut ride = begun;
+            let next = ride.run(core, bus);
+            *left = ride.left;
+            ride.close(core, bus);
+            next
+        }
+        Err(next) => next,
+    }
+}
+
+/// A stretch of `limit` steps at most, which are one at least: a ride, and what comes after it.
+#[inline(always)]
+fn stretch_and_step<L: Lookaside>(core: &mut Core<L>, bus: &mut Bus, limit: u32) -> Ahead
+    requires slots { L.SLOTS ≡ 64 }
+    requires wired { L.WIRED ≡ 8 }
+    requires some { 0 < limit }
+    ensures within { result.steps ≤ limit }
+    ensures on { IsNone result.raised → 0 < result.steps }
+    ensures fewer { IfSome result.raised (λ _. result.steps < limit) }
+    ensures steps { AdvancesTo result.steps result.raised
+        (hardware_of core.old bus.old)
+        (hardware_of core.new bus.new) }
+    ensures words { (k : ℕ) → k < result.steps
+        → (after_steps k (hardware_of core.old bus.old)).core.pc < 2 ^ 32 }
+    ensures raised { IfSome result.raised (λ _.
+        (after_steps result.steps (hardware_of core.old bus.old)).core.pc < 2 ^ 32) }
+{
+    let mut left = limit;
+    let next = ride(core, bus, &mut left);
+    let rest = go_on(core, bus, next, left < limit, left);
+    Ahead {
+        steps: limit - left + rest.steps,
+        raised: rest.raised,
+    }
 }
 
 /// Enters the exception of a system call, after so many steps.

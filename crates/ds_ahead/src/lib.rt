@@ -6,13 +6,15 @@ mod ahead;
 mod branch;
 mod code;
 mod here;
-mod in_page;
 pub mod laws;
 mod next;
 mod operate;
 mod operations;
 mod position;
+mod ride;
 mod run;
 mod stretch;
 
-pub use ahead::{Ahead, run_ahead};
+pub use ahead::{Ahead, go_on, run_ahead};
+pub use next::Next;
+pub use ride::Ride;

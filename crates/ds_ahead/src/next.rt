@@ -4,7 +4,7 @@ ghost use Rattle.ds_ahead.specs.Run.{next_by};
 
 /// What comes after a stretch.
 #[derive(Clone, Copy)]
-pub(crate) enum Next {
+pub enum Next {
     /// Whatever it is.
     Any,
     /// A system call.

@@ -1,4 +1,5 @@
-//! A stretch: operations one after the other, while nothing that seldom comes gets in their way.
+//! A stretch word by word: operations one after the other, while nothing that seldom comes gets in
+//! their way.
 ghost use Rattle.std.specs.Prelude.{◌≡◌, ◌+◌, ◌/◌, ◌%◌, ◌<◌, ◌≤◌, ◌-◌, ◌^◌, ℕ, true, false, None, IfSome};
 ghost use Rattle.ds_word.specs.Word.{word};
 ghost use Rattle.ds_cp0.specs.System.{asid_of, is_pending};
@@ -12,7 +13,6 @@ ghost use Rattle.ds_core.specs.Effect.{step};
 ghost use Rattle.ds_ahead.specs.Ahead.{hardware_of, after_steps, Advances};
 
 use crate::code::{CodePage, code_page};
-use crate::in_page::stretch_in_page;
 use crate::next::Next;
 use crate::operate::operate;
 use crate::operations::Outcome;
@@ -180,7 +180,7 @@ fn do_operations<L: Lookaside>(
 
 /// Whether no interrupt is to be taken, as long as neither the coprocessor nor a device changes.
 #[inline(always)]
-fn is_calm<L: Lookaside>(core: &Core<L>, bus: &Bus, code: &CodePage) -> bool
+pub(crate) fn is_calm<L: Lookaside>(core: &Core<L>, bus: &Bus, code: &CodePage) -> bool
     requires known { KnowsPage code.now.vpn code.now.base core.now }
     ensures calm { result ≡ true
         → is_pending core.now.system (lines bus.now).0 (lines bus.now).1 ≡ false }
@@ -191,7 +191,7 @@ fn is_calm<L: Lookaside>(core: &Core<L>, bus: &Bus, code: &CodePage) -> bool
 
 /// Whether the program goes straight on from a word.
 #[inline(always)]
-fn is_straight<L: Lookaside>(core: &Core<L>) -> bool
+pub(crate) fn is_straight<L: Lookaside>(core: &Core<L>) -> bool
     ensures straight { result ≡ true → core.now.slot ≡ false }
     ensures next { result ≡ true → core.now.next ≡ word (core.now.pc + 4) }
     ensures aligned { result ≡ true → core.now.pc % 4 ≡ 0 }
@@ -284,47 +284,8 @@ fn few(left: u32) -> u32
     if left < 2 { left } else { 2 }
 }
 
-/// A stretch from a word where the program goes straight on: through a page of known operations,
-/// where the bus has one into which the first block fits, else word by word.
-#[inline(always)]
-fn stretch_straight<L: Lookaside>(
-    core: &mut Core<L>,
-    bus: &mut Bus,
-    code: &CodePage,
-    left: &mut u32,
-) -> Next
-    requires slots { L.SLOTS ≡ 64 }
-    requires wired { L.WIRED ≡ 8 }
-    requires known { KnowsPage code.now.vpn code.now.base core.old }
-    requires space { code.now.asid ≡ asid_of core.old.system }
-    requires some { code.now.vpn < 2 ^ 32 }
-    requires page { code.now.vpn ≡ core.old.pc / 2 ^ 12 }
-    requires aligned { core.old.pc % 4 ≡ 0 }
-    requires straight { core.old.slot ≡ false }
-    requires next { core.old.next ≡ word (core.old.pc + 4) }
-    requires settled { core.old.registers.late ≡ None }
-    requires calm { is_pending core.old.system (lines bus.old).0 (lines bus.old).1 ≡ false }
-    ensures within { left.new ≤ left.old }
-    ensures some { result ≡ Next.Call → 0 < left.new }
-    ensures plain { result ≡ Next.Plain → 0 < left.new }
-    ensures calls { result ≡ Next.Call
-        → with_tick (trapped core.new bus.new SystemCall) ≡ step core.new bus.new }
-    ensures steps { Advances (left.old - left.new) (hardware_of core.old bus.old)
-        (hardware_of core.new bus.new) }
-    ensures words { (k : ℕ) → k < left.old - left.new
-        → (after_steps k (hardware_of core.old bus.old)).core.pc < 2 ^ 32 }
-{
-    let limit = *left;
-    let next = stretch_in_page(core, bus, code, left);
-    if next.is_known() || *left < limit {
-        return next;
-    }
-    walk_on(core, bus, code, limit, left)
-}
-
-/// A stretch of `left` operations at most, and one less is left for each: until a system call, or
-/// what is left to the plain step. What comes next is answered. It goes through a page of known
-/// operations where the bus has one.
+/// A stretch of `left` operations at most that looks at each word, and one less is left for each:
+/// until a system call, or what is left to the plain step. What comes next is answered.
 #[inline(always)]
 pub(crate) fn stretch<L: Lookaside>(core: &mut Core<L>, bus: &mut Bus, left: &mut u32) -> Next
     requires slots { L.SLOTS ≡ 64 }
@@ -343,10 +304,6 @@ pub(crate) fn stretch<L: Lookaside>(core: &mut Core<L>, bus: &mut Bus, left: &mu
     if !is_calm(core, bus, &code) || core.late.is_some() {
         return Next::Any;
     }
-    if is_straight(core) {
-        stretch_straight(core, bus, &code, left)
-    } else {
-        let limit = few(*left);
-        walk_on(core, bus, &code, limit, left)
-    }
+    let limit = if is_straight(core) { *left } else { few(*left) };
+    walk_on(core, bus, &code, limit, left)
 }

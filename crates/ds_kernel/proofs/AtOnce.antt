@@ -32,7 +32,7 @@ use Rattle.ds_refinement.specs.Told.{told, code_in, is_delayed}
 use Rattle.ds_refinement.specs.Held.{Held, Kept, Own, vacated, whole}
 use Rattle.ds_refinement.specs.Units.{ends_in_call, is_served, has_left_user}
 use Rattle.ds_refinement.specs.Stands.{Agrees, CountedBy, Stands, IsSound, AreResting, RunningIs, RunningBy}
-use Rattle.ds_refinement.specs.Services.{IsBare, Serves, seated, with_first_seated, with_boundary, with_none_spent}
+use Rattle.ds_refinement.specs.Services.{Enters, EntersBy, IsBare, Serves, seated, with_first_seated, with_boundary, with_none_spent}
 use Rattle.ds_refinement.specs.Ends.{EndsInCall}
 use Rattle.ds_refinement.specs.Quiet.{IsQuiet}
 use Rattle.ds_refinement.specs.Real.{EndsReally, GoesOnReally, GoesBack}
@@ -50,7 +50,7 @@ use Rattle.ds_monitor.specs.Room.{HasLogRoom}
 use Rattle.ds_monitor.specs.Taking.{got, with_taken}
 use Rattle.ds_monitor.proofs.Gets.{set_same, taken_answered}
 use Rattle.ds_monitor.proofs.Called.{with_end, called, call_ends, puts, gets}
-use Rattle.ds_kernel.specs.Seats.{behind_call, on_processor}
+use Rattle.ds_kernel.specs.Seats.{behind_call, on_processor, back_on}
 use Rattle.ds_kernel.specs.AtOnce.{IsQuietCall, IsAnswered}
 use Rattle.ds_kernel.specs.declared.parts.Parts.{Parts}
 use Rattle.ds_kernel.specs.Parts.{held, own_of}
@@ -79,17 +79,35 @@ abbrev pub with_texts : State → List (List ℕ) → List (List ℕ) → State
 with_texts m queues consoles = record m { queues = queues; consoles = consoles }
 
 -- What is held after a call of a process that stays on the processor: its boundary is owed, and its seat is as it was.
-abbrev owing_of : Held → ℕ → ℕ → List (List ℕ) → List (List ℕ) → BusState → Held
-owing_of h p answer queues consoles b = record {
-  core = on_processor h.core (behind_call h.core answer (process_of h.kept.state p));
+abbrev owing_of : Held → ℕ → ℕ → List (List ℕ) → List (List ℕ) → BusState → ℕ → ℕ → Held
+owing_of h p answer queues consoles b cause epc = record {
+  core = back_on h.core (behind_call h.core answer (process_of h.kept.state p)) cause epc;
   bus = b;
   kept = record h.kept { state = record (with_texts h.kept.state queues consoles) { time = h.kept.state.time + 1; owed = Some (record { began = h.kept.state.time; runner = Some p }) } };
   own = with_none_spent h.own;
 }
 
 -- and once the boundary is over
-abbrev pub closed_of : Held → ℕ → ℕ → List (List ℕ) → List (List ℕ) → BusState → Held
-closed_of h p answer queues consoles b = with_boundary (owing_of h p answer queues consoles b)
+abbrev pub closed_of : Held → ℕ → ℕ → List (List ℕ) → List (List ℕ) → BusState → ℕ → ℕ → Held
+closed_of h p answer queues consoles b cause epc = with_boundary (owing_of h p answer queues consoles b cause epc)
+
+-- whoever came on the processor did so whatever Cause and EPC have
+entered_with : (p : ℕ) (q : Process) (c : CoreState) (k : Kept) (cause epc : ℕ) → Enters p q c k → Enters p q (record c { system = record c.system { cause = cause; epc = epc } }) k
+entered_with p q c k cause epc e = record {
+  mode = e.mode;
+  number = e.number;
+  set = record { space = e.set.space; small = e.set.small };
+  first = e.first;
+  pc = e.pc;
+  next = e.next;
+  registers = e.registers;
+  seat = e.seat;
+  standing = e.standing;
+}
+
+entered_by : (queue : List ℕ) (c : CoreState) (k : Kept) (cause epc : ℕ) → EntersBy queue c k → EntersBy queue (record c { system = record c.system { cause = cause; epc = epc } }) k
+entered_by [] c k cause epc e = e
+entered_by (p ∷ rest) c k cause epc e = entered_with p (process_of k.state p) c k cause epc e
 
 -- A call answers this, and leaves these queues, consoles and bus, and nothing else, whatever registers the process has.
 pub record Answers (s : State) (p pc : ℕ) (asked : Call) (answer : ℕ) (queues consoles : List (List ℕ)) (before after : BusState) : Type 0 where
@@ -104,7 +122,7 @@ pub record Answers (s : State) (p pc : ℕ) (asked : Call) (answer : ℕ) (queue
 -- A call of the process that runs.
 module _ (h : Held) (p : ℕ) (rest : List ℕ) (asked : Call) (answer : ℕ) (queues consoles : List (List ℕ)) (b : BusState) (sound : IsSound h) (ready : h.kept.state.ready ≡ p ∷ rest) (serving : is_served h.core ≡ true) (from_user : has_left_user h.core ≡ true)
     (unowed : h.kept.state.owed ≡ None) (bare : IsBare h.kept.state) (seat : HasSeat h.kept.state p) (standing : (process_of h.kept.state p).standing ≡ Ready) (code : code_in h.core.system ≡ 8) (outside : is_delayed h.core.system ≡ false)
-    (asks : call_of h.core.registers.general ≡ asked) (by : Answers h.kept.state p h.core.system.epc asked answer queues consoles h.bus b) where
+    (asks : call_of h.core.registers.general ≡ asked) (by : Answers h.kept.state p h.core.system.epc asked answer queues consoles h.bus b) (cause epc : ℕ) where
   abbrev s : State
   s = h.kept.state
 
@@ -125,10 +143,10 @@ module _ (h : Held) (p : ℕ) (rest : List ℕ) (asked : Call) (answer : ℕ) (q
   behind = behind_call h.core answer q
 
   abbrev owing : Held
-  owing = owing_of h p answer queues consoles b
+  owing = owing_of h p answer queues consoles b cause epc
 
   abbrev closed : Held
-  closed = closed_of h p answer queues consoles b
+  closed = closed_of h p answer queues consoles b cause epc
 
   abbrev later : State
   later = owing.kept.state
@@ -191,7 +209,8 @@ module _ (h : Held) (p : ℕ) (rest : List ℕ) (asked : Call) (answer : ℕ) (q
   ends : EndsInCall p h in_seat
   ends = record {
     serves = serves;
-    enters = entering s.ready p h.core in_seat.core in_seat.kept (ap first ready) (seat.0, (seat_kept later p behind seat).1, ap (λ (x : Process). x.standing) there ∙ standing) runs.number runs.set (ap (on_processor h.core) (sym there));
+    enters = entered_by s.ready (on_processor h.core behind) in_seat.kept cause epc
+        (entering s.ready p h.core (on_processor h.core behind) in_seat.kept (ap first ready) (seat.0, (seat_kept later p behind seat).1, ap (λ (x : Process). x.standing) there ∙ standing) runs.number runs.set (ap (on_processor h.core) (sym there)));
     represented = subst (λ (x : List ℕ). IsRepresented h.core.entries x h.kept.tables h.kept.spaces h.kept.grants) (sym by.memory) sound.stands.agrees.represented;
     vectors = subst HasWords (sym by.memory) sound.stands.agrees.vectors;
     base = record { tables = sound.stands.agrees.base.tables; whole = sound.stands.agrees.base.whole };
@@ -306,10 +325,10 @@ module _ (h : Held) (p : ℕ) (rest : List ℕ) (asked : Call) (answer : ℕ) (q
       }
 
 -- The parts of a station after it.
-module _ {L : Type 0} (p answer : ℕ) (asked : Call) (queues consoles : List (List ℕ)) (old new : Parts L) (waits : IsQuietCall p old) (asks : call_of old.core.registers.general ≡ asked)
+module _ {L : Type 0} (p answer cause epc : ℕ) (asked : Call) (queues consoles : List (List ℕ)) (old new : Parts L) (waits : IsQuietCall p old) (asks : call_of old.core.registers.general ≡ asked)
     (by : Answers (kept_of old.monitor).state p old.core.system.epc asked answer queues consoles old.bus new.bus)
     (commands : IsNonDecreasingBy has_time old.monitor.due.commands) (order : IsNonDecreasingBy comes_at old.monitor.due.characters)
-    (core : new.core ≡ on_processor old.core (behind_call old.core answer (process_of (kept_of old.monitor).state p)))
+    (core : new.core ≡ back_on old.core (behind_call old.core answer (process_of (kept_of old.monitor).state p)) cause epc)
     (kept : kept_of new.monitor ≡ record (kept_of old.monitor) { state = record (with_texts (kept_of old.monitor).state queues consoles) { time = old.monitor.time + 1 } })
     (until : new.monitor.quiet_until ≡ old.monitor.quiet_until) (log : HasLogRoom 1 old.monitor → HasLogRoom 1 new.monitor) (own : own_of new ≡ with_none_spent (own_of old)) where
   abbrev h : Held
@@ -322,7 +341,7 @@ module _ {L : Type 0} (p answer : ℕ) (asked : Call) (queues consoles : List (L
   unowed = good.orderly.begun waits.busy.begun
 
   abbrev closed_held : Held
-  closed_held = closed_of h p answer queues consoles new.bus
+  closed_held = closed_of h p answer queues consoles new.bus cause epc
 
   abbrev state_then : State
   state_then = record (with_texts (kept_of old.monitor).state queues consoles) { time = old.monitor.time + 1 }
@@ -337,7 +356,7 @@ module _ {L : Type 0} (p answer : ℕ) (asked : Call) (queues consoles : List (L
   spent : new.spent ≡ 0
   spent = ap (λ (o : Own). o.spent) own
 
-  none : IsQuiet (owing_of h p answer queues consoles new.bus).kept
+  none : IsQuiet (owing_of h p answer queues consoles new.bus cause epc).kept
   none =
       let n = nothing_due old.monitor (old.monitor.time + 1) (Some (record { began = old.monitor.time; runner = Some p })) commands order good.next waits.early good.orderly.kept in
       record { commands = n.commands; characters = n.characters; asleep = by.asleep good.orderly.kept.lawful.asleep; period = n.period; ends = n.ends }
@@ -352,13 +371,13 @@ module _ {L : Type 0} (p answer : ℕ) (asked : Call) (queues consoles : List (L
   queue = (first_rest old.monitor.ready p waits.busy.first).1
 
   sound : IsSound closed_held
-  sound = sound_then h p others asked answer queues consoles new.bus good.sound queue waits.called.served waits.called.left unowed (record { memory = refl; log = refl }) (ready.0, ready.1) ready.2 waits.called.code waits.outside asks by good.orderly.ticked none
+  sound = sound_then h p others asked answer queues consoles new.bus good.sound queue waits.called.served waits.called.left unowed (record { memory = refl; log = refl }) (ready.0, ready.1) ready.2 waits.called.code waits.outside asks by cause epc good.orderly.ticked none
 
   good_behind : IsGood new
   good_behind = record {
     sound = subst IsSound (sym is) sound;
     orderly = subst IsOrderly (sym is)
-        (orderly_then h p others asked answer queues consoles new.bus good.sound queue waits.called.served waits.called.left unowed (record { memory = refl; log = refl }) (ready.0, ready.1) ready.2 waits.called.code waits.outside asks by waits.busy.early good.orderly);
+        (orderly_then h p others asked answer queues consoles new.bus good.sound queue waits.called.served waits.called.left unowed (record { memory = refl; log = refl }) (ready.0, ready.1) ready.2 waits.called.code waits.outside asks by cause epc waits.busy.early good.orderly);
     room = λ some. absurd (omega (arith, spent, some));
     owed = λ some. absurd (none_is_not_some new.monitor.owed (ap (λ (x : Held). x.kept.state.owed) is) some);
     next = until ∙ (good.next ∙ sym (ap next_due kept));
@@ -367,7 +386,7 @@ module _ {L : Type 0} (p answer : ℕ) (asked : Call) (queues consoles : List (L
   goes_behind : (n : ℕ) → old.monitor.time < n → GoesOn n h (held new)
   goes_behind n before =
       subst (λ (x : Held). GoesOn n h x) (sym is)
-      (goes_then h p others asked answer queues consoles new.bus good.sound queue waits.called.served waits.called.left unowed (record { memory = refl; log = refl }) (ready.0, ready.1) ready.2 waits.called.code waits.outside asks by n good.orderly.ticked none before)
+      (goes_then h p others asked answer queues consoles new.bus good.sound queue waits.called.served waits.called.left unowed (record { memory = refl; log = refl }) (ready.0, ready.1) ready.2 waits.called.code waits.outside asks by cause epc n good.orderly.ticked none before)
 
   pub is_answered : IsAnswered old new
   is_answered = record {

@@ -174,7 +174,7 @@ later_good old new good sound unowed ready monitor later raised few fresh room q
     }
 
 -- what the coprocessor has stays, where no exception is entered
-system_kept : (start : Hardware) (n : ℕ) → start.core.system.status ≡ user_status → ((k : ℕ) → k < n → is_raised (ahead.step_of (after_steps k start)).event ≡ false) → (after_steps n start).core.system ≡ start.core.system
+pub system_kept : (start : Hardware) (n : ℕ) → start.core.system.status ≡ user_status → ((k : ℕ) → k < n → is_raised (ahead.step_of (after_steps k start)).event ≡ false) → (after_steps n start).core.system ≡ start.core.system
 system_kept start zero mode calm = refl
 system_kept start (suc n) mode calm =
     let before : (after_steps n start).core.system ≡ start.core.system = system_kept start n mode (λ k below. calm k (omega (arith, below))) in
@@ -189,7 +189,7 @@ pub counted_is : {L : Type 0} (old mid new : Parts L) (passed : ℕ) → mid ≡
 counted_is {L = L} old mid new passed rest by = by ∙ ap (λ (x : Parts L). record (with_counts_of new x) { monitor = record x.monitor { time = x.monitor.time + passed } }) rest
 
 -- A block of at most so many instructions from the old parts.
-module _ {L : Type 0} (limit n : ℕ) (old new : Parts L) (c : CoreState) (b : BusState) (passed : ℕ) (good : IsGood old) (goes : MayRunAhead limit (held old)) (room : HasRoom 1 old.monitor) (in_time : old.monitor.time + limit + 1 ≤ 1000000000)
+module _ {L : Type 0} (limit n : ℕ) (old new : Parts L) (c : CoreState) (b : BusState) (passed : ℕ) (good : IsGood old) (goes : MayRunAhead limit (held old)) (room : HasRoom 1 old.monitor) (in_time : old.monitor.time + limit + 1 ≤ 1000000001)
     (soon : old.monitor.time + limit + 1 + owed_tick old.core.slot ≤ old.monitor.quiet_until) (words : ComesByWords n (hardware_of old.core old.bus)) (rest : IsMoved old new c b passed) where
   abbrev hw : Hardware
   hw = hardware_of c b

@@ -26,3 +26,4 @@ pub mod Refilling
 pub mod IdleTurns
 pub mod AtOnce
 pub mod Hearing
+pub mod OnRides

@@ -10,4 +10,5 @@ pub mod Ran
 pub mod Going
 pub mod Refilled
 pub mod AtOnce
+pub mod InBlock
 pub mod Idling

@@ -31,6 +31,10 @@ in_space c number = record c { system = record c.system { entry_hi = number * 2 
 abbrev pub on_processor : CoreState → Process → CoreState
 on_processor c q = begun_at (record c { registers = q.registers }) q.pc
 
+-- the same with what Cause and EPC have
+abbrev pub back_on : CoreState → Process → ℕ → ℕ → CoreState
+back_on c q cause epc = record (on_processor c q) { system = record c.system { status = user_status; cause = cause; epc = epc } }
+
 -- registers as a call leaves them, which answers in register 2: no other differs, and no load is late
 abbrev pub AreAnswered : Registers → Registers → Type 0
 AreAnswered before behind = behind ≡ record (settled before) { general = slice_set before.general 2 (slice_index behind.general 2) }

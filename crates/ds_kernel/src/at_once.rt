@@ -11,15 +11,15 @@ use crate::parts::Parts;
 use ds_tlb::Lookaside;
 
 /// The number of the call that puts a character.
-const PUT: u32 = 1;
+pub(crate) const PUT: u32 = 1;
 
 /// The number of the call that gets one.
-const GET: u32 = 2;
+pub(crate) const GET: u32 = 2;
 
 impl<L: Lookaside> Parts<L> {
     /// The first argument of a call, as a byte.
     #[inline(always)]
-    fn first_argument(&self) -> u8
+    pub(crate) fn first_argument(&self) -> u8
         ensures { result ≡ slice_index self.now.core.registers.general 4 % 256 }
     {
         (self.core.registers[4] % 256) as u8

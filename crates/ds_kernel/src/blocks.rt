@@ -1,11 +1,14 @@
 //! Many instructions of a process at once, with one bookkeeping for all their units.
 ghost use Rattle.std.specs.Prelude.{[], ◌≢◌, ◌≡◌, ◌<◌, ◌≤◌, ◌+◌, ◌-◌, ◌^◌, min, ℕ, None, true, false, IfSome, IfErr, OnOk, OnErr, IsNone, IsSome};
 ghost use Rattle.ds_cp0.specs.declared.exception.ExceptionCode.TheVariants as exception;
-ghost use Rattle.ds_ahead.specs.Ahead.{hardware_of, AdvancesTo, ComesByWords, ticks, owed_tick};
+ghost use Rattle.ds_core.specs.Core.{with_tick, trapped};
+ghost use Rattle.ds_core.specs.Effect.{step};
+ghost use Rattle.ds_ahead.specs.declared.next.Next.TheVariants.{Call, Plain};
+ghost use Rattle.ds_ahead.specs.Ahead.{hardware_of, after_steps, AdvancesTo, owed_tick};
 ghost use Rattle.ds_refinement.specs.Blocks.{MayRunAhead, counts_behind};
 ghost use Rattle.ds_refinement.specs.Counts.{IsFresh, fresh, one_more, with_counts};
 ghost use Rattle.ds_refinement.specs.Services.{with_failure};
-ghost use Rattle.ds_monitor.specs.Room.{HasRoom};
+ghost use Rattle.ds_monitor.specs.Room.{HasLogRoom, HasRoom};
 ghost use Rattle.ds_kernel.specs.Parts.{held, own_of, with_counts_of};
 ghost use Rattle.ds_kernel.specs.Good.{IsGood};
 ghost use Rattle.ds_kernel.specs.Going.{GoesOn};
@@ -14,7 +17,7 @@ ghost use Rattle.ds_kernel.specs.Halts.{Halts};
 
 use crate::halt::Halt;
 use crate::parts::Parts;
-use ds_ahead::{Ahead, run_ahead};
+use ds_ahead::{Ahead, Next, go_on};
 use ds_cp0::ExceptionCode;
 use ds_tlb::Lookaside;
 
@@ -207,63 +210,76 @@ impl<L: Lookaside> Parts<L> {
         }
     }
 
-    /// Takes so many instructions, or fewer and then one that raises an exception.
+    /// Takes what comes where a ride ended, or where none was: a plain step at least where none made
+    /// way, and `left` at most.
     #[inline(always)]
-    fn run_ahead(&mut self, limit: u32) -> Ahead
+    fn go_on(&mut self, next: Next, went: bool, left: u32) -> Ahead
         requires slots { L.SLOTS ≡ 64 }
         requires wired { L.WIRED ≡ 8 }
-        ensures all { IsNone result.raised → result.steps ≡ limit }
-        ensures fewer { IfSome result.raised (λ _. result.steps < limit) }
+        requires some { next ≡ Call → 0 < left }
+        requires plain { next ≡ Plain → 0 < left }
+        requires stands { went ≡ false → 0 < left }
+        requires calls { next ≡ Call → with_tick (trapped self.old.core self.old.bus exception.SystemCall)
+            ≡ step self.old.core self.old.bus }
+        ensures within { result.steps ≤ left }
+        ensures on { went ≡ false → IsNone result.raised → 0 < result.steps }
+        ensures fewer { IfSome result.raised (λ _. result.steps < left) }
         ensures steps { AdvancesTo result.steps result.raised
             (hardware_of self.old.core self.old.bus)
             (hardware_of self.new.core self.new.bus) }
-        ensures words { ComesByWords result.steps (hardware_of self.old.core self.old.bus) }
-        ensures ticks { IsNone result.raised
-            → ticks result.steps (hardware_of self.old.core self.old.bus)
-            + owed_tick self.new.core.slot ≡ result.steps + owed_tick self.old.core.slot }
+        ensures words { (k : ℕ) → k < result.steps
+            → (after_steps k (hardware_of self.old.core self.old.bus)).core.pc < 2 ^ 32 }
+        ensures raised { IfSome result.raised (λ _. (after_steps result.steps
+            (hardware_of self.old.core self.old.bus)).core.pc < 2 ^ 32) }
         ensures rest { self.new ≡ record self.old { core = self.new.core; bus = self.new.bus } }
     {
-        run_ahead(&mut self.core, &mut self.bus, limit)
+        go_on(&mut self.core, &mut self.bus, next, went, left)
     }
 
-    /// Takes so many instructions, or fewer and then one that raises an exception. No
-    /// boundary between their units has anything to do. Whether the last was a call.
+    /// Takes so many instructions, or fewer and then one that raises an exception, or fewer and
+    /// then a call that is answered, where the block ends with it. No boundary between their units has
+    /// anything to do. Whether the last was a call that waits.
     #[inline(always)]
-    pub(crate) fn run_block(&mut self, limit: u32) -> bool
+    pub(crate) fn run_block(&mut self, n: u64, end: u64, limit: u32) -> bool
         requires slots { L.SLOTS ≡ 64 }
         requires wired { L.WIRED ≡ 8 }
         requires good { IsGood self.old }
+        requires working { self.old.failed ≡ false }
         requires ahead { MayRunAhead limit (held self.old) }
         requires some { 1 ≤ limit }
-        requires early { self.old.monitor.time + limit + 1 ≤ 1000000000 }
-        requires before { self.old.monitor.time + limit + 1 + owed_tick self.old.core.slot
-            ≤ self.old.monitor.quiet_until }
+        requires few { n ≤ 1000000000 }
+        requires end { self.old.monitor.time + limit + 1 ≡ end }
+        requires within { end ≤ n }
+        requires before { end + owed_tick self.old.core.slot ≤ self.old.monitor.quiet_until }
         requires room { HasRoom 1 self.old.monitor }
         ensures good { IsGood self.new }
-        ensures goes { (n : ℕ) → self.old.monitor.time + limit + owed_tick self.old.core.slot ≤ n
-            → GoesOn n (held self.old) (held self.new) }
+        ensures goes { GoesOn n (held self.old) (held self.new) }
         ensures called { result ≡ true → IsCalled self.new.core }
-        ensures early { result ≡ true → self.new.monitor.time + 1 < self.old.monitor.quiet_until }
-        ensures rest { self.new ≡ record (with_counts_of self.new self.old) {
-          core = self.new.core;
-          bus = self.new.bus;
-          monitor = record self.old.monitor { time = self.new.monitor.time };
-        } }
+        ensures early { result ≡ true → self.new.monitor.time + 1 < self.new.monitor.quiet_until }
+        ensures quiet { end ≤ self.new.monitor.quiet_until }
+        ensures log { HasLogRoom 1 self.new.monitor }
     {
-        let before = self.slot_tick();
-        let ahead = self.run_ahead(limit);
-        match ahead.raised {
-            None => {
-                let slot = self.is_in_slot();
-                self.count_block(ahead.steps, before, slot);
-                false
-            }
-            Some(code) => {
+        let mut before = self.slot_tick();
+        let end = end + u64::from(before);
+        let mut mark = limit + before;
+        let mut left = limit;
+        while left > 0 {
+            let all = left;
+            let Some(next) = self.ride(n, end, &mut left, &mut mark, &mut before) else {
+                return false;
+            };
+            let went = self.go_on(next, left < all, left);
+            left -= went.steps;
+            if let Some(code) = went.raised {
                 self.look_at_processor();
                 let slot = self.is_delayed();
-                self.count_raised(ahead.steps, before, slot);
-                is_call(code)
+                self.count_raised(mark - before - left, before, slot);
+                return is_call(code);
             }
         }
+        self.look_at_program();
+        let slot = self.is_in_slot();
+        self.count_block(mark - before, before, slot);
+        false
     }
 }

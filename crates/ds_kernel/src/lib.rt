@@ -17,6 +17,7 @@ mod idle;
 mod mode;
 mod parts;
 mod refill;
+mod riding;
 mod run;
 mod seats;
 mod serve;

@@ -125,10 +125,9 @@ impl<L: Lookaside> Parts<L> {
         ensures good { IsGood self.new }
         ensures goes { GoesOn n (held self.old) (held self.new) }
         ensures on { result ≡ true → MayGoOn end self.new }
-        ensures until { result ≡ true
-            → self.new.monitor.quiet_until ≡ self.old.monitor.quiet_until }
+        ensures quiet { result ≡ true → end ≤ self.new.monitor.quiet_until }
     {
-        let called = self.run_block(limit);
+        let called = self.run_block(n, end, limit);
         self.serve_raised(n, end, called)
     }
 

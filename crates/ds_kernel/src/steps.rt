@@ -89,7 +89,7 @@ impl<L: Lookaside> Parts<L> {
 
     /// The program stands at an address of 32 bits.
     #[inline(always)]
-    fn look_at_program(&self)
+    pub(crate) fn look_at_program(&self)
         ensures { self.now.core.pc < 2 ^ 32 }
     {
         let _here = self.core.pc;

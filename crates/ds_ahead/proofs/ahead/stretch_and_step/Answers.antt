@@ -1,25 +1,24 @@
-use Rattle.std.proofs.Common.{◌∙◌, ◌-◌, arith}
-use Rattle.ds_ahead.specs.Ahead.{hardware_of}
-use Rattle.ds_ahead.proofs.Advances.{advances_on, comes_on, calm_event}
+use Rattle.std.proofs.Common.{◌<◌, ◌-◌, ◌^◌, subst}
+use Rattle.std.specs.Prelude.{IfSome}
+use Rattle.ds_ahead.specs.Ahead.{Hardware, hardware_of}
+use Rattle.ds_ahead.proofs.Stretches.{join_to, words_join, at_sum}
 use Rattle.ds_ahead.proofs.ahead.stretch_and_step.Goals as goal
 
-pub returns-in-Call-clause-steps : goal.returns-in-Call-clause-steps
-returns-in-Call-clause-steps g c = rw c.call_after.ensures.value (
-  hardware_of c.stretch-next.new.core c.stretch-next.new.bus,
-  c.stretch-next.ensures.steps,
-  c.call_after.ensures.core c.stretch-next.new.bus ∙ c.stretch-next.ensures.calls c.in-Call.is,
-)
+pub returns-clause-steps : goal.returns-clause-steps
+returns-clause-steps g c = join_to (c.args.limit - c.ride-next.new.left) c.go_on-rest.result.steps c.go_on-rest.result.raised
+    (hardware_of c.args.core.now c.args.bus.now)
+    (hardware_of c.ride-next.new.core c.ride-next.new.bus)
+    (hardware_of c.go_on-rest.new.core c.go_on-rest.new.bus)
+    c.ride-next.ensures.steps c.go_on-rest.ensures.steps
 
-pub returns : goal.returns
-returns g c = rw c.calm-2.ensures (
-    let calm = calm_event c.step.result c.in_default-step.not-Raised in
-    record {
-      within = omega arith;
-      on = λ _. omega arith;
-      fewer = tt;
-      steps = advances_on _ _ (hardware_of c.stretch-next.new.core c.stretch-next.new.bus) (hardware_of c.step.new.self c.step.new.bus) c.step.result c.stretch-next.ensures.steps c.step.ensures calm;
-      words = λ k below.
-          comes_on (c.args.limit - c.stretch-next.new.left) _ (hardware_of c.stretch-next.new.core c.stretch-next.new.bus)
-          c.stretch-next.ensures.words c.stretch-next.ensures.steps (grind (arith)) k (omega arith);
-      raised = tt;
-    })
+pub returns-clause-words : goal.returns-clause-words
+returns-clause-words g c = words_join (c.args.limit - c.ride-next.new.left) c.go_on-rest.result.steps
+    (hardware_of c.args.core.now c.args.bus.now)
+    (hardware_of c.ride-next.new.core c.ride-next.new.bus)
+    c.ride-next.ensures.steps c.ride-next.ensures.words c.go_on-rest.ensures.words
+
+pub returns-clause-raised : goal.returns-clause-raised
+returns-clause-raised g c =
+    subst (λ (h : Hardware). IfSome c.go_on-rest.result.raised (λ _. h.core.pc < 2 ^ 32))
+    (at_sum (c.args.limit - c.ride-next.new.left) c.go_on-rest.result.steps (hardware_of c.args.core.now c.args.bus.now) (hardware_of c.ride-next.new.core c.ride-next.new.bus) c.ride-next.ensures.steps)
+    c.go_on-rest.ensures.raised

@@ -22,7 +22,7 @@ returns g c =
     let go = c.go_on_behind_call.ensures.rest q in
     let monitor = ap (λ (x : Parts g.row.L.Denot). x.monitor) go ∙ ap (λ (m : Monitor). record m { time = m.time + 1 }) c.take_answer-answer.ensures.rest in
     let bus = ap (λ (x : Parts g.row.L.Denot). x.bus) go in
-    is_answered p c.take_answer-answer.result Get (with_taken p k.state).queues k.state.consoles old new c.requires.waits (asks_get old.core.registers.general c.requires.number)
+    is_answered p c.take_answer-answer.result old.core.system.cause old.core.system.epc Get (with_taken p k.state).queues k.state.consoles old new c.requires.waits (asks_get old.core.registers.general c.requires.number)
     (subst (λ (v : ℕ). Answers k.state p old.core.system.epc Get v (with_taken p k.state).queues k.state.consoles old.bus new.bus) (sym c.take_answer-answer.ensures.value)
     (subst (λ (b : BusState). Answers k.state p old.core.system.epc Get (got (queue_of k.state p)) (with_taken p k.state).queues k.state.consoles old.bus b) (sym bus)
     (get_answers k.state p old.core.system.epc old.bus (c.look_at_unit.ensures.above, c.look_at_unit.ensures.within))))

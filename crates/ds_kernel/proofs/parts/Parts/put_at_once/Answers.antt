@@ -22,7 +22,7 @@ returns g c =
     let go = c.go_on_behind_call.ensures.rest q in
     let monitor = ap (λ (x : Parts g.row.L.Denot). x.monitor) go ∙ ap (λ (m : Monitor). record m { time = m.time + 1 }) c.put.ensures.rest in
     let bus = ap (λ (x : Parts g.row.L.Denot). x.bus) go ∙ c.put.ensures.bus in
-    is_answered p 0 (Put byte) k.state.queues (after_put k.state p byte).consoles old new c.requires.waits (asks_put old.core.registers.general c.requires.number ∙ ap Put (sym c.first_argument-byte.ensures))
+    is_answered p 0 old.core.system.cause old.core.system.epc (Put byte) k.state.queues (after_put k.state p byte).consoles old new c.requires.waits (asks_put old.core.registers.general c.requires.number ∙ ap Put (sym c.first_argument-byte.ensures))
     (subst (λ (b : BusState). Answers k.state p old.core.system.epc (Put byte) 0 k.state.queues (after_put k.state p byte).consoles old.bus b) (sym bus)
     (put_answers k.state p old.core.system.epc byte old.bus (c.look_at_unit.ensures.above, c.look_at_unit.ensures.within)))
     c.look_at_order.ensures.commands

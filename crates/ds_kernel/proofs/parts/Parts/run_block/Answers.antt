@@ -1,138 +1,168 @@
-use Rattle.std.proofs.Common.{◌≡◌, ◌≤◌, ◌<◌, ◌+◌, ◌-◌, ℕ, Bool, Option, sym, ap, ap₂, subst, ◌∙◌, arith}
-use Rattle.std.specs.Prelude.{IfSome, is_some}
+use Rattle.std.proofs.Common.{◌≡◌, ◌≤◌, ◌<◌, ◌+◌, ◌-◌, ◌^◌, ℕ, Option, refl, subst, inl, arith}
+use Rattle.std.specs.Prelude.{IfSome}
 use Rattle.ds_cp0.specs.declared.exception.ExceptionCode.{ExceptionCode}
-use Rattle.ds_ahead.specs.Ahead.{hardware_of, AdvancesTo, ticks, owed_tick}
-use Rattle.ds_refinement.specs.Counts.{with_counts, one_more}
-use Rattle.ds_refinement.specs.Blocks.{counts_behind}
-use Rattle.ds_refinement.specs.Held.{Own}
-use Rattle.ds_refinement.specs.Told.{is_delayed}
-use Rattle.ds_refinement.proofs.BlockPaths.{raised_ticks}
-use Rattle.ds_refinement.proofs.Tallied.{few_of}
-use Rattle.ds_kernel.specs.declared.parts.Parts.{Parts}
-use Rattle.ds_kernel.specs.Parts.{held, own_of}
-use Rattle.ds_kernel.proofs.Blocking.{counted_is, calm_good, calm_goes, raised_good, raised_goes, raised_soon, raised_call}
+use Rattle.ds_ahead.specs.Ahead.{hardware_of, after_steps, Advances, AdvancesTo, owed_tick}
+use Rattle.ds_kernel.specs.Parts.{held}
+use Rattle.ds_kernel.proofs.OnRides.{block_begun, block_on, owed_most, mid_fresh, mid_early, mid_spent, mid_since, mark_holds, counted_fits, raised_some, ends_raised_good, ends_raised_goes, ends_raised_early, ends_raised_call, ends_raised_quiet, ends_raised_log, ends_good, ends_goes}
 use Rattle.ds_kernel.proofs.parts.Parts.run_block.Goals as goal
 
--- What is counted leaves room.
+-- The block begins.
 
-pub count_block-requires-clause-since : goal.count_block-requires-clause-since
-count_block-requires-clause-since g c =
-    let sound = c.requires.good.sound in
-    subst (λ (p : Parts g.row.L.Denot). p.since < 56) (sym c.run_ahead-ahead.ensures.rest) (few_of (held c.args.self.now) sound.state sound.stands).since
+pub loop-left-init : goal.loop-left-init
+loop-left-init g c =
+    let p = c.args.self.now in
+    let tick : c.slot_tick-before.result ≡ owed_tick p.core.slot = c.slot_tick-before.ensures in
+    let wide : c.from.result ≡ c.slot_tick-before.result = c.from.ensures in
+    let small : owed_tick p.core.slot ≤ 1 = owed_most p.core.slot in
+    let ends : p.monitor.time + c.args.limit + 1 ≡ c.args.end = c.requires.end in
+    let within : c.args.end ≤ c.args.n = c.requires.within in
+    let quiet : c.args.end + owed_tick p.core.slot ≤ p.monitor.quiet_until = c.requires.before in record {
+      block = block_begun (held p) c.args.n (c.args.end + c.from.result) c.args.limit p (inl refl) c.requires.good c.requires.working c.requires.ahead c.requires.room c.requires.some
+          (omega (arith, tick, wide, ends)) (omega (arith, tick, wide, small, within)) c.requires.few (omega (arith, tick, wide, quiet)) (c.args.limit + c.slot_tick-before.result) c.slot_tick-before.result tick refl;
+    }
+
+-- A call was answered, and the block is over.
+
+pub returns-in_default-clause-good : goal.returns-in_default-clause-good
+returns-in_default-clause-good g c =
+    let behind = c.in_default.ensures.over refl (held c.args.self.now) c.loop-left.invariant.block in
+    behind.good
+
+pub returns-in_default-clause-goes : goal.returns-in_default-clause-goes
+returns-in_default-clause-goes g c =
+    let behind = c.in_default.ensures.over refl (held c.args.self.now) c.loop-left.invariant.block in
+    behind.goes
+
+pub returns-in_default-clause-log : goal.returns-in_default-clause-log
+returns-in_default-clause-log g c =
+    let behind = c.in_default.ensures.over refl (held c.args.self.now) c.loop-left.invariant.block in
+    behind.log
+
+pub returns-in_default-clause-quiet : goal.returns-in_default-clause-quiet
+returns-in_default-clause-quiet g c =
+    let behind = c.in_default.ensures.over refl (held c.args.self.now) c.loop-left.invariant.block in
+    let quiet : c.args.end + c.from.result ≤ c.ride.new.self.monitor.quiet_until = behind.quiet in
+    omega (arith, quiet)
+
+-- An instruction raised an exception.
+
+pub overflow_sub-mark : goal.overflow_sub-mark
+overflow_sub-mark g c =
+    let k = c.in-Some.ensures.block (held c.args.self.now) c.loop-left.invariant.block in
+    (mark_holds (held c.args.self.now) c.args.n (c.args.end + c.from.result) c.ride.new.mark c.ride.new.left c.ride.new.before c.ride.new.self k c.go_on-went.new.self c.go_on-went.ensures.rest c.go_on-went.result.steps c.go_on-went.ensures.within).0
+
+pub overflow_sub-mark-in-Some-raised : goal.overflow_sub-mark-in-Some-raised
+overflow_sub-mark-in-Some-raised g c =
+    let k = c.in-Some.ensures.block (held c.args.self.now) c.loop-left.invariant.block in
+    (mark_holds (held c.args.self.now) c.args.n (c.args.end + c.from.result) c.ride.new.mark c.ride.new.left c.ride.new.before c.ride.new.self k c.go_on-went.new.self c.go_on-went.ensures.rest c.go_on-went.result.steps c.go_on-went.ensures.within).1
+
+pub count_raised-requires-clause-fresh : goal.count_raised-requires-clause-fresh
+count_raised-requires-clause-fresh g c =
+    let k = c.in-Some.ensures.block (held c.args.self.now) c.loop-left.invariant.block in
+    mid_fresh (held c.args.self.now) c.args.n (c.args.end + c.from.result) c.ride.new.mark c.ride.new.left c.ride.new.before c.ride.new.self k c.go_on-went.new.self c.go_on-went.ensures.rest
+
+pub count_raised-requires-clause-early : goal.count_raised-requires-clause-early
+count_raised-requires-clause-early g c =
+    let k = c.in-Some.ensures.block (held c.args.self.now) c.loop-left.invariant.block in
+    mid_early (held c.args.self.now) c.args.n (c.args.end + c.from.result) c.ride.new.mark c.ride.new.left c.ride.new.before c.ride.new.self k c.go_on-went.new.self c.go_on-went.ensures.rest
+
+pub count_raised-requires-clause-fits : goal.count_raised-requires-clause-fits
+count_raised-requires-clause-fits g c =
+    let k = c.in-Some.ensures.block (held c.args.self.now) c.loop-left.invariant.block in
+    counted_fits (held c.args.self.now) c.args.n (c.args.end + c.from.result) c.ride.new.mark c.ride.new.left c.ride.new.before c.ride.new.self k c.go_on-went.new.self c.go_on-went.ensures.rest c.go_on-went.result.steps c.go_on-went.ensures.within
+
+pub count_raised-requires-clause-spent : goal.count_raised-requires-clause-spent
+count_raised-requires-clause-spent g c =
+    let k = c.in-Some.ensures.block (held c.args.self.now) c.loop-left.invariant.block in
+    mid_spent (held c.args.self.now) c.args.n (c.args.end + c.from.result) c.ride.new.mark c.ride.new.left c.ride.new.before c.ride.new.self k c.go_on-went.new.self c.go_on-went.ensures.rest
 
 pub count_raised-requires-clause-since : goal.count_raised-requires-clause-since
 count_raised-requires-clause-since g c =
-    let sound = c.requires.good.sound in
-    subst (λ (p : Parts g.row.L.Denot). p.since < 56) (sym c.run_ahead-ahead.ensures.rest) (few_of (held c.args.self.now) sound.state sound.stands).since
+    let k = c.in-Some.ensures.block (held c.args.self.now) c.loop-left.invariant.block in
+    mid_since (held c.args.self.now) c.args.n (c.args.end + c.from.result) c.ride.new.mark c.ride.new.left c.ride.new.before c.ride.new.self k c.go_on-went.new.self c.go_on-went.ensures.rest
 
 pub count_raised-requires-clause-some : goal.count_raised-requires-clause-some
 count_raised-requires-clause-some g c =
-    let old = c.args.self.now in
-    let mid = c.run_ahead-ahead.new.self in
-    let n = c.run_ahead-ahead.result.steps in
-    let leads = subst (λ (o : Option ExceptionCode). AdvancesTo n o (hardware_of old.core old.bus) (hardware_of mid.core mid.bus)) c.in-Some.is c.run_ahead-ahead.ensures.steps in
-    let all : ticks n (hardware_of old.core old.bus) + owed_tick (is_delayed mid.core.system) ≡ n + owed_tick old.core.slot = raised_ticks n c.in-Some.code (hardware_of old.core old.bus) (hardware_of mid.core mid.bus) leads in
-    let slot : owed_tick c.is_delayed-slot.result ≡ owed_tick (is_delayed mid.core.system) = ap owed_tick c.is_delayed-slot.ensures in
-    let before : c.slot_tick-before.result ≡ owed_tick old.core.slot = c.slot_tick-before.ensures in
-    omega (arith, all, slot, before)
+    let k = c.in-Some.ensures.block (held c.args.self.now) c.loop-left.invariant.block in
+    let leads = subst (λ (o : Option ExceptionCode). AdvancesTo c.go_on-went.result.steps o (hardware_of c.ride.new.self.core c.ride.new.self.bus) (hardware_of c.go_on-went.new.self.core c.go_on-went.new.self.bus)) c.in-Some-raised.is c.go_on-went.ensures.steps in
+    let fewer = subst (λ (o : Option ExceptionCode). IfSome o (λ (code : ExceptionCode). c.go_on-went.result.steps < c.ride.new.left)) c.in-Some-raised.is c.go_on-went.ensures.fewer in
+    let at = subst (λ (o : Option ExceptionCode). IfSome o (λ (code : ExceptionCode). (after_steps c.go_on-went.result.steps (hardware_of c.ride.new.self.core c.ride.new.self.bus)).core.pc < 2 ^ 32)) c.in-Some-raised.is c.go_on-went.ensures.raised in
+    raised_some (held c.args.self.now) c.args.n (c.args.end + c.from.result) c.ride.new.mark c.ride.new.left c.ride.new.before c.ride.new.self k c.go_on-went.new.self c.go_on-went.ensures.rest c.go_on-went.result.steps c.go_on-went.ensures.within c.in-Some-raised.code fewer leads c.go_on-went.ensures.words at c.is_delayed-slot.result c.is_delayed-slot.ensures
 
--- what was counted before the block is counted after its instructions
-kept_counts : {L : Type 0} (old mid : Parts L) → mid ≡ record old { core = mid.core; bus = mid.bus } → own_of mid ≡ own_of old
-kept_counts {L = L} old mid rest = ap (λ (p : Parts L). own_of p) rest
+pub returns-in-Some-raised-clause-good : goal.returns-in-Some-raised-clause-good
+returns-in-Some-raised-clause-good g c =
+    let k = c.in-Some.ensures.block (held c.args.self.now) c.loop-left.invariant.block in
+    let leads = subst (λ (o : Option ExceptionCode). AdvancesTo c.go_on-went.result.steps o (hardware_of c.ride.new.self.core c.ride.new.self.bus) (hardware_of c.go_on-went.new.self.core c.go_on-went.new.self.bus)) c.in-Some-raised.is c.go_on-went.ensures.steps in
+    let fewer = subst (λ (o : Option ExceptionCode). IfSome o (λ (code : ExceptionCode). c.go_on-went.result.steps < c.ride.new.left)) c.in-Some-raised.is c.go_on-went.ensures.fewer in
+    let at = subst (λ (o : Option ExceptionCode). IfSome o (λ (code : ExceptionCode). (after_steps c.go_on-went.result.steps (hardware_of c.ride.new.self.core c.ride.new.self.bus)).core.pc < 2 ^ 32)) c.in-Some-raised.is c.go_on-went.ensures.raised in
+    ends_raised_good (held c.args.self.now) c.args.n (c.args.end + c.from.result) c.ride.new.mark c.ride.new.left c.ride.new.before c.ride.new.self k c.go_on-went.new.self c.go_on-went.ensures.rest c.go_on-went.result.steps c.go_on-went.ensures.within c.in-Some-raised.code fewer leads c.go_on-went.ensures.words at c.is_delayed-slot.result c.is_delayed-slot.ensures c.look_at_processor.ensures.whole c.count_raised.new.self c.count_raised.ensures.own c.count_raised.ensures.rest
 
--- No instruction raised an exception.
+pub returns-in-Some-raised-clause-goes : goal.returns-in-Some-raised-clause-goes
+returns-in-Some-raised-clause-goes g c =
+    let k = c.in-Some.ensures.block (held c.args.self.now) c.loop-left.invariant.block in
+    let leads = subst (λ (o : Option ExceptionCode). AdvancesTo c.go_on-went.result.steps o (hardware_of c.ride.new.self.core c.ride.new.self.bus) (hardware_of c.go_on-went.new.self.core c.go_on-went.new.self.bus)) c.in-Some-raised.is c.go_on-went.ensures.steps in
+    let fewer = subst (λ (o : Option ExceptionCode). IfSome o (λ (code : ExceptionCode). c.go_on-went.result.steps < c.ride.new.left)) c.in-Some-raised.is c.go_on-went.ensures.fewer in
+    let at = subst (λ (o : Option ExceptionCode). IfSome o (λ (code : ExceptionCode). (after_steps c.go_on-went.result.steps (hardware_of c.ride.new.self.core c.ride.new.self.bus)).core.pc < 2 ^ 32)) c.in-Some-raised.is c.go_on-went.ensures.raised in
+    ends_raised_goes (held c.args.self.now) c.args.n (c.args.end + c.from.result) c.ride.new.mark c.ride.new.left c.ride.new.before c.ride.new.self k c.go_on-went.new.self c.go_on-went.ensures.rest c.go_on-went.result.steps c.go_on-went.ensures.within c.in-Some-raised.code fewer leads c.go_on-went.ensures.words at c.is_delayed-slot.result c.is_delayed-slot.ensures c.look_at_processor.ensures.whole c.count_raised.new.self c.count_raised.ensures.own c.count_raised.ensures.rest
 
-calm_counts : {L : Type 0} (old mid new : Parts L) (n before : ℕ) (slot : Bool) → mid ≡ record old { core = mid.core; bus = mid.bus } → own_of new ≡ with_counts (own_of mid) (counts_behind n (n + before - owed_tick slot) slot (own_of mid))
-    → slot ≡ mid.core.slot → own_of new ≡ with_counts (own_of old) (counts_behind n (n + before - owed_tick slot) mid.core.slot (own_of old))
-calm_counts {L = L} old mid new n before slot rest own stands =
-    own ∙ (ap (λ (o : Own). with_counts o (counts_behind n (n + before - owed_tick slot) slot o)) (kept_counts old mid rest)
-    ∙ ap (λ (s : Bool). with_counts (own_of old) (counts_behind n (n + before - owed_tick slot) s (own_of old))) stands)
+pub returns-in-Some-raised-clause-log : goal.returns-in-Some-raised-clause-log
+returns-in-Some-raised-clause-log g c =
+    let k = c.in-Some.ensures.block (held c.args.self.now) c.loop-left.invariant.block in
+    let leads = subst (λ (o : Option ExceptionCode). AdvancesTo c.go_on-went.result.steps o (hardware_of c.ride.new.self.core c.ride.new.self.bus) (hardware_of c.go_on-went.new.self.core c.go_on-went.new.self.bus)) c.in-Some-raised.is c.go_on-went.ensures.steps in
+    let fewer = subst (λ (o : Option ExceptionCode). IfSome o (λ (code : ExceptionCode). c.go_on-went.result.steps < c.ride.new.left)) c.in-Some-raised.is c.go_on-went.ensures.fewer in
+    let at = subst (λ (o : Option ExceptionCode). IfSome o (λ (code : ExceptionCode). (after_steps c.go_on-went.result.steps (hardware_of c.ride.new.self.core c.ride.new.self.bus)).core.pc < 2 ^ 32)) c.in-Some-raised.is c.go_on-went.ensures.raised in
+    ends_raised_log (held c.args.self.now) c.args.n (c.args.end + c.from.result) c.ride.new.mark c.ride.new.left c.ride.new.before c.ride.new.self k c.go_on-went.new.self c.go_on-went.ensures.rest c.go_on-went.result.steps c.go_on-went.ensures.within c.in-Some-raised.code fewer leads c.go_on-went.ensures.words at c.is_delayed-slot.result c.is_delayed-slot.ensures c.look_at_processor.ensures.whole c.count_raised.new.self c.count_raised.ensures.own c.count_raised.ensures.rest
 
-pub returns-in-None-clause-good : goal.returns-in-None-clause-good
-returns-in-None-clause-good g c =
-    let old = c.args.self.now in
-    let mid = c.run_ahead-ahead.new.self in
-    let n = c.run_ahead-ahead.result.steps in
-    let advances = subst (λ (o : Option ExceptionCode). AdvancesTo n o (hardware_of old.core old.bus) (hardware_of mid.core mid.bus)) c.in-None.is c.run_ahead-ahead.ensures.steps in
-    let all : n ≡ c.args.limit = c.run_ahead-ahead.ensures.all (ap is_some c.in-None.is) in
-    let some : 1 ≤ c.args.limit = c.requires.some in
-    calm_good c.args.limit n old c.count_block.new.self mid.core mid.bus _ c.requires.good c.requires.ahead c.requires.room c.requires.early c.requires.before c.run_ahead-ahead.ensures.words
-    (counted_is old mid c.count_block.new.self _ c.run_ahead-ahead.ensures.rest c.count_block.ensures.rest) (omega (arith, all)) advances (c.run_ahead-ahead.ensures.ticks (ap is_some c.in-None.is))
-    (ap₂ (λ (x : ℕ) (slot : Bool). n + x - owed_tick slot) c.slot_tick-before.ensures c.is_in_slot-slot.ensures)
-    (calm_counts old mid c.count_block.new.self n c.slot_tick-before.result c.is_in_slot-slot.result c.run_ahead-ahead.ensures.rest c.count_block.ensures.own c.is_in_slot-slot.ensures)
-    (omega (arith, all, some))
+pub returns-in-Some-raised-clause-called : goal.returns-in-Some-raised-clause-called
+returns-in-Some-raised-clause-called g c = λ is.
+    let k = c.in-Some.ensures.block (held c.args.self.now) c.loop-left.invariant.block in
+    let leads = subst (λ (o : Option ExceptionCode). AdvancesTo c.go_on-went.result.steps o (hardware_of c.ride.new.self.core c.ride.new.self.bus) (hardware_of c.go_on-went.new.self.core c.go_on-went.new.self.bus)) c.in-Some-raised.is c.go_on-went.ensures.steps in
+    let fewer = subst (λ (o : Option ExceptionCode). IfSome o (λ (code : ExceptionCode). c.go_on-went.result.steps < c.ride.new.left)) c.in-Some-raised.is c.go_on-went.ensures.fewer in
+    let at = subst (λ (o : Option ExceptionCode). IfSome o (λ (code : ExceptionCode). (after_steps c.go_on-went.result.steps (hardware_of c.ride.new.self.core c.ride.new.self.bus)).core.pc < 2 ^ 32)) c.in-Some-raised.is c.go_on-went.ensures.raised in
+    ends_raised_call (held c.args.self.now) c.args.n (c.args.end + c.from.result) c.ride.new.mark c.ride.new.left c.ride.new.before c.ride.new.self k c.go_on-went.new.self c.go_on-went.ensures.rest c.go_on-went.result.steps c.go_on-went.ensures.within c.in-Some-raised.code fewer leads c.go_on-went.ensures.words at c.is_delayed-slot.result c.is_delayed-slot.ensures c.look_at_processor.ensures.whole c.count_raised.new.self c.count_raised.ensures.own c.count_raised.ensures.rest (c.is_call.ensures is)
 
-pub returns-in-None-clause-goes : goal.returns-in-None-clause-goes
-returns-in-None-clause-goes g c = λ end soon.
-    let old = c.args.self.now in
-    let mid = c.run_ahead-ahead.new.self in
-    let n = c.run_ahead-ahead.result.steps in
-    let advances = subst (λ (o : Option ExceptionCode). AdvancesTo n o (hardware_of old.core old.bus) (hardware_of mid.core mid.bus)) c.in-None.is c.run_ahead-ahead.ensures.steps in
-    let all : n ≡ c.args.limit = c.run_ahead-ahead.ensures.all (ap is_some c.in-None.is) in
-    let some : 1 ≤ c.args.limit = c.requires.some in
-    calm_goes c.args.limit n old c.count_block.new.self mid.core mid.bus _ c.requires.good c.requires.ahead c.requires.room c.requires.early c.requires.before c.run_ahead-ahead.ensures.words
-    (counted_is old mid c.count_block.new.self _ c.run_ahead-ahead.ensures.rest c.count_block.ensures.rest) (omega (arith, all)) advances (c.run_ahead-ahead.ensures.ticks (ap is_some c.in-None.is))
-    (ap₂ (λ (x : ℕ) (slot : Bool). n + x - owed_tick slot) c.slot_tick-before.ensures c.is_in_slot-slot.ensures)
-    (calm_counts old mid c.count_block.new.self n c.slot_tick-before.result c.is_in_slot-slot.result c.run_ahead-ahead.ensures.rest c.count_block.ensures.own c.is_in_slot-slot.ensures)
-    end (omega (arith, all, some)) soon
+pub returns-in-Some-raised-clause-early : goal.returns-in-Some-raised-clause-early
+returns-in-Some-raised-clause-early g c = λ is.
+    let k = c.in-Some.ensures.block (held c.args.self.now) c.loop-left.invariant.block in
+    let leads = subst (λ (o : Option ExceptionCode). AdvancesTo c.go_on-went.result.steps o (hardware_of c.ride.new.self.core c.ride.new.self.bus) (hardware_of c.go_on-went.new.self.core c.go_on-went.new.self.bus)) c.in-Some-raised.is c.go_on-went.ensures.steps in
+    let fewer = subst (λ (o : Option ExceptionCode). IfSome o (λ (code : ExceptionCode). c.go_on-went.result.steps < c.ride.new.left)) c.in-Some-raised.is c.go_on-went.ensures.fewer in
+    let at = subst (λ (o : Option ExceptionCode). IfSome o (λ (code : ExceptionCode). (after_steps c.go_on-went.result.steps (hardware_of c.ride.new.self.core c.ride.new.self.bus)).core.pc < 2 ^ 32)) c.in-Some-raised.is c.go_on-went.ensures.raised in
+    ends_raised_early (held c.args.self.now) c.args.n (c.args.end + c.from.result) c.ride.new.mark c.ride.new.left c.ride.new.before c.ride.new.self k c.go_on-went.new.self c.go_on-went.ensures.rest c.go_on-went.result.steps c.go_on-went.ensures.within c.in-Some-raised.code fewer leads c.go_on-went.ensures.words at c.is_delayed-slot.result c.is_delayed-slot.ensures c.look_at_processor.ensures.whole c.count_raised.new.self c.count_raised.ensures.own c.count_raised.ensures.rest
 
--- The one after them did.
+pub returns-in-Some-raised-clause-quiet : goal.returns-in-Some-raised-clause-quiet
+returns-in-Some-raised-clause-quiet g c =
+    let k = c.in-Some.ensures.block (held c.args.self.now) c.loop-left.invariant.block in
+    let leads = subst (λ (o : Option ExceptionCode). AdvancesTo c.go_on-went.result.steps o (hardware_of c.ride.new.self.core c.ride.new.self.bus) (hardware_of c.go_on-went.new.self.core c.go_on-went.new.self.bus)) c.in-Some-raised.is c.go_on-went.ensures.steps in
+    let fewer = subst (λ (o : Option ExceptionCode). IfSome o (λ (code : ExceptionCode). c.go_on-went.result.steps < c.ride.new.left)) c.in-Some-raised.is c.go_on-went.ensures.fewer in
+    let at = subst (λ (o : Option ExceptionCode). IfSome o (λ (code : ExceptionCode). (after_steps c.go_on-went.result.steps (hardware_of c.ride.new.self.core c.ride.new.self.bus)).core.pc < 2 ^ 32)) c.in-Some-raised.is c.go_on-went.ensures.raised in
+    let quiet : c.args.end + c.from.result ≤ c.count_raised.new.self.monitor.quiet_until = ends_raised_quiet (held c.args.self.now) c.args.n (c.args.end + c.from.result) c.ride.new.mark c.ride.new.left c.ride.new.before c.ride.new.self k c.go_on-went.new.self c.go_on-went.ensures.rest c.go_on-went.result.steps c.go_on-went.ensures.within c.in-Some-raised.code fewer leads c.go_on-went.ensures.words at c.is_delayed-slot.result c.is_delayed-slot.ensures c.look_at_processor.ensures.whole c.count_raised.new.self c.count_raised.ensures.own c.count_raised.ensures.rest in
+    omega (arith, quiet)
 
-raised_counts : {L : Type 0} (old mid new : Parts L) (n before : ℕ) (slot : Bool) → mid ≡ record old { core = mid.core; bus = mid.bus } → own_of new ≡ with_counts (own_of mid) (one_more (counts_behind n (n + before - owed_tick slot) slot (own_of mid)))
-    → slot ≡ is_delayed mid.core.system → own_of new ≡ with_counts (own_of old) (one_more (counts_behind n (n + before - owed_tick slot) (is_delayed mid.core.system) (own_of old)))
-raised_counts {L = L} old mid new n before slot rest own told =
-    own
-    ∙ (ap (λ (o : Own). with_counts o (one_more (counts_behind n (n + before - owed_tick slot) slot o))) (kept_counts old mid rest)
-    ∙ ap (λ (s : Bool). with_counts (own_of old) (one_more (counts_behind n (n + before - owed_tick slot) s (own_of old)))) told)
+-- None did, and more are left.
 
-pub returns-in-Some-clause-good : goal.returns-in-Some-clause-good
-returns-in-Some-clause-good g c =
-    let old = c.args.self.now in
-    let mid = c.run_ahead-ahead.new.self in
-    let n = c.run_ahead-ahead.result.steps in
-    let leads = subst (λ (o : Option ExceptionCode). AdvancesTo n o (hardware_of old.core old.bus) (hardware_of mid.core mid.bus)) c.in-Some.is c.run_ahead-ahead.ensures.steps in
-    let fewer = subst (λ (o : Option ExceptionCode). IfSome o (λ (code : ExceptionCode). n < c.args.limit)) c.in-Some.is c.run_ahead-ahead.ensures.fewer in
-    raised_good c.args.limit n old c.count_raised.new.self mid.core mid.bus _ c.requires.good c.requires.ahead c.requires.room c.requires.early c.requires.before c.run_ahead-ahead.ensures.words
-    (counted_is old mid c.count_raised.new.self _ c.run_ahead-ahead.ensures.rest c.count_raised.ensures.rest)
-    c.in-Some.code fewer leads c.look_at_processor.ensures.whole (raised_ticks n c.in-Some.code (hardware_of old.core old.bus) (hardware_of mid.core mid.bus) leads)
-    (ap₂ (λ (x : ℕ) (slot : Bool). n + x - owed_tick slot) c.slot_tick-before.ensures c.is_delayed-slot.ensures)
-    (raised_counts old mid c.count_raised.new.self n c.slot_tick-before.result c.is_delayed-slot.result c.run_ahead-ahead.ensures.rest c.count_raised.ensures.own c.is_delayed-slot.ensures)
+pub loop-left-preserved : goal.loop-left-preserved
+loop-left-preserved g c =
+    let k = c.in-Some.ensures.block (held c.args.self.now) c.loop-left.invariant.block in
+    let steps = c.go_on-went.result.steps in
+    let left = c.ride.new.left in
+    let before = hardware_of c.ride.new.self.core c.ride.new.self.bus in
+    let after = hardware_of c.go_on-went.new.self.core c.go_on-went.new.self.bus in
+    let within : steps ≤ left = c.go_on-went.ensures.within in
+    let done : steps ≡ left - (left - steps) = omega (arith, within) in
+    let advances = subst (λ (o : Option ExceptionCode). AdvancesTo steps o before after) c.in_default-raised.is c.go_on-went.ensures.steps in record {
+      block = block_on (held c.args.self.now) c.args.n (c.args.end + c.from.result) c.ride.new.mark left c.ride.new.before c.ride.new.self.core c.ride.new.self k (left - steps) c.go_on-went.new.self.core c.go_on-went.new.self c.go_on-went.ensures.rest
+          (omega (arith, within)) (subst (λ (m : ℕ). Advances m before after) done advances)
+          (subst (λ (m : ℕ). (j : ℕ) → j < m → (after_steps j before).core.pc < 2 ^ 32) done c.go_on-went.ensures.words);
+    }
 
-pub returns-in-Some-clause-goes : goal.returns-in-Some-clause-goes
-returns-in-Some-clause-goes g c = λ end soon.
-    let old = c.args.self.now in
-    let mid = c.run_ahead-ahead.new.self in
-    let n = c.run_ahead-ahead.result.steps in
-    let leads = subst (λ (o : Option ExceptionCode). AdvancesTo n o (hardware_of old.core old.bus) (hardware_of mid.core mid.bus)) c.in-Some.is c.run_ahead-ahead.ensures.steps in
-    let fewer = subst (λ (o : Option ExceptionCode). IfSome o (λ (code : ExceptionCode). n < c.args.limit)) c.in-Some.is c.run_ahead-ahead.ensures.fewer in
-    raised_goes c.args.limit n old c.count_raised.new.self mid.core mid.bus _ c.requires.good c.requires.ahead c.requires.room c.requires.early c.requires.before c.run_ahead-ahead.ensures.words
-    (counted_is old mid c.count_raised.new.self _ c.run_ahead-ahead.ensures.rest c.count_raised.ensures.rest)
-    c.in-Some.code fewer leads c.look_at_processor.ensures.whole (raised_ticks n c.in-Some.code (hardware_of old.core old.bus) (hardware_of mid.core mid.bus) leads)
-    (ap₂ (λ (x : ℕ) (slot : Bool). n + x - owed_tick slot) c.slot_tick-before.ensures c.is_delayed-slot.ensures)
-    (raised_counts old mid c.count_raised.new.self n c.slot_tick-before.result c.is_delayed-slot.result c.run_ahead-ahead.ensures.rest c.count_raised.ensures.own c.is_delayed-slot.ensures) end soon
+-- All were taken.
 
-pub returns-in-Some-clause-called : goal.returns-in-Some-clause-called
-returns-in-Some-clause-called g c = λ is.
-    let old = c.args.self.now in
-    let mid = c.run_ahead-ahead.new.self in
-    let n = c.run_ahead-ahead.result.steps in
-    let leads = subst (λ (o : Option ExceptionCode). AdvancesTo n o (hardware_of old.core old.bus) (hardware_of mid.core mid.bus)) c.in-Some.is c.run_ahead-ahead.ensures.steps in
-    let fewer = subst (λ (o : Option ExceptionCode). IfSome o (λ (code : ExceptionCode). n < c.args.limit)) c.in-Some.is c.run_ahead-ahead.ensures.fewer in
-    raised_call c.args.limit n old c.count_raised.new.self mid.core mid.bus _ c.requires.good c.requires.ahead c.requires.room c.requires.early c.requires.before c.run_ahead-ahead.ensures.words
-    (counted_is old mid c.count_raised.new.self _ c.run_ahead-ahead.ensures.rest c.count_raised.ensures.rest)
-    c.in-Some.code fewer leads c.look_at_processor.ensures.whole (raised_ticks n c.in-Some.code (hardware_of old.core old.bus) (hardware_of mid.core mid.bus) leads)
-    (ap₂ (λ (x : ℕ) (slot : Bool). n + x - owed_tick slot) c.slot_tick-before.ensures c.is_delayed-slot.ensures)
-    (raised_counts old mid c.count_raised.new.self n c.slot_tick-before.result c.is_delayed-slot.result c.run_ahead-ahead.ensures.rest c.count_raised.ensures.own c.is_delayed-slot.ensures) (c.is_call.ensures is)
+pub count_block-requires-clause-since : goal.count_block-requires-clause-since
+count_block-requires-clause-since g c =
+    mid_since (held c.args.self.now) c.args.n (c.args.end + c.from.result) c.loop-left.mark c.loop-left.left c.loop-left.before c.loop-left.self c.loop-left.invariant.block c.loop-left.self refl
 
-pub returns-in-Some-clause-early : goal.returns-in-Some-clause-early
-returns-in-Some-clause-early g c = λ is.
-    let old = c.args.self.now in
-    let mid = c.run_ahead-ahead.new.self in
-    let n = c.run_ahead-ahead.result.steps in
-    let leads = subst (λ (o : Option ExceptionCode). AdvancesTo n o (hardware_of old.core old.bus) (hardware_of mid.core mid.bus)) c.in-Some.is c.run_ahead-ahead.ensures.steps in
-    let fewer = subst (λ (o : Option ExceptionCode). IfSome o (λ (code : ExceptionCode). n < c.args.limit)) c.in-Some.is c.run_ahead-ahead.ensures.fewer in
-    raised_soon c.args.limit n old c.count_raised.new.self mid.core mid.bus _ c.requires.good c.requires.ahead c.requires.room c.requires.early c.requires.before c.run_ahead-ahead.ensures.words
-    (counted_is old mid c.count_raised.new.self _ c.run_ahead-ahead.ensures.rest c.count_raised.ensures.rest)
-    c.in-Some.code fewer leads c.look_at_processor.ensures.whole (raised_ticks n c.in-Some.code (hardware_of old.core old.bus) (hardware_of mid.core mid.bus) leads)
-    (ap₂ (λ (x : ℕ) (slot : Bool). n + x - owed_tick slot) c.slot_tick-before.ensures c.is_delayed-slot.ensures)
-    (raised_counts old mid c.count_raised.new.self n c.slot_tick-before.result c.is_delayed-slot.result c.run_ahead-ahead.ensures.rest c.count_raised.ensures.own c.is_delayed-slot.ensures)
+pub returns-clause-good : goal.returns-clause-good
+returns-clause-good g c = ends_good (held c.args.self.now) c.args.n (c.args.end + c.from.result) c.loop-left.mark c.loop-left.left c.loop-left.before c.loop-left.self c.loop-left.invariant.block (omega (arith, c.loop-left-test.false)) c.look_at_program.ensures c.count_block.new.self c.is_in_slot-slot.result c.is_in_slot-slot.ensures c.count_block.ensures.own c.count_block.ensures.rest
+
+pub returns-clause-goes : goal.returns-clause-goes
+returns-clause-goes g c = ends_goes (held c.args.self.now) c.args.n (c.args.end + c.from.result) c.loop-left.mark c.loop-left.left c.loop-left.before c.loop-left.self c.loop-left.invariant.block (omega (arith, c.loop-left-test.false)) c.look_at_program.ensures c.count_block.new.self c.is_in_slot-slot.result c.is_in_slot-slot.ensures c.count_block.ensures.own c.count_block.ensures.rest

@@ -11,17 +11,16 @@ loop-ahead-preserved g c =
     let new = c.run_and_serve.new.self in
     let gone : GoesOn c.args.n (held old) (held new) = c.run_and_serve.ensures.goes in
     let early : new.monitor.time + 1 < c.args.self.now.monitor.time + c.from.result + 1 = (c.run_and_serve.ensures.on c.loop-ahead-test.true).early in
-    let quiet : c.args.self.now.monitor.time + c.from.result + 1 ≤ old.monitor.quiet_until = c.loop-ahead.invariant.quiet in
-    let outside : owed_tick new.core.slot ≡ 0 = ap owed_tick (c.run_and_serve.ensures.on c.loop-ahead-test.true).outside in
-    let until : new.monitor.quiet_until ≡ old.monitor.quiet_until = c.run_and_serve.ensures.until c.loop-ahead-test.true in record {
+    let quiet : c.args.self.now.monitor.time + c.from.result + 1 ≤ new.monitor.quiet_until = c.run_and_serve.ensures.quiet c.loop-ahead-test.true in
+    let outside : owed_tick new.core.slot ≡ 0 = ap owed_tick (c.run_and_serve.ensures.on c.loop-ahead-test.true).outside in record {
       good = c.run_and_serve.ensures.good;
       working = gone.working ∙ c.loop-ahead.invariant.working;
       goes = λ h goes. c.loop-ahead.invariant.goes h (goes_join c.args.n (held old) (held new) h gone goes);
       ahead = (c.run_and_serve.ensures.on c.loop-ahead-test.true).ahead;
       some = omega (arith, early);
       end = omega (arith, early);
-      quiet = omega (arith, quiet, until);
-      before = omega (arith, early, quiet, until, outside);
+      quiet = quiet;
+      before = omega (arith, early, quiet, outside);
       room = (c.run_and_serve.ensures.on c.loop-ahead-test.true).room;
     }
 

@@ -1,0 +1,62 @@
+use Rattle.std.proofs.Common.{◌≡◌, ◌+◌, ◌-◌, ◌%◌, ℕ, ◌∙◌, ap, sym, subst, arith}
+use Rattle.std.specs.Prelude.{slice_index}
+use Rattle.ds_dev.specs.Bus.{BusState}
+use Rattle.ds_core.specs.Core.{CoreState}
+use Rattle.ds_ahead.specs.Ride.{ridden, Rides, behind_answer}
+use Rattle.ds_procs.specs.declared.call.Call.TheVariants.{Put}
+use Rattle.ds_pagemap.specs.Machine.{process_of}
+use Rattle.ds_pagemap.specs.Calls.{after_put}
+use Rattle.ds_refinement.specs.Held.{Kept}
+use Rattle.ds_monitor.specs.declared.monitor.Monitor.{Monitor}
+use Rattle.ds_monitor.specs.Kept.{kept_of}
+use Rattle.ds_monitor.specs.Room.{HasLogRoom}
+use Rattle.ds_kernel.specs.declared.parts.Parts.{Parts}
+use Rattle.ds_refinement.specs.Services.{with_none_spent}
+use Rattle.ds_kernel.specs.Parts.{own_of}
+use Rattle.ds_kernel.specs.InBlock.{riding, at_call}
+use Rattle.ds_kernel.proofs.AtOnce.{Answers, is_answered, put_answers, asks_put}
+use Rattle.ds_kernel.proofs.Keeping.{first_ready}
+use Rattle.ds_kernel.proofs.OnRides.{behind_is, none_counted, rides_elsewhere}
+use Rattle.ds_kernel.proofs.parts.Parts.put_in_ride.Goals as goal
+
+pub put_character-requires-clause-within : goal.put_character-requires-clause-within
+put_character-requires-clause-within g c = (first_ready (kept_of c.args.self.now.monitor) c.args.process c.requires.first c.requires.lawful).1
+
+pub go_on_in_ride-requires-clause-rides : goal.go_on_in_ride-requires-clause-rides
+go_on_in_ride-requires-clause-rides g c =
+    subst (λ (x : CoreState). Rides c.args.ride.now x c.put_character.new.self.bus) (sym (ap (λ (x : Parts g.row.L.Denot). x.core) c.put_character.ensures.rest))
+    (rides_elsewhere c.args.ride.now c.args.self.now.core c.args.self.now.bus _ _ c.put_character.ensures.bus c.requires.rides)
+
+pub returns-clause-answered : goal.returns-clause-answered
+returns-clause-answered g c =
+    let here = c.args.self.now in
+    let went = c.go_on_in_ride in
+    let mark = c.args.mark.now in
+    let left = c.args.ride.now.left in
+    let core = ridden c.args.ride.now here.core in
+    let old = at_call mark left c.args.before.now core here in
+    let new = riding went.new.ride went.new.self in
+    let p = c.args.process in
+    let byte = slice_index here.core.registers.general 4 % 256 in
+    let k = kept_of old.monitor in
+    let q = process_of k.state p in
+    let less : ℕ = mark - went.new.ride.left in
+    let one = went.ensures.left in
+    let most = c.requires.mark in
+    let some = c.requires.some in
+    let later : here.monitor.time + less ≡ old.monitor.time + 1 = omega (arith, one, most, some) in
+    let monitor = ap (λ (x : Parts g.row.L.Denot). x.monitor) went.ensures.rest ∙ ap (λ (x : Parts g.row.L.Denot). record x.monitor { time = x.monitor.time + less }) c.put_character.ensures.rest in
+    let bus = ap (λ (x : Parts g.row.L.Denot). x.bus) went.ensures.rest ∙ c.put_character.ensures.bus in
+    is_answered p 0 here.core.system.cause here.core.system.epc (Put byte) k.state.queues (after_put k.state p byte).consoles old new c.requires.waits (asks_put here.core.registers.general c.requires.number)
+    (subst (λ (b : BusState). Answers k.state p old.core.system.epc (Put byte) 0 k.state.queues (after_put k.state p byte).consoles old.bus b) (sym bus)
+    (put_answers k.state p old.core.system.epc byte old.bus
+    ((first_ready (kept_of here.monitor) p c.requires.first c.requires.lawful).0, (first_ready (kept_of here.monitor) p c.requires.first c.requires.lawful).1)))
+    c.look_at_order.ensures.commands
+    c.look_at_order.ensures.order
+    (went.ensures.core ∙ (ap (λ (x : Parts g.row.L.Denot). behind_answer (ridden c.args.ride.now x.core) 0) c.put_character.ensures.rest ∙ behind_is core here.bus 0 q c.requires.may.outside c.requires.mode))
+    (ap (λ (x : Parts g.row.L.Denot). kept_of x.monitor) went.ensures.rest
+    ∙ (ap (λ (z : Kept). record z { state = record z.state { time = z.state.time + less } }) c.put_character.ensures.kept
+    ∙ ap (λ (t : ℕ). record k { state = record k.state { consoles = (after_put k.state p byte).consoles; time = t } }) later))
+    (ap (λ (m : Monitor). m.quiet_until) monitor)
+    (λ room. subst (HasLogRoom 1) (sym monitor) room)
+    (went.ensures.own ∙ (ap (λ (x : Parts g.row.L.Denot). with_none_spent (own_of x)) c.put_character.ensures.rest ∙ none_counted mark left c.args.before.now core here))
