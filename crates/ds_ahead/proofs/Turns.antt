@@ -26,7 +26,7 @@ use Rattle.ds_ahead.specs.Ahead.{Hardware, after_steps, Advances}
 use Rattle.ds_ahead.specs.Placed.{Place, placed, at_next, at_slot}
 use Rattle.ds_ahead.specs.Operations.{HasOutcome, StaysCalm, Steps, IsCalled, LeadsOn}
 use Rattle.ds_ahead.specs.Goes.{at_load, GoesAs, GoesBy}
-use Rattle.ds_ahead.specs.Run.{place_in, slot_in, late_here, position_here, IsFreeOf, StandsIn, IsFreeHere, Moves, MovesAt, left_here, Begins, Lands, Ran, next_by, ComesOut}
+use Rattle.ds_ahead.specs.Run.{place_in, slot_in, late_here, position_here, IsFreeOf, StandsIn, IsFreeHere, Moves, MovesAt, left_here, Lands, Ran, next_by, ComesOut}
 use Rattle.ds_ahead.proofs.Stretches.{leads_nowhere, leads_on, leads_both}
 
 -- Where what was done leaves its position.
@@ -125,21 +125,13 @@ pub ran_both : (way : Way) (all some : ℕ) (c : CoreState) (at : Place) (b : Bu
 ran_both On all some c at b c1 at1 b1 p first h rest c2 at2 b2 within leads ran =
     (omega (arith, within, ran.0), leads_both (all - some) (some - left_here p h rest) (all - left_here p h rest) c at b c1 at1 b1 c2 (position_here p first h) b2 leads ran.1 (omega (arith, within, ran.0)))
 ran_both Out all some c at b c1 at1 b1 p first h rest c2 at2 b2 within leads ran =
-    (omega (arith, within, ran.0), leads_both (all - some) (some - word (left_here p h rest)) (all - word (left_here p h rest)) c at b c1 at1 b1 c2 (position_here p first h) b2 leads ran.1 (omega (arith, within, ran.0)))
+    (omega (arith, within, ran.0), leads_both (all - some) (some - rest) (all - rest) c at b c1 at1 b1 c2 (position_here p first h) b2 leads ran.1 (omega (arith, within, ran.0)))
 ran_both Leaves all some c at b c1 at1 b1 p first h rest c2 at2 b2 within leads ran =
     (omega (arith, within, ran.0), leads_both (all - some) (some - word (left_here p h rest)) (all - word (left_here p h rest)) c at b c1 at1 b1 c2 (position_here p first h) b2 leads ran.1 (omega (arith, within, ran.0)))
 ran_both Calls all some c at b c1 at1 b1 p first h rest c2 at2 b2 within leads ran =
     (omega (arith, within, ran.0), leads_both (all - some) (some - rest) (all - rest) c at b c1 at1 b1 c2 (position_here p first h) b2 leads ran.1 (omega (arith, within, ran.0)), ran.2)
 ran_both Away all some c at b c1 at1 b1 p first h rest c2 at2 b2 within leads ran =
     (omega (arith, within, ran.0), leads_both (all - some) (some - rest) (all - rest) c at b c1 at1 b1 c2 at2 b2 leads ran.1 (omega (arith, within, ran.0)))
-
--- a block that would be begun is not
-pub begins_not : (way : Way) (length rest rest2 : ℕ) → rest < 2 ^ 32 → Begins way length rest rest2 → Begins Out length rest rest2
-begins_not On length rest rest2 small begins = omega (arith, small, begins)
-begins_not Out length rest rest2 small begins = begins
-begins_not Leaves length rest rest2 small begins = absurd begins
-begins_not Calls length rest rest2 small begins = absurd begins
-begins_not Away length rest rest2 small begins = absurd begins
 
 -- Turns.
 
@@ -273,6 +265,22 @@ turn_left p first rest h c at b c2 at2 b2 fits moves =
     let same = moves None (tt, tt) in
     (omega (arith, fits), no_step (left_here p h rest - word (left_here p h rest)) c (position_here p first h) b c2 b2 same.0 same.1 (omega (arith, fits)))
 
+-- an operation without a slot that is not done is left
+pub turn_not_done : (out : Outcome) (p : Places) (first rest : ℕ) (h : Here) (c : CoreState) (to : ℕ) (at : Place) (b : BusState) (c2 : CoreState) (at2 : Place) (b2 : BusState)
+    → left_here p h rest < 2 ^ 32 → has_slot (does_at p h.place) ≡ false → out ≢ Done → out ≢ Loaded
+    → MovesAt p h.place out c at b c2 at2 b2 → GoesBy (does_at p h.place) out c to at at2
+    → Ran Leaves (left_here p h rest) c (position_here p first h) b p first h rest c2 at2 b2
+turn_not_done Done p first rest h c to at b c2 at2 b2 fits straight one two moves goes = absurd (one refl)
+turn_not_done Loaded p first rest h c to at b c2 at2 b2 fits straight one two moves goes = absurd (two refl)
+turn_not_done Called p first rest h c to at b c2 at2 b2 fits straight one two moves goes =
+    let same = moves None (tt, tt) in
+    (omega (arith, fits), no_step (left_here p h rest - word (left_here p h rest)) c (position_here p first h) b c2 b2 same.0 same.1 (omega (arith, fits)))
+turn_not_done Branched p first rest h c to at b c2 at2 b2 fits straight one two moves goes =
+    let d = does_at p h.place in
+    let went = goes_branched (is_end d) (has_slot d) (is_load d) c to at at2 goes in
+    absurd (cc (straight, went.1))
+turn_not_done Left p first rest h c to at b c2 at2 b2 fits straight one two moves goes = turn_left p first rest h c at b c2 at2 b2 fits moves
+
 -- Slots.
 
 -- a slot that is done, and where it led to
@@ -281,7 +289,7 @@ pub slot_landed : (way : Way) (e : Event) (p : Places) (first rest rest2 : ℕ) 
 slot_landed On e p first rest rest2 h c at b c2 at2 b2 step quiet small stays lands =
     (omega (arith, lands.1), subst (λ (a : Place). LeadsOn (rest + 1 - left_here p h rest2) c at b c2 a b2) lands.0 (step_alone (rest + 1 - left_here p h rest2) e c at b c2 at2 b2 step quiet small stays (omega (arith, lands.1))))
 slot_landed Out e p first rest rest2 h c at b c2 at2 b2 step quiet small stays lands =
-    (omega (arith, lands.1), subst (λ (a : Place). LeadsOn (rest + 1 - word (left_here p h rest2)) c at b c2 a b2) lands.0 (step_alone (rest + 1 - word (left_here p h rest2)) e c at b c2 at2 b2 step quiet small stays (omega (arith, lands.1))))
+    (omega (arith, lands.1), subst (λ (a : Place). LeadsOn (rest + 1 - rest2) c at b c2 a b2) lands.0 (step_alone (rest + 1 - rest2) e c at b c2 at2 b2 step quiet small stays (omega (arith, lands.1))))
 slot_landed Leaves e p first rest rest2 h c at b c2 at2 b2 step quiet small stays lands = absurd lands
 slot_landed Calls e p first rest rest2 h c at b c2 at2 b2 step quiet small stays lands = absurd lands
 slot_landed Away e p first rest rest2 h c at b c2 at2 b2 step quiet small stays lands =

@@ -1,9 +1,12 @@
 -- A run through a page in hand.
-use Rattle.std.specs.Prelude.{◌≡◌, ℕ, ◌+◌, ◌-◌, ◌*◌, ◌<◌, ◌≤◌, ◌==◌, if◌then◌else◌, Bool, ◌&&◌, true, false, nat_lt, Option, None, Some}
+use Rattle.std.specs.Prelude.{◌≡◌, ◌≢◌, ℕ, ◌+◌, ◌-◌, ◌*◌, ◌<◌, ◌≤◌, ◌==◌, if◌then◌else◌, Bool, ◌&&◌, true, false, nat_lt, Option, None, Some}
 use Rattle.ds_word.specs.Word.{word}
 use Rattle.ds_isa.specs.declared.instr.Late.{Late}
 use Rattle.ds_pages.specs.declared.places.Places.{Places}
-use Rattle.ds_pages.specs.Does.{is_known}
+use Rattle.ds_operations.specs.declared.operation.OperationKind.{OperationKind}
+use Rattle.ds_operations.specs.declared.operation.OperationKind.TheVariants as kind
+use Rattle.ds_pages.specs.declared.does.Does.{Does}
+use Rattle.ds_pages.specs.Does.{single, is_known}
 use Rattle.ds_pages.specs.Places.{does_at, fields_at, length_at}
 use Rattle.ds_dev.specs.Bus.{BusState}
 use Rattle.ds_core.specs.declared.event.Event.TheVariants as event
@@ -60,6 +63,10 @@ Moves Left c at b c2 at2 b2 = (c2 ≡ c) × (b2 ≡ b)
 abbrev pub MovesAt : Places → ℕ → Outcome → CoreState → Place → BusState → CoreState → Place → BusState → Type 0
 MovesAt p i out c at b c2 at2 b2 = (late : Option Late) → IsFreeOf late p i → Moves out c (record at { late = late }) b c2 at2 b2
 
+-- an operation of a kind is done
+abbrev pub IsAlone : Does → OperationKind → Type 0
+IsAlone d k = (d ≡ single k) × (k ≢ kind.Other)
+
 -- the steps that are left where a run stands, when those after its block are rest
 abbrev pub left_here : Places → Here → ℕ → ℕ
 left_here p h rest = rest + length_at p h.place
@@ -67,7 +74,7 @@ left_here p h rest = rest + length_at p h.place
 -- a run that had so many steps left came from a position to where it stands, and is to go on, or out from there, where the block may not fit, or is left or calls there, or has left the page
 abbrev pub Ran : Way → ℕ → CoreState → Place → BusState → Places → ℕ → Here → ℕ → CoreState → Place → BusState → Type 0
 Ran On all c at b p first h rest c2 at2 b2 = (left_here p h rest ≤ all) × LeadsOn (all - left_here p h rest) c at b c2 (position_here p first h) b2
-Ran Out all c at b p first h rest c2 at2 b2 = (word (left_here p h rest) ≤ all) × LeadsOn (all - word (left_here p h rest)) c at b c2 (position_here p first h) b2
+Ran Out all c at b p first h rest c2 at2 b2 = (rest ≤ all) × LeadsOn (all - rest) c at b c2 (position_here p first h) b2
 Ran Leaves all c at b p first h rest c2 at2 b2 = (word (left_here p h rest) ≤ all) × LeadsOn (all - word (left_here p h rest)) c at b c2 (position_here p first h) b2
 Ran Calls all c at b p first h rest c2 at2 b2 = (rest ≤ all) × LeadsOn (all - rest) c at b c2 (position_here p first h) b2 × IsCalled c2 (position_here p first h) b2
 Ran Away all c at b p first h rest c2 at2 b2 = (rest ≤ all) × LeadsOn (all - rest) c at b c2 at2 b2
@@ -80,7 +87,7 @@ next_by next false = Any
 -- how a run comes out: where it stands or went away to, with what is left, and what comes next
 abbrev pub ComesOut : Way → Places → ℕ → Here → ℕ → Place → Place → ℕ → Next → Type 0
 ComesOut On p first h rest at at2 left next = (at2 ≡ position_here p first h) × (left ≡ word (left_here p h rest)) × (next ≡ Any)
-ComesOut Out p first h rest at at2 left next = (at2 ≡ position_here p first h) × (left ≡ word (left_here p h rest)) × (next ≡ Any)
+ComesOut Out p first h rest at at2 left next = (at2 ≡ position_here p first h) × (left ≡ rest) × (next ≡ Any)
 ComesOut Leaves p first h rest at at2 left next = (at2 ≡ position_here p first h) × (left ≡ word (left_here p h rest)) × (next ≡ next_by Plain (is_known (does_at p h.place) && nat_lt 0 left))
 ComesOut Calls p first h rest at at2 left next = (at2 ≡ position_here p first h) × (left ≡ rest) × (next ≡ next_by Call (nat_lt 0 rest))
 ComesOut Away p first h rest at at2 left next = (at2 ≡ at) × (left ≡ rest) × (next ≡ Any)
@@ -88,13 +95,13 @@ ComesOut Away p first h rest at at2 left next = (at2 ≡ at) × (left ≡ rest) 
 -- a block of so many steps is begun, or not where it doesn't fit
 abbrev pub Begins : Way → ℕ → ℕ → ℕ → Type 0
 Begins On length rest rest2 = rest2 + length ≡ rest
-Begins Out length rest rest2 = word (rest2 + length) ≡ rest
+Begins Out length rest rest2 = rest2 ≡ rest
 Begins _ length rest rest2 = ⊥
 
 -- a run goes on where a slot led to, or not where the block doesn't fit; or that is in no place of its page
 abbrev pub Lands : Way → Places → ℕ → Place → Here → ℕ → ℕ → Type 0
 Lands On p first at h rest rest2 = (at ≡ position_here p first h) × (left_here p h rest2 ≡ rest) × IsFreeHere p h
-Lands Out p first at h rest rest2 = (at ≡ position_here p first h) × (word (left_here p h rest2) ≡ rest)
+Lands Out p first at h rest rest2 = (at ≡ position_here p first h) × (rest2 ≡ rest)
 Lands Leaves p first at h rest rest2 = ⊥
 Lands Calls p first at h rest rest2 = ⊥
 Lands Away p first at h rest rest2 = rest2 ≡ rest

@@ -65,7 +65,10 @@ fn place_after(page: &Page, i: usize, taken: bool) -> usize
 {
     // What is done there is looked at, so that it is known that its slot lies in the page.
     let _does = page.does(i);
-    if taken { page.target(i) } else { i + 2 }
+    let to = if taken { page.target(i) } else { i + 2 };
+    // Its length is looked at, so that it is known to be a place where this is compiled, too.
+    let _length = page.length(to);
+    to
 }
 
 /// The program branches to the target, from a place that is no slot.

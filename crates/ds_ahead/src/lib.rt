@@ -5,6 +5,7 @@
 mod ahead;
 mod branch;
 mod code;
+mod execute;
 mod here;
 pub mod laws;
 mod next;
@@ -14,6 +15,7 @@ mod position;
 mod ride;
 mod run;
 mod stretch;
+mod turn;
 
 pub use ahead::{Ahead, go_on, run_ahead};
 pub use next::Next;

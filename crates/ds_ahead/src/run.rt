@@ -13,11 +13,12 @@ ghost use Rattle.ds_ahead.specs.Run.{place_in, slot_in, position_here, left_here
 
 use crate::branch::do_branch;
 use crate::code::CodePage;
+use crate::execute::{AnyKind, Execute};
 use crate::here::{Here, NOWHERE, Way, place};
 use crate::next::Next;
-use crate::operate::operate;
 use crate::operations::Outcome;
 use crate::position::Position;
+use crate::turn::turn;
 use ds_core::Core;
 use ds_dev::Bus;
 use ds_operations::OperationKind;
@@ -26,20 +27,20 @@ use ds_tlb::Lookaside;
 use ds_word::wrapping_difference;
 
 /// Does the operation at a place of the page, which is of this kind; or says why not, and changes
-/// nothing. It is compiled once for each `WAY` that leads here.
+/// nothing.
 #[inline(always)]
-fn do_operation<L: Lookaside, const WAY: usize>(
+pub(crate) fn do_operation<L: Lookaside, K: Execute>(
     core: &mut Core<L>,
     page: &Page,
     i: usize,
-    kind: OperationKind,
+    kind: K,
     at: &mut Position,
     bus: &mut Bus,
     code: &CodePage,
 ) -> Outcome
     requires inside { i < 1024 }
-    requires single { does_at page.now.places i ≡ single kind }
-    requires some { kind ≢ OperationKind.Other }
+    requires single { does_at page.now.places i ≡ single (K.kind kind) }
+    requires some { K.kind kind ≢ OperationKind.Other }
     requires here { at.old ≡ place_in (code.now.vpn * 4096) i }
     requires known { KnowsPage code.now.vpn code.now.base core.old }
     requires space { code.now.asid ≡ asid_of core.old.system }
@@ -53,7 +54,14 @@ fn do_operation<L: Lookaside, const WAY: usize>(
     ensures calm { StaysCalm core.old bus.old core.new bus.new }
     ensures holds { HoldsWords page.now bus.new.memory code.now.base }
 {
-    operate::<L, WAY>(core, page.operation(i, kind), at, bus, code.base, code.asid)
+    kind.execute(
+        core,
+        page.operation(i, kind.kind()),
+        at,
+        bus,
+        code.base,
+        code.asid,
+    )
 }
 
 /// The kind of the operation that is done at a place, where one is done.
@@ -126,18 +134,18 @@ fn kind_done(does: Does) -> Option<OperationKind>
 /// Does the operation at a place of the page, which is of this kind, as that of a slot; or leaves
 /// it, and changes nothing.
 #[inline(always)]
-fn do_slot_operation<L: Lookaside, const WAY: usize>(
+fn do_slot_operation<L: Lookaside, K: Execute>(
     core: &mut Core<L>,
     page: &Page,
     i: usize,
-    kind: OperationKind,
+    kind: K,
     at: &mut Position,
     bus: &mut Bus,
     code: &CodePage,
 ) -> Outcome
     requires inside { i < 1024 }
-    requires single { does_at page.now.places i ≡ single kind }
-    requires some { kind ≢ OperationKind.Other }
+    requires single { does_at page.now.places i ≡ single (K.kind kind) }
+    requires some { K.kind kind ≢ OperationKind.Other }
     requires here { at.old ≡ slot_in (code.now.vpn * 4096 + 4 * i) at.old.next }
     requires known { KnowsPage code.now.vpn code.now.base core.old }
     requires space { code.now.asid ≡ asid_of core.old.system }
@@ -150,36 +158,14 @@ fn do_slot_operation<L: Lookaside, const WAY: usize>(
     ensures calm { StaysCalm core.old bus.old core.new bus.new }
     ensures holds { HoldsWords page.now bus.new.memory code.now.base }
 {
-    operate::<L, WAY>(core, page.operation(i, kind), at, bus, code.base, code.asid)
-}
-
-/// Does the operation at a place of the page as that of a slot; or leaves it, and changes nothing.
-#[inline(always)]
-fn do_slot<L: Lookaside>(
-    core: &mut Core<L>,
-    page: &Page,
-    i: usize,
-    at: &mut Position,
-    bus: &mut Bus,
-    code: &CodePage,
-) -> Outcome
-    requires inside { i < 1024 }
-    requires here { at.old ≡ slot_in (code.now.vpn * 4096 + 4 * i) at.old.next }
-    requires known { KnowsPage code.now.vpn code.now.base core.old }
-    requires space { code.now.asid ≡ asid_of core.old.system }
-    requires some_page { code.now.vpn < 2 ^ 32 }
-    requires calm { is_pending core.old.system (lines bus.old).0 (lines bus.old).1 ≡ false }
-    requires holds { HoldsWords page.now bus.old.memory code.now.base }
-    ensures outcome { HasOutcome result core.old at.old bus.old core.new at.new bus.new }
-    ensures goes { GoesBy (does_at page.now.places i) result core.old
-        (fields_at page.now.places i).to at.old at.new }
-    ensures calm { StaysCalm core.old bus.old core.new bus.new }
-    ensures holds { HoldsWords page.now bus.new.memory code.now.base }
-{
-    match kind_done(page.does(i)) {
-        Some(kind) => do_slot_operation::<L, 3>(core, page, i, kind, at, bus, code),
-        None => Outcome::Left,
-    }
+    kind.execute(
+        core,
+        page.operation(i, kind.kind()),
+        at,
+        bus,
+        code.base,
+        code.asid,
+    )
 }
 
 /// The place of an address in the page that begins at `first`, or the one after its last; of other
@@ -200,11 +186,11 @@ fn place_of(first: u32, target: u32) -> usize
 /// Does the operation at a place of the page, which is of this kind; or says why not, and changes
 /// nothing. After a branch or jump `to` is the place where it leads, if that is in the page.
 #[inline(always)]
-fn do_at<L: Lookaside>(
+pub(crate) fn do_at<L: Lookaside, K: Execute>(
     core: &mut Core<L>,
     page: &Page,
     i: usize,
-    kind: OperationKind,
+    kind: K,
     first: u32,
     at: &mut Position,
     bus: &mut Bus,
@@ -212,8 +198,8 @@ fn do_at<L: Lookaside>(
     to: &mut usize,
 ) -> Outcome
     requires inside { i < 1024 }
-    requires single { does_at page.now.places i ≡ single kind }
-    requires some { kind ≢ OperationKind.Other }
+    requires single { does_at page.now.places i ≡ single (K.kind kind) }
+    requires some { K.kind kind ≢ OperationKind.Other }
     requires begins { first ≡ code.now.vpn * 4096 }
     requires low { first < 2 ^ 31 }
     requires here { at.old ≡ place_in (code.now.vpn * 4096) i }
@@ -230,13 +216,23 @@ fn do_at<L: Lookaside>(
     ensures calm { StaysCalm core.old bus.old core.new bus.new }
     ensures holds { HoldsWords page.now bus.new.memory code.now.base }
 {
-    if let Some(place) = do_branch(core, page, i, kind, first, at, bus, code) {
+    if let Some(place) = do_branch(core, page, i, kind.kind(), first, at, bus, code) {
         *to = place;
         return Outcome::Branched;
     }
-    let outcome = do_operation::<L, 2>(core, page, i, kind, at, bus, code);
+    let outcome = do_operation(core, page, i, kind, at, bus, code);
     *to = place_of(first, at.next);
     outcome
+}
+
+/// Gives back what was taken for a block that does not fit. It stays a call: so whoever goes on has
+/// nothing to ask.
+#[cold]
+#[inline(never)]
+fn given_back(rest: u32, length: u32) -> u32
+    ensures { result ≡ word (rest + length) }
+{
+    rest.wrapping_add(length)
 }
 
 /// Begins the block at a place, where it fits into what is left.
@@ -245,9 +241,14 @@ fn begin(page: &Page, i: usize, rest: &mut u32) -> Way
     requires { i ≤ 1024 }
     ensures { Begins result (length_at page.now.places i) rest.old rest.new }
 {
-    let (less, over) = rest.overflowing_sub(page.length(i));
+    let length = page.length(i);
+    let (less, over) = rest.overflowing_sub(length);
+    if over {
+        *rest = given_back(less, length);
+        return Way::Out;
+    }
     *rest = less;
-    if over { Way::Out } else { Way::On }
+    Way::On
 }
 
 /// Whether the operation at a place reads the register whose load is late.
@@ -322,19 +323,63 @@ fn begin_after_load(page: &Page, i: usize, at: &Position, rest: &mut u32) -> Way
     ensures begins { Begins result (length_at page.now.places i) rest.old rest.new }
     ensures free { result ≡ Way.On → i < 1024 → IsFreeOf at.now.late page.now.places i }
 {
-    let _rest = *rest;
-    let way = begin(page, i, rest);
     if is_awaited(page, i, at) {
-        Way::Out
-    } else {
-        way
+        return Way::Out;
+    }
+    begin(page, i, rest)
+}
+
+/// Does the slot of the branch or jump at a place, in which it stands at `at` and whose operation is of
+/// this kind, and goes on at the place where that leads to, if it is in the page; after it `rest` steps
+/// are left.
+#[inline(always)]
+pub(crate) fn through_slot<L: Lookaside, K: Execute>(
+    core: &mut Core<L>,
+    page: &Page,
+    code: &CodePage,
+    first: u32,
+    kind: K,
+    to: usize,
+    here: &mut Here,
+    rest: &mut u32,
+    at: &mut Position,
+    bus: &mut Bus,
+) -> Way
+    requires begins { first ≡ code.now.vpn * 4096 }
+    requires low { first < 2 ^ 31 }
+    requires slot { at.old ≡ slot_in (first + 4 * (here.old.place + 1)) at.old.next }
+    requires leads { to ≤ 1024 → at.old.next ≡ first + 4 * to }
+    requires inside { here.old.place < 1023 }
+    requires single { does_at page.now.places (here.old.place + 1) ≡ single (K.kind kind) }
+    requires some { K.kind kind ≢ OperationKind.Other }
+    requires stands { StandsIn here.old }
+    requires fits { rest.old + 1 < 2 ^ 32 }
+    requires known { KnowsPage code.now.vpn code.now.base core.old }
+    requires space { code.now.asid ≡ asid_of core.old.system }
+    requires calm { is_pending core.old.system (lines bus.old).0 (lines bus.old).1 ≡ false }
+    requires holds { HoldsWords page.now bus.old.memory code.now.base }
+    ensures ran { Ran result (rest.old + 1) core.old at.old bus.old page.now.places first
+        here.new rest.new core.new at.new bus.new }
+    ensures fewer { result ≡ Way.On
+        → left_here page.now.places here.new rest.new ≡ rest.old }
+    ensures stands { StandsIn here.new }
+    ensures free { result ≡ Way.On → IsFreeHere page.now.places here.new }
+    ensures holds { HoldsWords page.now bus.new.memory code.now.base }
+{
+    let _here = at.pc;
+    match do_slot_operation(core, page, here.place + 1, kind, at, bus, code) {
+        Outcome::Done => land(page, first, to, at, here, rest),
+        Outcome::Loaded => land_after_load(page, first, to, at, here, rest),
+        _ => {
+            *rest += 1;
+            Way::Away
+        }
     }
 }
 
-/// Does the slot of the branch or jump at a place, in which it stands at `at`, and goes on at the
-/// place where that leads to, if it is in the page; after it `rest` steps are left.
+/// The same, whatever the slot's operation is.
 #[inline(always)]
-fn through_slot<L: Lookaside>(
+pub(crate) fn through_any_slot<L: Lookaside>(
     core: &mut Core<L>,
     page: &Page,
     code: &CodePage,
@@ -364,68 +409,12 @@ fn through_slot<L: Lookaside>(
     ensures free { result ≡ Way.On → IsFreeHere page.now.places here.new }
     ensures holds { HoldsWords page.now bus.new.memory code.now.base }
 {
-    let _here = at.pc;
-    match do_slot(core, page, here.place + 1, at, bus, code) {
-        Outcome::Done => land(page, first, to, at, here, rest),
-        Outcome::Loaded => land_after_load(page, first, to, at, here, rest),
-        _ => {
-            *rest += 1;
-            Way::Away
-        }
-    }
-}
-
-/// Does the operation where a run stands, with its slot where it has one.
-#[inline(always)]
-fn turn<L: Lookaside>(
-    core: &mut Core<L>,
-    page: &Page,
-    code: &CodePage,
-    first: u32,
-    here: &mut Here,
-    rest: &mut u32,
-    at: &mut Position,
-    bus: &mut Bus,
-) -> Way
-    requires begins { first ≡ code.now.vpn * 4096 }
-    requires low { first < 2 ^ 31 }
-    requires stands { StandsIn here.old }
-    requires free { IsFreeHere page.now.places here.old }
-    requires fits { left_here page.now.places here.old rest.old < 2 ^ 32 }
-    requires known { KnowsPage code.now.vpn code.now.base core.old }
-    requires space { code.now.asid ≡ asid_of core.old.system }
-    requires calm { is_pending core.old.system (lines bus.old).0 (lines bus.old).1 ≡ false }
-    requires holds { HoldsWords page.now bus.old.memory code.now.base }
-    ensures ran { Ran result (left_here page.now.places here.old rest.old) core.old
-        (position_here page.now.places first here.old) bus.old page.now.places first
-        here.new rest.new core.new at.new bus.new }
-    ensures fewer { result ≡ Way.On → left_here page.now.places here.new rest.new
-        < left_here page.now.places here.old rest.old }
-    ensures stands { StandsIn here.new }
-    ensures free { result ≡ Way.On → IsFreeHere page.now.places here.new }
-    ensures holds { HoldsWords page.now bus.new.memory code.now.base }
-{
-    let i = here.place;
-    *at = place(first, i);
-    // The length is looked at, for the proof alone.
-    let _length = page.length(i);
-    let Some(kind) = kind_done(page.does(i)) else {
-        return Way::Leaves;
+    let Some(kind) = kind_done(page.does(here.place + 1)) else {
+        *rest += 1;
+        return Way::Away;
     };
-    let mut to = NOWHERE;
-    match do_at(core, page, i, kind, first, at, bus, code, &mut to) {
-        Outcome::Done => {
-            here.go_on();
-            Way::On
-        }
-        Outcome::Loaded => {
-            here.go_after_load(i, i + 1, at);
-            Way::On
-        }
-        Outcome::Branched => through_slot(core, page, code, first, to, here, rest, at, bus),
-        Outcome::Called => Way::Calls,
-        Outcome::Left => Way::Leaves,
-    }
+    let kind = AnyKind::<3>(kind);
+    through_slot(core, page, code, first, kind, to, here, rest, at, bus)
 }
 
 /// What comes at a place of the page that was left, with so many steps left: a plain step, where what
@@ -464,13 +453,13 @@ fn come_out(
         return Next::Any;
     }
     *at = here.position(page, first);
-    if let Way::Calls = way {
-        *left = rest;
-        return Next::Call.where_left(rest);
-    }
-    *left = rest.wrapping_add(page.length(here.place));
+    *left = match way {
+        Way::On | Way::Leaves => rest.wrapping_add(page.length(here.place)),
+        _ => rest,
+    };
     match way {
         Way::Leaves => next_known(page, here.place, *left),
+        Way::Calls => Next::Call.where_left(rest),
         _ => Next::Any,
     }
 }

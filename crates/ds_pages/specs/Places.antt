@@ -6,9 +6,12 @@ use Rattle.ds_operations.specs.declared.operation.OperationKind.{OperationKind}
 use Rattle.ds_operations.specs.declared.operation.OperationKind.TheVariants as kind
 use Rattle.ds_pages.specs.declared.does.Does.{Does}
 use Rattle.ds_pages.specs.declared.does.Does.TheVariants as does
+use Rattle.ds_pages.specs.declared.turn.Turn.{Turn}
+use Rattle.ds_pages.specs.declared.turn.Turn.TheVariants as turn
 use Rattle.ds_pages.specs.declared.place.Place.{Place}
 use Rattle.ds_pages.specs.declared.places.Places.{Places}
 use Rattle.ds_pages.specs.Does.{single, steps, is_known, is_branch, is_load, has_slot}
+use Rattle.ds_pages.specs.Turn.{first_of, second_of}
 
 -- what an operation has, in numbers
 pub record Fields : Type 0 where
@@ -31,6 +34,11 @@ kind_in (Some k) = k
 abbrev pub does_in : Option Place → Does
 does_in None = does.Unknown
 does_in (Some place) = place.does
+
+-- what is done at a place in one turn
+abbrev pub turn_in : Option Turn → Turn
+turn_in None = turn.Unknown
+turn_in (Some t) = t
 
 -- the register that is written by the operation at a place
 abbrev pub to_in : Option Place → ℕ
@@ -63,6 +71,10 @@ does_at p i = does_in (slice_get p.places i)
 -- what the operation at place i has
 abbrev pub fields_at : Places → ℕ → Fields
 fields_at p i = fields_in (kind_in (slice_get p.kinds i)) (slice_get p.places i)
+
+-- what is done at place i in one turn
+abbrev pub turn_at : Places → ℕ → Turn
+turn_at p i = turn_in (slice_get p.turns i)
 
 -- the steps from place i to the end of its block
 abbrev pub length_at : Places → ℕ → ℕ
@@ -104,6 +116,8 @@ pub record FitsAt (p : Places) (i : ℕ) : Type 0 where
   pub length : length_at p i ≡ steps (does_at p i) (length_at p (i + 1))
   pub short : length_at p i + i ≤ 1024
   pub target : is_branch (does_at p i) ≡ true → target_at p i ≡ offset_of i (fields_at p i).immediate / 4
+  pub first : first_of (turn_at p i) ≡ does_at p i
+  pub second : second_of (turn_at p i) (does_at p (i + 1)) ≡ does_at p (i + 1)
 
 -- whether the word at place i was decoded since it came there
 abbrev pub known_at : Places → ℕ → Bool
@@ -114,3 +128,4 @@ pub record SameAt (p q : Places) (i : ℕ) : Type 0 where
   pub done : does_at q i ≡ does_at p i
   pub length : length_at q i ≡ length_at p i
   pub target : target_at q i ≡ target_at p i
+  pub turn : turn_at q i ≡ turn_at p i

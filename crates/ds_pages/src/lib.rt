@@ -6,6 +6,8 @@ mod does;
 mod page;
 mod place;
 mod places;
+mod turn;
 
 pub use does::Does;
 pub use page::Page;
+pub use turn::Turn;

@@ -3,12 +3,14 @@ ghost use Rattle.std.specs.Prelude.{◌≡◌, ◌≢◌, ℕ, ◌+◌, ◌*◌,
 ghost use Rattle.ds_isa.specs.Instruction.{instruction_of};
 ghost use Rattle.ds_operations.specs.Does.{MeansAs};
 ghost use Rattle.ds_pages.specs.Does.{single, steps, is_known, is_branch, has_slot, is_load};
+ghost use Rattle.ds_pages.specs.Turn.{first_of, second_of};
 ghost use Rattle.ds_pages.specs.Places.{does_at, fields_at, length_at, target_at, done_at, offset_of, fields_of, IsFreeAt};
 ghost use Rattle.ds_pages.specs.Page.{word_at, knows};
 
 use crate::does::Does;
 use crate::place::{NOWHERE, Place};
 use crate::places::{PLACES, Places};
+use crate::turn::Turn;
 use ds_isa::decode;
 use ds_operations::{Operation, OperationKind};
 use std::marker::Model;
@@ -65,6 +67,18 @@ impl Page {
         ensures free { is_load result ≡ true → IsFreeAt self.now.places i }
     {
         self.places.does(i)
+    }
+
+    /// What is done in one turn of a run that stands at a place, or at the one after the last: the
+    /// operation there, or that and the next one.
+    #[inline(always)]
+    pub fn turn(&self, i: usize) -> Turn
+        requires { i ≤ 1024 }
+        ensures first { first_of result ≡ does_at self.now.places i }
+        ensures second { second_of result (does_at self.now.places (i + 1))
+            ≡ does_at self.now.places (i + 1) }
+    {
+        self.places.turn(i)
     }
 
     /// The number of steps from a place to the end of its block: no step where that is not known,

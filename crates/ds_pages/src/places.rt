@@ -1,21 +1,24 @@
 //! What is known of each place of a page.
 ghost use Rattle.std.specs.Prelude.{◌≡◌, ◌≢◌, ℕ, ◌+◌, ◌/◌, ◌<◌, ◌≤◌, true, false};
 ghost use Rattle.ds_pages.specs.Does.{steps, is_known, is_branch, has_slot};
-ghost use Rattle.ds_pages.specs.Places.{does_at, fields_at, fields_in, fields_of, length_at, target_at, done_at, is_left, stays, offset_of, known_at, FitsAt, SameAt};
+ghost use Rattle.ds_pages.specs.Turn.{first_of, second_of};
+ghost use Rattle.ds_pages.specs.Places.{does_at, turn_at, fields_at, fields_in, fields_of, length_at, target_at, done_at, is_left, stays, offset_of, known_at, FitsAt, SameAt};
 
 use crate::does::Does;
 use crate::place::{NOWHERE, Place};
+use crate::turn::Turn;
 use ds_operations::{Operation, OperationKind};
 use ds_word::wrapping_sum;
 
 /// The number of places of a page.
 pub(crate) const PLACES: usize = 1024;
 
-/// What is known of each place: its operation, what is done there, the steps from there to the end
-/// of its block, and where a branch leads. Nothing is known of the place after the last one.
+/// What is known of each place: its operation, what is done there, and in one turn, the steps from there
+/// to the end of its block, and where a branch leads. Nothing is known of the place after the last one.
 #[derive(Drop)]
 pub(crate) struct Places {
     places: [Place; 1025],
+    turns: [Turn; 1025],
     kinds: [OperationKind; 1025],
     lengths: [u16; 1025],
     targets: [u16; PLACES],
@@ -39,6 +42,7 @@ impl Places {
     {
         Places {
             places: [NOWHERE; 1025],
+            turns: [Turn::Unknown; 1025],
             kinds: [OperationKind::Other; 1025],
             lengths: [0; 1025],
             targets: [0; PLACES],
@@ -52,6 +56,15 @@ impl Places {
         ensures { result ≡ does_at self.now i }
     {
         self.places[i].does
+    }
+
+    /// What is done at a place in one turn.
+    #[inline(always)]
+    pub fn turn(&self, i: usize) -> Turn
+        requires { i ≤ 1024 }
+        ensures { result ≡ turn_at self.now i }
+    {
+        self.turns[i]
     }
 
     /// Whether the word at a place was decoded since it came there.
@@ -150,15 +163,18 @@ impl Places {
     }
 
     /// Writes what follows from the operations at a place: what is done there, the steps to the end
-    /// of the block, and where a branch leads.
+    /// of the block, and where a branch leads; and so what is done in one turn.
     fn write(&mut self, i: usize, does: Does, length: u16, target: u16)
         requires { i < 1024 }
+        ensures first { first_of (turn_at self.new i) ≡ does }
+        ensures second { second_of (turn_at self.new i) (does_at self.old (i + 1)) ≡ does_at self.old (i + 1) }
         ensures fields { (k : ℕ) → fields_at self.new k ≡ fields_at self.old k }
         ensures others { (k : ℕ) → k ≢ i → SameAt self.old self.new k }
         ensures done { does_at self.new i ≡ does }
         ensures length { length_at self.new i ≡ length }
         ensures target { target_at self.new i ≡ target }
     {
+        self.turns[i] = Turn::of(does, self.does(i + 1));
         let place = &mut self.places[i];
         place.does = does;
         self.lengths[i] = length;
@@ -180,7 +196,18 @@ impl Places {
         }
     }
 
-    /// Finds again what follows from the operations at a place; whether its length has changed.
+    /// Whether this is done at a place, and so many steps from there to the end of its block.
+    fn is_as(&self, i: usize, does: Does, length: u16) -> bool
+        requires { i ≤ 1024 }
+        ensures done { result ≡ true → does ≡ does_at self.now i }
+        ensures length { result ≡ true → length ≡ length_at self.now i }
+        ensures both { does ≡ does_at self.now i → length ≡ length_at self.now i → result ≡ true }
+    {
+        self.does(i) == does && self.length(i) == length
+    }
+
+    /// Finds again what follows from the operations at a place; whether what is done there or its length
+    /// has changed.
     fn refresh(&mut self, i: usize) -> bool
         requires inside { i < 1024 }
         requires next { FitsAt self.old (i + 1) }
@@ -189,14 +216,16 @@ impl Places {
         ensures fits { FitsAt self.new i }
         ensures known { known_at self.new i ≡ known_at self.old i }
         ensures calm { result ≡ false → length_at self.new i ≡ length_at self.old i }
-        ensures changed { result ≡ true → length_at self.new i ≢ length_at self.old i }
+        ensures same { result ≡ false → does_at self.new i ≡ does_at self.old i }
+        ensures changed { does_at self.new i ≡ does_at self.old i
+            → length_at self.new i ≡ length_at self.old i → result ≡ false }
     {
         let does = self.renewed(i);
         let length = does.steps(self.length(i + 1));
         let target = self.target_of(i, does);
-        let changed = self.length(i) != length;
+        let same = self.is_as(i, does, length);
         self.write(i, does, length, target);
-        changed
+        !same
     }
 
     /// Puts an operation, or nothing, at a place, and finds again what follows from it there and at

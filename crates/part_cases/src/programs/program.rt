@@ -5,7 +5,7 @@ use std::io::{self, ErrorKind};
 use std::{fs, rt};
 
 /// Each goes round for ever. Those that test something count in register 17 what came out wrong.
-pub const PROGRAMS: [&str; 9] = [
+pub const PROGRAMS: [&str; 10] = [
     "programs/arithmetic.s",
     "programs/memory.s",
     "programs/calls.s",
@@ -15,6 +15,7 @@ pub const PROGRAMS: [&str; 9] = [
     "programs/mode_changes.s",
     "programs/clean_page.s",
     "programs/interrupts.s",
+    "programs/turns.s",
 ];
 
 /// The image of a source.

@@ -2,7 +2,7 @@ use Rattle.ds_ahead.proofs.Runs.{moves_in_page}
 use Rattle.ds_ahead.proofs.run.do_operation.Goals as goal
 
 pub returns-clause-moves : goal.returns-clause-moves
-returns-clause-moves g c = moves_in_page c.operate.result c.operation.result c.args.page.now c.args.i c.args.code.now.vpn c.args.code.now.base
-    c.args.core.now c.args.at.now c.args.bus.now c.operate.new.core c.operate.new.at c.operate.new.bus
+returns-clause-moves g c = moves_in_page c.execute.result c.operation.result c.args.page.now c.args.i c.args.code.now.vpn c.args.code.now.base
+    c.args.core.now c.args.at.now c.args.bus.now c.execute.new.core c.execute.new.at c.execute.new.bus
     c.requires.here c.requires.inside c.requires.known c.requires.some_page c.args.code.now.inside c.requires.holds c.requires.calm
-    c.operation.ensures.fields c.operation.ensures.means c.operate.ensures.known c.operate.ensures.comes
+    c.operation.ensures.fields c.operation.ensures.means c.execute.ensures.known c.execute.ensures.comes

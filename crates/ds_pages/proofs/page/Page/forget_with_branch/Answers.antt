@@ -1,4 +1,4 @@
-use Rattle.std.proofs.Common.{ℕ, ◌-◌, arith, ap, ◌∙◌, sym}
+use Rattle.std.proofs.Common.{◌-◌, arith, ap, ◌∙◌, sym}
 use Rattle.ds_pages.specs.Does.{has_slot}
 use Rattle.ds_pages.specs.Places.{does_at}
 use Rattle.ds_pages.specs.Page.{PageState, knows}

@@ -5,7 +5,7 @@ use Rattle.ds_pages.proofs.places.Places.refresh_before.Goals as goal
 pub returns-then-not-refresh-clause-fits : goal.returns-then-not-refresh-clause-fits
 returns-then-not-refresh-clause-fits c = all_fit c.loop-at.self c.refresh.new.self (c.loop-at.at - 1)
     (λ k inside other. c.loop-at.invariant.others k inside (λ e. other (omega arith)))
-    c.refresh.ensures.fields c.refresh.ensures.others c.refresh.ensures.fits (c.refresh.ensures.calm (search rules))
+    c.refresh.ensures.fields c.refresh.ensures.others c.refresh.ensures.fits (c.refresh.ensures.calm (search rules)) (c.refresh.ensures.same (search rules))
 
 pub returns-then-not-refresh-clause-known : goal.returns-then-not-refresh-clause-known
 returns-then-not-refresh-clause-known c k = known_after c.loop-at.self c.refresh.new.self (c.loop-at.at - 1) k c.refresh.ensures.others c.refresh.ensures.known ∙ c.loop-at.invariant.known k

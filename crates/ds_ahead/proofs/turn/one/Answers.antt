@@ -1,5 +1,6 @@
-use Rattle.std.proofs.Common.{◌≡◌, ◌+◌, ◌∙◌, true, sym, subst, arith}
-use Rattle.ds_pages.specs.Does.{is_load}
+use Rattle.std.proofs.Common.{◌≡◌, ◌+◌, ◌∙◌, true, sym, ap, subst, arith}
+use Rattle.ds_pages.specs.Does.{is_load, is_known}
+use Rattle.ds_pages.proofs.Done.{single_known}
 use Rattle.ds_pages.specs.Places.{does_at, fields_at}
 use Rattle.ds_ahead.specs.declared.here.Here.{Here}
 use Rattle.ds_ahead.specs.declared.here.Way.TheVariants.{On}
@@ -8,7 +9,7 @@ use Rattle.ds_ahead.specs.Goes.{GoesBy}
 use Rattle.ds_ahead.specs.Placed.{Place}
 use Rattle.ds_ahead.specs.Run.{place_in, MovesAt, Ran, left_here, position_here}
 use Rattle.ds_ahead.proofs.Turns.{ran_both, turn_done, turn_loaded, turn_branched, turn_called, turn_left}
-use Rattle.ds_ahead.proofs.run.turn.Goals as goal
+use Rattle.ds_ahead.proofs.turn.one.Goals as goal
 
 pub returns-in-Done-clause-ran : goal.returns-in-Done-clause-ran
 returns-in-Done-clause-ran g c =
@@ -34,7 +35,7 @@ returns-in-Loaded-clause-ran g c =
     (turn_loaded p c.args.first c.args.rest.now h c.go_after_load.new.self c.args.core.now at c.args.bus.now c.do_at.new.core c.do_at.new.at c.do_at.new.bus
     is c.requires.free c.requires.low (sym c.length-length.ensures.value ∙ c.length-length.ensures.steps) (omega (arith, c.length-length.ensures.value, c.length-length.ensures.within))
     moves goes c.do_at.ensures.calm c.go_after_load.ensures.place c.go_after_load.ensures.late c.go_after_load.ensures.from c.go_after_load.ensures.old
-    (λ load. c.does.ensures.free (subst (λ d. is_load d ≡ true) (sym c.does.ensures.value) load))).3
+    (λ load. c.does-does.ensures.free (subst (λ d. is_load d ≡ true) (sym c.does-does.ensures.value) load))).3
 
 pub returns-in-Branched-clause-ran : goal.returns-in-Branched-clause-ran
 returns-in-Branched-clause-ran g c =
@@ -47,9 +48,9 @@ returns-in-Branched-clause-ran g c =
     let turn = turn_branched p c.args.first c.args.rest.now h c.args.core.now (fields_at p h.place).to at c.args.bus.now c.do_at.new.core c.do_at.new.at c.do_at.new.bus
     is c.requires.free c.requires.low (sym c.length-length.ensures.value ∙ c.length-length.ensures.steps) (omega (arith, c.length-length.ensures.value, c.length-length.ensures.within))
     moves goes c.do_at.ensures.calm in
-    ran_both c.through_slot.result (left_here p h c.args.rest.now) (c.args.rest.now + 1) c.args.core.now (position_here p c.args.first h) c.args.bus.now c.do_at.new.core c.do_at.new.at c.do_at.new.bus
-    p c.args.first c.through_slot.new.here c.through_slot.new.rest c.through_slot.new.core c.through_slot.new.at c.through_slot.new.bus
-    (omega (arith, turn.1)) turn.3 c.through_slot.ensures.ran
+    ran_both c.through_any_slot.result (left_here p h c.args.rest.now) (c.args.rest.now + 1) c.args.core.now (position_here p c.args.first h) c.args.bus.now c.do_at.new.core c.do_at.new.at c.do_at.new.bus
+    p c.args.first c.through_any_slot.new.here c.through_any_slot.new.rest c.through_any_slot.new.core c.through_any_slot.new.at c.through_any_slot.new.bus
+    (omega (arith, turn.1)) turn.3 c.through_any_slot.ensures.ran
 
 pub returns-in-Called-clause-ran : goal.returns-in-Called-clause-ran
 returns-in-Called-clause-ran g c =
@@ -60,7 +61,7 @@ returns-in-Called-clause-ran g c =
     let moves = subst (λ (o : Outcome). MovesAt p h.place o c.args.core.now at c.args.bus.now c.do_at.new.core c.do_at.new.at c.do_at.new.bus) c.in-Called.is c.do_at.ensures.moves in
     let goes = subst (λ (o : Outcome). GoesBy (does_at p h.place) o c.args.core.now (fields_at p h.place).to at c.do_at.new.at) c.in-Called.is c.do_at.ensures.goes in
     turn_called p c.args.first c.args.rest.now h c.args.core.now (fields_at p h.place).to at c.args.bus.now c.do_at.new.core c.do_at.new.at c.do_at.new.bus
-    is c.requires.free (c.does.ensures.inside c.in-Some.ensures.known) (sym c.length-length.ensures.value ∙ c.length-length.ensures.steps) moves goes
+    is c.requires.free (c.does-does.ensures.inside (ap is_known (c.does-does.ensures.value ∙ c.requires.single) ∙ single_known _)) (sym c.length-length.ensures.value ∙ c.length-length.ensures.steps) moves goes
 
 pub returns-in-Left-clause-ran : goal.returns-in-Left-clause-ran
 returns-in-Left-clause-ran g c =

@@ -1,0 +1,435 @@
+//! A turn of a run: an operation where it stands, that and the next one, or a branch with its slot.
+ghost use Rattle.std.specs.Prelude.{◌≡◌, ◌≢◌, ◌+◌, ◌*◌, ◌<◌, ◌≤◌, ◌^◌, true, false, IfSome};
+ghost use Rattle.ds_cp0.specs.System.{asid_of, is_pending};
+ghost use Rattle.ds_dev.specs.Bus.{lines};
+ghost use Rattle.ds_pages.specs.Does.{has_slot, is_end, is_known, single};
+ghost use Rattle.ds_pages.specs.Turn.{first_of};
+ghost use Rattle.ds_pages.specs.Places.{does_at};
+ghost use Rattle.ds_pages.specs.Page.{HoldsWords};
+ghost use Rattle.ds_ahead.specs.Code.{KnowsPage};
+ghost use Rattle.ds_ahead.specs.Operations.{StaysCalm};
+ghost use Rattle.ds_ahead.specs.Run.{position_here, left_here, StandsIn, IsFreeHere, IsAlone, Ran};
+
+use crate::code::CodePage;
+use crate::execute::{
+    Addiu, Addu, AnyKind, Beq, Bne, Execute, J, Jal, Jr, Lbu, Lui, Lw, Nothing, Or, Ori, Sb, Sll,
+    Sltu, Srl, Sw, Xor,
+};
+use crate::here::{Here, NOWHERE, Way, place};
+use crate::operations::Outcome;
+use crate::position::Position;
+use crate::run::{do_at, do_operation, through_any_slot, through_slot};
+use ds_core::Core;
+use ds_dev::Bus;
+use ds_operations::OperationKind;
+use ds_pages::{Page, Turn};
+use ds_tlb::Lookaside;
+
+/// The kind of the operation that is done alone in a turn.
+#[inline(always)]
+fn alone(turn: Turn, kind: OperationKind) -> AnyKind<2>
+    requires { IsAlone (first_of turn) kind }
+    ensures single { first_of turn ≡ single result.0 }
+    ensures some { result.0 ≢ OperationKind.Other }
+{
+    let _ = turn;
+    AnyKind::<2>(kind)
+}
+
+/// Does the operation where a run stands, which is of this kind and has no slot.
+#[inline(always)]
+fn plain<L: Lookaside, K: Execute>(
+    core: &mut Core<L>,
+    page: &Page,
+    code: &CodePage,
+    first: u32,
+    kind: K,
+    here: &mut Here,
+    rest: &mut u32,
+    at: &mut Position,
+    bus: &mut Bus,
+) -> Way
+    requires begins { first ≡ code.now.vpn * 4096 }
+    requires low { first < 2 ^ 31 }
+    requires stands { StandsIn here.old }
+    requires free { IsFreeHere page.now.places here.old }
+    requires fits { left_here page.now.places here.old rest.old < 2 ^ 32 }
+    requires known { KnowsPage code.now.vpn code.now.base core.old }
+    requires space { code.now.asid ≡ asid_of core.old.system }
+    requires calm { is_pending core.old.system (lines bus.old).0 (lines bus.old).1 ≡ false }
+    requires holds { HoldsWords page.now bus.old.memory code.now.base }
+    requires single { does_at page.now.places here.old.place ≡ single (K.kind kind) }
+    requires some { K.kind kind ≢ OperationKind.Other }
+    requires decoded { is_known (single (K.kind kind)) ≡ true }
+    requires straight { has_slot (single (K.kind kind)) ≡ false }
+    ensures ran { Ran result (left_here page.now.places here.old rest.old) core.old
+        (position_here page.now.places first here.old) bus.old page.now.places first
+        here.new rest.new core.new at.new bus.new }
+    ensures fewer { result ≡ Way.On → left_here page.now.places here.new rest.new
+        < left_here page.now.places here.old rest.old }
+    ensures stands { StandsIn here.new }
+    ensures free { result ≡ Way.On → IsFreeHere page.now.places here.new }
+    ensures holds { HoldsWords page.now bus.new.memory code.now.base }
+    ensures calm { StaysCalm core.old bus.old core.new bus.new }
+    ensures next { result ≡ Way.On → here.new.place ≡ here.old.place + 1 }
+{
+    let i = here.place;
+    *at = place(first, i);
+    // What is done there and the length are looked at, for the proof alone.
+    let _does = page.does(i);
+    let _length = page.length(i);
+    match do_operation(core, page, i, kind, at, bus, code) {
+        Outcome::Done => {
+            here.go_on();
+            Way::On
+        }
+        Outcome::Loaded => {
+            here.go_after_load(i, i + 1, at);
+            Way::On
+        }
+        _ => Way::Leaves,
+    }
+}
+
+/// Does the operation where a run stands and the next one, which are of these kinds and have no slot.
+fn two<L: Lookaside, A: Execute, B: Execute>(
+    core: &mut Core<L>,
+    page: &Page,
+    code: &CodePage,
+    first: u32,
+    kinds: (A, B),
+    here: &mut Here,
+    rest: &mut u32,
+    at: &mut Position,
+    bus: &mut Bus,
+) -> Way
+    requires begins { first ≡ code.now.vpn * 4096 }
+    requires low { first < 2 ^ 31 }
+    requires stands { StandsIn here.old }
+    requires free { IsFreeHere page.now.places here.old }
+    requires fits { left_here page.now.places here.old rest.old < 2 ^ 32 }
+    requires known { KnowsPage code.now.vpn code.now.base core.old }
+    requires space { code.now.asid ≡ asid_of core.old.system }
+    requires calm { is_pending core.old.system (lines bus.old).0 (lines bus.old).1 ≡ false }
+    requires holds { HoldsWords page.now bus.old.memory code.now.base }
+    requires single { does_at page.now.places here.old.place ≡ single (A.kind kinds.0) }
+    requires next { does_at page.now.places (here.old.place + 1) ≡ single (B.kind kinds.1) }
+    requires some { A.kind kinds.0 ≢ OperationKind.Other }
+    requires some_next { B.kind kinds.1 ≢ OperationKind.Other }
+    requires straight { has_slot (single (A.kind kinds.0)) ≡ false }
+    requires straight_next { has_slot (single (B.kind kinds.1)) ≡ false }
+    requires decoded { is_known (single (A.kind kinds.0)) ≡ true }
+    requires decoded_next { is_known (single (B.kind kinds.1)) ≡ true }
+    ensures ran { Ran result (left_here page.now.places here.old rest.old) core.old
+        (position_here page.now.places first here.old) bus.old page.now.places first
+        here.new rest.new core.new at.new bus.new }
+    ensures fewer { result ≡ Way.On → left_here page.now.places here.new rest.new
+        < left_here page.now.places here.old rest.old }
+    ensures stands { StandsIn here.new }
+    ensures free { result ≡ Way.On → IsFreeHere page.now.places here.new }
+    ensures holds { HoldsWords page.now bus.new.memory code.now.base }
+{
+    let way = plain(core, page, code, first, kinds.0, here, rest, at, bus);
+    if !way.is_on() {
+        return way;
+    }
+    plain(core, page, code, first, kinds.1, here, rest, at, bus)
+}
+
+/// Does the operation where a run stands, which is of this kind, with its slot where it has one.
+fn one<L: Lookaside, K: Execute>(
+    core: &mut Core<L>,
+    page: &Page,
+    code: &CodePage,
+    first: u32,
+    kind: K,
+    here: &mut Here,
+    rest: &mut u32,
+    at: &mut Position,
+    bus: &mut Bus,
+) -> Way
+    requires begins { first ≡ code.now.vpn * 4096 }
+    requires low { first < 2 ^ 31 }
+    requires stands { StandsIn here.old }
+    requires free { IsFreeHere page.now.places here.old }
+    requires fits { left_here page.now.places here.old rest.old < 2 ^ 32 }
+    requires known { KnowsPage code.now.vpn code.now.base core.old }
+    requires space { code.now.asid ≡ asid_of core.old.system }
+    requires calm { is_pending core.old.system (lines bus.old).0 (lines bus.old).1 ≡ false }
+    requires holds { HoldsWords page.now bus.old.memory code.now.base }
+    requires single { does_at page.now.places here.old.place ≡ single (K.kind kind) }
+    requires some { K.kind kind ≢ OperationKind.Other }
+    ensures ran { Ran result (left_here page.now.places here.old rest.old) core.old
+        (position_here page.now.places first here.old) bus.old page.now.places first
+        here.new rest.new core.new at.new bus.new }
+    ensures fewer { result ≡ Way.On → left_here page.now.places here.new rest.new
+        < left_here page.now.places here.old rest.old }
+    ensures stands { StandsIn here.new }
+    ensures free { result ≡ Way.On → IsFreeHere page.now.places here.new }
+    ensures holds { HoldsWords page.now bus.new.memory code.now.base }
+{
+    let i = here.place;
+    *at = place(first, i);
+    // What is done there and the length are looked at, for the proof alone.
+    let _does = page.does(i);
+    let _length = page.length(i);
+    let mut to = NOWHERE;
+    match do_at(core, page, i, kind, first, at, bus, code, &mut to) {
+        Outcome::Done => {
+            here.go_on();
+            Way::On
+        }
+        Outcome::Loaded => {
+            here.go_after_load(i, i + 1, at);
+            Way::On
+        }
+        Outcome::Branched => through_any_slot(core, page, code, first, to, here, rest, at, bus),
+        Outcome::Called => Way::Calls,
+        Outcome::Left => Way::Leaves,
+    }
+}
+
+/// Does the branch or jump where a run stands and its slot, which are of these kinds.
+fn with_slot<L: Lookaside, A: Execute, B: Execute>(
+    core: &mut Core<L>,
+    page: &Page,
+    code: &CodePage,
+    first: u32,
+    kinds: (A, B),
+    here: &mut Here,
+    rest: &mut u32,
+    at: &mut Position,
+    bus: &mut Bus,
+) -> Way
+    requires begins { first ≡ code.now.vpn * 4096 }
+    requires low { first < 2 ^ 31 }
+    requires stands { StandsIn here.old }
+    requires free { IsFreeHere page.now.places here.old }
+    requires fits { left_here page.now.places here.old rest.old < 2 ^ 32 }
+    requires known { KnowsPage code.now.vpn code.now.base core.old }
+    requires space { code.now.asid ≡ asid_of core.old.system }
+    requires calm { is_pending core.old.system (lines bus.old).0 (lines bus.old).1 ≡ false }
+    requires holds { HoldsWords page.now bus.old.memory code.now.base }
+    requires single { does_at page.now.places here.old.place ≡ single (A.kind kinds.0) }
+    requires next { does_at page.now.places (here.old.place + 1) ≡ single (B.kind kinds.1) }
+    requires some { A.kind kinds.0 ≢ OperationKind.Other }
+    requires some_next { B.kind kinds.1 ≢ OperationKind.Other }
+    requires decoded { is_known (single (A.kind kinds.0)) ≡ true }
+    requires slot { has_slot (single (A.kind kinds.0)) ≡ true }
+    requires on { is_end (single (A.kind kinds.0)) ≡ false }
+    ensures ran { Ran result (left_here page.now.places here.old rest.old) core.old
+        (position_here page.now.places first here.old) bus.old page.now.places first
+        here.new rest.new core.new at.new bus.new }
+    ensures fewer { result ≡ Way.On → left_here page.now.places here.new rest.new
+        < left_here page.now.places here.old rest.old }
+    ensures stands { StandsIn here.new }
+    ensures free { result ≡ Way.On → IsFreeHere page.now.places here.new }
+    ensures holds { HoldsWords page.now bus.new.memory code.now.base }
+{
+    let i = here.place;
+    *at = place(first, i);
+    // What is done there and the length are looked at, for the proof alone.
+    let _does = page.does(i);
+    let _length = page.length(i);
+    let mut to = NOWHERE;
+    match do_at(core, page, i, kinds.0, first, at, bus, code, &mut to) {
+        Outcome::Branched => {
+            through_slot(core, page, code, first, kinds.1, to, here, rest, at, bus)
+        }
+        _ => Way::Leaves,
+    }
+}
+
+/// Takes a turn where a run stands. What often comes together is done together, by code
+/// that is compiled for these kinds.
+#[inline(always)]
+pub(crate) fn turn<L: Lookaside>(
+    core: &mut Core<L>,
+    page: &Page,
+    code: &CodePage,
+    first: u32,
+    here: &mut Here,
+    rest: &mut u32,
+    at: &mut Position,
+    bus: &mut Bus,
+) -> Way
+    requires begins { first ≡ code.now.vpn * 4096 }
+    requires low { first < 2 ^ 31 }
+    requires stands { StandsIn here.old }
+    requires free { IsFreeHere page.now.places here.old }
+    requires fits { left_here page.now.places here.old rest.old < 2 ^ 32 }
+    requires known { KnowsPage code.now.vpn code.now.base core.old }
+    requires space { code.now.asid ≡ asid_of core.old.system }
+    requires calm { is_pending core.old.system (lines bus.old).0 (lines bus.old).1 ≡ false }
+    requires holds { HoldsWords page.now bus.old.memory code.now.base }
+    ensures ran { Ran result (left_here page.now.places here.old rest.old) core.old
+        (position_here page.now.places first here.old) bus.old page.now.places first
+        here.new rest.new core.new at.new bus.new }
+    ensures fewer { result ≡ Way.On → left_here page.now.places here.new rest.new
+        < left_here page.now.places here.old rest.old }
+    ensures stands { StandsIn here.new }
+    ensures free { result ≡ Way.On → IsFreeHere page.now.places here.new }
+    ensures holds { HoldsWords page.now bus.new.memory code.now.base }
+{
+    use OperationKind as Kind;
+    let turn = page.turn(here.place);
+    let kind = match turn {
+        Turn::Unknown | Turn::Left => return Way::Leaves,
+        Turn::Call => Kind::Syscall,
+        Turn::Nothing => Kind::Nothing,
+        Turn::Sll => Kind::Sll,
+        Turn::Srl => Kind::Srl,
+        Turn::Sra => Kind::Sra,
+        Turn::Sllv => Kind::Sllv,
+        Turn::Srlv => Kind::Srlv,
+        Turn::Srav => Kind::Srav,
+        Turn::Mfhi => Kind::Mfhi,
+        Turn::Mthi => Kind::Mthi,
+        Turn::Mflo => Kind::Mflo,
+        Turn::Mtlo => Kind::Mtlo,
+        Turn::Mult => Kind::Mult,
+        Turn::Multu => Kind::Multu,
+        Turn::Div => Kind::Div,
+        Turn::Divu => Kind::Divu,
+        Turn::Add => Kind::Add,
+        Turn::Addu => Kind::Addu,
+        Turn::Sub => Kind::Sub,
+        Turn::Subu => Kind::Subu,
+        Turn::And => Kind::And,
+        Turn::Or => Kind::Or,
+        Turn::Xor => Kind::Xor,
+        Turn::Nor => Kind::Nor,
+        Turn::Slt => Kind::Slt,
+        Turn::Sltu => Kind::Sltu,
+        Turn::Addi => Kind::Addi,
+        Turn::Addiu => Kind::Addiu,
+        Turn::Slti => Kind::Slti,
+        Turn::Sltiu => Kind::Sltiu,
+        Turn::Andi => Kind::Andi,
+        Turn::Ori => Kind::Ori,
+        Turn::Xori => Kind::Xori,
+        Turn::Lui => Kind::Lui,
+        Turn::Bltz => Kind::Bltz,
+        Turn::Bgez => Kind::Bgez,
+        Turn::Bltzal => Kind::Bltzal,
+        Turn::Bgezal => Kind::Bgezal,
+        Turn::Beq => Kind::Beq,
+        Turn::Bne => Kind::Bne,
+        Turn::Blez => Kind::Blez,
+        Turn::Bgtz => Kind::Bgtz,
+        Turn::J => Kind::J,
+        Turn::Jal => Kind::Jal,
+        Turn::Jr => Kind::Jr,
+        Turn::Jalr => Kind::Jalr,
+        Turn::Lb => Kind::Lb,
+        Turn::Lh => Kind::Lh,
+        Turn::Lw => Kind::Lw,
+        Turn::Lbu => Kind::Lbu,
+        Turn::Lhu => Kind::Lhu,
+        Turn::Sb => Kind::Sb,
+        Turn::Sh => Kind::Sh,
+        Turn::Sw => Kind::Sw,
+        Turn::AdduAddu => return two(core, page, code, first, (Addu, Addu), here, rest, at, bus),
+        Turn::AddiuAddu => return two(core, page, code, first, (Addiu, Addu), here, rest, at, bus),
+        Turn::AdduAddiu => return two(core, page, code, first, (Addu, Addiu), here, rest, at, bus),
+        Turn::AddiuAddiu => return two(
+            core,
+            page,
+            code,
+            first,
+            (Addiu, Addiu),
+            here,
+            rest,
+            at,
+            bus,
+        ),
+        Turn::SllAddu => return two(core, page, code, first, (Sll, Addu), here, rest, at, bus),
+        Turn::AdduSll => return two(core, page, code, first, (Addu, Sll), here, rest, at, bus),
+        Turn::LuiOri => return two(core, page, code, first, (Lui, Ori), here, rest, at, bus),
+        Turn::LuiAddiu => return two(core, page, code, first, (Lui, Addiu), here, rest, at, bus),
+        Turn::XorSrl => return two(core, page, code, first, (Xor, Srl), here, rest, at, bus),
+        Turn::AdduSltu => return two(core, page, code, first, (Addu, Sltu), here, rest, at, bus),
+        Turn::LwNothing => return two(core, page, code, first, (Lw, Nothing), here, rest, at, bus),
+        Turn::LwAddiu => return two(core, page, code, first, (Lw, Addiu), here, rest, at, bus),
+        Turn::LwAddu => return two(core, page, code, first, (Lw, Addu), here, rest, at, bus),
+        Turn::LwLw => return two(core, page, code, first, (Lw, Lw), here, rest, at, bus),
+        Turn::AddiuLw => return two(core, page, code, first, (Addiu, Lw), here, rest, at, bus),
+        Turn::AdduLw => return two(core, page, code, first, (Addu, Lw), here, rest, at, bus),
+        Turn::AdduSw => return two(core, page, code, first, (Addu, Sw), here, rest, at, bus),
+        Turn::AddiuSw => return two(core, page, code, first, (Addiu, Sw), here, rest, at, bus),
+        Turn::SwAddiu => return two(core, page, code, first, (Sw, Addiu), here, rest, at, bus),
+        Turn::SwSw => return two(core, page, code, first, (Sw, Sw), here, rest, at, bus),
+        Turn::SwLw => return two(core, page, code, first, (Sw, Lw), here, rest, at, bus),
+        Turn::LwLbu => return two(core, page, code, first, (Lw, Lbu), here, rest, at, bus),
+        Turn::LbuNothing => return two(
+            core,
+            page,
+            code,
+            first,
+            (Lbu, Nothing),
+            here,
+            rest,
+            at,
+            bus,
+        ),
+        Turn::LbuAddiu => return two(core, page, code, first, (Lbu, Addiu), here, rest, at, bus),
+        Turn::AdduSb => return two(core, page, code, first, (Addu, Sb), here, rest, at, bus),
+        Turn::SbAddiu => return two(core, page, code, first, (Sb, Addiu), here, rest, at, bus),
+        Turn::BeqNothing => {
+            return with_slot(core, page, code, first, (Beq, Nothing), here, rest, at, bus);
+        }
+        Turn::BeqAddiu => {
+            return with_slot(core, page, code, first, (Beq, Addiu), here, rest, at, bus);
+        }
+        Turn::BeqAddu => {
+            return with_slot(core, page, code, first, (Beq, Addu), here, rest, at, bus);
+        }
+        Turn::BeqOr => {
+            return with_slot(core, page, code, first, (Beq, Or), here, rest, at, bus);
+        }
+        Turn::BneNothing => {
+            return with_slot(core, page, code, first, (Bne, Nothing), here, rest, at, bus);
+        }
+        Turn::BneAddiu => {
+            return with_slot(core, page, code, first, (Bne, Addiu), here, rest, at, bus);
+        }
+        Turn::BneAddu => {
+            return with_slot(core, page, code, first, (Bne, Addu), here, rest, at, bus);
+        }
+        Turn::BneOr => {
+            return with_slot(core, page, code, first, (Bne, Or), here, rest, at, bus);
+        }
+        Turn::JNothing => {
+            return with_slot(core, page, code, first, (J, Nothing), here, rest, at, bus);
+        }
+        Turn::JAddiu => {
+            return with_slot(core, page, code, first, (J, Addiu), here, rest, at, bus);
+        }
+        Turn::JalNothing => {
+            return with_slot(core, page, code, first, (Jal, Nothing), here, rest, at, bus);
+        }
+        Turn::JalAddiu => {
+            return with_slot(core, page, code, first, (Jal, Addiu), here, rest, at, bus);
+        }
+        Turn::JrNothing => {
+            return with_slot(core, page, code, first, (Jr, Nothing), here, rest, at, bus);
+        }
+        Turn::JrAddiu => {
+            return with_slot(core, page, code, first, (Jr, Addiu), here, rest, at, bus);
+        }
+        Turn::JrAddu => {
+            return with_slot(core, page, code, first, (Jr, Addu), here, rest, at, bus);
+        }
+    };
+    one(
+        core,
+        page,
+        code,
+        first,
+        alone(turn, kind),
+        here,
+        rest,
+        at,
+        bus,
+    )
+}
