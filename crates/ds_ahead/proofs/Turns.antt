@@ -95,17 +95,17 @@ equal : (a b : ℕ) → a ≡ b → (a == b) ≡ true
 equal a b same = grind (arith, nat_tests)
 
 -- no load is late
-pub late_none : (p : Places) (h : Here) → h.late_at ≢ h.place → late_here p h ≡ None
-late_none p h apart = rw (not_equal h.late_at h.place apart) refl
+pub late_none : (h : Here) → h.late_at ≢ h.place → late_here h ≡ None
+late_none h apart = rw (not_equal h.late_at h.place apart) refl
 
 -- a load is late
-pub late_some : (p : Places) (h : Here) → h.late_at ≡ h.place → late_here p h ≡ Some (record { register = (fields_at p h.late_from).to; old = h.late_old })
-late_some p h same = rw (equal h.late_at h.place same) refl
+pub late_some : (h : Here) → h.late_at ≡ h.place → late_here h ≡ Some h.late
+late_some h same = rw (equal h.late_at h.place same) refl
 
 -- a run stands at the next place
-pub next_position : (p : Places) (first : ℕ) (h : Here) (m l : Option Late) → first < 2 ^ 31 → h.place < 1024 → late_here p (record h { place = h.place + 1 }) ≡ l → record (at_next (record (place_in first h.place) { late = m })) { late = l } ≡ position_here p first (record h { place = h.place + 1 })
-next_position p first h m l low inside late =
-    same_place (first + 4 * h.place + 4) (word (first + 4 * h.place + 4 + 4)) (first + 4 * (h.place + 1)) (first + 4 * (h.place + 1) + 4) false l (late_here p (record h { place = h.place + 1 })) (omega arith) (omega (arith, low, inside)) (sym late)
+pub next_position : (first : ℕ) (h : Here) (m l : Option Late) → first < 2 ^ 31 → h.place < 1024 → late_here (record h { place = h.place + 1 }) ≡ l → record (at_next (record (place_in first h.place) { late = m })) { late = l } ≡ position_here first (record h { place = h.place + 1 })
+next_position first h m l low inside late =
+    same_place (first + 4 * h.place + 4) (word (first + 4 * h.place + 4 + 4)) (first + 4 * (h.place + 1)) (first + 4 * (h.place + 1) + 4) false l (late_here (record h { place = h.place + 1 })) (omega arith) (omega (arith, low, inside)) (sym late)
 
 -- Steps.
 
@@ -123,13 +123,13 @@ no_step m c at b c2 b2 core bus none =
 pub ran_both : (way : Way) (all some : ℕ) (c : CoreState) (at : Place) (b : BusState) (c1 : CoreState) (at1 : Place) (b1 : BusState) (p : Places) (first : ℕ) (h : Here) (rest : ℕ) (c2 : CoreState) (at2 : Place) (b2 : BusState)
     → some ≤ all → LeadsOn (all - some) c at b c1 at1 b1 → Ran way some c1 at1 b1 p first h rest c2 at2 b2 → Ran way all c at b p first h rest c2 at2 b2
 ran_both On all some c at b c1 at1 b1 p first h rest c2 at2 b2 within leads ran =
-    (omega (arith, within, ran.0), leads_both (all - some) (some - left_here p h rest) (all - left_here p h rest) c at b c1 at1 b1 c2 (position_here p first h) b2 leads ran.1 (omega (arith, within, ran.0)))
+    (omega (arith, within, ran.0), leads_both (all - some) (some - left_here p h rest) (all - left_here p h rest) c at b c1 at1 b1 c2 (position_here first h) b2 leads ran.1 (omega (arith, within, ran.0)))
 ran_both Out all some c at b c1 at1 b1 p first h rest c2 at2 b2 within leads ran =
-    (omega (arith, within, ran.0), leads_both (all - some) (some - rest) (all - rest) c at b c1 at1 b1 c2 (position_here p first h) b2 leads ran.1 (omega (arith, within, ran.0)))
+    (omega (arith, within, ran.0), leads_both (all - some) (some - rest) (all - rest) c at b c1 at1 b1 c2 (position_here first h) b2 leads ran.1 (omega (arith, within, ran.0)))
 ran_both Leaves all some c at b c1 at1 b1 p first h rest c2 at2 b2 within leads ran =
-    (omega (arith, within, ran.0), leads_both (all - some) (some - word (left_here p h rest)) (all - word (left_here p h rest)) c at b c1 at1 b1 c2 (position_here p first h) b2 leads ran.1 (omega (arith, within, ran.0)))
+    (omega (arith, within, ran.0), leads_both (all - some) (some - word (left_here p h rest)) (all - word (left_here p h rest)) c at b c1 at1 b1 c2 (position_here first h) b2 leads ran.1 (omega (arith, within, ran.0)))
 ran_both Calls all some c at b c1 at1 b1 p first h rest c2 at2 b2 within leads ran =
-    (omega (arith, within, ran.0), leads_both (all - some) (some - rest) (all - rest) c at b c1 at1 b1 c2 (position_here p first h) b2 leads ran.1 (omega (arith, within, ran.0)), ran.2)
+    (omega (arith, within, ran.0), leads_both (all - some) (some - rest) (all - rest) c at b c1 at1 b1 c2 (position_here first h) b2 leads ran.1 (omega (arith, within, ran.0)), ran.2)
 ran_both Away all some c at b c1 at1 b1 p first h rest c2 at2 b2 within leads ran =
     (omega (arith, within, ran.0), leads_both (all - some) (some - rest) (all - rest) c at b c1 at1 b1 c2 at2 b2 leads ran.1 (omega (arith, within, ran.0)))
 
@@ -137,35 +137,35 @@ ran_both Away all some c at b c1 at1 b1 p first h rest c2 at2 b2 within leads ra
 
 -- the step where a run stands
 step_here : (out : Outcome) (p : Places) (first : ℕ) (h : Here) (c : CoreState) (at : Place) (b : BusState) (c2 : CoreState) (at2 : Place) (b2 : BusState)
-    → at ≡ place_in first h.place → IsFreeHere p h → h.place < 1024 → MovesAt p h.place out c at b c2 at2 b2 → Moves out c (position_here p first h) b c2 at2 b2
+    → at ≡ place_in first h.place → IsFreeHere p h → h.place < 1024 → MovesAt p h.place out c at b c2 at2 b2 → Moves out c (position_here first h) b c2 at2 b2
 step_here out p first h c at b c2 at2 b2 is free inside moves =
-    subst (λ (a : Place). Moves out c (record a { late = late_here p h }) b c2 at2 b2) is (moves (late_here p h) (free inside))
+    subst (λ (a : Place). Moves out c (record a { late = late_here h }) b c2 at2 b2) is (moves (late_here h) (free inside))
 
 -- an operation that neither loads nor branches
 pub turn_done : (p : Places) (first rest : ℕ) (h : Here) (c : CoreState) (to : ℕ) (at : Place) (b : BusState) (c2 : CoreState) (at2 : Place) (b2 : BusState)
     → at ≡ place_in first h.place → StandsIn h → IsFreeHere p h → first < 2 ^ 31
     → length_at p h.place ≡ steps (does_at p h.place) (length_at p (h.place + 1)) → length_at p h.place + h.place ≤ 1024
     → MovesAt p h.place Done c at b c2 at2 b2 → GoesBy (does_at p h.place) Done c to at at2 → StaysCalm c b c2 b2
-    → (h.place < 1024) × (length_at p h.place ≡ 1 + length_at p (h.place + 1)) × (late_here p (record h { place = h.place + 1 }) ≡ None)
-    × Ran On (left_here p h rest) c (position_here p first h) b p first (record h { place = h.place + 1 }) rest c2 at2 b2
+    → (h.place < 1024) × (length_at p h.place ≡ 1 + length_at p (h.place + 1)) × (late_here (record h { place = h.place + 1 }) ≡ None)
+    × Ran On (left_here p h rest) c (position_here first h) b p first (record h { place = h.place + 1 }) rest c2 at2 b2
 turn_done p first rest h c to at b c2 at2 b2 is stands free low length short moves goes stays =
     let d = does_at p h.place in
     let went = goes_done (is_end d) (has_slot d) (is_load d) c to at at2 goes in
     let more : length_at p h.place ≡ 1 + length_at p (h.place + 1) = length ∙ one_more d (length_at p (h.place + 1)) went.0 went.1 in
     let inside : h.place < 1024 = omega (arith, more, short) in
     let h2 : Here = record h { place = h.place + 1 } in
-    let none : late_here p h2 ≡ None = late_none p h2 (λ same.
+    let none : late_here h2 ≡ None = late_none h2 (λ same.
     let far : 1024 < h.late_at = stands.past (omega (arith, same)) in
     omega (arith, same, far, inside)) in
-    let where_ : at2 ≡ position_here p first h2 = went.2 ∙ (ap at_next is ∙ next_position p first h None None low inside none) in
+    let where_ : at2 ≡ position_here first h2 = went.2 ∙ (ap at_next is ∙ next_position first h None None low inside none) in
     let step = step_here Done p first h c at b c2 at2 b2 is free inside moves in (
       inside,
       more,
       none,
       (
         omega (arith, more),
-        subst (λ (a : Place). LeadsOn (left_here p h rest - left_here p h2 rest) c (position_here p first h) b c2 a b2) where_
-            (step_alone (left_here p h rest - left_here p h2 rest) event.Retired c (position_here p first h) b c2 at2 b2 step refl (omega (arith, low, inside)) stays (omega (arith, more))),
+        subst (λ (a : Place). LeadsOn (left_here p h rest - left_here p h2 rest) c (position_here first h) b c2 a b2) where_
+            (step_alone (left_here p h rest - left_here p h2 rest) event.Retired c (position_here first h) b c2 at2 b2 step refl (omega (arith, low, inside)) stays (omega (arith, more))),
       ),
     )
 
@@ -173,50 +173,43 @@ turn_done p first rest h c to at b c2 at2 b2 is stands free low length short mov
 abbrev late_by : ℕ → ℕ → Option Late
 late_by register old = Some (record { register = register; old = old })
 
-old_is : (l : Option Late) (register old n : ℕ) → l ≡ late_by register old → IfSome l (λ x. n ≡ x.old) → n ≡ old
-old_is l register old n is some = subst (λ (m : Option Late). IfSome m (λ x. n ≡ x.old)) is some
-
 free_by : (l : Option Late) (p : Places) (i register old : ℕ) → l ≡ late_by register old → register ≢ (fields_at p i).first → register ≢ (fields_at p i).second → IsFreeOf l p i
 free_by l p i register old is first second = subst (λ (m : Option Late). IsFreeOf m p i) (sym is) (first, second)
 
 -- the load that a run keeps
-late_after : (p : Places) (h : Here) (from register old : ℕ) (l : Option Late) → h.late_at ≡ h.place → h.late_from ≡ from → register ≡ (fields_at p from).to → l ≡ late_by register old → IfSome l (λ x. h.late_old ≡ x.old)
-    → late_here p h ≡ l
-late_after p h from register old l at from_ to is some =
-    late_some p h at
-    ∙ (ap (λ (n : ℕ). late_by (fields_at p n).to h.late_old) from_
-    ∙ (ap (λ (n : ℕ). late_by n h.late_old) (sym to) ∙ (ap (λ (n : ℕ). late_by register n) (old_is l register old h.late_old is some) ∙ sym is)))
+late_after : (h : Here) (register old : ℕ) (l : Option Late) → h.late_at ≡ h.place → l ≡ late_by register old → IfSome l (λ x. h.late ≡ x) → late_here h ≡ l
+late_after h register old l at is some = late_some h at ∙ (ap Some (subst (λ (m : Option Late). IfSome m (λ x. h.late ≡ x)) is some) ∙ sym is)
 
 -- a load
 pub turn_loaded : (p : Places) (first rest : ℕ) (h h2 : Here) (c : CoreState) (at : Place) (b : BusState) (c2 : CoreState) (at2 : Place) (b2 : BusState)
     → at ≡ place_in first h.place → IsFreeHere p h → first < 2 ^ 31
     → length_at p h.place ≡ steps (does_at p h.place) (length_at p (h.place + 1)) → length_at p h.place + h.place ≤ 1024
     → MovesAt p h.place Loaded c at b c2 at2 b2 → GoesBy (does_at p h.place) Loaded c (fields_at p h.place).to at at2 → StaysCalm c b c2 b2
-    → h2.place ≡ h.place + 1 → h2.late_at ≡ h.place + 1 → h2.late_from ≡ h.place → IfSome at2.late (λ l. h2.late_old ≡ l.old)
+    → h2.place ≡ h.place + 1 → h2.late_at ≡ h.place + 1 → IfSome at2.late (λ l. h2.late ≡ l)
     → (is_load (does_at p h.place) ≡ true → IsFreeAt p h.place)
     → (h.place < 1024) × (length_at p h.place ≡ 1 + length_at p (h.place + 1)) × IsFreeHere p h2
-    × Ran On (left_here p h rest) c (position_here p first h) b p first h2 rest c2 at2 b2
-turn_loaded p first rest h h2 c at b c2 at2 b2 is free low length short moves goes stays place late from old reads =
+    × Ran On (left_here p h rest) c (position_here first h) b p first h2 rest c2 at2 b2
+turn_loaded p first rest h h2 c at b c2 at2 b2 is free low length short moves goes stays place late load reads =
     let d = does_at p h.place in
     let went = goes_loaded (is_end d) (has_slot d) (is_load d) c (fields_at p h.place).to at at2 goes in
     let more : length_at p h.place ≡ 1 + length_at p (h.place + 1) = length ∙ one_more d (length_at p (h.place + 1)) went.0 went.1 in
     let inside : h.place < 1024 = omega (arith, more, short) in
     let held : ℕ = slice_index c.registers.general (fields_at p h.place).to in
     let loads : at2.late ≡ late_by (fields_at p h.place).to held = ap (λ (a : Place). a.late) went.3 in
-    let kept : late_here p h2 ≡ at2.late = late_after p h2 h.place (fields_at p h.place).to held at2.late (late ∙ sym place) from refl loads old in
+    let kept : late_here h2 ≡ at2.late = late_after h2 (fields_at p h.place).to held at2.late (late ∙ sym place) loads load in
     let next : at2 ≡ record (at_next (place_in first h.place)) { late = at2.late } = went.3 ∙ (ap (at_load c (fields_at p h.place).to) is ∙ ap (λ (l : Option Late). record (at_next (place_in first h.place)) { late = l }) (sym loads)) in
-    let where_ : at2 ≡ position_here p first h2 = next
-    ∙ same_place (first + 4 * h.place + 4) (word (first + 4 * h.place + 4 + 4)) (first + 4 * h2.place) (first + 4 * h2.place + 4) false at2.late (late_here p h2) (omega (arith, place)) (omega (arith, low, inside, place)) (sym kept) in
+    let where_ : at2 ≡ position_here first h2 = next
+    ∙ same_place (first + 4 * h.place + 4) (word (first + 4 * h.place + 4 + 4)) (first + 4 * h2.place) (first + 4 * h2.place + 4) false at2.late (late_here h2) (omega (arith, place)) (omega (arith, low, inside, place)) (sym kept) in
     let step = step_here Loaded p first h c at b c2 at2 b2 is free inside moves in
     let shorter : length_at p h2.place ≡ length_at p (h.place + 1) = ap (length_at p) place in (
       inside,
       more,
-      λ small. subst (λ (n : ℕ). IsFreeOf (late_here p h2) p n) (sym place)
-          (free_by (late_here p h2) p (h.place + 1) (fields_at p h.place).to held (kept ∙ loads) (reads went.2).0 (reads went.2).1),
+      λ small. subst (λ (n : ℕ). IsFreeOf (late_here h2) p n) (sym place)
+          (free_by (late_here h2) p (h.place + 1) (fields_at p h.place).to held (kept ∙ loads) (reads went.2).0 (reads went.2).1),
       (
         omega (arith, more, shorter),
-        subst (λ (a : Place). LeadsOn (left_here p h rest - left_here p h2 rest) c (position_here p first h) b c2 a b2) where_
-            (step_alone (left_here p h rest - left_here p h2 rest) event.Retired c (position_here p first h) b c2 at2 b2 step refl (omega (arith, low, inside)) stays (omega (arith, more, shorter))),
+        subst (λ (a : Place). LeadsOn (left_here p h rest - left_here p h2 rest) c (position_here first h) b c2 a b2) where_
+            (step_alone (left_here p h rest - left_here p h2 rest) event.Retired c (position_here first h) b c2 at2 b2 step refl (omega (arith, low, inside)) stays (omega (arith, more, shorter))),
       ),
     )
 
@@ -226,7 +219,7 @@ pub turn_branched : (p : Places) (first rest : ℕ) (h : Here) (c : CoreState) (
     → length_at p h.place ≡ steps (does_at p h.place) (length_at p (h.place + 1)) → length_at p h.place + h.place ≤ 1024
     → MovesAt p h.place Branched c at b c2 at2 b2 → GoesBy (does_at p h.place) Branched c to at at2 → StaysCalm c b c2 b2
     → (h.place < 1023) × (length_at p h.place ≡ 2) × (at2 ≡ slot_in (first + 4 * (h.place + 1)) at2.next)
-    × LeadsOn (left_here p h rest - (rest + 1)) c (position_here p first h) b c2 at2 b2
+    × LeadsOn (left_here p h rest - (rest + 1)) c (position_here first h) b c2 at2 b2
 turn_branched p first rest h c to at b c2 at2 b2 is free low length short moves goes stays =
     let d = does_at p h.place in
     let went = goes_branched (is_end d) (has_slot d) (is_load d) c to at at2 goes in
@@ -236,7 +229,7 @@ turn_branched p first rest h c to at b c2 at2 b2 is free low length short moves 
       inside,
       two,
       went.3 ∙ (ap (λ (a : Place). at_slot a at2.next) is ∙ same_pc (first + 4 * h.place + 4) (first + 4 * (h.place + 1)) at2.next (omega arith)),
-      step_alone (left_here p h rest - (rest + 1)) event.Branched c (position_here p first h) b c2 at2 b2 step refl (omega (arith, low, inside)) stays (omega (arith, two)),
+      step_alone (left_here p h rest - (rest + 1)) event.Branched c (position_here first h) b c2 at2 b2 step refl (omega (arith, low, inside)) stays (omega (arith, two)),
     )
   where
     same_pc : (a b target : ℕ) → a ≡ b → slot_in a target ≡ slot_in b target
@@ -247,34 +240,34 @@ pub turn_called : (p : Places) (first rest : ℕ) (h : Here) (c : CoreState) (to
     → at ≡ place_in first h.place → IsFreeHere p h → h.place < 1024
     → length_at p h.place ≡ steps (does_at p h.place) (length_at p (h.place + 1))
     → MovesAt p h.place Called c at b c2 at2 b2 → GoesBy (does_at p h.place) Called c to at at2
-    → Ran Calls (left_here p h rest) c (position_here p first h) b p first h rest c2 at2 b2
+    → Ran Calls (left_here p h rest) c (position_here first h) b p first h rest c2 at2 b2
 turn_called p first rest h c to at b c2 at2 b2 is free inside length moves goes =
     let d = does_at p h.place in
     let none : length_at p h.place ≡ 0 = length ∙ at_end d (length_at p (h.place + 1)) (goes_called (is_end d) (has_slot d) (is_load d) c to at at2 goes) in
     let step = step_here Called p first h c at b c2 at2 b2 is free inside moves in (
       omega arith,
-      no_step (left_here p h rest - rest) c (position_here p first h) b c2 b2 step.0 step.1 (omega (arith, none)),
-      subst (λ (x : CoreState). IsCalled x (position_here p first h) b2) (sym step.0) (subst (λ (y : BusState). IsCalled c (position_here p first h) y) (sym step.1) step.2),
+      no_step (left_here p h rest - rest) c (position_here first h) b c2 b2 step.0 step.1 (omega (arith, none)),
+      subst (λ (x : CoreState). IsCalled x (position_here first h) b2) (sym step.0) (subst (λ (y : BusState). IsCalled c (position_here first h) y) (sym step.1) step.2),
     )
 
 -- what is left
 pub turn_left : (p : Places) (first rest : ℕ) (h : Here) (c : CoreState) (at : Place) (b : BusState) (c2 : CoreState) (at2 : Place) (b2 : BusState)
     → left_here p h rest < 2 ^ 32 → MovesAt p h.place Left c at b c2 at2 b2
-    → Ran Leaves (left_here p h rest) c (position_here p first h) b p first h rest c2 at2 b2
+    → Ran Leaves (left_here p h rest) c (position_here first h) b p first h rest c2 at2 b2
 turn_left p first rest h c at b c2 at2 b2 fits moves =
     let same = moves None (tt, tt) in
-    (omega (arith, fits), no_step (left_here p h rest - word (left_here p h rest)) c (position_here p first h) b c2 b2 same.0 same.1 (omega (arith, fits)))
+    (omega (arith, fits), no_step (left_here p h rest - word (left_here p h rest)) c (position_here first h) b c2 b2 same.0 same.1 (omega (arith, fits)))
 
 -- an operation without a slot that is not done is left
 pub turn_not_done : (out : Outcome) (p : Places) (first rest : ℕ) (h : Here) (c : CoreState) (to : ℕ) (at : Place) (b : BusState) (c2 : CoreState) (at2 : Place) (b2 : BusState)
     → left_here p h rest < 2 ^ 32 → has_slot (does_at p h.place) ≡ false → out ≢ Done → out ≢ Loaded
     → MovesAt p h.place out c at b c2 at2 b2 → GoesBy (does_at p h.place) out c to at at2
-    → Ran Leaves (left_here p h rest) c (position_here p first h) b p first h rest c2 at2 b2
+    → Ran Leaves (left_here p h rest) c (position_here first h) b p first h rest c2 at2 b2
 turn_not_done Done p first rest h c to at b c2 at2 b2 fits straight one two moves goes = absurd (one refl)
 turn_not_done Loaded p first rest h c to at b c2 at2 b2 fits straight one two moves goes = absurd (two refl)
 turn_not_done Called p first rest h c to at b c2 at2 b2 fits straight one two moves goes =
     let same = moves None (tt, tt) in
-    (omega (arith, fits), no_step (left_here p h rest - word (left_here p h rest)) c (position_here p first h) b c2 b2 same.0 same.1 (omega (arith, fits)))
+    (omega (arith, fits), no_step (left_here p h rest - word (left_here p h rest)) c (position_here first h) b c2 b2 same.0 same.1 (omega (arith, fits)))
 turn_not_done Branched p first rest h c to at b c2 at2 b2 fits straight one two moves goes =
     let d = does_at p h.place in
     let went = goes_branched (is_end d) (has_slot d) (is_load d) c to at at2 goes in
@@ -392,12 +385,12 @@ steps_left _ p h rest = 0
 
 -- where a run begins
 pub ran_first : (p : Places) (first start left rest : ℕ) (c : CoreState) (at : Place) (b : BusState) (h : Here)
-    → start < 1024 → at ≡ place_in first start → h ≡ record { place = start; late_at = 2000; late_from = 0; late_old = 0 } → rest + length_at p start ≡ left
+    → start < 1024 → at ≡ place_in first start → h ≡ record { place = start; late_at = 2000; late = record { register = 1; old = 0 } } → rest + length_at p start ≡ left
     → Ran On left c at b p first h rest c at b
 ran_first p first start left rest c at b h inside is here whole =
-    let begins : Here = record { place = start; late_at = 2000; late_from = 0; late_old = 0 } in
-    let none : late_here p begins ≡ None = late_none p begins (λ same. omega (arith, same, inside)) in
-    let where_ : at ≡ position_here p first begins = is ∙ ap (λ (l : Option Late). record (place_in first start) { late = l }) (sym none) in
+    let begins : Here = record { place = start; late_at = 2000; late = record { register = 1; old = 0 } } in
+    let none : late_here begins ≡ None = late_none begins (λ same. omega (arith, same, inside)) in
+    let where_ : at ≡ position_here first begins = is ∙ ap (λ (l : Option Late). record (place_in first start) { late = l }) (sym none) in
     let ran : Ran On left c at b p first begins rest c at b = (omega (arith, whole), subst (λ (a : Place). LeadsOn (left - left_here p begins rest) c at b c a b) where_ (leads_nowhere (left - left_here p begins rest) c at b (omega (arith, whole)))) in
     subst (λ (x : Here). Ran On left c at b p first x rest c at b) (sym here) ran
 

@@ -26,26 +26,27 @@ abbrev pub place_in : ℕ → ℕ → Place
 place_in first i = record { pc = first + 4 * i; next = first + 4 * i + 4; slot = false; late = None }
 
 -- the load that is late where a run stands
-abbrev pub late_here : Places → Here → Option Late
-late_here p h = if h.late_at == h.place then Some (record { register = (fields_at p h.late_from).to; old = h.late_old }) else None
+abbrev pub late_here : Here → Option Late
+late_here h = if h.late_at == h.place then Some h.late else None
 
 -- the position where a run stands
-abbrev pub position_here : Places → ℕ → Here → Place
-position_here p first h = record (place_in first h.place) { late = late_here p h }
+abbrev pub position_here : ℕ → Here → Place
+position_here first h = record (place_in first h.place) { late = late_here h }
 
 -- the operation at place i reads no register whose load is late
 abbrev pub IsFreeOf : Option Late → Places → ℕ → Type 0
 IsFreeOf late p i = IsFree late (fields_at p i).first × IsFree late (fields_at p i).second
 
--- a run stands at a place of its page, or after the last; its last load was at one
+-- a run stands at a place of its page, or after the last; its last load was of a register from 1 to 31, and was late at no place of the page that comes after it
 pub record StandsIn (h : Here) : Type 0 where
   pub inside : h.place ≤ 1024
-  pub from : h.late_from < 1024
+  pub some : 0 < h.late.register
+  pub few : h.late.register < 32
   pub past : h.place < h.late_at → 1024 < h.late_at
 
 -- its next operation reads no register whose load is late
 abbrev pub IsFreeHere : Places → Here → Type 0
-IsFreeHere p h = h.place < 1024 → IsFreeOf (late_here p h) p h.place
+IsFreeHere p h = h.place < 1024 → IsFreeOf (late_here h) p h.place
 
 -- in the slot at pc, after which the program goes on at the target
 abbrev pub slot_in : ℕ → ℕ → Place
@@ -73,10 +74,10 @@ left_here p h rest = rest + length_at p h.place
 
 -- a run that had so many steps left came from a position to where it stands, and is to go on, or out from there, where the block may not fit, or is left or calls there, or has left the page
 abbrev pub Ran : Way → ℕ → CoreState → Place → BusState → Places → ℕ → Here → ℕ → CoreState → Place → BusState → Type 0
-Ran On all c at b p first h rest c2 at2 b2 = (left_here p h rest ≤ all) × LeadsOn (all - left_here p h rest) c at b c2 (position_here p first h) b2
-Ran Out all c at b p first h rest c2 at2 b2 = (rest ≤ all) × LeadsOn (all - rest) c at b c2 (position_here p first h) b2
-Ran Leaves all c at b p first h rest c2 at2 b2 = (word (left_here p h rest) ≤ all) × LeadsOn (all - word (left_here p h rest)) c at b c2 (position_here p first h) b2
-Ran Calls all c at b p first h rest c2 at2 b2 = (rest ≤ all) × LeadsOn (all - rest) c at b c2 (position_here p first h) b2 × IsCalled c2 (position_here p first h) b2
+Ran On all c at b p first h rest c2 at2 b2 = (left_here p h rest ≤ all) × LeadsOn (all - left_here p h rest) c at b c2 (position_here first h) b2
+Ran Out all c at b p first h rest c2 at2 b2 = (rest ≤ all) × LeadsOn (all - rest) c at b c2 (position_here first h) b2
+Ran Leaves all c at b p first h rest c2 at2 b2 = (word (left_here p h rest) ≤ all) × LeadsOn (all - word (left_here p h rest)) c at b c2 (position_here first h) b2
+Ran Calls all c at b p first h rest c2 at2 b2 = (rest ≤ all) × LeadsOn (all - rest) c at b c2 (position_here first h) b2 × IsCalled c2 (position_here first h) b2
 Ran Away all c at b p first h rest c2 at2 b2 = (rest ≤ all) × LeadsOn (all - rest) c at b c2 at2 b2
 
 -- what comes next, if that is so
@@ -86,10 +87,10 @@ next_by next false = Any
 
 -- how a run comes out: where it stands or went away to, with what is left, and what comes next
 abbrev pub ComesOut : Way → Places → ℕ → Here → ℕ → Place → Place → ℕ → Next → Type 0
-ComesOut On p first h rest at at2 left next = (at2 ≡ position_here p first h) × (left ≡ word (left_here p h rest)) × (next ≡ Any)
-ComesOut Out p first h rest at at2 left next = (at2 ≡ position_here p first h) × (left ≡ rest) × (next ≡ Any)
-ComesOut Leaves p first h rest at at2 left next = (at2 ≡ position_here p first h) × (left ≡ word (left_here p h rest)) × (next ≡ next_by Plain (is_known (does_at p h.place) && nat_lt 0 left))
-ComesOut Calls p first h rest at at2 left next = (at2 ≡ position_here p first h) × (left ≡ rest) × (next ≡ next_by Call (nat_lt 0 rest))
+ComesOut On p first h rest at at2 left next = (at2 ≡ position_here first h) × (left ≡ word (left_here p h rest)) × (next ≡ Any)
+ComesOut Out p first h rest at at2 left next = (at2 ≡ position_here first h) × (left ≡ rest) × (next ≡ Any)
+ComesOut Leaves p first h rest at at2 left next = (at2 ≡ position_here first h) × (left ≡ word (left_here p h rest)) × (next ≡ next_by Plain (is_known (does_at p h.place) && nat_lt 0 left))
+ComesOut Calls p first h rest at at2 left next = (at2 ≡ position_here first h) × (left ≡ rest) × (next ≡ next_by Call (nat_lt 0 rest))
 ComesOut Away p first h rest at at2 left next = (at2 ≡ at) × (left ≡ rest) × (next ≡ Any)
 
 -- a block of so many steps is begun, or not where it doesn't fit
@@ -100,8 +101,8 @@ Begins _ length rest rest2 = ⊥
 
 -- a run goes on where a slot led to, or not where the block doesn't fit; or that is in no place of its page
 abbrev pub Lands : Way → Places → ℕ → Place → Here → ℕ → ℕ → Type 0
-Lands On p first at h rest rest2 = (at ≡ position_here p first h) × (left_here p h rest2 ≡ rest) × IsFreeHere p h
-Lands Out p first at h rest rest2 = (at ≡ position_here p first h) × (rest2 ≡ rest)
+Lands On p first at h rest rest2 = (at ≡ position_here first h) × (left_here p h rest2 ≡ rest) × IsFreeHere p h
+Lands Out p first at h rest rest2 = (at ≡ position_here first h) × (rest2 ≡ rest)
 Lands Leaves p first at h rest rest2 = ⊥
 Lands Calls p first at h rest rest2 = ⊥
 Lands Away p first at h rest rest2 = rest2 ≡ rest

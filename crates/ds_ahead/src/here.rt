@@ -4,23 +4,25 @@ ghost use Rattle.ds_ahead.specs.Run.{place_in, position_here, StandsIn};
 
 use crate::position::Position;
 use ds_isa::Late;
-use ds_pages::Page;
 
 /// A place that no page has.
 pub(crate) const NOWHERE: usize = 2000;
 
-/// Where a run stands. Of the last load that was late the register is not kept: it is that of the
-/// operation at its place.
+/// A load that is late nowhere.
+const NO_LOAD: Late = Late {
+    register: 1,
+    old: 0,
+};
+
+/// Where a run stands.
 #[derive(Clone, Copy)]
 pub(crate) struct Here {
     /// The place of the next operation, or the one after the last.
     pub place: usize,
-    /// The place of the operation before which the load was late.
+    /// The place of the operation before which the last load was late.
     pub late_at: usize,
-    /// The place of the load.
-    pub late_from: usize,
-    /// What its register held before.
-    pub late_old: u32,
+    /// That load.
+    pub late: Late,
 }
 
 /// How a run goes on.
@@ -65,14 +67,16 @@ pub(crate) fn place(first: u32, i: usize) -> Position
     }
 }
 
-/// What the register held whose load is late, if one is.
+/// The load that is late, if one is.
 #[inline(always)]
-fn late_old(at: &Position) -> u32
-    ensures { IfSome at.now.late (λ late. result ≡ late.old) }
+fn late_load(at: &Position) -> Late
+    ensures late { IfSome at.now.late (λ late. result ≡ late) }
+    ensures some { 0 < result.register }
+    ensures few { result.register < 32 }
 {
     match at.late {
-        Some(late) => late.old,
-        None => 0,
+        Some(late) => late,
+        None => NO_LOAD,
     }
 }
 
@@ -80,13 +84,16 @@ impl Here {
     /// At a place where no load is late.
     #[inline(always)]
     pub(crate) fn at(place: usize) -> Here
-        ensures { result ≡ record { place = place; late_at = 2000; late_from = 0; late_old = 0 } }
+        ensures { result ≡ record {
+          place = place;
+          late_at = 2000;
+          late = record { register = 1; old = 0 };
+        } }
     {
         Here {
             place,
             late_at: NOWHERE,
-            late_from: 0,
-            late_old: 0,
+            late: NO_LOAD,
         }
     }
 
@@ -108,34 +115,30 @@ impl Here {
         self.place += 1;
     }
 
-    /// On to a place after the load at another, as which it stands at `at`.
+    /// On to a place after the load that is late at `at`.
     #[inline(always)]
-    pub(crate) fn go_after_load(&mut self, from: usize, place: usize, at: &Position)
+    pub(crate) fn go_after_load(&mut self, place: usize, at: &Position)
         ensures place { self.new.place ≡ place }
-        ensures late { self.new.late_at ≡ place }
-        ensures from { self.new.late_from ≡ from }
-        ensures old { IfSome at.now.late (λ late. self.new.late_old ≡ late.old) }
+        ensures at { self.new.late_at ≡ place }
+        ensures late { IfSome at.now.late (λ late. self.new.late ≡ late) }
+        ensures some { 0 < self.new.late.register }
+        ensures few { self.new.late.register < 32 }
     {
         self.place = place;
         self.late_at = place;
-        self.late_from = from;
-        self.late_old = late_old(at);
+        self.late = late_load(at);
     }
 
     /// The position where the run stands.
     #[inline(always)]
-    pub(crate) fn position(&self, page: &Page, first: u32) -> Position
+    pub(crate) fn position(&self, first: u32) -> Position
         requires low { first < 2 ^ 31 }
         requires stands { StandsIn self.now }
-        ensures { result ≡ position_here page.now.places first self.now }
+        ensures { result ≡ position_here first self.now }
     {
         let mut at = place(first, self.place);
         if self.late_at == self.place {
-            let load = page.slot(self.late_from, page.kind(self.late_from));
-            at.late = Some(Late {
-                register: load.to.number(),
-                old: self.late_old,
-            });
+            at.late = Some(self.late);
         }
         at
     }

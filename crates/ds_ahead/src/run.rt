@@ -175,12 +175,9 @@ fn place_of(first: u32, target: u32) -> usize
     requires { first < 2 ^ 31 }
     ensures { result ≤ 1024 → target ≡ first + 4 * result }
 {
+    // An offset between words comes out far beyond the page.
     let offset = wrapping_difference(target, first);
-    if offset % 4 == 0 {
-        offset as usize / 4
-    } else {
-        NOWHERE
-    }
+    (offset / 4 + offset % 4 * 0x4000_0000) as usize
 }
 
 /// Does the operation at a place of the page, which is of this kind; or says why not, and changes
@@ -311,7 +308,7 @@ fn land_after_load(
     if to > 1024 {
         return Way::Away;
     }
-    here.go_after_load(here.place + 1, to, at);
+    here.go_after_load(to, at);
     begin_after_load(page, to, at, rest)
 }
 
@@ -452,7 +449,7 @@ fn come_out(
         *left = rest;
         return Next::Any;
     }
-    *at = here.position(page, first);
+    *at = here.position(first);
     *left = match way {
         Way::On | Way::Leaves => rest.wrapping_add(page.length(here.place)),
         _ => rest,

@@ -63,7 +63,7 @@ fn plain<L: Lookaside, K: Execute>(
     requires decoded { is_known (single (K.kind kind)) ≡ true }
     requires straight { has_slot (single (K.kind kind)) ≡ false }
     ensures ran { Ran result (left_here page.now.places here.old rest.old) core.old
-        (position_here page.now.places first here.old) bus.old page.now.places first
+        (position_here first here.old) bus.old page.now.places first
         here.new rest.new core.new at.new bus.new }
     ensures fewer { result ≡ Way.On → left_here page.now.places here.new rest.new
         < left_here page.now.places here.old rest.old }
@@ -84,7 +84,7 @@ fn plain<L: Lookaside, K: Execute>(
             Way::On
         }
         Outcome::Loaded => {
-            here.go_after_load(i, i + 1, at);
+            here.go_after_load(i + 1, at);
             Way::On
         }
         _ => Way::Leaves,
@@ -121,7 +121,7 @@ fn two<L: Lookaside, A: Execute, B: Execute>(
     requires decoded { is_known (single (A.kind kinds.0)) ≡ true }
     requires decoded_next { is_known (single (B.kind kinds.1)) ≡ true }
     ensures ran { Ran result (left_here page.now.places here.old rest.old) core.old
-        (position_here page.now.places first here.old) bus.old page.now.places first
+        (position_here first here.old) bus.old page.now.places first
         here.new rest.new core.new at.new bus.new }
     ensures fewer { result ≡ Way.On → left_here page.now.places here.new rest.new
         < left_here page.now.places here.old rest.old }
@@ -160,7 +160,7 @@ fn one<L: Lookaside, K: Execute>(
     requires single { does_at page.now.places here.old.place ≡ single (K.kind kind) }
     requires some { K.kind kind ≢ OperationKind.Other }
     ensures ran { Ran result (left_here page.now.places here.old rest.old) core.old
-        (position_here page.now.places first here.old) bus.old page.now.places first
+        (position_here first here.old) bus.old page.now.places first
         here.new rest.new core.new at.new bus.new }
     ensures fewer { result ≡ Way.On → left_here page.now.places here.new rest.new
         < left_here page.now.places here.old rest.old }
@@ -180,7 +180,7 @@ fn one<L: Lookaside, K: Execute>(
             Way::On
         }
         Outcome::Loaded => {
-            here.go_after_load(i, i + 1, at);
+            here.go_after_load(i + 1, at);
             Way::On
         }
         Outcome::Branched => through_any_slot(core, page, code, first, to, here, rest, at, bus),
@@ -218,7 +218,7 @@ fn with_slot<L: Lookaside, A: Execute, B: Execute>(
     requires slot { has_slot (single (A.kind kinds.0)) ≡ true }
     requires on { is_end (single (A.kind kinds.0)) ≡ false }
     ensures ran { Ran result (left_here page.now.places here.old rest.old) core.old
-        (position_here page.now.places first here.old) bus.old page.now.places first
+        (position_here first here.old) bus.old page.now.places first
         here.new rest.new core.new at.new bus.new }
     ensures fewer { result ≡ Way.On → left_here page.now.places here.new rest.new
         < left_here page.now.places here.old rest.old }
@@ -263,7 +263,7 @@ pub(crate) fn turn<L: Lookaside>(
     requires calm { is_pending core.old.system (lines bus.old).0 (lines bus.old).1 ≡ false }
     requires holds { HoldsWords page.now bus.old.memory code.now.base }
     ensures ran { Ran result (left_here page.now.places here.old rest.old) core.old
-        (position_here page.now.places first here.old) bus.old page.now.places first
+        (position_here first here.old) bus.old page.now.places first
         here.new rest.new core.new at.new bus.new }
     ensures fewer { result ≡ Way.On → left_here page.now.places here.new rest.new
         < left_here page.now.places here.old rest.old }

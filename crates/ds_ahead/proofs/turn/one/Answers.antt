@@ -22,7 +22,7 @@ returns-in-Done-clause-ran g c =
     let turn = turn_done p c.args.first c.args.rest.now h c.args.core.now (fields_at p h.place).to at c.args.bus.now c.do_at.new.core c.do_at.new.at c.do_at.new.bus
     is c.requires.stands c.requires.free c.requires.low (sym c.length-length.ensures.value ∙ c.length-length.ensures.steps) (omega (arith, c.length-length.ensures.value, c.length-length.ensures.within))
     moves goes c.do_at.ensures.calm in
-    subst (λ (x : Here). Ran On (left_here p h c.args.rest.now) c.args.core.now (position_here p c.args.first h) c.args.bus.now p c.args.first x c.args.rest.now c.do_at.new.core c.do_at.new.at c.do_at.new.bus) (sym c.go_on.ensures) turn.3
+    subst (λ (x : Here). Ran On (left_here p h c.args.rest.now) c.args.core.now (position_here c.args.first h) c.args.bus.now p c.args.first x c.args.rest.now c.do_at.new.core c.do_at.new.at c.do_at.new.bus) (sym c.go_on.ensures) turn.3
 
 pub returns-in-Loaded-clause-ran : goal.returns-in-Loaded-clause-ran
 returns-in-Loaded-clause-ran g c =
@@ -34,7 +34,7 @@ returns-in-Loaded-clause-ran g c =
     let goes = subst (λ (o : Outcome). GoesBy (does_at p h.place) o c.args.core.now (fields_at p h.place).to at c.do_at.new.at) c.in-Loaded.is c.do_at.ensures.goes in
     (turn_loaded p c.args.first c.args.rest.now h c.go_after_load.new.self c.args.core.now at c.args.bus.now c.do_at.new.core c.do_at.new.at c.do_at.new.bus
     is c.requires.free c.requires.low (sym c.length-length.ensures.value ∙ c.length-length.ensures.steps) (omega (arith, c.length-length.ensures.value, c.length-length.ensures.within))
-    moves goes c.do_at.ensures.calm c.go_after_load.ensures.place c.go_after_load.ensures.late c.go_after_load.ensures.from c.go_after_load.ensures.old
+    moves goes c.do_at.ensures.calm c.go_after_load.ensures.place c.go_after_load.ensures.at c.go_after_load.ensures.late
     (λ load. c.does-does.ensures.free (subst (λ d. is_load d ≡ true) (sym c.does-does.ensures.value) load))).3
 
 pub returns-in-Branched-clause-ran : goal.returns-in-Branched-clause-ran
@@ -48,7 +48,7 @@ returns-in-Branched-clause-ran g c =
     let turn = turn_branched p c.args.first c.args.rest.now h c.args.core.now (fields_at p h.place).to at c.args.bus.now c.do_at.new.core c.do_at.new.at c.do_at.new.bus
     is c.requires.free c.requires.low (sym c.length-length.ensures.value ∙ c.length-length.ensures.steps) (omega (arith, c.length-length.ensures.value, c.length-length.ensures.within))
     moves goes c.do_at.ensures.calm in
-    ran_both c.through_any_slot.result (left_here p h c.args.rest.now) (c.args.rest.now + 1) c.args.core.now (position_here p c.args.first h) c.args.bus.now c.do_at.new.core c.do_at.new.at c.do_at.new.bus
+    ran_both c.through_any_slot.result (left_here p h c.args.rest.now) (c.args.rest.now + 1) c.args.core.now (position_here c.args.first h) c.args.bus.now c.do_at.new.core c.do_at.new.at c.do_at.new.bus
     p c.args.first c.through_any_slot.new.here c.through_any_slot.new.rest c.through_any_slot.new.core c.through_any_slot.new.at c.through_any_slot.new.bus
     (omega (arith, turn.1)) turn.3 c.through_any_slot.ensures.ran
 

@@ -18,6 +18,6 @@ returns-in-Branched-clause-ran g c =
     let turn = turn_branched p c.args.first c.args.rest.now h c.args.core.now (fields_at p h.place).to at c.args.bus.now c.do_at.new.core c.do_at.new.at c.do_at.new.bus
     is c.requires.free c.requires.low (sym c.length-length.ensures.value ∙ c.length-length.ensures.steps) (omega (arith, c.length-length.ensures.value, c.length-length.ensures.within))
     moves goes c.do_at.ensures.calm in
-    ran_both c.through_slot.result (left_here p h c.args.rest.now) (c.args.rest.now + 1) c.args.core.now (position_here p c.args.first h) c.args.bus.now c.do_at.new.core c.do_at.new.at c.do_at.new.bus
+    ran_both c.through_slot.result (left_here p h c.args.rest.now) (c.args.rest.now + 1) c.args.core.now (position_here c.args.first h) c.args.bus.now c.do_at.new.core c.do_at.new.at c.do_at.new.bus
     p c.args.first c.through_slot.new.here c.through_slot.new.rest c.through_slot.new.core c.through_slot.new.at c.through_slot.new.bus
     (omega (arith, turn.1)) turn.3 c.through_slot.ensures.ran
