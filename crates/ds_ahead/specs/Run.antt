@@ -1,5 +1,5 @@
 -- A run through a page in hand.
-use Rattle.std.specs.Prelude.{◌≡◌, ◌≢◌, ℕ, ◌+◌, ◌-◌, ◌*◌, ◌<◌, ◌≤◌, ◌==◌, if◌then◌else◌, Bool, ◌&&◌, true, false, nat_lt, Option, None, Some}
+use Rattle.std.specs.Prelude.{◌≡◌, ◌≢◌, ℕ, ◌+◌, ◌-◌, ◌*◌, ◌^◌, ◌<◌, ◌≤◌, ◌==◌, if◌then◌else◌, Bool, ◌&&◌, true, false, nat_lt, Option, None, Some}
 use Rattle.ds_word.specs.Word.{word}
 use Rattle.ds_isa.specs.declared.instr.Late.{Late}
 use Rattle.ds_pages.specs.declared.places.Places.{Places}
@@ -8,11 +8,15 @@ use Rattle.ds_operations.specs.declared.operation.OperationKind.TheVariants as k
 use Rattle.ds_pages.specs.declared.does.Does.{Does}
 use Rattle.ds_pages.specs.Does.{single, is_known}
 use Rattle.ds_pages.specs.Places.{does_at, fields_at, length_at}
-use Rattle.ds_dev.specs.Bus.{BusState}
+use Rattle.ds_pages.specs.Page.{PageState, HoldsWords}
+use Rattle.ds_cp0.specs.System.{asid_of, is_pending}
+use Rattle.ds_dev.specs.Bus.{BusState, lines}
 use Rattle.ds_core.specs.declared.event.Event.TheVariants as event
 use Rattle.ds_core.specs.Core.{CoreState}
 use Rattle.ds_ahead.specs.declared.operations.Outcome.{Outcome}
 use Rattle.ds_ahead.specs.declared.operations.Outcome.TheVariants.{Done, Loaded, Branched, Called, Left}
+use Rattle.ds_ahead.specs.Code.{KnowsPage}
+use Rattle.ds_ahead.specs.declared.code.CodePage.{CodePage}
 use Rattle.ds_ahead.specs.declared.here.Here.{Here}
 use Rattle.ds_ahead.specs.declared.here.Way.{Way}
 use Rattle.ds_ahead.specs.declared.here.Way.TheVariants.{On, Out, Leaves, Calls, Away}
@@ -48,6 +52,20 @@ pub record StandsIn (h : Here) : Type 0 where
 abbrev pub IsFreeHere : Places → Here → Type 0
 IsFreeHere p h = h.place < 1024 → IsFreeOf (late_here h) p h.place
 
+-- the steps that are left where a run stands, when those after its block are rest
+abbrev pub left_here : Places → Here → ℕ → ℕ
+left_here p h rest = rest + length_at p h.place
+
+-- a run may go on where it stands: it goes through a page in hand that has the words of the code, with so many steps left after its block, and no interrupt is to be taken
+pub record MayGo (page : PageState) (code : CodePage) (h : Here) (rest : ℕ) (c : CoreState) (b : BusState) : Type 0 where
+  pub stands : StandsIn h
+  pub free : IsFreeHere page.places h
+  pub fits : left_here page.places h rest < 2 ^ 32
+  pub known : KnowsPage code.vpn code.base c
+  pub space : code.asid ≡ asid_of c.system
+  pub calm : is_pending c.system (lines b).0 (lines b).1 ≡ false
+  pub holds : HoldsWords page b.memory code.base
+
 -- in the slot at pc, after which the program goes on at the target
 abbrev pub slot_in : ℕ → ℕ → Place
 slot_in pc target = record { pc = pc; next = target; slot = true; late = None }
@@ -67,10 +85,6 @@ MovesAt p i out c at b c2 at2 b2 = (late : Option Late) → IsFreeOf late p i �
 -- an operation of a kind is done
 abbrev pub IsAlone : Does → OperationKind → Type 0
 IsAlone d k = (d ≡ single k) × (k ≢ kind.Other)
-
--- the steps that are left where a run stands, when those after its block are rest
-abbrev pub left_here : Places → Here → ℕ → ℕ
-left_here p h rest = rest + length_at p h.place
 
 -- a run that had so many steps left came from a position to where it stands, and is to go on, or out from there, where the block may not fit, or is left or calls there, or has left the page
 abbrev pub Ran : Way → ℕ → CoreState → Place → BusState → Places → ℕ → Here → ℕ → CoreState → Place → BusState → Type 0

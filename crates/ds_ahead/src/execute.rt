@@ -5,9 +5,8 @@ ghost use Rattle.ds_operations.specs.declared.operation.OperationKind.TheVariant
 ghost use Rattle.ds_operations.specs.Does.{does};
 ghost use Rattle.ds_pages.specs.Does.{single};
 ghost use Rattle.ds_cp0.specs.System.{asid_of};
-ghost use Rattle.ds_dev.specs.Bus.{lines};
 ghost use Rattle.ds_ahead.specs.Placed.{registers_at};
-ghost use Rattle.ds_ahead.specs.Operations.{ComesTo};
+ghost use Rattle.ds_ahead.specs.Operations.{ComesTo, StaysCalm};
 ghost use Rattle.ds_ahead.specs.Goes.{GoesBy, KeepsFrame};
 
 use crate::operate::operate;
@@ -53,9 +52,7 @@ pub(crate) trait Execute: Copy {
         ensures comes { ComesTo result
             (does operation at.old.pc (registers_at core.old at.old))
             core.old at.old bus.old core.new at.new bus.new }
-        ensures system { core.new.system ≡ core.old.system }
-        ensures entries { core.new.entries ≡ core.old.entries }
-        ensures lines { lines bus.new ≡ lines bus.old }
+        ensures calm { StaysCalm core.old bus.old core.new bus.new }
         ensures known { operation.kind ≡ OperationKind.Other → result ≡ Outcome.Left }
         ensures goes { GoesBy (single operation.kind) result core.old operation.to.number at.old at.new }
         ensures frame { KeepsFrame own bus.old.memory bus.new.memory };

@@ -4,15 +4,17 @@ ghost use Rattle.ds_isa.specs.Registers.{read};
 ghost use Rattle.ds_operations.specs.Does.{does};
 ghost use Rattle.ds_pages.specs.Does.{single};
 ghost use Rattle.ds_cp0.specs.System.{asid_of};
-ghost use Rattle.ds_dev.specs.Bus.{lines};
 ghost use Rattle.ds_ahead.specs.Placed.{registers_at};
-ghost use Rattle.ds_ahead.specs.Operations.{ComesTo};
+ghost use Rattle.ds_ahead.specs.Operations.{ComesTo, StaysCalm};
 ghost use Rattle.ds_ahead.specs.Goes.{GoesBy, KeepsFrame};
 
+use crate::execute::{
+    Addiu, Addu, Beq, Bne, Execute, J, Jal, Jr, Lbu, Lui, Lw, Nothing, Or, Ori, Sb, Sll, Sltu, Srl,
+    Sw, Xor,
+};
 use crate::operations::{
-    Outcome, address_by, general, in_region, jump, jump_and_link, leave_byte, leave_half,
-    leave_word, put, put_hi_lo, put_or_leave, take_byte, take_byte_unsigned, take_half,
-    take_half_unsigned, take_word, target_by,
+    Outcome, address_by, general, jump, jump_and_link, leave_half, put, put_hi_lo, put_or_leave,
+    take_byte, take_half, take_half_unsigned, target_by,
 };
 use crate::position::Position;
 use ds_core::{Core, is_at_most_zero, places};
@@ -22,7 +24,7 @@ use ds_tlb::Lookaside;
 use ds_word::{
     checked_difference, checked_sum, div_signed, div_unsigned, is_negative, mul_signed,
     mul_unsigned, shift_left, shift_right_arithmetic, shift_right_logical, signed_less,
-    wrapping_difference, wrapping_sum,
+    wrapping_difference,
 };
 
 /// Does an operation as a step, where it reads no register whose load is late and no interrupt is
@@ -46,9 +48,7 @@ pub(crate) fn operate<L: Lookaside, const WAY: usize>(
     ensures comes { ComesTo result
         (does operation at.old.pc (registers_at core.old at.old))
         core.old at.old bus.old core.new at.new bus.new }
-    ensures system { core.new.system ≡ core.old.system }
-    ensures entries { core.new.entries ≡ core.old.entries }
-    ensures lines { lines bus.new ≡ lines bus.old }
+    ensures calm { StaysCalm core.old bus.old core.new bus.new }
     ensures known { operation.kind ≡ OperationKind.Other → result ≡ Outcome.Left }
     ensures goes { GoesBy (single operation.kind) result core.old operation.to.number at.old at.new }
     ensures frame { KeepsFrame own bus.old.memory bus.new.memory }
@@ -61,23 +61,9 @@ pub(crate) fn operate<L: Lookaside, const WAY: usize>(
         immediate,
     } = operation;
     match kind {
-        OperationKind::Nothing => at.go_on(),
-        OperationKind::Sll => {
-            put(
-                core,
-                to,
-                shift_left(general(core, first), places(immediate)),
-                at,
-            )
-        }
-        OperationKind::Srl => {
-            put(
-                core,
-                to,
-                shift_right_logical(general(core, first), places(immediate)),
-                at,
-            )
-        }
+        OperationKind::Nothing => Nothing.execute(core, operation, at, bus, own, asid),
+        OperationKind::Sll => Sll.execute(core, operation, at, bus, own, asid),
+        OperationKind::Srl => Srl.execute(core, operation, at, bus, own, asid),
         OperationKind::Sra => {
             put(
                 core,
@@ -139,14 +125,7 @@ pub(crate) fn operate<L: Lookaside, const WAY: usize>(
                 bus,
             )
         }
-        OperationKind::Addu => {
-            put(
-                core,
-                to,
-                wrapping_sum(general(core, first), general(core, second)),
-                at,
-            )
-        }
+        OperationKind::Addu => Addu.execute(core, operation, at, bus, own, asid),
         OperationKind::Sub => {
             put_or_leave(
                 core,
@@ -165,8 +144,8 @@ pub(crate) fn operate<L: Lookaside, const WAY: usize>(
             )
         }
         OperationKind::And => put(core, to, general(core, first) & general(core, second), at),
-        OperationKind::Or => put(core, to, general(core, first) | general(core, second), at),
-        OperationKind::Xor => put(core, to, general(core, first) ^ general(core, second), at),
+        OperationKind::Or => Or.execute(core, operation, at, bus, own, asid),
+        OperationKind::Xor => Xor.execute(core, operation, at, bus, own, asid),
         OperationKind::Nor => put(
             core,
             to,
@@ -181,14 +160,7 @@ pub(crate) fn operate<L: Lookaside, const WAY: usize>(
                 at,
             )
         }
-        OperationKind::Sltu => {
-            put(
-                core,
-                to,
-                u32::from(general(core, first) < general(core, second)),
-                at,
-            )
-        }
+        OperationKind::Sltu => Sltu.execute(core, operation, at, bus, own, asid),
         OperationKind::Addi => {
             put_or_leave(
                 core,
@@ -198,7 +170,7 @@ pub(crate) fn operate<L: Lookaside, const WAY: usize>(
                 bus,
             )
         }
-        OperationKind::Addiu => put(core, to, wrapping_sum(general(core, first), immediate), at),
+        OperationKind::Addiu => Addiu.execute(core, operation, at, bus, own, asid),
         OperationKind::Slti => {
             put(
                 core,
@@ -209,9 +181,9 @@ pub(crate) fn operate<L: Lookaside, const WAY: usize>(
         }
         OperationKind::Sltiu => put(core, to, u32::from(general(core, first) < immediate), at),
         OperationKind::Andi => put(core, to, general(core, first) & immediate, at),
-        OperationKind::Ori => put(core, to, general(core, first) | immediate, at),
+        OperationKind::Ori => Ori.execute(core, operation, at, bus, own, asid),
         OperationKind::Xori => put(core, to, general(core, first) ^ immediate, at),
-        OperationKind::Lui => put(core, to, immediate, at),
+        OperationKind::Lui => Lui.execute(core, operation, at, bus, own, asid),
         OperationKind::Bltz => {
             let taken = is_negative(general(core, first));
             jump(core, target_by(taken, at.pc, immediate), at, bus)
@@ -228,14 +200,8 @@ pub(crate) fn operate<L: Lookaside, const WAY: usize>(
             let taken = !is_negative(general(core, first));
             jump_and_link(core, to, target_by(taken, at.pc, immediate), at, bus)
         }
-        OperationKind::Beq => {
-            let taken = general(core, first) == general(core, second);
-            jump(core, target_by(taken, at.pc, immediate), at, bus)
-        }
-        OperationKind::Bne => {
-            let taken = general(core, first) != general(core, second);
-            jump(core, target_by(taken, at.pc, immediate), at, bus)
-        }
+        OperationKind::Beq => Beq.execute(core, operation, at, bus, own, asid),
+        OperationKind::Bne => Bne.execute(core, operation, at, bus, own, asid),
         OperationKind::Blez => {
             let taken = is_at_most_zero(general(core, first));
             jump(core, target_by(taken, at.pc, immediate), at, bus)
@@ -244,30 +210,18 @@ pub(crate) fn operate<L: Lookaside, const WAY: usize>(
             let taken = !is_at_most_zero(general(core, first));
             jump(core, target_by(taken, at.pc, immediate), at, bus)
         }
-        OperationKind::J => jump(core, in_region(at.pc, immediate), at, bus),
-        OperationKind::Jal => jump_and_link(core, to, in_region(at.pc, immediate), at, bus),
-        OperationKind::Jr => jump(core, general(core, first), at, bus),
+        OperationKind::J => J.execute(core, operation, at, bus, own, asid),
+        OperationKind::Jal => Jal.execute(core, operation, at, bus, own, asid),
+        OperationKind::Jr => Jr.execute(core, operation, at, bus, own, asid),
         OperationKind::Jalr => jump_and_link(core, to, general(core, first), at, bus),
         OperationKind::Lb => take_byte(core, to, address_by(core, first, immediate), at, bus, asid),
         OperationKind::Lh => take_half(core, to, address_by(core, first, immediate), at, bus, asid),
-        OperationKind::Lw => take_word(core, to, address_by(core, first, immediate), at, bus, asid),
-        OperationKind::Lbu => {
-            take_byte_unsigned(core, to, address_by(core, first, immediate), at, bus, asid)
-        }
+        OperationKind::Lw => Lw.execute(core, operation, at, bus, own, asid),
+        OperationKind::Lbu => Lbu.execute(core, operation, at, bus, own, asid),
         OperationKind::Lhu => {
             take_half_unsigned(core, to, address_by(core, first, immediate), at, bus, asid)
         }
-        OperationKind::Sb => {
-            leave_byte(
-                core,
-                general(core, second),
-                address_by(core, first, immediate),
-                at,
-                bus,
-                own,
-                asid,
-            )
-        }
+        OperationKind::Sb => Sb.execute(core, operation, at, bus, own, asid),
         OperationKind::Sh => {
             leave_half(
                 core,
@@ -279,17 +233,7 @@ pub(crate) fn operate<L: Lookaside, const WAY: usize>(
                 asid,
             )
         }
-        OperationKind::Sw => {
-            leave_word(
-                core,
-                general(core, second),
-                address_by(core, first, immediate),
-                at,
-                bus,
-                own,
-                asid,
-            )
-        }
+        OperationKind::Sw => Sw.execute(core, operation, at, bus, own, asid),
         OperationKind::Syscall => Outcome::Called,
         OperationKind::Other => Outcome::Left,
     }

@@ -1,14 +1,11 @@
 //! A turn of a run: an operation where it stands, that and the next one, or a branch with its slot.
 ghost use Rattle.std.specs.Prelude.{◌≡◌, ◌≢◌, ◌+◌, ◌*◌, ◌<◌, ◌≤◌, ◌^◌, true, false, IfSome};
-ghost use Rattle.ds_cp0.specs.System.{asid_of, is_pending};
-ghost use Rattle.ds_dev.specs.Bus.{lines};
-ghost use Rattle.ds_pages.specs.Does.{has_slot, is_end, is_known, single};
+ghost use Rattle.ds_pages.specs.Does.{has_slot, is_end, single};
 ghost use Rattle.ds_pages.specs.Turn.{first_of};
 ghost use Rattle.ds_pages.specs.Places.{does_at};
 ghost use Rattle.ds_pages.specs.Page.{HoldsWords};
-ghost use Rattle.ds_ahead.specs.Code.{KnowsPage};
 ghost use Rattle.ds_ahead.specs.Operations.{StaysCalm};
-ghost use Rattle.ds_ahead.specs.Run.{position_here, left_here, StandsIn, IsFreeHere, IsAlone, Ran};
+ghost use Rattle.ds_ahead.specs.Run.{position_here, left_here, StandsIn, IsFreeHere, IsAlone, MayGo, Ran};
 
 use crate::code::CodePage;
 use crate::execute::{
@@ -51,16 +48,8 @@ fn plain<L: Lookaside, K: Execute>(
 ) -> Way
     requires begins { first ≡ code.now.vpn * 4096 }
     requires low { first < 2 ^ 31 }
-    requires stands { StandsIn here.old }
-    requires free { IsFreeHere page.now.places here.old }
-    requires fits { left_here page.now.places here.old rest.old < 2 ^ 32 }
-    requires known { KnowsPage code.now.vpn code.now.base core.old }
-    requires space { code.now.asid ≡ asid_of core.old.system }
-    requires calm { is_pending core.old.system (lines bus.old).0 (lines bus.old).1 ≡ false }
-    requires holds { HoldsWords page.now bus.old.memory code.now.base }
-    requires single { does_at page.now.places here.old.place ≡ single (K.kind kind) }
-    requires some { K.kind kind ≢ OperationKind.Other }
-    requires decoded { is_known (single (K.kind kind)) ≡ true }
+    requires goes { MayGo page.now code.now here.old rest.old core.old bus.old }
+    requires kind { IsAlone (does_at page.now.places here.old.place) (K.kind kind) }
     requires straight { has_slot (single (K.kind kind)) ≡ false }
     ensures ran { Ran result (left_here page.now.places here.old rest.old) core.old
         (position_here first here.old) bus.old page.now.places first
@@ -105,21 +94,11 @@ fn two<L: Lookaside, A: Execute, B: Execute>(
 ) -> Way
     requires begins { first ≡ code.now.vpn * 4096 }
     requires low { first < 2 ^ 31 }
-    requires stands { StandsIn here.old }
-    requires free { IsFreeHere page.now.places here.old }
-    requires fits { left_here page.now.places here.old rest.old < 2 ^ 32 }
-    requires known { KnowsPage code.now.vpn code.now.base core.old }
-    requires space { code.now.asid ≡ asid_of core.old.system }
-    requires calm { is_pending core.old.system (lines bus.old).0 (lines bus.old).1 ≡ false }
-    requires holds { HoldsWords page.now bus.old.memory code.now.base }
-    requires single { does_at page.now.places here.old.place ≡ single (A.kind kinds.0) }
-    requires next { does_at page.now.places (here.old.place + 1) ≡ single (B.kind kinds.1) }
-    requires some { A.kind kinds.0 ≢ OperationKind.Other }
-    requires some_next { B.kind kinds.1 ≢ OperationKind.Other }
+    requires goes { MayGo page.now code.now here.old rest.old core.old bus.old }
+    requires first { IsAlone (does_at page.now.places here.old.place) (A.kind kinds.0) }
+    requires next { IsAlone (does_at page.now.places (here.old.place + 1)) (B.kind kinds.1) }
     requires straight { has_slot (single (A.kind kinds.0)) ≡ false }
     requires straight_next { has_slot (single (B.kind kinds.1)) ≡ false }
-    requires decoded { is_known (single (A.kind kinds.0)) ≡ true }
-    requires decoded_next { is_known (single (B.kind kinds.1)) ≡ true }
     ensures ran { Ran result (left_here page.now.places here.old rest.old) core.old
         (position_here first here.old) bus.old page.now.places first
         here.new rest.new core.new at.new bus.new }
@@ -150,15 +129,8 @@ fn one<L: Lookaside, K: Execute>(
 ) -> Way
     requires begins { first ≡ code.now.vpn * 4096 }
     requires low { first < 2 ^ 31 }
-    requires stands { StandsIn here.old }
-    requires free { IsFreeHere page.now.places here.old }
-    requires fits { left_here page.now.places here.old rest.old < 2 ^ 32 }
-    requires known { KnowsPage code.now.vpn code.now.base core.old }
-    requires space { code.now.asid ≡ asid_of core.old.system }
-    requires calm { is_pending core.old.system (lines bus.old).0 (lines bus.old).1 ≡ false }
-    requires holds { HoldsWords page.now bus.old.memory code.now.base }
-    requires single { does_at page.now.places here.old.place ≡ single (K.kind kind) }
-    requires some { K.kind kind ≢ OperationKind.Other }
+    requires goes { MayGo page.now code.now here.old rest.old core.old bus.old }
+    requires kind { IsAlone (does_at page.now.places here.old.place) (K.kind kind) }
     ensures ran { Ran result (left_here page.now.places here.old rest.old) core.old
         (position_here first here.old) bus.old page.now.places first
         here.new rest.new core.new at.new bus.new }
@@ -203,18 +175,9 @@ fn with_slot<L: Lookaside, A: Execute, B: Execute>(
 ) -> Way
     requires begins { first ≡ code.now.vpn * 4096 }
     requires low { first < 2 ^ 31 }
-    requires stands { StandsIn here.old }
-    requires free { IsFreeHere page.now.places here.old }
-    requires fits { left_here page.now.places here.old rest.old < 2 ^ 32 }
-    requires known { KnowsPage code.now.vpn code.now.base core.old }
-    requires space { code.now.asid ≡ asid_of core.old.system }
-    requires calm { is_pending core.old.system (lines bus.old).0 (lines bus.old).1 ≡ false }
-    requires holds { HoldsWords page.now bus.old.memory code.now.base }
-    requires single { does_at page.now.places here.old.place ≡ single (A.kind kinds.0) }
-    requires next { does_at page.now.places (here.old.place + 1) ≡ single (B.kind kinds.1) }
-    requires some { A.kind kinds.0 ≢ OperationKind.Other }
-    requires some_next { B.kind kinds.1 ≢ OperationKind.Other }
-    requires decoded { is_known (single (A.kind kinds.0)) ≡ true }
+    requires goes { MayGo page.now code.now here.old rest.old core.old bus.old }
+    requires first { IsAlone (does_at page.now.places here.old.place) (A.kind kinds.0) }
+    requires next { IsAlone (does_at page.now.places (here.old.place + 1)) (B.kind kinds.1) }
     requires slot { has_slot (single (A.kind kinds.0)) ≡ true }
     requires on { is_end (single (A.kind kinds.0)) ≡ false }
     ensures ran { Ran result (left_here page.now.places here.old rest.old) core.old
@@ -255,13 +218,7 @@ pub(crate) fn turn<L: Lookaside>(
 ) -> Way
     requires begins { first ≡ code.now.vpn * 4096 }
     requires low { first < 2 ^ 31 }
-    requires stands { StandsIn here.old }
-    requires free { IsFreeHere page.now.places here.old }
-    requires fits { left_here page.now.places here.old rest.old < 2 ^ 32 }
-    requires known { KnowsPage code.now.vpn code.now.base core.old }
-    requires space { code.now.asid ≡ asid_of core.old.system }
-    requires calm { is_pending core.old.system (lines bus.old).0 (lines bus.old).1 ≡ false }
-    requires holds { HoldsWords page.now bus.old.memory code.now.base }
+    requires goes { MayGo page.now code.now here.old rest.old core.old bus.old }
     ensures ran { Ran result (left_here page.now.places here.old rest.old) core.old
         (position_here first here.old) bus.old page.now.places first
         here.new rest.new core.new at.new bus.new }

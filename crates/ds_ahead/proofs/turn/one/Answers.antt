@@ -20,7 +20,7 @@ returns-in-Done-clause-ran g c =
     let moves = subst (λ (o : Outcome). MovesAt p h.place o c.args.core.now at c.args.bus.now c.do_at.new.core c.do_at.new.at c.do_at.new.bus) c.in-Done.is c.do_at.ensures.moves in
     let goes = subst (λ (o : Outcome). GoesBy (does_at p h.place) o c.args.core.now (fields_at p h.place).to at c.do_at.new.at) c.in-Done.is c.do_at.ensures.goes in
     let turn = turn_done p c.args.first c.args.rest.now h c.args.core.now (fields_at p h.place).to at c.args.bus.now c.do_at.new.core c.do_at.new.at c.do_at.new.bus
-    is c.requires.stands c.requires.free c.requires.low (sym c.length-length.ensures.value ∙ c.length-length.ensures.steps) (omega (arith, c.length-length.ensures.value, c.length-length.ensures.within))
+    is c.requires.goes.stands c.requires.goes.free c.requires.low (sym c.length-length.ensures.value ∙ c.length-length.ensures.steps) (omega (arith, c.length-length.ensures.value, c.length-length.ensures.within))
     moves goes c.do_at.ensures.calm in
     subst (λ (x : Here). Ran On (left_here p h c.args.rest.now) c.args.core.now (position_here c.args.first h) c.args.bus.now p c.args.first x c.args.rest.now c.do_at.new.core c.do_at.new.at c.do_at.new.bus) (sym c.go_on.ensures) turn.3
 
@@ -33,7 +33,7 @@ returns-in-Loaded-clause-ran g c =
     let moves = subst (λ (o : Outcome). MovesAt p h.place o c.args.core.now at c.args.bus.now c.do_at.new.core c.do_at.new.at c.do_at.new.bus) c.in-Loaded.is c.do_at.ensures.moves in
     let goes = subst (λ (o : Outcome). GoesBy (does_at p h.place) o c.args.core.now (fields_at p h.place).to at c.do_at.new.at) c.in-Loaded.is c.do_at.ensures.goes in
     (turn_loaded p c.args.first c.args.rest.now h c.go_after_load.new.self c.args.core.now at c.args.bus.now c.do_at.new.core c.do_at.new.at c.do_at.new.bus
-    is c.requires.free c.requires.low (sym c.length-length.ensures.value ∙ c.length-length.ensures.steps) (omega (arith, c.length-length.ensures.value, c.length-length.ensures.within))
+    is c.requires.goes.free c.requires.low (sym c.length-length.ensures.value ∙ c.length-length.ensures.steps) (omega (arith, c.length-length.ensures.value, c.length-length.ensures.within))
     moves goes c.do_at.ensures.calm c.go_after_load.ensures.place c.go_after_load.ensures.at c.go_after_load.ensures.late
     (λ load. c.does-does.ensures.free (subst (λ d. is_load d ≡ true) (sym c.does-does.ensures.value) load))).3
 
@@ -46,7 +46,7 @@ returns-in-Branched-clause-ran g c =
     let moves = subst (λ (o : Outcome). MovesAt p h.place o c.args.core.now at c.args.bus.now c.do_at.new.core c.do_at.new.at c.do_at.new.bus) c.in-Branched.is c.do_at.ensures.moves in
     let goes = subst (λ (o : Outcome). GoesBy (does_at p h.place) o c.args.core.now (fields_at p h.place).to at c.do_at.new.at) c.in-Branched.is c.do_at.ensures.goes in
     let turn = turn_branched p c.args.first c.args.rest.now h c.args.core.now (fields_at p h.place).to at c.args.bus.now c.do_at.new.core c.do_at.new.at c.do_at.new.bus
-    is c.requires.free c.requires.low (sym c.length-length.ensures.value ∙ c.length-length.ensures.steps) (omega (arith, c.length-length.ensures.value, c.length-length.ensures.within))
+    is c.requires.goes.free c.requires.low (sym c.length-length.ensures.value ∙ c.length-length.ensures.steps) (omega (arith, c.length-length.ensures.value, c.length-length.ensures.within))
     moves goes c.do_at.ensures.calm in
     ran_both c.through_any_slot.result (left_here p h c.args.rest.now) (c.args.rest.now + 1) c.args.core.now (position_here c.args.first h) c.args.bus.now c.do_at.new.core c.do_at.new.at c.do_at.new.bus
     p c.args.first c.through_any_slot.new.here c.through_any_slot.new.rest c.through_any_slot.new.core c.through_any_slot.new.at c.through_any_slot.new.bus
@@ -61,7 +61,7 @@ returns-in-Called-clause-ran g c =
     let moves = subst (λ (o : Outcome). MovesAt p h.place o c.args.core.now at c.args.bus.now c.do_at.new.core c.do_at.new.at c.do_at.new.bus) c.in-Called.is c.do_at.ensures.moves in
     let goes = subst (λ (o : Outcome). GoesBy (does_at p h.place) o c.args.core.now (fields_at p h.place).to at c.do_at.new.at) c.in-Called.is c.do_at.ensures.goes in
     turn_called p c.args.first c.args.rest.now h c.args.core.now (fields_at p h.place).to at c.args.bus.now c.do_at.new.core c.do_at.new.at c.do_at.new.bus
-    is c.requires.free (c.does-does.ensures.inside (ap is_known (c.does-does.ensures.value ∙ c.requires.single) ∙ single_known _)) (sym c.length-length.ensures.value ∙ c.length-length.ensures.steps) moves goes
+    is c.requires.goes.free (c.does-does.ensures.inside (ap is_known (c.does-does.ensures.value ∙ c.requires.kind.0) ∙ single_known _)) (sym c.length-length.ensures.value ∙ c.length-length.ensures.steps) moves goes
 
 pub returns-in-Left-clause-ran : goal.returns-in-Left-clause-ran
 returns-in-Left-clause-ran g c =
@@ -69,4 +69,4 @@ returns-in-Left-clause-ran g c =
     let h = c.args.here.now in
     let at : Place = record { pc = c.place.result.pc; next = c.place.result.next; slot = c.place.result.slot; late = c.place.result.late } in
     let moves = subst (λ (o : Outcome). MovesAt p h.place o c.args.core.now at c.args.bus.now c.do_at.new.core c.do_at.new.at c.do_at.new.bus) c.in-Left.is c.do_at.ensures.moves in
-    turn_left p c.args.first c.args.rest.now h c.args.core.now at c.args.bus.now c.do_at.new.core c.do_at.new.at c.do_at.new.bus c.requires.fits moves
+    turn_left p c.args.first c.args.rest.now h c.args.core.now at c.args.bus.now c.do_at.new.core c.do_at.new.at c.do_at.new.bus c.requires.goes.fits moves

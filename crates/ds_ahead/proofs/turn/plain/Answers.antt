@@ -19,7 +19,7 @@ returns-in-Done-clause-ran g c =
     let moves = subst (λ (o : Outcome). MovesAt p h.place o c.args.core.now at c.args.bus.now c.do_operation.new.core c.do_operation.new.at c.do_operation.new.bus) c.in-Done.is c.do_operation.ensures.moves in
     let goes = subst (λ (o : Outcome). GoesBy (does_at p h.place) o c.args.core.now (fields_at p h.place).to at c.do_operation.new.at) c.in-Done.is c.do_operation.ensures.goes in
     let turn = turn_done p c.args.first c.args.rest.now h c.args.core.now (fields_at p h.place).to at c.args.bus.now c.do_operation.new.core c.do_operation.new.at c.do_operation.new.bus
-    is c.requires.stands c.requires.free c.requires.low (sym c.length-length.ensures.value ∙ c.length-length.ensures.steps) (omega (arith, c.length-length.ensures.value, c.length-length.ensures.within))
+    is c.requires.goes.stands c.requires.goes.free c.requires.low (sym c.length-length.ensures.value ∙ c.length-length.ensures.steps) (omega (arith, c.length-length.ensures.value, c.length-length.ensures.within))
     moves goes c.do_operation.ensures.calm in
     subst (λ (x : Here). Ran On (left_here p h c.args.rest.now) c.args.core.now (position_here c.args.first h) c.args.bus.now p c.args.first x c.args.rest.now c.do_operation.new.core c.do_operation.new.at c.do_operation.new.bus) (sym c.go_on.ensures) turn.3
 
@@ -32,7 +32,7 @@ returns-in-Loaded-clause-ran g c =
     let moves = subst (λ (o : Outcome). MovesAt p h.place o c.args.core.now at c.args.bus.now c.do_operation.new.core c.do_operation.new.at c.do_operation.new.bus) c.in-Loaded.is c.do_operation.ensures.moves in
     let goes = subst (λ (o : Outcome). GoesBy (does_at p h.place) o c.args.core.now (fields_at p h.place).to at c.do_operation.new.at) c.in-Loaded.is c.do_operation.ensures.goes in
     (turn_loaded p c.args.first c.args.rest.now h c.go_after_load.new.self c.args.core.now at c.args.bus.now c.do_operation.new.core c.do_operation.new.at c.do_operation.new.bus
-    is c.requires.free c.requires.low (sym c.length-length.ensures.value ∙ c.length-length.ensures.steps) (omega (arith, c.length-length.ensures.value, c.length-length.ensures.within))
+    is c.requires.goes.free c.requires.low (sym c.length-length.ensures.value ∙ c.length-length.ensures.steps) (omega (arith, c.length-length.ensures.value, c.length-length.ensures.within))
     moves goes c.do_operation.ensures.calm c.go_after_load.ensures.place c.go_after_load.ensures.at c.go_after_load.ensures.late
     (λ load. c.does-does.ensures.free (subst (λ d. is_load d ≡ true) (sym c.does-does.ensures.value) load))).3
 
@@ -42,4 +42,4 @@ returns-in_default-clause-ran g c =
     let h = c.args.here.now in
     let at : Place = record { pc = c.place.result.pc; next = c.place.result.next; slot = c.place.result.slot; late = c.place.result.late } in
     turn_not_done c.do_operation.result p c.args.first c.args.rest.now h c.args.core.now (fields_at p h.place).to at c.args.bus.now c.do_operation.new.core c.do_operation.new.at c.do_operation.new.bus
-    c.requires.fits (ap has_slot c.requires.single ∙ c.requires.straight) c.in_default.not-Done c.in_default.not-Loaded c.do_operation.ensures.moves c.do_operation.ensures.goes
+    c.requires.goes.fits (ap has_slot c.requires.kind.0 ∙ c.requires.straight) c.in_default.not-Done c.in_default.not-Loaded c.do_operation.ensures.moves c.do_operation.ensures.goes
