@@ -655,11 +655,13 @@ def families():
 
 def begin(file, processes, frames, named, rules):
     """Grants of a policy; what of a rule isn't said is page 0, write, give, and no end."""
-    words = []
+    words = ["version=2", f"frames={frames}", *["[[process]]", "start=0", "line=0"] * processes]
+    words += [word for page in range(named) for word in ("[[page]]", f'name="p{page}"')]
     for rule in rules:
         p, address, until, page, right, give = (*rule, 0, "write", "give")[:6] if len(rule) == 3 else rule
-        words.append(f"{p} {address:08x} {page} {right} {give} {until}")
-    file.ask(" ".join([f"begin {processes} {frames} {named}", *words]))
+        words += ["[[rule]]", f"process={p}", f"address=0x{address:08x}", f'page="p{page}"', f'right="{right}"', f"give={str(give == 'give').lower()}"]
+        words += [f"until={until}"] * (until > 0)
+    file.ask(" ".join(["begin", *words]))
 
 
 def expire(file, now):
@@ -750,7 +752,7 @@ def random_ends(file):
 def ends():
     """Rights that end by themselves."""
     file = File(["Rights of a policy that end: each at its time, with what was shared of it, and without copies; by each call before it; of 100",
-                 "processes, of 256 entries and of chains; and among random calls. begin has the rules of a policy after its three numbers; entry",
+                 "processes, of 256 entries and of chains; and among random calls. begin has a policy with blanks for the ends of its lines; entry",
                  "answers the end after until, where there is one; next the earliest end, and due the first entry whose right has ended."])
     for made in (ends_of_rules, ends_of_shares, ends_of_many, random_ends):
         made(file)

@@ -27,7 +27,7 @@ class Tests(unittest.TestCase):
     def test_the_stories_come_to_what_is_written(self):
         model = Model(0, 0, 0)
         for number, line in enumerate((DATA / "stories.txt").read_text().splitlines(), 1):
-            asked, is_question, wanted = line.split("#")[0].partition("=")
+            asked, is_question, wanted = line.split("#")[0].partition(" = ")
             if asked.strip():
                 model, came = answer(model, asked)
                 self.assertEqual(came, wanted.strip() if is_question else "ok", f"line {number}: {line}")

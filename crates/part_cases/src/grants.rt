@@ -1,12 +1,9 @@
 //! Calls on real grants, with a memory, page tables in it, and a translation buffer.
 //! `tools/grants_cases.py` writes the files, from a model of its own.
 
-mod answers;
+pub mod answers;
 mod frames;
 mod page_words;
 mod policies;
-mod replay;
-mod report;
-mod words;
-
-pub use report::replay_all;
+pub mod replay;
+pub mod verbs;

@@ -1,16 +1,10 @@
-//! Cases on the machine's parts. A case is a line of a file: what is given, a bar, and what has to
-//! come out.
+//! Steps on the machine's parts, and questions about words and programs.
 
-mod arithmetic;
-mod bus;
-pub mod case;
+pub mod arithmetic;
+pub mod bus;
 pub mod memory;
 mod processor;
-mod programs;
-mod report;
-mod subject;
-mod system;
-pub mod told;
-mod words;
-
-pub use report::run_cases;
+pub mod programs;
+pub mod system;
+pub mod verbs;
+pub mod words;

@@ -7,14 +7,21 @@
 //!     part_cases SOURCE N     N instructions of one program ahead, for `bench/run --core`
 #![tactic(auto)]
 
-mod buffer;
+mod exceptions;
 mod grants;
 mod machine;
+mod numbers;
+mod processor;
 mod programs;
+mod reached;
+mod report;
+mod stage;
+mod tally;
+mod told;
+mod verbs;
 
-use grants::replay_all;
-use machine::run_cases;
 use programs::{run_ahead, run_programs, run_random};
+use report::run_files;
 use std::process::ExitCode;
 use std::{env, io};
 
@@ -23,22 +30,23 @@ const RANDOM_PROGRAMS: u32 = 10_000;
 
 fn main(rt: HostRuntime) -> io::Result<ExitCode> {
     let words: Vec<String> = env::args(&rt)?.collect(rt.alloc())?;
-    let well = match words.len() {
-        3 => {
-            let count = words[2].parse().unwrap_or(0);
-            run_ahead(&rt, words[1].as_str(), count)?
-        }
-        2 => run_random(&rt, rt.alloc(), words[1].parse().unwrap_or(0))?,
-        _ => run_all(&rt)?,
-    };
+    let well = run(&rt, words.as_slice())?;
     Ok(ExitCode::from(if well { 0 } else { 1 }))
 }
 
-/// Runs all cases and programs; whether all come out as they have to.
+/// Runs what the words of the command line ask for; whether all comes out as it has to.
+fn run(rt: &HostRuntime, words: &[String]) -> io::Result<bool> {
+    match words {
+        [_, source, count] => run_ahead(rt, source.as_str(), count.parse().unwrap_or(0)),
+        [_, programs] => run_random(rt, rt.alloc(), programs.parse().unwrap_or(0)),
+        _ => run_all(rt),
+    }
+}
+
+/// Runs all files and programs.
 fn run_all(rt: &HostRuntime) -> io::Result<bool> {
-    let cases = run_cases(rt)?;
-    let grants = replay_all(rt)?;
+    let files = run_files(rt)?;
     let programs = run_programs(rt)?;
     let random = run_random(rt, rt.alloc(), RANDOM_PROGRAMS)?;
-    Ok(cases && grants && programs && random)
+    Ok(files && programs && random)
 }

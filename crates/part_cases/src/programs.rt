@@ -23,7 +23,12 @@ pub fn run_ahead<R: Files + Print + AllocGlobal>(
     count: u32,
 ) -> io::Result<bool> {
     let image = image_of(rt, name)?;
-    let Some((pc, four)) = came_to(rt.alloc(), &image, count) else {
+    tell_place(rt, came_to(rt.alloc(), &image, count))
+}
+
+/// Tells where a program stands, and what register 4 holds.
+fn tell_place<R: Print>(rt: &R, place: Option<(u32, u32)>) -> io::Result<bool> {
+    let Some((pc, four)) = place else {
         return Err(io::Error::from(ErrorKind::OutOfMemory));
     };
     println!(rt; "{pc} {four}")?;
@@ -51,17 +56,17 @@ fn go_both_ways<A: Lookaside, B: Lookaside>(alloc: Global, image: &Image) -> Opt
 /// Goes through a program both ways, over either buffer; whether both times they went alike.
 fn run_program<R: Files + Print + AllocGlobal>(rt: &R, name: &str) -> io::Result<bool> {
     let image = image_of(rt, name)?;
-    let wrong = wrong_of(rt.alloc(), &image);
-    match wrong {
-        Some(wrong) => tell_wrong(rt, name, wrong)?,
-        None => println!(rt; "{name}: not alike")?,
-    }
-    Ok(wrong.is_some())
+    tell_wrong(rt, name, wrong_of(rt.alloc(), &image))
 }
 
-/// Tells what a program that went alike counted.
-fn tell_wrong<R: Print>(rt: &R, name: &str, wrong: u32) -> io::Result<()> {
-    println!(rt; "{name}: alike, {wrong} wrong")
+/// Tells what a program counted, if it went alike; whether it did.
+fn tell_wrong<R: Print>(rt: &R, name: &str, wrong: Option<u32>) -> io::Result<bool> {
+    let (how, count) = match wrong {
+        Some(wrong) => ("alike", wrong),
+        None => ("not alike", 0),
+    };
+    println!(rt; "{name}: {how}, {count} wrong")?;
+    Ok(wrong.is_some())
 }
 
 /// What register 17 holds after a program, if both ways went alike over either buffer.
@@ -73,8 +78,8 @@ fn wrong_of(alloc: Global, image: &Image) -> Option<u32> {
 /// Goes through each program of data/; whether all went alike.
 pub fn run_programs<R: Files + Print + AllocGlobal>(rt: &R) -> io::Result<bool> {
     let mut all = true;
-    for name in PROGRAMS {
-        all = run_program(rt, name)? && all;
+    for name in &PROGRAMS {
+        all = run_program(rt, *name)? && all;
     }
     Ok(all)
 }

@@ -1,7 +1,8 @@
 //! The page-table words that go with what is granted, by a plain rule: after each call they are
 //! compared with those that lie in memory.
 
-use crate::grants::replay::{PROCESSES, Replay};
+use crate::grants::replay::{COPY, PROCESSES, Replay};
+use crate::grants::verbs::Call;
 use ds_policy::EntryPlace;
 use ds_tlb::Lookaside;
 use std::alloc::{AllocError, Global};
@@ -15,10 +16,7 @@ const REGIONS: u32 = 512;
 /// The words of a process's pages of a region.
 fn words_of<L: Lookaside>(replay: &Replay<L>, process: u32, region: u32) -> [u32; PAGES] {
     let mut words = [0; PAGES];
-    if !replay.is_within(process) {
-        return words;
-    }
-    for entry in replay.grants.table().entries(process) {
+    for entry in replay.entries(process) {
         if entry.address >> 22 == region {
             words[(entry.address >> 12) as usize % PAGES] = replay.lying.word_of(entry.grant);
         }
@@ -50,10 +48,7 @@ fn fits_all<L: Lookaside>(replay: &Replay<L>, process: u32) -> bool {
 
 /// Whether the words of all of a process's entries lie in memory.
 fn fits_entries<L: Lookaside>(replay: &Replay<L>, process: u32) -> bool {
-    if !replay.is_within(process) {
-        return true;
-    }
-    for entry in replay.grants.table().entries(process) {
+    for entry in replay.entries(process) {
         let word = replay.tables.entry(&replay.memory, process, entry.address);
         if word != replay.lying.word_of(entry.grant) {
             return false;
@@ -72,34 +67,35 @@ fn fits_everywhere<L: Lookaside>(replay: &Replay<L>) -> bool {
     true
 }
 
-/// Adds where entries of a process stand.
-fn push_places<L: Lookaside>(
-    places: &mut Vec<EntryPlace>,
-    replay: &Replay<L>,
-    process: u32,
-) -> Result<(), AllocError> {
-    if !replay.is_within(process) {
-        return Ok(());
-    }
-    for entry in replay.grants.table().entries(process) {
-        places.push(EntryPlace {
-            process,
-            address: entry.address,
-        })?;
-    }
-    Ok(())
-}
-
-/// Where entries stand.
+/// Where entries stand before a call that takes some away, and nothing before another; none where there
+/// is no memory for it.
 pub fn standing<L: Lookaside>(
     alloc: Global,
     replay: &Replay<L>,
-) -> Result<Vec<EntryPlace>, AllocError> {
+    call: Call,
+) -> Option<Vec<EntryPlace>> {
     let mut places = Vec::new(alloc);
-    for process in 1..=PROCESSES {
-        push_places(&mut places, replay, process)?;
+    if matches!(
+        call,
+        Call::Take | Call::Drop | Call::Revoke | Call::End | Call::Expire
+    ) {
+        push_places(&mut places, replay).ok()?;
     }
-    Ok(places)
+    Some(places)
+}
+
+/// Adds where entries stand.
+fn push_places<L: Lookaside>(
+    places: &mut Vec<EntryPlace>,
+    replay: &Replay<L>,
+) -> Result<(), AllocError> {
+    for process in 1..=PROCESSES {
+        for entry in replay.entries(process) {
+            let address = entry.address;
+            places.push(EntryPlace { process, address })?;
+        }
+    }
+    Ok(())
 }
 
 /// Whether the words of what is granted at these places lie in memory, 0 where nothing is.
@@ -122,29 +118,15 @@ pub fn fits_at<L: Lookaside>(replay: &Replay<L>, places: &[EntryPlace]) -> bool 
 /// Whether the words that a call may have changed lie in memory: those of a region of one process,
 /// all of its words where it has ended, and those of whoever holds a page where it was copied or
 /// has a frame of its own now. What else goes with an entry is at places where entries stood.
-pub fn fits_after<L: Lookaside>(replay: &Replay<L>, verb: &str, operands: &[u32]) -> bool {
-    match (verb, operands) {
-        ("give", [_, _, process, address, 3]) | ("split", [process, address]) => {
-            fits_at_all(replay, *process, *address)
-        }
-        ("give", [_, _, process, address, _]) | ("take", [_, process, address]) => {
-            fits(replay, *process, *address >> 22)
-        }
-        _ => fits_after_other(replay, verb, operands),
+pub fn fits_after<L: Lookaside>(replay: &Replay<L>, call: Call, operands: [u32; 6]) -> bool {
+    let [a, b, c, d, e, _] = operands;
+    match call {
+        Call::Give if e == COPY => fits(replay, c, d >> 22) && fits_everywhere(replay),
+        Call::Split => fits(replay, a, b >> 22) && fits_everywhere(replay),
+        Call::Give => fits(replay, c, d >> 22),
+        Call::Take => fits(replay, b, c >> 22),
+        Call::End => fits_all(replay, a),
+        Call::Expire => fits_everywhere(replay),
+        _ => fits(replay, a, b >> 22),
     }
-}
-
-/// The same of a call that neither gives nor takes.
-fn fits_after_other<L: Lookaside>(replay: &Replay<L>, verb: &str, operands: &[u32]) -> bool {
-    match (verb, operands) {
-        ("end", [process]) => fits_all(replay, *process),
-        ("expire", [_]) => fits_everywhere(replay),
-        (_, [process, address, ..]) => fits(replay, *process, *address >> 22),
-        _ => true,
-    }
-}
-
-/// Whether the words of a region lie in memory, and those of all entries.
-fn fits_at_all<L: Lookaside>(replay: &Replay<L>, process: u32, address: u32) -> bool {
-    fits(replay, process, address >> 22) && fits_everywhere(replay)
 }

@@ -3,22 +3,24 @@
 ghost use Rattle.std.specs.Prelude.{◌≡◌, ◌<◌, ◌≤◌, true, length, IfSome, Some};
 ghost use Rattle.ds_policy.specs.Pages.{entry_at};
 
-use crate::buffer::new_buffer;
 use crate::grants::frames::{FIRST_FRAME, Frames, PAGES, named_pages, note_pages};
+use crate::grants::policies::policy_of;
+use crate::grants::verbs::Call;
+use crate::processor::new_buffer;
 use ds_asid::Asids;
 use ds_asm::Image;
 use ds_grants::{GrantFault, Grants};
 use ds_mem::Memory;
-use ds_policy::{Grant, Policy, Right};
+use ds_policy::{Entry as TableEntry, Grant, Policy, Right};
 use ds_tables::Tables;
 use ds_tlb::{Entry, Lookaside};
-use std::alloc::{AllocError, Global};
+use std::alloc::Global;
 
 /// The most processes.
 pub const PROCESSES: u32 = 100;
 
 /// The mode of a give by which the receiver gets a copy.
-const COPY: u32 = 3;
+pub const COPY: u32 = 3;
 
 /// What a file is replayed on.
 #[derive(Drop)]
@@ -36,27 +38,18 @@ pub struct Replay<L> {
 }
 
 impl<L: Lookaside> Replay<L> {
-    /// Grants of so many processes, no more than 100, that have none. There are no more than 1,024
-    /// frames for pages, and no more names than frames.
-    pub fn new(
-        alloc: Global,
-        processes: u32,
-        frames: u32,
-        named: u32,
-    ) -> Result<Replay<L>, AllocError>
+    /// Grants of so many processes, no more than 100, that have none; none where there is no memory for
+    /// them. There are no more than 1,024 frames for pages, and no more names than frames.
+    pub fn new(alloc: Global, processes: u32, frames: u32, named: u32) -> Option<Replay<L>>
         requires slots { L.SLOTS ≡ 64 }
         requires wired { L.WIRED ≡ 8 }
     {
         let processes = processes.min(PROCESSES) as usize;
         let frames = frames.min(PAGES as u32);
         let named = named.min(frames);
-        let Ok(grants) = Grants::empty(alloc, processes, frames, named) else {
-            return Err(AllocError);
-        };
-        let Ok(memory) = Memory::new(alloc) else {
-            return Err(AllocError);
-        };
-        Ok(Replay {
+        let memory = Memory::new(alloc).ok()?;
+        let grants = Grants::empty(alloc, processes, frames, named).ok()?;
+        Some(Replay {
             grants,
             frames,
             named,
@@ -68,22 +61,31 @@ impl<L: Lookaside> Replay<L> {
         })
     }
 
-    /// Grants of a policy none of whose pages has a source; none of another policy.
-    pub fn of_policy(alloc: Global, policy: &Policy) -> Result<Option<Replay<L>>, AllocError>
+    /// Grants of the policy of a text with blanks in place of the ends of its lines; none where there is no
+    /// such policy, or no memory for it.
+    pub fn of_text(alloc: Global, text: &str) -> Option<Replay<L>>
+        requires slots { L.SLOTS ≡ 64 }
+        requires wired { L.WIRED ≡ 8 }
+    {
+        let policy = policy_of(alloc, text)?;
+        Replay::of_policy(alloc, &policy)
+    }
+
+    /// Grants of a policy none of whose pages has a source; none of another policy, or where there is no
+    /// memory for them.
+    fn of_policy(alloc: Global, policy: &Policy) -> Option<Replay<L>>
         requires slots { L.SLOTS ≡ 64 }
         requires wired { L.WIRED ≡ 8 }
     {
         if !policy.sources().is_empty() {
-            return Ok(None);
+            return None;
         }
         let images: [Image; 0] = [];
-        let Ok(mut memory) = Memory::new(alloc) else {
-            return Err(AllocError);
-        };
         let mut tables = Tables::new(policy.processes().len());
         let mut spaces = Asids::new();
         let mut buffer = new_buffer();
-        let Ok(grants) = Grants::new(
+        let mut memory = Memory::new(alloc).ok()?;
+        let grants = Grants::new(
             alloc,
             policy,
             images.as_slice(),
@@ -91,10 +93,9 @@ impl<L: Lookaside> Replay<L> {
             &mut tables,
             &mut spaces,
             &mut buffer,
-        ) else {
-            return Err(AllocError);
-        };
-        Ok(Some(Replay {
+        )
+        .ok()?;
+        Some(Replay {
             grants,
             frames: policy.frames(),
             named: policy.pages().len() as u32,
@@ -103,7 +104,7 @@ impl<L: Lookaside> Replay<L> {
             tables,
             spaces,
             buffer,
-        }))
+        })
     }
 
     /// Whether there is such a process.
@@ -115,138 +116,73 @@ impl<L: Lookaside> Replay<L> {
         process > 0 && process as usize <= self.grants.table().processes()
     }
 
-    /// The outcome of a call; none where nobody can call so. The calls are
-    ///
-    ///     grant PROCESS ADDRESS PAGE read|write keep|give RULE
-    ///     give CALLER ADDRESS RECEIVER TO MODE
-    ///     take CALLER PROCESS ADDRESS
-    ///     drop PROCESS ADDRESS own|command
-    ///     revoke PROCESS ADDRESS RULE
-    ///     narrow PROCESS ADDRESS
-    ///     end PROCESS
-    ///     split PROCESS ADDRESS
-    ///     expire TIME
-    pub fn call(&mut self, verb: &str, operands: &[u32]) -> Option<Result<(), GrantFault>> {
-        match (verb, operands) {
-            ("give", [caller, address, receiver, to, mode]) => {
-                self.give(*caller, *address, *receiver, *to, *mode)
-            }
-            ("grant", [process, address, page, right @ 0..=1, give @ 0..=1, rule]) => {
-                self.grant(
-                    *process,
-                    *address,
-                    *page,
-                    right_of(*right),
-                    *give == 1,
-                    *rule,
-                )
-            }
-            ("drop", [process, address, by_command @ 0..=1]) => {
-                self.drop_page(*process, *address, *by_command == 1)
-            }
-            _ => self.call_without_page(verb, operands),
+    /// The entries of a process, none where there is no such process.
+    pub fn entries(&self, process: u32) -> &[TableEntry] {
+        if self.is_within(process) {
+            self.grants.table().entries(process)
+        } else {
+            &[]
         }
     }
 
-    /// The outcome of a call that names no page.
-    fn call_without_page(
-        &mut self,
-        verb: &str,
-        operands: &[u32],
-    ) -> Option<Result<(), GrantFault>> {
-        match (verb, operands) {
-            ("end", [process]) => self.end(*process),
-            ("split", [process, address]) => self.split(*process, *address),
-            ("expire", [now]) => self.expire(*now),
-            _ => self.call_anyhow(verb, operands),
-        }
-    }
-
-    /// The outcome of a call that is asked whoever the process is.
-    fn call_anyhow(&mut self, verb: &str, operands: &[u32]) -> Option<Result<(), GrantFault>> {
-        match (verb, operands) {
-            ("take", [caller, process, address]) => Some(self.take(*caller, *process, *address)),
-            ("revoke", [process, address, rule]) => Some(self.revoke(*process, *address, *rule)),
-            ("narrow", [process, address]) => Some(self.narrow(*process, *address)),
-            _ => None,
-        }
-    }
-
-    /// A process takes back what it gave.
-    fn take(&mut self, caller: u32, process: u32, address: u32) -> Result<(), GrantFault> {
-        self.grants.take(
-            caller,
-            process,
-            address,
-            &mut self.memory,
-            &mut self.tables,
-            &mut self.spaces,
-            &mut self.buffer,
-        )
-    }
-
-    /// The operator revokes an entry.
-    fn revoke(&mut self, process: u32, address: u32, rule: u32) -> Result<(), GrantFault> {
-        self.grants.revoke(
-            process,
-            address,
-            rule,
-            &mut self.memory,
-            &mut self.tables,
-            &mut self.spaces,
-            &mut self.buffer,
-        )
-    }
-
-    /// The operator narrows an entry.
-    fn narrow(&mut self, process: u32, address: u32) -> Result<(), GrantFault> {
-        self.grants.narrow(
-            process,
-            address,
-            &mut self.memory,
-            &mut self.tables,
-            &mut self.spaces,
-            &mut self.buffer,
-        )
-    }
-
-    /// A process gives what it has.
-    fn give(
-        &mut self,
-        caller: u32,
-        address: u32,
-        receiver: u32,
-        to: u32,
-        mode: u32,
-    ) -> Option<Result<(), GrantFault>> {
-        if !self.is_within(caller) {
-            return None;
-        }
-        let (memory, tables) = (&mut self.memory, &mut self.tables);
-        let (spaces, buffer) = (&mut self.spaces, &mut self.buffer);
-        let outcome = self.grants.give(
-            caller, address, receiver, to, mode, memory, tables, spaces, buffer,
-        );
-        if mode == COPY && outcome.is_ok() {
-            self.note_copy(caller, address, receiver, to);
+    /// The outcome of a call; none where nobody can call so. Where it gave a copy, that lies where its page
+    /// lies.
+    pub fn call(&mut self, call: Call, operands: [u32; 6]) -> Option<Result<(), GrantFault>> {
+        let [a, b, c, d, e, _] = operands;
+        let outcome = self.outcome(call, operands)?;
+        if matches!(call, Call::Give) && e == COPY && outcome.is_ok() {
+            self.note_copy(a, b, c, d);
         }
         Some(outcome)
     }
 
-    /// The page at an address was copied to another.
-    fn note_copy(&mut self, caller: u32, address: u32, receiver: u32, to: u32) {
-        if let (Some(page), Some(copy)) = (self.page(caller, address), self.page(receiver, to)) {
-            self.lying.copy(page, copy);
-        }
+    /// The outcome of a call on the grants; none where nobody can call so.
+    fn outcome(&mut self, call: Call, operands: [u32; 6]) -> Option<Result<(), GrantFault>> {
+        let [a, b, c, d, e, f] = operands;
+        let (named, is_within, right) = (self.named, self.is_within(a), right_of(d));
+        let (grants, memory, tables) = (&mut self.grants, &mut self.memory, &mut self.tables);
+        let (spaces, buffer) = (&mut self.spaces, &mut self.buffer);
+        let outcome = match call {
+            Call::Grant if c < named && d <= 1 && e <= 1 && right != Right::Nothing => {
+                grants.grant(a, b, c, right, e == 1, f, memory, tables, spaces, buffer)
+            }
+            Call::Give if is_within => {
+                grants.give(a, b, c, d, e, memory, tables, spaces, buffer)
+            }
+            Call::Split => return self.split(a, b),
+            Call::Take => grants.take(a, b, c, memory, tables, spaces, buffer),
+            Call::Drop if c == 1 || c == 0 && is_within => {
+                grants.drop_page(a, b, c == 1, memory, tables, spaces, buffer)
+            }
+            Call::Revoke => grants.revoke(a, b, c, memory, tables, spaces, buffer),
+            Call::Narrow => grants.narrow(a, b, memory, tables, spaces, buffer),
+            Call::End if is_within => {
+                grants.end_process(a, memory, tables, spaces, buffer);
+                Ok(())
+            }
+            Call::Expire => {
+                grants.expire(u64::from(a), memory, tables, spaces, buffer);
+                Ok(())
+            }
+            _ => return None,
+        };
+        Some(outcome)
+    }
+
+    /// The page at an address was copied to another; none where there is no page.
+    fn note_copy(&mut self, caller: u32, address: u32, receiver: u32, to: u32) -> Option<()> {
+        let from = self.entry(caller, address)?;
+        let copy = self.entry(receiver, to)?;
+        self.lying.copy(from.page?, copy.page?);
+        Some(())
     }
 
     /// The page at an address gets a frame of its own, before the first store to it; none where the
     /// process may not store there.
     fn split(&mut self, process: u32, address: u32) -> Option<Result<(), GrantFault>> {
         let grant = self.entry(process, address)?;
-        match grant.right {
-            Right::Write => {}
-            Right::Nothing | Right::Read => return None,
+        if !matches!(grant.right, Right::Write) {
+            return None;
         }
         if let Some(page) = grant.page {
             let live = self.live_pages();
@@ -261,77 +197,6 @@ impl<L: Lookaside> Replay<L> {
             &mut self.buffer,
         );
         Some(Ok(()))
-    }
-
-    /// The operator grants a page that has a name.
-    fn grant(
-        &mut self,
-        process: u32,
-        address: u32,
-        page: u32,
-        right: Right,
-        give: bool,
-        rule: u32,
-    ) -> Option<Result<(), GrantFault>> {
-        if page >= self.named || right == Right::Nothing {
-            return None;
-        }
-        let (memory, tables) = (&mut self.memory, &mut self.tables);
-        let (spaces, buffer) = (&mut self.spaces, &mut self.buffer);
-        let outcome = self.grants.grant(
-            process, address, page, right, give, rule, memory, tables, spaces, buffer,
-        );
-        Some(outcome)
-    }
-
-    /// A process drops an entry, or the operator does.
-    fn drop_page(
-        &mut self,
-        process: u32,
-        address: u32,
-        by_command: bool,
-    ) -> Option<Result<(), GrantFault>> {
-        if !by_command && !self.is_within(process) {
-            return None;
-        }
-        let (memory, tables) = (&mut self.memory, &mut self.tables);
-        let (spaces, buffer) = (&mut self.spaces, &mut self.buffer);
-        let outcome = self.grants.drop_page(
-            process, address, by_command, memory, tables, spaces, buffer,
-        );
-        Some(outcome)
-    }
-
-    /// A process ends.
-    fn end(&mut self, process: u32) -> Option<Result<(), GrantFault>> {
-        if !self.is_within(process) {
-            return None;
-        }
-        self.grants.end_process(
-            process,
-            &mut self.memory,
-            &mut self.tables,
-            &mut self.spaces,
-            &mut self.buffer,
-        );
-        Some(Ok(()))
-    }
-
-    /// The rights end that have ended by a time.
-    fn expire(&mut self, now: u32) -> Option<Result<(), GrantFault>> {
-        self.grants.expire(
-            u64::from(now),
-            &mut self.memory,
-            &mut self.tables,
-            &self.spaces,
-            &mut self.buffer,
-        );
-        Some(Ok(()))
-    }
-
-    /// The number of a process's address space, if it has one.
-    pub fn space_of(&self, process: u32) -> Option<u8> {
-        self.spaces.of(process)
     }
 
     /// The number of a process that comes on the processor: its own, or else the next. None where
@@ -359,16 +224,9 @@ impl<L: Lookaside> Replay<L> {
     fn live_pages(&self) -> [bool; PAGES] {
         let mut live = named_pages(self.named);
         for process in 1..=PROCESSES {
-            if self.is_within(process) {
-                note_pages(&mut live, self.grants.table().entries(process));
-            }
+            note_pages(&mut live, self.entries(process));
         }
         live
-    }
-
-    /// The page at an address of a process, if there is one.
-    fn page(&self, process: u32, address: u32) -> Option<u32> {
-        self.entry(process, address)?.page
     }
 
     /// What is granted to a process at an address.

@@ -1,6 +1,7 @@
 //! What arithmetic makes of words, and the fields of an instruction.
 
-use crate::machine::told::Answer;
+use crate::numbers::Numbers;
+use crate::told::{Answer, Token};
 use ds_word::{
     byte_signed, byte_unsigned, checked_difference, checked_sum, code, div_signed, div_unsigned,
     funct, half_signed, half_unsigned, imm, is_negative, merge_left, merge_right, mul_signed,
@@ -9,105 +10,152 @@ use ds_word::{
     wrapping_difference, wrapping_sum,
 };
 
-/// What a function of words answers; none where there is no function of that name with so many
-/// operands.
-pub fn answer(name: &str, operands: &[u32]) -> Option<Answer> {
-    match (name, operands) {
-        ("fields", [word]) => Some(Answer::Fields(fields(*word))),
-        (_, [word]) => of_one(name, *word).map(Answer::Number),
-        (_, [a, b]) => of_two(name, *a, *b),
-        (_, [word, register, place @ 0..=3]) => {
-            of_place(name, *word, *register, *place).map(Answer::Number)
-        }
-        _ => None,
-    }
+/// A function of words.
+#[derive(Clone, Copy)]
+pub enum Function {
+    /// The six fields of a word.
+    Fields,
+    OfOne(OfOne),
+    ToOne(ToOne),
+    ToTwo(ToTwo),
+    OfPlace(OfPlace),
+}
+
+/// A function of one word.
+#[derive(Clone, Copy)]
+pub enum OfOne {
+    Imm,
+    Target,
+    Code,
+    Sign16,
+    Upper,
+    IsNegative,
+}
+
+/// A function of two words that makes one, or of a word and a place in it.
+#[derive(Clone, Copy)]
+pub enum ToOne {
+    WrappingSum,
+    WrappingDifference,
+    SignedLess,
+    ShiftLeft,
+    ShiftRightLogical,
+    ShiftRightArithmetic,
+    ByteUnsigned,
+    ByteSigned,
+    HalfUnsigned,
+    HalfSigned,
+}
+
+/// A function of two words that makes two, or that may make none.
+#[derive(Clone, Copy)]
+pub enum ToTwo {
+    MulSigned,
+    MulUnsigned,
+    DivSigned,
+    DivUnsigned,
+    CheckedSum,
+    CheckedDifference,
+}
+
+/// A function of a word, a register and a place in the word.
+#[derive(Clone, Copy)]
+pub enum OfPlace {
+    MergeLeft,
+    MergeRight,
+    StoreLeft,
+    StoreRight,
+    StoreByte,
+    StoreHalf,
+}
+
+/// What a function of words answers; none where it has no such operands.
+pub fn answer(function: Function, numbers: &Numbers) -> Option<Answer> {
+    let (a, b, c) = (numbers.all[0], numbers.all[1], numbers.all[2]);
+    let word = match function {
+        Function::Fields => return Some(fields(a)),
+        Function::ToTwo(function) => return Some(to_two(function, a, b)),
+        Function::OfOne(function) => of_one(function, a)?,
+        Function::ToOne(function) => to_one(function, a, b)?,
+        Function::OfPlace(function) => of_place(function, a, b, c)?,
+    };
+    Some(Answer::hex(word))
 }
 
 /// The six fields of a word, by their numbers.
-fn fields(word: u32) -> [u8; 6] {
-    let (source, second, destination) = (rs(word), rt(word), rd(word));
-    [
-        op(word),
-        source,
-        second,
-        destination,
-        shamt(word),
-        funct(word),
-    ]
+fn fields(word: u32) -> Answer {
+    Answer::of(&[
+        Token::Number(u32::from(op(word))),
+        Token::Number(u32::from(rs(word))),
+        Token::Number(u32::from(rt(word))),
+        Token::Number(u32::from(rd(word))),
+        Token::Number(u32::from(shamt(word))),
+        Token::Number(u32::from(funct(word))),
+    ])
 }
 
-/// The functions of one word.
-fn of_one(name: &str, word: u32) -> Option<u32> {
-    match name {
-        "imm" => Some(imm(word) as u32),
-        "target" => Some(target(word)),
-        "code" => Some(code(word)),
-        "sign16" if word <= 0xffff => Some(sign16(word as u16)),
-        "upper" if word <= 0xffff => Some(upper(word as u16)),
-        "is_negative" => Some(is_negative(word) as u32),
-        _ => None,
-    }
+/// What a function of one word makes.
+fn of_one(function: OfOne, word: u32) -> Option<u32> {
+    Some(match function {
+        OfOne::Imm => imm(word) as u32,
+        OfOne::Target => target(word),
+        OfOne::Code => code(word),
+        OfOne::IsNegative => is_negative(word) as u32,
+        _ if word > 0xffff => return None,
+        OfOne::Sign16 => sign16(word as u16),
+        OfOne::Upper => upper(word as u16),
+    })
 }
 
-/// The functions of two words.
-fn of_two(name: &str, a: u32, b: u32) -> Option<Answer> {
-    match to_one(name, a, b) {
-        Some(word) => Some(Answer::Number(word)),
-        None => to_two(name, a, b),
-    }
+/// What a function of two words makes, or of a word and a place in it.
+fn to_one(function: ToOne, a: u32, b: u32) -> Option<u32> {
+    Some(match function {
+        ToOne::WrappingSum => wrapping_sum(a, b),
+        ToOne::WrappingDifference => wrapping_difference(a, b),
+        ToOne::SignedLess => signed_less(a, b) as u32,
+        _ if b > 0xff => return None,
+        ToOne::ShiftLeft => shift_left(a, b as u8),
+        ToOne::ShiftRightLogical => shift_right_logical(a, b as u8),
+        ToOne::ShiftRightArithmetic => shift_right_arithmetic(a, b as u8),
+        _ if b > 3 => return None,
+        ToOne::ByteUnsigned => byte_unsigned(a, b),
+        ToOne::ByteSigned => byte_signed(a, b),
+        ToOne::HalfUnsigned => half_unsigned(a, b),
+        ToOne::HalfSigned => half_signed(a, b),
+    })
 }
 
-/// The functions of two words that make one, and of a word and a place in it.
-fn to_one(name: &str, a: u32, b: u32) -> Option<u32> {
-    match name {
-        "wrapping_sum" => Some(wrapping_sum(a, b)),
-        "wrapping_difference" => Some(wrapping_difference(a, b)),
-        "shift_left" if b <= 0xff => Some(shift_left(a, b as u8)),
-        "shift_right_logical" if b <= 0xff => Some(shift_right_logical(a, b as u8)),
-        "shift_right_arithmetic" if b <= 0xff => Some(shift_right_arithmetic(a, b as u8)),
-        "signed_less" => Some(signed_less(a, b) as u32),
-        "byte_unsigned" if b <= 3 => Some(byte_unsigned(a, b)),
-        "byte_signed" if b <= 3 => Some(byte_signed(a, b)),
-        "half_unsigned" if b <= 3 => Some(half_unsigned(a, b)),
-        "half_signed" if b <= 3 => Some(half_signed(a, b)),
-        _ => None,
-    }
+/// What a function of a word, a register and a place in the word makes.
+fn of_place(function: OfPlace, word: u32, register: u32, place: u32) -> Option<u32> {
+    Some(match function {
+        _ if place > 3 => return None,
+        OfPlace::MergeLeft => merge_left(word, register, place),
+        OfPlace::MergeRight => merge_right(word, register, place),
+        OfPlace::StoreLeft => store_left(word, register, place),
+        OfPlace::StoreRight => store_right(word, register, place),
+        OfPlace::StoreByte => store_byte(word, register, place),
+        OfPlace::StoreHalf if place > 2 => return None,
+        OfPlace::StoreHalf => store_half(word, register, place),
+    })
 }
 
-/// The functions of a word, a register and a place in the word.
-fn of_place(name: &str, word: u32, register: u32, place: u32) -> Option<u32> {
-    if place > 3 {
-        return None;
-    }
-    match name {
-        "merge_left" => Some(merge_left(word, register, place)),
-        "merge_right" => Some(merge_right(word, register, place)),
-        "store_left" => Some(store_left(word, register, place)),
-        "store_right" => Some(store_right(word, register, place)),
-        "store_byte" => Some(store_byte(word, register, place)),
-        "store_half" if place <= 2 => Some(store_half(word, register, place)),
-        _ => None,
-    }
-}
-
-/// The functions of two words that make two, or that may make none.
-fn to_two(name: &str, a: u32, b: u32) -> Option<Answer> {
-    let (high, low) = match name {
-        "mul_signed" => mul_signed(a, b),
-        "mul_unsigned" => mul_unsigned(a, b),
-        "div_signed" => div_signed(a, b),
-        "div_unsigned" => div_unsigned(a, b),
-        "checked_sum" => return Some(told(checked_sum(a, b))),
-        "checked_difference" => return Some(told(checked_difference(a, b))),
-        _ => return None,
+/// What a function of two words makes that makes two, or that may make none.
+fn to_two(function: ToTwo, a: u32, b: u32) -> Answer {
+    let (high, low) = match function {
+        ToTwo::MulSigned => mul_signed(a, b),
+        ToTwo::MulUnsigned => mul_unsigned(a, b),
+        ToTwo::DivSigned => div_signed(a, b),
+        ToTwo::DivUnsigned => div_unsigned(a, b),
+        ToTwo::CheckedSum => return told(checked_sum(a, b)),
+        ToTwo::CheckedDifference => return told(checked_difference(a, b)),
     };
-    Some(Answer::Two(high, low))
+    Answer::of(&[Token::Hex(high), Token::Hex(low)])
 }
 
 /// A word, or - for none.
 fn told(word: Option<u32>) -> Answer {
     match word {
-        Some(word) => Answer::Number(word),
-        None => Answer::Said("-"),
+        Some(word) => Answer::hex(word),
+        None => Answer::said("-"),
     }
 }

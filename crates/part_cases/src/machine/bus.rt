@@ -1,24 +1,37 @@
 //! Steps on the bus.
 ghost use Rattle.std.specs.Prelude.{◌≤◌};
 
-use crate::machine::told::Answer;
+use crate::numbers::Numbers;
+use crate::told::{Answer, Token};
 use ds_dev::Bus;
 use ds_isa::Size;
 
-/// What the bus answers to a step; none where there is no step of that name with such operands.
-pub fn answer(bus: &mut Bus, step: &str, operands: &[u32]) -> Option<Answer> {
-    match (step, operands) {
-        ("sent", []) => Some(sent(bus)),
-        ("lines", []) => Some(Answer::Said(lines(bus))),
-        ("receive", [line @ 0..=3, byte @ 0..=255]) => {
-            let taken = bus.receive(*line as u8, *byte as u8);
-            Some(Answer::Said(if taken { "taken" } else { "lost" }))
+/// A step on the bus.
+#[derive(Clone, Copy)]
+pub enum Step {
+    Sent,
+    Lines,
+    Receive,
+    Tick,
+    Access(Size),
+}
+
+/// What the bus answers to a step; none where it has no such operands.
+pub fn answer(bus: &mut Bus, step: Step, numbers: &Numbers) -> Option<Answer> {
+    let (a, b) = (numbers.all[0], numbers.all[1]);
+    match step {
+        Step::Sent => Some(sent(bus)),
+        Step::Lines => Some(Answer::said(lines(bus))),
+        Step::Receive if a <= 3 && b <= 255 => {
+            let taken = bus.receive(a as u8, b as u8);
+            Some(Answer::said(if taken { "taken" } else { "lost" }))
         }
-        ("tick", [ticks @ 1..=2, times]) => {
-            tick(bus, *ticks, *times);
-            Some(Answer::Said("done"))
+        Step::Tick if a == 1 || a == 2 => {
+            tick(bus, a, b);
+            Some(Answer::said("done"))
         }
-        _ => access(bus, size_of(step)?, operands),
+        Step::Access(size) => access(bus, size, numbers),
+        _ => None,
     }
 }
 
@@ -31,40 +44,30 @@ fn tick(bus: &mut Bus, ticks: u32, times: u32)
     }
 }
 
-/// How much a step loads or stores.
-fn size_of(step: &str) -> Option<Size> {
-    match step {
-        "byte" => Some(Size::Byte),
-        "half" => Some(Size::Half),
-        "word" => Some(Size::Word),
-        "part" => Some(Size::Part),
-        _ => None,
-    }
-}
-
 /// Loads from an address, or stores the value after it there.
-fn access(bus: &mut Bus, size: Size, operands: &[u32]) -> Option<Answer> {
-    let answered = match operands {
-        [address] if size.is_aligned(*address) => match bus.load(*address, size) {
-            Ok(value) => Answer::Number(value),
-            Err(_) => Answer::Said("refused"),
-        },
-        [address, value] if size.is_aligned(*address) => {
-            match bus.store(*address, size, *value) {
-                Ok(()) => Answer::Said("stored"),
-                Err(_) => Answer::Said("refused"),
-            }
-        }
-        _ => return None,
-    };
-    Some(answered)
+fn access(bus: &mut Bus, size: Size, numbers: &Numbers) -> Option<Answer> {
+    let address = numbers.all[0];
+    if !size.is_aligned(address) {
+        return None;
+    }
+    if numbers.count == 1 {
+        return Some(match bus.load(address, size) {
+            Ok(value) => Answer::hex(value),
+            Err(_) => Answer::said("refused"),
+        });
+    }
+    let stored = bus.store(address, size, numbers.all[1]).is_ok();
+    Some(Answer::said(if stored { "stored" } else { "refused" }))
 }
 
-/// The character that waits to leave.
+/// The character that waits to leave: its line and its byte.
 fn sent(bus: &mut Bus) -> Answer {
     match bus.sent() {
-        Some((line, byte)) => Answer::Sent(line, byte),
-        None => Answer::Said("nothing"),
+        Some((line, byte)) => Answer::of(&[
+            Token::Number(u32::from(line)),
+            Token::Hex(u32::from(byte)),
+        ]),
+        None => Answer::said("nothing"),
     }
 }
 

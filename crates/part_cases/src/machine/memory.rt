@@ -1,87 +1,104 @@
 //! Steps on the memory, and on the page tables in it.
 
-use ds_mem::{FRAMES, Memory, SIZE};
+use crate::numbers::Numbers;
+use ds_mem::{FRAME_SIZE, FRAMES, Memory, SIZE};
 use ds_tables::{Tables, pte_address};
 
 /// What a frame is told to be filled with where its bytes differ.
-pub const MIXED: u32 = 0x100;
+const MIXED: u32 = 0x100;
+
+/// A step on the memory or its page tables.
+#[derive(Clone, Copy)]
+pub enum Step {
+    Word,
+    Put,
+    Entry,
+    Open,
+    Close,
+    Tables,
+    TableFrame,
+    EntryAddress,
+    OfFrame(OfFrame),
+}
+
+/// A step on a frame.
+#[derive(Clone, Copy)]
+pub enum OfFrame {
+    Byte,
+    Set,
+    Fill,
+    Filled,
+    Frames,
+    Copy,
+}
 
 /// What the memory or its page tables answer to a step: a number, which is 0 where something is only
-/// done. None where there is no step of that name with such operands.
+/// done. None where there are no such operands.
 pub fn answer(
     memory: &mut Memory,
     tables: &mut Tables,
-    step: &str,
-    operands: &[u32],
+    step: Step,
+    numbers: &Numbers,
 ) -> Option<u32> {
-    match (step, operands) {
-        ("word", [place]) => word(memory, *place),
-        ("put", [place, value]) => put(memory, *place, *value),
-        ("byte", [frame, offset]) => byte(memory, *frame, *offset),
-        ("set", [frame, offset, value]) => set(memory, *frame, *offset, *value),
-        _ => of_frames(memory, tables, step, operands),
+    let (a, b, c) = (numbers.all[0], numbers.all[1], numbers.all[2]);
+    match step {
+        Step::Word if a % 4 == 0 && (a as usize) < SIZE => Some(memory.word(a)),
+        Step::Put if a % 4 == 0 && (a as usize) < SIZE => {
+            memory.put_word(a, b);
+            Some(0)
+        }
+        Step::Entry => Some(tables.entry(memory, a, b)),
+        Step::Open => Some(open(memory, tables, a, b, c)),
+        Step::Close => {
+            tables.close(a, b);
+            Some(0)
+        }
+        Step::Tables => {
+            *tables = Tables::new(a as usize);
+            Some(0)
+        }
+        Step::TableFrame => u32::try_from(tables.page_of_table(a, b)).ok(),
+        Step::EntryAddress => Some(pte_address(a)),
+        Step::OfFrame(step) => of_frame(memory, step, a, b, c),
+        _ => None,
     }
 }
 
-/// What whole frames answer to a step.
-fn of_frames(
-    memory: &mut Memory,
-    tables: &mut Tables,
-    step: &str,
-    operands: &[u32],
-) -> Option<u32> {
-    match (step, operands) {
-        ("fill", [frame, value]) => fill(memory, *frame, *value),
-        ("filled", [frame]) => filled(memory, *frame),
-        ("frames", [value]) => Some(frames(memory, *value)),
-        ("copy", [from, to]) => copy(memory, *from, *to),
-        _ => of_tables(memory, tables, step, operands),
+/// Puts a page-table word at a process's address; the number of the refusal, if it is refused.
+fn open(memory: &mut Memory, tables: &mut Tables, process: u32, address: u32, word: u32) -> u32 {
+    match tables.put_entry(memory, process, address, word) {
+        Ok(()) => 0,
+        Err(refused) => refused.number(),
     }
 }
 
-/// The word at a place.
-fn word(memory: &Memory, place: u32) -> Option<u32> {
-    if place % 4 != 0 || place as usize >= SIZE {
-        return None;
+/// What a frame answers to a step, or all frames about a byte.
+fn of_frame(memory: &mut Memory, step: OfFrame, frame: u32, a: u32, b: u32) -> Option<u32> {
+    let offset = a as usize;
+    match step {
+        _ if frame as usize >= FRAMES => None,
+        OfFrame::Byte if offset < FRAME_SIZE => Some(u32::from(memory.frame(frame)[offset])),
+        OfFrame::Set if offset < FRAME_SIZE && b < 256 => {
+            memory.frame_mut(frame)[offset] = b as u8;
+            Some(0)
+        }
+        OfFrame::Fill => fill(memory, frame, a),
+        OfFrame::Filled => filled(memory, frame),
+        OfFrame::Frames => Some(frames(memory, frame)),
+        OfFrame::Copy if offset < FRAMES => {
+            memory.copy_frame(frame, a);
+            Some(0)
+        }
+        _ => None,
     }
-    Some(memory.word(place))
-}
-
-/// Puts a word at a place.
-fn put(memory: &mut Memory, place: u32, value: u32) -> Option<u32> {
-    if place % 4 != 0 || place as usize >= SIZE {
-        return None;
-    }
-    memory.put_word(place, value);
-    Some(0)
-}
-
-/// A byte of a frame.
-fn byte(memory: &Memory, frame: u32, offset: u32) -> Option<u32> {
-    if frame as usize >= FRAMES {
-        return None;
-    }
-    let byte = memory.frame(frame).get(offset as usize)?;
-    Some(u32::from(*byte))
-}
-
-/// Sets a byte of a frame.
-fn set(memory: &mut Memory, frame: u32, offset: u32, value: u32) -> Option<u32> {
-    let value = u8::try_from(value).ok()?;
-    if frame as usize >= FRAMES {
-        return None;
-    }
-    *memory.frame_mut(frame).get_mut(offset as usize)? = value;
-    Some(0)
 }
 
 /// Fills a frame with a byte.
 pub fn fill(memory: &mut Memory, frame: u32, value: u32) -> Option<u32> {
-    let value = u8::try_from(value).ok()?;
-    if frame as usize >= FRAMES {
+    if frame as usize >= FRAMES || value > 255 {
         return None;
     }
-    memory.frame_mut(frame).fill(value);
+    memory.frame_mut(frame).fill(value as u8);
     Some(0)
 }
 
@@ -91,13 +108,13 @@ pub fn filled(memory: &Memory, frame: u32) -> Option<u32> {
         return None;
     }
     let bytes = memory.frame(frame);
-    let first = bytes.first()?;
-    for byte in bytes.iter() {
-        if byte != first {
+    let first = bytes[0];
+    for byte in bytes {
+        if *byte != first {
             return Some(MIXED);
         }
     }
-    Some(u32::from(*first))
+    Some(u32::from(first))
 }
 
 /// How many frames are filled with a byte.
@@ -109,38 +126,4 @@ fn frames(memory: &Memory, value: u32) -> u32 {
         }
     }
     count
-}
-
-/// Copies a frame to another.
-fn copy(memory: &mut Memory, from: u32, to: u32) -> Option<u32> {
-    if from as usize >= FRAMES || to as usize >= FRAMES {
-        return None;
-    }
-    memory.copy_frame(from, to);
-    Some(0)
-}
-
-/// What page tables answer to a step.
-fn of_tables(
-    memory: &mut Memory,
-    tables: &mut Tables,
-    step: &str,
-    operands: &[u32],
-) -> Option<u32> {
-    match (step, operands) {
-        ("tables", [processes]) => *tables = Tables::new(*processes as usize),
-        ("open", [process, address, word]) => {
-            if let Err(refused) = tables.put_entry(memory, *process, *address, *word) {
-                return Some(refused.number());
-            }
-        }
-        ("close", [process, region]) => tables.close(*process, *region),
-        ("entry", [process, address]) => return Some(tables.entry(memory, *process, *address)),
-        ("frame", [process, region]) => return u32::try_from(tables.page_of_table(
-            *process, *region,
-        )).ok(),
-        ("pte", [address]) => return Some(pte_address(*address)),
-        _ => return None,
-    }
-    Some(0)
 }

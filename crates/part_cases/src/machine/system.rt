@@ -1,99 +1,74 @@
 //! Steps on the system coprocessor.
 ghost use Rattle.std.specs.Prelude.{◌≤◌};
 
-use crate::machine::told::Answer;
-use ds_cp0::{Cp0, Exception, ExceptionCode};
+use crate::exceptions::EXCEPTIONS;
+use crate::numbers::Numbers;
+use crate::told::{Answer, Token};
+use ds_cp0::{Cp0, Exception};
 
-/// What the system coprocessor answers to a step; none where there is no step of that name with such
-/// operands.
-pub fn answer(cp0: &mut Cp0, step: &str, operands: &[u32]) -> Option<Answer> {
-    match (step, operands) {
-        ("read", [register @ 0..=31]) => Some(Answer::Number(cp0.read(*register as u8))),
-        ("write", [register @ 0..=31, value]) => {
-            cp0.write(*register as u8, *value);
-            Some(Answer::Said("done"))
-        }
-        ("rfe", []) => {
+/// A step on the system coprocessor.
+#[derive(Clone, Copy)]
+pub enum Step {
+    Read,
+    Write,
+    Rfe,
+    Enter,
+    Nonzero,
+    AddressSpace,
+    Mode,
+    Pending,
+}
+
+/// What the system coprocessor answers to a step; none where it has no such operands.
+pub fn answer(cp0: &mut Cp0, step: Step, numbers: &Numbers) -> Option<Answer> {
+    let (number, value) = (numbers.all[0], numbers.all[1]);
+    let word = match step {
+        Step::Enter => return enter(cp0, numbers),
+        Step::Nonzero => return Some(nonzero(cp0)),
+        Step::AddressSpace => return Some(Answer::hex(u32::from(cp0.asid()))),
+        Step::Mode => if cp0.user() { "user" } else { "kernel" },
+        Step::Pending if cp0.pending(number == 1, value == 1) => "true",
+        Step::Pending => "false",
+        Step::Rfe => {
             cp0.rfe();
-            Some(Answer::Said("done"))
+            "done"
         }
-        ("enter", operands) => enter(cp0, operands),
-        _ => shown(cp0, step, operands),
-    }
+        _ if number > 31 => return None,
+        Step::Read => return Some(Answer::hex(cp0.read(number as u8))),
+        Step::Write => {
+            cp0.write(number as u8, value);
+            "done"
+        }
+    };
+    Some(Answer::said(word))
 }
 
-/// What is answered to a step that changes nothing.
-fn shown(cp0: &Cp0, step: &str, operands: &[u32]) -> Option<Answer> {
-    match (step, operands) {
-        ("mode", []) => Some(Answer::Said(if cp0.user() { "user" } else { "kernel" })),
-        ("address_space", []) => Some(Answer::Number(u32::from(cp0.asid()))),
-        ("pending", [system, clock]) => {
-            let pending = cp0.pending(*system == 1, *clock == 1);
-            Some(Answer::Said(if pending { "true" } else { "false" }))
-        }
-        ("nonzero", []) => Some(Answer::Registers(registers(cp0))),
-        _ => None,
-    }
-}
-
-/// What each register reads.
-fn registers(cp0: &Cp0) -> [u32; 32] {
-    let mut values = [0; 32];
+/// The numbers of the registers that do not read 0, each with what it reads.
+fn nonzero(cp0: &Cp0) -> Answer {
+    let mut answer = Answer::of(&[]);
     for number in 0..32u8 {
-        values[number as usize] = cp0.read(number);
+        let value = cp0.read(number);
+        if value != 0 {
+            answer.push(&[Token::Hex(u32::from(number)), Token::Hex(value)]);
+        }
     }
-    values
+    answer
 }
 
 /// Enters an exception of the instruction at 00400000: its cause, the coprocessor, 1 where it is in
 /// a slot, 1 where no entry matched, and the address that was refused, if there is one.
-fn enter(cp0: &mut Cp0, operands: &[u32]) -> Option<Answer> {
-    let [cause, unit @ 0..=3, slot, miss, refused @ ..] = operands else {
+fn enter(cp0: &mut Cp0, numbers: &Numbers) -> Option<Answer> {
+    let (cause, unit) = (numbers.all[0] as usize, numbers.all[1]);
+    if unit > 3 {
         return None;
-    };
-    let code = code_of(*cause)?;
-    let addr = refused.first().copied();
-    let vector = enter_from(cp0, code, *unit as u8, *slot == 1, *miss == 1, addr);
-    Some(Answer::Number(vector))
-}
-
-/// Enters an exception of the instruction at 00400000; its vector.
-fn enter_from(
-    cp0: &mut Cp0,
-    code: ExceptionCode,
-    unit: u8,
-    slot: bool,
-    miss: bool,
-    addr: Option<u32>,
-) -> u32
-    requires { unit ≤ 3 }
-{
-    cp0.enter(Exception {
-        code,
+    }
+    let vector = cp0.enter(Exception {
+        code: *EXCEPTIONS.get(cause)?,
         pc: 0x40_0000,
-        slot,
-        unit,
-        addr,
-        miss,
-    })
-}
-
-/// The cause that Cause shows by a number.
-fn code_of(number: u32) -> Option<ExceptionCode> {
-    let codes = [
-        ExceptionCode::Interrupt,
-        ExceptionCode::Modification,
-        ExceptionCode::LoadMiss,
-        ExceptionCode::StoreMiss,
-        ExceptionCode::LoadAddress,
-        ExceptionCode::StoreAddress,
-        ExceptionCode::FetchBus,
-        ExceptionCode::DataBus,
-        ExceptionCode::SystemCall,
-        ExceptionCode::Breakpoint,
-        ExceptionCode::ReservedInstruction,
-        ExceptionCode::CoprocessorUnusable,
-        ExceptionCode::Overflow,
-    ];
-    codes.get(number as usize).copied()
+        slot: numbers.all[2] == 1,
+        unit: unit as u8,
+        addr: numbers.given().get(4).copied(),
+        miss: numbers.all[3] == 1,
+    });
+    Some(Answer::hex(vector))
 }

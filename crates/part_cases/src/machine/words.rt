@@ -2,59 +2,68 @@
 ghost use Rattle.std.specs.Prelude.{◌≡◌, ℕ};
 ghost use Rattle.ds_isa.specs.Instruction.{instruction_of};
 
+use crate::numbers::Numbers;
+use crate::told::{Answer, Token, number_or};
 use ds_isa::{Instr, decode, encode, is_branch, links, reads, writes};
 use ds_operations::Operation;
-use std::alloc::{AllocError, Global};
-use std::fmt;
+
+/// What is asked about words.
+#[derive(Clone, Copy)]
+pub enum Question {
+    /// The instruction of a word.
+    Decoded,
+    /// The registers that its instruction uses.
+    Registers,
+    /// The operation of its instruction.
+    Operation,
+    /// What words are that fit no row.
+    Rowless,
+}
+
+/// What is answered to a question about words.
+pub fn answer(question: Question, numbers: &Numbers) -> Option<Answer> {
+    let words = numbers.given();
+    let word = *words.first()?;
+    Some(match question {
+        Question::Decoded => told_instruction(word),
+        Question::Registers => registers_of(word),
+        Question::Operation => Answer::of(&[Token::Operation(Operation::of(decode(word)).kind)]),
+        Question::Rowless => kind_of_all(words, told(kind_of(word))),
+    })
+}
 
 /// The instruction of a word, and the word again where encoding does not give it back.
-pub fn instruction_of(alloc: Global, word: u32) -> Result<String, AllocError> {
+fn told_instruction(word: u32) -> Answer {
     let instr = decode(word);
-    let mut text = format!(in alloc; "{instr:?}")?;
-    push_other(&mut text, encode(&instr), word)?;
-    Ok(text)
-}
-
-/// Adds the word that encoding gives back, where it is another.
-fn push_other(text: &mut String, again: u32, word: u32) -> Result<(), AllocError> {
-    if again == word {
-        return Ok(());
+    let mut answer = Answer::of(&[Token::Instruction(instr)]);
+    let again = encode(&instr);
+    if again != word {
+        answer.push(&[Token::Word("as"), Token::Hex(again)]);
     }
-    write!(text, " as {again:08x}")
-}
-
-/// A register's number, or - for none.
-#[derive(Clone, Copy)]
-struct Register(Option<u8>);
-
-impl fmt::Display for Register {
-    fn fmt<W: fmt::Write>(&self, f: &mut fmt::Formatter<W>) -> fmt::Result {
-        match self.0 {
-            Some(number) => write!(f, "{number}"),
-            None => write!(f, "-"),
-        }
-    }
+    answer
 }
 
 /// The registers that an instruction reads in rs and in rt, what it writes, where it links, and
 /// whether it is a branch or jump.
-pub fn registers_of(alloc: Global, word: u32) -> Result<String, AllocError> {
+fn registers_of(word: u32) -> Answer {
     let instr = decode(word);
     let sources = reads(&instr);
-    let (rs, rt) = (Register(sources.rs), Register(sources.rt));
-    let (written, linked) = (Register(writes(&instr)), Register(links(&instr)));
-    let kind = if is_branch(&instr) { "branch" } else { "other" };
-    format!(in alloc; "{rs} {rt} {written} {linked} {kind}")
+    Answer::of(&[
+        register(sources.rs),
+        register(sources.rt),
+        register(writes(&instr)),
+        register(links(&instr)),
+        Token::Word(if is_branch(&instr) { "branch" } else { "other" }),
+    ])
 }
 
-/// The kind of a word's operation, by which a stretch does its instruction.
-pub fn operation_of(alloc: Global, word: u32) -> Result<String, AllocError> {
-    let kind = Operation::of(decode(word)).kind;
-    format!(in alloc; "{kind:?}")
+/// A register's number, or - for none.
+fn register(number: Option<u8>) -> Token {
+    number_or(number.map(u32::from), "-")
 }
 
 /// Whether a word fits a row of the table.
-#[derive(Clone, Copy, PartialEq, Eq)]
+#[derive(Clone, Copy)]
 enum Kind {
     /// It is an instruction.
     Row,
@@ -62,16 +71,6 @@ enum Kind {
     Coprocessor(u8),
     /// It is reserved.
     Reserved,
-}
-
-impl fmt::Display for Kind {
-    fn fmt<W: fmt::Write>(&self, f: &mut fmt::Formatter<W>) -> fmt::Result {
-        match self {
-            Kind::Row => write!(f, "a row"),
-            Kind::Coprocessor(unit) => write!(f, "coprocessor {unit}"),
-            Kind::Reserved => write!(f, "reserved"),
-        }
-    }
 }
 
 /// Whether a word that encoding gives back fits a row.
@@ -89,17 +88,36 @@ fn kind_of(word: u32) -> Kind
     }
 }
 
-/// What all the words are, or else the first that is not what the first of all is.
-pub fn kind_of_all(alloc: Global, words: &[u32]) -> Result<String, AllocError> {
-    let Some(first) = words.first() else {
-        return format!(in alloc; "no word");
-    };
-    let kind = kind_of(*first);
+/// A kind in words.
+fn told(kind: Kind) -> &'static str {
+    match kind {
+        Kind::Row => "a row",
+        Kind::Coprocessor(unit) => COPROCESSORS[unit as usize % 4],
+        Kind::Reserved => "reserved",
+    }
+}
+
+/// What words of each coprocessor are.
+static COPROCESSORS: [&str; 4] = [
+    "coprocessor 0",
+    "coprocessor 1",
+    "coprocessor 2",
+    "coprocessor 3",
+];
+
+/// What the words are if all are of a kind, or else the first that is not.
+fn kind_of_all(words: &[u32], kind: &'static str) -> Answer {
     for word in words {
-        let other = kind_of(*word);
+        let other = told(kind_of(*word));
         if other != kind {
-            return format!(in alloc; "{kind}, but {word:08x} is {other}");
+            return Answer::of(&[
+                Token::Word(kind),
+                Token::Word("but"),
+                Token::Hex(*word),
+                Token::Word("is"),
+                Token::Word(other),
+            ]);
         }
     }
-    format!(in alloc; "{kind}")
+    Answer::said(kind)
 }

@@ -1,11 +1,12 @@
 //! One machine by single steps, and one ahead.
 ghost use Rattle.std.specs.Prelude.{◌≡◌, ◌+◌, ◌≤◌};
 
+use crate::processor::walk;
 use crate::programs::machine::Machine;
-use crate::programs::random::Reached;
+use crate::reached::Reached;
 use ds_ahead::Ahead;
 use ds_core::Core;
-use ds_cp0::{Cp0, ExceptionCode};
+use ds_cp0::Cp0;
 use ds_dev::Bus;
 use ds_tlb::Lookaside;
 
@@ -44,7 +45,10 @@ fn go_alike_for<A: Lookaside, B: Lookaside>(
     requires ahead_wired { B.WIRED ≡ 8 }
 {
     let (walked, alike) = step_both(plain, ahead, limit, reached);
-    serve_both(plain, ahead, walked.raised);
+    if let Some(code) = walked.raised {
+        plain.serve(code);
+        ahead.serve(code);
+    }
     alike && are_frames_alike(&mut plain.bus, &mut ahead.bus, 0, FRAMES)
 }
 
@@ -61,21 +65,9 @@ pub fn step_both<A: Lookaside, B: Lookaside>(
     requires ahead_slots { B.SLOTS ≡ 64 }
     requires ahead_wired { B.WIRED ≡ 8 }
 {
-    let walked = plain.walk(limit, reached);
+    let walked = walk(&mut plain.core, &mut plain.bus, limit, reached);
     let went = ahead.run_on(limit);
     (walked, went == walked && are_alike(plain, ahead))
-}
-
-/// Serves an exception on both, if there was one.
-fn serve_both<A: Lookaside, B: Lookaside>(
-    plain: &mut Machine<A>,
-    ahead: &mut Machine<B>,
-    raised: Option<ExceptionCode>,
-) {
-    if let Some(code) = raised {
-        plain.serve(code);
-        ahead.serve(code);
-    }
 }
 
 /// Whether two machines are in one state, but for their memories.
@@ -99,15 +91,13 @@ pub fn are_frames_alike(a: &mut Bus, b: &mut Bus, first: u32, count: u32) -> boo
     alike
 }
 
-/// What a processor has in registers with names of their own, and where it stands.
-fn words_of<L: Lookaside>(core: &Core<L>) -> [u32; 4] {
-    [core.hi, core.lo, core.pc, core.next]
-}
-
 /// Whether two processors have the same registers, and stand at the same place.
 fn are_cores_alike<A: Lookaside, B: Lookaside>(a: &Core<A>, b: &Core<B>) -> bool {
-    let words = a.registers == b.registers && words_of(a) == words_of(b);
-    words && a.late == b.late && a.slot == b.slot && are_systems_alike(&a.cp0, &b.cp0)
+    a.registers == b.registers
+        && [a.hi, a.lo, a.pc, a.next] == [b.hi, b.lo, b.pc, b.next]
+        && a.late == b.late
+        && a.slot == b.slot
+        && are_systems_alike(&a.cp0, &b.cp0)
 }
 
 /// Whether two system coprocessors have the same registers.

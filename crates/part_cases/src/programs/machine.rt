@@ -1,16 +1,15 @@
 //! A processor and its bus, with a program.
 ghost use Rattle.std.specs.Prelude.{◌≡◌, ◌≤◌};
 
-use crate::buffer::new_buffer;
-use crate::programs::random::Reached;
+use crate::processor::{new_buffer, new_core, page};
 use ds_ahead::{Ahead, run_ahead};
 use ds_asm::Image;
-use ds_core::{Core, Event};
+use ds_core::Core;
 use ds_cp0::{Cp0, ExceptionCode, register};
 use ds_dev::{Bus, Pages};
 use ds_isa::Size;
 use ds_mem::Memory;
-use ds_tlb::{Entry, Lookaside};
+use ds_tlb::Lookaside;
 use std::alloc::Global;
 
 /// Where programs begin.
@@ -33,37 +32,6 @@ pub struct Machine<L: Lookaside> {
     pub bus: Bus,
 }
 
-/// A valid page, and its frame.
-fn page(vpn: u32, asid: u8, pfn: u32, d: bool) -> Entry {
-    Entry {
-        vpn,
-        asid,
-        pfn,
-        n: false,
-        d,
-        v: true,
-        g: false,
-    }
-}
-
-/// A processor in kernel mode and address space 0, with zeros and an empty buffer.
-fn blank_core<L: Lookaside>() -> Core<L>
-    requires slots { L.SLOTS ≡ 64 }
-    requires wired { L.WIRED ≡ 8 }
-{
-    Core {
-        registers: [0; 32],
-        hi: 0,
-        lo: 0,
-        late: None,
-        pc: 0,
-        next: 4,
-        slot: false,
-        cp0: Cp0::new(),
-        tlb: new_buffer(),
-    }
-}
-
 /// Goes back from an exception; answers after which address the program goes on: that of its
 /// instruction, or where an interrupt came, whose request is taken away, right before it.
 fn place_after(cp0: &mut Cp0, code: ExceptionCode) -> u32 {
@@ -82,26 +50,26 @@ fn place_after(cp0: &mut Cp0, code: ExceptionCode) -> u32 {
 fn map_program<L: Lookaside>(tlb: &mut L)
     requires slots { L.SLOTS ≡ 64 }
 {
-    tlb.write(8, page(0x400, 1, 1, true));
-    tlb.write(9, page(0x410, 1, 2, true));
-    tlb.write(10, page(0x411, 1, 3, false));
-    tlb.write(11, page(0x400, 2, 1, true));
-    tlb.write(12, page(0x410, 2, 4, true));
+    tlb.write(8, page(0x400, 1, 1, true, true));
+    tlb.write(9, page(0x410, 1, 2, true, true));
+    tlb.write(10, page(0x411, 1, 3, false, true));
+    tlb.write(11, page(0x400, 2, 1, true, true));
+    tlb.write(12, page(0x410, 2, 4, true, true));
 }
 
 impl<L: Lookaside> Machine<L> {
-    /// A machine with such a processor, and a memory of zeros; none where there is no memory for it.
+    /// A machine in kernel mode and address space 0, with zeros and an empty buffer; none where there is
+    /// no memory for it.
     pub fn blank(alloc: Global) -> Option<Machine<L>>
         requires slots { L.SLOTS ≡ 64 }
         requires wired { L.WIRED ≡ 8 }
     {
-        match (Memory::new(alloc), Pages::new(alloc)) {
-            (Ok(memory), Ok(pages)) => Some(Machine {
-                core: blank_core(),
-                bus: Bus::with_pages(memory, pages),
-            }),
-            _ => None,
-        }
+        let memory = Memory::new(alloc).ok()?;
+        let pages = Pages::new(alloc).ok()?;
+        Some(Machine {
+            core: new_core([0; 32], 0, Cp0::new(), new_buffer()),
+            bus: Bus::with_pages(memory, pages),
+        })
     }
 
     /// Puts a program into a blank machine, which stands at its start in address space 1. Its code
@@ -130,11 +98,6 @@ impl<L: Lookaside> Machine<L> {
         let _ = self.bus.load(CLOCK_FLAGS, Size::Word);
     }
 
-    /// Goes into user mode, with interrupts on, as under the monitor.
-    pub fn leave_kernel(&mut self) {
-        self.core.cp0.write(register::STATUS, USER_STATUS);
-    }
-
     /// Where a program stands after so many instructions ahead in user mode, and what register 4
     /// holds then.
     pub fn come_to(&mut self, image: &Image, count: u32) -> (u32, u32)
@@ -142,7 +105,7 @@ impl<L: Lookaside> Machine<L> {
         requires wired { L.WIRED ≡ 8 }
     {
         self.load(image);
-        self.leave_kernel();
+        self.core.cp0.write(register::STATUS, USER_STATUS);
         self.run(count);
         (self.core.pc, self.core.registers[4])
     }
@@ -155,27 +118,6 @@ impl<L: Lookaside> Machine<L> {
         }
         let pc = place_after(&mut self.core.cp0, code);
         self.go_on_at(pc);
-    }
-
-    /// Goes so many single steps, or fewer and after them one that enters an exception.
-    #[inline(never)]
-    pub fn walk(&mut self, limit: u32, reached: &mut Reached) -> Ahead
-        requires slots { L.SLOTS ≡ 64 }
-        requires wired { L.WIRED ≡ 8 }
-    {
-        for steps in 0..limit {
-            let event = self.core.step(&mut self.bus);
-            reached.note(event, &self.core);
-            if let Event::Raised(code) = event {
-                let raised = Some(code);
-                return Ahead { steps, raised };
-            }
-        }
-        let raised = None;
-        Ahead {
-            steps: limit,
-            raised,
-        }
     }
 
     /// Runs ahead, for so many steps at most.

@@ -5,7 +5,7 @@ use std::io::{self, ErrorKind};
 use std::{fs, rt};
 
 /// Each goes round for ever. Those that test something count in register 17 what came out wrong.
-pub const PROGRAMS: [&str; 10] = [
+pub static PROGRAMS: [&str; 12] = [
     "programs/arithmetic.s",
     "programs/memory.s",
     "programs/calls.s",
@@ -16,6 +16,8 @@ pub const PROGRAMS: [&str; 10] = [
     "programs/clean_page.s",
     "programs/interrupts.s",
     "programs/turns.s",
+    "programs/shared_places.s",
+    "programs/handler_changes.s",
 ];
 
 /// The image of a source.

@@ -3,35 +3,25 @@ ghost use Rattle.std.specs.Prelude.{◌≡◌};
 
 mod dice;
 mod pair;
-mod reached;
 mod start;
 mod turn;
 mod words;
 
+use crate::exceptions::EXCEPTIONS;
+use crate::reached::Reached;
 use ds_cp0::ExceptionCode;
+use ds_mem::FRAMES;
 use ds_tlb::{Indexed, Lookaside, Tlb};
 pub use pair::Pair;
-use reached::EXCEPTIONS;
-pub use reached::Reached;
 use std::alloc::Global;
 use std::io::{self, ErrorKind};
 
 /// The steps of a program.
 const STEPS: u32 = 1000;
 
-/// How programs went.
-#[derive(Clone, Copy)]
-enum Outcome {
-    /// All went alike.
-    Alike,
-    /// The program of this number did not, and was found out after so many steps.
-    Differ(u32, u32),
-    /// The programs did, and left memories that are not alike.
-    MemoriesDiffer,
-}
-
 /// Goes through every other one of so many programs, from the first or the second on. Answers the
-/// number of the first that did not go alike, and after how many steps, if one did not.
+/// number of the first that did not go alike, and after how many steps, if one did not; the number of
+/// all where only the memories are not alike that they left.
 fn first_difference<A: Lookaside, B: Lookaside>(
     pair: &mut Pair<A, B>,
     first: u32,
@@ -50,42 +40,27 @@ fn first_difference<A: Lookaside, B: Lookaside>(
             }
         }
     }
-    None
-}
-
-/// How these programs went on two machines.
-fn outcome_on<A: Lookaside, B: Lookaside>(
-    pair: &mut Pair<A, B>,
-    first: u32,
-    programs: u32,
-    reached: &mut Reached,
-) -> Outcome
-    requires slots { A.SLOTS ≡ 64 }
-    requires wired { A.WIRED ≡ 8 }
-    requires ahead_slots { B.SLOTS ≡ 64 }
-    requires ahead_wired { B.WIRED ≡ 8 }
-{
-    match first_difference(pair, first, programs, reached) {
-        Some((number, steps)) => Outcome::Differ(number, steps),
-        None if pair.have_like_memories() => Outcome::Alike,
-        None => Outcome::MemoriesDiffer,
+    if pair.have_like_frames(0, FRAMES as u32) {
+        None
+    } else {
+        Some((programs, 0))
     }
 }
 
-/// How these programs went; none where there is no memory for them.
+/// Where these programs did not go alike, if they did not; none where there is no memory for them.
 fn go_through<A: Lookaside, B: Lookaside>(
     alloc: Global,
     first: u32,
     programs: u32,
     reached: &mut Reached,
-) -> Option<Outcome>
+) -> Option<Option<(u32, u32)>>
     requires slots { A.SLOTS ≡ 64 }
     requires wired { A.WIRED ≡ 8 }
     requires ahead_slots { B.SLOTS ≡ 64 }
     requires ahead_wired { B.WIRED ≡ 8 }
 {
     let mut pair: Pair<A, B> = Pair::new(alloc)?;
-    Some(outcome_on(&mut pair, first, programs, reached))
+    Some(first_difference(&mut pair, first, programs, reached))
 }
 
 /// Goes through so many programs, each over either buffer in turn, and tells what they reached.
@@ -96,30 +71,24 @@ pub fn run_random<R: Print>(rt: &R, alloc: Global, programs: u32) -> io::Result<
     let odd = go_through::<Indexed<64, 8>, Tlb<64, 8>>(alloc, 1, programs, &mut reached);
     let well = is_alike(rt, even)? && is_alike(rt, odd)?;
     if well {
-        println!(rt; "{programs} random programs of {STEPS} steps: alike")?;
-        tell(rt, &reached)?;
+        tell(rt, programs, &reached)?;
     }
     Ok(well)
 }
 
-/// Tells of programs that did not go alike; whether they did.
-fn is_alike<R: Print>(rt: &R, outcome: Option<Outcome>) -> io::Result<bool> {
-    match outcome {
-        Some(Outcome::Alike) => return Ok(true),
-        Some(Outcome::Differ(number, steps)) => tell_difference(rt, number, steps)?,
-        Some(Outcome::MemoriesDiffer) => println!(rt; "random programs: memories not alike")?,
-        None => return Err(io::Error::from(ErrorKind::OutOfMemory)),
+/// Tells of the first program that did not go alike; whether there is none.
+fn is_alike<R: Print>(rt: &R, outcome: Option<Option<(u32, u32)>>) -> io::Result<bool> {
+    let Some(difference) = outcome else {
+        return Err(io::Error::from(ErrorKind::OutOfMemory));
+    };
+    if let Some((number, steps)) = difference {
+        println!(rt; "random program {number}: not alike after {steps} steps")?;
     }
-    Ok(false)
+    Ok(difference.is_none())
 }
 
-/// Tells of a program that did not go alike.
-fn tell_difference<R: Print>(rt: &R, number: u32, steps: u32) -> io::Result<()> {
-    println!(rt; "random program {number}: not alike after {steps} steps")
-}
-
-/// Tells what programs reached.
-fn tell<R: Print>(rt: &R, reached: &Reached) -> io::Result<()> {
+/// Tells what so many programs reached.
+fn tell<R: Print>(rt: &R, programs: u32, reached: &Reached) -> io::Result<()> {
     let Reached {
         steps,
         user,
@@ -127,10 +96,11 @@ fn tell<R: Print>(rt: &R, reached: &Reached) -> io::Result<()> {
         late,
         ..
     } = reached;
+    println!(rt; "{programs} random programs of {STEPS} steps: alike")?;
     println!(rt; "{steps} steps: {user} in user mode, {branches} branches, {late} late loads")?;
-    for code in EXCEPTIONS {
+    for code in &EXCEPTIONS {
         let count = reached.exceptions[code.number() as usize % 16];
-        tell_exception(rt, count, code)?;
+        tell_exception(rt, count, *code)?;
     }
     Ok(())
 }

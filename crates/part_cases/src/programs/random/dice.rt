@@ -30,11 +30,4 @@ impl Dice {
     {
         self.generator.next_u32() % count
     }
-
-    /// What is so once in so many times.
-    pub fn once_in(&mut self, times: u32) -> bool
-        requires { 0 < times }
-    {
-        self.below(times) == 0
-    }
 }

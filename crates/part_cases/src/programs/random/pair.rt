@@ -3,13 +3,12 @@ ghost use Rattle.std.specs.Prelude.{◌≡◌, ◌+◌, ◌<◌, ◌≤◌};
 
 use super::STEPS;
 use super::dice::Dice;
-use super::reached::Reached;
 use super::start::{FIRST_PAGE, PAGES, Start};
 use super::turn::Turn;
 use super::words::random_word;
 use crate::programs::lockstep::{are_frames_alike, go_alike, step_both};
 use crate::programs::machine::Machine;
-use ds_ahead::Ahead;
+use crate::reached::Reached;
 use ds_asm::Image;
 use ds_cp0::{ExceptionCode, register};
 use ds_mem::FRAMES;
@@ -37,33 +36,24 @@ impl<A: Lookaside, B: Lookaside> Pair<A, B> {
         requires ahead_slots { B.SLOTS ≡ 64 }
         requires ahead_wired { B.WIRED ≡ 8 }
     {
-        match (Machine::blank(alloc), Machine::blank(alloc)) {
-            (Some(plain), Some(ahead)) => Some(Pair { plain, ahead }),
-            _ => None,
-        }
+        let plain = Machine::blank(alloc)?;
+        let ahead = Machine::blank(alloc)?;
+        Some(Pair { plain, ahead })
     }
 
-    /// Puts a program into both machines, and goes through it; whether they went alike.
-    pub fn go_alike(&mut self, image: &Image) -> bool
-        requires slots { A.SLOTS ≡ 64 }
-        requires wired { A.WIRED ≡ 8 }
-        requires ahead_slots { B.SLOTS ≡ 64 }
-        requires ahead_wired { B.WIRED ≡ 8 }
-    {
-        self.plain.load(image);
-        self.ahead.load(image);
-        go_alike(&mut self.plain, &mut self.ahead)
-    }
-
-    /// What register 17 holds after a program, if both machines went alike.
+    /// Puts a program into both machines, and goes through it. Answers what register 17 holds after it, if
+    /// they went alike.
     pub fn wrong(&mut self, image: &Image) -> Option<u32>
         requires slots { A.SLOTS ≡ 64 }
         requires wired { A.WIRED ≡ 8 }
         requires ahead_slots { B.SLOTS ≡ 64 }
         requires ahead_wired { B.WIRED ≡ 8 }
     {
-        if self.go_alike(image) {
-            Some(self.plain.core.registers[17])
+        let (plain, ahead) = (&mut self.plain, &mut self.ahead);
+        plain.load(image);
+        ahead.load(image);
+        if go_alike(plain, ahead) {
+            Some(plain.core.registers[17])
         } else {
             None
         }
@@ -109,13 +99,8 @@ impl<A: Lookaside, B: Lookaside> Pair<A, B> {
         (done, true)
     }
 
-    /// Whether all of memory is the same.
-    pub fn have_like_memories(&mut self) -> bool {
-        self.have_like_frames(0, FRAMES as u32)
-    }
-
     /// Whether so many frames, from the first on, are the same.
-    fn have_like_frames(&mut self, first: u32, count: u32) -> bool
+    pub fn have_like_frames(&mut self, first: u32, count: u32) -> bool
         requires { first + count ≤ FRAMES }
     {
         are_frames_alike(&mut self.plain.bus, &mut self.ahead.bus, first, count)
@@ -166,20 +151,14 @@ impl<A: Lookaside, B: Lookaside> Pair<A, B> {
         if !alike {
             return None;
         }
-        let steps = steps_of(walked);
+        let steps = walked
+            .steps
+            .saturating_add(u32::from(walked.raised.is_some()));
         let epc = plain.core.cp0.read(register::EPC);
         let turn = turn_after(dice, start, walked.raised, epc);
         plain.turn(turn, steps);
         ahead.turn(turn, steps);
         Some(steps)
-    }
-}
-
-/// How many steps there were, with one that entered an exception.
-fn steps_of(walked: Ahead) -> u32 {
-    match walked.raised {
-        Some(_) => walked.steps.saturating_add(1),
-        None => walked.steps,
     }
 }
 

@@ -3,9 +3,8 @@ ghost use Rattle.std.specs.Prelude.{◌≡◌};
 
 use super::dice::Dice;
 use super::words::random_word;
-use crate::buffer::new_buffer;
+use crate::processor::{new_buffer, new_core};
 use crate::programs::machine::Machine;
-use ds_core::Core;
 use ds_cp0::{Cp0, register};
 use ds_tlb::{Entry, Lookaside};
 
@@ -24,19 +23,8 @@ pub const CODE_SIZE: u32 = 8192;
 /// The entries of a program: each page in two address spaces.
 pub const ENTRIES: usize = 16;
 
-/// The mode in which a program begins.
-#[derive(Clone, Copy)]
-enum Mode {
-    /// The user's, in which most steps go over pages that are remembered.
-    User,
-    /// The same with the system coprocessor.
-    Trusted,
-    /// The kernel's.
-    Kernel,
-}
-
 /// What a program begins with, beside its words.
-#[derive(Drop)]
+#[derive(Clone, Copy)]
 pub struct Start {
     pub registers: [u32; 32],
     pub hi: u32,
@@ -51,50 +39,31 @@ pub struct Start {
     pub system: u32,
 }
 
-impl Mode {
-    /// A random mode: most programs are users'.
-    fn drawn(dice: &mut Dice) -> Mode {
-        match dice.below(8) {
-            0 | 1 => Mode::Kernel,
-            2 => Mode::Trusted,
-            _ => Mode::User,
-        }
-    }
-
-    /// Status in this mode, with any other bits.
-    fn status(self, random: u32) -> u32 {
-        let others = random & 0xff3d;
-        match self {
-            Mode::User => others | 2,
-            Mode::Trusted => others | 0x1000_0002,
-            Mode::Kernel => others,
-        }
-    }
-
-    /// How many words of 64 are for the system coprocessor.
-    fn system(self) -> u32 {
-        match self {
-            Mode::User => 1,
-            Mode::Trusted | Mode::Kernel => 8,
-        }
-    }
-}
-
 impl Start {
     /// A random one.
     pub fn drawn(dice: &mut Dice) -> Start {
-        let mode = Mode::drawn(dice);
+        let (mode, system) = mode(dice);
         Start {
             registers: registers(dice),
             hi: dice.word(),
             lo: dice.word(),
             place: place(dice),
-            status: mode.status(dice.word()),
+            status: dice.word() & 0xff3d | mode,
             entry_lo: entry(dice, FIRST_PAGE, 1).lo_word(),
             entries: entries(dice),
             rate: dice.below(16),
-            system: mode.system(),
+            system,
         }
+    }
+}
+
+/// The bits of Status for a random mode, and how many words of 64 are for the system coprocessor. Most
+/// programs are users', in which most steps go over pages that are remembered.
+fn mode(dice: &mut Dice) -> (u32, u32) {
+    match dice.below(8) {
+        0 | 1 => (0, 8),
+        2 => (0x1000_0002, 8),
+        _ => (2, 1),
     }
 }
 
@@ -161,10 +130,10 @@ pub fn entry(dice: &mut Dice, vpn: u32, asid: u8) -> Entry {
         vpn,
         asid,
         pfn: FIRST_PAGE + dice.below(PAGES),
-        n: dice.once_in(2),
-        d: !dice.once_in(4),
-        v: !dice.once_in(8),
-        g: dice.once_in(16),
+        n: dice.below(2) == 0,
+        d: dice.below(4) != 0,
+        v: dice.below(8) != 0,
+        g: dice.below(16) == 0,
     }
 }
 
@@ -189,33 +158,16 @@ fn buffer_of<L: Lookaside>(entries: &[Entry; ENTRIES]) -> L
     tlb
 }
 
-/// The processor of a program that begins. Register 0 holds 0, whatever is drawn for it.
-fn new_core<L: Lookaside>(start: &Start) -> Core<L>
-    requires slots { L.SLOTS ≡ 64 }
-    requires wired { L.WIRED ≡ 8 }
-{
-    let mut registers = start.registers;
-    registers[0] = 0;
-    Core {
-        registers,
-        hi: start.hi,
-        lo: start.lo,
-        late: None,
-        pc: start.place,
-        next: start.place.wrapping_add(4),
-        slot: false,
-        cp0: new_system(start),
-        tlb: buffer_of(&start.entries),
-    }
-}
-
 impl<L: Lookaside> Machine<L> {
     /// Begins a program, whose words are put in beside.
     pub fn begin(&mut self, start: &Start)
         requires slots { L.SLOTS ≡ 64 }
         requires wired { L.WIRED ≡ 8 }
     {
-        self.core = new_core(start);
+        let (cp0, tlb) = (new_system(start), buffer_of(&start.entries));
+        self.core = new_core(start.registers, start.place, cp0, tlb);
+        self.core.hi = start.hi;
+        self.core.lo = start.lo;
         self.start_clock(start.rate);
     }
 }

@@ -41,7 +41,7 @@ impl Turn {
 
     /// A random one after an exception, which goes back to `epc`.
     pub fn after_exception(dice: &mut Dice, start: &Start, code: ExceptionCode, epc: u32) -> Turn {
-        if dice.once_in(16) {
+        if dice.below(16) == 0 {
             Turn::GoOn
         } else if epc.wrapping_sub(FIRST_ADDRESS) < CODE_SIZE {
             Turn::Serve(code)
@@ -52,7 +52,7 @@ impl Turn {
 
     /// To another place.
     fn moved(dice: &mut Dice, start: &Start) -> Turn {
-        let cause = if dice.once_in(8) { dice.word() } else { 0 };
+        let cause = if dice.below(8) == 0 { dice.word() } else { 0 };
         Turn::Move {
             place: place(dice),
             entry_hi: (dice.below(2) + 1) * 64,

@@ -28,23 +28,6 @@ struct Row {
     operands: u32,
 }
 
-/// What a row's operands have to be like, so that its program goes on.
-#[derive(Clone, Copy)]
-enum Habit {
-    /// Registers 0 to 15.
-    Registers,
-    /// Registers 0 to 15, and any immediate.
-    Immediate,
-    /// A short way, backward or forward.
-    Branch,
-    /// A target in the code.
-    Jump,
-    /// A register that holds an address of code.
-    JumpRegister,
-    /// A register that holds an address of data, and a small distance.
-    Access,
-}
-
 /// The bits of an operand.
 macro_rules! bits_of {
     (rs) => { 0x3e0_0000 };
@@ -76,32 +59,22 @@ macro_rules! rows {
 static ROWS: [Row; OTHER_ROWS + ACCESS_ROWS + SYSTEM_ROWS] = instruction_table!(rows);
 
 impl Row {
-    /// What its operands have to be like.
-    fn habit(self) -> Habit {
-        match self.fixed >> 26 {
-            0 if self.fixed == 8 || self.fixed == 9 => Habit::JumpRegister,
-            0 | 16 => Habit::Registers,
-            2 | 3 => Habit::Jump,
-            1 | 4 | 5 | 6 | 7 => Habit::Branch,
-            8 | 9 | 10 | 11 | 12 | 13 | 14 | 15 => Habit::Immediate,
-            _ => Habit::Access,
-        }
-    }
-
     /// Its instruction with operands of a random word.
     fn with(self, random: u32) -> u32 {
         self.fixed | (random & self.operands)
     }
 
-    /// Its instruction with operands that let a program go on.
+    /// Its instruction with operands that let a program go on: registers 0 to 15, of a register jump one
+    /// that holds an address of code; a short way of a branch, a target in the code of a jump; of an
+    /// access a register that holds an address of data, and a small distance.
     fn with_mild(self, random: u32) -> u32 {
-        self.with(match self.habit() {
-            Habit::Registers => random & 0x1ef_7fc0,
-            Habit::Immediate => random & 0x1ef_ffff,
-            Habit::Branch => (random & 0x1ef_0000) | way(random),
-            Habit::Jump => FIRST_TARGET + random % 2048,
-            Habit::JumpRegister => CODE_REGISTERS | (random & 0xe0_7800),
-            Habit::Access => DATA_REGISTERS | (random & 0xef_0000) | distance(random),
+        self.with(match self.fixed >> 26 {
+            0 if self.fixed == 8 || self.fixed == 9 => CODE_REGISTERS | (random & 0xe0_7800),
+            0 | 16 => random & 0x1ef_7fc0,
+            2 | 3 => FIRST_TARGET + random % 2048,
+            1 | 4..=7 => (random & 0x1ef_0000) | way(random),
+            8..=15 => random & 0x1ef_ffff,
+            _ => DATA_REGISTERS | (random & 0xef_0000) | distance(random),
         })
     }
 }

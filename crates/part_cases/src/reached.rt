@@ -1,28 +1,10 @@
 //! What programs reached.
 
 use ds_core::{Core, Event};
-use ds_cp0::ExceptionCode;
 use ds_tlb::Lookaside;
 
-/// The exceptions, each at its number.
-pub const EXCEPTIONS: [ExceptionCode; 13] = [
-    ExceptionCode::Interrupt,
-    ExceptionCode::Modification,
-    ExceptionCode::LoadMiss,
-    ExceptionCode::StoreMiss,
-    ExceptionCode::LoadAddress,
-    ExceptionCode::StoreAddress,
-    ExceptionCode::FetchBus,
-    ExceptionCode::DataBus,
-    ExceptionCode::SystemCall,
-    ExceptionCode::Breakpoint,
-    ExceptionCode::ReservedInstruction,
-    ExceptionCode::CoprocessorUnusable,
-    ExceptionCode::Overflow,
-];
-
 /// How many steps there were, and of which kinds.
-#[derive(Drop)]
+#[derive(Clone, Copy)]
 pub struct Reached {
     pub steps: u32,
     /// Those after which the processor was in user mode.
