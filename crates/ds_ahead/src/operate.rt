@@ -8,13 +8,10 @@ ghost use Rattle.ds_ahead.specs.Placed.{registers_at};
 ghost use Rattle.ds_ahead.specs.Operations.{ComesTo, StaysCalm};
 ghost use Rattle.ds_ahead.specs.Goes.{GoesBy, KeepsFrame};
 
-use crate::execute::{
-    Addiu, Addu, Beq, Bne, Execute, J, Jal, Jr, Lbu, Lui, Lw, Nothing, Or, Ori, Sb, Sll, Sltu, Srl,
-    Sw, Xor,
-};
 use crate::operations::{
-    Outcome, address_by, general, jump, jump_and_link, leave_half, put, put_hi_lo, put_or_leave,
-    take_byte, take_half, take_half_unsigned, target_by,
+    Outcome, address_by, general, in_region, jump, jump_and_link, leave_byte, leave_half,
+    leave_word, put, put_hi_lo, put_or_leave, take_byte, take_byte_unsigned, take_half,
+    take_half_unsigned, take_word, target_by,
 };
 use crate::position::Position;
 use ds_core::{Core, is_at_most_zero, places};
@@ -24,7 +21,7 @@ use ds_tlb::Lookaside;
 use ds_word::{
     checked_difference, checked_sum, div_signed, div_unsigned, is_negative, mul_signed,
     mul_unsigned, shift_left, shift_right_arithmetic, shift_right_logical, signed_less,
-    wrapping_difference,
+    wrapping_difference, wrapping_sum,
 };
 
 /// Does an operation as a step, where it reads no register whose load is late and no interrupt is
@@ -61,9 +58,23 @@ pub(crate) fn operate<L: Lookaside, const WAY: usize>(
         immediate,
     } = operation;
     match kind {
-        OperationKind::Nothing => Nothing.execute(core, operation, at, bus, own, asid),
-        OperationKind::Sll => Sll.execute(core, operation, at, bus, own, asid),
-        OperationKind::Srl => Srl.execute(core, operation, at, bus, own, asid),
+        OperationKind::Nothing => at.go_on(),
+        OperationKind::Sll => {
+            put(
+                core,
+                to,
+                shift_left(general(core, first), places(immediate)),
+                at,
+            )
+        }
+        OperationKind::Srl => {
+            put(
+                core,
+                to,
+                shift_right_logical(general(core, first), places(immediate)),
+                at,
+            )
+        }
         OperationKind::Sra => {
             put(
                 core,
@@ -125,7 +136,14 @@ pub(crate) fn operate<L: Lookaside, const WAY: usize>(
                 bus,
             )
         }
-        OperationKind::Addu => Addu.execute(core, operation, at, bus, own, asid),
+        OperationKind::Addu => {
+            put(
+                core,
+                to,
+                wrapping_sum(general(core, first), general(core, second)),
+                at,
+            )
+        }
         OperationKind::Sub => {
             put_or_leave(
                 core,
@@ -144,8 +162,8 @@ pub(crate) fn operate<L: Lookaside, const WAY: usize>(
             )
         }
         OperationKind::And => put(core, to, general(core, first) & general(core, second), at),
-        OperationKind::Or => Or.execute(core, operation, at, bus, own, asid),
-        OperationKind::Xor => Xor.execute(core, operation, at, bus, own, asid),
+        OperationKind::Or => put(core, to, general(core, first) | general(core, second), at),
+        OperationKind::Xor => put(core, to, general(core, first) ^ general(core, second), at),
         OperationKind::Nor => put(
             core,
             to,
@@ -160,7 +178,14 @@ pub(crate) fn operate<L: Lookaside, const WAY: usize>(
                 at,
             )
         }
-        OperationKind::Sltu => Sltu.execute(core, operation, at, bus, own, asid),
+        OperationKind::Sltu => {
+            put(
+                core,
+                to,
+                u32::from(general(core, first) < general(core, second)),
+                at,
+            )
+        }
         OperationKind::Addi => {
             put_or_leave(
                 core,
@@ -170,7 +195,7 @@ pub(crate) fn operate<L: Lookaside, const WAY: usize>(
                 bus,
             )
         }
-        OperationKind::Addiu => Addiu.execute(core, operation, at, bus, own, asid),
+        OperationKind::Addiu => put(core, to, wrapping_sum(general(core, first), immediate), at),
         OperationKind::Slti => {
             put(
                 core,
@@ -181,9 +206,9 @@ pub(crate) fn operate<L: Lookaside, const WAY: usize>(
         }
         OperationKind::Sltiu => put(core, to, u32::from(general(core, first) < immediate), at),
         OperationKind::Andi => put(core, to, general(core, first) & immediate, at),
-        OperationKind::Ori => Ori.execute(core, operation, at, bus, own, asid),
+        OperationKind::Ori => put(core, to, general(core, first) | immediate, at),
         OperationKind::Xori => put(core, to, general(core, first) ^ immediate, at),
-        OperationKind::Lui => Lui.execute(core, operation, at, bus, own, asid),
+        OperationKind::Lui => put(core, to, immediate, at),
         OperationKind::Bltz => {
             let taken = is_negative(general(core, first));
             jump(core, target_by(taken, at.pc, immediate), at, bus)
@@ -200,8 +225,14 @@ pub(crate) fn operate<L: Lookaside, const WAY: usize>(
             let taken = !is_negative(general(core, first));
             jump_and_link(core, to, target_by(taken, at.pc, immediate), at, bus)
         }
-        OperationKind::Beq => Beq.execute(core, operation, at, bus, own, asid),
-        OperationKind::Bne => Bne.execute(core, operation, at, bus, own, asid),
+        OperationKind::Beq => {
+            let taken = general(core, first) == general(core, second);
+            jump(core, target_by(taken, at.pc, immediate), at, bus)
+        }
+        OperationKind::Bne => {
+            let taken = general(core, first) != general(core, second);
+            jump(core, target_by(taken, at.pc, immediate), at, bus)
+        }
         OperationKind::Blez => {
             let taken = is_at_most_zero(general(core, first));
             jump(core, target_by(taken, at.pc, immediate), at, bus)
@@ -210,18 +241,30 @@ pub(crate) fn operate<L: Lookaside, const WAY: usize>(
             let taken = !is_at_most_zero(general(core, first));
             jump(core, target_by(taken, at.pc, immediate), at, bus)
         }
-        OperationKind::J => J.execute(core, operation, at, bus, own, asid),
-        OperationKind::Jal => Jal.execute(core, operation, at, bus, own, asid),
-        OperationKind::Jr => Jr.execute(core, operation, at, bus, own, asid),
+        OperationKind::J => jump(core, in_region(at.pc, immediate), at, bus),
+        OperationKind::Jal => jump_and_link(core, to, in_region(at.pc, immediate), at, bus),
+        OperationKind::Jr => jump(core, general(core, first), at, bus),
         OperationKind::Jalr => jump_and_link(core, to, general(core, first), at, bus),
         OperationKind::Lb => take_byte(core, to, address_by(core, first, immediate), at, bus, asid),
         OperationKind::Lh => take_half(core, to, address_by(core, first, immediate), at, bus, asid),
-        OperationKind::Lw => Lw.execute(core, operation, at, bus, own, asid),
-        OperationKind::Lbu => Lbu.execute(core, operation, at, bus, own, asid),
+        OperationKind::Lw => take_word(core, to, address_by(core, first, immediate), at, bus, asid),
+        OperationKind::Lbu => {
+            take_byte_unsigned(core, to, address_by(core, first, immediate), at, bus, asid)
+        }
         OperationKind::Lhu => {
             take_half_unsigned(core, to, address_by(core, first, immediate), at, bus, asid)
         }
-        OperationKind::Sb => Sb.execute(core, operation, at, bus, own, asid),
+        OperationKind::Sb => {
+            leave_byte(
+                core,
+                general(core, second),
+                address_by(core, first, immediate),
+                at,
+                bus,
+                own,
+                asid,
+            )
+        }
         OperationKind::Sh => {
             leave_half(
                 core,
@@ -233,7 +276,17 @@ pub(crate) fn operate<L: Lookaside, const WAY: usize>(
                 asid,
             )
         }
-        OperationKind::Sw => Sw.execute(core, operation, at, bus, own, asid),
+        OperationKind::Sw => {
+            leave_word(
+                core,
+                general(core, second),
+                address_by(core, first, immediate),
+                at,
+                bus,
+                own,
+                asid,
+            )
+        }
         OperationKind::Syscall => Outcome::Called,
         OperationKind::Other => Outcome::Left,
     }

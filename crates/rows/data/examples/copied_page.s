@@ -3,7 +3,7 @@
 
         lui   $s0, 0x0041            # process 1: its page is at 00410000
         lui   $t0, 0x0040
-        lw    $t1, 252($t0)          # the word behind the code
+        lw    $t1, 252($t0)          # the word after the code
         addu  $a0, $s0, $zero        # 6 is the call `give`: which page of mine,
         sw    $t1, 0($s0)
         addiu $a1, $zero, 2          # to which process,

@@ -1,4 +1,4 @@
-# Puts each character that comes, small letters as capitals, and exits behind a full stop.
+# Puts each character that comes, small letters as capitals, and exits after a full stop.
 #
 # `get` takes the oldest character of the line's queue, and answers FFFFFFFF at once where there is none. `wait`
 # sleeps until there is one. So a process that has nothing to do asks by `wait`, and then takes all by `get`.

@@ -1,6 +1,6 @@
 # Puts a line on the console and exits.
 #
-# The image begins at 00400000. The text lies in it behind the code, eleven words on, at 0040002C, so the
+# The image begins at 00400000. The text lies in it after the code, eleven words on, at 0040002C, so the
 # right to read the page of code is all that it takes.
 
         lui   $s0, 0x0040            # $s0 = 00400000

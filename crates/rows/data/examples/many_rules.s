@@ -2,7 +2,7 @@
 # for, and runs into the guard page.
 
         lui   $sp, 0x8000            # the stack begins below 80000000
-        lui   $s0, 0x1000            # $s0 = 10000000: constants, and data behind them
+        lui   $s0, 0x1000            # $s0 = 10000000: constants, and data after them
         lw    $s1, 0($s0)            # how deep
         lui   $s2, 0x1010            # $s2 = 10100000: the first page of data, for reading alone
         jal   down                   # on the second page of code

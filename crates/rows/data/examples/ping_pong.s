@@ -1,4 +1,4 @@
-# Two processes hit a ball to and fro: the first puts `ping`, the second `pong`, and behind each word it yields.
+# Two processes hit a ball to and fro: the first puts `ping`, the second `pong`, and after each word it yields.
 #
 # Registers are a process's own: each has its letter in $s1. The page at 00410000 is one page for both. There
 # stands how many strokes are still to come.

@@ -1,5 +1,5 @@
 # The producer puts what is typed into a page, and the consumer takes it from there and puts it on its own line. In the
-# page are two counts, of what was put in and of what was taken out, and a ring of four characters behind them.
+# page are two counts, of what was put in and of what was taken out, and a ring of four characters after them.
 
         lui   $s0, 0x0041            # the producer: the page is at 00410000
         addu  $a0, $s0, $zero        # 6 is the call `give`: which page of mine,
@@ -31,7 +31,7 @@ room:   addu  $t2, $s0, $t2
         addiu $t1, $s1, -46
         bne   $t1, $zero, typed
         nop
-        addiu $v0, $zero, 0          # behind a full stop the producer exits: what it gave stays
+        addiu $v0, $zero, 0          # after a full stop the producer exits: what it gave stays
         syscall
         .space 128                   # up to 00400100
 

@@ -5,7 +5,7 @@
 # zeros, and a 0 before the first letter is less than any letter, so the search for a place ends there.
 #
 #   $s0  the next letter of the text          $t0  the letter that was taken
-#   $s1  behind the last letter in its place  $t1  the place that $t0 may come to
+#   $s1  after the last letter in its place   $t1  the place that $t0 may come to
 #                                             $t2  the letter before that place
 
         lui   $s0, 0x0040
