@@ -166,7 +166,7 @@ static RUNS: [(Part, &str, Buffer, &str); 30] = [
 ];
 
 /// What a line asks for; none where its first word is no verb, where another is no number, or where there
-/// are too few or too many. What stands behind `begin` is no list of numbers.
+/// are too few or too many. What stands after `begin` is no list of numbers.
 fn read(part: Part, asked: &str) -> Option<Asked<'_>> {
     let (word, operands) = cut(asked, " ");
     let (rows, in_hexadecimal): (&[Row], bool) = match part {
@@ -199,7 +199,7 @@ fn is_case(asked: Option<&Asked<'_>>) -> bool {
     }
 }
 
-/// Runs a line, and counts it. A line is what is asked and, behind a bar or a `=` with a blank on either side,
+/// Runs a line, and counts it. A line is what is asked and, after a bar or a `=` with a blank on either side,
 /// what has to be answered, which is `ok` where nothing stands there; and a comment, which begins with `#`.
 fn run_line<L: Lookaside, W: Write>(
     alloc: Global,

@@ -73,7 +73,7 @@ fn tell<W: Write>(file: &str, number: u64, text: &str, came: &str, out: &mut W) 
     write!(out, "{file}:{number}: {text}: came {came}\n")
 }
 
-/// What stands before a character and behind it; nothing behind it where it is missing.
+/// What stands before a character and after it; nothing after it where it is missing.
 pub fn cut<'a>(text: &'a str, at: &str) -> (&'a str, &'a str) {
     let (before, behind) = text.split_once(at).unwrap_or((text, ""));
     (before.trim(), behind.trim())

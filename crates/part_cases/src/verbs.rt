@@ -32,11 +32,11 @@ pub enum Part {
     Grants,
 }
 
-/// A word by which a line may begin, how many numbers have to stand behind it at least and at most, and
+/// A word by which a line may begin, how many numbers have to stand after it at least and at most, and
 /// what it asks for.
 pub type Row = (&'static str, usize, usize, Verb);
 
-/// What a line asks for: its verb, and what stands behind it, with its numbers.
+/// What a line asks for: its verb, and what stands after it, with its numbers.
 #[derive(Clone, Copy)]
 pub struct Asked<'a> {
     pub verb: Verb,

@@ -32,7 +32,7 @@ pub enum Step {
     Due,
 }
 
-/// The words, and how many numbers stand behind each. Beside calls these are
+/// The words, and how many numbers stand after each. Beside calls these are
 ///
 ///     start PROCESSES FRAMES NAMED    anew, with no entries
 ///     begin POLICY                    anew, with the entries of a policy, whose text has blanks in

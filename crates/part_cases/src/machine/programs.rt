@@ -16,7 +16,7 @@ use ds_tlb::Lookaside;
 pub enum Question {
     /// The fault in which one ends.
     Fault,
-    /// Registers behind words of the kernel.
+    /// Registers after words of the kernel.
     Registers,
     /// What becomes of the translation buffer.
     Entry,

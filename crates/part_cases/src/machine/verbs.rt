@@ -7,7 +7,7 @@ use crate::numbers::MOST;
 use crate::verbs::{Row, Verb};
 use ds_isa::Size;
 
-/// The words, and how many numbers stand behind each.
+/// The words, and how many numbers stand after each.
 pub static MACHINE: [Row; 67] = [
     ("new", 0, 0, Verb::New),
     ("fields", 1, 1, Verb::Arithmetic(Function::Fields)),
