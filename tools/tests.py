@@ -31,6 +31,8 @@ COMMANDS = [  # those that take longest first
     ["tools/test_unit_course.py"],
     ["tools/unit_course.py"],
     ["tools/test_gate_times.py"],
+    ["tools/believe.py", "--check"],
+    ["tools/test_believe.py"],
     ["tools/test_figures.py"],
     ["tools/test_refusals.py"],
     ["tools/test_tests.py"],

@@ -1,0 +1,63 @@
+#!/usr/bin/env python3
+"""Writes docs/believe.md: the definitions on which the clauses of the program's calls rest, in the order of a reader.
+
+    tools/believe.py           writes the page, and the clauses that docs/theorems.md shows as code as their source has them
+    tools/believe.py --check   says where the page, or a clause in docs/theorems.md, differs; the status is 1 then
+    tools/believe.py --of FILE FUNCTION CLAUSE..   prints the definitions on which these clauses of a function rest, or all
+
+The lists stand in tools/believe/page.py. A name that can't be followed, a field that no type of the lists has, a clause of `run_files` that is in no
+list, and one that docs/theorems.md doesn't show are told with their places, and the status is 1.
+"""
+import sys
+from pathlib import Path
+
+sys.dont_write_bytecode = True
+
+from believe.page import LISTS, PAGE, page, reached_by  # noqa: E402
+from believe.repository import Repository  # noqa: E402
+from believe.texts import Unresolved  # noqa: E402
+from believe.shown import DOCUMENT, shown  # noqa: E402
+
+TOP = Path(__file__).resolve().parent.parent
+
+
+def tell(repository, path, function, clauses):
+    """Prints the definitions on which clauses of a function rest."""
+    _, reached = reached_by(repository, path, function, clauses)
+    for it in reached.values():
+        print(f"{it.path}:{it.line}: {it.name}, {len(it.own)} lines")
+    print(f"{len(reached)} definitions, {sum(it.code for it in reached.values())} lines and {sum(it.comments for it in reached.values())} of comments")
+
+
+def main(words, top=TOP, lists=LISTS):
+    if words[:1] == ["--of"] and len(words) > 2:
+        try:
+            tell(Repository(top), words[1], words[2], words[3:])
+        except Unresolved as fault:
+            print(fault)
+            return 1
+        return 0
+    if words not in ([], ["--check"]):
+        print(__doc__)
+        return 1
+    repository = Repository(top)
+    now, told = page(repository, lists)
+    document = Path(top, DOCUMENT).read_text("utf-8")
+    functions = {name: path for path, name, *_ in lists}
+    made, other, missing = shown(document, repository, functions, [lists[0][1]])
+    told += missing
+    if words:
+        was = Path(top, PAGE).read_text("utf-8") if Path(top, PAGE).is_file() else ""
+        told += other
+        if now and was != now:
+            told += [f"{PAGE}: {it}" for it in was.splitlines() if it not in now.splitlines()] or [f"{PAGE} lacks lines"]
+            told.append("run tools/believe.py")
+    elif now:
+        Path(top, PAGE).write_text(now, "utf-8")
+        Path(top, DOCUMENT).write_text(made, "utf-8")
+    print("\n".join(told) or f"{PAGE} has the definitions on which {len(lists)} lists of clauses rest")
+    return 1 if told else 0
+
+
+if __name__ == "__main__":
+    sys.exit(main(sys.argv[1:]))

@@ -1,0 +1,223 @@
+"""The page of what has to be believed."""
+import re
+from collections import Counter
+
+from .contracts import Contract
+from .texts import Unresolved
+from .words import Names
+
+PAGE = "docs/believe.md"
+KIT_FIELDS = {"now", "old", "new", "items", "top", "contents"}  # of the kit's types
+RUN, TRACE, BARE, DRIVE = (f"crates/{it}.rt" for it in ("ds_station/src/files", "ds_trace/src/files", "ds_bare/src/run", "ds_drive/src/program"))
+
+# each list: the file and the name of a function, its clauses or all of them, what the list is about, and what it is compared with
+LISTS = [
+    (RUN, "run_files", ["ok", "err", "refused"],
+     "Which text a run has: the page-map machine, and how policies, sources, inputs and results are texts.",
+     ["`tools/turns_model.py` and `tools/hostile_model.py`, runs on plain pages with no buffer, and `tools/grants_model.py`, the calls and commands over a table: each was written from the documents, and the rows of `processes/turns/`, `grants/` and `hostile/` have what they come to",
+      "`tools/reading_model.py`, a reader of policies and inputs over Python's own reader of TOML",
+      "the rows of `emulated/`, whose results an emulator has too"]),
+    (RUN, "run_files", ["guarded", "guarded_so_far", "quiet"],
+     "What a run does to pages and log: only granted stores change a page, each denial has its line, and a quiet run does not show the start of Random.",
+     ["the rows of `hostile/`, `grants/late/` and `grants/shared_on/`, each at several starts of Random"]),
+    (RUN, "run_files", ["real", "cut"],
+     "What the processor does: its step, memory and devices, the TLB, and how a station that holds them stands for a state of the machine.",
+     ["`tools/processor_model.py`, a processor with a buffer of 64 entries, the nine words, page tables, address space numbers and late copies",
+      "`tools/unit_course.py`, which searches all courses of a unit for its longest",
+      "the cases of `crates/part_cases/data/machine/`, worked out by hand, and the rows of `emulated/`"]),
+    (TRACE, "trace_files", None,
+     "What a trace tells of a run: its lines, its counts and how each process stands at the end.",
+     ["`tools/trace_model.py`, which writes the text of each row of `traces/`"]),
+    (BARE, "run_bare", None,
+     "What is told of an image on the bare machine, instruction by instruction.",
+     ["the rows of `bare/`, worked out by hand"]),
+    (DRIVE, "drive", None,
+     "What the words of the program ask for, its statuses, listings and checks, and what is told of a fault.",
+     ["`tools/reason_model.py`, what is told of a policy and an input that are refused",
+      "`tools/refused_memory.py` and `tools/refused_growths.py`, which refuse each growth of memory in turn",
+      "the rows of `listing/`, `checking/`, `mistakes/` and `commands/`"]),
+]
+HEAD = """\
+# What has to be believed
+
+This page is written by `tools/believe.py`. The gate fails where it differs from the sources, where a name can't be followed, and where a clause of a function is in no list.
+
+A proof says that the code does what the definitions say, and not that they say what is wanted. These are the definitions on which the clauses rest that `docs/theorems.md` shows, in the order of a reader: a file
+stands after those that use it, and each list has only what the lists before it have not. So who reads the first list knows all that `ok`, `err` and `refused` of `run_files` say.
+
+A definition is in a list where a clause names it, or a definition of the list does: as a function, a constructor, a type of Rust, a constant or a macro. An import alone counts for nothing. Behind its name stands the
+line at which it begins, and how many lines it has, with its comment. Lines are those of the definitions: no blank lines, imports or attributes. Of a type with a `Model` only the type of its value counts. Rows are
+the worked rows, theorems that both sides compute to one value, that rest on a definition of the file.
+"""
+
+
+def row(cells):
+    return "| " + " | ".join(map(str, cells)) + " |"
+
+
+def table(head, rows):
+    return [row(head), "|" + "---|" * len(head), *map(row, rows)]
+
+
+def all_specs(repository):
+    """The files of definitions, by their paths."""
+    return [repository.read(str(it.relative_to(repository.top))) for it in sorted(repository.top.glob("crates/*/specs/**/*.antt"))]
+
+
+def is_row(one):
+    """Whether a definition is a worked row."""
+    return one.text[-1][1].split() == [one.name, "=", "refl"]
+
+
+def sums(ones):
+    """How many definitions, and their lines without comments and with."""
+    return len(ones), sum(it.code for it in ones), sum(it.comments for it in ones)
+
+
+def contract_of(repository, path, function):
+    """The contract of a function of a file. Raises `Unresolved`."""
+    file = repository.read(path)
+    if file is None:
+        raise Unresolved(f"{path}: is not there")
+    return Contract(file, function)
+
+
+def reached_by(repository, path, function, clauses):
+    """What clauses of a function name, or all of them, and all definitions that they rest on."""
+    contract = contract_of(repository, path, function)
+    names = repository.of_contract(contract, set(clauses) if clauses else None, Names(repository, contract.file))
+    return names, repository.rests_on(names.found.values())
+
+
+class Lists:
+    """The lists, each with what it has besides those before it."""
+
+    def __init__(self, repository, given):
+        self.repository, self.given, self.faults, self.parts, self.kit = repository, given, [], [], set()
+        seen, fields = {}, KIT_FIELDS
+        for path, function, clauses, _, _ in given:
+            try:
+                names, reached = reached_by(repository, path, function, clauses)
+            except Unresolved as fault:
+                self.faults.append(str(fault))
+                self.parts.append((clauses or [], []))
+                continue
+            fields = fields | {name for it in reached.values() for name in (it.name, *it.members)}
+            self.known(path, names, fields)
+            for it in reached.values():
+                self.known(it.path, repository.follow(it), fields)
+                self.kit |= repository.follow(it).kit
+            self.kit |= names.kit
+            self.parts.append((clauses or contract_of(repository, path, function).promised(), [it for it in reached.values() if it.key not in seen]))
+            seen.update(reached)
+        self.seen = seen
+        self.unlisted()
+
+    def known(self, path, names, fields):
+        """Tells the fields that no type of the lists so far has."""
+        self.faults += [f"{path}:{number}: no type has the field `{it}`" for it, number in names.fields.items() if it not in fields]
+
+    def unlisted(self):
+        """Tells the clauses of a function that are in no list, and those of a list that the function has not."""
+        for path, function in dict.fromkeys((it[0], it[1]) for it in self.given):
+            given = [clauses for one, name, clauses, *_ in self.given if (one, name) == (path, function)]
+            if None in given or not self.repository.read(path):
+                continue
+            promised, listed = contract_of(self.repository, path, function).promised(), [it for clauses in given for it in clauses]
+            self.faults += [f"{path}: clause `{it}` of `{function}` is in no list of tools/believe/page.py" for it in promised if it not in listed]
+            self.faults += [f"{path}: `{function}` has no clause `{it}`" for it in listed if it not in promised]
+
+
+def files_of(repository, ones):
+    """The definitions by their files, in the order of a reader: a file after those that name something of it."""
+    by_file = {}
+    for it in sorted(ones, key=lambda it: it.line):
+        by_file.setdefault(it.path, []).append(it)
+    named = {path: [other.path for it in its for other in repository.follow(it).found.values() if other.path in by_file and other.path != path] for path, its in by_file.items()}
+    users = set().union(*named.values())
+    done, order = set(), []
+
+    def visit(path):
+        if path not in done:
+            done.add(path)
+            for it in reversed(named[path]):
+                visit(it)
+            order.append(path)
+
+    for path in [*reversed([it for it in by_file if it not in users]), *by_file]:
+        visit(path)
+    return {path: by_file[path] for path in reversed(order)}
+
+
+def part(repository, at, lists, rows):
+    """The part of the page on one list."""
+    _, function, _, about, compared = lists.given[at]
+    clauses, ones = lists.parts[at]
+    specs, types = ([it for it in ones if it.path.endswith(ending)] for ending in (".antt", ".rt"))
+    some = [it for it in specs if rows[it.key]]
+    files = files_of(repository, ones)
+    (count, code, comments), (count_types, code_types, comments_types) = sums(specs), sums(types)
+    besides = " besides those above" if at else ""
+    lines = [
+        f"## {at + 1}. `{function}`: " + ", ".join(f"`{it}`" for it in clauses), "", about, "",
+        f"{count} definitions{besides}, in {len({it.path for it in specs})} files of `specs/`: {code} lines, and {comments} of comments. {count_types} types and constants of Rust: {code_types} lines, and {comments_types} of comments. "
+        f"On {len(some)} of the definitions rests a worked row.", "",
+    ]
+    if compared:
+        lines += ["Compared with:", "", *(f"- {it};" for it in compared[:-1]), f"- {compared[-1]}.", ""]
+    cells = [[f"`{path}`", repository.read(path).about(), sum(it.code for it in its), len(set().union(*(rows[it.key] for it in its))) or "",
+              ", ".join(f"`{it.name}` {it.line} ({len(it.own)})" for it in its)] for path, its in files.items()]
+    return lines + table(["File", "About", "Lines", "Rows", "Definitions"], cells)
+
+
+def summary(lists):
+    """The table of the lists, and what they come to."""
+    cells, so_far = [], []
+    for at, (clauses, ones) in enumerate(lists.parts):
+        so_far += ones
+        specs, all_specs_so_far = [it for it in ones if it.path.endswith(".antt")], [it for it in so_far if it.path.endswith(".antt")]
+        cells.append([f"{at + 1}. `{lists.given[at][1]}`", ", ".join(f"`{it}`" for it in clauses), *sums(specs), sums([it for it in ones if it.path.endswith(".rt")])[1], sums(all_specs_so_far)[1]])
+    return table(["List", "Clauses", "Definitions", "Lines", "Comments", "Lines of types", "Lines so far, without types"], cells)
+
+
+def kit_words(lists):
+    """What the lists name of the kit."""
+    by_module = {}
+    for module, name in sorted(lists.kit):
+        by_module.setdefault(module, []).append(name)
+    return ["## Of the kit", "", f"The lists name these {len(lists.kit)} of the kit's own words, which its guides explain:", "",
+            *table(["Module", "Names"], [[f"`{module}`", ", ".join(f"`{it}`" if it != "|" else it for it in names)] for module, names in by_module.items()])]
+
+
+def left(repository, lists):
+    """What of `specs/` is in no list, by crates."""
+    counts, rows, lines = Counter(), Counter(), Counter()
+    for file in all_specs(repository):
+        for it in file.definitions:
+            if it.key not in lists.seen:
+                crate = it.path.split("/")[1]
+                counts[crate] += not is_row(it)
+                rows[crate] += is_row(it)
+                lines[crate] += it.code
+    cells = [[f"`{it}`", counts[it], rows[it], lines[it]] for it in sorted(lines)]
+    return ["## In no list", "", "Definitions of `specs/` on which no clause above rests: those of private contracts, of laws and of other calls, and worked rows with what they are made of.", "",
+            *table(["Crate", "Definitions", "Worked rows", "Lines"], [*cells, ["all", counts.total(), rows.total(), lines.total()]])]
+
+
+def page(repository, given):
+    """The page of some lists, and what is wrong."""
+    lists = Lists(repository, given)
+    rows = {key: set() for key in lists.seen}
+    for file in all_specs(repository):
+        for one in filter(is_row, file.definitions):
+            try:
+                for key in repository.rests_on([one]):
+                    if key in rows:
+                        rows[key].add(one.key)
+            except Unresolved as fault:
+                lists.faults.append(str(fault))
+    if lists.faults:
+        return "", list(dict.fromkeys(lists.faults))
+    parts = [HEAD.rstrip("\n"), "\n".join(summary(lists)), *("\n".join(part(repository, at, lists, rows)) for at in range(len(given))),
+             "\n".join(kit_words(lists)), "\n".join(left(repository, lists))]
+    return "\n\n".join(parts) + "\n", []
