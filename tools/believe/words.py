@@ -1,7 +1,7 @@
 """Reads which words of a text are bound in it, and which are names of definitions."""
 import re
 
-from .texts import CLOSE, MEMBER, OPEN, Code, Unresolved
+from .texts import CLOSE, MEMBER, OPEN, Code, Unresolved, indent_of
 
 TOKEN = re.compile(r'"(?:\\.|[^"\\])*"|[(){}\[\];,]|[^\s(){}\[\];,"]+')
 KEYWORDS = set("Type record let in do elim as where Unit tt absurd omega cc".split())
@@ -269,23 +269,17 @@ def binders(tokens, at):
 
 def clauses_of(one):
     """The type of a function and its equations, each as its words, and whether it stands below a `where`."""
-    base, below, found = len(one.text[0][1]) - len(one.text[0][1].lstrip()), None, []
-    for number, line in one.text:
-        depth, words = len(line) - len(line.lstrip()), line.split()
-        if words[0] == "unfolding":
-            continue
-        if words == ["where"]:
+    lines = [it for it in one.text if it[1].split()[0] not in ("infix", "infixl", "infixr", "unfolding")]
+    base, below, found = indent_of(lines[0][1]), None, []
+    for number, line in lines:
+        if line.strip() == "where":
             below = -1
             continue
-        below = depth if below == -1 else below
-        if depth in (base, below) and words[0][0] not in CLOSE and not (len(found) == 1 and found[0][0][0][0].startswith("infix") and len(found[0][0]) == 3):
-            found.append(([], depth == below))
+        below = indent_of(line) if below == -1 else below
+        if indent_of(line) in (base, below) and line.strip()[0] not in CLOSE:
+            found.append(([], indent_of(line) == below))
         found[-1][0].extend(tokens_of([(number, line)]))
     head = found[0][0]
     while head[0][0] in ("abbrev", "unfoldable", "pub"):
         head.pop(0)
-    if head[0][0].startswith("infix"):
-        del head[:3]
-        while head[0][0] in ("abbrev", "unfoldable", "pub"):
-            head.pop(0)
     return found
