@@ -18,6 +18,7 @@ use Rattle.ds_refinement.specs.Real.{RealPath}
 use Rattle.ds_refinement.specs.Runs.{RunsWithin, held_goes_on}
 use Rattle.ds_refinement.specs.Services.{with_failure}
 use Rattle.ds_refinement.proofs.RunSteps.{goes_alike}
+use Rattle.ds_refinement.proofs.Joined.{through_both}
 use Rattle.ds_refinement.proofs.Standing.{own_unseen}
 use Rattle.ds_kernel.specs.Going.{rank}
 use Rattle.ds_kernel.specs.Ran.{HasRun}
@@ -308,12 +309,14 @@ told_if false Tells text told = refl
 
 -- what a view wants of it
 pub processor_told : (v : View) (n : ℕ) (start h : Held) (c : ProcessorCounts) (lines : List ℕ) (m last : State) → HasCounted (window_end v) (told_from v n) n start h c lines → Stands start m → Stands h last → TellsFrom v n start m last (processor_held v lines c h)
-processor_told v n start h c lines m last counted begin end =
-    told_if v.processor (HasProcessedFrom v n start m last) (lines ++ processor_text c h.core.entries) (processed_from v n start h c lines m last counted begin end)
+processor_told v n start h c lines m last counted begin end = (
+  record { to = counted.to; path = record { path = counted.steps.path ++ counted.ran.path.path; through = through_both start counted.from counted.to counted.ran.path.path counted.steps.path counted.ran.path.through counted.steps.through }; comes = counted.stands last end },
+  told_if v.processor (HasProcessedFrom v n start m last) (lines ++ processor_text c h.core.entries) (processed_from v n start h c lines m last counted begin end),
+)
 
 -- what is told of this station's run is told of a run
 pub processor_of_some : (v : View) (n : ℕ) (start : Held) (m last : State) (text : List ℕ) → TellsFrom v n start m last text → TellsProcessor v n m last text
-processor_of_some v n start m last text told = by v.processor told
+processor_of_some v n start m last text told = by v.processor told.1
   where
     by : (b : Bool) → TellsIf b (HasProcessedFrom v n start m last) text → TellsIf b (HasProcessed (window_end v) (told_from v n) n m last) text
     by true told = told.processed

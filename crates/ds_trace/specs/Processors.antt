@@ -163,6 +163,12 @@ TellsIf true Tells text = Tells text
 abbrev pub TellsProcessor : View → ℕ → State → State → List ℕ → Type 0
 TellsProcessor v n first last text = TellsIf v.processor (HasProcessed (window_end v) (told_from v n) n first last) text
 
--- what it did in a run of this station
+-- a station came by real steps to where it stands for the last state
+pub record CameTo (start : Held) (last : State) : Type 0 where
+  pub to : Held
+  pub path : RealPath start to
+  pub comes : Stands to last
+
+-- this station did, and what it did in that run
 abbrev pub TellsFrom : View → ℕ → Held → State → State → List ℕ → Type 0
-TellsFrom v n start first last text = TellsIf v.processor (HasProcessedFrom v n start first last) text
+TellsFrom v n start first last text = CameTo start last × TellsIf v.processor (HasProcessedFrom v n start first last) text
