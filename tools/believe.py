@@ -43,8 +43,8 @@ def main(words, top=TOP, lists=LISTS):
     repository = Repository(top)
     now, told = page(repository, lists)
     document = Path(top, DOCUMENT).read_text("utf-8")
-    functions = {name: path for path, name, *_ in lists}
-    made, other, missing = shown(document, repository, functions, [lists[0][1]])
+    functions = {it.function: it.path for it in lists}
+    made, other, missing = shown(document, repository, functions, [lists[0].function])
     told += missing
     if words:
         was = Path(top, PAGE).read_text("utf-8") if Path(top, PAGE).is_file() else ""

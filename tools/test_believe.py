@@ -10,7 +10,7 @@ from pathlib import Path
 
 sys.dont_write_bytecode = True
 
-from believe.page import page, reached_by  # noqa: E402
+from believe.page import Asked, page, reached_by  # noqa: E402
 from believe.repository import Repository  # noqa: E402
 
 SCRIPT = importlib.util.spec_from_file_location("believe_command", Path(__file__).resolve().parent / "believe.py")
@@ -185,7 +185,7 @@ It asks for nothing:
 """,
 }
 RUN = "crates/toy/src/run.rt"
-LISTS = [(RUN, "run", ["ok"], "What is shown.", ["nothing"]), (RUN, "run", ["err"], "The rest.", [])]
+LISTS = [Asked(RUN, "run", ["ok"], "What is shown.", ["nothing"]), Asked(RUN, "run", ["err"], "The rest.", [])]
 NEEDED = {"Holds", "Spot", "Parts", "Way", "turned", "straight", "Mood", "WORDS", "table", "firsts", "Place", "Fault", "Cause"}
 
 

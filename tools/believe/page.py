@@ -1,6 +1,6 @@
 """The page of what has to be believed."""
-import re
 from collections import Counter
+from typing import NamedTuple
 
 from .contracts import Contract
 from .texts import Unresolved
@@ -10,32 +10,41 @@ PAGE = "docs/believe.md"
 KIT_FIELDS = {"now", "old", "new", "items", "top", "contents"}  # of the kit's types
 RUN, TRACE, BARE, DRIVE = (f"crates/{it}.rt" for it in ("ds_station/src/files", "ds_trace/src/files", "ds_bare/src/run", "ds_drive/src/program"))
 
-# each list: the file and the name of a function, its clauses or all of them, what the list is about, and what it is compared with
+
+class Asked(NamedTuple):
+    """What a list is made for."""
+    path: str  # the file of a function
+    function: str
+    clauses: list  # some of its clauses, or none for all
+    about: str
+    compared: list  # with what these definitions are compared
+
+
 LISTS = [
-    (RUN, "run_files", ["ok", "err", "refused"],
-     "Which text a run has: the page-map machine, and how policies, sources, inputs and results are texts.",
-     ["`tools/turns_model.py` and `tools/hostile_model.py`, runs on plain pages with no buffer, and `tools/grants_model.py`, the calls and commands over a table: each was written from the documents, and the rows of `processes/turns/`, `grants/` and `hostile/` have what they come to",
-      "`tools/reading_model.py`, a reader of policies and inputs over Python's own reader of TOML",
-      "the rows of `emulated/`, whose results an emulator has too"]),
-    (RUN, "run_files", ["guarded", "guarded_so_far", "quiet"],
-     "What a run does to pages and log: only granted stores change a page, each denial has its line, and a quiet run does not show the start of Random.",
-     ["the rows of `hostile/`, `grants/late/` and `grants/shared_on/`, each at several starts of Random"]),
-    (RUN, "run_files", ["real", "cut"],
-     "What the processor does: its step, memory and devices, the TLB, and how a station that holds them stands for a state of the machine.",
-     ["`tools/processor_model.py`, a processor with a buffer of 64 entries, the nine words, page tables, address space numbers and late copies",
-      "`tools/unit_course.py`, which searches all courses of a unit for its longest",
-      "the cases of `crates/part_cases/data/machine/`, worked out by hand, and the rows of `emulated/`"]),
-    (TRACE, "trace_files", None,
-     "What a trace tells of a run: its lines, its counts and how each process stands at the end.",
-     ["`tools/trace_model.py`, which writes the text of each row of `traces/`"]),
-    (BARE, "run_bare", None,
-     "What is told of an image on the bare machine, instruction by instruction.",
-     ["the rows of `bare/`, worked out by hand"]),
-    (DRIVE, "drive", None,
-     "What the words of the program ask for, its statuses, listings and checks, and what is told of a fault.",
-     ["`tools/reason_model.py`, what is told of a policy and an input that are refused",
-      "`tools/refused_memory.py` and `tools/refused_growths.py`, which refuse each growth of memory in turn",
-      "the rows of `listing/`, `checking/`, `mistakes/` and `commands/`"]),
+    Asked(RUN, "run_files", ["ok", "err", "refused"],
+          "Which text a run has: the page-map machine, and how policies, sources, inputs and results are texts.",
+          ["`tools/turns_model.py` and `tools/hostile_model.py`, runs on plain pages with no buffer, and `tools/grants_model.py`, the calls and commands over a table: each was written from the documents, and the rows of `processes/turns/`, `grants/` and `hostile/` have what they come to",
+           "`tools/reading_model.py`, a reader of policies and inputs over Python's own reader of TOML",
+           "the rows of `emulated/`, whose results an emulator has too"]),
+    Asked(RUN, "run_files", ["guarded", "guarded_so_far", "quiet"],
+          "What a run does to pages and log: only granted stores change a page, each denial has its line, and a quiet run does not show the start of Random.",
+          ["the rows of `hostile/`, `grants/late/` and `grants/shared_on/`, each at several starts of Random"]),
+    Asked(RUN, "run_files", ["real", "cut"],
+          "What the processor does: its step, memory and devices, the TLB, and how a station that holds them stands for a state of the machine.",
+          ["`tools/processor_model.py`, a processor with a buffer of 64 entries, the nine words, page tables, address space numbers and late copies",
+           "`tools/unit_course.py`, which searches all courses of a unit for its longest",
+           "the cases of `crates/part_cases/data/machine/`, worked out by hand, and the rows of `emulated/`"]),
+    Asked(TRACE, "trace_files", [],
+          "What a trace tells of a run: its lines, its counts and how each process stands at the end.",
+          ["`tools/trace_model.py`, which writes the text of each row of `traces/`"]),
+    Asked(BARE, "run_bare", [],
+          "What is told of an image on the bare machine, instruction by instruction.",
+          ["the rows of `bare/`, worked out by hand"]),
+    Asked(DRIVE, "drive", [],
+          "What the words of the program ask for, its statuses, listings and checks, and what is told of a fault.",
+          ["`tools/reason_model.py`, what is told of a policy and an input that are refused",
+           "`tools/refused_memory.py` and `tools/refused_growths.py`, which refuse each growth of memory in turn",
+           "the rows of `listing/`, `checking/`, `mistakes/` and `commands/`"]),
 ]
 HEAD = """\
 # What has to be believed
@@ -69,6 +78,11 @@ def is_row(one):
     return one.text[-1][1].split() == [one.name, "=", "refl"]
 
 
+def by_language(ones):
+    """Those of `specs/`, and those of Rust."""
+    return ([it for it in ones if it.path.endswith(ending)] for ending in (".antt", ".rt"))
+
+
 def sums(ones):
     """How many definitions, and their lines without comments and with."""
     return len(ones), sum(it.code for it in ones), sum(it.comments for it in ones)
@@ -95,20 +109,17 @@ class Lists:
     def __init__(self, repository, given):
         self.repository, self.given, self.faults, self.parts, self.kit = repository, given, [], [], set()
         seen, fields = {}, KIT_FIELDS
-        for path, function, clauses, _, _ in given:
+        for it in given:
             try:
-                names, reached = reached_by(repository, path, function, clauses)
+                names, reached = reached_by(repository, it.path, it.function, it.clauses)
             except Unresolved as fault:
                 self.faults.append(str(fault))
-                self.parts.append((clauses or [], []))
                 continue
             fields = fields | {name for it in reached.values() for name in (it.name, *it.members)}
-            self.known(path, names, fields)
-            for it in reached.values():
-                self.known(it.path, repository.follow(it), fields)
-                self.kit |= repository.follow(it).kit
-            self.kit |= names.kit
-            self.parts.append((clauses or contract_of(repository, path, function).promised(), [it for it in reached.values() if it.key not in seen]))
+            for path, its in [(it.path, names), *((one.path, repository.follow(one)) for one in reached.values())]:
+                self.known(path, its, fields)
+                self.kit |= its.kit
+            self.parts.append((it.clauses or contract_of(repository, it.path, it.function).promised(), [one for one in reached.values() if one.key not in seen]))
             seen.update(reached)
         self.seen = seen
         self.unlisted()
@@ -119,11 +130,9 @@ class Lists:
 
     def unlisted(self):
         """Tells the clauses of a function that are in no list, and those of a list that the function has not."""
-        for path, function in dict.fromkeys((it[0], it[1]) for it in self.given):
-            given = [clauses for one, name, clauses, *_ in self.given if (one, name) == (path, function)]
-            if None in given or not self.repository.read(path):
-                continue
-            promised, listed = contract_of(self.repository, path, function).promised(), [it for clauses in given for it in clauses]
+        for path, function in dict.fromkeys((it.path, it.function) for it in self.given if it.clauses and self.repository.read(it.path)):
+            promised = contract_of(self.repository, path, function).promised()
+            listed = [clause for it in self.given if (it.path, it.function) == (path, function) for clause in it.clauses]
             self.faults += [f"{path}: clause `{it}` of `{function}` is in no list of tools/believe/page.py" for it in promised if it not in listed]
             self.faults += [f"{path}: `{function}` has no clause `{it}`" for it in listed if it not in promised]
 
@@ -151,20 +160,19 @@ def files_of(repository, ones):
 
 def part(repository, at, lists, rows):
     """The part of the page on one list."""
-    _, function, _, about, compared = lists.given[at]
-    clauses, ones = lists.parts[at]
-    specs, types = ([it for it in ones if it.path.endswith(ending)] for ending in (".antt", ".rt"))
+    asked, (clauses, ones) = lists.given[at], lists.parts[at]
+    specs, types = by_language(ones)
     some = [it for it in specs if rows[it.key]]
     files = files_of(repository, ones)
     (count, code, comments), (count_types, code_types, comments_types) = sums(specs), sums(types)
     besides = " besides those above" if at else ""
     lines = [
-        f"## {at + 1}. `{function}`: " + ", ".join(f"`{it}`" for it in clauses), "", about, "",
+        f"## {at + 1}. `{asked.function}`: " + ", ".join(f"`{it}`" for it in clauses), "", asked.about, "",
         f"{count} definitions{besides}, in {len({it.path for it in specs})} files of `specs/`: {code} lines, and {comments} of comments. {count_types} types and constants of Rust: {code_types} lines, and {comments_types} of comments. "
         f"On {len(some)} of the definitions rests a worked row.", "",
     ]
-    if compared:
-        lines += ["Compared with:", "", *(f"- {it};" for it in compared[:-1]), f"- {compared[-1]}.", ""]
+    if asked.compared:
+        lines += ["Compared with:", "", *(f"- {it};" for it in asked.compared[:-1]), f"- {asked.compared[-1]}.", ""]
     cells = [[f"`{path}`", repository.read(path).about(), sum(it.code for it in its), len(set().union(*(rows[it.key] for it in its))) or "",
               ", ".join(f"`{it.name}` {it.line} ({len(it.own)})" for it in its)] for path, its in files.items()]
     return lines + table(["File", "About", "Lines", "Rows", "Definitions"], cells)
@@ -175,8 +183,8 @@ def summary(lists):
     cells, so_far = [], []
     for at, (clauses, ones) in enumerate(lists.parts):
         so_far += ones
-        specs, all_specs_so_far = [it for it in ones if it.path.endswith(".antt")], [it for it in so_far if it.path.endswith(".antt")]
-        cells.append([f"{at + 1}. `{lists.given[at][1]}`", ", ".join(f"`{it}`" for it in clauses), *sums(specs), sums([it for it in ones if it.path.endswith(".rt")])[1], sums(all_specs_so_far)[1]])
+        (specs, types), (all_so_far, _) = by_language(ones), by_language(so_far)
+        cells.append([f"{at + 1}. `{lists.given[at].function}`", ", ".join(f"`{it}`" for it in clauses), *sums(specs), sums(types)[1], sums(all_so_far)[1]])
     return table(["List", "Clauses", "Definitions", "Lines", "Comments", "Lines of types", "Lines so far, without types"], cells)
 
 
