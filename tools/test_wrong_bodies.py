@@ -1,21 +1,25 @@
 #!/usr/bin/env python3
-"""Tests of the verdicts that tools/wrong_bodies.py gives, over small crates in a folder of their own."""
+"""Tests of tools/wrong_bodies.py, over small crates in a folder of their own."""
+import contextlib
+import io
 import sys
 import tempfile
 import unittest
 from pathlib import Path
+from unittest import mock
 
 sys.dont_write_bytecode = True
 
-from wrong_bodies.kinds import Kind, kind_of  # noqa: E402
-from wrong_bodies.record import Record  # noqa: E402
-from wrong_bodies_toys import crate_files, edit_text, run, write  # noqa: E402
+from wrong_bodies import census  # noqa: E402
+from wrong_bodies.command import main  # noqa: E402
+from wrong_bodies.edits import Repository  # noqa: E402
+from wrong_bodies.trying import batches_of  # noqa: E402
 
 CODE = """\
 //! Functions to break.
 #![tactic(auto)]
 
-ghost use Rattle.std.specs.Prelude.{◌≡◌, ◌≤◌, ◌+◌};
+ghost use Rattle.std.specs.Prelude.{◌≡◌, ◌≤◌, ◌<◌, ◌+◌};
 ghost use Rattle.toy.specs.Lamps.{order_of};
 
 /// A lamp.
@@ -47,7 +51,8 @@ fn sum(a: u32, b: u32) -> u32
 /// The next number.
 pub fn next(n: u32) -> u32
     requires { n ≤ 1000 }
-    ensures { result ≡ n + 1 }
+    ensures up { n < result }
+    ensures next { result ≡ n + 1 }
 {
     n + FIRST
 }
@@ -113,112 +118,151 @@ pub double_2_is_4 : double 2 ≡ 4
 double_2_is_4 = refl
 """
 TURNED = {
-    "after.the_same.edit": ("after n = n + 1", "after n = n"),
-    "double.another_row.edit": ("double n = n + n", "double n = n + n + n", "row: double_0_is_0"),
-    "double.its_row.edit": ("double n = n + n", "double n = n + n + n", "row: double_2_is_4"),
-    "unused.harmless.edit": ("unused = 1", "unused = 2"),
-    "unused.unreadable.edit": ("unused = 1", "unused = missing"),
+    "after.the_same": ("after n = n + 1", "after n = n", "law: a_number_is_below_the_next"),
+    "double.another_row": ("double n = n + n", "double n = n + n + n", "row: double_0_is_0"),
+    "double.its_row": ("double n = n + n", "double n = n + n + n", "row: double_2_is_4"),
+    "unused.harmless": ("unused = 1", "unused = 2"),
 }
 EDITS = {
-    "next.a_constant.edit": ("const FIRST: u32 = 1;", "const FIRST: u32 = 2;"),
-    "next.a_constant_named.edit": ("const FIRST: u32 = 1;", "const FIRST: u32 = 3;", "function: next"),
-    "next.harmless.edit": ("n + FIRST", "FIRST + n"),
-    "next.harmful.edit": ("n + FIRST", "n + FIRST + 1"),
-    "next.unreadable.edit": ("n + FIRST", "n + missing"),
-    "order.green_is_red.edit": ("Lamp::Green => 4", "Lamp::Green => 3"),
-    "order.red_is_green.edit": ("Lamp::Red => 3", "Lamp::Red => 4"),
-    "sum.a_condition_broken.edit": ("    a + b", "    a + b + 4_294_967_290"),
-    "sum.one_too_many.edit": ("    a + b", "    a + b + 1"),
-    "twice.one_too_many.edit": ("sum(n, n)", "sum(n, n) + 1"),
+    "next.a_constant": ("const FIRST: u32 = 1;", "const FIRST: u32 = 2;"),
+    "next.a_constant_named": ("const FIRST: u32 = 1;", "const FIRST: u32 = 3;", "function: next", "clause: next"),
+    "next.another_clause": ("n + FIRST", "n + FIRST + 3", "clause: up"),
+    "next.harmless": ("n + FIRST", "FIRST + n"),
+    "next.one_too_many": ("n + FIRST", "n + FIRST + 1"),
+    "order.green_is_red": ("Lamp::Green => 4", "Lamp::Green => 3", "clause: ensures"),
+    "order.red_is_green": ("Lamp::Red => 3", "Lamp::Red => 4"),
+    "order.red_is_nothing": ("Lamp::Red => 3", "Lamp::Red => 0"),
+    "sum.one_too_many": ("    a + b", "    a + b + 1"),
+    "sum.stands_for_twice": ("    a + b", "    a + b + 2", "stands for: twice ensures"),
+    "twice.one_too_many": ("sum(n, n)", "sum(n, n) + 1"),
+}
+BAD = {
+    "next.unknown": ("n + FIRST", "n + missing"),
+    "next.not_there": ("n + SECOND", "n"),
+    "next.no_clause": ("n + FIRST", "n", "clause: down"),
+    "sum.stands_for_nothing": ("    a + b", "    a", "stands for: sum ensures"),
+    "twice.arguments": ("sum(n, n)", "sum(n)"),
+    "twice.well": ("sum(n, n)", "sum(n, n) + 2"),
 }
 
 
-class Verdicts(unittest.TestCase):
+def write(root, files):
+    for path, text in files.items():
+        Path(root, path).parent.mkdir(parents=True, exist_ok=True)
+        Path(root, path).write_text(text, "utf-8")
+
+
+def crate_files(name, code, edits, file="src/lib.rt", **specs):
+    """The files of a crate by their paths: its code, its definitions by their modules, and its edits."""
+    found = {"src/lib.rt": code, "specs/Lib.antt": "".join(f"pub mod {it}\n" for it in specs), **{f"specs/{it}.antt": text for it, text in specs.items()}}
+    found.update({f"wrong/{it}.edit": "\n".join([f"file: {file}", *more, f"old: {old}", f"new: {new}", ""]) for it, (old, new, *more) in edits.items()})
+    return {f"crates/{name}/{path}": text for path, text in found.items()}
+
+
+def run(root, *words):
+    """Runs the command, and returns its status and what it printed."""
+    with contextlib.redirect_stdout(io.StringIO()) as said:
+        status = main([*words, "--root", root])
+    return status, said.getvalue()
+
+
+class Room(unittest.TestCase):
+    def room(self, files):
+        room = tempfile.TemporaryDirectory(prefix="wrong-bodies-test-")
+        self.addCleanup(room.cleanup)
+        write(room.name, files)
+        return room.name
+
+
+class Verdicts(Room):
     """One run over a crate of code and a crate of laws, and what it said of each edit."""
 
     @classmethod
     def setUpClass(cls):
-        cls.room = tempfile.TemporaryDirectory(prefix="wrong-bodies-test-")
-        write(cls.room.name, {"crates.txt": "toy:\nlaws:\n", **crate_files("toy", CODE, Lamps=SPEC), **crate_files("laws", LAWS, Numbers=NUMBERS, Rows=ROWS)})
-        write(cls.room.name, {f"crates/toy/wrong/{name}": edit_text(*words) for name, words in EDITS.items()})
-        write(cls.room.name, {f"crates/laws/wrong/{name}": edit_text(*words, file="specs/Numbers.antt") for name, words in TURNED.items()})
-        Path(cls.room.name, "tools").mkdir()
-        cls.status, cls.said, cls.checks = run(cls.room.name, "--all")
-
-    @classmethod
-    def tearDownClass(cls):
-        cls.room.cleanup()
+        files = {"crates.txt": "toy:\nlaws:\n", **crate_files("toy", CODE, EDITS, Lamps=SPEC)}
+        files.update(crate_files("laws", LAWS, TURNED, "specs/Numbers.antt", Numbers=NUMBERS, Rows=ROWS))
+        with tempfile.TemporaryDirectory(prefix="wrong-bodies-test-") as room:
+            write(room, files)
+            cls.status, cls.said = run(room)
 
     def verdict(self, name, crate="toy"):
-        """Returns the line that tells of an edit, without its name."""
-        found = [it for it in self.said.splitlines() if f": {crate}/{name}.edit: " in it]
+        """Returns what is told of an edit."""
+        found = [it for it in self.said.splitlines() if it.startswith(f"{crate}/{name}.edit: ")]
         self.assertTrue(found, self.said)
-        return found[0].replace(f"{crate}/{name}.edit: ", "")
+        return found[0].partition(": ")[2]
 
-    def test_a_harmless_edit_is_not_refused(self):
-        self.assertIn("NOT REFUSED: ", self.verdict("next.harmless"))
-
-    def test_an_edit_that_the_prover_cannot_read_is_a_bad_edit(self):
-        self.assertIn("BAD EDIT: ", self.verdict("next.unreadable"))
-
-    def test_each_of_two_edits_of_one_function_is_refused(self):
-        self.assertEqual("refused by a private clause: sum: returns", self.verdict("sum.one_too_many"))
-        self.assertIn("refused by a private clause: sum: ", self.verdict("sum.a_condition_broken"))
-
-    def test_a_caller_and_its_callee_are_each_refused_by_a_clause_of_their_own(self):
-        self.assertEqual("refused by a public clause: twice: returns", self.verdict("twice.one_too_many"))
-        self.assertEqual("refused by a private clause: sum: returns", self.verdict("sum.one_too_many"))
-
-    def test_two_arms_of_one_function_are_told_apart(self):
-        self.assertEqual("refused by a public clause: order: returns-in-Green", self.verdict("order.green_is_red"))
-        self.assertEqual("refused by a public clause: order: returns-in-Red", self.verdict("order.red_is_green"))
-
-    def test_an_edit_outside_every_body_is_tried_alone_unless_it_names_its_function(self):
-        self.assertEqual("refused by a public clause: alone: next: returns", self.verdict("next.a_constant"))
-        self.assertEqual("refused by a public clause: next: returns", self.verdict("next.a_constant_named"))
-
-    def test_a_turned_definition_is_refused_by_its_row_or_by_a_law(self):
-        self.assertEqual("refused by a law or a worked row: the row double_2_is_4", self.verdict("double.its_row", "laws"))
-        self.assertIn("refused by a law or a worked row: a_number_is_below_the_next: returns", self.verdict("after.the_same", "laws"))
-
-    def test_a_turned_definition_whose_row_still_holds_is_not_refused(self):
-        self.assertEqual("NOT REFUSED: the row double_0_is_0 still holds; refused is double_2_is_4", self.verdict("double.another_row", "laws"))
-
-    def test_a_turned_definition_that_breaks_nothing_is_not_refused(self):
+    def test_a_harmless_edit_is_told(self):
+        self.assertEqual("NOT REFUSED: the crate is still proved with this edit", self.verdict("next.harmless"))
         self.assertEqual("NOT REFUSED: the crate is still proved with this edit", self.verdict("unused.harmless", "laws"))
 
-    def test_a_turned_definition_that_the_prover_cannot_read_is_a_bad_edit(self):
-        self.assertIn("BAD EDIT: the prover cannot read it", self.verdict("unused.unreadable", "laws"))
+    def test_the_clause_that_refused_an_edit_is_told(self):
+        self.assertEqual("refused by next next", self.verdict("next.one_too_many"))
+        self.assertEqual("refused by twice ensures", self.verdict("twice.one_too_many"))
 
-    def test_edits_share_checks(self):
-        shared = [it for it in self.checks.splitlines() if " 4 edits" in it or " 5 edits" in it or " 6 edits" in it]
-        self.assertTrue(shared, self.checks)
+    def test_one_refused_by_another_clause_than_it_names_is_not_refused(self):
+        self.assertEqual("NOT REFUSED: not by the clause up that it names; refused by next next", self.verdict("next.another_clause"))
+
+    def test_a_private_clause_counts_where_a_public_one_is_named(self):
+        self.assertIn("NOT REFUSED: by no public clause, but by sum ensures", self.verdict("sum.one_too_many"))
+        self.assertEqual("refused by sum ensures, which stands for twice ensures", self.verdict("sum.stands_for_twice"))
+
+    def test_two_arms_of_one_function_are_told_apart(self):
+        self.assertEqual("refused by order ensures", self.verdict("order.green_is_red"))
+        self.assertEqual("refused by order ensures", self.verdict("order.red_is_green"))
+
+    def test_an_edit_outside_every_body_is_refused_with_or_without_its_function(self):
+        self.assertEqual("refused by next next", self.verdict("next.a_constant"))
+        self.assertEqual("refused by next next", self.verdict("next.a_constant_named"))
+
+    def test_a_turned_definition_is_refused_by_its_row_or_its_law(self):
+        self.assertEqual("refused by the row double_2_is_4", self.verdict("double.its_row", "laws"))
+        self.assertIn("refused by the law a_number_is_below_the_next", self.verdict("after.the_same", "laws"))
+        self.assertIn("NOT REFUSED: the row double_0_is_0 still holds", self.verdict("double.another_row", "laws"))
 
     def test_the_last_line_counts(self):
-        self.assertEqual(1, self.status)
-        self.assertEqual("10 refused, 0 stale, 5 not refused", self.said.splitlines()[-1])
-        self.assertIn("laws: 5 wrong bodies: 0 by a public clause, 0 by a private clause, 0 by a proof script, 2 by a law or a worked row", self.said)
-
-    def test_the_record_has_what_was_refused_and_nothing_else(self):
-        found = Record(f"{self.room.name}/tools/wrong_bodies.record").found
-        self.assertEqual(10, len(found))
-        self.assertEqual({"public"}, {it.kind for it in found["toy", "next.a_constant"].values()})
-        self.assertNotIn(("toy", "next.harmless"), found)
-        self.assertNotIn(("laws", "unused.unreadable"), found)
-
-    def test_the_record_tells_how_the_edits_of_a_crate_stand(self):
-        self.assertIn("# toy: 8 of 10 tried over the texts of today, 2 never", Path(self.room.name, "tools/wrong_bodies.record").read_text("utf-8"))
+        self.assertEqual((1, "10 refused, 5 not refused"), (self.status, self.said.splitlines()[-1]))
 
 
-class Kinds(unittest.TestCase):
-    def test_a_goal_is_of_its_kind(self):
-        self.assertEqual(Kind.PUBLIC, kind_of("returns-in_ok-f-clause-value", True))
-        self.assertEqual(Kind.PUBLIC, kind_of("invariant_of-self", True))
-        self.assertEqual(Kind.PRIVATE, kind_of("returns", False))
-        self.assertEqual(Kind.PRIVATE, kind_of("sum-requires-left", True))
-        self.assertEqual(Kind.PRIVATE, kind_of("bounds-entries-slot", True))
-        self.assertEqual(Kind.SCRIPT, kind_of("loop-i-preserved", True))
-        self.assertEqual(Kind.SCRIPT, kind_of("loop-i-init-clause-size", True))
+class Bad(Room):
+    def test_an_edit_that_is_no_code_is_told_and_nothing_is_proved(self):
+        room = self.room({"crates.txt": "toy:\n", **crate_files("toy", CODE, BAD, Lamps=SPEC)})
+        status, said = run(room)
+        self.assertEqual((1, "0 refused, 5 not refused"), (status, said.splitlines()[-1]))
+        self.assertIn("toy/next.unknown.edit: BAD EDIT: it is no code: ", said)
+        self.assertIn("toy/next.not_there.edit: BAD EDIT: an 'old:' text is in src/lib.rt 0 times, and not once", said)
+        self.assertIn("toy/next.no_clause.edit: BAD EDIT: there is no clause down", said)
+        self.assertIn("toy/sum.stands_for_nothing.edit: BAD EDIT: there is no public clause sum ensures", said)
+        self.assertIn("toy/twice.arguments.edit: BAD EDIT: it is no code: ", said)
+        self.assertNotIn("toy/twice.well.edit", said)
+
+    def test_a_name_of_nothing_is_told(self):
+        self.assertEqual((2, "there is no toy/none\n0 refused, 1 not refused\n"), run(self.room({"crates.txt": "toy:\n", **crate_files("toy", CODE, {})}), "toy/none"))
+
+
+class Batches(Room):
+    def test_two_edits_of_one_arm_are_not_tried_together(self):
+        crate = Repository(self.room({"crates.txt": "toy:\n", **crate_files("toy", CODE, EDITS)})).crates["toy"]
+        names = [[it.short for it in batch] for batch in batches_of([it for it in crate.edits if it.function == "order"], lambda one, other: one.clashes(other))]
+        self.assertEqual([["order.green_is_red", "order.red_is_green"], ["order.red_is_nothing"]], names)
+
+
+class Census(Room):
+    def lacks(self, edits, implied=""):
+        files = {"crates.txt": "toy:\n", **crate_files("toy", CODE, edits), "crates/toy/wrong/implied": implied}
+        with mock.patch.dict(census.EACH_CLAUSE, {"toy": ["next"]}):
+            return list(census.census(Repository(self.room(files))))
+
+    def test_what_lacks_its_edit_is_told(self):
+        self.assertEqual(["toy: no edit of twice", "toy: no edit names next up"], self.lacks({it: EDITS[it] for it in ("next.a_constant_named", "order.red_is_green")}))
+        named = {it: EDITS[it] for it in ("next.a_constant_named", "order.red_is_green", "sum.stands_for_twice")}
+        self.assertEqual([], self.lacks(named, "# what follows\nimplied: next up by next\n"))
+
+    def test_a_line_that_says_nothing_is_told(self):
+        self.assertIn("toy/wrong/implied: there is nothing of this line: implied: next down by next", self.lacks(EDITS, "implied: next down by next"))
+
+    def test_more_than_three_edits_of_a_function_are_told(self):
+        edits = {f"twice.{n}": ("sum(n, n)", f"sum(n, n) + {n}") for n in range(1, 5)}
+        self.assertIn("toy: 4 edits of twice, more than 3", self.lacks(edits))
 
 
 if __name__ == "__main__":

@@ -14,8 +14,6 @@ TOP = Path(__file__).resolve().parent.parent
 COMMANDS = [  # those that take longest first
     ["tools/refused_memory.py"],
     ["tools/test_wrong_bodies.py"],
-    ["tools/wrong_bodies.py", "--read", "--all"],
-    ["tools/test_wrong_bodies_record.py"],
     ["tools/test_elf_to_policy.py"],
     ["tools/test_hostile_cases.py"],
     ["tools/test_reading_cases.py"],

@@ -1,171 +1,115 @@
 """The command."""
 import argparse
-import contextlib
 import os
 import sys
-from collections import Counter
 from concurrent.futures import ThreadPoolExecutor, as_completed
 from pathlib import Path
 
-from .clock import Clock, OutOfTime, minutes_of
-from .crates import Repository
-from .laws import KINDS, read_turned, try_turned
-from .order import tasks_of
-from .prover import How
-from .reading import read_all
-from .record import Damaged, Record, Today
-from .trying import Tried, try_crate
+from .census import census
+from .edits import Repository
+from .prover import CannotTry
+from .trying import batches_of, prover_of, read_crate, try_batch, try_turned
 
 USES = """Tries the wrong bodies of the crates, crates/NAME/wrong/*.edit: the prover must refuse each of them.
 
---changed tries those that the record does not have as refused over the texts of today, with this toolchain; --all tries all; names of crates, these, and a
-name CRATE/EDIT one edit. What is found is noted in the record. With --minutes M a run ends after so many minutes, and what it did not
-reach stays stale: the record says of each edit over which texts it was refused. First come the edits that ask for it, then those whose own crate
-changed, then those that are stale only since something below is stated otherwise, the longest untried first. docs/gate.md says more.
+Without names all are tried, and what they have to name is counted; with names those of these crates, and by CRATE/EDIT one edit. First each
+edit is applied and read by the prover's front end; one that is no code is told, and nothing is proved then. docs/gate.md says more.
 
-Before anything is tried, each edit is applied and the edited text is read; one that cannot be is told, and the run ends. With --read it ends there
-in any case, and its last line is 'N read, M not read'.
-
-The last line is 'N refused, M stale, K not refused': those that the record has are counted among the N, and those that could not be tried
-among the K. The status is 0 where K is 0."""
-
-
-class Parser(argparse.ArgumentParser):
-    """Says what is wrong with the words in one line, with status 1."""
-
-    def error(self, message):
-        self.exit(1, f"{self.prog}: {message}\n")
+The last line is 'N refused, M not refused'. The status is 0 where M is 0 and nothing lacks its edit."""
 
 
 def arguments(words):
-    top = Path(__file__).resolve().parents[2]
-    parser = Parser(prog="wrong_bodies.py", description=USES, formatter_class=argparse.RawDescriptionHelpFormatter)
+    parser = argparse.ArgumentParser(prog="wrong_bodies.py", description=USES, formatter_class=argparse.RawDescriptionHelpFormatter)
     parser.add_argument("names", metavar="CRATE", nargs="*", help="try the wrong bodies of this crate, or with CRATE/EDIT one of them")
-    parser.add_argument("--all", action="store_true", help="try those of every crate")
-    parser.add_argument("--changed", action="store_true", help="try those that the record does not have over the texts of today")
-    parser.add_argument("--read", action="store_true", help="only apply the edits and read the texts, and prove nothing")
-    parser.add_argument("--minutes", metavar="M", help="end after so many minutes of the clock")
-    parser.add_argument("--proved", action="store_true", help="every crate was just proved, as by rt ci: do not check them without edits first")
+    parser.add_argument("--count", action="store_true", help="only count, and prove nothing")
     parser.add_argument("--lanes", metavar="N", type=int, default=len(os.sched_getaffinity(0)), help="use so many processors (all)")
-    parser.add_argument("--edits", metavar="FOLDER", default="wrong", help="the folder of the edits; with another than 'wrong' no record is read or written")
-    parser.add_argument("--said", metavar="FOLDER", help="keep there what each check said")
-    parser.add_argument("--root", metavar="FOLDER", default=top, help="the top of the repository")
-    parser.add_argument("--record", metavar="FILE", help="the record (tools/wrong_bodies.record)")
-    given = parser.parse_args(words)
-    if not (given.all or given.changed or given.names):
-        parser.error("say --changed, --all or names of crates")
-    try:
-        given.clock = Clock(minutes_of(given.minutes)) if given.minutes else Clock()
-    except ValueError:
-        parser.error(f"--minutes wants a number of minutes above 0, and not '{given.minutes}'")
-    return given
+    parser.add_argument("--edits", metavar="FOLDER", default="wrong", help="the folder of the edits (wrong)")
+    parser.add_argument("--root", metavar="FOLDER", default=Path(__file__).resolve().parents[2], help="the top of the repository")
+    return parser.parse_args(words)
 
 
-def by_kinds(counts):
-    return ", ".join(f"{counts[it.word]} by {it.words}" for it in KINDS)
-
-
-def chosen(repository, given, record, today):
+def chosen(repository, names):
     """Returns the edits that are to be tried. Raises `LookupError` at a name of nothing."""
-    edits = [it for crate in repository.crates.values() for it in crate.all_edits()]
-    if given.all:
-        return edits
-    found = [it for it in edits if given.changed and not (record and record.refused(it, today))]
-    for name in given.names:
+    edits = [it for crate in repository.crates.values() for it in crate.edits]
+    found = [] if names else edits
+    for name in names:
         crate, _, edit = name.partition("/")
-        named = [it for it in edits if it.crate.name == crate and (not edit or it.is_named(edit))]
+        named = [it for it in edits if it.crate.name == crate and (not edit or edit in (it.short, it.name))]
         if crate not in repository.crates or edit and not named:
             raise LookupError(name)
         found += [it for it in named if it not in found]
     return found
 
 
-def main(words, clock=None):
-    given = arguments(words)
-    clock = clock or given.clock
-    repository = Repository(given.root, given.edits)
-    read_turned(repository, given.edits)
-    today = Today(repository)
-    try:
-        record = Record(given.record or f"{repository.root}/tools/wrong_bodies.record") if given.edits == "wrong" else None
-        edits = chosen(repository, given, record, today)
-    except LookupError as error:
-        print(f"there is no {error}\n0 refused, 0 stale, 1 not refused")
-        return 2
-    except Damaged as error:
-        print(error)
-        return 1
-    unreadable = read_all(edits, given.lanes)
-    if given.read:
-        print("\n".join([*map(str, unreadable), f"{len(edits) - len(unreadable)} read, {len(unreadable)} not read"]))
-        return 1 if unreadable else 0
-    if unreadable:
-        print("\n".join([*map(str, unreadable), f"0 refused, 0 stale, {len(unreadable)} not refused"]))
-        return 1
-    tried = []
-    for it in try_all(repository, tasks_of(edits, record, today), given, clock):
-        print("\n".join(str(edit) for edit in it.edits if edit.verdict != "STALE"), flush=True)
-        tried.append(it)
-        if record:
-            record.put([edit for edit in it.edits if edit.verdict != "STALE"], today)
-    others = [it for crate in repository.crates.values() for it in crate.all_edits() if it not in edits and not given.names]
-    return tell(tried, clock, others, record, today)
-
-
-def try_all(repository, tasks, given, clock):
-    """Tries the tasks in their order, so many side by side as there are lanes, and gives each as it is done. Lanes that are left over are shared out
-    among those that are still tried."""
-    done = []
-    jobs = lambda: max(given.lanes // max(len(tasks) - len(done), 1), 1)
-    if given.said:
-        Path(given.said).mkdir(parents=True, exist_ok=True)
-    how = How(given.proved, jobs, given.said, clock)
-    with ThreadPoolExecutor(max(given.lanes, 1)) as lanes:
-        for it in as_completed([lanes.submit(try_task, repository, task, how) for task in tasks]):
-            done.append(it)
+def side_by_side(lanes, jobs):
+    """Does jobs, those that take longest first, and gives what each took as it is done."""
+    with ThreadPoolExecutor(max(lanes, 1)) as rooms:
+        for it in as_completed([rooms.submit(*job) for job in jobs]):
             yield it.result()
 
 
-def try_task(repository, task, how):
-    """Tries the edits of a task, unless the run's time is over."""
-    with contextlib.suppress(OutOfTime):
-        how.clock.left()
-        return (try_turned if task.is_turned else try_crate)(repository, task.crate, task.edits, how)
-    return Tried(task.crate, task.edits)
+def tried(repository, crate, edits, work):
+    """Does a part of the work on edits of a crate, and returns them with the checks and the seconds that they took."""
+    try:
+        with prover_of(repository, crate) as prover:
+            work(prover, edits)
+        return crate, edits, prover.checks, prover.seconds
+    except CannotTry as error:
+        for it in edits:
+            it.fail("NOT TRIED", str(error))
+        return crate, edits, 0, 0.0
 
 
-def tell(tried, clock, others, record, today):
+def tasks_of(repository, edits):
+    """Returns what is done alone in a lane: a batch of edits of code of a crate, or one turned definition; the upper crates, whose checks take longest, first."""
+    for crate in reversed(repository.crates.values()):
+        its = [it for it in edits if it.crate is crate]
+        for it in (it for it in its if it.is_turned):
+            yield crate, [it], lambda prover, edits: try_turned(prover, edits[0])
+        code = [it for it in its if not it.is_turned]
+        alone = [[it] for it in code if not it.functions]
+        for batch in [*batches_of([it for it in code if it.functions], lambda one, other: one.clashes(other)), *alone]:
+            yield crate, batch, try_batch
+
+
+def main(words):
+    given = arguments(words)
+    repository = Repository(given.root, given.edits)
+    try:
+        edits = chosen(repository, given.names)
+    except LookupError as error:
+        print(f"there is no {error}\n0 refused, 1 not refused")
+        return 2
+    took = {}
+    if not given.count:
+        readable = {crate: [it for it in edits if it.crate is crate and not it.verdict] for crate in reversed(repository.crates.values())}
+        note(took, side_by_side(given.lanes, [(tried, repository, crate, its, read_crate) for crate, its in readable.items() if its]))
+    bad = [it for it in edits if it.verdict]
+    if bad or given.count:
+        lacks = census(repository) if given.count else []
+        print("\n".join([*map(str, bad), *lacks, f"0 refused, {len(bad)} not refused"]))
+        return 1 if bad or lacks else 0
+    for crate, its, checks, seconds in side_by_side(given.lanes, [(tried, repository, *task) for task in tasks_of(repository, edits)]):
+        print("\n".join(map(str, its)), flush=True)
+        note(took, [(crate, its, checks, seconds)])
+    return tell(repository, edits, took, [] if given.names else census(repository))
+
+
+def note(took, done):
+    for crate, its, checks, seconds in done:
+        was = took.get(crate.name, (0, 0.0))
+        took[crate.name] = (was[0] + checks, was[1] + seconds)
+
+
+def tell(repository, edits, took, lacks):
     """Prints what was found, and returns the status."""
-    total, failed, stale = Counter(), [it for task in tried for it in task.failed()], [it for task in tried for it in task.stale()]
-    for name in dict.fromkeys(it.crate.name for it in tried):
-        tasks = [it for it in tried if it.crate.name == name]
-        counts = Counter({kind.word: sum(it.refused(kind) for it in tasks) for kind in KINDS})
-        total += counts
-        print(
-            f"{name}: {sum(len(it.edits) - len(it.stale()) for it in tasks)} wrong bodies: {by_kinds(counts)}; "
-            f"{sum(it.checks for it in tasks)} checks, {sum(it.seconds for it in tasks):.0f} s of processor time"
-        )
-    known = [it for it in (record.refused(edit, today) for edit in others) if it] if record else []
-    stale += [it for it in others if record and not record.refused(it, today)]
-    total.update(it.kind for it in known)
-    now = sum(len(it.edits) - len(it.stale()) for it in tried)
-    print(f"{now} tried in {clock.took():.0f} s, {sum(it.seconds for it in tried):.0f} s of processor time; {len(known)} by the record")
-    for it in failed:
-        print(it)
-    for line in told_stale(stale, record):
-        print(line)
-    print(f"refused: {by_kinds(total)}")
-    print(f"{sum(total.values())} refused, {len(stale)} stale, {len(failed)} not refused")
-    return 1 if failed else 0
-
-
-def told_stale(edits, record):
-    """Returns a line for each crate and commit with the names of the edits that are stale."""
-    found = {}
-    for it in edits:
-        last = record.last(it) if record else None
-        found.setdefault((it.crate.name, f"last tried at {last.commit}" if last else "never tried"), []).append(it.short)
-    return [f"stale: {name}: {len(its)} {when}: {' '.join(its)}" for (name, when), its in found.items()]
+    for name, (checks, seconds) in took.items():
+        count = sum(it.crate.name == name for it in edits)
+        print(f"{name}: {count} wrong bodies, {checks} checks, {seconds:.0f} s of processor time")
+    failed = [it for it in edits if it.verdict != "refused"]
+    print("\n".join([*lacks, *map(str, failed), f"{sum(it[1] for it in took.values()):.0f} s of processor time"]))
+    print(f"{len(edits) - len(failed)} refused, {len(failed)} not refused")
+    return 1 if failed or lacks else 0
 
 
 if __name__ == "__main__":

@@ -2,16 +2,10 @@
 import os
 import re
 import shutil
-import signal
 import subprocess
-import sys
 import tempfile
-import threading
-import time
 from dataclasses import dataclass, field
 from pathlib import Path
-
-from .clock import Clock, OutOfTime
 
 # A function's line names the goals that no search proved and no answer is written for.
 NOT_SEARCHED = re.compile(r"`search` did not prove ([^;]*)")
@@ -73,23 +67,11 @@ def goals_in(lines, crate):
     return found
 
 
-@dataclass(frozen=True)
-class How:
-    """How edits are tried: whether their crate was just proved, so that it is not checked without edits first; how many processors a check
-    may use; the folder in which what each check said is kept, if any; and how long the run may take."""
-
-    is_proved: bool = False
-    jobs: object = lambda: 1
-    said: object = None
-    clock: Clock = field(default_factory=Clock)
-
-
 class Prover:
     """Checks one crate, over what its own checks kept in out/ and what those of this run keep."""
 
-    def __init__(self, repository, crate, room, how):
-        self.repository, self.crate, self.jobs, self.said, self.clock = repository, crate, how.jobs, how.said, how.clock
-        self.checks, self.seconds = 0, 0.0
+    def __init__(self, repository, crate, room):
+        self.repository, self.crate, self.checks, self.seconds = repository, crate, 0, 0.0
         self.kept = f"{room}/incremental"
         own = Path(crate.folder, "out/incremental")
         if own.is_dir():
@@ -107,48 +89,33 @@ class Prover:
         return [*words, "--antt-project", f"{kit()}/rattle/logic/antt-project.json", "--logic-built", f"{kit()}/logic_built"]
 
     def check(self, edits, functions):
-        """Checks a copy of the crate with these edits: the functions alone, or all where none is named. Raises `OutOfTime` where the run's
-        time is over, or ends before the check does."""
-        began, functions = time.monotonic(), sorted(set(functions))
+        """Checks a copy of the crate with these edits: the functions alone, or all where none is named."""
         with tempfile.TemporaryDirectory(prefix="wrong-bodies-") as copy:
             for part in ("src", "specs", "proofs"):
                 if Path(self.crate.folder, part).is_dir():
                     shutil.copytree(f"{self.crate.folder}/{part}", f"{copy}/{part}")
             for file in {it.file for it in edits}:
                 Path(copy, file).write_text(self.with_edits(file, edits), "utf-8")
-            only = [word for it in functions for word in ("--only", it)]
-            how = ["--incremental", self.kept, "--jobs", str(self.jobs())]
-            status, lines = self.run([f"{kit()}/bin/rattle", "check", *self.words(), *only, *how], copy)
-        self.checks += 1
-        took = time.monotonic() - began
-        print(f"{self.crate.name}: check {self.checks}: {len(edits)} edits, {len(functions) or 'all'} functions, {took:.1f} s", file=sys.stderr, flush=True)
-        if self.said:
-            head = [" ".join(it.name for it in edits), " ".join(functions), f"status {status}"]
-            Path(self.said, f"{self.crate.name}-{self.checks}").write_text("\n".join([*head, *lines, ""]), "utf-8")
+            only = [word for it in sorted(set(functions)) for word in ("--only", it)]
+            status, lines = self.run([f"{kit()}/bin/rattle", "check", *self.words(), *only, "--incremental", self.kept, "--jobs", "1"], copy)
         stale = [it[1] for it in map(STALE.search, lines) if it]
         if stale:
             raise CannotTry(f"the built library {stale[0]} is of another build: run `rt lib` in its folder")
         return Said(status, lines, goals_in(lines, self.crate.name))
 
     def with_edits(self, file, edits):
-        text = self.crate.sources.texts[file]
+        text = self.crate.texts[file]
         for it in sorted((it for it in edits if it.file == file), key=lambda it: -it.start):
             text = text[: it.start] + it.new + text[it.end :]
         return text
 
     def run(self, words, folder):
-        """Runs a command, counts its processor time, and returns its status and lines. It is cut off where the run's time ends."""
-        left, is_cut = self.clock.left(), threading.Event()
+        """Runs a command, counts its processor time, and returns its status and lines."""
         with tempfile.TemporaryFile() as said:
             ran = subprocess.Popen(words, cwd=folder, stdin=subprocess.DEVNULL, stdout=said, stderr=subprocess.STDOUT)
-            end = threading.Timer(min(left, threading.TIMEOUT_MAX), lambda: (is_cut.set(), os.kill(ran.pid, signal.SIGKILL)))
-            end.start()
             _, status, used = os.wait4(ran.pid, 0)
-            end.cancel()
             ran.returncode = os.waitstatus_to_exitcode(status)
-            self.seconds += used.ru_utime + used.ru_stime
-            if is_cut.is_set():
-                raise OutOfTime
+            self.checks, self.seconds = self.checks + 1, self.seconds + used.ru_utime + used.ru_stime
             said.seek(0)
             return ran.returncode, said.read().decode("utf-8", "replace").rstrip("\n").split("\n")
 
