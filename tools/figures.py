@@ -51,7 +51,7 @@ def crates_of(edits, measured):
     return [
         "## Crates",
         "",
-        f"Processor seconds, as last read (on {measured['day']}, and of `wrong/` where all of a crate were tried before) while other work went on beside it: of the crate's proof (of a",
+        f"Processor seconds, as last read (on {measured['day']}) while other work went on beside it: of the crate's proof (of a",
         "program, with both of its compilations); of its second proof, with its tests; of the wrong bodies in `must-fail/` and in `wrong/`, each with their number. Where nothing",
         "stands, nothing was read. A sum has what was read of the crates above it.",
         "",

@@ -2,7 +2,7 @@
 """Tells what the gate takes, by crate: runs a command, reads the processor seconds of all processes that it starts, and writes a table.
 
     tools/gate_times.py --keep CI -- rt ci                                the proofs, the tests, and the edits of must-fail/
-    tools/gate_times.py --keep WRONG -- tools/wrong_bodies.py --all       the edits of wrong/
+    tools/gate_times.py --keep WRONG -- tools/wrong_bodies.py             the edits of wrong/
     tools/gate_times.py CI WRONG                                          the table of both, from the files that --keep wrote
     tools/figures.py --seconds CI WRONG                                   takes both over into docs/figures.md
 
