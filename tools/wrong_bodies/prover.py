@@ -4,8 +4,8 @@ import re
 import shutil
 import subprocess
 import tempfile
-from dataclasses import dataclass, field
 from pathlib import Path
+from typing import NamedTuple
 
 # A function's line names the goals that no search proved and no answer is written for.
 NOT_SEARCHED = re.compile(r"`search` did not prove ([^;]*)")
@@ -23,18 +23,17 @@ class CannotTry(Exception):
     """Why a crate's wrong bodies cannot be tried."""
 
 
-@dataclass(frozen=True)
-class Said:
+class Said(NamedTuple):
     """What a check said: its status, its lines, and by function the goals that were not proved."""
 
     status: int
     lines: list
-    goals: dict = field(default_factory=dict)
+    goals: dict
 
     def could_read(self):
         """Returns whether the prover read every text, and came to an end."""
         found = [it for it in map(IN_SOURCE.match, self.lines) if it and (not it[1] or UNREADABLE.search(unquoted(it[2])))]
-        return not found and self.lines[-1].startswith(("only=", "logic="))
+        return self.status in (0, 1) and not found and self.lines[-1].startswith(("only=", "logic="))
 
     def complaint(self):
         """Returns the first error that it printed."""
@@ -58,9 +57,9 @@ def goals_in(lines, crate):
     start, found = f"fn {crate}::", {}
     said = dict(it[len(start) :].split(": ", 1) for it in lines if it.startswith(start) and ": " in it)
     goals = [(name, goal.strip("` ")) for name, words in said.items() for it in NOT_SEARCHED.findall(words) for goal in it.split(", ")]
-    for it in map(IN_PROOF.match, lines):
-        name = it and it[1].replace("/", "::")
-        if it and "not proved" in said.get(name, "") and not NOT_OWN.search(unquoted(it[4])):
+    for it in filter(None, map(IN_PROOF.match, lines)):
+        name = it[1].replace("/", "::")
+        if "not proved" in said.get(name, "") and not NOT_OWN.search(unquoted(it[4])):
             goals.append((name, it[3] or ""))
     for name, goal in goals:
         found.setdefault(re.sub(r"\bfn::(\w+)::.*", r"\1", name), []).append(goal)
@@ -68,11 +67,10 @@ def goals_in(lines, crate):
 
 
 class Prover:
-    """Checks one crate, over what its own checks kept in out/ and what those of this run keep."""
+    """Checks one crate, over what its own checks kept in out/ and what those of this prover keep."""
 
     def __init__(self, repository, crate, room):
-        self.repository, self.crate, self.checks, self.seconds = repository, crate, 0, 0.0
-        self.kept = f"{room}/incremental"
+        self.repository, self.crate, self.checks, self.seconds, self.kept = repository, crate, 0, 0.0, f"{room}/incremental"
         own = Path(crate.folder, "out/incremental")
         if own.is_dir():
             # (rattle replaces the files of this folder and writes into none)
@@ -90,34 +88,27 @@ class Prover:
 
     def check(self, edits, functions):
         """Checks a copy of the crate with these edits: the functions alone, or all where none is named."""
-        with tempfile.TemporaryDirectory(prefix="wrong-bodies-") as copy:
+        with tempfile.TemporaryDirectory(prefix="wrong-bodies-") as copy, tempfile.TemporaryFile() as said:
             for part in ("src", "specs", "proofs"):
                 if Path(self.crate.folder, part).is_dir():
                     shutil.copytree(f"{self.crate.folder}/{part}", f"{copy}/{part}")
             for file in {it.file for it in edits}:
-                Path(copy, file).write_text(self.with_edits(file, edits), "utf-8")
+                text = self.crate.texts[file]
+                for it in sorted((it for it in edits if it.file == file), key=lambda it: -it.start):
+                    text = text[: it.start] + it.new + text[it.end :]
+                Path(copy, file).write_text(text, "utf-8")
             only = [word for it in sorted(set(functions)) for word in ("--only", it)]
-            status, lines = self.run([f"{kit()}/bin/rattle", "check", *self.words(), *only, "--incremental", self.kept, "--jobs", "1"], copy)
+            words = [f"{kit()}/bin/rattle", "check", *self.words(), *only, "--incremental", self.kept, "--jobs", "1"]
+            ran = subprocess.Popen(words, cwd=copy, stdin=subprocess.DEVNULL, stdout=said, stderr=subprocess.STDOUT)
+            _, status, used = os.wait4(ran.pid, 0)
+            ran.returncode = os.waitstatus_to_exitcode(status)
+            said.seek(0)
+            lines = said.read().decode("utf-8", "replace").rstrip("\n").split("\n")
+        self.checks, self.seconds = self.checks + 1, self.seconds + used.ru_utime + used.ru_stime
         stale = [it[1] for it in map(STALE.search, lines) if it]
         if stale:
             raise CannotTry(f"the built library {stale[0]} is of another build: run `rt lib` in its folder")
-        return Said(status, lines, goals_in(lines, self.crate.name))
-
-    def with_edits(self, file, edits):
-        text = self.crate.texts[file]
-        for it in sorted((it for it in edits if it.file == file), key=lambda it: -it.start):
-            text = text[: it.start] + it.new + text[it.end :]
-        return text
-
-    def run(self, words, folder):
-        """Runs a command, counts its processor time, and returns its status and lines."""
-        with tempfile.TemporaryFile() as said:
-            ran = subprocess.Popen(words, cwd=folder, stdin=subprocess.DEVNULL, stdout=said, stderr=subprocess.STDOUT)
-            _, status, used = os.wait4(ran.pid, 0)
-            ran.returncode = os.waitstatus_to_exitcode(status)
-            self.checks, self.seconds = self.checks + 1, self.seconds + used.ru_utime + used.ru_stime
-            said.seek(0)
-            return ran.returncode, said.read().decode("utf-8", "replace").rstrip("\n").split("\n")
+        return Said(ran.returncode, lines, goals_in(lines, self.crate.name))
 
 
 def build_below(repository, crate):

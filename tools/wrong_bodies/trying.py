@@ -28,8 +28,7 @@ def clause_of(crate, function, goal):
         return ""
     clauses = crate.clauses_of(crate.sources.by_name[function])[:-1] if function in crate.sources.by_name else ()
     named = CLAUSE_GOAL.search(goal)
-    plain = [it for it in clauses if it != "writes_back"]
-    return "invariant" if goal.startswith("invariant_of-") else named[1] if named else plain[0] if len(plain) == 1 else "ensures"
+    return "invariant" if goal.startswith("invariant_of-") else named[1] if named else clauses[0] if len(clauses) == 1 else "ensures"
 
 
 @contextmanager
