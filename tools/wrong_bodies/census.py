@@ -26,13 +26,13 @@ def lacks_of(repository, crate):
     """Returns what the edits of a crate lack."""
     sources, implied, none = crate.sources, set(), set()
     key = lambda body: body.method if body.method in repository.methods else body.function
-    file = Path(crate.folder, crate.room, "implied")
+    file = Path(crate.folder, "wrong/implied")
     for text in file.read_text("utf-8").split("\n") if file.is_file() else []:
         it = LINE.fullmatch(text)
         bodies = sources.named(it["function"] or it["none"]) if it and (it["function"] or it["none"]) else []
         names = [it["clause"], *it["by"].split()] if it and it["clause"] else []
         if not it or (it["function"] or it["none"]) and not bodies or not all(name in crate.clauses_of(bodies[0]) for name in names):
-            yield f"{crate.name}/{crate.room}/implied: there is nothing of this line: {text}"
+            yield f"{crate.name}/wrong/implied: there is nothing of this line: {text}"
         elif names:
             implied |= {(key(body), names[0]) for body in bodies}
         else:
@@ -45,7 +45,7 @@ def lacks_of(repository, crate):
     for body in sources.by_name.values():
         if body.is_public and (not body.method or body.method in repository.methods) and key(body) not in tried:
             yield f"{crate.name}: no edit of {'the law ' if body.is_law else ''}{body.function}"
-    named = {pair for edit in crate.edits for pair in edit.named_clauses()}
+    named = {pair for edit in crate.edits for _, pairs in edit.named_clauses() for pair in pairs}
     for body in each_clause_of(crate):
         pairs = [(key(body), clause) for clause in crate.clauses_of(body)[:-1]]
         yield from (f"{crate.name}: no edit names {function} {clause}" for function, clause in pairs if (function, clause) not in named | implied)

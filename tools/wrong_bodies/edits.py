@@ -14,7 +14,7 @@ class Edit:
 
     def __init__(self, path, crate):
         self.crate, self.name, self.short = crate, path.name, path.stem
-        self.verdict, self.why, self.by = "", "", []
+        self.verdict, self.why = "", ""
         self.words = path.read_text("utf-8", "replace")
         lines = lambda head: [it.split() for it in re.findall(rf"(?m)^{head}: *(.+)", self.words)]
         self.rows = [it for row in lines("row") for it in row]
@@ -68,9 +68,13 @@ class Edit:
         return next(iter(self.functions), "")
 
     def named_clauses(self):
-        """Returns the pairs of a function, or a method of a trait, and a clause that it names."""
+        """Returns each clause that it names, with the pairs of a function, or a method of a trait, and the clause."""
         for *function, clause in self.clauses:
-            yield from ((name, clause) for it in self.crate.sources.named(*(function or [self.function])) for name in (it.function, it.method))
+            yield clause, {(name, clause) for it in self.crate.sources.named(*(function or [self.function])) for name in (it.function, it.method)}
+
+    def is_named(self, name):
+        """Returns whether a word CRATE or CRATE/EDIT names it."""
+        return name in (self.crate.name, f"{self.crate.name}/{self.short}", f"{self.crate.name}/{self.name}")
 
     def overlaps(self, other):
         """Returns whether the two change one text."""
@@ -85,8 +89,8 @@ class Edit:
         """Returns whether a goal of a function is of an arm that the edit changes."""
         return any(re.search(rf"(?:\A|-){re.escape(it)}(?!\w)", goal) for it in self.functions.get(function, ()))
 
-    def refuse(self, by, why):
-        self.verdict, self.by, self.why = "refused", by, why
+    def refuse(self, why):
+        self.verdict, self.why = "refused", why
 
     def fail(self, verdict, why):
         self.verdict, self.why = verdict, why
@@ -98,16 +102,16 @@ class Edit:
 class Crate:
     """A crate, its texts and its wrong bodies."""
 
-    def __init__(self, repository, name, uses, room):
+    def __init__(self, repository, name, uses):
         self.repository, self.name, self.uses, self.folder = repository, name, uses, Path(repository.root, "crates", name)
         read = lambda pattern: {it.relative_to(self.folder).as_posix(): it.read_text("utf-8") for it in sorted(self.folder.glob(pattern))}
         self.sources, self.logic = Sources(read("src/**/*.rt")), {**read("specs/**/*.antt"), **read("proofs/**/*.antt")}
         self.texts = {**self.sources.texts, **{path: text for path, text in self.logic.items() if path.startswith("specs/")}}
-        self.room, self.edits = room, []
+        self.edits = []
 
     def read_edits(self):
         """Reads its edits, once the clauses of all crates are known."""
-        self.edits = [Edit(it, self) for it in sorted(Path(self.folder, self.room).glob("*.edit"))]
+        self.edits = [Edit(it, self) for it in sorted(Path(self.folder, "wrong").glob("*.edit"))]
 
     def declares(self, name):
         """Returns whether its definitions or proofs declare a name."""
@@ -121,10 +125,10 @@ class Crate:
 class Repository:
     """The crates of a repository, in the order of crates.txt, which lists the lowest first."""
 
-    def __init__(self, root, room="wrong"):
+    def __init__(self, root):
         self.root = Path(root).resolve()
         rows = [line.partition("#")[0].partition(":") for line in Path(self.root, "crates.txt").read_text("utf-8").split("\n")]
-        self.crates = {name.strip(): Crate(self, name.strip(), below.split(), room) for name, _, below in rows if name.strip()}
+        self.crates = {name.strip(): Crate(self, name.strip(), below.split()) for name, _, below in rows if name.strip()}
         self.methods = {name: clauses for it in self.crates.values() for name, clauses in it.sources.methods.items()}
         # (the libraries that this run had built, by name, with why one is not)
         self.built, self.building = {}, threading.Lock()

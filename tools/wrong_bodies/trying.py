@@ -8,36 +8,25 @@ function, or arm, is not proved, and no goal of a function that no edit of the b
 import re
 import subprocess
 import tempfile
-from contextlib import contextmanager
 from pathlib import Path
 
 from .edits import Edit
-from .prover import NOT_OWN, CannotTry, Prover, build_below, kit, unquoted
+from .prover import NOT_OWN, kit, unquoted
 
-# Goals of a loop's invariant, which stands in proofs/; those of what a function ensures.
+# Goals of a loop's invariant, which stands in proofs/; the clause that a goal is of.
 LOOP_GOAL = re.compile(r"-(?:init|preserved|smaller)(?:-|\Z)")
 CLAUSE_GOAL = re.compile(r"-clause-(\w+)")
-REFUSED = re.compile(r"(?:\./)?(?P<part>specs|proofs)/(?P<file>\S+)\.antt:\d+:\d+: error: `(?P<name>[^`]*)`: (?P<why>.*)")
-NOT_PROVED = re.compile(r"fn (\S+): (?:not proved|no proof)")
-UNREADABLE = re.compile(r"\d+\.antt: (?P<why>.*)")
+REFUSED = re.compile(r"(?:\./)?(?:specs|proofs)/(?P<file>\S+)\.antt:\d+:\d+: error: `(?P<name>[^`]*)`: (?P<why>.*)")
+NOT_PROVED = re.compile(r"fn \w+::(\S+): (?:not proved|no proof)")
 
 
 def clause_of(crate, function, goal):
     """Returns the clause that a goal is of, or nothing where it is of a proof's script, or of a condition that the code owes somewhere."""
-    if not goal or LOOP_GOAL.search(goal) or not goal.startswith(("returns", "invariant_of-")):
+    if not goal.startswith(("returns", "invariant_of-")) or LOOP_GOAL.search(goal):
         return ""
     clauses = crate.clauses_of(crate.sources.by_name[function])[:-1] if function in crate.sources.by_name else ()
     named = CLAUSE_GOAL.search(goal)
     return "invariant" if goal.startswith("invariant_of-") else named[1] if named else clauses[0] if len(clauses) == 1 else "ensures"
-
-
-@contextmanager
-def prover_of(repository, crate, names="wrong-bodies-"):
-    """A prover of a crate over the libraries below it, which are built where they are missing."""
-    build_below(repository, crate)
-    Path(crate.folder, "out").mkdir(exist_ok=True)
-    with tempfile.TemporaryDirectory(prefix=names, dir=f"{crate.folder}/out") as room:
-        yield Prover(repository, crate, room)
 
 
 def batches_of(edits, clash):
@@ -45,53 +34,61 @@ def batches_of(edits, clash):
     batches = []
     for it in edits:
         fit = next((batch for batch in batches if not any(clash(it, other) for other in batch)), None)
-        if fit is None:
-            batches.append([it])
-        else:
-            fit.append(it)
+        batches.append([it]) if fit is None else fit.append(it)
     return batches
 
 
-def read_crate(prover, edits):
-    """Has the prover's front end read edits, as many together as there may be, and marks those that are no code over today's text."""
-    for batch in batches_of([it for it in edits if not it.is_turned], Edit.overlaps):
-        read_batch(prover, batch)
-    for it in edits:
-        if it.is_turned:
-            read_turned(it)
+def halves(batch):
+    return batch[: len(batch) // 2], batch[len(batch) // 2 :]
 
 
-def read_batch(prover, batch):
-    """Halves a batch that cannot be read, until it is one edit."""
-    said = prover.check(batch, [""])
-    if said.status == 0:
-        return
-    if len(batch) == 1:
-        return batch[0].fail("BAD EDIT", f"it is no code: {said.complaint()}")
-    for half in (batch[: len(batch) // 2], batch[len(batch) // 2 :]):
-        read_batch(prover, half)
+def read_edits(prover, edits):
+    """Has the prover's front end read edits, as many together as there may be, and marks those that are no code over today's text. Of a
+    turned definition it is told here whether it parses, and when it is tried whether its names are known."""
+    for it in (it for it in edits if it.is_turned):
+        with tempfile.TemporaryDirectory(prefix="wrong-bodies-") as room:
+            Path(room, "0.antt").write_text(it.text, "utf-8")
+            words = [f"{kit()}/bin/rattle", "fmt", "--write", "0.antt"]
+            ran = subprocess.run(words, cwd=room, stdin=subprocess.DEVNULL, stdout=subprocess.PIPE, stderr=subprocess.STDOUT, errors="replace")
+        if ran.returncode:
+            it.fail("BAD EDIT", f"it is no definition: {ran.stdout.strip().partition(': ')[2] or ran.stdout}".split("\n")[0])
+    left = batches_of([it for it in edits if not it.is_turned], Edit.overlaps)
+    while left:
+        batch = left.pop()
+        said = prover.check(batch, [""])
+        if said.status and len(batch) > 1:
+            left += halves(batch)
+        elif said.status:
+            batch[0].fail("BAD EDIT", f"it is no code: {said.complaint()}")
 
 
-def read_turned(edit):
-    """Has the toolchain parse a turned definition. Whether its names are known is found when it is tried."""
-    with tempfile.TemporaryDirectory(prefix="wrong-bodies-") as room:
-        Path(room, "0.antt").write_text(edit.text, "utf-8")
-        ran = subprocess.run([f"{kit()}/bin/rattle", "fmt", "--write", "0.antt"], cwd=room, stdout=subprocess.PIPE, stderr=subprocess.STDOUT, errors="replace")
-    if ran.returncode:
-        edit.fail("BAD EDIT", next((it["why"] for it in map(UNREADABLE.match, ran.stdout.split("\n")) if it), "it cannot be read"))
-
-
-def try_batch(prover, batch):
-    """Tries edits of code together. Where a check can't tell, the batch is halved; an edit that is not refused then is tried alone."""
-    said = prover.check(batch, [name for it in batch for name in it.functions])
-    if len(batch) > 1 and not (said.could_read() and set(said.goals) <= {name for it in batch for name in it.functions}):
-        for half in (batch[: len(batch) // 2], batch[len(batch) // 2 :]):
-            try_batch(prover, half)
-        return
-    for it in batch:
-        goals = goals_of(it, said, batch)
-        if len(batch) == 1 or not judge(it, goals):
-            try_alone(prover, it)
+def try_edits(prover, edits):
+    """Tries edits of a crate, those of code in batches. Where a check of a batch can't tell, it is halved; an edit that a batch does not refuse is tried
+    alone by its functions, one that names none by the whole crate, and so is a turned definition."""
+    alone = [it for it in edits if it.is_turned or not it.functions]
+    left = batches_of([it for it in edits if it not in alone], Edit.clashes)
+    while left:
+        batch = left.pop()
+        functions = [name for it in batch for name in it.functions]
+        said = prover.check(batch, functions) if len(batch) > 1 else None
+        if said and said.could_read() and set(said.goals) <= set(functions):
+            for it in batch:
+                judge(it, goals_of(it, said, batch))
+            alone += [it for it in batch if it.verdict != "refused"]
+        elif said:
+            left += halves(batch)
+        else:
+            alone += batch
+    for it in alone:
+        said = prover.check([it], it.functions)
+        if not said.could_read():
+            it.fail("BAD EDIT" if it.is_turned else "NOT TRIED", f"the prover cannot read it, or could not tell: {said.complaint()}")
+        elif said.status == 0:
+            it.fail("NOT REFUSED", "the crate is still proved with this edit")
+        elif it.is_turned:
+            judge_turned(it, said)
+        else:
+            judge(it, [(name, goal) for name, goals in said.goals.items() for goal in goals])
 
 
 def goals_of(edit, said, batch):
@@ -107,56 +104,41 @@ def goals_of(edit, said, batch):
     return found
 
 
-def try_alone(prover, edit):
-    """Tries one edit of code by its functions, or where it names none by the whole crate."""
-    said = prover.check([edit], list(edit.functions))
-    if said.status not in (0, 1) or not said.could_read():
-        return edit.fail("NOT TRIED", f"the prover could not tell: {said.complaint()}")
-    judge(edit, [(name, it) for name, goals in said.goals.items() for it in goals], said.status == 0)
+def clauses_among(crate, goals):
+    """Returns the functions and clauses that goals are of, and those among them that are public."""
+    found = list(dict.fromkeys((function, clause) for function, goal in goals if (clause := clause_of(crate, function, goal))))
+    return found, [it for it in found if crate.sources.is_public(it[0])]
 
 
-def judge(edit, goals, is_proved=False):
-    """Gives an edit of code its verdict: refused are those by a public clause, the one that it names among them, or those that stand for one."""
-    sources, crate = edit.crate.sources, edit.crate
-    found = dict.fromkeys((function, clause) for function, goal in goals if (clause := clause_of(crate, function, goal)))
-    is_public = lambda function: function in sources.by_name and sources.by_name[function].is_public
-    public = [it for it in found if is_public(it[0])]
-    owed = [it for it in goals if it[1] and not LOOP_GOAL.search(it[1])]
-    told = ", ".join(f"{function} {clause}" for function, clause in sorted(found, key=lambda it: not is_public(it[0])))
-    named = set(edit.named_clauses())
-    if named and not all(any(pair in named for pair in found) for _ in edit.clauses):
-        edit.fail("NOT REFUSED", f"not by the clause {edit.clauses[0][-1]} that it names; refused by {told or 'none'}")
+def judge(edit, goals):
+    """Gives an edit of code its verdict: refused are those by a public clause, all that it names among them, or those that stand for one."""
+    found, public = clauses_among(edit.crate, goals)
+    owed = [" ".join(it) for it in found] or [" ".join(it) for it in goals if it[1] and not LOOP_GOAL.search(it[1])]
+    other = [clause for clause, pairs in edit.named_clauses() if not pairs & set(found)]
+    if other:
+        edit.fail("NOT REFUSED", f"not by the clause {other[0]} that it names; refused by {', '.join(owed) or 'a step of its proof alone'}")
     elif public:
-        edit.refuse(public, ", ".join(f"{function} {clause}" for function, clause in public))
+        edit.refuse(", ".join(map(" ".join, public)))
     elif edit.stands and owed:
-        edit.refuse([], f"{told or ' '.join(owed[0])}, which stands for {' '.join(edit.stands[0])}")
-    elif owed:
-        edit.fail("NOT REFUSED", f"by no public clause, but by {told or ' '.join(owed[0])}, and it names none that this stands for")
+        edit.refuse(f"{owed[0]}, which stands for {' '.join(edit.stands[0])}")
     else:
-        edit.fail("NOT REFUSED", "the crate is still proved with this edit" if is_proved else "by a step of its proof alone")
-    return edit.verdict == "refused"
+        edit.fail("NOT REFUSED", f"by no public clause, but by {owed[0]}, and it names none that this stands for" if owed else "by a step of its proof alone")
 
 
-def try_turned(prover, edit):
-    """Tries a turned definition over the whole crate: each row that it names has to be refused, or else a law or a public clause."""
-    said = prover.check([edit], [])
-    crate, sources = edit.crate, edit.crate.sources
+def judge_turned(edit, said):
+    """Gives a turned definition its verdict: each row that it names has to be refused, or else each law, or some row, law or public clause."""
+    sources = edit.crate.sources
     errors = [it for it in map(REFUSED.match, said.lines) if it and not NOT_OWN.search(unquoted(it["why"]))]
     rows = [it["name"] for it in errors if it["file"].endswith("Rows")]
-    failed = [it[1].partition("::")[2] for it in map(NOT_PROVED.match, said.lines) if it]
-    laws = [it for it in failed if it in sources.by_name and sources.by_name[it].is_law]
-    clauses = [(name, clause) for name, goals in said.goals.items() for goal in goals if (clause := clause_of(crate, name, goal))]
-    missing = [f"row {it}" for it in edit.rows if it not in rows]
-    missing += [f"law {it}" for it in edit.laws if not edit.rows and not any(body.function in laws for body in sources.named(it))]
-    public = [it for it in clauses if it[0] in sources.by_name and sources.by_name[it[0]].is_public]
-    if said.status not in (0, 1) or not said.could_read():
-        edit.fail("BAD EDIT", f"the prover cannot read it, or could not tell: {said.complaint()}")
-    elif said.status == 0:
-        edit.fail("NOT REFUSED", "the crate is still proved with this edit")
-    elif missing:
-        edit.fail("NOT REFUSED", f"the {missing[0]} still holds; refused is {', '.join([*rows, *laws, *(it['name'] for it in errors)][:3])}")
-    elif rows or laws or public:
-        edit.refuse(clauses, ", ".join([*(f"the row {it}" for it in edit.rows or rows[:1]), *(f"the law {it}" for it in laws[:3]), *(" ".join(it) for it in public[:1])]))
+    laws = [it[1] for it in map(NOT_PROVED.match, said.lines) if it and it[1] in sources.by_name and sources.by_name[it[1]].is_law]
+    clauses = [" ".join(it) for it in clauses_among(edit.crate, [(name, goal) for name, goals in said.goals.items() for goal in goals])[1] if it[0] not in laws]
+    left = [f"row {it}" for it in edit.rows if it not in rows]
+    left += [f"law {it}" for it in edit.laws if not edit.rows and not any(body.function in laws for body in sources.named(it))]
+    told = [*(f"the row {it}" for it in edit.rows or rows[:1]), *(f"the law {it}" for it in laws[:3]), *clauses[:1]]
+    if left:
+        edit.fail("NOT REFUSED", f"the {left[0]} still holds; refused is {', '.join([*rows, *laws, *(it['name'] for it in errors)][:3])}")
+    elif told:
+        edit.refuse(", ".join(told))
         edit.laws += laws
     else:
         edit.fail("NOT REFUSED", f"by no row, law or public clause, but by {said.complaint()}")
