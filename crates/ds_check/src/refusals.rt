@@ -93,8 +93,8 @@ answers 26 in its place.
 
 /// 25 `Memory`.
 pub(crate) const MEMORY: &str = "\
-The host has no memory left. Where the run had begun, what was written is
-the text of a run that was cut short between two turns.
+The host has no memory left. End other programs there, or raise the limit
+that the shell sets by `ulimit -v`.
 ";
 
 /// 26 `Unreadable`.

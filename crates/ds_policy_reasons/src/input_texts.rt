@@ -105,7 +105,7 @@ time.
 
 /// `InputCause::TooManyEvents`.
 pub(crate) const TOO_MANY_EVENTS: &str = "\
-This is the 4,097th event, and an input has 4,096 at most. One `key` line
-brings in up to 256 characters: write those of one time and one console line
-together.
+This is the 4,097th event, and an input has 4,096 at most. Write characters
+of one time and one console line in one `key` line: 64 at most, since no
+more come in at a boundary, all lines together, and the rest are lost.
 ";
