@@ -28,7 +28,9 @@ use Rattle.ds_alone.proofs.Units.{alone_alike}
 use Rattle.ds_alone.proofs.Fronts.{alone_front}
 use Rattle.ds_alone.proofs.Tests.{both}
 use Rattle.ds_alone.proofs.Given.{Stingy, AllStingy, NobodyGives, half_keeps, rows_stingy, unit_is_stingy}
-use Rattle.ds_alone.proofs.Consoles.{Silent, Prints, put_silent, silent_prints, half_prints, still, own_puts}
+use Rattle.ds_alone.proofs.Consoles.{Prints, silent_prints, half_prints, own_puts}
+use Rattle.ds_alone.proofs.Lines.{Silent, put_silent, still}
+use Rattle.ds_alone.proofs.Silence.{waits_by}
 use Rattle.ds_alone.proofs.Touched.{touches, half_touch, touched_from}
 use Rattle.ds_alone.proofs.Choices.{as_alone_by}
 
@@ -41,13 +43,13 @@ front_of_doings xs ys f = record { more = map doing f.more; is = ap (map doing) 
 pub front_of_puts : (xs ys : List Doing) → IsFront xs ys → IsFront (puts_by xs) (puts_by ys)
 front_of_puts xs ys f = record { more = puts_by f.more; is = ap puts_by f.is ∙ flat_map-append (λ (d : Doing). d.puts) xs f.more }
 
-pub run_by : (p n : ℕ) (choices : List Bool) (m : State) → StandsAlone p m → AsksNothing p m → IsQuietAlone p m → is_given_nothing_by p n choices m ≡ true → doings p n choices m ≡ map doing (deeds_alone p (length (doings p n choices m)) m)
-run_by p n choices m s asks quiet given = as_alone_by p n choices m m (touched_from p m s.lawful s.alone.above s.alone.here) s given asks.units quiet.units
+pub run_by : (listens : Bool) (p n : ℕ) (choices : List Bool) (m : State) → StandsAlone listens p m → AsksNothing listens p m → IsQuietAlone p m → is_given_nothing_by p n choices m ≡ true → doings p n choices m ≡ map doing (deeds_alone p (length (doings p n choices m)) m)
+run_by listens p n choices m s asks quiet given = as_alone_by listens p n choices m m (touched_from p m s.lawful s.alone.above s.alone.here) (waits_by listens p m s.alone.hears) s given asks.units quiet.units
 
-pub fronts_by : (p n o : ℕ) (choices others : List Bool) (m t : State) → StandsAlone p m → StandsAlone p t → SeemsAlike p m t → AsksNothing p m → AsksNothing p t → IsQuietAlone p m → IsQuietAlone p t
+pub fronts_by : (listens : Bool) (p n o : ℕ) (choices others : List Bool) (m t : State) → StandsAlone listens p m → StandsAlone listens p t → SeemsAlike p m t → AsksNothing listens p m → AsksNothing listens p t → IsQuietAlone p m → IsQuietAlone p t
     → is_given_nothing_by p n choices m ≡ true → is_given_nothing_by p o others t ≡ true
     → IsFront (doings p n choices m) (doings p o others t) ⊎ IsFront (doings p o others t) (doings p n choices m)
-fronts_by p n o choices others m t here there seems asks too quiet calm given free = elim (cases_lt i j) [
+fronts_by listens p n o choices others m t here there seems asks too quiet calm given free = elim (cases_lt i j) [
   | inl less ↦ inl (by (doings p n choices m) (doings p o others t) i j one two (omega (arith, less)))
   | inr more ↦ inr (by (doings p o others t) (doings p n choices m) j i two one more)
 ]
@@ -59,10 +61,10 @@ fronts_by p n o choices others m t here there seems asks too quiet calm given fr
     j = length (doings p o others t)
 
     one : doings p n choices m ≡ map doing (deeds_alone p i m)
-    one = run_by p n choices m here asks quiet given
+    one = run_by listens p n choices m here asks quiet given
 
     two : doings p o others t ≡ map doing (deeds_alone p j m)
-    two = run_by p o others t there too calm free ∙ ap (map doing) (sym (alone_alike p j m t seems (asks.units j)))
+    two = run_by listens p o others t there too calm free ∙ ap (map doing) (sym (alone_alike listens p j m t seems (waits_by listens p m here.alone.hears) (waits_by listens p t there.alone.hears) (asks.units j)))
 
     by : (xs ys : List Doing) (a b : ℕ) → xs ≡ map doing (deeds_alone p a m) → ys ≡ map doing (deeds_alone p b m) → a ≤ b → IsFront xs ys
     by xs ys a b e f h =

@@ -6,6 +6,7 @@ use Rattle.std.proofs.lemmas.Bool.{cases_Bool}
 use Rattle.std.proofs.lemmas.Bool.Decides.{nat_tests}
 use Rattle.std.proofs.lemmas.List.Elements.{All-nil, All-cons}
 use Rattle.ds_procs.specs.declared.process.Standing.TheVariants.{Waiting}
+use Rattle.ds_policy.specs.declared.command.Character.{Character}
 use Rattle.ds_policy.specs.declared.command.Command.{Command}
 use Rattle.ds_policy.specs.declared.command.Command.TheVariants as command
 use Rattle.ds_policy.specs.declared.command.TimedCommand.{TimedCommand}
@@ -14,11 +15,12 @@ use Rattle.ds_policy.specs.declared.grant.Entry.{Entry}
 use Rattle.ds_policy.specs.Pages.{Pages, Table, entries_of, found, names}
 use Rattle.ds_policy.specs.Grants.{is_some_right}
 use Rattle.ds_pagemap.specs.Machine.{State, process_of, is_waiting}
+use Rattle.ds_pagemap.specs.Calls.{queue_of}
 use Rattle.ds_pagemap.specs.Laws.{process_named}
 use Rattle.ds_promise.specs.Stores.{page_at}
 use Rattle.ds_promise.proofs.Entries.{false_is_not_true, or_first, or_second, one_grant, no_grant_found}
-use Rattle.ds_alone.specs.Alone.{IsLasting, HasPage, SharesNothing, GrantsElsewhere, LeavesAlone, IsAlone, SeemsAlike}
-use Rattle.ds_alone.specs.Tests.{is_lasting, have_page, is_page_of, is_elsewhere, are_elsewhere, others_elsewhere, shares_nothing, grants_elsewhere, leaves_alone, is_alone, Holdings, page_named, holdings}
+use Rattle.ds_alone.specs.Alone.{IsLasting, HasPage, SharesNothing, GrantsElsewhere, LeavesAlone, HasSilentLine, HearsNothing, IsAlone, SeemsAlike}
+use Rattle.ds_alone.specs.Tests.{is_lasting, have_page, is_page_of, is_elsewhere, are_elsewhere, others_elsewhere, shares_nothing, grants_elsewhere, leaves_alone, has_silent_line, hears_nothing, is_alone, Holdings, page_named, holdings}
 
 pub both : (a b : Bool) → (a && b) ≡ true → (a ≡ true) × (b ≡ true)
 both true b e = (refl, e)
@@ -135,8 +137,38 @@ commands_found t p (c ∷ rest) e =
         same : (q p : ℕ) → (q == p) ≡ false → p ≡ q → ⊥
         same q p e is = absurd (grind (arith, nat_tests))
 
-pub is_found_alone : (p : ℕ) (m : State) → is_alone p m ≡ true → IsAlone p m
-is_found_alone p m e =
+-- Lines.
+
+of_other_lines : (l : ℕ) (cs : List Character) → list_all (λ (c : Character). not (c.line == l)) cs ≡ true → All (λ (c : Character). c.line ≢ l) cs
+of_other_lines l [] e = All-nil (λ (c : Character). c.line ≢ l)
+of_other_lines l (c ∷ rest) e =
+    let one = both (not (c.line == l)) (list_all (λ (c : Character). not (c.line == l)) rest) e in
+    All-cons (λ (c : Character). c.line ≢ l) c rest (another c.line l (is_not (c.line == l) one.0)) (of_other_lines l rest one.1)
+  where
+    another : (a b : ℕ) → (a == b) ≡ false → a ≢ b
+    another a b e = λ (is : ◌≡◌ {A = ℕ} a b). same a b e is
+      where
+        same : (a b : ℕ) → (a == b) ≡ false → a ≡ b → ⊥
+        same a b e is = absurd (grind (arith, nat_tests))
+
+found_silent : (p : ℕ) (m : State) → has_silent_line p m ≡ true → HasSilentLine p m
+found_silent p m e =
+    let parts = both (length (queue_of m p) == 0) (list_all (λ (c : Character). not (c.line == (process_of m p).line)) m.characters) e in
+    record { queue = none (queue_of m p) parts.0; coming = of_other_lines (process_of m p).line m.characters parts.1 }
+  where
+    none : (queue : List ℕ) → (length queue == 0) ≡ true → queue ≡ []
+    none [] e = refl
+    none (byte ∷ rest) e = absurd (some (length rest) e)
+      where
+        some : (n : ℕ) → (suc n == 0) ≡ true → ⊥
+        some n e = absurd (grind (arith, nat_tests))
+
+found_unheard : (listens : Bool) (p : ℕ) (m : State) → hears_nothing listens p m ≡ true → HearsNothing listens p m
+found_unheard true p m e = found_silent p m e
+found_unheard false p m e = λ (w : (process_of m p).standing ≡ Waiting). false_is_not_true (sym (is_not (is_waiting (process_of m p).standing) e) ∙ ap is_waiting w)
+
+pub is_found_alone : (listens : Bool) (p : ℕ) (m : State) → is_alone listens p m ≡ true → IsAlone listens p m
+is_found_alone listens p m e =
     let one = both (nat_lt 0 p && nat_le p (length m.processes)) _ e in
     let two = both (nat_lt 0 p) (nat_le p (length m.processes)) one.0 in
     let three = both (shares_nothing p m.memory.table) _ one.1 in
@@ -147,7 +179,7 @@ is_found_alone p m e =
       here = within p (length m.processes) two.1;
       shares = found_alone p m.memory.table above three.0;
       commands = commands_found m.memory.table p m.commands four.0;
-      awake = λ (w : (process_of m p).standing ≡ Waiting). false_is_not_true (sym (is_not (is_waiting (process_of m p).standing) four.1) ∙ ap is_waiting w);
+      hears = found_unheard listens p m four.1;
     }
   where
     less : (a b : ℕ) → nat_lt a b ≡ true → a < b

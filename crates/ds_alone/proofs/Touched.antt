@@ -17,6 +17,7 @@ use Rattle.ds_procs.specs.Calls.{call_of}
 use Rattle.ds_policy.specs.declared.access.Rule.TheVariants.{K, A}
 use Rattle.ds_policy.specs.declared.access.Verdict.{Verdict}
 use Rattle.ds_policy.specs.declared.access.Verdict.TheVariants.{Allowed, Denied}
+use Rattle.ds_policy.specs.declared.command.Character.{Character}
 use Rattle.ds_policy.specs.declared.command.TimedCommand.{TimedCommand}
 use Rattle.ds_policy.specs.declared.grant.Grant.{Grant}
 use Rattle.ds_policy.specs.Grants.{PageState, is_some_right}
@@ -44,7 +45,7 @@ use Rattle.ds_quiet.specs.Quiet.{quiet_where, quiet_at, quiet_behind, quiet_firs
 use Rattle.ds_quiet.proofs.Inputs.{have_registers}
 use Rattle.ds_quiet.proofs.Twins.{twin, twins_set}
 use Rattle.ds_quiet.proofs.Units as twins
-use Rattle.ds_alone.specs.Alone.{SharesNothing, LeavesAlone, IsAlone, StandsAlone, SeemsAlike}
+use Rattle.ds_alone.specs.Alone.{SharesNothing, LeavesAlone, HearsNothing, IsAlone, StandsAlone, SeemsAlike}
 use Rattle.ds_alone.specs.Deeds.{untimed, puts_of, deed, asks_nothing, next_asks_nothing, tells_nothing, written_by}
 use Rattle.ds_alone.specs.Touched.{doing}
 
@@ -192,6 +193,8 @@ pub record Touches (p : ℕ) (m u : State) : Type 0 where
   pub commands : u.commands ≡ m.commands
   pub ready : u.ready ≡ m.ready
   pub owed : u.owed ≡ m.owed
+  pub queues : u.queues ≡ m.queues
+  pub characters : u.characters ≡ m.characters
   pub many : length u.processes ≡ length m.processes
   pub process : (process_of u p ≡ process_of m p) ⊎ (process_of u p ≡ touched_process (process_of m p))
 
@@ -204,12 +207,12 @@ put_cases (q ∷ ps) (suc i) zero = inl refl
 put_cases (q ∷ ps) (suc i) (suc j) = put_cases ps i j
 
 pub touches : (p : ℕ) (b : Bool) (m : State) → Touches p m (touched b m)
-touches p false m = record { memory = refl; commands = refl; ready = refl; owed = refl; many = refl; process = inl refl }
+touches p false m = record { memory = refl; commands = refl; ready = refl; owed = refl; queues = refl; characters = refl; many = refl; process = inl refl }
 touches p true m = by m.ready refl
   where
     by : (ready : List ℕ) → m.ready ≡ ready → Touches p m (touch_first m ready)
-    by [] here = record { memory = refl; commands = refl; ready = refl; owed = refl; many = refl; process = inl refl }
-    by (q ∷ rest) here = record { memory = refl; commands = refl; ready = refl; owed = refl; many = length-set m.processes (q - 1) _; process = put_cases m.processes (q - 1) (p - 1) }
+    by [] here = record { memory = refl; commands = refl; ready = refl; owed = refl; queues = refl; characters = refl; many = refl; process = inl refl }
+    by (q ∷ rest) here = record { memory = refl; commands = refl; ready = refl; owed = refl; queues = refl; characters = refl; many = length-set m.processes (q - 1) _; process = put_cases m.processes (q - 1) (p - 1) }
 
 module _ (p : ℕ) (m u : State) (x : Touches p m u) where
   same_field : {X : Type 0} (f : Process → X) → ((q : Process) → f (touched_process q) ≡ f q) → f (process_of u p) ≡ f (process_of m p)
@@ -237,17 +240,27 @@ module _ (p : ℕ) (m u : State) (x : Touches p m u) where
     room = k.room ∙ ap (λ (s : PageState). length s.pages) (sym x.memory);
   }
 
-  touch_alone : IsAlone p m → IsAlone p u
-  touch_alone k = record {
+  touch_alone : (listens : Bool) → IsAlone listens p m → IsAlone listens p u
+  touch_alone listens k = record {
     above = k.above;
     here = more k.here;
     shares = subst (λ (s : PageState). SharesNothing p s.table) (sym x.memory) k.shares;
     commands = subst (λ (s : PageState). All (λ (c : TimedCommand). LeavesAlone s.table p c.command) u.commands) (sym x.memory) (subst (λ (cs : List TimedCommand). All (λ (c : TimedCommand). LeavesAlone m.memory.table p c.command) cs) (sym x.commands) k.commands);
-    awake = λ (e : (process_of u p).standing ≡ Waiting). k.awake (sym (same_field (λ q. q.standing) (λ q. refl)) ∙ e);
+    hears = hears_too listens k.hears;
   }
+    where
+      line : (process_of u p).line ≡ (process_of m p).line
+      line = same_field (λ q. q.line) (λ q. refl)
 
-pub touch_stands : (p : ℕ) (b : Bool) (m : State) → StandsAlone p m → StandsAlone p (touched b m)
-touch_stands p b m k = record { lawful = touched_lawful b m k.lawful; whole = touched_whole b m k.whole; alone = touch_alone p m (touched b m) (touches p b m) k.alone }
+      hears_too : (listens : Bool) → HearsNothing listens p m → HearsNothing listens p u
+      hears_too true h = record {
+        queue = ap (λ (qs : List (List ℕ)). slice_index_or qs (process_of u p).line []) x.queues ∙ (ap (λ (l : ℕ). slice_index_or m.queues l []) line ∙ h.queue);
+        coming = subst (λ (cs : List Character). All (λ (c : Character). c.line ≢ (process_of u p).line) cs) (sym x.characters) (subst (λ (l : ℕ). All (λ (c : Character). c.line ≢ l) m.characters) (sym line) h.coming);
+      }
+      hears_too false awake = λ (e : (process_of u p).standing ≡ Waiting). awake (sym (same_field (λ q. q.standing) (λ q. refl)) ∙ e)
+
+pub touch_stands : (listens : Bool) (p : ℕ) (b : Bool) (m : State) → StandsAlone listens p m → StandsAlone listens p (touched b m)
+touch_stands listens p b m k = record { lawful = touched_lawful b m k.lawful; whole = touched_whole b m k.whole; alone = touch_alone p m (touched b m) (touches p b m) listens k.alone }
 
 pub half_touch : (b : Bool) (m : State) → half_turn b m ≡ half_turn false (touched b m)
 unfolding half_turn
@@ -271,12 +284,12 @@ puts_by_twins p a b Called Called r s = ap written_by (call_by (process_of a p).
 puts_by_twins p a b (Stopped stop) (Stopped other) r s = refl
 puts_by_twins p a b o u r s = absurd s
 
-asks_by_twins : (p : ℕ) (a b : State) (o u : Outcome) → AreAlike (process_of a p).registers (process_of b p).registers → OutcomesAlike o u → asks_nothing a p o ≡ asks_nothing b p u
-asks_by_twins p a b (Went x) (Went y) r s = refl
-asks_by_twins p a b (Branched x target) (Branched y there) r s = refl
-asks_by_twins p a b Called Called r s = ap tells_nothing (call_by (process_of a p).registers (process_of b p).registers r)
-asks_by_twins p a b (Stopped stop) (Stopped other) r s = refl
-asks_by_twins p a b o u r s = absurd s
+asks_by_twins : (listens : Bool) (p : ℕ) (a b : State) (o u : Outcome) → AreAlike (process_of a p).registers (process_of b p).registers → OutcomesAlike o u → asks_nothing listens a p o ≡ asks_nothing listens b p u
+asks_by_twins listens p a b (Went x) (Went y) r s = refl
+asks_by_twins listens p a b (Branched x target) (Branched y there) r s = refl
+asks_by_twins listens p a b Called Called r s = ap (tells_nothing listens) (call_by (process_of a p).registers (process_of b p).registers r)
+asks_by_twins listens p a b (Stopped stop) (Stopped other) r s = refl
+asks_by_twins listens p a b o u r s = absurd s
 
 both : (a b : Bool) → (a && b) ≡ true → (a ≡ true) × (b ≡ true)
 both true b e = (refl, e)
@@ -305,8 +318,8 @@ module _ (p : ℕ) (x : State) (qs : List Process) (rest : List ℕ) (k : AreTwi
   pc_too : (process_of x p).pc ≡ (process_of m p).pc
   pc_too = (k.each (p - 1)).pc
 
-  pub asks_same : next_asks_nothing p x ≡ next_asks_nothing p m
-  asks_same = asks_by_twins p x m (instruction x p pc) (instruction m p pc) registers_too outcomes ∙ ap (λ (a : ℕ). asks_nothing m p (instruction m p a)) pc_too
+  pub asks_same : (listens : Bool) → next_asks_nothing listens p x ≡ next_asks_nothing listens p m
+  asks_same listens = asks_by_twins listens p x m (instruction x p pc) (instruction m p pc) registers_too outcomes ∙ ap (λ (a : ℕ). asks_nothing listens m p (instruction m p a)) pc_too
 
   told_same : lines_of_instruction x p pc (instruction x p pc) ≡ lines_of_instruction m p (process_of m p).pc (instruction m p (process_of m p).pc)
   told_same =

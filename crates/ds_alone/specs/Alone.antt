@@ -6,12 +6,14 @@ use Rattle.ds_procs.specs.declared.call.Call.{Call}
 use Rattle.ds_procs.specs.declared.call.Call.TheVariants as call
 use Rattle.ds_procs.specs.Calls.{call_of}
 use Rattle.ds_policy.specs.declared.grant.Grant.{Grant}
+use Rattle.ds_policy.specs.declared.command.Character.{Character}
 use Rattle.ds_policy.specs.declared.command.Command.{Command}
 use Rattle.ds_policy.specs.declared.command.Command.TheVariants as command
 use Rattle.ds_policy.specs.declared.command.TimedCommand.{TimedCommand}
 use Rattle.ds_policy.specs.Pages.{Table, entry_at}
 use Rattle.ds_policy.specs.Grants.{is_some_right, give}
 use Rattle.ds_pagemap.specs.Machine.{State, process_of, lives}
+use Rattle.ds_pagemap.specs.Calls.{queue_of}
 use Rattle.ds_pagemap.specs.Unit.{Outcome, Called, instruction}
 use Rattle.ds_pagemap.specs.Run.{goes_on, go}
 use Rattle.ds_pagemap.specs.Laws.{process_named}
@@ -49,19 +51,29 @@ pub record LeavesAlone (table : Table) (p : ℕ) (c : Command) : Type 0 where
   pub another : p ≢ process_named c
   pub grants : GrantsElsewhere table p c
 
--- process p is there, shares nothing, and waits for no character; and the commands that are to come leave it alone
-pub record IsAlone (p : ℕ) (m : State) : Type 0 where
+-- no character waits on the line of process p, and none is to come there
+pub record HasSilentLine (p : ℕ) (m : State) : Type 0 where
+  pub queue : queue_of m p ≡ []
+  pub coming : All (λ (c : Character). c.line ≢ (process_of m p).line) m.characters
+
+-- where process p may listen for characters, none comes to its line; where it may not, it doesn't wait for one
+abbrev pub HearsNothing : Bool → ℕ → State → Type 0
+HearsNothing true p m = HasSilentLine p m
+HearsNothing false p m = (process_of m p).standing ≢ Waiting
+
+-- process p is there, shares nothing, and hears nothing; and the commands that are to come leave it alone
+pub record IsAlone (listens : Bool) (p : ℕ) (m : State) : Type 0 where
   pub above : 0 < p
   pub here : p ≤ length m.processes
   pub shares : SharesNothing p m.memory.table
   pub commands : All (λ (c : TimedCommand). LeavesAlone m.memory.table p c.command) m.commands
-  pub awake : (process_of m p).standing ≢ Waiting
+  pub hears : HearsNothing listens p m
 
 -- as runs have it: all that each state of a run is, and process p alone
-pub record StandsAlone (p : ℕ) (m : State) : Type 0 where
+pub record StandsAlone (listens : Bool) (p : ℕ) (m : State) : Type 0 where
   pub lawful : IsLawful m
   pub whole : HasWholePages m
-  pub alone : IsAlone p m
+  pub alone : IsAlone listens p m
 
 -- the call of process q gives process p something, and isn't refused
 abbrev pub call_gives : State → ℕ → Call → ℕ → Bool
@@ -82,6 +94,11 @@ unit_gives m (q ∷ rest) p = instruction_gives m q (instruction m q (process_of
 abbrev pub is_given_nothing : ℕ → ℕ → ℕ → State → Bool
 is_given_nothing p n zero m = true
 is_given_nothing p n (suc k) m = (not (goes_on n m) || (is_some m.owed || not (unit_gives m m.ready p))) && is_given_nothing p n k (go n false m)
+
+-- where process p may listen, no character waits on its line
+abbrev pub NothingWaits : Bool → ℕ → State → Type 0
+NothingWaits true p m = queue_of m p ≡ []
+NothingWaits false p m = Unit {0}
 
 -- two states are alike to process p, and it stands alike in both
 pub record SeemsAlike (p : ℕ) (m t : State) : Type 0 where

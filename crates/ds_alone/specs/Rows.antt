@@ -89,11 +89,11 @@ it_comes_less_far = refl
 
 -- The tests say so beforehand.
 
-pub it_is_alone : is_alone 1 (pair plain guest busy [] []) ≡ true
+pub it_is_alone : is_alone false 1 (pair plain guest busy [] []) ≡ true
 unfolding run_on_literals
 it_is_alone = refl
 
-pub so_is_the_other : is_alone 2 (pair plain guest busy [] []) ≡ true
+pub so_is_the_other : is_alone false 2 (pair plain guest busy [] []) ≡ true
 unfolding run_on_literals
 so_is_the_other = refl
 
@@ -101,7 +101,7 @@ pub nobody_gives : nobody_may_give (pair plain guest busy [] []) ≡ true
 unfolding run_on_literals
 nobody_gives = refl
 
-pub it_asks_nothing : asks_nothing_alone 1 20 (pair plain guest busy [] []) ≡ true
+pub it_asks_nothing : asks_nothing_alone false 1 20 (pair plain guest busy [] []) ≡ true
 unfolding run_on_literals
 it_asks_nothing = refl
 
@@ -204,7 +204,7 @@ pub of_who_else_is_there : puts (deeds 1 200 90 (pair plain asks_time gone [] []
 unfolding run_on_literals
 of_who_else_is_there = refl
 
-pub to_ask_the_time_is_to_ask : asks_nothing_alone 1 20 (pair plain asks_time busy [] []) ≡ false
+pub to_ask_the_time_is_to_ask : asks_nothing_alone false 1 20 (pair plain asks_time busy [] []) ≡ false
 unfolding run_on_literals
 to_ask_the_time_is_to_ask = refl
 
@@ -217,7 +217,7 @@ pub nothing_is_told_by_who_stores_nothing : puts (deeds 1 200 90 (pair (policy 3
 unfolding run_on_literals
 nothing_is_told_by_who_stores_nothing = refl
 
-pub who_shares_a_page_is_not_alone : is_alone 1 (pair (policy 3 None 1 false) guest busy [] []) ≡ false
+pub who_shares_a_page_is_not_alone : is_alone false 1 (pair (policy 3 None 1 false) guest busy [] []) ≡ false
 unfolding run_on_literals
 who_shares_a_page_is_not_alone = refl
 
@@ -258,7 +258,7 @@ pub where_nobody_is_in_the_way_it_is_in_time : puts (deeds 1 200 90 (pair (polic
 unfolding run_on_literals
 where_nobody_is_in_the_way_it_is_in_time = refl
 
-pub what_ends_does_not_last : is_alone 1 (pair (policy 3 (Some 10) 3 false) guest busy [] []) ≡ false
+pub what_ends_does_not_last : is_alone false 1 (pair (policy 3 (Some 10) 3 false) guest busy [] []) ≡ false
 unfolding run_on_literals
 what_ends_does_not_last = refl
 
@@ -274,7 +274,7 @@ pub before_a_command_nothing_is_told : puts (deeds 1 200 90 (pair plain guest go
 unfolding run_on_literals
 before_a_command_nothing_is_told = refl
 
-pub who_is_named_is_not_left_alone : is_alone 1 (pair plain guest busy taken []) ≡ false
+pub who_is_named_is_not_left_alone : is_alone false 1 (pair plain guest busy taken []) ≡ false
 unfolding run_on_literals
 who_is_named_is_not_left_alone = refl
 
@@ -306,11 +306,11 @@ pub who_has_ended : puts (deeds 1 200 90 (pair plain offers gone [] [])) ≡ 12 
 unfolding run_on_literals
 who_has_ended = refl
 
-pub to_get_is_to_ask : asks_nothing_alone 1 20 (pair plain gets busy [] typed) ≡ false
+pub to_get_is_to_ask : asks_nothing_alone false 1 20 (pair plain gets busy [] typed) ≡ false
 unfolding run_on_literals
 to_get_is_to_ask = refl
 
-pub to_give_is_to_ask : asks_nothing_alone 1 20 (pair plain offers busy [] []) ≡ false
+pub to_give_is_to_ask : asks_nothing_alone false 1 20 (pair plain offers busy [] []) ≡ false
 unfolding run_on_literals
 to_give_is_to_ask = refl
 
@@ -318,7 +318,7 @@ to_give_is_to_ask = refl
 abbrev takes : List String
 takes = "addiu $4,$0,2" ∷ "lui $5,0x41" ∷ "addiu $2,$0,7" ∷ "syscall" ∷ "addu $4,$2,$0" ∷ "addiu $2,$0,1" ∷ "syscall" ∷ "addiu $2,$0,0" ∷ "syscall" ∷ []
 
-pub to_take_is_to_ask : asks_nothing_alone 1 20 (pair plain takes busy [] []) ≡ false
+pub to_take_is_to_ask : asks_nothing_alone false 1 20 (pair plain takes busy [] []) ≡ false
 unfolding run_on_literals
 to_take_is_to_ask = refl
 
@@ -326,9 +326,54 @@ to_take_is_to_ask = refl
 abbrev waits : List String
 waits = "addiu $2,$0,9" ∷ "syscall" ∷ "addiu $2,$0,0" ∷ "syscall" ∷ []
 
-pub to_wait_is_to_ask : asks_nothing_alone 1 20 (pair plain waits busy [] []) ≡ false
+pub to_wait_is_to_ask : asks_nothing_alone false 1 20 (pair plain waits busy [] []) ≡ false
 unfolding run_on_literals
 to_wait_is_to_ask = refl
+
+-- Where no character comes to its line it may ask for one.
+
+pub to_get_tells_nothing_where_none_comes : asks_nothing_alone true 1 20 (pair plain gets busy [] []) ≡ true
+unfolding run_on_literals
+to_get_tells_nothing_where_none_comes = refl
+
+pub to_wait_tells_nothing_either : asks_nothing_alone true 1 20 (pair plain waits busy [] []) ≡ true
+unfolding run_on_literals
+to_wait_tells_nothing_either = refl
+
+pub its_line_is_silent : is_alone true 1 (pair plain gets busy [] []) ≡ true
+unfolding run_on_literals
+its_line_is_silent = refl
+
+pub a_character_to_come_is_heard : is_alone true 1 (pair plain gets busy [] typed) ≡ false
+unfolding run_on_literals
+a_character_to_come_is_heard = refl
+
+-- the letter comes in at 7 on another line
+pub a_character_on_another_line_is_not : is_alone true 1 (pair plain gets busy [] (record { time = 7; line = 3; byte = 88 } ∷ [])) ≡ true
+unfolding run_on_literals
+a_character_on_another_line_is_not = refl
+
+-- a letter is there before the run
+pub a_character_that_waits_is_heard : is_alone true 1 (record (pair plain gets busy [] []) { queues = (88 ∷ []) ∷ [] ∷ [] ∷ [] ∷ [] }) ≡ false
+unfolding run_on_literals
+a_character_that_waits_is_heard = refl
+
+pub without_characters_it_gets_the_same : deeds 1 200 90 (pair plain gets busy [] []) ≡ deeds 1 200 90 (pair plain gets gone [] [])
+unfolding run_on_literals
+without_characters_it_gets_the_same = refl
+
+-- it waits for ever
+pub who_waits_does_two_units : length (deeds 1 200 90 (pair plain waits busy [] [])) ≡ 2
+unfolding run_on_literals
+who_waits_does_two_units = refl
+
+pub so_it_does_alone : length (deeds_alone 1 20 (pair plain waits busy [] [])) ≡ 2
+unfolding run_on_literals
+so_it_does_alone = refl
+
+pub the_time_tells_all_the_same : asks_nothing_alone true 1 20 (pair plain asks_time busy [] []) ≡ false
+unfolding run_on_literals
+the_time_tells_all_the_same = refl
 
 pub alone_it_does_fifteen_units : length (deeds_alone 1 20 (pair plain guest busy [] [])) ≡ 15
 unfolding run_on_literals
@@ -342,11 +387,11 @@ pub a_gift_to_another_is_none : is_given_nothing 1 200 60 (pair (policy 3 None 3
 unfolding run_on_literals
 a_gift_to_another_is_none = refl
 
-pub who_is_granted_its_page_later_is_not_alone : is_alone 1 (pair plain guest busy (at 9 1 (command.Grant 2 0x00420000 1 Read false) ∷ []) []) ≡ false
+pub who_is_granted_its_page_later_is_not_alone : is_alone false 1 (pair plain guest busy (at 9 1 (command.Grant 2 0x00420000 1 Read false) ∷ []) []) ≡ false
 unfolding run_on_literals
 who_is_granted_its_page_later_is_not_alone = refl
 
-pub a_grant_of_another_page_is_of_others : is_alone 1 (pair plain guest busy (at 9 1 (command.Grant 2 0x00420000 3 Read false) ∷ []) []) ≡ true
+pub a_grant_of_another_page_is_of_others : is_alone false 1 (pair plain guest busy (at 9 1 (command.Grant 2 0x00420000 3 Read false) ∷ []) []) ≡ true
 unfolding run_on_literals
 a_grant_of_another_page_is_of_others = refl
 

@@ -1,5 +1,5 @@
 -- Tests by which a state, or the first state of a policy and an input, is seen to leave a process alone.
-use Rattle.std.specs.Prelude.{ℕ, zero, suc, ◌-◌, Bool, true, false, not, ◌&&◌, nat_lt, nat_le, ◌==◌, is_none, List, [], ◌∷◌, length, map, Option, Some, None}
+use Rattle.std.specs.Prelude.{◌≡◌, ◌<◌, ℕ, zero, suc, ◌-◌, Bool, true, false, not, ◌&&◌, nat_lt, nat_le, ◌==◌, is_none, List, [], ◌∷◌, length, map, Option, Some, None}
 use Rattle.std.specs.List.{list_any, list_all}
 use Rattle.ds_isa.specs.Registers.{Registers}
 use Rattle.ds_procs.specs.declared.process.Standing.{Standing}
@@ -10,8 +10,10 @@ use Rattle.ds_policy.specs.declared.grant.Entry.{Entry}
 use Rattle.ds_policy.specs.Pages.{Pages, Table, entries_of, names}
 use Rattle.ds_policy.specs.Grants.{is_some_right}
 use Rattle.ds_pagemap.specs.Machine.{State, process_of, is_waiting}
+use Rattle.ds_pagemap.specs.Calls.{queue_of}
 use Rattle.ds_pagemap.specs.Laws.{process_named}
 use Rattle.ds_promise.specs.Stores.{page_at}
+use Rattle.ds_alone.specs.Deeds.{alone_after}
 
 -- a grant of the operator's, without an end
 abbrev pub is_lasting : Grant → Bool
@@ -53,13 +55,22 @@ grants_elsewhere mine other = true
 abbrev pub leaves_alone : Table → ℕ → Command → Bool
 leaves_alone table p c = not (process_named c == p) && grants_elsewhere (entries_of table p) c
 
--- process p is there, shares nothing, and waits for no character; and the commands that are to come leave it alone
-abbrev pub is_alone : ℕ → State → Bool
-is_alone p m =
+-- no character waits on the line of process p, and none is to come there
+abbrev pub has_silent_line : ℕ → State → Bool
+has_silent_line p m = (length (queue_of m p) == 0) && list_all (λ c. not (c.line == (process_of m p).line)) m.characters
+
+-- where process p may listen for characters, none comes to its line; where it may not, it doesn't wait for one
+abbrev pub hears_nothing : Bool → ℕ → State → Bool
+hears_nothing true p m = has_silent_line p m
+hears_nothing false p m = not (is_waiting (process_of m p).standing)
+
+-- process p is there, shares nothing, and hears nothing; and the commands that are to come leave it alone
+abbrev pub is_alone : Bool → ℕ → State → Bool
+is_alone listens p m =
     (nat_lt 0 p && nat_le p (length m.processes))
     && (shares_nothing p m.memory.table
     && (list_all (λ c. leaves_alone m.memory.table p c.command) m.commands
-    && not (is_waiting (process_of m p).standing)))
+    && hears_nothing listens p m))
 
 -- a command grants with leave to give
 abbrev pub lets_give : Command → Bool
@@ -91,3 +102,8 @@ holdings p m =
     let q = process_of m p in
     let es = entries_of m.memory.table p in
     record { registers = q.registers; pc = q.pc; standing = q.standing; entries = es; pages = map (λ e. page_named m.memory.pages e.grant.page) es; frames = length m.memory.pages }
+
+-- alone, process p has after so many units what it has so many more later: so it goes round for ever
+pub record GoesRound (p before round : ℕ) (m : State) : Type 0 where
+  pub some : 0 < round
+  pub again : holdings p (alone_after p before m) ≡ holdings p (alone_after p round (alone_after p before m))

@@ -1,11 +1,19 @@
 //! Each law is the contract of a function with an empty body.
-ghost use Rattle.std.specs.Prelude.{◌≡◌, ◌≤◌, ◌<◌, ◌++◌, ℕ, Bool, List, true, false, Ok, length, map, replicate, reverse};
-ghost use Rattle.ds_pagemap.specs.Inputs.{Sources, inputs};
+ghost use Rattle.std.specs.Prelude.{◌≡◌, ◌≤◌, ◌<◌, ◌+◌, ◌++◌, ℕ, Bool, List, true, false, Ok, length, map, replicate, reverse};
+ghost use Rattle.ds_policy.specs.PolicyFacts.{IsGoodPolicy};
+ghost use Rattle.ds_policy.specs.Value.{PolicyValue};
+ghost use Rattle.ds_pagemap.specs.Inputs.{Sources, inputs, inputs_under};
 ghost use Rattle.ds_pagemap.specs.Machine.{State};
 ghost use Rattle.ds_pagemap.specs.Run.{after, Reaches};
 ghost use Rattle.ds_pagemap_laws.specs.Lawful.{IsLawful};
 ghost use Rattle.ds_promise.specs.Whole.{HasWholePages};
-ghost use Rattle.ds_alone.specs.Alone.{IsAlone, SeemsAlike, StandsAlone, is_given_nothing};
+ghost use Rattle.ds_alone.specs.Alone.{
+  IsAlone,
+  NothingWaits,
+  SeemsAlike,
+  StandsAlone,
+  is_given_nothing,
+};
 ghost use Rattle.ds_alone.specs.Consoles.{HasOwnLine, has_own_line, console_of};
 ghost use Rattle.ds_alone.specs.Deeds.{
   deeds,
@@ -17,8 +25,8 @@ ghost use Rattle.ds_alone.specs.Deeds.{
   IsFront,
   AreFronts,
 };
-ghost use Rattle.ds_alone.specs.Log.{said_of, told_by, ShowsAlone};
-ghost use Rattle.ds_alone.specs.Tests.{is_alone, nobody_may_give, holdings};
+ghost use Rattle.ds_alone.specs.Log.{said_of, told_by, ShowsMore, ShowsAlone};
+ghost use Rattle.ds_alone.specs.Tests.{GoesRound, is_alone, nobody_may_give, holdings};
 ghost use Rattle.ds_alone.specs.Touched.{
   doing,
   doings,
@@ -29,27 +37,31 @@ ghost use Rattle.ds_alone.specs.Touched.{
 };
 
 /// What a process does alone depends on its registers, its entries and their pages alone; and so do
-/// what it asks, and whether it is quiet.
+/// what it asks, and whether it is quiet. In each law here `listens` says whether the process may ask
+/// for characters, of which none comes to its line then; where it may not, they come as they like.
 pub fn what_is_done_alone_depends_on_nothing_else()
-    ensures deeds { (p k : ℕ) (m t : State) → SeemsAlike p m t → AsksNothing p m →
+    ensures deeds { (listens : Bool) (p k : ℕ) (m t : State) → SeemsAlike p m t →
+        NothingWaits listens p m → NothingWaits listens p t → AsksNothing listens p m →
         deeds_alone p k m ≡ deeds_alone p k t }
-    ensures asks { (p k : ℕ) (m t : State) → SeemsAlike p m t →
-        asks_nothing_alone p k m ≡ true → asks_nothing_alone p k t ≡ true }
-    ensures quiet { (p k : ℕ) (m t : State) → SeemsAlike p m t → asks_nothing_alone p k m ≡ true →
+    ensures asks { (listens : Bool) (p k : ℕ) (m t : State) → SeemsAlike p m t →
+        NothingWaits listens p m → NothingWaits listens p t →
+        asks_nothing_alone listens p k m ≡ true → asks_nothing_alone listens p k t ≡ true }
+    ensures quiet { (listens : Bool) (p k : ℕ) (m t : State) → SeemsAlike p m t →
+        NothingWaits listens p m → NothingWaits listens p t → asks_nothing_alone listens p k m ≡ true →
         quiet_alone p k m ≡ true → quiet_alone p k t ≡ true }
 {}
 
 /// A process that shares nothing, and asks nothing, does in a run what it does alone, as far as the
-/// run goes: in one that never touches to its registers, and where it is quiet in each run but for
-/// them.
+/// run goes: in a run that never touches, down to its registers; and where it is quiet, in each run,
+/// but for its registers.
 pub fn a_process_does_in_a_run_what_it_does_alone()
-    ensures same { (p n k : ℕ) (m : State) → StandsAlone p m → AsksNothing p m →
+    ensures same { (listens : Bool) (p n k : ℕ) (m : State) → StandsAlone listens p m → AsksNothing listens p m →
         is_given_nothing p n k m ≡ true →
         deeds p n k m ≡ deeds_alone p (length (deeds p n k m)) m }
-    ensures front { (p n k j : ℕ) (m : State) → StandsAlone p m → AsksNothing p m →
+    ensures front { (listens : Bool) (p n k j : ℕ) (m : State) → StandsAlone listens p m → AsksNothing listens p m →
         is_given_nothing p n k m ≡ true → length (deeds p n k m) ≤ j →
         IsFront (deeds p n k m) (deeds_alone p j m) }
-    ensures touched { (p n : ℕ) (choices : List Bool) (m : State) → StandsAlone p m → AsksNothing p m →
+    ensures touched { (listens : Bool) (p n : ℕ) (choices : List Bool) (m : State) → StandsAlone listens p m → AsksNothing listens p m →
         IsQuietAlone p m → is_given_nothing_by p n choices m ≡ true →
         doings p n choices m ≡ map doing (deeds_alone p (length (doings p n choices m)) m) }
 {}
@@ -57,23 +69,23 @@ pub fn a_process_does_in_a_run_what_it_does_alone()
 /// So it can't tell who else is there: of what it does in two runs, unit by unit, one is a front of
 /// the other, and so it is with what it puts.
 pub fn nobody_can_tell_who_else_is_there()
-    ensures deeds { (p n k o j : ℕ) (m t : State) → StandsAlone p m → StandsAlone p t → SeemsAlike p m t →
-        AsksNothing p m → is_given_nothing p n k m ≡ true → is_given_nothing p o j t ≡ true →
+    ensures deeds { (listens : Bool) (p n k o j : ℕ) (m t : State) → StandsAlone listens p m → StandsAlone listens p t → SeemsAlike p m t →
+        AsksNothing listens p m → is_given_nothing p n k m ≡ true → is_given_nothing p o j t ≡ true →
         AreFronts (deeds p n k m) (deeds p o j t) }
-    ensures puts { (p n k o j : ℕ) (m t : State) → StandsAlone p m → StandsAlone p t → SeemsAlike p m t →
-        AsksNothing p m → is_given_nothing p n k m ≡ true → is_given_nothing p o j t ≡ true →
+    ensures puts { (listens : Bool) (p n k o j : ℕ) (m t : State) → StandsAlone listens p m → StandsAlone listens p t → SeemsAlike p m t →
+        AsksNothing listens p m → is_given_nothing p n k m ≡ true → is_given_nothing p o j t ≡ true →
         AreFronts (puts (deeds p n k m)) (puts (deeds p o j t)) }
-    ensures touched { (p n o : ℕ) (choices others : List Bool) (m t : State) → StandsAlone p m →
-        StandsAlone p t → SeemsAlike p m t → AsksNothing p m → IsQuietAlone p m →
+    ensures touched { (listens : Bool) (p n o : ℕ) (choices others : List Bool) (m t : State) → StandsAlone listens p m →
+        StandsAlone listens p t → SeemsAlike p m t → AsksNothing listens p m → IsQuietAlone p m →
         is_given_nothing_by p n choices m ≡ true → is_given_nothing_by p o others t ≡ true →
         AreFronts (doings p n choices m) (doings p o others t) }
 {}
 
 /// Tests find that a process is alone, that it has the same in two states, that nobody is given
-/// something, and that its line is its own; and, where it stops alone, that it asks nothing and is
-/// quiet.
+/// something, and that its line is its own; and, where it stops alone, or goes round, that it asks
+/// nothing and is quiet.
 pub fn tests_find_who_is_alone()
-    ensures alone { (p : ℕ) (m : State) → is_alone p m ≡ true → IsAlone p m }
+    ensures alone { (listens : Bool) (p : ℕ) (m : State) → is_alone listens p m ≡ true → IsAlone listens p m }
     ensures holdings { (p : ℕ) (m t : State) → 0 < p → p ≤ length m.processes →
         p ≤ length t.processes → holdings p m ≡ holdings p t → SeemsAlike p m t }
     ensures given { (p n k : ℕ) (m : State) → IsLawful m → HasWholePages m →
@@ -81,10 +93,17 @@ pub fn tests_find_who_is_alone()
     ensures given_by { (p n : ℕ) (choices : List Bool) (m : State) → IsLawful m → HasWholePages m →
         nobody_may_give m ≡ true → is_given_nothing_by p n choices m ≡ true }
     ensures line { (p : ℕ) (m : State) → has_own_line p m ≡ true → HasOwnLine p m }
-    ensures asks { (p k : ℕ) (m : State) → asks_nothing_alone p k m ≡ true →
-        stops_alone p k m ≡ true → AsksNothing p m }
+    ensures asks { (listens : Bool) (p k : ℕ) (m : State) → asks_nothing_alone listens p k m ≡ true →
+        stops_alone p k m ≡ true → AsksNothing listens p m }
     ensures quiet { (p k : ℕ) (m : State) → quiet_alone p k m ≡ true →
         stops_alone p k m ≡ true → IsQuietAlone p m }
+    ensures asks_round { (listens : Bool) (p before round : ℕ) (m : State) → 0 < p →
+        p ≤ length m.processes → NothingWaits listens p m → GoesRound p before round m →
+        asks_nothing_alone listens p (before + round) m ≡ true → AsksNothing listens p m }
+    ensures quiet_round { (listens : Bool) (p before round : ℕ) (m : State) → 0 < p →
+        p ≤ length m.processes → NothingWaits listens p m → GoesRound p before round m →
+        asks_nothing_alone listens p (before + round) m ≡ true →
+        quiet_alone p (before + round) m ≡ true → IsQuietAlone p m }
 {}
 
 /// Where no other process has its line, there stands what was there and what it puts, whatever the
@@ -108,13 +127,23 @@ pub fn the_log_says_of_it_what_it_was_told()
         said_of p u.log ≡ said_of p m.log ++ told_by (doings p n (reverse r.choices) m) }
 {}
 
-/// In a run of an input in which a quiet process that asks nothing is alone, and nobody may give, each
-/// state that is reached shows of it what so many of its units do alone, whatever is touched: the
-/// lines of the log about it, but for their times, and what stands on its line, where it is its own.
+/// In a run in which a quiet process that asks nothing is alone, and nobody may give, each state that is
+/// reached shows of it besides what was shown before what so many of its units do alone, whatever is
+/// touched: the lines of the log about it, but for their times, and what stands on its line, where it is
+/// its own. From the first state of an input, or under a good policy, nothing was shown before.
 pub fn what_is_shown_of_it_is_what_it_does_alone()
-    ensures { (p n random : ℕ) (text : List ℕ) (sources : Sources) (input : List ℕ) (m u : State) →
-        inputs text sources input n random ≡ Ok m → is_alone p m ≡ true → AsksNothing p m →
-        IsQuietAlone p m → nobody_may_give m ≡ true → Reaches n m u → ShowsAlone p m u }
+    ensures more { (listens : Bool) (p n : ℕ) (m u : State) → StandsAlone listens p m →
+        AsksNothing listens p m → IsQuietAlone p m → nobody_may_give m ≡ true → Reaches n m u →
+        ShowsMore p m u }
+    ensures first { (listens : Bool) (p n random : ℕ) (text : List ℕ) (sources : Sources)
+        (input : List ℕ) (m u : State) → inputs text sources input n random ≡ Ok m →
+        is_alone listens p m ≡ true → AsksNothing listens p m → IsQuietAlone p m →
+        nobody_may_give m ≡ true → Reaches n m u → ShowsAlone p m u }
+    ensures under { (listens : Bool) (p n random : ℕ) (policy : PolicyValue) (sources : Sources)
+        (input : List ℕ) (m u : State) → IsGoodPolicy policy →
+        inputs_under policy sources input n random ≡ Ok m → is_alone listens p m ≡ true →
+        AsksNothing listens p m → IsQuietAlone p m → nobody_may_give m ≡ true → Reaches n m u →
+        ShowsAlone p m u }
 {}
 
 /// Two inputs, each with its policy, sources, events, number of ticks and start of Random, in which
@@ -122,22 +151,22 @@ pub fn what_is_shown_of_it_is_what_it_does_alone()
 /// any runs of theirs is a front the one of the other; and so is what the log says of it, and what
 /// stands on its line, where it is its own, in any states that they reach.
 pub fn two_inputs_show_it_the_same()
-    ensures doings { (p n random o start : ℕ) (text other : List ℕ) (sources others : Sources)
+    ensures doings { (listens : Bool) (p n random o start : ℕ) (text other : List ℕ) (sources others : Sources)
         (input more : List ℕ) (m t : State) → inputs text sources input n random ≡ Ok m →
-        inputs other others more o start ≡ Ok t → is_alone p m ≡ true → is_alone p t ≡ true →
-        holdings p m ≡ holdings p t → AsksNothing p m → IsQuietAlone p m → nobody_may_give m ≡ true →
+        inputs other others more o start ≡ Ok t → is_alone listens p m ≡ true → is_alone listens p t ≡ true →
+        holdings p m ≡ holdings p t → AsksNothing listens p m → IsQuietAlone p m → nobody_may_give m ≡ true →
         nobody_may_give t ≡ true → (choices later : List Bool) →
         AreFronts (doings p n choices m) (doings p o later t) }
-    ensures console { (p n random o start : ℕ) (text other : List ℕ) (sources others : Sources)
+    ensures console { (listens : Bool) (p n random o start : ℕ) (text other : List ℕ) (sources others : Sources)
         (input more : List ℕ) (m t u v : State) → inputs text sources input n random ≡ Ok m →
-        inputs other others more o start ≡ Ok t → is_alone p m ≡ true → is_alone p t ≡ true →
-        holdings p m ≡ holdings p t → AsksNothing p m → IsQuietAlone p m → nobody_may_give m ≡ true →
+        inputs other others more o start ≡ Ok t → is_alone listens p m ≡ true → is_alone listens p t ≡ true →
+        holdings p m ≡ holdings p t → AsksNothing listens p m → IsQuietAlone p m → nobody_may_give m ≡ true →
         nobody_may_give t ≡ true → Reaches n m u → Reaches o t v → has_own_line p m ≡ true →
         has_own_line p t ≡ true → AreFronts (console_of p u) (console_of p v) }
-    ensures log { (p n random o start : ℕ) (text other : List ℕ) (sources others : Sources)
+    ensures log { (listens : Bool) (p n random o start : ℕ) (text other : List ℕ) (sources others : Sources)
         (input more : List ℕ) (m t u v : State) → inputs text sources input n random ≡ Ok m →
-        inputs other others more o start ≡ Ok t → is_alone p m ≡ true → is_alone p t ≡ true →
-        holdings p m ≡ holdings p t → AsksNothing p m → IsQuietAlone p m → nobody_may_give m ≡ true →
+        inputs other others more o start ≡ Ok t → is_alone listens p m ≡ true → is_alone listens p t ≡ true →
+        holdings p m ≡ holdings p t → AsksNothing listens p m → IsQuietAlone p m → nobody_may_give m ≡ true →
         nobody_may_give t ≡ true → Reaches n m u → Reaches o t v →
         AreFronts (said_of p u.log) (said_of p v.log) }
 {}
