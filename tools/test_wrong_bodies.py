@@ -80,7 +80,7 @@ order_of Red = 3
 order_of Green = 4
 """
 LAWS = """\
-//! Laws of definitions that may be turned.
+//! A law.
 #![tactic(auto)]
 
 ghost use Rattle.std.specs.Prelude.{◌<◌};

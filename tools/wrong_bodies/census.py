@@ -37,7 +37,7 @@ def lacks_of(repository, crate):
             implied |= {(key(body), names[0]) for body in bodies}
         else:
             none |= {key(body) for body in bodies}
-    own = [function for edit in crate.edits for function in edit.functions]
+    own = [it for edit in crate.edits for it in edit.functions if it in sources.by_name]
     tried = {key(sources.by_name[it]) for it in own} | {key(body) for edit in crate.edits for law in edit.laws for body in sources.named(law)} | none
     for other in repository.crates.values():
         for name in (function.rpartition("/") for edit in other.edits for function, *_ in edit.stands):
@@ -46,18 +46,22 @@ def lacks_of(repository, crate):
         if body.is_public and (not body.method or body.method in repository.methods) and key(body) not in tried:
             yield f"{crate.name}: no edit of {'the law ' if body.is_law else ''}{body.function}"
     named = {pair for edit in crate.edits for _, pairs in edit.named_clauses() for pair in pairs}
-    for body in each_clause_of(crate):
+    each = each_clause_of(crate)
+    for body in each.values():
         pairs = [(key(body), clause) for clause in crate.clauses_of(body)[:-1]]
         yield from (f"{crate.name}: no edit names {function} {clause}" for function, clause in pairs if (function, clause) not in named | implied)
-    plain = [name for edit in crate.edits if not (edit.clauses or edit.names_arms) for name in edit.functions if sources.by_name[name].is_public]
-    yield from (f"{crate.name}: {plain.count(it)} edits of {it}, more than {MOST_OF_ONE}" for it in dict.fromkeys(plain) if plain.count(it) > MOST_OF_ONE)
+    for body in (it for it in sources.by_name.values() if it.is_public):
+        count = sum(edit.function == body.function for edit in crate.edits)
+        most = MOST_OF_ONE + (len(crate.clauses_of(body)[:-1]) if key(body) in each else 0)
+        if count > most:
+            yield f"{crate.name}: {count} edits of {body.function}, more than {most}"
 
 
 def each_clause_of(crate):
-    """Returns the functions of a crate of which each clause is named, of a trait's method that of one type."""
+    """Returns by name the functions of a crate of which each clause is named, of a trait's method that of one type."""
     found = {}
     for word in EACH_CLAUSE.get(crate.name, ()):
         is_all, words = word.endswith("*"), f"::{word.rstrip('*')}"
         fits = lambda name: words in f"::{name}" if is_all else f"::{name}".endswith(words)
         found.update({it.method or it.function: it for it in crate.sources.by_name.values() if it.is_public and (fits(it.function) or fits(it.method))})
-    return found.values()
+    return found

@@ -7,6 +7,7 @@ from pathlib import Path
 from .sources import Sources
 
 PAIR = re.compile(r"(?m)^old: (.+)\nnew:(?: (.*))?$")
+OTHER = re.compile(r"(?m)^(?!(?:file|old|new|row|law|clause|stands for|function|tried):|$).*")
 
 
 class Edit:
@@ -17,8 +18,7 @@ class Edit:
         self.verdict, self.why = "", ""
         self.words = path.read_text("utf-8", "replace")
         lines = lambda head: [it.split() for it in re.findall(rf"(?m)^{head}: *(.+)", self.words)]
-        self.rows = [it for row in lines("row") for it in row]
-        self.laws = [it for law in lines("law") for it in law]
+        self.rows, self.laws = ([it for line in lines(head) for it in line] for head in ("row", "law"))
         self.clauses, self.stands = [tuple(it) for it in lines("clause")], [tuple(it) for it in lines("stands for")]
         # (by function the arms that it changes, or none where it may change all; the first has to be refused)
         self.functions = {name: frozenset(arms) for name, *arms in lines("function")}
@@ -31,6 +31,8 @@ class Edit:
 
     def apply(self, files):
         """Makes the edited text of the file, and returns why it cannot be made, if so."""
+        if OTHER.search(self.words):
+            return f"no line begins so: {OTHER.search(self.words)[0]}"
         if len(files) != 1 or self.file not in self.crate.texts:
             return f"it has to name one file of src/ or specs/, and no test's: {files}"
         was = self.text = self.crate.texts[self.file]
@@ -57,8 +59,8 @@ class Edit:
                 # (goals are named after the constructor, so one that stands in two arms tells nothing)
                 is_one = [it.name for it in body.arms].count(arm) == 1
                 self.functions = {body.function: frozenset({f"in-{arm}"} if is_one else ())}
-        owners = [(*it, sources.named(it[0] if it[1:] else self.function)) for it in self.clauses]
-        lost += [f"clause {' '.join(it[:-1])}" for it in owners if len(it) > 3 or not any(it[-2] in self.crate.clauses_of(body) for body in it[-1])]
+        owners = {it: sources.named(it[0] if it[1:] else self.function) for it in self.clauses}
+        lost += [f"clause {' '.join(it)}" for it, bodies in owners.items() if len(it) > 2 or not any(it[-1] in self.crate.clauses_of(body) for body in bodies)]
         lost += [f"public clause {' '.join(it)}" for it in self.stands if not self.crate.repository.has_public(*it)]
         return f"there is no {lost[0]}" if lost else ""
 
