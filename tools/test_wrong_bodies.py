@@ -20,7 +20,7 @@ CODE = """\
 #![tactic(auto)]
 
 ghost use Rattle.std.specs.Prelude.{◌≡◌, ◌≤◌, ◌<◌, ◌+◌};
-ghost use Rattle.toy.specs.Lamps.{order_of};
+ghost use Rattle.toy.specs.Numbers.{order_of, after};
 
 /// A lamp.
 #[derive(Clone, Copy, Debug)]
@@ -68,23 +68,6 @@ pub fn order(lamp: Lamp) -> u32
 }
 
 const FIRST: u32 = 1;
-"""
-SPEC = """\
-use Rattle.std.specs.Prelude.{ℕ}
-use Rattle.toy.specs.declared.Lamp.{Lamp}
-use Rattle.toy.specs.declared.Lamp.TheVariants.{Red, Green}
-
--- the place of a lamp
-abbrev pub order_of : Lamp → ℕ
-order_of Red = 3
-order_of Green = 4
-"""
-LAWS = """\
-//! A law.
-#![tactic(auto)]
-
-ghost use Rattle.std.specs.Prelude.{◌<◌};
-ghost use Rattle.laws.specs.Numbers.{after};
 
 /// The number after another is above it.
 pub fn a_number_is_below_the_next(n: u32)
@@ -94,6 +77,13 @@ pub fn a_number_is_below_the_next(n: u32)
 """
 NUMBERS = """\
 use Rattle.std.specs.Prelude.{ℕ, ◌+◌}
+use Rattle.toy.specs.declared.Lamp.{Lamp}
+use Rattle.toy.specs.declared.Lamp.TheVariants.{Red, Green}
+
+-- the place of a lamp
+abbrev pub order_of : Lamp → ℕ
+order_of Red = 3
+order_of Green = 4
 
 -- a number and itself
 abbrev pub double : ℕ → ℕ
@@ -109,7 +99,7 @@ unused = 1
 """
 ROWS = """\
 use Rattle.std.specs.Prelude.{◌≡◌, refl}
-use Rattle.laws.specs.Numbers.{double}
+use Rattle.toy.specs.Numbers.{double}
 
 pub double_0_is_0 : double 0 ≡ 0
 double_0_is_0 = refl
@@ -117,12 +107,6 @@ double_0_is_0 = refl
 pub double_2_is_4 : double 2 ≡ 4
 double_2_is_4 = refl
 """
-TURNED = {
-    "after.the_same": ("after n = n + 1", "after n = n", "law: a_number_is_below_the_next"),
-    "double.another_row": ("double n = n + n", "double n = n + n + n", "row: double_0_is_0"),
-    "double.its_row": ("double n = n + n", "double n = n + n + n", "row: double_2_is_4"),
-    "unused.harmless": ("unused = 1", "unused = 2"),
-}
 EDITS = {
     "next.a_constant": ("const FIRST: u32 = 1;", "const FIRST: u32 = 2;"),
     "next.a_constant_named": ("const FIRST: u32 = 1;", "const FIRST: u32 = 3;", "function: next", "clause: next"),
@@ -135,6 +119,10 @@ EDITS = {
     "sum.one_too_many": ("    a + b", "    a + b + 1"),
     "sum.stands_for_twice": ("    a + b", "    a + b + 2", "stands for: twice ensures"),
     "twice.one_too_many": ("sum(n, n)", "sum(n, n) + 1"),
+    "after.the_same": ("after n = n + 1", "after n = n", "law: a_number_is_below_the_next"),
+    "double.another_row": ("double n = n + n", "double n = n + n + n", "row: double_0_is_0"),
+    "double.its_row": ("double n = n + n", "double n = n + n + n", "row: double_2_is_4"),
+    "unused.harmless": ("unused = 1", "unused = 2"),
 }
 BAD = {
     "next.unknown": ("n + FIRST", "n + missing"),
@@ -152,11 +140,13 @@ def write(root, files):
         Path(root, path).write_text(text, "utf-8")
 
 
-def crate_files(name, code, edits, file="src/lib.rt", **specs):
-    """The files of a crate by their paths: its code, its definitions by their modules, and its edits."""
-    found = {"src/lib.rt": code, "specs/Lib.antt": "".join(f"pub mod {it}\n" for it in specs), **{f"specs/{it}.antt": text for it, text in specs.items()}}
-    found.update({f"wrong/{it}.edit": "\n".join([f"file: {file}", *more, f"old: {old}", f"new: {new}", ""]) for it, (old, new, *more) in edits.items()})
-    return {f"crates/{name}/{path}": text for path, text in found.items()}
+def toy(edits):
+    """The files of a crate by their paths: its code, its definitions, and its edits, of which each turns the file that has its old text."""
+    found = {"src/lib.rt": CODE, "specs/Lib.antt": "pub mod Numbers\npub mod Rows\n", "specs/Numbers.antt": NUMBERS, "specs/Rows.antt": ROWS}
+    for name, (old, new, *lines) in edits.items():
+        file = "specs/Numbers.antt" if old in NUMBERS else "src/lib.rt"
+        found[f"wrong/{name}.edit"] = "\n".join([f"file: {file}", *lines, f"old: {old}", f"new: {new}", ""])
+    return {"crates.txt": "toy:\n", **{f"crates/toy/{path}": text for path, text in found.items()}}
 
 
 def run(root, *words):
@@ -175,25 +165,23 @@ class Room(unittest.TestCase):
 
 
 class Verdicts(Room):
-    """One run over a crate of code and a crate of laws, and what it said of each edit."""
+    """One run over a crate, and what it said of each edit."""
 
     @classmethod
     def setUpClass(cls):
-        files = {"crates.txt": "toy:\nlaws:\n", **crate_files("toy", CODE, EDITS, Lamps=SPEC)}
-        files.update(crate_files("laws", LAWS, TURNED, "specs/Numbers.antt", Numbers=NUMBERS, Rows=ROWS))
         with tempfile.TemporaryDirectory(prefix="wrong-bodies-test-") as room:
-            write(room, files)
+            write(room, toy(EDITS))
             cls.status, cls.said = run(room)
 
-    def verdict(self, name, crate="toy"):
+    def verdict(self, name):
         """Returns what is told of an edit."""
-        found = [it for it in self.said.splitlines() if it.startswith(f"{crate}/{name}.edit: ")]
+        found = [it for it in self.said.splitlines() if it.startswith(f"toy/{name}.edit: ")]
         self.assertTrue(found, self.said)
         return found[0].partition(": ")[2]
 
     def test_a_harmless_edit_is_told(self):
         self.assertEqual("NOT REFUSED: the crate is still proved with this edit", self.verdict("next.harmless"))
-        self.assertEqual("NOT REFUSED: the crate is still proved with this edit", self.verdict("unused.harmless", "laws"))
+        self.assertEqual("NOT REFUSED: the crate is still proved with this edit", self.verdict("unused.harmless"))
 
     def test_the_clause_that_refused_an_edit_is_told(self):
         self.assertEqual("refused by next next", self.verdict("next.one_too_many"))
@@ -215,9 +203,9 @@ class Verdicts(Room):
         self.assertEqual("refused by next next", self.verdict("next.a_constant_named"))
 
     def test_a_turned_definition_is_refused_by_its_row_or_its_law(self):
-        self.assertEqual("refused by the row double_2_is_4", self.verdict("double.its_row", "laws"))
-        self.assertIn("refused by the law a_number_is_below_the_next", self.verdict("after.the_same", "laws"))
-        self.assertIn("NOT REFUSED: the row double_0_is_0 still holds", self.verdict("double.another_row", "laws"))
+        self.assertEqual("refused by the row double_2_is_4", self.verdict("double.its_row"))
+        self.assertIn("refused by the law a_number_is_below_the_next", self.verdict("after.the_same"))
+        self.assertIn("NOT REFUSED: the row double_0_is_0 still holds", self.verdict("double.another_row"))
 
     def test_the_last_line_counts(self):
         self.assertEqual((1, "10 refused, 5 not refused"), (self.status, self.said.splitlines()[-1]))
@@ -225,7 +213,7 @@ class Verdicts(Room):
 
 class Bad(Room):
     def test_an_edit_that_is_no_code_is_told_and_nothing_is_proved(self):
-        room = self.room({"crates.txt": "toy:\n", **crate_files("toy", CODE, BAD, Lamps=SPEC)})
+        room = self.room(toy(BAD))
         status, said = run(room)
         self.assertEqual((1, "0 refused, 5 not refused"), (status, said.splitlines()[-1]))
         self.assertIn("toy/next.unknown.edit: BAD EDIT: it is no code: ", said)
@@ -236,25 +224,25 @@ class Bad(Room):
         self.assertNotIn("toy/twice.well.edit", said)
 
     def test_a_name_of_nothing_is_told(self):
-        self.assertEqual((2, "there is no toy/none\n0 refused, 1 not refused\n"), run(self.room({"crates.txt": "toy:\n", **crate_files("toy", CODE, {})}), "toy/none"))
+        self.assertEqual((2, "there is no toy/none\n0 refused, 1 not refused\n"), run(self.room(toy({})), "toy/none"))
 
 
 class Batches(Room):
     def test_two_edits_of_one_arm_are_not_tried_together(self):
-        crate = Repository(self.room({"crates.txt": "toy:\n", **crate_files("toy", CODE, EDITS)})).crates["toy"]
+        crate = Repository(self.room(toy(EDITS))).crates["toy"]
         names = [[it.short for it in batch] for batch in batches_of([it for it in crate.edits if it.function == "order"], lambda one, other: one.clashes(other))]
         self.assertEqual([["order.green_is_red", "order.red_is_green"], ["order.red_is_nothing"]], names)
 
 
 class Census(Room):
     def lacks(self, edits, implied=""):
-        files = {"crates.txt": "toy:\n", **crate_files("toy", CODE, edits), "crates/toy/wrong/implied": implied}
+        files = {**toy(edits), "crates/toy/wrong/implied": implied}
         with mock.patch.dict(census.EACH_CLAUSE, {"toy": ["next"]}):
             return list(census.census(Repository(self.room(files))))
 
     def test_what_lacks_its_edit_is_told(self):
-        self.assertEqual(["toy: no edit of twice", "toy: no edit names next up"], self.lacks({it: EDITS[it] for it in ("next.a_constant_named", "order.red_is_green")}))
-        named = {it: EDITS[it] for it in ("next.a_constant_named", "order.red_is_green", "sum.stands_for_twice")}
+        self.assertEqual(["toy: no edit of twice", "toy: no edit of the law a_number_is_below_the_next", "toy: no edit names next up"], self.lacks({it: EDITS[it] for it in ("next.a_constant_named", "order.red_is_green")}))
+        named = {it: EDITS[it] for it in ("next.a_constant_named", "order.red_is_green", "sum.stands_for_twice", "after.the_same")}
         self.assertEqual([], self.lacks(named, "# what follows\nimplied: next up by next\n"))
 
     def test_a_line_that_says_nothing_is_told(self):
