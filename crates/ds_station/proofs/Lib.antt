@@ -6,3 +6,4 @@ pub mod Quiet
 pub mod Guarded
 mod Reading
 pub mod Showing
+pub mod Alone

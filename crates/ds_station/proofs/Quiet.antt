@@ -50,7 +50,7 @@ one_value : {A E : Type 0} (x y : A) → ◌≡◌ {A = Result A E} (Ok x) (Ok y
 one_value x y e = cc
 
 -- where Random starts makes no difference to the first state
-one_first_under : (policy : PolicyValue) (sources : Sources) (input : List ℕ) (n r s : ℕ) (m t : State) → inputs_under policy sources input n r ≡ Ok m → inputs_under policy sources input n s ≡ Ok t → m ≡ t
+pub one_first_under : (policy : PolicyValue) (sources : Sources) (input : List ℕ) (n r s : ℕ) (m t : State) → inputs_under policy sources input n r ≡ Ok m → inputs_under policy sources input n s ≡ Ok t → m ≡ t
 one_first_under policy sources input n r s m t h g =
     let a = made_under policy sources input n r m h in
     let b = made_under policy sources input n s t g in

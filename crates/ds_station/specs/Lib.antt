@@ -4,3 +4,4 @@ pub mod Runs
 pub mod Headline
 pub mod Written
 pub mod Reads
+pub mod Alone

@@ -6,6 +6,7 @@ ghost use Rattle.std.specs.Prelude.{
   List,
   map,
   length,
+  Bool,
   Option,
   OnOk,
   OnErr,
@@ -15,6 +16,7 @@ ghost use Rattle.std.specs.Prelude.{
   [],
   None,
   false,
+  true,
   Ok,
 };
 ghost use Rattle.std.specs.Io.KnownBytes.{Appends};
@@ -46,7 +48,12 @@ ghost use Rattle.ds_station.specs.Headline.{
   sources_seen,
 };
 ghost use Rattle.ds_pagemap.specs.Machine.{State};
+ghost use Rattle.ds_policy.specs.PolicyFacts.{IsGoodPolicy};
 ghost use Rattle.ds_quiet.specs.Quiet.{IsQuiet};
+ghost use Rattle.ds_alone.specs.Deeds.{AsksNothing};
+ghost use Rattle.ds_alone.specs.Tests.{is_alone, nobody_may_give};
+ghost use Rattle.ds_alone.specs.Touched.{IsQuietAlone};
+ghost use Rattle.ds_station.specs.Alone.{WritesAlone};
 ghost use Rattle.ds_station.specs.Written.{
   WritesUntouched,
   WritesGuarded,
@@ -212,6 +219,11 @@ pub fn run_files<W: Write>(
         → inputs policy.now (sources_seen sources.now) input.now n start ≡ Ok first
         → IsQuiet n first
         → OnOk result (WritesUntouched (W.contents out.old) (W.contents out.new) n first) }
+    ensures alone { (listens : Bool) (p start : ℕ) (first : State)
+        → inputs policy.now (sources_seen sources.now) input.now n start ≡ Ok first
+        → is_alone listens p first ≡ true → nobody_may_give first ≡ true
+        → AsksNothing listens p first → IsQuietAlone p first
+        → OnOk result (WritesAlone (W.contents out.old) (W.contents out.new) p first) }
 {
     let policy = match Policy::read(alloc, policy) {
         Ok(policy) => policy,
@@ -255,6 +267,11 @@ pub fn run_policy<W: Write>(
         → inputs_under policy.now (sources_seen sources.now) input.now n start ≡ Ok first
         → IsQuiet n first
         → OnOk result (WritesUntouched (W.contents out.old) (W.contents out.new) n first) }
+    ensures alone { (listens : Bool) (p start : ℕ) (first : State) → IsGoodPolicy policy.now
+        → inputs_under policy.now (sources_seen sources.now) input.now n start ≡ Ok first
+        → is_alone listens p first ≡ true → nobody_may_give first ≡ true
+        → AsksNothing listens p first → IsQuietAlone p first
+        → OnOk result (WritesAlone (W.contents out.old) (W.contents out.new) p first) }
 {
     let mut station = match prepare(alloc, policy, sources, input, n, random) {
         Ok(station) => station,

@@ -38,6 +38,7 @@ ghost use Rattle.ds_refinement.specs.Written.{KeepsWritten};
 ghost use Rattle.ds_refinement.specs.Runs.{RunsTo, RunsInTime, RunsWithin, held_goes_on};
 ghost use Rattle.ds_station.specs.Faults.{IsFaultAfter, IsStartFault, RefusesStep};
 ghost use Rattle.ds_station.specs.Runs.{IsCut};
+ghost use Rattle.ds_station.specs.Alone.{RunsAlone};
 ghost use Rattle.ds_quiet.specs.Quiet.{IsQuiet};
 ghost use Rattle.ds_quiet.specs.Twins.{HaveRegisters};
 ghost use Rattle.ds_station.specs.Written.{RunsGuarded, ShowsUntouched};
@@ -187,7 +188,7 @@ impl<L: Lookaside> Station<L> {
     /// have ended: at most a turn for each tick that is left. Where that is so already nothing changes.
     /// After a failure it answers `Failed`, and nothing changes. No two entries of the buffer match the
     /// same page.
-    #[tactic(auto, using(crate::proofs::Runs::sound_single, crate::proofs::Runs::ran_to, crate::proofs::Runs::ran_in_time, crate::proofs::Runs::cut_in_time, crate::proofs::Runs::cut_within, crate::proofs::Runs::cut_after, crate::proofs::Guarded::run_guarded, crate::proofs::Guarded::cut_guarded))]
+    #[tactic(auto, using(crate::proofs::Runs::sound_single, crate::proofs::Runs::ran_to, crate::proofs::Runs::ran_in_time, crate::proofs::Runs::cut_in_time, crate::proofs::Runs::cut_within, crate::proofs::Runs::cut_after, crate::proofs::Guarded::run_guarded, crate::proofs::Guarded::cut_guarded, crate::proofs::Alone::run_alone, crate::proofs::Alone::cut_alone))]
     pub fn run(&mut self, n: u64) -> Result<(), Fault>
         requires { n ≤ 1000000000 }
         ensures ok { OnOk result (RunsTo n self.old self.new) }
@@ -213,6 +214,7 @@ impl<L: Lookaside> Station<L> {
         ensures guarded { RunsGuarded n self.old self.new }
         ensures quiet { (m : State) → Stands self.old m → HaveRegisters m → IsQuiet n m
             → OnOk result (ShowsUntouched n m self.new) }
+        ensures alone { RunsAlone n self.old self.new }
     {
         Ok(self.parts.run(n)?)
     }

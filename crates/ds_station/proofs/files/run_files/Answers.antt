@@ -6,6 +6,7 @@ use Rattle.ds_station.proofs.Headlines.{refused_unwritten, refused_really, refus
 use Rattle.ds_station.proofs.Preparing.{refused_by_policy, under_policy, under_policy_by}
 use Rattle.ds_station.proofs.Guarded.{files_guarded_if, files_cut_if}
 use Rattle.ds_station.proofs.Quiet.{files_quiet_if}
+use Rattle.ds_station.proofs.Alone.{files_alone_if}
 use Rattle.ds_station.proofs.files.run_files.Goals as goal
 
 pub returns-in-Err-clause-err : goal.returns-in-Err-clause-err
@@ -50,3 +51,6 @@ returns-clause-guarded_so_far g c = files_cut_if c.run_policy.result _ _ _ c.arg
 
 pub returns-clause-quiet : goal.returns-clause-quiet
 returns-clause-quiet g c = λ start first is q. files_quiet_if c.run_policy.result _ _ _ c.args.n c.args.random start _ _ first (returns-clause-ok g c) is q
+
+pub returns-clause-alone : goal.returns-clause-alone
+returns-clause-alone g c = λ listens p start first is here stingy asks quiet. files_alone_if c.run_policy.result listens _ _ _ c.args.n c.args.random start p _ _ first (returns-clause-ok g c) is here stingy asks quiet

@@ -4,6 +4,7 @@ use Rattle.ds_station.specs.Headline.{Refuses}
 use Rattle.ds_station.proofs.Headlines.{writes_whole, really_if, ran_short, part_written, cut_really, part_really, refused_really, refused_only, keeps_same}
 use Rattle.ds_station.proofs.Guarded.{policy_guarded_if, policy_cut_if}
 use Rattle.ds_station.proofs.Quiet.{policy_quiet_if}
+use Rattle.ds_station.proofs.Alone.{policy_alone_if}
 use Rattle.ds_station.specs.declared.fault.Fault.TheVariants as fault
 use Rattle.ds_station.proofs.files.run_policy.Goals as goal
 
@@ -58,3 +59,6 @@ returns-in-Ok-deliver-clause-quiet g c = λ start first is q. policy_quiet_if c.
 
 pub returns-clause-guarded_so_far : goal.returns-clause-guarded_so_far
 returns-clause-guarded_so_far g c = policy_cut_if {T = Unit {0}} (Err fault.WriteFault) _ _ _ c.args.n c.args.random _ _ (returns-clause-err g c)
+
+pub returns-in-Ok-deliver-clause-alone : goal.returns-in-Ok-deliver-clause-alone
+returns-in-Ok-deliver-clause-alone g c = λ listens p start first good is here stingy asks quiet. policy_alone_if c.run-ran.result listens _ _ _ c.args.n c.args.random start p _ _ first good (returns-in-Ok-deliver-clause-ok g c) is here stingy asks quiet
