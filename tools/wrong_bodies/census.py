@@ -24,44 +24,41 @@ def census(repository):
 
 def lacks_of(repository, crate):
     """Returns what the edits of a crate lack."""
-    sources, implied, none = crate.sources, set(), set()
+    sources, implied = crate.sources, set()
+    public = {it.function: it for it in sources.by_name.values() if it.is_public}
     key = lambda body: body.method if body.method in repository.methods else body.function
+    keys = lambda name: {key(body) for body in sources.named(name)}
+    tried = {key(public[it]) for edit in crate.edits for it in edit.functions if it in public}
+    tried |= {it for edit in crate.edits for law in edit.laws for it in keys(law)}
+    for name in (it[0].rpartition("/") for other in repository.crates.values() for edit in other.edits for it in edit.stands):
+        tried |= keys(name[2]) if name[0] in ("", crate.name) else set()
     file = Path(crate.folder, "wrong/implied")
     for text in file.read_text("utf-8").split("\n") if file.is_file() else []:
         it = LINE.fullmatch(text)
-        bodies = sources.named(it["function"] or it["none"]) if it and (it["function"] or it["none"]) else []
+        bodies = sources.named(it["function"] or it["none"] or "") if it else []
         names = [it["clause"], *it["by"].split()] if it and it["clause"] else []
         if not it or (it["function"] or it["none"]) and not bodies or not all(name in crate.clauses_of(bodies[0]) for name in names):
             yield f"{crate.name}/wrong/implied: there is nothing of this line: {text}"
         elif names:
             implied |= {(key(body), names[0]) for body in bodies}
         else:
-            none |= {key(body) for body in bodies}
-    own = [it for edit in crate.edits for it in edit.functions if it in sources.by_name]
-    tried = {key(sources.by_name[it]) for it in own} | {key(body) for edit in crate.edits for law in edit.laws for body in sources.named(law)} | none
-    for other in repository.crates.values():
-        for name in (function.rpartition("/") for edit in other.edits for function, *_ in edit.stands):
-            tried |= {key(body) for body in (sources.named(name[2]) if name[0] in ("", crate.name) else ())}
-    for body in sources.by_name.values():
-        if body.is_public and (not body.method or body.method in repository.methods) and key(body) not in tried:
+            tried |= {key(body) for body in bodies}
+    for body in public.values():
+        if (not body.method or body.method in repository.methods) and key(body) not in tried:
             yield f"{crate.name}: no edit of {'the law ' if body.is_law else ''}{body.function}"
-    named = {pair for edit in crate.edits for _, pairs in edit.named_clauses() for pair in pairs}
-    each = each_clause_of(crate)
+    named = implied | {pair for edit in crate.edits for _, pairs in edit.clauses for pair in pairs}
+    each = each_clause_of(crate.name, public.values())
     for body in each.values():
-        pairs = [(key(body), clause) for clause in crate.clauses_of(body)[:-1]]
-        yield from (f"{crate.name}: no edit names {function} {clause}" for function, clause in pairs if (function, clause) not in named | implied)
-    for body in (it for it in sources.by_name.values() if it.is_public):
+        yield from (f"{crate.name}: no edit names {key(body)} {it}" for it in crate.clauses_of(body)[:-1] if (key(body), it) not in named)
+    for body in public.values():
         count = sum(edit.function == body.function for edit in crate.edits)
         most = MOST_OF_ONE + (len(crate.clauses_of(body)[:-1]) if key(body) in each else 0)
         if count > most:
             yield f"{crate.name}: {count} edits of {body.function}, more than {most}"
 
 
-def each_clause_of(crate):
+def each_clause_of(crate, bodies):
     """Returns by name the functions of a crate of which each clause is named, of a trait's method that of one type."""
-    found = {}
-    for word in EACH_CLAUSE.get(crate.name, ()):
-        is_all, words = word.endswith("*"), f"::{word.rstrip('*')}"
-        fits = lambda name: words in f"::{name}" if is_all else f"::{name}".endswith(words)
-        found.update({it.method or it.function: it for it in crate.sources.by_name.values() if it.is_public and (fits(it.function) or fits(it.method))})
-    return found
+    words = [f"::{it}" for it in EACH_CLAUSE.get(crate, ())]
+    fits = lambda name: any(f"::{name}".endswith(it) or it.endswith("*") and it[:-1] in f"::{name}" for it in words)
+    return {it.method or it.function: it for it in bodies if fits(it.function) or fits(it.method)}

@@ -1,7 +1,6 @@
 """The crates of a repository, and their wrong bodies: what each changes, what it turns wrong, and what has to refuse it."""
 import os
 import re
-import threading
 from pathlib import Path
 
 from .sources import Sources
@@ -14,69 +13,60 @@ class Edit:
     """A file of `file:`, `old:` and `new:` lines, over one file of src/ or of specs/. docs/gate.md has its other lines."""
 
     def __init__(self, path, crate):
-        self.crate, self.name, self.short = crate, path.name, path.stem
-        self.verdict, self.why = "", ""
+        self.crate, self.name, self.verdict, self.why = crate, path.name, "", ""
         self.words = path.read_text("utf-8", "replace")
         lines = lambda head: [it.split() for it in re.findall(rf"(?m)^{head}: *(.+)", self.words)]
-        self.rows, self.laws = ([it for line in lines(head) for it in line] for head in ("row", "law"))
-        self.clauses, self.stands = [tuple(it) for it in lines("clause")], [tuple(it) for it in lines("stands for")]
+        self.rows, self.laws, self.stands = sum(lines("row"), []), sum(lines("law"), []), lines("stands for")
         # (by function the arms that it changes, or none where it may change all; the first has to be refused)
         self.functions = {name: frozenset(arms) for name, *arms in lines("function")}
         self.names_arms = any(self.functions.values())
         files = sorted({it[0] for it in lines("file")})
         self.file, self.is_turned = "".join(files[:1]), "".join(files[:1]).startswith("specs/")
-        self.unreadable = self.apply(files) or self.found()
-        if self.unreadable:
-            self.fail("BAD EDIT", self.unreadable)
+        # (the first function, those of which a check is asked, and each clause that it names, with the functions, and methods of a trait, that it may be of)
+        self.function, self.asked, self.clauses = "", [], []
+        unreadable = self.apply(files) or self.find(lines("clause"))
+        if unreadable:
+            self.tell("BAD EDIT", unreadable)
 
     def apply(self, files):
-        """Makes the edited text of the file, and returns why it cannot be made, if so."""
+        """Finds what it puts in place of what, and returns why it cannot be applied, if so."""
         if OTHER.search(self.words):
             return f"no line begins so: {OTHER.search(self.words)[0]}"
         if len(files) != 1 or self.file not in self.crate.texts:
             return f"it has to name one file of src/ or specs/, and no test's: {files}"
-        was = self.text = self.crate.texts[self.file]
+        was = text = self.crate.texts[self.file]
         for old, new in PAIR.findall(self.words):
-            if self.text.count(old) != 1:
-                return f"an 'old:' text is in {self.file} {self.text.count(old)} times, and not once"
-            self.text = self.text.replace(old, new)
-        self.start = len(os.path.commonprefix([was, self.text]))
-        same = len(os.path.commonprefix([was[self.start :][::-1], self.text[self.start :][::-1]]))
-        self.end, self.new = len(was) - same, self.text[self.start : len(self.text) - same]
-        return "it changes nothing" if self.text == was else ""
+            if text.count(old) != 1:
+                return f"an 'old:' text is in {self.file} {text.count(old)} times, and not once"
+            text = text.replace(old, new)
+        self.start = len(os.path.commonprefix([was, text]))
+        same = len(os.path.commonprefix([was[self.start :][::-1], text[self.start :][::-1]]))
+        self.end, self.new = len(was) - same, text[self.start : len(text) - same]
+        return "it changes nothing" if text == was else ""
 
-    def found(self):
+    def find(self, clauses):
         """Finds the function, with its arm, in whose body the edit lies, if it names none, and returns what it names that is not there."""
-        sources = self.crate.sources
-        lost = [f"function {it}" for it in self.functions if it not in sources.by_name] + [f"row {it}" for it in self.rows if not self.crate.declares(it)]
+        crate, sources = self.crate, self.crate.sources
+        around = lambda parts: [it for it in parts if it.start <= self.start and self.end <= it.end]
+        for body in [] if self.functions or self.is_turned else sorted(around(sources.bodies[self.file]), key=lambda it: it.end - it.start)[:1]:
+            arms = [it.name for it in sorted(around(body.arms), key=lambda it: it.start - it.end)[:1]]
+            # (goals are named after the constructor, so one that stands in two arms tells nothing)
+            self.functions = {body.function: frozenset(f"in-{it}" for it in arms if [other.name for other in body.arms].count(it) == 1)}
+        self.function = next(iter(self.functions), "")
+        # (a check cannot be asked of a trait's own body of a method, so the whole crate is checked then)
+        self.asked = [] if any(it.function in self.functions and it.is_default for it in sources.by_name.values()) else [*self.functions]
+        lost = [f"function {it}" for it in self.functions if it not in sources.by_name] + [f"row {it}" for it in self.rows if not crate.declares(it)]
         lost += [f"law {it}" for it in self.laws if not any(body.is_law for body in sources.named(it))]
-        if not self.functions and not self.is_turned:
-            around = [it for it in sources.bodies[self.file] if it.start <= self.start and self.end <= it.end]
-            if around:
-                body = min(around, key=lambda it: it.end - it.start)
-                arms = [it for it in body.arms if it.start <= self.start and self.end <= it.end]
-                arm = max(arms, key=lambda it: it.end - it.start).name if arms else None
-                # (goals are named after the constructor, so one that stands in two arms tells nothing)
-                is_one = [it.name for it in body.arms].count(arm) == 1
-                self.functions = {body.function: frozenset({f"in-{arm}"} if is_one else ())}
-        owners = {it: sources.named(it[0] if it[1:] else self.function) for it in self.clauses}
-        lost += [f"clause {' '.join(it)}" for it, bodies in owners.items() if len(it) > 2 or not any(it[-1] in self.crate.clauses_of(body) for body in bodies)]
-        lost += [f"public clause {' '.join(it)}" for it in self.stands if not self.crate.repository.has_public(*it)]
+        lost += [f"public clause {' '.join(it)}" for it in self.stands if not crate.repository.has_public(*it)]
+        for *function, clause in clauses:
+            bodies = [it for it in sources.named(*(function or [self.function])) if clause in crate.clauses_of(it)]
+            self.clauses.append((clause, {(name, clause) for it in bodies for name in (it.function, it.method)}))
+            lost += [] if bodies else [f"clause {' '.join([*function, clause])}"]
         return f"there is no {lost[0]}" if lost else ""
-
-    @property
-    def function(self):
-        """The function that has to be refused, or an empty text where none is known."""
-        return next(iter(self.functions), "")
-
-    def named_clauses(self):
-        """Returns each clause that it names, with the pairs of a function, or a method of a trait, and the clause."""
-        for *function, clause in self.clauses:
-            yield clause, {(name, clause) for it in self.crate.sources.named(*(function or [self.function])) for name in (it.function, it.method)}
 
     def is_named(self, name):
         """Returns whether a word CRATE or CRATE/EDIT names it."""
-        return name in (self.crate.name, f"{self.crate.name}/{self.short}", f"{self.crate.name}/{self.name}")
+        return name in (self.crate.name, f"{self.crate.name}/{self.name}", f"{self.crate.name}/{Path(self.name).stem}")
 
     def overlaps(self, other):
         """Returns whether the two change one text."""
@@ -91,10 +81,7 @@ class Edit:
         """Returns whether a goal of a function is of an arm that the edit changes."""
         return any(re.search(rf"(?:\A|-){re.escape(it)}(?!\w)", goal) for it in self.functions.get(function, ()))
 
-    def refuse(self, why):
-        self.verdict, self.why = "refused", why
-
-    def fail(self, verdict, why):
+    def tell(self, verdict, why):
         self.verdict, self.why = verdict, why
 
     def __str__(self):
@@ -109,11 +96,7 @@ class Crate:
         read = lambda pattern: {it.relative_to(self.folder).as_posix(): it.read_text("utf-8") for it in sorted(self.folder.glob(pattern))}
         self.sources, self.logic = Sources(read("src/**/*.rt")), {**read("specs/**/*.antt"), **read("proofs/**/*.antt")}
         self.texts = {**self.sources.texts, **{path: text for path, text in self.logic.items() if path.startswith("specs/")}}
-        self.edits = []
-
-    def read_edits(self):
-        """Reads its edits, once the clauses of all crates are known."""
-        self.edits = [Edit(it, self) for it in sorted(Path(self.folder, "wrong").glob("*.edit"))]
+        self.size = sum(map(len, [*self.sources.texts.values(), *self.logic.values()]))
 
     def declares(self, name):
         """Returns whether its definitions or proofs declare a name."""
@@ -132,14 +115,12 @@ class Repository:
         rows = [line.partition("#")[0].partition(":") for line in Path(self.root, "crates.txt").read_text("utf-8").split("\n")]
         self.crates = {name.strip(): Crate(self, name.strip(), below.split()) for name, _, below in rows if name.strip()}
         self.methods = {name: clauses for it in self.crates.values() for name, clauses in it.sources.methods.items()}
-        # (the libraries that this run had built, by name, with why one is not)
-        self.built, self.building = {}, threading.Lock()
         for it in self.crates.values():
-            it.read_edits()
+            it.edits = [Edit(path, it) for path in sorted(Path(it.folder, "wrong").glob("*.edit"))]
 
-    def below(self, crate):
-        """Returns the repository's crates on which one rests, lowest first."""
-        found, left = set(), [*crate.uses]
+    def below(self, *crates):
+        """Returns the repository's crates on which some rest, lowest first."""
+        found, left = set(), [it for crate in crates for it in crate.uses]
         while left:
             name = left.pop()
             if name in self.crates and name not in found:

@@ -7,6 +7,7 @@ import tempfile
 from pathlib import Path
 from typing import NamedTuple
 
+KIT = Path(shutil.which("rt") or "rt").resolve().parent.parent
 # A function's line names the goals that no search proved and no answer is written for.
 NOT_SEARCHED = re.compile(r"`search` did not prove ([^;]*)")
 # An error at an answer names its goal first.
@@ -16,11 +17,6 @@ NOT_OWN = re.compile(r"is not in scope|has no |is no name|not admitted|not prove
 # What says of a text of src/ or specs/ that it cannot be read, and not that a statement is false.
 IN_SOURCE = re.compile(r"(?:\./)?(?:src|specs)/\S+?:\d+:\d+: error(?:\[[\w-]+\])?: (?:(`[^`]*`): )?(.*)")
 UNREADABLE = re.compile(r"is not in scope|has no field|is no name|operand is missing|expected the end|cannot continue")
-STALE = re.compile(r"module .Rattle-(\w+)-.*Run the lower steps again")
-
-
-class CannotTry(Exception):
-    """Why a crate's wrong bodies cannot be tried."""
 
 
 class Said(NamedTuple):
@@ -44,14 +40,6 @@ def unquoted(words):
     return re.sub(r"`[^`]*`", "", words)
 
 
-def kit():
-    """Returns the folder of the toolchain."""
-    found = shutil.which("rt")
-    if not found:
-        raise CannotTry("there is no rt on the PATH")
-    return os.path.dirname(os.path.dirname(os.path.realpath(found)))
-
-
 def goals_in(lines, crate):
     """Returns by function the names of the goals that were not proved, the crate's name taken from the functions'. A closure's are its function's."""
     start, found = f"fn {crate}::", {}
@@ -67,24 +55,22 @@ def goals_in(lines, crate):
 
 
 class Prover:
-    """Checks one crate, over what its own checks kept in out/ and what those of this prover keep."""
+    """Checks one crate, over what its own checks kept in out/ and what those of this prover keep in a room."""
 
-    def __init__(self, repository, crate, room):
-        self.repository, self.crate, self.checks, self.seconds, self.kept = repository, crate, 0, 0.0, f"{room}/incremental"
-        own = Path(crate.folder, "out/incremental")
-        if own.is_dir():
-            # (rattle replaces the files of this folder and writes into none)
-            shutil.copytree(own, self.kept, copy_function=os.link)
+    def __init__(self, crate, room):
+        self.crate, self.seconds, self.kept = crate, 0.0, f"{room}/incremental"
+        if Path(crate.folder, "out/incremental").is_dir():
+            shutil.copytree(Path(crate.folder, "out/incremental"), self.kept)
 
     def words(self):
-        crate, repository = self.crate, self.repository
-        folder = lambda it: f"{repository.root}/crates/{it}/out/rlib" if it in repository.crates else f"{kit()}/rlibs"
+        crate, repository = self.crate, self.crate.repository
+        folder = lambda it: f"{repository.root}/crates/{it}/out/rlib" if it in repository.crates else f"{KIT}/rlibs"
         words = ["--crate-name", crate.name, "src/main.rt" if crate.sources.is_program else "src/lib.rt"]
         for it in ("std", *crate.uses):
             words += ["--extern", f"{it}={folder(it)}/{it}.rlib"]
         for it in sorted({folder("std"), *(folder(it.name) for it in repository.below(crate))}):
             words += ["-L", f"dependency={it}"]
-        return [*words, "--antt-project", f"{kit()}/rattle/logic/antt-project.json", "--logic-built", f"{kit()}/logic_built"]
+        return [*words, "--antt-project", f"{KIT}/rattle/logic/antt-project.json", "--logic-built", f"{KIT}/logic_built"]
 
     def check(self, edits, functions):
         """Checks a copy of the crate with these edits: the functions alone, or all where none is named."""
@@ -98,40 +84,23 @@ class Prover:
                     text = text[: it.start] + it.new + text[it.end :]
                 Path(copy, file).write_text(text, "utf-8")
             only = [word for it in sorted(set(functions)) for word in ("--only", it)]
-            words = [f"{kit()}/bin/rattle", "check", *self.words(), *only, "--incremental", self.kept, "--jobs", "1"]
+            words = [f"{KIT}/bin/rattle", "check", *self.words(), *only, "--incremental", self.kept, "--jobs", "1"]
             ran = subprocess.Popen(words, cwd=copy, stdin=subprocess.DEVNULL, stdout=said, stderr=subprocess.STDOUT)
             _, status, used = os.wait4(ran.pid, 0)
             ran.returncode = os.waitstatus_to_exitcode(status)
             said.seek(0)
             lines = said.read().decode("utf-8", "replace").rstrip("\n").split("\n")
-        self.checks, self.seconds = self.checks + 1, self.seconds + used.ru_utime + used.ru_stime
-        stale = [it[1] for it in map(STALE.search, lines) if it]
-        if stale:
-            raise CannotTry(f"the built library {stale[0]} is of another build: run `rt lib` in its folder")
+        self.seconds += used.ru_utime + used.ru_stime
         return Said(ran.returncode, lines, goals_in(lines, self.crate.name))
 
 
-def build_below(repository, crate):
-    """Has the libraries below a crate built, each once in a run."""
-    for it in repository.below(crate):
-        with repository.building:
-            if it.name not in repository.built:
-                repository.built[it.name] = "" if is_left_by_ci(it) else built(it)
-        if repository.built[it.name]:
-            raise CannotTry(f"its library {it.name} is not built: {repository.built[it.name]}")
-
-
-def is_left_by_ci(crate):
-    """Returns whether rt ci built a library, which it does without a stamp, from the texts that stand now. What it kept from an earlier run
-    has the time of that run, so the time counts at which it was put there."""
-    made = Path(crate.folder, "out/rlib", f"{crate.name}.rlib", "format")
-    if not made.is_file() or Path(crate.folder, "out/rlib/stamp").is_file():
-        return False
-    texts = [path for part in ("src", "specs", "proofs") for path in Path(crate.folder, part).rglob("*.*") if path.is_file()]
-    return all(it.stat().st_mtime <= made.stat().st_ctime for it in texts)
-
-
-def built(crate):
-    """Has rt build a library, unless what it built stands, and returns why it did not, if so."""
-    ran = subprocess.run(["rt", "lib"], cwd=crate.folder, stdin=subprocess.DEVNULL, stdout=subprocess.PIPE, stderr=subprocess.STDOUT, errors="replace")
-    return (ran.stdout.strip().splitlines() or ["rt lib failed"])[-1] if ran.returncode else ""
+def lacking_below(repository, crates):
+    """Returns the libraries below crates that rt cannot build, with what it said. It is asked for those that are older than their texts. (What
+    rt ci kept from an earlier run has the time of that run, so the time counts at which it was put there.)"""
+    for it in repository.below(*crates):
+        made = Path(it.folder, "out/rlib", f"{it.name}.rlib", "format")
+        texts = [path for part in ("src", "specs", "proofs") for path in Path(it.folder, part).rglob("*.*") if path.is_file()]
+        if not made.is_file() or any(path.stat().st_mtime > made.stat().st_ctime for path in texts):
+            ran = subprocess.run(["rt", "lib"], cwd=it.folder, stdin=subprocess.DEVNULL, stdout=subprocess.PIPE, stderr=subprocess.STDOUT, errors="replace")
+            if ran.returncode:
+                yield f"library {it.name}: {ran.stdout.strip()}"

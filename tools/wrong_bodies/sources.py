@@ -20,7 +20,8 @@ Arm = NamedTuple("Arm", [("name", str), ("start", int), ("end", int)])
 
 class Body(NamedTuple):
     """A function's body: its name as a check prints it, without the crate's; where it begins and ends; its arms; the method of a trait that it
-    implements, as `Trait::method`; its clauses, where it is no such method; and whether it is a law, a public function with an empty body."""
+    implements, as `Trait::method`, and whether it is the trait's own body of it; its clauses, where no trait has them; and whether it is a law, a
+    public function with an empty body."""
 
     function: str
     start: int
@@ -28,6 +29,7 @@ class Body(NamedTuple):
     is_public: bool
     arms: tuple
     method: str
+    is_default: bool
     clauses: tuple
     is_law: bool
 
@@ -87,10 +89,6 @@ class Sources:
         """Returns the functions whose name, or end of it, this is; a method of a trait stands for itself in each type."""
         return [it for it in self.by_name.values() if f"::{it.function}".endswith(f"::{words}") or it.method and f"::{it.method}".endswith(f"::{words}")]
 
-    def is_public(self, function):
-        """Returns whether callers outside the crate may call a function."""
-        return function in self.by_name and self.by_name[function].is_public
-
     def bodies_of(self, path, code):
         """Returns the bodies of a file's functions, and notes the methods of its traits."""
         ends, modules = closed(code), modules_of(path)
@@ -106,7 +104,7 @@ class Sources:
                 is_public = bool(head["public"] or trait) and self.is_reached(modules, of_type)
                 is_law = is_public and not trait and not code[at + 1 : end - 1].strip()
                 method = trait and f"{trait}::{head['name']}"
-                yield Body("::".join([*names, head["name"]]), at, end, is_public, tuple(arms_in(code, ends, at, end)), method, clauses, is_law)
+                yield Body("::".join([*names, head["name"]]), at, end, is_public, tuple(arms_in(code, ends, at, end)), method, is_declared, clauses, is_law)
 
     def blocks(self, path, code, ends):
         """Returns the blocks of a file that hold methods: start, end, the names that lead to a method, its type, its trait, and whether that is declared there."""

@@ -6,12 +6,9 @@ proved, and says that a goal is not proved only of a goal of its own. So an edit
 function, or arm, is not proved, and no goal of a function that no edit of the batch names. All else is tried alone.
 """
 import re
-import subprocess
-import tempfile
-from pathlib import Path
 
 from .edits import Edit
-from .prover import NOT_OWN, kit, unquoted
+from .prover import NOT_OWN, unquoted
 
 # Goals of a loop's invariant, which stands in proofs/; the clause that a goal is of.
 LOOP_GOAL = re.compile(r"-(?:init|preserved|smaller)(?:-|\Z)")
@@ -26,7 +23,7 @@ def clause_of(crate, function, goal):
         return ""
     clauses = crate.clauses_of(crate.sources.by_name[function])[:-1] if function in crate.sources.by_name else ()
     named = CLAUSE_GOAL.search(goal)
-    return "invariant" if goal.startswith("invariant_of-") else named[1] if named else clauses[0] if len(clauses) == 1 else "ensures"
+    return "invariant" if goal.startswith("invariant_of-") else named[1] if named else "ensures" if "ensures" in clauses else " or ".join(clauses)
 
 
 def batches_of(edits, clash):
@@ -38,57 +35,42 @@ def batches_of(edits, clash):
     return batches
 
 
-def halves(batch):
-    return batch[: len(batch) // 2], batch[len(batch) // 2 :]
-
-
 def read_edits(prover, edits):
-    """Has the prover's front end read edits, as many together as there may be, and marks those that are no code over today's text. Of a
-    turned definition it is told here whether it parses, and when it is tried whether its names are known."""
-    for it in (it for it in edits if it.is_turned):
-        with tempfile.TemporaryDirectory(prefix="wrong-bodies-") as room:
-            Path(room, "0.antt").write_text(it.text, "utf-8")
-            words = [f"{kit()}/bin/rattle", "fmt", "--write", "0.antt"]
-            ran = subprocess.run(words, cwd=room, stdin=subprocess.DEVNULL, stdout=subprocess.PIPE, stderr=subprocess.STDOUT, errors="replace")
-        if ran.returncode:
-            it.fail("BAD EDIT", f"it is no definition: {ran.stdout.strip().partition(': ')[2] or ran.stdout}".split("\n")[0])
-    left = batches_of([it for it in edits if not it.is_turned], Edit.overlaps)
+    """Has the prover's front end read edits, as many together as there may be, and marks those that are no code over today's text."""
+    left = batches_of(edits, Edit.overlaps)
     while left:
         batch = left.pop()
         said = prover.check(batch, [""])
         if said.status and len(batch) > 1:
-            left += halves(batch)
+            left += [batch[: len(batch) // 2], batch[len(batch) // 2 :]]
         elif said.status:
-            batch[0].fail("BAD EDIT", f"it is no code: {said.complaint()}")
+            batch[0].tell("BAD EDIT", f"it is no code: {said.complaint()}")
 
 
 def try_edits(prover, edits):
     """Tries edits of a crate, those of code in batches. Where a check of a batch can't tell, it is halved; an edit that a batch does not refuse is tried
-    alone by its functions, one that names none by the whole crate, and so is a turned definition."""
-    alone = [it for it in edits if it.is_turned or not it.functions]
-    left = batches_of([it for it in edits if it not in alone], Edit.clashes)
+    alone by its functions, one that can be asked of none by the whole crate, and so is a turned definition."""
+    left = batches_of([it for it in edits if it.asked and not it.is_turned], Edit.clashes)
     while left:
         batch = left.pop()
-        functions = [name for it in batch for name in it.functions]
+        functions = [name for it in batch for name in it.asked]
         said = prover.check(batch, functions) if len(batch) > 1 else None
         if said and said.could_read() and set(said.goals) <= set(functions):
             for it in batch:
                 judge(it, goals_of(it, said, batch))
-            alone += [it for it in batch if it.verdict != "refused"]
         elif said:
-            left += halves(batch)
-        else:
-            alone += batch
-    for it in alone:
-        said = prover.check([it], it.functions)
+            left += [batch[: len(batch) // 2], batch[len(batch) // 2 :]]
+    for it in (it for it in edits if it.verdict != "refused"):
+        said = prover.check([it], it.asked)
+        goals = [(name, goal) for name, goals in said.goals.items() for goal in goals]
         if not said.could_read():
-            it.fail("BAD EDIT" if it.is_turned else "NOT TRIED", f"the prover cannot read it, or could not tell: {said.complaint()}")
+            it.tell("BAD EDIT" if it.is_turned else "NOT TRIED", f"the prover cannot read it, or could not tell: {said.complaint()}")
         elif said.status == 0:
-            it.fail("NOT REFUSED", "the crate is still proved with this edit")
+            it.tell("NOT REFUSED", "the crate is still proved with this edit")
         elif it.is_turned:
-            judge_turned(it, said)
+            judge_turned(it, said, goals)
         else:
-            judge(it, [(name, goal) for name, goals in said.goals.items() for goal in goals])
+            judge(it, goals)
 
 
 def goals_of(edit, said, batch):
@@ -107,38 +89,38 @@ def goals_of(edit, said, batch):
 def clauses_among(crate, goals):
     """Returns the functions and clauses that goals are of, and those among them that are public."""
     found = list(dict.fromkeys((function, clause) for function, goal in goals if (clause := clause_of(crate, function, goal))))
-    return found, [it for it in found if crate.sources.is_public(it[0])]
+    return found, [it for it in found if it[0] in crate.sources.by_name and crate.sources.by_name[it[0]].is_public]
 
 
 def judge(edit, goals):
     """Gives an edit of code its verdict: refused are those by a public clause, all that it names among them, or those that stand for one."""
     found, public = clauses_among(edit.crate, goals)
     owed = [" ".join(it) for it in found] or [" ".join(it) for it in goals if it[1] and not LOOP_GOAL.search(it[1])]
-    other = [clause for clause, pairs in edit.named_clauses() if not pairs & set(found)]
+    other = [clause for clause, pairs in edit.clauses if not pairs & set(found)]
     if other:
-        edit.fail("NOT REFUSED", f"not by the clause {other[0]} that it names; refused by {', '.join(owed) or 'a step of its proof alone'}")
+        edit.tell("NOT REFUSED", f"not by the clause {other[0]} that it names; refused by {', '.join(owed) or 'a step of its proof alone'}")
     elif public:
-        edit.refuse(", ".join(map(" ".join, public)))
+        edit.tell("refused", ", ".join(map(" ".join, public)))
     elif edit.stands and owed:
-        edit.refuse(f"{owed[0]}, which stands for {' '.join(edit.stands[0])}")
+        edit.tell("refused", f"{owed[0]}, which stands for {' '.join(edit.stands[0])}")
     else:
-        edit.fail("NOT REFUSED", f"by no public clause, but by {owed[0]}, and it names none that this stands for" if owed else "by a step of its proof alone")
+        edit.tell("NOT REFUSED", f"by no public clause, but by {owed[0]}, and it names none that this stands for" if owed else "by a step of its proof alone")
 
 
-def judge_turned(edit, said):
+def judge_turned(edit, said, goals):
     """Gives a turned definition its verdict: each row that it names has to be refused, or else each law, or some row, law or public clause."""
     sources = edit.crate.sources
     errors = [it for it in map(REFUSED.match, said.lines) if it and not NOT_OWN.search(unquoted(it["why"]))]
     rows = [it["name"] for it in errors if it["file"].endswith("Rows")]
     laws = [it[1] for it in map(NOT_PROVED.match, said.lines) if it and it[1] in sources.by_name and sources.by_name[it[1]].is_law]
-    clauses = [" ".join(it) for it in clauses_among(edit.crate, [(name, goal) for name, goals in said.goals.items() for goal in goals])[1] if it[0] not in laws]
+    clauses = [" ".join(it) for it in clauses_among(edit.crate, goals)[1] if it[0] not in laws]
     left = [f"row {it}" for it in edit.rows if it not in rows]
     left += [f"law {it}" for it in edit.laws if not edit.rows and not any(body.function in laws for body in sources.named(it))]
     told = [*(f"the row {it}" for it in edit.rows or rows[:1]), *(f"the law {it}" for it in laws[:3]), *clauses[:1]]
+    edit.laws += laws
     if left:
-        edit.fail("NOT REFUSED", f"the {left[0]} still holds; refused is {', '.join([*rows, *laws, *(it['name'] for it in errors)][:3])}")
+        edit.tell("NOT REFUSED", f"the {left[0]} still holds; refused is {', '.join([*rows, *laws, *(it['name'] for it in errors)][:3])}")
     elif told:
-        edit.refuse(", ".join(told))
-        edit.laws += laws
+        edit.tell("refused", ", ".join(told))
     else:
-        edit.fail("NOT REFUSED", f"by no row, law or public clause, but by {said.complaint()}")
+        edit.tell("NOT REFUSED", f"by no row, law or public clause, but by {said.complaint()}")
