@@ -7,6 +7,7 @@ use Rattle.ds_tlb.specs.declared.entry.Entry.{Entry}
 use Rattle.ds_tlb.specs.Singles.{match_each_other}
 use Rattle.ds_tlb.specs.Words.{entry_of}
 use Rattle.ds_cp0.specs.System.{System}
+use Rattle.ds_dev.specs.Bus.{BusState}
 use Rattle.ds_core.specs.Core.{CoreState}
 use Rattle.ds_bare.specs.declared.ending.Ending.{Ending}
 use Rattle.ds_bare.specs.declared.ending.Ending.TheVariants.{Counted, Finished, AtGeneralVector, NoHandler}
@@ -93,9 +94,9 @@ unfoldable pub lines_text : List (ℕ × ℕ) → List ℕ
 lines_text sent = sent_text 0 sent ++ sent_text 1 sent ++ sent_text 2 sent ++ sent_text 3 sent
 
 -- the processor
-unfoldable pub core_text : CoreState → List ℕ
-core_text c = registers_text 0 (seen c.registers) ++ registers_text 32 (others c) ++ random_text c.random ++ entries_text 0 c.entries ++ matches_text 0 c.entries
+unfoldable pub core_text : CoreState → BusState → List ℕ
+core_text c b = registers_text 0 (seen c.registers) ++ registers_text 32 (others c b) ++ random_text c.random ++ entries_text 0 c.entries ++ matches_text 0 c.entries
 
 -- the text of the end, after so many instructions
 unfoldable pub end_text : Ending → ℕ → Machine → List ℕ
-end_text e k m = headline e k m.core.system ++ core_text m.core ++ lines_text m.sent
+end_text e k m = headline e k m.core.system ++ core_text m.core m.bus ++ lines_text m.sent

@@ -4,18 +4,22 @@ use Rattle.std.specs.Io.KnownBytes.{Appends}
 use Rattle.ds_policy.specs.declared.command.Character.{Character}
 use Rattle.ds_bare.specs.declared.ending.Ending.{Ending}
 use Rattle.ds_bare.specs.declared.ending.Ending.TheVariants.{Counted}
-use Rattle.ds_bare.specs.Machine.{Machine, machine_at_start, fed, stepped, settled}
-use Rattle.ds_bare.specs.Endings.{ending_of}
-use Rattle.ds_bare.specs.Steps.{step_text}
+use Rattle.ds_bare.specs.Machine.{Machine, machine_at_start, fed, next_step, stepped, settled}
+use Rattle.ds_bare.specs.Endings.{ending_of, word_at_pc}
+use Rattle.ds_bare.specs.Steps.{before_word, line_text, others}
 use Rattle.ds_bare.specs.Ends.{end_text}
 
 -- the machine after one more instruction, when so many are done
 unfoldable pub turned : ℕ → Machine → Machine
 turned k m = settled (stepped (fed k m))
 
--- what is told of that instruction
+-- the line of that instruction: with it, the characters before it and the tick after it
+unfoldable pub turn_text : ℕ → Machine → List ℕ
+turn_text k m = line_text (k + 1) (before_word (fed k m).core (others m.core m.bus) (word_at_pc (fed k m).core (fed k m).bus)) (next_step (fed k m)).event (turned k m).core (turned k m).bus
+
+-- what is told of it
 unfoldable pub told : Bool → ℕ → Machine → List ℕ
-told quiet k m = if quiet then [] else step_text (k + 1) (fed k m)
+told quiet k m = if quiet then [] else turn_text k m
 
 -- why the run ends with it, if it does
 unfoldable pub ended : ℕ → Machine → Option Ending

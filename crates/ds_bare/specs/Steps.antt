@@ -19,12 +19,10 @@ use Rattle.ds_dev.specs.Bus.{BusState, is_memory}
 use Rattle.ds_core.specs.declared.event.Event.{Event}
 use Rattle.ds_core.specs.declared.event.Event.TheVariants.{Retired, Branched, Raised}
 use Rattle.ds_core.specs.Access.{mode_of}
-use Rattle.ds_core.specs.Coprocessor.{indexed}
+use Rattle.ds_core.specs.Coprocessor.{indexed, system_reads}
 use Rattle.ds_core.specs.Core.{CoreState}
 use Rattle.ds_bare.specs.declared.before.Before.{Before}
 use Rattle.ds_bare.specs.declared.before.Stored.{Stored}
-use Rattle.ds_bare.specs.Endings.{word_at_pc}
-use Rattle.ds_bare.specs.Machine.{Machine, next_step, stepped}
 
 -- a register's name, by its number: 0 to 31 are the general ones
 unfoldable pub name_of : ℕ → List ℕ
@@ -49,12 +47,12 @@ seen_by (Some l) general = slice_set general l.register l.old
 abbrev pub seen : Registers → List ℕ
 seen r = seen_by r.late r.general
 
--- HI, LO, and the coprocessor's registers, in the order of their names
-unfoldable pub others : CoreState → List ℕ
-others c =
+-- HI, LO, and the coprocessor's registers as `mfc0` reads them, in the order of their names
+unfoldable pub others : CoreState → BusState → List ℕ
+others c b =
     c.registers.hi ∷ c.registers.lo
     ∷ c.system.index ∷ c.system.entry_lo ∷ c.system.context ∷ c.system.bad_vaddr ∷ c.system.entry_hi
-    ∷ c.system.status ∷ c.system.cause ∷ c.system.epc ∷ []
+    ∷ c.system.status ∷ system_reads c b 13 ∷ c.system.epc ∷ []
 
 -- the slot of the buffer that an instruction writes, if it does
 abbrev pub slot_of : CoreState → Instr → Option ℕ
@@ -81,14 +79,14 @@ abbrev pub stored_by : CoreState → Option (ℕ × ℕ) → Option Stored
 stored_by c None = None
 stored_by c (Some s) = stored_at s.1 (translate c.entries (asid_of c.system) (mode_of c.system) Store s.0)
 
--- what of the machine before an instruction its line tells
-abbrev pub before_word : CoreState → Option ℕ → Before
-before_word c None = record { pc = c.pc; word = None; registers = seen c.registers; others = others c; slot = None; stored = None }
-before_word c (Some w) = record {
+-- what of the machine before an instruction its line tells, with its registers but the general ones
+abbrev pub before_word : CoreState → List ℕ → Option ℕ → Before
+before_word c others None = record { pc = c.pc; word = None; registers = seen c.registers; others = others; slot = None; stored = None }
+before_word c others (Some w) = record {
   pc = c.pc;
   word = Some w;
   registers = seen c.registers;
-  others = others c;
+  others = others;
   slot = slot_of c (instruction_of w);
   stored = stored_by c (store_of c.registers (instruction_of w));
 }
@@ -187,8 +185,8 @@ event_text Branched pc = []
 event_text (Raised code) pc = raised_text (number_of code) pc
 
 -- what all registers have that changed
-unfoldable pub registers_text : Before → CoreState → List ℕ
-registers_text before c = changes_text 0 before.registers (seen c.registers) ++ changes_text 32 before.others (others c)
+unfoldable pub registers_text : Before → CoreState → BusState → List ℕ
+registers_text before c b = changes_text 0 before.registers (seen c.registers) ++ changes_text 32 before.others (others c b)
 
 -- a step's number, its address and its instruction
 unfoldable pub front_text : ℕ → ℕ → Option ℕ → List ℕ
@@ -197,8 +195,4 @@ front_text k pc word = decimal k ++ codes " " ++ hex8 pc ++ codes " " ++ instruc
 -- the line of the step with this number
 unfoldable pub line_text : ℕ → Before → Event → CoreState → BusState → List ℕ
 line_text k before event c b =
-    front_text k before.pc before.word ++ written_text before event c b ++ registers_text before c ++ event_text event c.pc ++ codes "\n"
-
--- the line of a machine's next step
-unfoldable pub step_text : ℕ → Machine → List ℕ
-step_text k m = line_text k (before_word m.core (word_at_pc m.core m.bus)) (next_step m).event (stepped m).core (stepped m).bus
+    front_text k before.pc before.word ++ written_text before event c b ++ registers_text before c b ++ event_text event c.pc ++ codes "\n"

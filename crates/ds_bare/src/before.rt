@@ -5,7 +5,7 @@ ghost use Rattle.ds_isa.specs.Meaning.{address_of};
 ghost use Rattle.ds_bare.specs.Steps.{before_word, slot_of, store_of, stored_by};
 
 use crate::ending::{Processor, mode_of};
-use crate::registers::{others, read, seen};
+use crate::registers::{read, seen};
 use ds_amap::{Access, Physical, translate};
 use ds_cp0::register;
 use ds_isa::{Instr, decode};
@@ -27,6 +27,7 @@ pub(crate) struct Before {
     pub word: Option<u32>,
     /// The general registers, as the instruction reads them.
     pub registers: [u32; 32],
+    /// HI, LO, and the coprocessor's registers, before characters came in.
     pub others: [u32; 10],
     /// The slot of the buffer that it writes if it is done.
     pub slot: Option<usize>,
@@ -36,8 +37,8 @@ pub(crate) struct Before {
 
 impl Before {
     /// What is looked at before the instruction with this word.
-    pub fn of(core: &Processor, word: Option<u32>) -> Before
-        ensures { result ≡ before_word core.now word }
+    pub fn of(core: &Processor, others: [u32; 10], word: Option<u32>) -> Before
+        ensures { result ≡ before_word core.now others word }
     {
         let (slot, stored) = match word {
             Some(word) => {
@@ -50,7 +51,7 @@ impl Before {
             pc: core.pc,
             word,
             registers: seen(core),
-            others: others(core),
+            others,
             slot,
             stored,
         }

@@ -12,6 +12,7 @@ use crate::matches::{entries_of, push_entries, push_matches};
 use crate::names::{push_code, push_name};
 use crate::registers::{others, seen};
 use ds_cp0::{Cp0, register};
+use ds_dev::Bus;
 use ds_tlb::{Entry, Lookaside};
 use std::alloc::{AllocError, Global};
 
@@ -28,7 +29,7 @@ pub(crate) fn push_end<'a>(
         (string_bytes text.new ≡ string_bytes text.old ++ end_text ending done machine.now) }
 {
     push_headline(text, ending, done, &machine.core.cp0)?;
-    push_core(alloc, text, &machine.core)?;
+    push_core(alloc, text, &machine.core, &machine.bus)?;
     push_lines(text, &machine.sent)
 }
 
@@ -89,11 +90,17 @@ fn push_cause(text: &mut String, cp0: &Cp0) -> Result<(), AllocError>
 
 /// Adds the processor.
 #[tactic(auto, unfolding(crate::specs::Ends::core_text))]
-fn push_core(alloc: Global, text: &mut String, core: &Processor) -> Result<(), AllocError>
-    ensures { OnOk result (string_bytes text.new ≡ string_bytes text.old ++ core_text core.now) }
+fn push_core(
+    alloc: Global,
+    text: &mut String,
+    core: &Processor,
+    bus: &Bus,
+) -> Result<(), AllocError>
+    ensures { OnOk result
+        (string_bytes text.new ≡ string_bytes text.old ++ core_text core.now bus.now) }
 {
     push_registers(text, 0, &seen(core))?;
-    push_registers(text, 32, &others(core))?;
+    push_registers(text, 32, &others(core, bus))?;
     push_random(text, core.tlb.random())?;
     let entries = entries_of(alloc, core)?;
     push_entries(text, &entries)?;

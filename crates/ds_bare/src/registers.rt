@@ -1,10 +1,13 @@
 //! What the processor's registers hold.
 ghost use Rattle.std.specs.Prelude.{◌≡◌};
 ghost use Rattle.ds_isa.specs.Registers.{read};
+ghost use Rattle.ds_core.specs.Coprocessor.{system_reads};
 ghost use Rattle.ds_bare.specs.Steps.{others, seen};
 
 use crate::ending::Processor;
 use ds_cp0::register;
+use ds_dev::Bus;
+use ds_word::bit;
 
 /// The general registers, as the next instruction reads them.
 pub(crate) fn seen(core: &Processor) -> [u32; 32]
@@ -28,10 +31,18 @@ pub(crate) fn read(core: &Processor, register: u8) -> u32
     }
 }
 
-/// HI, LO, and the coprocessor's registers.
+/// Cause with the requests of the devices: IP2 in bit 10, IP3 in bit 11.
+fn cause(core: &Processor, bus: &Bus) -> u32
+    ensures { result ≡ system_reads core.now bus.now 13 }
+{
+    let (system, clock) = bus.lines();
+    core.cp0.read(register::CAUSE) | (bit(10, system) + bit(11, clock))
+}
+
+/// HI, LO, and the coprocessor's registers as `mfc0` reads them.
 #[tactic(auto, unfolding(crate::specs::Steps::others))]
-pub(crate) fn others(core: &Processor) -> [u32; 10]
-    ensures { result ≡ others core.now }
+pub(crate) fn others(core: &Processor, bus: &Bus) -> [u32; 10]
+    ensures { result ≡ others core.now bus.now }
 {
     [
         core.hi,
@@ -42,7 +53,7 @@ pub(crate) fn others(core: &Processor) -> [u32; 10]
         core.cp0.read(register::BAD_VADDR),
         core.cp0.read(register::ENTRY_HI),
         core.cp0.read(register::STATUS),
-        core.cp0.read(register::CAUSE),
+        cause(core, bus),
         core.cp0.read(register::EPC),
     ]
 }

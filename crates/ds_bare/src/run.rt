@@ -6,7 +6,7 @@ ghost use Rattle.ds_log.specs.Sent.{AppendsPart};
 ghost use Rattle.ds_bare.specs.Faults.{is_cut, may_start};
 ghost use Rattle.ds_bare.specs.Machine.{fed, machine_at_start, next_step};
 ghost use Rattle.ds_bare.specs.Endings.{word_at_pc};
-ghost use Rattle.ds_bare.specs.Steps.{before_word, line_text};
+ghost use Rattle.ds_bare.specs.Steps.{before_word, line_text, others};
 ghost use Rattle.ds_bare.specs.Ends.{end_text};
 ghost use Rattle.ds_bare.specs.Runs.{bare_text, ended, ending_from, run_from, told, turned};
 
@@ -15,6 +15,7 @@ use crate::end::push_end;
 use crate::ending::{Ending, ending_by, word_at_pc};
 use crate::fault::BareFault;
 use crate::machine::{Machine, core_at_start};
+use crate::registers::others;
 use crate::step::push_line;
 use ds_asm::Image;
 use ds_log::{Output, hand};
@@ -82,7 +83,7 @@ fn run<'a, O: Output>(
 
 /// Does one instruction, when so many are done, tells of it, and answers why the run ends with it.
 #[inline(always)]
-#[tactic(auto, unfolding(crate::specs::Runs::told, crate::specs::Runs::ended, crate::specs::Runs::turned, crate::specs::Endings::ending_of, crate::specs::Steps::step_text))]
+#[tactic(auto, unfolding(crate::specs::Runs::told, crate::specs::Runs::turn_text, crate::specs::Runs::ended, crate::specs::Runs::turned, crate::specs::Endings::ending_of))]
 fn turn<'a, O: Output>(
     machine: &mut Machine<'a>,
     done: u64,
@@ -99,20 +100,23 @@ fn turn<'a, O: Output>(
         (told quiet done machine.old)) }
     ensures cut { IfErr result (λ f. is_cut f ≡ true) }
 {
-    machine.feed(done);
-    let word = word_at_pc(&machine.core, &machine.bus);
     if quiet {
+        machine.feed(done);
+        let word = word_at_pc(&machine.core, &machine.bus);
         let event = machine.step();
         let ending = ending_by(word, event, &machine.core, &machine.bus);
         machine.settle()?;
         return Ok(ending);
     }
-    let before = Before::of(&machine.core, word);
+    let others = others(&machine.core, &machine.bus);
+    machine.feed(done);
+    let word = word_at_pc(&machine.core, &machine.bus);
+    let before = Before::of(&machine.core, others, word);
     let event = machine.step();
     let ending = ending_by(word, event, &machine.core, &machine.bus);
+    machine.settle()?;
     line.clear();
     push_line(line, done + 1, &before, event, &machine.core, &machine.bus)?;
-    machine.settle()?;
     hand(out, line.as_bytes())?;
     Ok(ending)
 }

@@ -32,7 +32,7 @@ pub(crate) fn push_line(
 {
     push_front(text, number, before.pc, before.word)?;
     push_written(text, before, event, core, bus)?;
-    push_registers(text, before, core)?;
+    push_registers(text, before, core, bus)?;
     push_event(text, event, core.pc)?;
     text.push_str("\n")
 }
@@ -154,12 +154,17 @@ fn push_late(text: &mut String, late: Option<Late>) -> Result<(), AllocError>
 
 /// Adds the registers that changed.
 #[tactic(auto, unfolding(crate::specs::Steps::registers_text))]
-fn push_registers(text: &mut String, before: &Before, core: &Processor) -> Result<(), AllocError>
-    ensures { OnOk result
-        (string_bytes text.new ≡ string_bytes text.old ++ registers_text before.now core.now) }
+fn push_registers(
+    text: &mut String,
+    before: &Before,
+    core: &Processor,
+    bus: &Bus,
+) -> Result<(), AllocError>
+    ensures { OnOk result (string_bytes text.new
+        ≡ string_bytes text.old ++ registers_text before.now core.now bus.now) }
 {
     push_changes(text, 0, &before.registers, &seen(core))?;
-    push_changes(text, 32, &before.others, &others(core))
+    push_changes(text, 32, &before.others, &others(core, bus))
 }
 
 /// Adds the registers that changed, of which the first has this number.
