@@ -19,7 +19,7 @@ use Rattle.ds_words.specs.declared.words.Request.{Request}
 use Rattle.ds_drive.specs.Demo.{demo_inputs}
 use Rattle.ds_drive.specs.Done.{IsCutShort, IsDone}
 use Rattle.ds_drive.specs.Failures.{CutsFiles, FilesStop, IsUnread, OfHeld, RunsFiles, StopsBy}
-use Rattle.ds_drive.specs.Ran.{RunsGuarded, RunsReally}
+use Rattle.ds_drive.specs.Ran.{RunsAlone, RunsGuarded, RunsReally}
 use Rattle.ds_drive.specs.Checked.{ChecksBy}
 use Rattle.ds_drive.specs.Listed.{FailsBy}
 use Rattle.ds_words.specs.Words.{AsksForDemo, AsksForRun, AsksForList, AsksForCheck}
@@ -99,5 +99,5 @@ check_cut words holds lacks request r old new asks (inr cut) = inr (inr (inr (in
 
 -- a run of files that was done
 pub run_done : (words : List Text) (holds : List ℕ → List ℕ → Type 0) (request : Request) (old new : Option (List ℕ)) → AsksForRun words request → RunsFiles holds request old new → RunsReally holds request old new
-    → RunsGuarded holds request old new → IsDone words holds old new
-run_done words holds request old new asks runs real guarded = inr (inl (request, asks, record { runs = runs; real = real; guarded = guarded }))
+    → RunsGuarded holds request old new → RunsAlone holds request old new → IsDone words holds old new
+run_done words holds request old new asks runs real guarded alone = inr (inl (request, asks, record { runs = runs; real = real; guarded = guarded; alone = alone }))

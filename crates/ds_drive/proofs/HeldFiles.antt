@@ -9,6 +9,7 @@ use Rattle.ds_policy.specs.Refusal.{PolicyRefusal}
 use Rattle.ds_pagemap.specs.Machine.{State}
 use Rattle.ds_pagemap.specs.Inputs.{Refusal, Sources, inputs, inputs_under, inputs_under_by}
 use Rattle.ds_station.proofs.Preparing.{under_policy, under_policy_by}
+use Rattle.ds_station.proofs.Alone.{each_alone_if}
 use Rattle.ds_station.proofs.Guarded.{files_guarded_if}
 use Rattle.std.specs.Prelude.{Option, Some, None}
 use Rattle.std.specs.Borrow.{Bor}
@@ -17,7 +18,7 @@ use Rattle.ds_drive.specs.Checked.{IsInput}
 use Rattle.ds_words.specs.declared.words.Request.{Request}
 use Rattle.ds_drive.specs.declared.run.SourceText.{SourceText}
 use Rattle.ds_drive.specs.Failures.{AreHeld, HoldsInputs, OfHeld, RunsFiles}
-use Rattle.ds_drive.specs.Ran.{OfHeldLoaded, RunsGuarded}
+use Rattle.ds_drive.specs.Ran.{OfHeldLoaded, RunsAlone, RunsGuarded}
 
 names_of : (texts : List SourceText) → map (λ (s : List ℕ × List ℕ). s.0) (map (λ s. (s.name, s.text.items)) texts) ≡ map (λ s. s.name) texts
 names_of [] = refl
@@ -117,4 +118,14 @@ guarded_held holds request old new r = record {
   input = r.input;
   held = r.held;
   so = files_guarded_if {T = Unit {0}} {E = Unit {0}} (Ok tt) r.policy r.sources r.input request.most_time request.random old new r.so;
+}
+
+-- and shows of who is alone what it does alone
+pub alone_held : (holds : List ℕ → List ℕ → Type 0) (request : Request) (old new : Option (List ℕ)) → RunsFiles holds request old new → RunsAlone holds request old new
+alone_held holds request old new r = record {
+  policy = r.policy;
+  sources = r.sources;
+  input = r.input;
+  held = r.held;
+  so = each_alone_if {T = Unit {0}} {E = Unit {0}} (Ok tt) r.policy r.sources r.input request.most_time request.random old new r.so;
 }

@@ -1,6 +1,7 @@
 -- What is promised of a run that came to its end, and of its trace.
 use Rattle.std.specs.Prelude.{ℕ, List, Option, Result}
 use Rattle.ds_pagemap.specs.Inputs.{Refusal, Sources, inputs_by}
+use Rattle.ds_station.specs.Alone.{WritesEachAlone}
 use Rattle.ds_station.specs.Headline.{Begins, Loaded, Writes, WritesReally, loaded}
 use Rattle.ds_station.specs.Written.{WritesWholeGuarded}
 use Rattle.ds_trace.specs.Traces.{WritesTraceReally}
@@ -26,17 +27,23 @@ RunsReally holds request old new = OfHeldLoaded holds request (λ read. Begins r
 abbrev pub RunsGuarded : (List ℕ → List ℕ → Type 0) → Request → Option (List ℕ) → Option (List ℕ) → Type 0
 RunsGuarded holds request old new = OfHeld holds request (λ read. Begins read (WritesWholeGuarded old new request.most_time))
 
--- of a run of files: what the machine did, what the processor did, and that it was guarded
+-- what is written shows of each process that is alone in their first state what it does alone
+abbrev pub RunsAlone : (List ℕ → List ℕ → Type 0) → Request → Option (List ℕ) → Option (List ℕ) → Type 0
+RunsAlone holds request old new = OfHeld holds request (WritesEachAlone old new)
+
+-- of a run of files: what the machine did, what the processor did, that it was guarded, and what it shows of who is alone
 pub record HasRunFiles (holds : List ℕ → List ℕ → Type 0) (request : Request) (old new : Option (List ℕ)) : Type 0 where
   pub runs : RunsFiles holds request old new
   pub real : RunsReally holds request old new
   pub guarded : RunsGuarded holds request old new
+  pub alone : RunsAlone holds request old new
 
 -- of the demonstration
 pub record HasRunDemo (old new : Option (List ℕ)) : Type 0 where
   pub runs : Begins demo_inputs (Writes old new 100)
   pub real : Begins demo_loaded (WritesReally old new 100 63)
   pub guarded : Begins demo_inputs (WritesWholeGuarded old new 100)
+  pub alone : WritesEachAlone old new demo_inputs
 
 -- of a trace of files, what the processor did is told of the steps of a station that began with them
 abbrev pub TracesReally : (List ℕ → List ℕ → Type 0) → TraceRequest → Option (List ℕ) → Option (List ℕ) → Type 0

@@ -3,7 +3,7 @@ ghost use Rattle.std.specs.Prelude.{◌≡◌, ◌≤◌, ℕ, List, IfErr, IfOk
 ghost use Rattle.ds_station.specs.Headline.{sources_seen};
 ghost use Rattle.ds_drive.specs.AtFault.{texts_seen};
 ghost use Rattle.ds_drive.specs.Failures.{AreUnread, HoldsInputs, IsUnread, IsUnreadRun, RunsFiles, StopsBy};
-ghost use Rattle.ds_drive.specs.Ran.{RunsGuarded, RunsReally};
+ghost use Rattle.ds_drive.specs.Ran.{RunsAlone, RunsGuarded, RunsReally};
 
 use crate::failure::Failure;
 use crate::files::{FileFault, Files};
@@ -43,6 +43,8 @@ pub fn run_request<'a, F: Files, W: Write>(
         (RunsReally (F.holds files.old) request.now (W.contents out.old) (W.contents out.new)) }
     ensures guarded { OnOk result
         (RunsGuarded (F.holds files.old) request.now (W.contents out.old) (W.contents out.new)) }
+    ensures alone { OnOk result
+        (RunsAlone (F.holds files.old) request.now (W.contents out.old) (W.contents out.new)) }
     ensures err { IfErr result
         (λ f. StopsBy f (F.holds files.old) (F.lacks files.old) request.now
         (W.contents out.old) (W.contents out.new)) }

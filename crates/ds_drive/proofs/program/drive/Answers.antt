@@ -83,7 +83,7 @@ returns-in-Ok-Noted-clause-stopped g c two =
 
 pub returns-in-Ok-run_request-clause-done : goal.returns-in-Ok-run_request-clause-done
 returns-in-Ok-run_request-clause-done g c zero =
-    run_done _ (g.F.Files.holds c.args.files.now) _ (g.W.Write.contents c.args.out.now) (g.W.Write.contents c.run_request.new.out) (search rules) c.in-Ok-run_request.ensures.ok c.in-Ok-run_request.ensures.real c.in-Ok-run_request.ensures.guarded
+    run_done _ (g.F.Files.holds c.args.files.now) _ (g.W.Write.contents c.args.out.now) (g.W.Write.contents c.run_request.new.out) (search rules) c.in-Ok-run_request.ensures.ok c.in-Ok-run_request.ensures.real c.in-Ok-run_request.ensures.guarded c.in-Ok-run_request.ensures.alone
 
 pub returns-in-Ok-trace_request-clause-done : goal.returns-in-Ok-trace_request-clause-done
 returns-in-Ok-trace_request-clause-done g c zero =

@@ -1,7 +1,7 @@
 use Rattle.std.proofs.Common.{◌∙◌, map, ap, inr}
 use Rattle.ds_station.specs.Headline.{sources_seen, Begins, Writes, WritesReally, EndsBy}
 use Rattle.ds_drive.specs.declared.run.SourceText.{SourceText}
-use Rattle.ds_drive.proofs.HeldFiles.{guarded_held, of_held, of_held_loaded}
+use Rattle.ds_drive.proofs.HeldFiles.{alone_held, guarded_held, of_held, of_held_loaded}
 use Rattle.ds_drive.proofs.run.run_request.Goals as goal
 
 pub returns-in-Ok-clause-ok : goal.returns-in-Ok-clause-ok
@@ -28,3 +28,7 @@ returns-in-Ok-clause-real g c =
 pub returns-in-Ok-clause-guarded : goal.returns-in-Ok-clause-guarded
 returns-in-Ok-clause-guarded g c =
     guarded_held (g.F.Files.holds c.args.files.now) c.args.request.now (g.W.Write.contents c.args.out.now) (g.W.Write.contents c.run_policy.new.out) (returns-in-Ok-clause-ok g c)
+
+pub returns-in-Ok-clause-alone : goal.returns-in-Ok-clause-alone
+returns-in-Ok-clause-alone g c =
+    alone_held (g.F.Files.holds c.args.files.now) c.args.request.now (g.W.Write.contents c.args.out.now) (g.W.Write.contents c.run_policy.new.out) (returns-in-Ok-clause-ok g c)
