@@ -10,8 +10,8 @@ from unittest import mock
 sys.dont_write_bytecode = True
 
 from wrong_bodies import census  # noqa: E402
-from wrong_bodies.edits import Edit, Repository  # noqa: E402
-from wrong_bodies.trying import batches_of  # noqa: E402
+from wrong_bodies.crates import Edit, Repository  # noqa: E402
+from wrong_bodies.proving import batches_of  # noqa: E402
 
 CODE = """\
 #![tactic(auto)]

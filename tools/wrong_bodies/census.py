@@ -6,11 +6,7 @@ MOST, MOST_OF_ONE = 600, 3
 # The functions of which each clause is named by an edit; Type::* are all that are public of a type or a trait.
 EACH_CLAUSE = {
     "ds_station": ["run_files", "run_policy", "Station::new", "Station::step", "Station::run"],
-    "ds_trace": ["trace_files"],
-    "ds_bare": ["run_bare"],
-    "ds_drive": ["drive"],
-    "ds_grants": ["Grants::*"],
-    "ds_tlb": ["Lookaside::*"],
+    **{"ds_trace": ["trace_files"], "ds_bare": ["run_bare"], "ds_drive": ["drive"], "ds_grants": ["Grants::*"], "ds_tlb": ["Lookaside::*"]},
 }
 LINE = re.compile(r"implied: (?P<function>\S+) (?P<clause>\S+) by (?P<by>\S.*)|none: (?P<none>\S+) \S.*|(?:#.*)?")
 
@@ -47,7 +43,10 @@ def lacks_of(repository, crate):
         if (not body.method or body.method in repository.methods) and key(body) not in tried:
             yield f"{crate.name}: no edit of {'the law ' if body.is_law else ''}{body.function}"
     named = implied | {pair for edit in crate.edits for _, pairs in edit.clauses for pair in pairs}
-    each = each_clause_of(crate.name, public.values())
+    # (of a trait's method that of one type)
+    words = [f"::{it}" for it in EACH_CLAUSE.get(crate.name, ())]
+    fits = lambda name: any(f"::{name}".endswith(it) or it.endswith("*") and it[:-1] in f"::{name}" for it in words)
+    each = {key(it): it for it in public.values() if fits(it.function) or fits(it.method)}
     for body in each.values():
         yield from (f"{crate.name}: no edit names {key(body)} {it}" for it in crate.clauses_of(body)[:-1] if (key(body), it) not in named)
     for body in public.values():
@@ -55,10 +54,3 @@ def lacks_of(repository, crate):
         most = MOST_OF_ONE + (len(crate.clauses_of(body)[:-1]) if key(body) in each else 0)
         if count > most:
             yield f"{crate.name}: {count} edits of {body.function}, more than {most}"
-
-
-def each_clause_of(crate, bodies):
-    """Returns by name the functions of a crate of which each clause is named, of a trait's method that of one type."""
-    words = [f"::{it}" for it in EACH_CLAUSE.get(crate, ())]
-    fits = lambda name: any(f"::{name}".endswith(it) or it.endswith("*") and it[:-1] in f"::{name}" for it in words)
-    return {it.method or it.function: it for it in bodies if fits(it.function) or fits(it.method)}

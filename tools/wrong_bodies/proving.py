@@ -1,0 +1,225 @@
+"""Checks a copy of a crate with edits in it, and gives each edit its verdict.
+
+A caller of a broken function says that it calls what is not proved, and says that a goal is not proved only of a goal of its own. So an edit is
+refused in a batch only where a goal of its own function, or arm, is not proved, and no goal of a function that no edit of the batch names.
+"""
+import os
+import re
+import shutil
+import subprocess
+import tempfile
+from pathlib import Path
+from typing import NamedTuple
+
+from .crates import Edit
+
+KIT = Path(shutil.which("rt") or "rt").resolve().parent.parent
+# A function's line names the goals that no search proved and no answer is written for.
+NOT_SEARCHED = re.compile(r"`search` did not prove ([^;]*)")
+# An error at an answer names its goal first.
+IN_PROOF = re.compile(r"(?:\./)?proofs/(\S+)/(Answers|Proof|Invariants)\.antt:\d+:\d+: error: (?:`([^`]*)`: )?(.*)")
+# What another function's failure, or a name that the edit took away, makes an error of a proof file.
+NOT_OWN = re.compile(r"is not in scope|has no |is no name|not admitted|not proved")
+# What says of a text of src/ or specs/ that it cannot be read, and not that a statement is false.
+IN_SOURCE = re.compile(r"(?:\./)?(?:src|specs)/\S+?:\d+:\d+: error(?:\[[\w-]+\])?: (?:(`[^`]*`): )?(.*)")
+UNREADABLE = re.compile(r"is not in scope|has no field|is no name|operand is missing|expected the end|cannot continue")
+# Goals of a loop's invariant, which stands in proofs/; the clause that a goal is of.
+LOOP_GOAL = re.compile(r"-(?:init|preserved|smaller)(?:-|\Z)")
+CLAUSE_GOAL = re.compile(r"-clause-(\w+)")
+REFUSED = re.compile(r"(?:\./)?(?:specs|proofs)/(?P<file>\S+)\.antt:\d+:\d+: error: `(?P<name>[^`]*)`: (?P<why>.*)")
+NOT_PROVED = re.compile(r"fn \w+::(\S+): (?:not proved|no proof)")
+
+
+class Said(NamedTuple):
+    """What a check said: its status, its lines, and by function the goals that were not proved."""
+
+    status: int
+    lines: list
+    goals: dict
+
+    def could_read(self):
+        """Returns whether the prover read every text, and came to an end."""
+        found = [it for it in map(IN_SOURCE.match, self.lines) if it and (not it[1] or UNREADABLE.search(unquoted(it[2])))]
+        return self.status in (0, 1) and not found and self.lines[-1].startswith(("only=", "logic="))
+
+    def complaint(self):
+        """Returns the first error that it printed."""
+        return next((it for it in self.lines if ": error" in it or it.startswith("error")), self.lines[-1])
+
+
+def unquoted(words):
+    return re.sub(r"`[^`]*`", "", words)
+
+
+def goals_in(lines, crate):
+    """Returns by function the names of the goals that were not proved, the crate's name taken from the functions'. A closure's are its function's."""
+    start, found = f"fn {crate}::", {}
+    said = dict(it[len(start) :].split(": ", 1) for it in lines if it.startswith(start) and ": " in it)
+    goals = [(name, goal.strip("` ")) for name, words in said.items() for it in NOT_SEARCHED.findall(words) for goal in it.split(", ")]
+    for it in filter(None, map(IN_PROOF.match, lines)):
+        name = it[1].replace("/", "::")
+        if "not proved" in said.get(name, "") and not NOT_OWN.search(unquoted(it[4])):
+            goals.append((name, it[3] or ""))
+    for name, goal in goals:
+        found.setdefault(re.sub(r"\bfn::(\w+)::.*", r"\1", name), []).append(goal)
+    return found
+
+
+class Prover:
+    """Checks one crate, over what its own checks kept in out/ and what those of this prover keep in a room."""
+
+    def __init__(self, crate, room):
+        self.crate, self.seconds, self.kept = crate, 0.0, f"{room}/incremental"
+        if Path(crate.folder, "out/incremental").is_dir():
+            shutil.copytree(Path(crate.folder, "out/incremental"), self.kept)
+
+    def words(self):
+        crate, repository = self.crate, self.crate.repository
+        folder = lambda it: f"{repository.root}/crates/{it}/out/rlib" if it in repository.crates else f"{KIT}/rlibs"
+        words = ["--crate-name", crate.name, "src/main.rt" if crate.sources.is_program else "src/lib.rt"]
+        for it in ("std", *crate.uses):
+            words += ["--extern", f"{it}={folder(it)}/{it}.rlib"]
+        for it in sorted({folder("std"), *(folder(it.name) for it in repository.below(crate))}):
+            words += ["-L", f"dependency={it}"]
+        return [*words, "--antt-project", f"{KIT}/rattle/logic/antt-project.json", "--logic-built", f"{KIT}/logic_built"]
+
+    def check(self, edits, functions):
+        """Checks a copy of the crate with these edits: the functions alone, or all where none is named."""
+        with tempfile.TemporaryDirectory(prefix="wrong-bodies-") as copy, tempfile.TemporaryFile() as said:
+            for part in ("src", "specs", "proofs"):
+                if Path(self.crate.folder, part).is_dir():
+                    shutil.copytree(f"{self.crate.folder}/{part}", f"{copy}/{part}")
+            for file in {it.file for it in edits}:
+                text = self.crate.texts[file]
+                for it in sorted((it for it in edits if it.file == file), key=lambda it: -it.start):
+                    text = text[: it.start] + it.new + text[it.end :]
+                Path(copy, file).write_text(text, "utf-8")
+            only = [word for it in sorted(set(functions)) for word in ("--only", it)]
+            words = [f"{KIT}/bin/rattle", "check", *self.words(), *only, "--incremental", self.kept, "--jobs", "1"]
+            ran = subprocess.Popen(words, cwd=copy, stdin=subprocess.DEVNULL, stdout=said, stderr=subprocess.STDOUT)
+            _, status, used = os.wait4(ran.pid, 0)
+            ran.returncode = os.waitstatus_to_exitcode(status)
+            said.seek(0)
+            lines = said.read().decode("utf-8", "replace").rstrip("\n").split("\n")
+        self.seconds += used.ru_utime + used.ru_stime
+        return Said(ran.returncode, lines, goals_in(lines, self.crate.name))
+
+
+def lacking_below(repository, crates):
+    """Returns the libraries below crates that rt cannot build, with what it said. It is asked for those that are older than their texts. (What
+    rt ci kept from an earlier run has the time of that run, so the time counts at which it was put there.)"""
+    for it in repository.below(*crates):
+        made = Path(it.folder, "out/rlib", f"{it.name}.rlib", "format")
+        texts = [path for part in ("src", "specs", "proofs") for path in Path(it.folder, part).rglob("*.*") if path.is_file()]
+        if not made.is_file() or any(path.stat().st_mtime > made.stat().st_ctime for path in texts):
+            ran = subprocess.run(["rt", "lib"], cwd=it.folder, stdin=subprocess.DEVNULL, stdout=subprocess.PIPE, stderr=subprocess.STDOUT, errors="replace")
+            if ran.returncode:
+                yield f"library {it.name}: {ran.stdout.strip()}"
+
+
+def clause_of(crate, function, goal):
+    """Returns the clause that a goal is of, or nothing where it is of a proof's script, or of a condition that the code owes somewhere."""
+    if not goal.startswith(("returns", "invariant_of-")) or LOOP_GOAL.search(goal):
+        return ""
+    clauses = crate.clauses_of(crate.sources.by_name[function])[:-1] if function in crate.sources.by_name else ()
+    named = CLAUSE_GOAL.search(goal)
+    return "invariant" if goal.startswith("invariant_of-") else named[1] if named else "ensures" if "ensures" in clauses else " or ".join(clauses)
+
+
+def batches_of(edits, clash):
+    """Returns the edits in as few batches as the first fit gives, each with no two that clash."""
+    batches = []
+    for it in edits:
+        fit = next((batch for batch in batches if not any(clash(it, other) for other in batch)), None)
+        batches.append([it]) if fit is None else fit.append(it)
+    return batches
+
+
+def halves(batch):
+    return [batch[: len(batch) // 2], batch[len(batch) // 2 :]]
+
+
+def read_edits(prover, edits):
+    """Has the prover's front end read edits, as many together as there may be, and marks those that are no code over today's text."""
+    left = batches_of(edits, Edit.overlaps)
+    while left:
+        batch = left.pop()
+        said = prover.check(batch, [""])
+        if said.status and len(batch) > 1:
+            left += halves(batch)
+        elif said.status:
+            batch[0].tell("BAD EDIT", f"it is no code: {said.complaint()}")
+
+
+def try_edits(prover, edits):
+    """Tries edits of a crate, those of code in batches. A batch of which a check can't tell is halved. An edit that no batch refuses is tried alone
+    by its functions, one that can be asked of none by the whole crate, and so is a turned definition."""
+    is_alone = lambda it: it.is_turned or not it.asked
+    left = [*([it] for it in edits if is_alone(it)), *batches_of([it for it in edits if not is_alone(it)], Edit.clashes)]
+    while left:
+        batch = left.pop()
+        edit, functions = batch[0], [name for it in batch for name in it.asked]
+        said = prover.check(batch, functions)
+        if len(batch) > 1 and not (said.could_read() and set(said.goals) <= set(functions)):
+            left += halves(batch)
+        elif len(batch) > 1:
+            for it in batch:
+                judge(it, [*goals_of(it, said, batch)])
+            left += [[it] for it in batch if it.verdict != "refused"]
+        elif not said.could_read():
+            edit.tell("BAD EDIT" if edit.is_turned else "NOT TRIED", f"the prover cannot read it, or could not tell: {said.complaint()}")
+        elif said.status == 0:
+            edit.tell("NOT REFUSED", "the crate is still proved with this edit")
+        elif edit.is_turned:
+            judge_turned(edit, said, [*goals_of(None, said, batch)])
+        else:
+            judge(edit, [*goals_of(None, said, batch)])
+
+
+def goals_of(edit, said, batch):
+    """Returns the goals that were not proved, or those of an edit's functions, beside edits of other arms those of its arm. A goal of no edit's arm
+    says that an edit changes more than the arms that it names, so none that names arms is refused then."""
+    for function in edit.functions if edit else said.goals:
+        goals, beside = said.goals.get(function, []), [it for it in batch if edit and it is not edit and function in it.functions]
+        is_told = all(any(it.owns(goal, function) for it in (edit, *beside)) for goal in goals) if beside else True
+        yield from ((function, it) for it in goals if not beside or edit.owns(it, function) and (is_told or not edit.names_arms))
+
+
+def clauses_among(crate, goals):
+    """Returns the functions and clauses that goals are of, and those among them that are public."""
+    found = list(dict.fromkeys((function, clause) for function, goal in goals if (clause := clause_of(crate, function, goal))))
+    return found, [it for it in found if it[0] in crate.sources.by_name and crate.sources.by_name[it[0]].is_public]
+
+
+def judge(edit, goals):
+    """Gives an edit of code its verdict: refused are those by a public clause, all that it names among them, or those that stand for one."""
+    found, public = clauses_among(edit.crate, goals)
+    owed = [" ".join(it) for it in found] or [" ".join(it) for it in goals if it[1] and not LOOP_GOAL.search(it[1])]
+    other = [clause for clause, pairs in edit.clauses if not pairs & set(found)]
+    if other:
+        edit.tell("NOT REFUSED", f"not by the clause {other[0]} that it names; refused by {', '.join(owed) or 'a step of its proof alone'}")
+    elif public:
+        edit.tell("refused", ", ".join(map(" ".join, public)))
+    elif edit.stands and owed:
+        edit.tell("refused", f"{owed[0]}, which stands for {' '.join(edit.stands[0])}")
+    else:
+        edit.tell("NOT REFUSED", f"by no public clause, but by {owed[0]}, and it names none that this stands for" if owed else "by a step of its proof alone")
+
+
+def judge_turned(edit, said, goals):
+    """Gives a turned definition its verdict: each row that it names has to be refused, or else each law, or some row, law or public clause."""
+    sources = edit.crate.sources
+    errors = [it for it in map(REFUSED.match, said.lines) if it and not NOT_OWN.search(unquoted(it["why"]))]
+    rows = [it["name"] for it in errors if it["file"].endswith("Rows")]
+    laws = [it[1] for it in map(NOT_PROVED.match, said.lines) if it and it[1] in sources.by_name and sources.by_name[it[1]].is_law]
+    clauses = [" ".join(it) for it in clauses_among(edit.crate, goals)[1] if it[0] not in laws]
+    left = [f"row {it}" for it in edit.rows if it not in rows]
+    left += [f"law {it}" for it in edit.laws if not edit.rows and not any(body.function in laws for body in sources.named(it))]
+    told = [*(f"the row {it}" for it in edit.rows or rows[:1]), *(f"the law {it}" for it in laws[:3]), *clauses[:1]]
+    edit.laws += laws
+    if left:
+        edit.tell("NOT REFUSED", f"the {left[0]} still holds; refused is {', '.join([*rows, *laws, *(it['name'] for it in errors)][:3])}")
+    elif told:
+        edit.tell("refused", ", ".join(told))
+    else:
+        edit.tell("NOT REFUSED", f"by no row, law or public clause, but by {said.complaint()}")
