@@ -18,32 +18,12 @@ CODE = """\
 ghost use Rattle.std.specs.Prelude.{◌≡◌, ◌≤◌, ◌<◌, ◌+◌};
 ghost use Rattle.toy.specs.Numbers.{order_of, after};
 pub enum Lamp { Red, Green }
-pub fn twice(n: u32) -> u32
-    requires { n ≤ 1000 }
-    ensures { result ≡ n + n }
-{ sum(n, n) }
-fn sum(a: u32, b: u32) -> u32
-    requires left { a ≤ 1000 }
-    requires right { b ≤ 1000 }
-    ensures { result ≡ a + b }
-{ a + b }
-pub fn next(n: u32) -> u32
-    requires { n ≤ 1000 }
-    ensures up { n < result }
-    ensures next { result ≡ n + 1 }
-{ n + FIRST }
-pub fn order(lamp: Lamp) -> u32
-    ensures { result ≡ order_of lamp }
-{
-    match lamp {
-        Lamp::Red => 3,
-        Lamp::Green => 4,
-    }
-}
+pub fn twice(n: u32) -> u32 requires { n ≤ 1000 } ensures { result ≡ n + n } { sum(n, n) }
+fn sum(a: u32, b: u32) -> u32 requires left { a ≤ 1000 } requires right { b ≤ 1000 } ensures { result ≡ a + b } { a + b }
+pub fn next(n: u32) -> u32 requires { n ≤ 1000 } ensures up { n < result } ensures next { result ≡ n + 1 } { n + FIRST }
+pub fn order(lamp: Lamp) -> u32 ensures { result ≡ order_of lamp } { match lamp { Lamp::Red => 3, Lamp::Green => 4 } }
 const FIRST: u32 = 1;
-pub fn a_number_is_below_the_next(n: u32)
-    ensures { n < after n }
-{}
+pub fn a_number_is_below_the_next(n: u32) ensures { n < after n } {}
 """
 NUMBERS = """\
 use Rattle.std.specs.Prelude.{ℕ, ◌+◌}
@@ -78,8 +58,8 @@ EDITS = {
     "order.green_is_red": ("refused by order ensures", "Lamp::Green => 4", "Lamp::Green => 3", "clause: ensures"),
     "order.red_is_green": ("refused by order ensures", "Lamp::Red => 3", "Lamp::Red => 4"),
     "order.red_is_nothing": ("refused by order ensures", "Lamp::Red => 3", "Lamp::Red => 0"),
-    "sum.one_too_many": ("NOT REFUSED: by no public clause, but by sum ensures", "{ a + b", "{ a + b + 1"),
-    "sum.stands_for": ("refused by sum ensures, which stands for twice ensures", "{ a + b", "{ a + b + 2", "stands for: twice ensures"),
+    "sum.one_too_many": ("NOT REFUSED: by no public clause, but by sum ensures", "} { a + b", "} { a + b + 1"),
+    "sum.stands_for": ("refused by sum ensures, which stands for twice ensures", "} { a + b", "} { a + b + 2", "stands for: twice ensures"),
     "twice.one_too_many": ("refused by twice ensures", "sum(n, n)", "sum(n, n) + 1"),
     "after.the_same": ("refused by the law a_number_is_below_the_next", "after n = n + 1", "after n = n", "law: a_number_is_below_the_next"),
     "double.another_row": ("NOT REFUSED: the row double_0_is_0 still holds", "double n = n + n", "double n = n + n + n", "row: double_0_is_0"),
@@ -90,9 +70,8 @@ BAD = {
     "next.unknown": ("BAD EDIT: it is no code: ", "n + FIRST", "n + missing"),
     "next.not_there": ("BAD EDIT: an 'old:' text is in src/lib.rt 0 times, and not once", "n + SECOND", "n"),
     "next.no_clause": ("BAD EDIT: there is no clause down", "n + FIRST", "n", "clause: down"),
-    "sum.stands_for_nothing": ("BAD EDIT: there is no public clause sum ensures", "{ a + b", "{ a", "stands for: sum ensures"),
-    "twice.arguments": ("BAD EDIT: it is no code: ", "sum(n, n)", "sum(n)"),
-    "double.open": ("BAD EDIT: it is no code: ", "double n = n + n", "double n = (n + n"),
+    "sum.stands_for_nothing": ("BAD EDIT: there is no public clause sum ensures", "} { a + b", "} { a", "stands for: sum ensures"),
+    "double.open": ("BAD EDIT: it is no definition: ", "double n = n + n", "double n = (n + n"),
 }
 
 
@@ -121,20 +100,19 @@ class Test(unittest.TestCase):
         with mock.patch.dict(census.EACH_CLAUSE, {"toy": ["next"]}):
             return census.census(Repository(self.room(edits, implied=implied)))
 
-    def test_each_edit_has_its_verdict(self):
-        status, said = self.ran(EDITS)
-        for name, (verdict, *_) in EDITS.items():
+    def has_verdicts(self, edits, counts, said):
+        for name, (verdict, *_) in edits.items():
             with self.subTest(name):
-                self.assertIn(f"\ntoy/{name}.edit: {verdict}", f"\n{said}")
-        self.assertEqual((1, "10 refused, 5 not refused"), (status, said.splitlines()[-1]))
+                self.assertIn(f"\ntoy/{name}.edit: {verdict}", f"\n{said[1]}")
+        self.assertEqual((1, counts), (said[0], said[1].splitlines()[-1]))
+
+    def test_each_edit_has_its_verdict(self):
+        self.has_verdicts(EDITS, "10 refused, 5 not refused", self.ran(EDITS))
 
     def test_an_edit_that_is_no_code_is_told_and_nothing_is_proved(self):
-        status, said = self.ran({**BAD, "twice.well": ("", "sum(n, n)", "sum(n, n) + 2")})
-        for name, (verdict, *_) in BAD.items():
-            with self.subTest(name):
-                self.assertIn(f"\ntoy/{name}.edit: {verdict}", f"\n{said}")
-        self.assertNotIn("twice.well", said)
-        self.assertEqual((1, "0 refused, 6 not refused"), (status, said.splitlines()[-1]))
+        said = self.ran({**BAD, "twice.well": ("", "sum(n, n)", "sum(n, n) + 2")})
+        self.has_verdicts(BAD, "0 refused, 5 not refused", said)
+        self.assertNotIn("twice.well", said[1])
 
     def test_a_name_of_nothing_is_told(self):
         self.assertEqual((2, "there is no toy/none\n0 refused, 1 not refused\n"), self.ran({}, "toy/none"))
@@ -144,17 +122,15 @@ class Test(unittest.TestCase):
         names = [[it.name for it in batch] for batch in batches_of(edits, Edit.clashes)]
         self.assertEqual([["order.green_is_red.edit", "order.red_is_green.edit"], ["order.red_is_nothing.edit"]], names)
 
-    def test_what_lacks_its_edit_is_told(self):
+    def test_what_lacks_its_edit_or_has_too_many_is_told(self):
         few = {it: EDITS[it] for it in ("next.a_constant_named", "order.red_is_green")}
         lacking = ["toy: no edit of twice", "toy: no edit of the law a_number_is_below_the_next", "toy: no edit names next up"]
         self.assertEqual(lacking, self.lacks(few))
         few.update({it: EDITS[it] for it in ("sum.stands_for", "after.the_same")})
         self.assertEqual([], self.lacks(few, "# what follows\nimplied: next up by next\n"))
         self.assertIn("toy/wrong/implied: there is nothing of this line: implied: next down by next", self.lacks(few, "implied: next down by next"))
-
-    def test_more_than_three_edits_of_a_function_are_told(self):
-        edits = {f"twice.{n}": ("", "sum(n, n)", f"sum(n, n) + {n}") for n in range(1, 5)}
-        self.assertIn("toy: 4 edits of twice, more than 3", self.lacks(edits))
+        many = {f"twice.{n}": ("", "sum(n, n)", f"sum(n, n) + {n}") for n in range(1, 5)}
+        self.assertIn("toy: 4 edits of twice, more than 3", self.lacks(many))
 
 
 if __name__ == "__main__":

@@ -14,16 +14,11 @@ from collections import Counter
 from concurrent.futures import ThreadPoolExecutor, as_completed
 from pathlib import Path
 
-# (no __pycache__ is left in the repository)
 sys.dont_write_bytecode = True
 
 from wrong_bodies.census import census  # noqa: E402
 from wrong_bodies.crates import Repository  # noqa: E402
 from wrong_bodies.proving import Prover, lacking_below, read_edits, try_edits  # noqa: E402
-
-
-# Turned definitions are checks of their whole crate, so no lane takes more of them at once.
-FEW = 8
 
 
 def side_by_side(lanes, parts, work, took):
@@ -42,10 +37,10 @@ def side_by_side(lanes, parts, work, took):
 
 
 def parts_of(edits):
-    """Returns the edits in lists for one lane each, those of the crates with the most text first."""
+    """Returns the edits in lists for one lane each, those of the crates with the most text first, and at most 8 turned definitions in one."""
     for crate in sorted({it.crate for it in edits}, key=lambda it: -it.size):
         code, turned = ([it for it in edits if it.crate is crate and it.is_turned == is_turned] for is_turned in (False, True))
-        yield from filter(None, [*(turned[at : at + FEW] for at in range(0, len(turned), FEW)), code])
+        yield from filter(None, [*(turned[at : at + 8] for at in range(0, len(turned), 8)), code])
 
 
 def main(words):
@@ -57,8 +52,8 @@ def main(words):
     given = parser.parse_args(words)
     repository, took = Repository(given.root), Counter()
     every = [it for crate in repository.crates.values() for it in crate.edits]
-    edits = [it for it in every if not given.names or any(it.is_named(name) for name in given.names)]
-    unknown = [name for name in given.names if name not in repository.crates and not any(it.is_named(name) for it in every)]
+    edits = [it for it in every if not given.names or it.names & {*given.names}]
+    unknown = [name for name in given.names if name not in repository.crates and not any(name in it.names for it in every)]
     unknown += [] if given.count or unknown else lacking_below(repository, {it.crate for it in edits})
     if unknown:
         print(f"there is no {unknown[0]}\n0 refused, 1 not refused")

@@ -13,17 +13,17 @@ LINE = re.compile(r"implied: (?P<function>\S+) (?P<clause>\S+) by (?P<by>\S.*)|n
 
 def census(repository):
     """Returns a line for each thing that has no edit, or too many."""
-    crates = [it for it in repository.crates.values() if not it.sources.is_program and not it.name.endswith("_tests")]
     total = sum(len(it.edits) for it in repository.crates.values())
-    return [*([f"there are {total} edits, more than {MOST}"] if total > MOST else []), *(line for it in crates for line in lacks_of(repository, it))]
+    lacks = [line for it in repository.crates.values() if not it.is_program and not it.name.endswith("_tests") for line in lacks_of(repository, it)]
+    return [f"there are {total} edits, more than {MOST}", *lacks] if total > MOST else lacks
 
 
 def lacks_of(repository, crate):
     """Returns what the edits of a crate lack."""
-    sources, implied = crate.sources, set()
-    public = {it.function: it for it in sources.by_name.values() if it.is_public}
+    implied = set()
+    public = {it.function: it for it in crate.by_name.values() if it.is_public}
     key = lambda body: body.method if body.method in repository.methods else body.function
-    keys = lambda name: {key(body) for body in sources.named(name)}
+    keys = lambda name: {key(body) for body in crate.named(name)}
     tried = {key(public[it]) for edit in crate.edits for it in edit.functions if it in public}
     tried |= {it for edit in crate.edits for law in edit.laws for it in keys(law)}
     for name in (it[0].rpartition("/") for other in repository.crates.values() for edit in other.edits for it in edit.stands):
@@ -31,7 +31,7 @@ def lacks_of(repository, crate):
     file = Path(crate.folder, "wrong/implied")
     for text in file.read_text("utf-8").split("\n") if file.is_file() else []:
         it = LINE.fullmatch(text)
-        bodies = sources.named(it["function"] or it["none"] or "") if it else []
+        bodies = crate.named(it["function"] or it["none"] or "") if it else []
         names = [it["clause"], *it["by"].split()] if it and it["clause"] else []
         if not it or (it["function"] or it["none"]) and not bodies or not all(name in crate.clauses_of(bodies[0]) for name in names):
             yield f"{crate.name}/wrong/implied: there is nothing of this line: {text}"

@@ -47,24 +47,20 @@ def arms_in(code, ends, start, end):
         yield Part(name=head[1], start=head.end(), end=at)
 
 
-def end_of_head(code, ends, at):
-    """Returns where a function's body begins, or the semicolon of one that has none."""
-    begin = at
-    while at < len(code) and code[at] != ";" and (code[at] != "{" or BEFORE_CLAUSE.search(code[begin:at])):
-        at = ends.get(at, at) + 1 if code[at] in "{([" else at + 1
-    return at
+class Crate:
+    """A crate, with its texts by their paths, the bodies in each, what the methods of its traits ensure, and its wrong bodies."""
 
-
-class Sources:
-    """The sources of one crate, as texts by their paths, and the bodies in each. `methods` has what the methods of its traits ensure."""
-
-    def __init__(self, texts):
+    def __init__(self, repository, name, uses):
+        self.repository, self.name, self.uses, self.folder, self.edits = repository, name, uses, Path(repository.root, "crates", name), []
+        read = lambda pattern: {it.relative_to(self.folder).as_posix(): it.read_text("utf-8") for it in sorted(self.folder.glob(pattern))}
+        texts, specs, proofs = read("src/**/*.rt"), read("specs/**/*.antt"), read("proofs/**/*.antt")
+        self.logic, self.is_program, self.methods = "\n".join([*specs.values(), *proofs.values()]), "src/main.rt" in texts, {}
+        self.size = len(self.logic) + sum(map(len, texts.values()))
         codes = {path: NO_CODE.sub(lambda it: re.sub(r"[^\n]", " ", it[0]), text) for path, text in texts.items()}
         modules = [("/".join([*modules_of(path), it["name"]]), it) for path, code in codes.items() for it in MODULE.finditer(code)]
-        tests = [f"src/{name}" for name, it in modules if it["test"]]
-        self.texts = {path: text for path, text in texts.items() if not any(path == f"{it}.rt" or path.startswith(f"{it}/") for it in tests)}
-        codes = {path: code for path, code in codes.items() if path in self.texts}
-        self.is_program, self.methods = "src/main.rt" in texts, {}
+        tests = tuple(f"src/{name}{end}" for name, it in modules if it["test"] for end in (".rt", "/"))
+        codes = {path: code for path, code in codes.items() if not path.startswith(tests)}
+        self.texts = {**{path: texts[path] for path in codes}, **specs}
         self.homes = {name: path for path, code in codes.items() for name in TYPE.findall(code)}
         self.handed_out = {name for code in codes.values() for use in PUBLIC_USE.findall(code) for name in re.findall(r"\w+", use)}
         self.open_modules = {name for name, it in modules if it["public"]}
@@ -80,7 +76,10 @@ class Sources:
         ends, modules = closed(code), modules_of(path)
         blocks = list(self.blocks(path, code, ends))
         for head in FUNCTION.finditer(code):
-            at = end_of_head(code, ends, head.end())
+            at = head.end()
+            # (to where its body begins, or to the semicolon of one that has none)
+            while at < len(code) and code[at] != ";" and (code[at] != "{" or BEFORE_CLAUSE.search(code[head.end() : at])):
+                at = ends.get(at, at) + 1 if code[at] in "{([" else at + 1
             clauses = tuple(name or "ensures" for name in CLAUSE.findall(code[head.end() : at]))
             names, of_type, trait, is_declared = next((it[2:] for it in blocks if it[0] < head.start() < it[1]), (modules, head["name"], "", False))
             if is_declared:
@@ -110,12 +109,16 @@ class Sources:
         for head in TRAIT.finditer(code):
             yield head.end() - 1, ends.get(head.end() - 1, 0), [*modules_of(path), head[1]], head[1], head[1], True
 
+    def clauses_of(self, body):
+        """Returns the names of what a function ensures, `invariant` among them, of which nothing is said here."""
+        return (*body.clauses, *self.repository.methods.get(body.method, ()), "invariant")
+
 
 class Edit:
     """A file of `file:`, `old:` and `new:` lines, over one file of src/ or of specs/. docs/gate.md has its other lines."""
 
     def __init__(self, path, crate):
-        self.crate, self.name, self.verdict, self.why = crate, path.name, "", ""
+        self.crate, self.name, self.names = crate, path.name, {crate.name, f"{crate.name}/{path.name}", f"{crate.name}/{path.stem}"}
         self.words = path.read_text("utf-8", "replace")
         lines = lambda head: [it.split() for it in re.findall(rf"(?m)^{head}: *(.+)", self.words)]
         self.rows, self.laws, self.stands = sum(lines("row"), []), sum(lines("law"), []), lines("stands for")
@@ -126,9 +129,8 @@ class Edit:
         self.file, self.is_turned = "".join(files[:1]), "".join(files[:1]).startswith("specs/")
         # (the first function, those of which a check is asked, and each clause that it names, with the functions, and methods of a trait, that it may be of)
         self.function, self.asked, self.clauses = "", [], []
-        unreadable = self.apply(files) or self.find(lines("clause"))
-        if unreadable:
-            self.tell("BAD EDIT", unreadable)
+        self.why = self.apply(files) or self.find(lines("clause"))
+        self.verdict = "BAD EDIT" if self.why else ""
 
     def apply(self, files):
         """Finds what it puts in place of what, and returns why it cannot be applied, if so."""
@@ -148,29 +150,24 @@ class Edit:
 
     def find(self, clauses):
         """Finds the function, with its arm, in whose body the edit lies, if it names none, and returns what it names that is not there."""
-        crate, sources = self.crate, self.crate.sources
+        crate = self.crate
         around = lambda parts: [it for it in parts if it.start <= self.start and self.end <= it.end]
-        for body in [] if self.functions or self.is_turned else sorted(around(sources.bodies[self.file]), key=lambda it: it.end - it.start)[:1]:
+        for body in [] if self.functions or self.is_turned else sorted(around(crate.bodies[self.file]), key=lambda it: it.end - it.start)[:1]:
             arms = [it.name for it in sorted(around(body.arms), key=lambda it: it.start - it.end)[:1]]
             # (goals are named after the constructor, so one that stands in two arms tells nothing)
             self.functions = {body.function: frozenset(f"in-{it}" for it in arms if [other.name for other in body.arms].count(it) == 1)}
         self.function = next(iter(self.functions), "")
         # (a check cannot be asked of a trait's own body of a method, so the whole crate is checked then)
-        self.asked = [] if any(it.function in self.functions and it.is_default for it in sources.by_name.values()) else [*self.functions]
-        logic = "\n".join(crate.logic.values())
-        lost = [f"row {it}" for it in self.rows if not re.search(rf"(?m)^(?:\w+ )*{re.escape(it)} : ", logic)]
-        lost += [f"function {it}" for it in self.functions if it not in sources.by_name]
-        lost += [f"law {it}" for it in self.laws if not any(body.is_law for body in sources.named(it))]
+        self.asked = [] if any(it.function in self.functions and it.is_default for it in crate.by_name.values()) else [*self.functions]
+        lost = [f"row {it}" for it in self.rows if not re.search(rf"(?m)^(?:\w+ )*{re.escape(it)} : ", crate.logic)]
+        lost += [f"function {it}" for it in self.functions if it not in crate.by_name]
+        lost += [f"law {it}" for it in self.laws if not any(body.is_law for body in crate.named(it))]
         lost += [f"public clause {' '.join(it)}" for it in self.stands if not crate.repository.has_public(*it)]
         for *function, clause in clauses:
-            bodies = [it for it in sources.named(" ".join(function) or self.function) if clause in crate.clauses_of(it)]
+            bodies = [it for it in crate.named(" ".join(function) or self.function) if clause in crate.clauses_of(it)]
             self.clauses.append((clause, {(name, clause) for it in bodies for name in (it.function, it.method)}))
             lost += [] if bodies else [f"clause {' '.join([*function, clause])}"]
         return f"there is no {lost[0]}" if lost else ""
-
-    def is_named(self, name):
-        """Returns whether a word CRATE or CRATE/EDIT names it."""
-        return name.removesuffix(".edit") in (self.crate.name, f"{self.crate.name}/{Path(self.name).stem}")
 
     def overlaps(self, other):
         """Returns whether the two change one text."""
@@ -185,26 +182,8 @@ class Edit:
         """Returns whether a goal of a function is of an arm that the edit changes."""
         return any(re.search(rf"(?:\A|-){re.escape(it)}(?!\w)", goal) for it in self.functions.get(function, ()))
 
-    def tell(self, verdict, why):
-        self.verdict, self.why = verdict, why
-
     def __str__(self):
         return f"{self.crate.name}/{self.name}: {'refused by' if self.verdict == 'refused' else f'{self.verdict}:'} {self.why}"
-
-
-class Crate:
-    """A crate, its texts and its wrong bodies."""
-
-    def __init__(self, repository, name, uses):
-        self.repository, self.name, self.uses, self.folder = repository, name, uses, Path(repository.root, "crates", name)
-        read = lambda pattern: {it.relative_to(self.folder).as_posix(): it.read_text("utf-8") for it in sorted(self.folder.glob(pattern))}
-        self.sources, self.logic = Sources(read("src/**/*.rt")), {**read("specs/**/*.antt"), **read("proofs/**/*.antt")}
-        self.texts = {**self.sources.texts, **{path: text for path, text in self.logic.items() if path.startswith("specs/")}}
-        self.size = sum(map(len, [*self.sources.texts.values(), *self.logic.values()]))
-
-    def clauses_of(self, body):
-        """Returns the names of what a function ensures, `invariant` among them, of which nothing is said here."""
-        return (*body.clauses, *self.repository.methods.get(body.method, ()), "invariant")
 
 
 class Repository:
@@ -214,22 +193,19 @@ class Repository:
         self.root = Path(root).resolve()
         rows = [line.partition("#")[0].partition(":") for line in Path(self.root, "crates.txt").read_text("utf-8").split("\n")]
         self.crates = {name.strip(): Crate(self, name.strip(), below.split()) for name, _, below in rows if name.strip()}
-        self.methods = {name: clauses for it in self.crates.values() for name, clauses in it.sources.methods.items()}
+        self.methods = {name: clauses for it in self.crates.values() for name, clauses in it.methods.items()}
         for it in self.crates.values():
             it.edits = [Edit(path, it) for path in sorted(Path(it.folder, "wrong").glob("*.edit"))]
 
     def below(self, *crates):
         """Returns the repository's crates on which some rest, lowest first."""
-        found, left = set(), [it for crate in crates for it in crate.uses]
-        while left:
-            name = left.pop()
-            if name in self.crates and name not in found:
-                found.add(name)
-                left += self.crates[name].uses
-        return [it for it in self.crates.values() if it.name in found]
+        names = {name for it in crates for name in it.uses}
+        for it in reversed(self.crates.values()):
+            names.update(it.uses if it.name in names else ())
+        return [it for it in self.crates.values() if it.name in names]
 
     def has_public(self, function, *clause):
         """Returns whether a function, as `name` or `CRATE/name`, is public and has the clause."""
         crate, _, name = function.rpartition("/")
         its = [self.crates[crate]] if crate in self.crates else [] if crate else self.crates.values()
-        return len(clause) == 1 and any(body.is_public and clause[0] in it.clauses_of(body) for it in its for body in it.sources.named(name))
+        return len(clause) == 1 and any(body.is_public and clause[0] in it.clauses_of(body) for it in its for body in it.named(name))

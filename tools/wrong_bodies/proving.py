@@ -1,8 +1,4 @@
-"""Checks a copy of a crate with edits in it, and gives each edit its verdict.
-
-A caller of a broken function says that it calls what is not proved, and says that a goal is not proved only of a goal of its own. So an edit is
-refused in a batch only where a goal of its own function, or arm, is not proved, and no goal of a function that no edit of the batch names.
-"""
+"""Checks a copy of a crate with edits in it, and gives each edit its verdict."""
 import os
 import re
 import shutil
@@ -69,38 +65,36 @@ class Prover:
     """Checks one crate, over what its own checks kept in out/ and what those of this prover keep in a room."""
 
     def __init__(self, crate, room):
-        self.crate, self.seconds, self.kept = crate, 0.0, f"{room}/incremental"
+        self.crate, self.seconds = crate, 0.0
         if Path(crate.folder, "out/incremental").is_dir():
-            shutil.copytree(Path(crate.folder, "out/incremental"), self.kept)
-
-    def words(self):
-        crate, repository = self.crate, self.crate.repository
-        folder = lambda it: f"{repository.root}/crates/{it}/out/rlib" if it in repository.crates else f"{KIT}/rlibs"
-        words = ["--crate-name", crate.name, "src/main.rt" if crate.sources.is_program else "src/lib.rt"]
-        for it in ("std", *crate.uses):
-            words += ["--extern", f"{it}={folder(it)}/{it}.rlib"]
-        for it in sorted({folder("std"), *(folder(it.name) for it in repository.below(crate))}):
-            words += ["-L", f"dependency={it}"]
-        return [*words, "--antt-project", f"{KIT}/rattle/logic/antt-project.json", "--logic-built", f"{KIT}/logic_built"]
+            shutil.copytree(Path(crate.folder, "out/incremental"), f"{room}/incremental")
+        folder = lambda it: f"{crate.repository.root}/crates/{it}/out/rlib" if it in crate.repository.crates else f"{KIT}/rlibs"
+        self.words = ["--crate-name", crate.name, "src/main.rt" if crate.is_program else "src/lib.rt"]
+        self.words += [word for it in ("std", *crate.uses) for word in ("--extern", f"{it}={folder(it)}/{it}.rlib")]
+        below = sorted({folder("std"), *(folder(it.name) for it in crate.repository.below(crate))})
+        self.words += [word for it in below for word in ("-L", f"dependency={it}")]
+        self.words += ["--antt-project", f"{KIT}/rattle/logic/antt-project.json", "--logic-built", f"{KIT}/logic_built"]
+        self.words += ["--incremental", f"{room}/incremental", "--jobs", "1"]
 
     def check(self, edits, functions):
         """Checks a copy of the crate with these edits: the functions alone, or all where none is named."""
-        with tempfile.TemporaryDirectory(prefix="wrong-bodies-") as copy, tempfile.TemporaryFile() as said:
+        return self.ran(edits, "check", *self.words, *(word for it in sorted(set(functions)) for word in ("--only", it)))
+
+    def ran(self, edits, *words):
+        """Runs rattle in a copy of the crate with these edits."""
+        with tempfile.TemporaryDirectory(prefix="wrong-bodies-") as copy:
             for part in ("src", "specs", "proofs"):
                 if Path(self.crate.folder, part).is_dir():
                     shutil.copytree(f"{self.crate.folder}/{part}", f"{copy}/{part}")
-            for file in {it.file for it in edits}:
-                text = self.crate.texts[file]
-                for it in sorted((it for it in edits if it.file == file), key=lambda it: -it.start):
-                    text = text[: it.start] + it.new + text[it.end :]
-                Path(copy, file).write_text(text, "utf-8")
-            only = [word for it in sorted(set(functions)) for word in ("--only", it)]
-            words = [f"{KIT}/bin/rattle", "check", *self.words(), *only, "--incremental", self.kept, "--jobs", "1"]
-            ran = subprocess.Popen(words, cwd=copy, stdin=subprocess.DEVNULL, stdout=said, stderr=subprocess.STDOUT)
-            _, status, used = os.wait4(ran.pid, 0)
-            ran.returncode = os.waitstatus_to_exitcode(status)
-            said.seek(0)
-            lines = said.read().decode("utf-8", "replace").rstrip("\n").split("\n")
+            for it in sorted(edits, key=lambda it: -it.start):
+                # (those of one file from its end, so that each finds its text where it was)
+                text = Path(copy, it.file).read_text("utf-8")
+                Path(copy, it.file).write_text(text[: it.start] + it.new + text[it.end :], "utf-8")
+            words = [f"{KIT}/bin/rattle", *words]
+            with subprocess.Popen(words, cwd=copy, stdin=subprocess.DEVNULL, stdout=subprocess.PIPE, stderr=subprocess.STDOUT) as ran:
+                lines = ran.stdout.read().decode("utf-8", "replace").rstrip("\n").split("\n")
+                _, status, used = os.wait4(ran.pid, 0)
+                ran.returncode = os.waitstatus_to_exitcode(status)
         self.seconds += used.ru_utime + used.ru_stime
         return Said(ran.returncode, lines, goals_in(lines, self.crate.name))
 
@@ -121,7 +115,7 @@ def clause_of(crate, function, goal):
     """Returns the clause that a goal is of, or nothing where it is of a proof's script, or of a condition that the code owes somewhere."""
     if not goal.startswith(("returns", "invariant_of-")) or LOOP_GOAL.search(goal):
         return ""
-    clauses = crate.clauses_of(crate.sources.by_name[function])[:-1] if function in crate.sources.by_name else ()
+    clauses = crate.clauses_of(crate.by_name[function])[:-1] if function in crate.by_name else ()
     named = CLAUSE_GOAL.search(goal)
     return "invariant" if goal.startswith("invariant_of-") else named[1] if named else "ensures" if "ensures" in clauses else " or ".join(clauses)
 
@@ -135,25 +129,26 @@ def batches_of(edits, clash):
     return batches
 
 
-def halves(batch):
-    return [batch[: len(batch) // 2], batch[len(batch) // 2 :]]
-
-
 def read_edits(prover, edits):
-    """Has the prover's front end read edits, as many together as there may be, and marks those that are no code over today's text."""
-    left = batches_of(edits, Edit.overlaps)
+    """Has the prover's front end read edits, as many together as there may be, and marks those that are no code over today's text. Of a turned
+    definition it is told here whether it parses, and when it is tried whether its names are known."""
+    for it in (it for it in edits if it.is_turned):
+        said = prover.ran([it], "fmt", "--write", it.file)
+        it.verdict, it.why = ("BAD EDIT", f"it is no definition: {said.complaint()}") if said.status else ("", "")
+    left = batches_of([it for it in edits if not it.is_turned], Edit.overlaps)
     while left:
         batch = left.pop()
         said = prover.check(batch, [""])
         if said.status and len(batch) > 1:
-            left += halves(batch)
+            left += [batch[: len(batch) // 2], batch[len(batch) // 2 :]]
         elif said.status:
-            batch[0].tell("BAD EDIT", f"it is no code: {said.complaint()}")
+            batch[0].verdict, batch[0].why = "BAD EDIT", f"it is no code: {said.complaint()}"
 
 
 def try_edits(prover, edits):
-    """Tries edits of a crate, those of code in batches. A batch of which a check can't tell is halved. An edit that no batch refuses is tried alone
-    by its functions, one that can be asked of none by the whole crate, and so is a turned definition."""
+    """Tries edits of a crate, those of code in batches. A caller of a broken function says that a goal is not proved only of a goal of its own, so a
+    batch refuses an edit by goals of its own function, or arm, where no function without an edit has one; else it is halved. An edit that no batch
+    refuses is tried alone by its functions, one that can be asked of none by the whole crate, and so is a turned definition."""
     is_alone = lambda it: it.is_turned or not it.asked
     left = [*([it] for it in edits if is_alone(it)), *batches_of([it for it in edits if not is_alone(it)], Edit.clashes)]
     while left:
@@ -161,19 +156,17 @@ def try_edits(prover, edits):
         edit, functions = batch[0], [name for it in batch for name in it.asked]
         said = prover.check(batch, functions)
         if len(batch) > 1 and not (said.could_read() and set(said.goals) <= set(functions)):
-            left += halves(batch)
+            left += [batch[: len(batch) // 2], batch[len(batch) // 2 :]]
         elif len(batch) > 1:
             for it in batch:
                 judge(it, [*goals_of(it, said, batch)])
             left += [[it] for it in batch if it.verdict != "refused"]
         elif not said.could_read():
-            edit.tell("BAD EDIT" if edit.is_turned else "NOT TRIED", f"the prover cannot read it, or could not tell: {said.complaint()}")
+            edit.verdict, edit.why = "BAD EDIT" if edit.is_turned else "NOT TRIED", f"the prover cannot read it, or could not tell: {said.complaint()}"
         elif said.status == 0:
-            edit.tell("NOT REFUSED", "the crate is still proved with this edit")
-        elif edit.is_turned:
-            judge_turned(edit, said, [*goals_of(None, said, batch)])
+            edit.verdict, edit.why = "NOT REFUSED", "the crate is still proved with this edit"
         else:
-            judge(edit, [*goals_of(None, said, batch)])
+            judge_turned(edit, said) if edit.is_turned else judge(edit, [*goals_of(None, said, batch)])
 
 
 def goals_of(edit, said, batch):
@@ -188,7 +181,7 @@ def goals_of(edit, said, batch):
 def clauses_among(crate, goals):
     """Returns the functions and clauses that goals are of, and those among them that are public."""
     found = list(dict.fromkeys((function, clause) for function, goal in goals if (clause := clause_of(crate, function, goal))))
-    return found, [it for it in found if it[0] in crate.sources.by_name and crate.sources.by_name[it[0]].is_public]
+    return found, [it for it in found if it[0] in crate.by_name and crate.by_name[it[0]].is_public]
 
 
 def judge(edit, goals):
@@ -197,29 +190,29 @@ def judge(edit, goals):
     owed = [" ".join(it) for it in found] or [" ".join(it) for it in goals if it[1] and not LOOP_GOAL.search(it[1])]
     other = [clause for clause, pairs in edit.clauses if not pairs & set(found)]
     if other:
-        edit.tell("NOT REFUSED", f"not by the clause {other[0]} that it names; refused by {', '.join(owed) or 'a step of its proof alone'}")
+        edit.verdict, edit.why = "NOT REFUSED", f"not by the clause {other[0]} that it names; refused by {', '.join(owed) or 'a step of its proof alone'}"
     elif public:
-        edit.tell("refused", ", ".join(map(" ".join, public)))
+        edit.verdict, edit.why = "refused", ", ".join(map(" ".join, public))
     elif edit.stands and owed:
-        edit.tell("refused", f"{owed[0]}, which stands for {' '.join(edit.stands[0])}")
+        edit.verdict, edit.why = "refused", f"{owed[0]}, which stands for {' '.join(edit.stands[0])}"
     else:
-        edit.tell("NOT REFUSED", f"by no public clause, but by {owed[0]}, and it names none that this stands for" if owed else "by a step of its proof alone")
+        edit.verdict, edit.why = "NOT REFUSED", f"by no public clause, but by {owed[0]}, and it names none that this stands for" if owed else "by a step of its proof alone"
 
 
-def judge_turned(edit, said, goals):
+def judge_turned(edit, said):
     """Gives a turned definition its verdict: each row that it names has to be refused, or else each law, or some row, law or public clause."""
-    sources = edit.crate.sources
+    crate = edit.crate
     errors = [it for it in map(REFUSED.match, said.lines) if it and not NOT_OWN.search(unquoted(it["why"]))]
     rows = [it["name"] for it in errors if it["file"].endswith("Rows")]
-    laws = [it[1] for it in map(NOT_PROVED.match, said.lines) if it and it[1] in sources.by_name and sources.by_name[it[1]].is_law]
-    clauses = [" ".join(it) for it in clauses_among(edit.crate, goals)[1] if it[0] not in laws]
+    laws = [it[1] for it in map(NOT_PROVED.match, said.lines) if it and it[1] in crate.by_name and crate.by_name[it[1]].is_law]
+    clauses = [" ".join(it) for it in clauses_among(crate, goals_of(None, said, []))[1] if it[0] not in laws]
     left = [f"row {it}" for it in edit.rows if it not in rows]
-    left += [f"law {it}" for it in edit.laws if not edit.rows and not any(body.function in laws for body in sources.named(it))]
+    left += [f"law {it}" for it in edit.laws if not edit.rows and not any(body.function in laws for body in crate.named(it))]
     told = [*(f"the row {it}" for it in edit.rows or rows[:1]), *(f"the law {it}" for it in laws[:3]), *clauses[:1]]
     edit.laws += laws
     if left:
-        edit.tell("NOT REFUSED", f"the {left[0]} still holds; refused is {', '.join([*rows, *laws, *(it['name'] for it in errors)][:3])}")
+        edit.verdict, edit.why = "NOT REFUSED", f"the {left[0]} still holds; refused is {', '.join([*rows, *laws, *(it['name'] for it in errors)][:3])}"
     elif told:
-        edit.tell("refused", ", ".join(told))
+        edit.verdict, edit.why = "refused", ", ".join(told)
     else:
-        edit.tell("NOT REFUSED", f"by no row, law or public clause, but by {said.complaint()}")
+        edit.verdict, edit.why = "NOT REFUSED", f"by no row, law or public clause, but by {said.complaint()}"
