@@ -3,7 +3,6 @@ import os
 import re
 import shutil
 import subprocess
-import tempfile
 from pathlib import Path
 from typing import NamedTuple
 
@@ -62,12 +61,13 @@ def goals_in(lines, crate):
 
 
 class Prover:
-    """Checks one crate, over what its own checks kept in out/ and what those of this prover keep in a room."""
+    """Checks a copy of one crate in a room, over what its own checks kept in out/ and what those of this prover keep."""
 
     def __init__(self, crate, room):
-        self.crate, self.seconds = crate, 0.0
-        if Path(crate.folder, "out/incremental").is_dir():
-            shutil.copytree(Path(crate.folder, "out/incremental"), f"{room}/incremental")
+        self.crate, self.room, self.seconds = crate, room, 0.0
+        for part in ("src", "specs", "proofs", "out/incremental"):
+            if Path(crate.folder, part).is_dir():
+                shutil.copytree(Path(crate.folder, part), Path(room, Path(part).name))
         folder = lambda it: f"{crate.repository.root}/crates/{it}/out/rlib" if it in crate.repository.crates else f"{KIT}/rlibs"
         self.words = ["--crate-name", crate.name, "src/main.rt" if crate.is_program else "src/lib.rt"]
         self.words += [word for it in ("std", *crate.uses) for word in ("--extern", f"{it}={folder(it)}/{it}.rlib")]
@@ -81,21 +81,19 @@ class Prover:
         return self.ran(edits, "check", *self.words, *(word for it in sorted(set(functions)) for word in ("--only", it)))
 
     def ran(self, edits, *words):
-        """Runs rattle in a copy of the crate with these edits."""
-        with tempfile.TemporaryDirectory(prefix="wrong-bodies-") as copy:
-            for part in ("src", "specs", "proofs"):
-                if Path(self.crate.folder, part).is_dir():
-                    shutil.copytree(f"{self.crate.folder}/{part}", f"{copy}/{part}")
-            for it in sorted(edits, key=lambda it: -it.start):
-                # (those of one file from its end, so that each finds its text where it was)
-                text = Path(copy, it.file).read_text("utf-8")
-                Path(copy, it.file).write_text(text[: it.start] + it.new + text[it.end :], "utf-8")
-            words = [f"{KIT}/bin/rattle", *words]
-            with subprocess.Popen(words, cwd=copy, stdin=subprocess.DEVNULL, stdout=subprocess.PIPE, stderr=subprocess.STDOUT) as ran:
-                lines = ran.stdout.read().decode("utf-8", "replace").rstrip("\n").split("\n")
-                _, status, used = os.wait4(ran.pid, 0)
-                ran.returncode = os.waitstatus_to_exitcode(status)
+        """Runs rattle in the copy of the crate with these edits."""
+        for it in sorted(edits, key=lambda it: -it.start):
+            # (those of one file from its end, so that each finds its text where it was)
+            text = Path(self.room, it.file).read_text("utf-8")
+            Path(self.room, it.file).write_text(text[: it.start] + it.new + text[it.end :], "utf-8")
+        words = [f"{KIT}/bin/rattle", *words]
+        with subprocess.Popen(words, cwd=self.room, stdin=subprocess.DEVNULL, stdout=subprocess.PIPE, stderr=subprocess.STDOUT) as ran:
+            lines = ran.stdout.read().decode("utf-8", "replace").rstrip("\n").split("\n")
+            _, status, used = os.wait4(ran.pid, 0)
+            ran.returncode = os.waitstatus_to_exitcode(status)
         self.seconds += used.ru_utime + used.ru_stime
+        for it in edits:
+            Path(self.room, it.file).write_text(self.crate.texts[it.file], "utf-8")
         return Said(ran.returncode, lines, goals_in(lines, self.crate.name))
 
 
