@@ -3,6 +3,7 @@ pub mod BareOrder
 pub mod BareRuns
 pub mod Demo
 pub mod Listed
+pub mod Names
 pub mod Checked
 pub mod Done
 pub mod Failures

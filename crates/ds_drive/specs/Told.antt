@@ -24,6 +24,7 @@ use Rattle.ds_drive.specs.declared.refused.FaultyPolicy.{FaultyPolicy}
 use Rattle.ds_drive.specs.declared.refused.FaultySource.{FaultySource}
 use Rattle.ds_drive.specs.declared.refused.Refused.{Refused}
 use Rattle.ds_drive.specs.Failures.{failure_number}
+use Rattle.ds_drive.specs.Names.{shown_name}
 
 -- a source fault's number and name
 abbrev pub fault_name : SourceFault → List ℕ
@@ -90,7 +91,7 @@ told_lines front place source p (fault ∷ faults) = told_line front place sourc
 
 -- the faults of a file with this source, as a listing tells them
 abbrev pub listed_faults : List ℕ → List ℕ → List SourceFault → List ℕ
-listed_faults file text faults = told_lines (codes "dsmon: ") file None (none_passed text) faults
+listed_faults file text faults = told_lines (codes "dsmon: ") (shown_name file) None (none_passed text) faults
 
 -- the number and name of a source's fault, the source's name, and the line
 abbrev pub source_fault_words : List ℕ → SourceFault → List ℕ
@@ -112,7 +113,7 @@ fault_words fault.Memory = codes "25 Memory"
 
 -- and of a failure
 abbrev pub failure_words : Failure → List ℕ
-failure_words (failure.UnreadableFile name) = codes "26 Unreadable " ++ name.now
+failure_words (failure.UnreadableFile name) = codes "26 Unreadable " ++ shown_name name.now
 failure_words (failure.UnreadableSource name) = codes "26 Unreadable " ++ name
 failure_words (failure.Fault f) = fault_words f
 

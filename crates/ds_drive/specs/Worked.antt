@@ -1,5 +1,6 @@
--- Worked statuses.
-use Rattle.std.specs.Prelude.{refl, ◌≡◌, [], ◌∷◌, map, replicate}
+-- Worked statuses and names.
+use Rattle.std.specs.Prelude.{codes, refl, ◌≡◌, [], ◌∷◌, map, replicate}
+use Rattle.ds_drive.specs.Names.{shown_name}
 use Rattle.ds_drive.specs.Statuses.{fault_status}
 
 pub refused_input_has_status_2 : map fault_status (1 ∷ 3 ∷ 4 ∷ 5 ∷ 6 ∷ 7 ∷ 8 ∷ 9 ∷ 10 ∷ 20 ∷ 24 ∷ 26 ∷ []) ≡ replicate 12 2
@@ -7,3 +8,13 @@ refused_input_has_status_2 = refl
 
 pub faults_of_the_run_have_status_3 : map fault_status (21 ∷ 22 ∷ 23 ∷ 25 ∷ []) ≡ replicate 4 3
 faults_of_the_run_have_status_3 = refl
+
+-- a line feed, an escape character, and the last control character
+pub a_name_stays_in_its_line : map shown_name ((97 ∷ 10 ∷ 98 ∷ []) ∷ (27 ∷ 91 ∷ 127 ∷ []) ∷ []) ≡ codes "a\\nb" ∷ codes "\\x1b[\\x7f" ∷ []
+unfolding shown_name
+a_name_stays_in_its_line = refl
+
+-- a blank, a backslash, and a letter with an accent
+pub other_names_are_as_they_are : shown_name (32 ∷ 92 ∷ 195 ∷ 169 ∷ []) ≡ 32 ∷ 92 ∷ 195 ∷ 169 ∷ []
+unfolding shown_name
+other_names_are_as_they_are = refl

@@ -22,7 +22,7 @@ const BYTES_AT_ONCE: usize = 32_768;
 #[derive(Clone, Copy)]
 pub(crate) struct Wording<'a> {
     pub(crate) front: &'a str,
-    pub(crate) place: &'a str,
+    pub(crate) place: &'a [u8],
 }
 
 /// What kept faults from being told: the writer failed, or memory ran out.
@@ -52,7 +52,7 @@ fn push_head<'a>(
 {
     text.extend_from_slice(wording.front.as_bytes())?;
     push_name(text, fault)?;
-    text.extend_from_slice(wording.place.as_bytes())?;
+    text.extend_from_slice(wording.place)?;
     text.extend_from_slice(b" ")
 }
 

@@ -8,6 +8,7 @@ mod failure;
 mod faults;
 mod files;
 mod list;
+mod names;
 mod notes;
 mod policy_place;
 mod program;

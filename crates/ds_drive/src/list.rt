@@ -7,6 +7,7 @@ ghost use Rattle.ds_log.specs.Sent.{AppendsPart};
 use crate::failure::Failure;
 use crate::faults::{Wording, tell_lines};
 use crate::files::Files;
+use crate::names::send_name;
 use crate::refused::FaultySource;
 use crate::run::named_file;
 use crate::status::INPUT_REFUSED;
@@ -70,15 +71,19 @@ pub fn list_file<'a, F: Files, W: Write>(
 
 /// Tells of the faults of a source, a line for each with the reason at its end, and answers the
 /// status. Where the writer fails, or memory runs out, the rest is not told.
-#[tactic(auto, using(crate::proofs::Tellings::told_either))]
+#[tactic(auto, using(crate::proofs::Tellings::told_either, crate::proofs::Tellings::nothing_told))]
 pub fn tell_faults<E: Write>(alloc: Global, err: &mut E, file: &str, source: &FaultySource) -> u8
     ensures status { result ≡ 2 }
     ensures told { AppendsPart (E.contents err.old) (E.contents err.new)
         (listed_faults file.now source.now.text.items source.now.faults.items) }
 {
+    let mut place = Vec::new(alloc);
+    if send_name(&mut place, file.as_bytes()).is_err() {
+        return INPUT_REFUSED;
+    }
     let wording = Wording {
         front: "dsmon: ",
-        place: file,
+        place: &place,
     };
     let reasons = FaultyLines::of(&source.text);
     let _ = tell_lines(alloc, err, wording, &mut None, reasons, &source.faults);

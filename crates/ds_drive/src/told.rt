@@ -4,12 +4,14 @@ ghost use Rattle.ds_asm.specs.Assembling.{source_fault_line};
 ghost use Rattle.std.specs.Io.KnownBytes.{Appends};
 ghost use Rattle.ds_check.specs.Carets.{place_shown};
 ghost use Rattle.ds_drive.specs.Failures.{failure_number};
+ghost use Rattle.ds_drive.specs.Names.{shown_name};
 ghost use Rattle.ds_drive.specs.Statuses.{fault_status};
 ghost use Rattle.ds_drive.specs.Told.{cause_below, cause_shown, failure_line, fault_words, input_shown, none_passed, others_shown, others_told, pass, passed_in, place_line, policy_shown, reason_after, refused_text, shown_in, source_fault_words, source_shown, why_told};
 ghost use Rattle.ds_log.specs.Sent.{AppendsPart};
 
 use crate::failure::Failure;
 use crate::faults::{Untold, Wording, push_caret_at, push_shown, tell_lines};
+use crate::names::send_name;
 use crate::refused::{FaultyInput, FaultyPolicy, FaultySource, Refused};
 use crate::status::status_of;
 use crate::why::{first_reason, push_mending, push_reason_told};
@@ -75,14 +77,25 @@ fn send_failure<'a, E: Write>(err: &mut E, failure: &Failure<'a>) -> Result<(), 
         (failure_line failure.now)) }
 {
     match failure {
-        Failure::UnreadableFile(name) => {
-            send_line(err, &[b"26 Unreadable "], &[name.as_bytes()])
-        }
+        Failure::UnreadableFile(name) => send_unreadable(err, name.as_bytes()),
         Failure::UnreadableSource(name) => {
             send_line(err, &[b"26 Unreadable "], &[name.as_str().as_bytes()])
         }
         Failure::Fault(fault) => send_fault(err, fault),
     }
+}
+
+/// Hands the line of a file that can't be read to the writer.
+fn send_unreadable<E: Write>(err: &mut E, name: &[u8]) -> Result<(), Untold>
+    ensures all { OnOk result (Appends (E.contents err.old) (E.contents err.new)
+        (codes "dsmon: " ++ ((codes "26 Unreadable " ++ shown_name name.now) ++ codes "\n"))) }
+    ensures front { OnErr result (AppendsPart (E.contents err.old) (E.contents err.new)
+        (codes "dsmon: " ++ ((codes "26 Unreadable " ++ shown_name name.now) ++ codes "\n"))) }
+{
+    send(err, b"dsmon: 26 Unreadable ")?;
+    send_name(err, name)?;
+    send(err, b"\n")?;
+    Ok(())
 }
 
 /// Hands the line of a fault to the writer.
@@ -284,7 +297,7 @@ fn send_faults<E: Write>(
 {
     let wording = Wording {
         front: "and ",
-        place: "in line",
+        place: b"in line",
     };
     match faults {
         [first, others @ ..] => {
