@@ -13,7 +13,7 @@ from pathlib import Path
 
 sys.dont_write_bytecode = True
 
-from believe.page import LISTS, PAGE, page, reached_by  # noqa: E402
+from believe.page import LISTS, PAGE, named_by, page  # noqa: E402
 from believe.repository import Repository  # noqa: E402
 from believe.texts import Unresolved  # noqa: E402
 from believe.shown import DOCUMENT, shown  # noqa: E402
@@ -23,7 +23,7 @@ TOP = Path(__file__).resolve().parent.parent
 
 def tell(repository, path, function, clauses):
     """Prints the definitions on which clauses of a function rest."""
-    _, reached = reached_by(repository, path, function, clauses)
+    reached = repository.rests_on(named_by(repository, path, function, clauses)[1].found.values())
     for it in reached.values():
         print(f"{it.path}:{it.line}: {it.name}, {len(it.own)} lines")
     print(f"{len(reached)} definitions, {sum(it.code for it in reached.values())} lines and {sum(it.comments for it in reached.values())} of comments")
@@ -43,7 +43,7 @@ def main(words, top=TOP, lists=LISTS):
     repository = Repository(top)
     now, told = page(repository, lists)
     document = Path(top, DOCUMENT).read_text("utf-8")
-    functions = {it.function: it.path for it in lists}
+    functions = {it.function: it.path for it in lists if it.function}
     made, other, missing = shown(document, repository, functions, [lists[0].function])
     told += missing
     if words:

@@ -10,7 +10,7 @@ from pathlib import Path
 
 sys.dont_write_bytecode = True
 
-from believe.page import Asked, page, reached_by  # noqa: E402
+from believe.page import Asked, named_by, page  # noqa: E402
 from believe.repository import Repository  # noqa: E402
 
 SCRIPT = importlib.util.spec_from_file_location("believe_command", Path(__file__).resolve().parent / "believe.py")
@@ -95,6 +95,23 @@ macro_rules! unneeded {
 
 /// The words.
 static WORDS: [&str; 1] = table!(firsts);
+""",
+    "crates/toy/src/laws.rt": """\
+//! Laws.
+ghost use Rattle.std.specs.Prelude.{◌≡◌};
+ghost use Rattle.toy.specs.Low.{count, North};
+
+/// Nothing is counted of this way.
+pub fn north_counts_nothing()
+    ensures { count North ≡ 0 }
+{}
+
+/// It does something, and is no law.
+pub fn walk()
+    ensures { with_all ≡ with_all }
+{
+    step()
+}
 """,
     "crates/toy/specs/Top.antt": """\
 -- What a run shows. It is small.
@@ -207,7 +224,8 @@ class Believe(unittest.TestCase):
         place.write_text(text.replace(old, new) if old else text, "utf-8")
 
     def reached(self, *clauses):
-        return reached_by(Repository(self.top), RUN, "run", clauses)[1].values()
+        repository = Repository(self.top)
+        return repository.rests_on(named_by(repository, RUN, "run", clauses)[1].found.values()).values()
 
     def names(self, *clauses):
         return {it.name for it in self.reached(*clauses)}
@@ -324,6 +342,11 @@ class Believe(unittest.TestCase):
         self.assertEqual([f"{RUN}: clause `more` of `run` is in no list of tools/believe/page.py"], self.told())
         self.put(RUN, "    ensures err { n ≡ n }\n", "    ensures error { n ≡ n }\n")
         self.assertIn(f"{RUN}: `run` has no clause `err`", self.told())
+
+    def test_laws_are_functions_that_do_nothing(self):
+        text, told = page(Repository(self.top), [*LISTS, Asked("", "", [], "What is true.", [], ("toy",))])
+        self.assertEqual([], told)
+        self.assertIn("| 3. The laws of `toy` | one law | 1 | 3 | 0 | 0 | 27 |", text)
 
     def test_any_function_is_told_by_its_file(self):
         status, said = self.main("--of", RUN, "run", "err")

@@ -14,6 +14,7 @@ TOP = Path(__file__).resolve().parent.parent
 COMMANDS = [  # those that take longest first
     ["tools/refused_memory.py"],
     ["tools/test_wrong_bodies.py"],
+    ["tools/wrong_bodies.py", "--count"],
     ["tools/test_elf_to_policy.py"],
     ["tools/test_hostile_cases.py"],
     ["tools/test_reading_cases.py"],

@@ -1,4 +1,5 @@
 """The page of what has to be believed."""
+import re
 from collections import Counter
 from typing import NamedTuple
 
@@ -18,6 +19,10 @@ class Asked(NamedTuple):
     clauses: list  # some of its clauses, or none for all
     about: str
     compared: list  # with what these definitions are compared
+    laws: tuple = ()  # in place of a function the crates of whose laws it is
+
+    def title(self):
+        return f"`{self.function}`" if self.function else "The laws of " + ", ".join(f"`{it}`" for it in self.laws)
 
 
 LISTS = [
@@ -37,6 +42,10 @@ LISTS = [
           ["`tools/processor_model.py`, a processor with a buffer of 64 entries, the nine words, page tables, address space numbers and late copies",
            "`tools/unit_course.py`, which searches all courses of a unit for its longest",
            "the cases of `crates/part_cases/data/machine/`, worked out by hand, and the rows of `emulated/`"]),
+    Asked("", "", [],
+          "What is true of every run of the page-map machine, and of its parts: what a user may rely on, which states a run comes to, and what can't be seen.",
+          ["a guest's accesses in the rows of `hostile/`, `grants/late/` and `ends/`"],
+          ("ds_pagemap", "ds_pagemap_laws", "ds_promise", "ds_quiet", "ds_alone")),
     Asked(TRACE, "trace_files", [],
           "What a trace tells of a run: its lines, its counts and how each process stands at the end.",
           ["`tools/trace_model.py`, which writes the text of each row of `traces/`"]),
@@ -99,11 +108,30 @@ def contract_of(repository, path, function):
     return Contract(file, function)
 
 
-def reached_by(repository, path, function, clauses):
-    """What clauses of a function name, or all of them, and all definitions that they rest on."""
+def named_by(repository, path, function, clauses):
+    """What clauses of a function name, or all of them, with the file."""
     contract = contract_of(repository, path, function)
-    names = repository.of_contract(contract, set(clauses) if clauses else None, Names(repository, contract.file))
-    return names, repository.rests_on(names.found.values())
+    other = [it for it in clauses if it not in contract.promised()]
+    if other:
+        raise Unresolved(f"{path}: `{function}` has no clause `{other[0]}`")
+    return path, repository.of_contract(contract, set(clauses) if clauses else None, Names(repository, contract.file))
+
+
+def laws_of(repository, crate):
+    """The laws of a crate, each with its file: its public functions that take nothing and do nothing."""
+    for place in sorted(repository.top.glob(f"crates/{crate}/src/**/*.rt")):
+        path = str(place.relative_to(repository.top))
+        for it in re.findall(r"^pub fn (\w+)\(\)\n(?: .*\n)*\{\}$", place.read_text("utf-8"), flags=re.MULTILINE):
+            yield path, it
+
+
+def asked_of(repository, asked):
+    """What a list is made of: what its clauses name, with their files, and the words that tell which they are."""
+    if asked.function:
+        told = asked.clauses or contract_of(repository, asked.path, asked.function).promised()
+        return [named_by(repository, asked.path, asked.function, asked.clauses)], ", ".join(f"`{it}`" for it in told)
+    laws = [it for crate in asked.laws for it in laws_of(repository, crate)]
+    return [named_by(repository, *it, []) for it in laws], f"{len(laws)} laws" if len(laws) > 1 else "one law"
 
 
 class Lists:
@@ -114,15 +142,16 @@ class Lists:
         seen, fields = {}, KIT_FIELDS
         for it in given:
             try:
-                names, reached = reached_by(repository, it.path, it.function, it.clauses)
+                named, told = asked_of(repository, it)
+                reached = repository.rests_on(one for _, names in named for one in names.found.values())
             except Unresolved as fault:
                 self.faults.append(str(fault))
                 continue
             fields = fields | {name for it in reached.values() for name in (it.name, *it.members)}
-            for path, its in [(it.path, names), *((one.path, repository.follow(one)) for one in reached.values())]:
+            for path, its in [*named, *((one.path, repository.follow(one)) for one in reached.values())]:
                 self.known(path, its, fields)
                 self.kit |= its.kit
-            self.parts.append((it.clauses or contract_of(repository, it.path, it.function).promised(), [one for one in reached.values() if one.key not in seen]))
+            self.parts.append((told, [one for one in reached.values() if one.key not in seen]))
             seen.update(reached)
         self.seen = seen
         self.unlisted()
@@ -132,12 +161,10 @@ class Lists:
         self.faults += [f"{path}:{number}: no type has the field `{it}`" for it, number in names.fields.items() if it not in fields]
 
     def unlisted(self):
-        """Tells the clauses of a function that are in no list, and those of a list that the function has not."""
+        """Tells the clauses of a function that are in no list, where some of it are."""
         for path, function in dict.fromkeys((it.path, it.function) for it in self.given if it.clauses and self.repository.read(it.path)):
-            promised = contract_of(self.repository, path, function).promised()
             listed = [clause for it in self.given if (it.path, it.function) == (path, function) for clause in it.clauses]
-            self.faults += [f"{path}: clause `{it}` of `{function}` is in no list of tools/believe/page.py" for it in promised if it not in listed]
-            self.faults += [f"{path}: `{function}` has no clause `{it}`" for it in listed if it not in promised]
+            self.faults += [f"{path}: clause `{it}` of `{function}` is in no list of tools/believe/page.py" for it in contract_of(self.repository, path, function).promised() if it not in listed]
 
 
 def files_of(repository, ones):
@@ -163,14 +190,14 @@ def files_of(repository, ones):
 
 def part(repository, at, lists, rows):
     """The part of the page on one list."""
-    asked, (clauses, ones) = lists.given[at], lists.parts[at]
+    asked, (told, ones) = lists.given[at], lists.parts[at]
     specs, types = by_language(ones)
     some = [it for it in specs if rows[it.key]]
     files = files_of(repository, ones)
     (count, code, comments), (count_types, code_types, comments_types) = sums(specs), sums(types)
     besides = " besides those above" if at else ""
     lines = [
-        f"## {at + 1}. `{asked.function}`: " + ", ".join(f"`{it}`" for it in clauses), "", asked.about, "",
+        f"## {at + 1}. {asked.title()}: {told}", "", asked.about, "",
         f"{count} definitions{besides}, in {len({it.path for it in specs})} files of `specs/`: {code} lines, and {comments} of comments. {count_types} types and constants of Rust: {code_types} lines, and {comments_types} of comments. "
         f"On {len(some)} of the definitions rests a worked row.", "",
     ]
@@ -184,10 +211,10 @@ def part(repository, at, lists, rows):
 def summary(lists):
     """The table of the lists, and what they come to."""
     cells, so_far = [], []
-    for at, (clauses, ones) in enumerate(lists.parts):
+    for at, (told, ones) in enumerate(lists.parts):
         so_far += ones
         (specs, types), (all_so_far, _) = by_language(ones), by_language(so_far)
-        cells.append([f"{at + 1}. `{lists.given[at].function}`", ", ".join(f"`{it}`" for it in clauses), *sums(specs), sums(types)[1], sums(all_so_far)[1]])
+        cells.append([f"{at + 1}. {lists.given[at].title()}", told, *sums(specs), sums(types)[1], sums(all_so_far)[1]])
     return table(["List", "Clauses", "Definitions", "Lines", "Comments", "Lines of types", "Lines so far, without types"], cells)
 
 
