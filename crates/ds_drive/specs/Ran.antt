@@ -43,7 +43,6 @@ pub record HasRunDemo (old new : Option (List ℕ)) : Type 0 where
   pub runs : Begins demo_inputs (Writes old new 100)
   pub real : Begins demo_loaded (WritesReally old new 100 63)
   pub guarded : Begins demo_inputs (WritesWholeGuarded old new 100)
-  pub alone : WritesEachAlone old new demo_inputs
 
 -- of a trace of files, what the processor did is told of the steps of a station that began with them
 abbrev pub TracesReally : (List ℕ → List ℕ → Type 0) → TraceRequest → Option (List ℕ) → Option (List ℕ) → Type 0

@@ -1,4 +1,4 @@
-use Rattle.std.proofs.Common.{refl, subst, rules, inl, map, string_bytes, sym, ◌∙◌}
+use Rattle.std.proofs.Common.{refl, subst, rules, inl, inr, map, string_bytes, sym, ◌∙◌}
 use Rattle.ds_drive.specs.declared.check.Checking.{Checking}
 use Rattle.ds_drive.specs.declared.list.Listing.{Listing}
 use Rattle.ds_drive.specs.Checked.{Checks}
@@ -84,6 +84,9 @@ returns-in-Ok-Noted-clause-stopped g c two =
 pub returns-in-Ok-run_request-clause-done : goal.returns-in-Ok-run_request-clause-done
 returns-in-Ok-run_request-clause-done g c zero =
     run_done _ (g.F.Files.holds c.args.files.now) _ (g.W.Write.contents c.args.out.now) (g.W.Write.contents c.run_request.new.out) (search rules) c.in-Ok-run_request.ensures.ok c.in-Ok-run_request.ensures.real c.in-Ok-run_request.ensures.guarded c.in-Ok-run_request.ensures.alone
+
+pub returns-in-Ok-trace_request-clause-asked : goal.returns-in-Ok-trace_request-clause-asked
+returns-in-Ok-trace_request-clause-asked g c done = inr (inr (inr (inr (inr (c.in-Ok-Some-Trace.request, search rules)))))
 
 pub returns-in-Ok-trace_request-clause-done : goal.returns-in-Ok-trace_request-clause-done
 returns-in-Ok-trace_request-clause-done g c zero =
