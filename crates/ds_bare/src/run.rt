@@ -18,7 +18,7 @@ use crate::machine::{Machine, core_at_start};
 use crate::registers::others;
 use crate::step::push_line;
 use ds_asm::Image;
-use ds_log::{Output, hand};
+use ds_log::{Output, send};
 use ds_policy::Character;
 use std::alloc::Global;
 
@@ -117,7 +117,7 @@ fn turn<'a, O: Output>(
     machine.settle()?;
     line.clear();
     push_line(line, done + 1, &before, event, &machine.core, &machine.bus)?;
-    hand(out, line.as_bytes())?;
+    send(out, line.as_bytes())?;
     Ok(ending)
 }
 
@@ -138,6 +138,6 @@ fn end<'a, O: Output>(
 {
     let mut text = String::new(alloc);
     push_end(alloc, &mut text, ending, done, machine)?;
-    hand(out, text.as_bytes())?;
+    send(out, text.as_bytes())?;
     Ok(())
 }

@@ -101,3 +101,10 @@ asked_last (Some x) None d nothing p e q = absurd p
 asked_last (Some x) (Some y) None nothing p e q = q
 asked_last (Some x) (Some y) (Some z) nothing p e q =
     λ going. (q.0 ∙ rw ((p going).0, e) refl, q.1 ∙ rw ((p going).0) (ap (λ (l : Bool). l || false) (p going).1 ∙ or_false x.asked_later))
+
+-- it took all of a text, and of another what it took
+pub asked_both : (a b d : Option Answers) (failed : Bool) → IsAskedOnce a b false → IsAskedOnce b d failed → IsAskedOnce a d failed
+asked_both None b d failed p q = tt
+asked_both (Some x) None d failed p q = absurd p
+asked_both (Some x) (Some y) None failed p q = q
+asked_both (Some x) (Some y) (Some z) failed p q = λ going. ((q (p going).0).0, (q (p going).0).1 ∙ (p going).1)

@@ -11,4 +11,4 @@ pub use ds_policy::OutOfMemory;
 pub use line::{Denied, Line};
 pub use report::send_report;
 pub use text::{LINE_ROOM, append, line_fits};
-pub use writes::{Output, WriteFailed, hand, send};
+pub use writes::{Output, WriteFailed, send, send_all};

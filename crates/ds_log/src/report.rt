@@ -1,20 +1,20 @@
 //! The text that is written of a state, in pieces: no memory is taken for it.
-ghost use Rattle.std.specs.Prelude.{OnOk, OnErr, map, ◌≡◌, length};
+ghost use Rattle.std.specs.Prelude.{OnOk, OnErr, is_err, map, ◌≡◌, length};
 ghost use Rattle.std.specs.Io.KnownBytes.{Appends};
-ghost use Rattle.ds_log.specs.Sent.{AppendsPart};
+ghost use Rattle.ds_log.specs.Sent.{AppendsPart, IsAskedOnce};
 ghost use Rattle.ds_log.specs.Report.{console_text, log_text, report_text};
 
-use crate::writes::{WriteFailed, send_all};
+use crate::writes::{Output, WriteFailed, send_all};
 use itoa::Buffer;
-use std::io::Write;
 
-/// Hands a console's number, the count of its bytes and the bytes to the writer.
+/// Hands a console's number, the count of its bytes and the bytes to a place.
 #[tactic(auto, unfolding(crate::specs::Report::console_text))]
-fn send_console<W: Write>(number: u32, bytes: &[u8], out: &mut W) -> Result<(), WriteFailed>
+fn send_console<O: Output>(number: u32, bytes: &[u8], out: &mut O) -> Result<(), WriteFailed>
     ensures ok { OnOk result
-        (Appends (W.contents out.old) (W.contents out.new) (console_text number bytes.now)) }
+        (Appends (O.contents out.old) (O.contents out.new) (console_text number bytes.now)) }
     ensures err { OnErr result
-        (AppendsPart (W.contents out.old) (W.contents out.new) (console_text number bytes.now)) }
+        (AppendsPart (O.contents out.old) (O.contents out.new) (console_text number bytes.now)) }
+    ensures once { IsAskedOnce (O.answers out.old) (O.answers out.new) (is_err result) }
 {
     let mut numbers = Buffer::new();
     let mut counts = Buffer::new();
@@ -30,13 +30,14 @@ fn send_console<W: Write>(number: u32, bytes: &[u8], out: &mut W) -> Result<(), 
     send_all(out, &pieces)
 }
 
-/// Hands the count of the log's lines, the lines, and the time to the writer.
+/// Hands the count of the log's lines, the lines, and the time to a place.
 #[tactic(auto, unfolding(crate::specs::Report::log_text))]
-fn send_log<W: Write>(lines: u64, log: &[u8], time: u64, out: &mut W) -> Result<(), WriteFailed>
+fn send_log<O: Output>(lines: u64, log: &[u8], time: u64, out: &mut O) -> Result<(), WriteFailed>
     ensures ok { OnOk result
-        (Appends (W.contents out.old) (W.contents out.new) (log_text lines log.now time)) }
+        (Appends (O.contents out.old) (O.contents out.new) (log_text lines log.now time)) }
     ensures err { OnErr result
-        (AppendsPart (W.contents out.old) (W.contents out.new) (log_text lines log.now time)) }
+        (AppendsPart (O.contents out.old) (O.contents out.new) (log_text lines log.now time)) }
+    ensures once { IsAskedOnce (O.answers out.old) (O.answers out.new) (is_err result) }
 {
     let mut counts = Buffer::new();
     let mut times = Buffer::new();
@@ -52,24 +53,26 @@ fn send_log<W: Write>(lines: u64, log: &[u8], time: u64, out: &mut W) -> Result<
     send_all(out, &pieces)
 }
 
-/// Hands the text of a state to the writer: the consoles of the four lines, the log with the count
+/// Hands the text of a state to a place: the consoles of the four lines, the log with the count
 /// of its lines, and the time in ticks. It takes no memory.
 ///
-/// Where a write fails, or takes nothing, it is `WriteFailed`, and the writer has taken a prefix of
-/// that text.
-pub fn send_report<W: Write>(
+/// Where the place answers by an error, or takes nothing, it is `WriteFailed`: the place has taken a
+/// prefix of that text, and was not asked again.
+#[tactic(auto, using(crate::proofs::Sends::asked_both))]
+pub fn send_report<O: Output>(
     consoles: &[&[u8]; 4],
     lines: u64,
     log: &[u8],
     time: u64,
-    out: &mut W,
+    out: &mut O,
 ) -> Result<(), WriteFailed>
     ensures ok { OnOk result
-        (Appends (W.contents out.old) (W.contents out.new)
+        (Appends (O.contents out.old) (O.contents out.new)
         (report_text (map (λ c. c.now) consoles.now) lines log.now time)) }
     ensures err { OnErr result
-        (AppendsPart (W.contents out.old) (W.contents out.new)
+        (AppendsPart (O.contents out.old) (O.contents out.new)
         (report_text (map (λ c. c.now) consoles.now) lines log.now time)) }
+    ensures once { IsAskedOnce (O.answers out.old) (O.answers out.new) (is_err result) }
 {
     send_console(0, consoles[0], out)?;
     send_console(1, consoles[1], out)?;

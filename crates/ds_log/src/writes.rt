@@ -39,7 +39,7 @@ impl<W: Write> Output for W {
 
 /// Hands bytes to a place, in as many turns as it takes. Where it answers by an error, or takes nothing,
 /// it is `WriteFailed`: the place has taken a prefix of them, and was not asked again.
-pub fn hand<O: Output>(out: &mut O, text: &[u8]) -> Result<(), WriteFailed>
+pub fn send<O: Output>(out: &mut O, text: &[u8]) -> Result<(), WriteFailed>
     ensures ok { OnOk result (Appends (O.contents out.old) (O.contents out.new) text.now) }
     ensures err { OnErr result (AppendsPart (O.contents out.old) (O.contents out.new) text.now) }
     ensures once { IsAskedOnce (O.answers out.old) (O.answers out.new) (is_err result) }
@@ -55,21 +55,14 @@ pub fn hand<O: Output>(out: &mut O, text: &[u8]) -> Result<(), WriteFailed>
     Ok(())
 }
 
-/// Hands bytes to the writer, in as many writes as it takes. Where a write fails, or takes nothing, it
-/// is `WriteFailed`, and the writer has taken a prefix of them.
-pub fn send<W: Write>(out: &mut W, text: &[u8]) -> Result<(), WriteFailed>
-    ensures ok { OnOk result (Appends (W.contents out.old) (W.contents out.new) text.now) }
-    ensures err { OnErr result (AppendsPart (W.contents out.old) (W.contents out.new) text.now) }
-{
-    hand(out, text)
-}
-
-/// Hands the pieces of a text to the writer, one after another.
-pub(crate) fn send_all<W: Write>(out: &mut W, pieces: &[&[u8]]) -> Result<(), WriteFailed>
+/// Hands the pieces of a text to a place, one after another, as `send` hands the whole.
+#[tactic(auto, using(crate::proofs::Sends::asked_both))]
+pub fn send_all<O: Output>(out: &mut O, pieces: &[&[u8]]) -> Result<(), WriteFailed>
     ensures ok { OnOk result
-        (Appends (W.contents out.old) (W.contents out.new) (flat_map (λ p. p.now) pieces.now)) }
+        (Appends (O.contents out.old) (O.contents out.new) (flat_map (λ p. p.now) pieces.now)) }
     ensures err { OnErr result
-        (AppendsPart (W.contents out.old) (W.contents out.new) (flat_map (λ p. p.now) pieces.now)) }
+        (AppendsPart (O.contents out.old) (O.contents out.new) (flat_map (λ p. p.now) pieces.now)) }
+    ensures once { IsAskedOnce (O.answers out.old) (O.answers out.new) (is_err result) }
 {
     for piece in pieces {
         send(out, piece)?;

@@ -1,7 +1,11 @@
-use Rattle.std.proofs.Common.{take}
+use Rattle.std.proofs.Common.{take, false}
 use Rattle.std.specs.Prelude.{flat_map}
 use Rattle.std.specs.Io.KnownBytes.{Appends}
+use Rattle.ds_log.specs.Sent.{IsAskedOnce}
 use Rattle.ds_log.proofs.writes.send_all.Given as goal
 
 abbrev pub invariant-loop-piece : goal.invariant-loop-piece
-invariant-loop-piece g l = Appends (g.W.Write.contents l.fn.out) (g.W.Write.contents l.out) (flat_map (λ p. p.now) (take l.piece-index l.pieces))
+invariant-loop-piece g l = record {
+  written : Appends (g.O.Output.contents l.fn.out) (g.O.Output.contents l.out) (flat_map (λ p. p.now) (take l.piece-index l.pieces));
+  asked : IsAskedOnce (g.O.Output.answers l.fn.out) (g.O.Output.answers l.out) false;
+}
