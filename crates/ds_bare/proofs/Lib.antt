@@ -2,4 +2,5 @@ pub mod Taken
 pub mod Memories
 pub mod Pieces
 pub mod UnderWay
+pub mod CutBetween
 pub mod Zeros

@@ -1,5 +1,5 @@
 -- A run of the bare machine, and its text.
-use Rattle.std.specs.Prelude.{◌≡◌, ℕ, zero, suc, ◌+◌, Bool, if◌then◌else◌, List, [], ◌++◌, Option, Some, None}
+use Rattle.std.specs.Prelude.{◌≡◌, ◌≢◌, ◌≤◌, ℕ, zero, suc, ◌+◌, Bool, if◌then◌else◌, List, [], ◌++◌, Option, Some, None}
 use Rattle.std.specs.Io.KnownBytes.{Appends}
 use Rattle.ds_policy.specs.declared.command.Character.{Character}
 use Rattle.ds_bare.specs.declared.ending.Ending.{Ending}
@@ -47,6 +47,25 @@ ending_from (suc n) k m = end_or_later (ended k m) (ending_from n (k + 1) (turne
 -- the text of a run of an image
 unfoldable pub bare_text : Bool → List ℕ → ℕ → ℕ → List Character → List ℕ
 bare_text quiet image random n keys = run_from quiet n 0 (machine_at_start image random keys)
+
+-- the machine after the first so many instructions
+abbrev pub machine_after : ℕ → Machine → Machine
+machine_after zero m = m
+machine_after (suc k) m = turned k (machine_after k m)
+
+-- what is told of the first so many instructions
+abbrev pub told_by : Bool → ℕ → Machine → List ℕ
+told_by quiet zero m = []
+told_by quiet (suc k) m = told_by quiet k m ++ told quiet k (machine_after k m)
+
+-- a run of at most n instructions was cut between two of them: what is told of the first ones is written, and the rest of its text is not
+pub record IsCutBetween (old new : Option (List ℕ)) (quiet : Bool) (n : ℕ) (m : Machine) : Type 0 where
+  pub done : ℕ
+  pub within : done ≤ n
+  pub written : Appends old new (told_by quiet done m)
+  pub rest : List ℕ
+  pub goes_on : told_by quiet done m ++ rest ≡ run_from quiet n 0 m
+  pub unwritten : rest ≢ []
 
 -- a part of a text is written, and the rest of it is to come
 pub record IsUnderWay (old now : Option (List ℕ)) (rest whole : List ℕ) : Type 0 where

@@ -2,13 +2,14 @@
 ghost use Rattle.std.specs.Prelude.{◌≡◌, ◌≤◌, ◌<◌, ◌+◌, ◌^◌, ◌↔◌, IfOk, IfErr, OnOk, OnErr, Ok, Err, true, false};
 ghost use Rattle.std.specs.Io.KnownBytes.{Appends, Keeps};
 ghost use Rattle.std.specs.String.{string_bytes};
-ghost use Rattle.ds_log.specs.Sent.{AppendsPart};
-ghost use Rattle.ds_bare.specs.Faults.{is_cut, may_start};
+ghost use Rattle.ds_log.specs.Sent.{AppendsPart, IsAskedOnce};
+ghost use Rattle.ds_bare.specs.Faults.{is_cut, is_unwritten, may_start};
+ghost use Rattle.ds_bare.specs.declared.fault.BareFault.TheVariants as fault;
 ghost use Rattle.ds_bare.specs.Machine.{fed, machine_at_start, next_step};
 ghost use Rattle.ds_bare.specs.Endings.{word_at_pc};
 ghost use Rattle.ds_bare.specs.Steps.{before_word, line_text, others};
 ghost use Rattle.ds_bare.specs.Ends.{end_text};
-ghost use Rattle.ds_bare.specs.Runs.{bare_text, ended, ending_from, run_from, told, turned};
+ghost use Rattle.ds_bare.specs.Runs.{IsCutBetween, bare_text, ended, ending_from, run_from, told, turned};
 
 use crate::before::Before;
 use crate::end::push_end;
@@ -25,7 +26,7 @@ use std::alloc::Global;
 /// Runs an image on the bare machine, from its first word on in kernel mode, for at most so many
 /// instructions, and tells of it: a line for each instruction unless it is to be quiet, and at the
 /// end how the machine stands. It answers why the run ended.
-#[tactic(auto, unfolding(crate::specs::Runs::bare_text), using(crate::proofs::UnderWay::part_none))]
+#[tactic(auto, unfolding(crate::specs::Runs::bare_text), using(crate::proofs::UnderWay::part_none, crate::proofs::CutBetween::cut_first, crate::proofs::CutBetween::asked_none, ds_log::proofs::Sends::asked_both))]
 pub fn run_bare<O: Output>(
     alloc: Global,
     image: &Image,
@@ -45,6 +46,10 @@ pub fn run_bare<O: Output>(
     ensures refused { IfErr result (λ f. is_cut f ≡ may_start random) }
     ensures kept { IfErr result (λ f. is_cut f ≡ false
         → Keeps (O.contents out.old) (O.contents out.new)) }
+    ensures short { IfErr result (λ f. f ≡ fault.Memory
+        → IsCutBetween (O.contents out.old) (O.contents out.new) quiet most
+        (machine_at_start image.now random keys.now)) }
+    ensures once { IsAskedOnce (O.answers out.old) (O.answers out.new) (is_unwritten result) }
 {
     let core = core_at_start(random)?;
     let mut machine = Machine::new(alloc, core, image, keys)?;
@@ -52,6 +57,7 @@ pub fn run_bare<O: Output>(
 }
 
 /// Runs a machine for at most so many instructions.
+#[tactic(auto, using(crate::proofs::CutBetween::told_first, crate::proofs::CutBetween::asked_none, ds_log::proofs::Sends::asked_both))]
 fn run<'a, O: Output>(
     alloc: Global,
     machine: &mut Machine<'a>,
@@ -66,6 +72,9 @@ fn run<'a, O: Output>(
     ensures err { OnErr result (AppendsPart (O.contents out.old) (O.contents out.new)
         (run_from quiet most 0 machine.old)) }
     ensures cut { IfErr result (λ f. is_cut f ≡ true) }
+    ensures short { IfErr result (λ f. f ≡ fault.Memory
+        → IsCutBetween (O.contents out.old) (O.contents out.new) quiet most machine.old) }
+    ensures once { IsAskedOnce (O.answers out.old) (O.answers out.new) (is_unwritten result) }
 {
     let mut line = String::new(alloc);
     for done in 0..most {
@@ -83,7 +92,7 @@ fn run<'a, O: Output>(
 
 /// Does one instruction, when so many are done, tells of it, and answers why the run ends with it.
 #[inline(always)]
-#[tactic(auto, unfolding(crate::specs::Runs::told, crate::specs::Runs::turn_text, crate::specs::Runs::ended, crate::specs::Runs::turned, crate::specs::Endings::ending_of))]
+#[tactic(auto, unfolding(crate::specs::Runs::told, crate::specs::Runs::turn_text, crate::specs::Runs::ended, crate::specs::Runs::turned, crate::specs::Endings::ending_of), using(crate::proofs::CutBetween::asked_none))]
 fn turn<'a, O: Output>(
     machine: &mut Machine<'a>,
     done: u64,
@@ -99,6 +108,9 @@ fn turn<'a, O: Output>(
     ensures err { OnErr result (AppendsPart (O.contents out.old) (O.contents out.new)
         (told quiet done machine.old)) }
     ensures cut { IfErr result (λ f. is_cut f ≡ true) }
+    ensures short { IfErr result (λ f. f ≡ fault.Memory
+        → Keeps (O.contents out.old) (O.contents out.new)) }
+    ensures once { IsAskedOnce (O.answers out.old) (O.answers out.new) (is_unwritten result) }
 {
     if quiet {
         machine.feed(done);
@@ -122,7 +134,7 @@ fn turn<'a, O: Output>(
 }
 
 /// Tells of the end.
-#[tactic(auto, using(crate::proofs::UnderWay::part_none))]
+#[tactic(auto, using(crate::proofs::UnderWay::part_none, crate::proofs::CutBetween::asked_none))]
 fn end<'a, O: Output>(
     alloc: Global,
     machine: &Machine<'a>,
@@ -135,6 +147,9 @@ fn end<'a, O: Output>(
     ensures err { OnErr result (AppendsPart (O.contents out.old) (O.contents out.new)
         (end_text ending done machine.now)) }
     ensures cut { IfErr result (λ f. is_cut f ≡ true) }
+    ensures short { IfErr result (λ f. f ≡ fault.Memory
+        → Keeps (O.contents out.old) (O.contents out.new)) }
+    ensures once { IsAskedOnce (O.answers out.old) (O.answers out.new) (is_unwritten result) }
 {
     let mut text = String::new(alloc);
     push_end(alloc, &mut text, ending, done, machine)?;
