@@ -148,6 +148,7 @@ Examples:
 const CHECK_HELP: &str =
     "POLICY, its sources and INPUT are read as a run reads them. Where all is good, the permission table
 at the start is written, process by process; then what is near a limit; then what comes when; then
+where each process starts, and what ties it to the others, so that it may tell who else is there; then
 the notes: what is worth a look in the policy and in its sources, though nothing is refused for it.
 Where something is refused, standard error tells the refusal as a run does, where it is as far as
 that is known, the reason with what to write, and the other faults of the source with their reasons.
@@ -164,6 +165,10 @@ Examples:
     ..
     events
     5 command 1, rule 1001: stop 1
+    starts
+    process 1: start 00400000, line 1 of guest.s, entries 1
+    ties
+    process 1: it may tell who else is there, since command 1 is about it
     notes
     guest.s 2: it reads register 8, which is still being loaded; put a `nop` between, or ..
   dsmon check policy.toml
