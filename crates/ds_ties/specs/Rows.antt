@@ -1,5 +1,6 @@
 -- What ties a process to the others, worked out: each row is a theorem about the definitions alone.
-use Rattle.std.specs.Prelude.{refl, ◌≡◌, ℕ, Bool, true, false, List, [], ◌∷◌, Option, None, Some}
+use Rattle.std.specs.Prelude.{codes, refl, ◌≡◌, ◌++◌, ℕ, Bool, true, false, List, [], ◌∷◌, Option, None, Some}
+use Rattle.std.specs.Fmt.{digits}
 use Rattle.ds_policy.specs.declared.command.Command.{Command}
 use Rattle.ds_policy.specs.declared.command.Command.TheVariants as command
 use Rattle.ds_policy.specs.declared.command.TimedCommand.{TimedCommand}
@@ -7,8 +8,11 @@ use Rattle.ds_policy.specs.declared.grant.Grant.{Grant}
 use Rattle.ds_policy.specs.declared.grant.Right.{Right}
 use Rattle.ds_policy.specs.declared.grant.Right.TheVariants.{Nothing, Read, Write}
 use Rattle.ds_policy.specs.declared.grant.Entry.{Entry}
+use Rattle.ds_policy.specs.declared.policy.PolicyRule.{PolicyRule}
 use Rattle.ds_policy.specs.Pages.{Table}
+use Rattle.ds_policy.specs.Value.{PolicyValue}
 use Rattle.ds_ties.specs.declared.ties.Tie.TheVariants.{Ends, Shares, Names, Grants, MayGive, LetsGive}
+use Rattle.ds_ties.specs.Texts.{ties_text}
 use Rattle.ds_ties.specs.Ties.{tie_of}
 
 -- the entry of a rule over a page
@@ -65,3 +69,23 @@ so_does_a_command_that_lets_give = refl
 -- an end is told before a page that is shared
 pub the_first_is_told : tie_of (table (entry 1 Write (Some 2) true (Some 9))) (come (command.Stop 1)) 1 ≡ Some (Ends 1)
 the_first_is_told = refl
+
+-- a process may read this page
+abbrev reads : ℕ → ℕ → PolicyRule
+reads process page = record { process = process; address = 0x1000; right = Read; page = Some page; give = false; until = None }
+
+-- two processes, each with a page of its own
+abbrev apart : PolicyValue
+apart = record {
+  frames = 16;
+  rate = 0;
+  processes = record { start = 0x1000; line = 0 } ∷ record { start = 0x1000; line = 1 } ∷ [];
+  pages = record { name = codes "one"; source = None } ∷ record { name = codes "two"; source = None } ∷ [];
+  rules = reads 1 0 ∷ reads 2 1 ∷ [];
+}
+
+pub each_process_has_a_line : ties_text apart (record { commands = come (command.Stop 2); characters = [] })
+    ≡ codes "process 1: it can't tell who else is there, unless it calls `time`, `give` or `take`; calls `get` or `wait` where its line gets characters; or reads register 26, 27 or one still being loaded\n"
+    ++ codes "process 2: it may tell who else is there, since command 3 is about it\n"
+unfolding digits
+each_process_has_a_line = refl

@@ -15,20 +15,20 @@ numbered before number what = before ++ (decimal number ++ what)
 -- what a tie is
 abbrev pub why_text : Tie → List ℕ
 why_text (Ends rule) = numbered (codes "its right by rule ") rule (codes " has an end\n")
-why_text (Shares rule) = numbered (codes "rule ") rule (codes " gives another process a page of its own\n")
+why_text (Shares rule) = numbered (codes "rule ") rule (codes " gives a page that it has to another process\n")
 why_text (Names command) = numbered (codes "command ") command (codes " is about it\n")
-why_text (Grants command) = numbered (codes "command ") command (codes " grants a page of its own\n")
-why_text (MayGive rule) = numbered (codes "by rule ") rule (codes " a process may give a page on\n")
-why_text (LetsGive command) = numbered (codes "by command ") command (codes " a process may give a page on\n")
+why_text (Grants command) = numbered (codes "command ") command (codes " grants a page that it has\n")
+why_text (MayGive rule) = numbered (codes "rule ") rule (codes " lets a process give a page on\n")
+why_text (LetsGive command) = numbered (codes "command ") command (codes " lets a process give a page on\n")
 
 -- that it is tied to the others, and why
 abbrev pub tied_text : Tie → List ℕ
 tied_text tie = codes ": it may tell who else is there, since " ++ why_text tie
 
--- what is said of a process, by what ties it to the others
+-- what is said of a process, by what ties it to the others; where nothing does, what its program may do all the same to tell who is there
 abbrev pub tie_text : Option Tie → List ℕ
 tie_text (Some tie) = tied_text tie
-tie_text None = codes ": it can't tell who else is there, unless it asks for the time or for a character that may come, gives, takes, or reads what a refill may change\n"
+tie_text None = codes ": it can't tell who else is there, unless it calls `time`, `give` or `take`; calls `get` or `wait` where its line gets characters; or reads register 26, 27 or one still being loaded\n"
 
 -- process n
 abbrev pub process_text : Table → InputValue → ℕ → List ℕ

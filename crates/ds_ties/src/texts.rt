@@ -59,7 +59,7 @@ fn push_tie(sheet: &mut Vec<u8>, tie: Option<Tie>) -> Result<(), AllocError>
     match tie {
         Some(tie) => push_tied(sheet, tie),
         None => sheet.extend_from_slice(
-            b": it can't tell who else is there, unless it asks for the time or for a character that may come, gives, takes, or reads what a refill may change\n",
+            b": it can't tell who else is there, unless it calls `time`, `give` or `take`; calls `get` or `wait` where its line gets characters; or reads register 26, 27 or one still being loaded\n",
         ),
     }
 }
@@ -87,20 +87,20 @@ fn push_why(sheet: &mut Vec<u8>, tie: Tie) -> Result<(), AllocError>
             sheet,
             b"rule ",
             rule,
-            b" gives another process a page of its own\n",
+            b" gives a page that it has to another process\n",
         ),
         Tie::Names(command) => push_numbered(sheet, b"command ", command, b" is about it\n"),
         Tie::Grants(command) => {
-            push_numbered(sheet, b"command ", command, b" grants a page of its own\n")
+            push_numbered(sheet, b"command ", command, b" grants a page that it has\n")
         }
         Tie::MayGive(rule) => {
-            push_numbered(sheet, b"by rule ", rule, b" a process may give a page on\n")
+            push_numbered(sheet, b"rule ", rule, b" lets a process give a page on\n")
         }
         Tie::LetsGive(command) => push_numbered(
             sheet,
-            b"by command ",
+            b"command ",
             command,
-            b" a process may give a page on\n",
+            b" lets a process give a page on\n",
         ),
     }
 }
