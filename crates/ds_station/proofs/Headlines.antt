@@ -4,7 +4,7 @@ use Rattle.std.specs.Prelude.{Some, OnOk, OnErr, IfErr, None, is_some, ◌||◌,
 use Rattle.std.specs.Io.KnownBytes.{Appends, Keeps}
 use Rattle.ds_log.specs.Text.{line_text}
 use Rattle.ds_log.specs.Report.{report_text}
-use Rattle.ds_log.specs.Sent.{AppendsPart}
+use Rattle.ds_log.specs.Sent.{Answers, AppendsPart, IsAskedOnce}
 use Rattle.ds_pagemap.specs.declared.turn.Turn.{Turn}
 use Rattle.ds_pagemap.specs.Machine.{State}
 use Rattle.ds_pagemap.specs.Run.{Ends, IsPrefix, is_over}
@@ -17,7 +17,7 @@ use Rattle.ds_refinement.specs.Runs.{RunsTo, RunsWithin, held_goes_on}
 use Rattle.ds_refinement.proofs.Boundaries.{beside}
 use Rattle.ds_refinement.proofs.RunSteps.{goes_alike}
 use Rattle.ds_station.specs.Headline.{held_text, Loaded, BeginsWith, Writes, WritesPrefix, WritesPart, WritesReally, WritesCut, WritesPartReally, Refuses, EndsBy, EndsReally, Begins, IsRefused}
-use Rattle.ds_station.specs.Faults.{IsNewFault, IsFaultAfter}
+use Rattle.ds_station.specs.Faults.{IsNewFault, IsFaultAfter, is_unwritten}
 use Rattle.ds_station.specs.Runs.{IsCut}
 use Rattle.ds_station.specs.declared.fault.Fault.{Fault}
 use Rattle.ds_station.specs.declared.fault.Fault.TheVariants as fault
@@ -75,15 +75,25 @@ module _ (old new : Option (List ℕ)) (n : ℕ) (first : State) (s t : Held) (b
   part_written (Ok x) r w o a = part_whole r a
   part_written (Err f) r w o a = part_prefix w o a
 
--- what the processor did in a run that ended
-pub really_if : (ran : Result (Unit {0}) Fault) (old new : Option (List ℕ)) (n start : ℕ) (read : Result Loaded Refusal) (s t : Held) → Begins read (BeginsWith start s) → OnOk ran (RealPath s t) → OnOk ran (held_goes_on n t ≡ false) → Appends old new (held_text t) → OnOk ran (Begins read (WritesReally old new n start))
-really_if (Ok x) old new n start read s t b path over a = (b.0, b.1, record { first = s; begins = b.2; last = t; path = path; over = over; written = a })
-really_if (Err f) old new n start read s t b path over a = tt
+-- what the processor did in a run that ended, where real steps are a path
+pub really_if : (Path : Loaded → Held → Held → Type 0) (ran : Result (Unit {0}) Fault) (old new : Option (List ℕ)) (n start : ℕ) (read : Result Loaded Refusal) (s t : Held) (b : Begins read (BeginsWith start s)) → (RealPath s t → Path b.0 s t)
+    → OnOk ran (RealPath s t) → OnOk ran (held_goes_on n t ≡ false) → Appends old new (held_text t) → OnOk ran (Begins read (WritesReally Path old new n start))
+really_if Path (Ok x) old new n start read s t b leads path over a = (b.0, b.1, record { first = s; begins = b.2; last = t; path = leads path; over = over; written = a })
+really_if Path (Err f) old new n start read s t b leads path over a = tt
 
 -- what a new fault of the run ends by
 pub fault_written : (f : Fault) (read : Result State Refusal) (old new : Option (List ℕ)) (n : ℕ) → IsNewFault f → Begins read (WritesPrefix old new n) → EndsBy f read old new n
 fault_written fault.Memory read old new n i b = inr b
 fault_written f read old new n i b = absurd i
+
+-- a writer that is not asked has no new answer
+unasked : (asked : Option Answers) → IsAskedOnce asked asked false
+unasked None = tt
+unasked (Some a) = λ going. (going, refl)
+
+new_asked : (f : Fault) (old new : Option Answers) → IsNewFault f → IsAskedOnce old new false → IsAskedOnce old new (is_unwritten {T = Unit {0}} (Err f))
+new_asked fault.Memory old new i asked = asked
+new_asked f old new i asked = absurd i
 
 -- what refused inputs end by
 pub refused_unwritten : (f : Fault) (read : Result State Refusal) (old new : Option (List ℕ)) (n : ℕ) → Refuses f read → Keeps old new → EndsBy f read old new n
@@ -93,53 +103,63 @@ refused_unwritten fault.WriteFault read old new n i k = absurd i
 refused_unwritten fault.Failed read old new n i k = absurd i
 refused_unwritten f read old new n i k = (i, k)
 
+-- where the inputs are refused the writer is not asked
+pub refused_unasked : {Y : Type 0} (f : Fault) (read : Result Y Refusal) (asked : Option Answers) → Refuses f read → IsAskedOnce asked asked (is_unwritten {T = Unit {0}} (Err f))
+refused_unasked fault.WriteFault read asked i = absurd i
+refused_unasked f read asked i = unasked asked
+
+-- a text that went out, of a run that failed for no write
+pub ran_asked : (ran : Result (Unit {0}) Fault) (failed : Bool) (old new : Option Answers) → failed ≡ false → IfErr ran (IsFaultAfter failed) → IsAskedOnce old new false → IsAskedOnce old new (is_unwritten ran)
+ran_asked (Ok x) failed old new working faults asked = asked
+ran_asked (Err f) failed old new working faults asked = new_asked f old new (subst (λ (b : Bool). IsFaultAfter b f) working faults) asked
+
 -- how a run that fell short ends
 pub ran_short : {T : Type 0} (r : Result T Fault) (failed : Bool) (n : ℕ) (s t : Held) (read : Result State Refusal) (old new : Option (List ℕ)) → failed ≡ false → IfErr r (IsFaultAfter failed) → OnErr r (RunsWithin n s t) → OnErr r (t.kept.state.owed ≡ None) → OnErr r (held_goes_on n t ≡ true) → Begins read (Stands s) → Appends old new (held_text t) → IfErr r (λ f. EndsBy f read old new n)
 ran_short (Ok x) failed n s t read old new working faults within whole going b a = tt
 ran_short (Err f) failed n s t read old new working faults within whole going b a =
     fault_written f read old new n (subst (λ (x : Bool). IsFaultAfter x f) working faults) (b.0, b.1, writes_prefix old new n b.0 s t b.2 within whole going a)
 
--- what the processor did in a run from a station that began with the inputs
-module _ (n start : ℕ) (read : Result Loaded Refusal) (s t : Held) (old new : Option (List ℕ)) (b : Begins read (BeginsWith start s)) where
-  cut_text : (f : Fault) → IsCut f s t → held_goes_on n t ≡ true → Appends old new (held_text t) → WritesCut f old new n start b.0
+-- what the processor did in a run from a station that began with the inputs, where real steps are a path
+module _ (Path : Loaded → Held → Held → Type 0) (n start : ℕ) (read : Result Loaded Refusal) (s t : Held) (old new : Option (List ℕ)) (b : Begins read (BeginsWith start s)) (leads : (x : Held) → RealPath s x → Path b.0 s x) where
+  cut_text : (f : Fault) → IsCut f s t → held_goes_on n t ≡ true → Appends old new (held_text t) → WritesCut Path f old new n start b.0
   cut_text f cut going a = record {
     first = s;
     begins = b.2;
     last = cut.last;
-    path = cut.path;
+    path = leads cut.last cut.path;
     going = subst (λ (h : Held). held_goes_on n h ≡ true) cut.marked going;
     refused = cut.refused;
     written = subst (λ (h : Held). Appends old new (held_text h)) cut.marked a;
   }
 
-  new_cut : (f : Fault) → IsNewFault f → IsCut f s t → held_goes_on n t ≡ true → Appends old new (held_text t) → EndsReally f read old new n start
+  new_cut : (f : Fault) → IsNewFault f → IsCut f s t → held_goes_on n t ≡ true → Appends old new (held_text t) → EndsReally Path f read old new n start
   new_cut fault.Memory i cut going a = inr (b.0, b.1, cut_text fault.Memory cut going a)
   new_cut f i cut going a = absurd i
 
   -- where it was cut short
   pub cut_really : (ran : Result (Unit {0}) Fault) → s.own.failed ≡ false → IfErr ran (IsFaultAfter s.own.failed) → IfErr ran (λ f. IsCut f s t) → OnErr ran (held_goes_on n t ≡ true)
-      → Appends old new (held_text t) → IfErr ran (λ f. EndsReally f read old new n start)
+      → Appends old new (held_text t) → IfErr ran (λ f. EndsReally Path f read old new n start)
   cut_really (Ok x) working faults cut going a = tt
   cut_really (Err f) working faults cut going a = new_cut f (subst (λ (failed : Bool). IsFaultAfter failed f) working faults) cut going a
 
   -- where a part of its text is written
   pub part_really : (ran : Result (Unit {0}) Fault) → OnOk ran (RealPath s t) → OnOk ran (held_goes_on n t ≡ false) → IfErr ran (λ f. IsCut f s t) → OnErr ran (held_goes_on n t ≡ true)
-      → AppendsPart old new (held_text t) → WritesPartReally old new n start b.0
-  part_really (Ok x) path over cut going a = record { first = s; begins = b.2; last = t; path = path; stopped = inl over; written = a }
+      → AppendsPart old new (held_text t) → WritesPartReally Path old new n start b.0
+  part_really (Ok x) path over cut going a = record { first = s; begins = b.2; last = t; path = leads t path; stopped = inl over; written = a }
   part_really (Err f) path over cut going a = record {
     first = s;
     begins = b.2;
     last = cut.last;
-    path = cut.path;
+    path = leads cut.last cut.path;
     stopped = inr (subst (λ (h : Held). held_goes_on n h ≡ true) cut.marked going, f, cut.refused);
     written = subst (λ (h : Held). AppendsPart old new (held_text h)) cut.marked a;
   }
 
 -- where the inputs are refused, it did nothing
-pub refused_really : {Y : Type 0} (f : Fault) (any : Result Y Refusal) (read : Result Loaded Refusal) (old new : Option (List ℕ)) (n start : ℕ) → Refuses f any → Keeps old new → EndsReally f read old new n start
-refused_really fault.Memory any read old new n start i k = inl k
-refused_really fault.WriteFault any read old new n start i k = absurd i
-refused_really f any read old new n start i k = tt
+pub refused_really : {Y : Type 0} (Path : Loaded → Held → Held → Type 0) (f : Fault) (any : Result Y Refusal) (read : Result Loaded Refusal) (old new : Option (List ℕ)) (n start : ℕ) → Refuses f any → Keeps old new → EndsReally Path f read old new n start
+refused_really Path fault.Memory any read old new n start i k = inl k
+refused_really Path fault.WriteFault any read old new n start i k = absurd i
+refused_really Path f any read old new n start i k = tt
 
 -- what was begun was not refused
 begun_not : (read : Result State Refusal) (P : State → Type 0) (r : Refusal) → Begins read P → read ≡ Err r → ⊥

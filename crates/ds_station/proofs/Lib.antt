@@ -4,6 +4,7 @@ pub mod NamedTexts
 pub mod Preparing
 pub mod Quiet
 pub mod Guarded
+pub mod Along
 mod Reading
 pub mod Showing
 pub mod Alone

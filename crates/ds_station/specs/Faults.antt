@@ -1,5 +1,5 @@
 -- The faults of a run.
-use Rattle.std.specs.Prelude.{◌≡◌, ◌<◌, ◌≤◌, ◌⊎◌, ℕ, List, Bool, true, false}
+use Rattle.std.specs.Prelude.{◌≡◌, ◌<◌, ◌≤◌, ◌⊎◌, ℕ, List, Bool, true, false, Result, Err}
 use Rattle.ds_policy.specs.declared.fault.PolicyFault.{PolicyFault}
 use Rattle.ds_policy.specs.declared.fault.PolicyFault.TheVariants as policy
 use Rattle.ds_policy.specs.declared.events.fault.EventsFault.{EventsFault}
@@ -65,6 +65,11 @@ IsNewFault _ = ⊥
 abbrev pub IsFaultAfter : Bool → Fault → Type 0
 IsFaultAfter true f = f ≡ Failed
 IsFaultAfter false f = IsNewFault f
+
+-- whether the answer is that a write failed
+abbrev pub is_unwritten : {T : Type 0} → Result T Fault → Bool
+is_unwritten (Err WriteFault) = true
+is_unwritten result = false
 
 -- why a station can't be made with this start of Random
 abbrev pub IsStartFault : ℕ → Fault → Type 0

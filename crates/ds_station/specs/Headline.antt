@@ -6,6 +6,7 @@ use Rattle.ds_policy.specs.Value.{PolicyValue, InputValue}
 use Rattle.ds_log.specs.Report.{report_text}
 use Rattle.ds_log.specs.Sent.{AppendsPart}
 use Rattle.ds_pagemap.specs.Machine.{State}
+use Rattle.ds_pagemap.specs.First.{first_state}
 use Rattle.ds_pagemap.specs.Run.{Ends, IsPrefix, goes_on}
 use Rattle.ds_pagemap.specs.Text.{text_of}
 use Rattle.ds_pagemap.specs.Inputs.{Refusal, Sources}
@@ -14,6 +15,7 @@ use Rattle.ds_refinement.specs.Held.{Held}
 use Rattle.ds_refinement.specs.First.{IsFirst}
 use Rattle.ds_refinement.specs.Real.{RealPath}
 use Rattle.ds_refinement.specs.Runs.{held_goes_on}
+use Rattle.ds_station.specs.Along.{RunsAlong}
 use Rattle.ds_station.specs.Faults.{RefusesStep}
 use Rattle.ds_station.specs.declared.fault.Fault.{Fault}
 use Rattle.ds_station.specs.declared.fault.Fault.TheVariants as fault
@@ -96,36 +98,44 @@ loaded policy images input = record { policy = policy; images = images; input = 
 abbrev pub BeginsWith : ℕ → Held → Loaded → Type 0
 BeginsWith start h l = IsFirst l.policy l.images l.input start h
 
--- a station that began with these came by real steps to where a run for n is over, and its text is written
-pub record WritesReally (old new : Option (List ℕ)) (n start : ℕ) (l : Loaded) : Type 0 where
+-- real steps from the one to the other, and along them a run of the machine from the first state of these
+abbrev pub Along : Loaded → Held → Held → Type 0
+Along l = RunsAlong (first_state l.policy l.images l.input)
+
+-- real steps, each of which the machine follows with its counts from every state that the station stands for
+abbrev pub Followed : Loaded → Held → Held → Type 0
+Followed l = RealPath
+
+-- a station that began with these came by such a path to where a run for n is over, and its text is written
+pub record WritesReally (Path : Loaded → Held → Held → Type 0) (old new : Option (List ℕ)) (n start : ℕ) (l : Loaded) : Type 0 where
   pub first : Held
   pub begins : BeginsWith start first l
   pub last : Held
-  pub path : RealPath first last
+  pub path : Path l first last
   pub over : held_goes_on n last ≡ false
   pub written : Appends old new (held_text last)
 
 -- the same of a run that was cut short: it was not over, this fault refused the next step, and the text so far is written
-pub record WritesCut (f : Fault) (old new : Option (List ℕ)) (n start : ℕ) (l : Loaded) : Type 0 where
+pub record WritesCut (Path : Loaded → Held → Held → Type 0) (f : Fault) (old new : Option (List ℕ)) (n start : ℕ) (l : Loaded) : Type 0 where
   pub first : Held
   pub begins : BeginsWith start first l
   pub last : Held
-  pub path : RealPath first last
+  pub path : Path l first last
   pub going : held_goes_on n last ≡ true
   pub refused : RefusesStep f last
   pub written : Appends old new (held_text last)
 
 -- the same of either run, and a prefix of the text is written
-pub record WritesPartReally (old new : Option (List ℕ)) (n start : ℕ) (l : Loaded) : Type 0 where
+pub record WritesPartReally (Path : Loaded → Held → Held → Type 0) (old new : Option (List ℕ)) (n start : ℕ) (l : Loaded) : Type 0 where
   pub first : Held
   pub begins : BeginsWith start first l
   pub last : Held
-  pub path : RealPath first last
+  pub path : Path l first last
   pub stopped : (held_goes_on n last ≡ false) ⊎ ((held_goes_on n last ≡ true) × (f : Fault) × RefusesStep f last)
   pub written : AppendsPart old new (held_text last)
 
 -- what the processor did where each fault comes: nothing that is told where the inputs are refused
-abbrev pub EndsReally : Fault → Result Loaded Refusal → Option (List ℕ) → Option (List ℕ) → ℕ → ℕ → Type 0
-EndsReally fault.Memory read old new n start = Keeps old new ⊎ Begins read (WritesCut fault.Memory old new n start)
-EndsReally fault.WriteFault read old new n start = Begins read (WritesPartReally old new n start)
-EndsReally f read old new n start = ⊤
+abbrev pub EndsReally : (Loaded → Held → Held → Type 0) → Fault → Result Loaded Refusal → Option (List ℕ) → Option (List ℕ) → ℕ → ℕ → Type 0
+EndsReally Path fault.Memory read old new n start = Keeps old new ⊎ Begins read (WritesCut Path fault.Memory old new n start)
+EndsReally Path fault.WriteFault read old new n start = Begins read (WritesPartReally Path old new n start)
+EndsReally Path f read old new n start = ⊤

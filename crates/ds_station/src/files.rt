@@ -13,6 +13,7 @@ ghost use Rattle.std.specs.Prelude.{
   IfErr,
   IfOk,
   option_map,
+  is_err,
   [],
   None,
   false,
@@ -21,7 +22,7 @@ ghost use Rattle.std.specs.Prelude.{
 };
 ghost use Rattle.std.specs.Io.KnownBytes.{Appends};
 ghost use Rattle.ds_policy.specs.PolicyParts.{sources_of};
-ghost use Rattle.ds_log.specs.Sent.{AppendsPart};
+ghost use Rattle.ds_log.specs.Sent.{AppendsPart, IsAskedOnce};
 ghost use Rattle.ds_pagemap.specs.Inputs.{
   Refusal,
   inputs,
@@ -42,6 +43,8 @@ ghost use Rattle.ds_station.specs.Headline.{
   Refuses,
   EndsBy,
   EndsReally,
+  Along,
+  Followed,
   IsRefused,
   held_text,
   loaded,
@@ -54,6 +57,7 @@ ghost use Rattle.ds_alone.specs.Deeds.{AsksNothing};
 ghost use Rattle.ds_alone.specs.Tests.{is_alone, nobody_may_give};
 ghost use Rattle.ds_alone.specs.Touched.{IsQuietAlone};
 ghost use Rattle.ds_station.specs.Alone.{WritesAlone};
+ghost use Rattle.ds_station.specs.Faults.{is_unwritten};
 ghost use Rattle.ds_station.specs.Written.{
   WritesUntouched,
   WritesGuarded,
@@ -64,11 +68,10 @@ ghost use Rattle.ds_station.specs.Written.{
 use crate::fault::Fault;
 use crate::station::Station;
 use ds_asm::{Image, assemble};
-use ds_log::{WriteFailed, send_report};
+use ds_log::{Output, WriteFailed, send_report};
 use ds_policy::{Events, MOST_TICKS, Policy, Text};
 use ds_tlb::{Indexed, Lookaside};
 use std::alloc::Global;
-use std::io::Write;
 
 /// The text of a source; of two of one name the first counts.
 fn text_named<'a>(sources: &[(&str, &'a [u8])], name: &str) -> Option<&'a [u8]>
@@ -155,12 +158,17 @@ pub fn prepare(
     }
 }
 
-/// The text of a station's state goes to the writer.
-pub fn deliver<L: Lookaside, W: Write>(station: &Station<L>, out: &mut W) -> Result<(), WriteFailed>
+/// The text of a station's state goes to a place. Where that answers by an error, or takes nothing, it
+/// is `WriteFailed`, and the place is not asked again.
+pub fn deliver<L: Lookaside, O: Output>(
+    station: &Station<L>,
+    out: &mut O,
+) -> Result<(), WriteFailed>
     ensures ok { OnOk result
-        (Appends (W.contents out.old) (W.contents out.new) (held_text station.now)) }
+        (Appends (O.contents out.old) (O.contents out.new) (held_text station.now)) }
     ensures err { OnErr result
-        (AppendsPart (W.contents out.old) (W.contents out.new) (held_text station.now)) }
+        (AppendsPart (O.contents out.old) (O.contents out.new) (held_text station.now)) }
+    ensures once { IsAskedOnce (O.answers out.old) (O.answers out.new) (is_err result) }
 {
     let consoles = [
         station.console(0),
@@ -184,46 +192,54 @@ pub fn deliver<L: Lookaside, W: Write>(station: &Station<L>, out: &mut W) -> Res
 /// Inputs that are refused are refused in this order, and nothing is written: the policy, each source
 /// by the order of its name, the input, `n` above 1,000,000,000, `random` below 8 or above 63. A run
 /// that is cut short, for want of memory, writes its text so far and answers that fault. A write that
-/// fails, or takes nothing, is `WriteFault`, before any fault of the run.
-pub fn run_files<W: Write>(
+/// fails, or takes nothing, is `WriteFault`, before any fault of the run, and the writer is not asked
+/// again.
+pub fn run_files<O: Output>(
     alloc: Global,
     policy: &[u8],
     sources: &[(&str, &[u8])],
     input: &[u8],
     n: u64,
     random: u8,
-    out: &mut W,
+    out: &mut O,
 ) -> Result<(), Fault>
     ensures ok { OnOk result (Begins
         (inputs policy.now (sources_seen sources.now) input.now n random)
-        (Writes (W.contents out.old) (W.contents out.new) n)) }
+        (Writes (O.contents out.old) (O.contents out.new) n)) }
     ensures real { OnOk result (Begins
         (inputs_by loaded policy.now (sources_seen sources.now) input.now n random)
-        (WritesReally (W.contents out.old) (W.contents out.new) n random)) }
+        (WritesReally Along (O.contents out.old) (O.contents out.new) n random)) }
     ensures err { IfErr result (λ f. EndsBy f
         (inputs policy.now (sources_seen sources.now) input.now n random)
-        (W.contents out.old) (W.contents out.new) n) }
-    ensures cut { IfErr result (λ f. EndsReally f
+        (O.contents out.old) (O.contents out.new) n) }
+    ensures cut { IfErr result (λ f. EndsReally Along f
         (inputs_by loaded policy.now (sources_seen sources.now) input.now n random)
-        (W.contents out.old) (W.contents out.new) n random) }
+        (O.contents out.old) (O.contents out.new) n random) }
     ensures refused { (refusal : Refusal)
         → inputs policy.now (sources_seen sources.now) input.now n random ≡ Err refusal
-        → IsRefused result refusal (W.contents out.old) (W.contents out.new) }
+        → IsRefused result refusal (O.contents out.old) (O.contents out.new) }
     ensures guarded { OnOk result (Begins
         (inputs policy.now (sources_seen sources.now) input.now n random)
-        (WritesWholeGuarded (W.contents out.old) (W.contents out.new) n)) }
+        (WritesWholeGuarded (O.contents out.old) (O.contents out.new) n)) }
     ensures guarded_so_far { IfErr result (λ f. EndsGuarded f
         (inputs policy.now (sources_seen sources.now) input.now n random)
-        (W.contents out.old) (W.contents out.new) n) }
+        (O.contents out.old) (O.contents out.new) n) }
     ensures quiet { (start : ℕ) (first : State)
         → inputs policy.now (sources_seen sources.now) input.now n start ≡ Ok first
         → IsQuiet n first
-        → OnOk result (WritesUntouched (W.contents out.old) (W.contents out.new) n first) }
+        → OnOk result (WritesUntouched (O.contents out.old) (O.contents out.new) n first) }
     ensures alone { (listens : Bool) (p start : ℕ) (first : State)
         → inputs policy.now (sources_seen sources.now) input.now n start ≡ Ok first
         → is_alone listens p first ≡ true → nobody_may_give first ≡ true
         → AsksNothing listens p first → IsQuietAlone p first
-        → OnOk result (WritesAlone (W.contents out.old) (W.contents out.new) p first) }
+        → OnOk result (WritesAlone (O.contents out.old) (O.contents out.new) p first) }
+    ensures followed { OnOk result (Begins
+        (inputs_by loaded policy.now (sources_seen sources.now) input.now n random)
+        (WritesReally Followed (O.contents out.old) (O.contents out.new) n random)) }
+    ensures followed_so_far { IfErr result (λ f. EndsReally Followed f
+        (inputs_by loaded policy.now (sources_seen sources.now) input.now n random)
+        (O.contents out.old) (O.contents out.new) n random) }
+    ensures once { IsAskedOnce (O.answers out.old) (O.answers out.new) (is_unwritten result) }
 {
     let policy = match Policy::read(alloc, policy) {
         Ok(policy) => policy,
@@ -233,45 +249,52 @@ pub fn run_files<W: Write>(
 }
 
 /// As `run_files`, under a policy that was read before.
-pub fn run_policy<W: Write>(
+pub fn run_policy<O: Output>(
     alloc: Global,
     policy: &Policy,
     sources: &[(&str, &[u8])],
     input: &[u8],
     n: u64,
     random: u8,
-    out: &mut W,
+    out: &mut O,
 ) -> Result<(), Fault>
     ensures ok { OnOk result (Begins
         (inputs_under policy.now (sources_seen sources.now) input.now n random)
-        (Writes (W.contents out.old) (W.contents out.new) n)) }
+        (Writes (O.contents out.old) (O.contents out.new) n)) }
     ensures real { OnOk result (Begins
         (inputs_under_by loaded policy.now (sources_seen sources.now) input.now n random)
-        (WritesReally (W.contents out.old) (W.contents out.new) n random)) }
+        (WritesReally Along (O.contents out.old) (O.contents out.new) n random)) }
     ensures err { IfErr result (λ f. EndsBy f
         (inputs_under policy.now (sources_seen sources.now) input.now n random)
-        (W.contents out.old) (W.contents out.new) n) }
-    ensures cut { IfErr result (λ f. EndsReally f
+        (O.contents out.old) (O.contents out.new) n) }
+    ensures cut { IfErr result (λ f. EndsReally Along f
         (inputs_under_by loaded policy.now (sources_seen sources.now) input.now n random)
-        (W.contents out.old) (W.contents out.new) n random) }
+        (O.contents out.old) (O.contents out.new) n random) }
     ensures refused { (refusal : Refusal)
         → inputs_under policy.now (sources_seen sources.now) input.now n random ≡ Err refusal
-        → IsRefused result refusal (W.contents out.old) (W.contents out.new) }
+        → IsRefused result refusal (O.contents out.old) (O.contents out.new) }
     ensures guarded { OnOk result (Begins
         (inputs_under policy.now (sources_seen sources.now) input.now n random)
-        (WritesGuarded (W.contents out.old) (W.contents out.new) n)) }
+        (WritesGuarded (O.contents out.old) (O.contents out.new) n)) }
     ensures guarded_so_far { IfErr result (λ f. EndsGuarded f
         (inputs_under policy.now (sources_seen sources.now) input.now n random)
-        (W.contents out.old) (W.contents out.new) n) }
+        (O.contents out.old) (O.contents out.new) n) }
     ensures quiet { (start : ℕ) (first : State)
         → inputs_under policy.now (sources_seen sources.now) input.now n start ≡ Ok first
         → IsQuiet n first
-        → OnOk result (WritesUntouched (W.contents out.old) (W.contents out.new) n first) }
+        → OnOk result (WritesUntouched (O.contents out.old) (O.contents out.new) n first) }
     ensures alone { (listens : Bool) (p start : ℕ) (first : State) → IsGoodPolicy policy.now
         → inputs_under policy.now (sources_seen sources.now) input.now n start ≡ Ok first
         → is_alone listens p first ≡ true → nobody_may_give first ≡ true
         → AsksNothing listens p first → IsQuietAlone p first
-        → OnOk result (WritesAlone (W.contents out.old) (W.contents out.new) p first) }
+        → OnOk result (WritesAlone (O.contents out.old) (O.contents out.new) p first) }
+    ensures followed { OnOk result (Begins
+        (inputs_under_by loaded policy.now (sources_seen sources.now) input.now n random)
+        (WritesReally Followed (O.contents out.old) (O.contents out.new) n random)) }
+    ensures followed_so_far { IfErr result (λ f. EndsReally Followed f
+        (inputs_under_by loaded policy.now (sources_seen sources.now) input.now n random)
+        (O.contents out.old) (O.contents out.new) n random) }
+    ensures once { IsAskedOnce (O.answers out.old) (O.answers out.new) (is_unwritten result) }
 {
     let mut station = match prepare(alloc, policy, sources, input, n, random) {
         Ok(station) => station,

@@ -1,8 +1,8 @@
 use Rattle.std.proofs.Common.{Err}
 use Rattle.ds_pagemap.specs.Inputs.{inputs}
 use Rattle.ds_station.specs.Faults.{of_policy}
-use Rattle.ds_station.specs.Headline.{loaded, sources_seen}
-use Rattle.ds_station.proofs.Headlines.{refused_unwritten, refused_really, refused_only, keeps_same}
+use Rattle.ds_station.specs.Headline.{Along, Followed, loaded, sources_seen}
+use Rattle.ds_station.proofs.Headlines.{refused_unasked, refused_unwritten, refused_really, refused_only, keeps_same}
 use Rattle.ds_station.proofs.Preparing.{refused_by_policy, under_policy, under_policy_by}
 use Rattle.ds_station.proofs.Guarded.{files_guarded_if, files_cut_if}
 use Rattle.ds_station.proofs.Quiet.{files_quiet_if}
@@ -11,15 +11,25 @@ use Rattle.ds_station.proofs.files.run_files.Goals as goal
 
 pub returns-in-Err-clause-err : goal.returns-in-Err-clause-err
 returns-in-Err-clause-err g c = rw c.from.ensures (refused_unwritten (of_policy c.in-Err.fault)
-    (inputs c.args.policy.now (sources_seen c.args.sources.now) c.args.input.now c.args.n c.args.random) (g.W.Write.contents c.args.out.now) (g.W.Write.contents c.args.out.now) c.args.n
+    (inputs c.args.policy.now (sources_seen c.args.sources.now) c.args.input.now c.args.n c.args.random) (g.O.Output.contents c.args.out.now) (g.O.Output.contents c.args.out.now) c.args.n
     (refused_by_policy c.in-Err.fault c.args.policy.now (sources_seen c.args.sources.now) c.args.input.now c.args.n c.args.random c.in-Err.ensures)
-    (keeps_same (g.W.Write.contents c.args.out.now)))
+    (keeps_same (g.O.Output.contents c.args.out.now)))
 
 pub returns-in-Err-clause-cut : goal.returns-in-Err-clause-cut
-returns-in-Err-clause-cut g c = rw c.from.ensures (refused_really (of_policy c.in-Err.fault)
-    (inputs c.args.policy.now (sources_seen c.args.sources.now) c.args.input.now c.args.n c.args.random) _ (g.W.Write.contents c.args.out.now) (g.W.Write.contents c.args.out.now) c.args.n c.args.random
+returns-in-Err-clause-cut g c = rw c.from.ensures (refused_really Along (of_policy c.in-Err.fault)
+    (inputs c.args.policy.now (sources_seen c.args.sources.now) c.args.input.now c.args.n c.args.random) _ (g.O.Output.contents c.args.out.now) (g.O.Output.contents c.args.out.now) c.args.n c.args.random
     (refused_by_policy c.in-Err.fault c.args.policy.now (sources_seen c.args.sources.now) c.args.input.now c.args.n c.args.random c.in-Err.ensures)
-    (keeps_same (g.W.Write.contents c.args.out.now)))
+    (keeps_same (g.O.Output.contents c.args.out.now)))
+
+pub returns-in-Err-clause-followed_so_far : goal.returns-in-Err-clause-followed_so_far
+returns-in-Err-clause-followed_so_far g c = rw c.from.ensures (refused_really Followed (of_policy c.in-Err.fault)
+    (inputs c.args.policy.now (sources_seen c.args.sources.now) c.args.input.now c.args.n c.args.random) _ (g.O.Output.contents c.args.out.now) (g.O.Output.contents c.args.out.now) c.args.n c.args.random
+    (refused_by_policy c.in-Err.fault c.args.policy.now (sources_seen c.args.sources.now) c.args.input.now c.args.n c.args.random c.in-Err.ensures)
+    (keeps_same (g.O.Output.contents c.args.out.now)))
+
+pub returns-in-Err-clause-once : goal.returns-in-Err-clause-once
+returns-in-Err-clause-once g c = rw c.from.ensures (refused_unasked (of_policy c.in-Err.fault) _ (g.O.Output.answers c.args.out.now)
+    (refused_by_policy c.in-Err.fault c.args.policy.now (sources_seen c.args.sources.now) c.args.input.now c.args.n c.args.random c.in-Err.ensures))
 
 pub returns-in-Err-clause-refused : goal.returns-in-Err-clause-refused
 returns-in-Err-clause-refused g c = refused_only {T = Unit {0}} (Err c.from.result) _ _ _ c.args.n tt (returns-in-Err-clause-err g c)
@@ -39,6 +49,14 @@ returns-clause-err g c =
 pub returns-clause-cut : goal.returns-clause-cut
 returns-clause-cut g c =
     rw (under_policy_by loaded c.in-Ok.policy c.args.policy.now (sources_seen c.args.sources.now) c.args.input.now c.args.n c.args.random c.in-Ok.ensures) c.run_policy.ensures.cut
+
+pub returns-clause-followed : goal.returns-clause-followed
+returns-clause-followed g c =
+    rw (under_policy_by loaded c.in-Ok.policy c.args.policy.now (sources_seen c.args.sources.now) c.args.input.now c.args.n c.args.random c.in-Ok.ensures) c.run_policy.ensures.followed
+
+pub returns-clause-followed_so_far : goal.returns-clause-followed_so_far
+returns-clause-followed_so_far g c =
+    rw (under_policy_by loaded c.in-Ok.policy c.args.policy.now (sources_seen c.args.sources.now) c.args.input.now c.args.n c.args.random c.in-Ok.ensures) c.run_policy.ensures.followed_so_far
 
 pub returns-clause-refused : goal.returns-clause-refused
 returns-clause-refused g c = refused_only c.run_policy.result _ _ _ c.args.n (returns-clause-ok g c) (returns-clause-err g c)
