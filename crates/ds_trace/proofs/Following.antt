@@ -1,12 +1,12 @@
 -- A station that is followed to the end of a run.
-use Rattle.std.proofs.Common.{◌≡◌, ℕ, ◌<◌, Bool, true, false, List, [], ◌∷◌, Option, Some, None, Result, Ok, ◌++◌, ◌+◌, refl, sym, ap, subst, ◌∙◌, inr, arith, zero, suc}
+use Rattle.std.proofs.Common.{◌≡◌, ℕ, ◌<◌, ◌≤◌, Bool, true, false, List, [], ◌∷◌, Option, Some, None, Result, Ok, Err, ◌++◌, ◌+◌, refl, sym, ap, subst, ◌∙◌, inl, inr, arith, zero, suc}
 use Rattle.std.proofs.lemmas.List.{append-nil}
-use Rattle.std.specs.Prelude.{◌||◌, ◌&&◌, not, nat_lt, is_some}
+use Rattle.std.specs.Prelude.{◌||◌, ◌&&◌, not, nat_lt, is_some, IfErr}
 use Rattle.std.proofs.lemmas.Bool.Decides.{nat_tests}
 use Rattle.std.specs.String.{string_bytes}
 use Rattle.ds_log.specs.Sent.{AppendsPart}
 use Rattle.ds_log.proofs.Sends.{appends_both, appends_none, part_before, part_behind}
-use Rattle.std.specs.Io.KnownBytes.{Appends}
+use Rattle.std.specs.Io.KnownBytes.{Appends, Keeps}
 use Rattle.ds_pagemap.specs.declared.turn.Turn.{Turn}
 use Rattle.ds_pagemap.specs.Machine.{State, touched}
 use Rattle.ds_pagemap.specs.Run.{after, goes_on, is_over}
@@ -35,13 +35,13 @@ use Rattle.ds_trace.specs.Processors.{IsEarly, is_within, left_along, left_by, n
 use Rattle.ds_trace.specs.Counted.{CountsStep, HasCounted, IsCounting, IsWatched, WatchesAfter, WatchesAt}
 use Rattle.ds_trace.specs.declared.progress.Progress.{Progress}
 use Rattle.ds_trace.specs.Counts.{Counted, none_counted}
-use Rattle.ds_trace.specs.Traces.{told_to}
-use Rattle.ds_trace.specs.Shows.{looked_held, end_held, processor_held, IsTold, TellsSo, TellsAll, IsStopped, Traces, TracesPart}
+use Rattle.ds_trace.specs.Traces.{told_to, trace_along}
+use Rattle.ds_trace.specs.Shows.{looked_held, end_held, processor_held, IsTold, TellsSo, TellsAll, IsStopped, Traces, TracesLines, TracesPart, TracesShort}
 use Rattle.ds_trace.specs.Advanced.{Adds, HasStepped, HasHalted, is_last}
 use Rattle.ds_trace.specs.Handed.{IsFinished, IsHandedOn, IsLate}
 use Rattle.ds_trace.proofs.Processing.{counted_step, counting_last, counting_more, failed_within, never_out, nothing_counted, nothing_more, processor_told, watched_more, watched_step, within_before}
 use Rattle.ds_trace.proofs.Silence.{untold_until, until_within, until_silent}
-use Rattle.ds_trace.proofs.Telling.{told_first, told_inside, told_same, told_unit, told_boundary, told_handed, told_part, finished, finished_part, going_now}
+use Rattle.ds_trace.proofs.Telling.{told_first, told_inside, told_same, told_unit, told_boundary, told_handed, told_part, lines_part, finished, finished_part, finished_so_far, going_now}
 
 -- The tests of the loop.
 
@@ -203,12 +203,38 @@ module _ (v : View) (n : ℕ) (h new : Held) (text more : List ℕ) (b c : Progr
 
 -- No step.
 
-pub halts : (f : Fault) (h new : Held) → RefusesStep f h → IsFew new.own → new ≡ with_failure h → h.own.failed ≡ false → (f ≡ fault.Memory) × (new.own.spent ≡ 0)
-halts fault.Memory h new r few still working = (refl, ap (λ (x : Held). x.own.spent) still ∙ r.1)
+pub halts : (f : Fault) (h new : Held) → RefusesStep f h → IsFew new.own → new ≡ with_failure h → h.own.failed ≡ false → (f ≡ fault.Memory) × (new.own.spent ≡ 0) × (is_over h.kept.state ≡ false)
+halts fault.Memory h new r few still working = (refl, ap (λ (x : Held). x.own.spent) still ∙ r.1, r.2)
 halts fault.Failed h new r few still working = absurd (let no : true ≡ false = sym r ∙ working in cc)
 halts f h new r few still working = absurd r
 
-module _ (v : View) (n : ℕ) (f : Fault) (h new : Held) (text more : List ℕ) (b c : Progress) (s : HasHalted f h new text b more c) where
+-- no boundary is owed there, not all have ended, and the time is not over: a turn is still to come
+turn_comes : (o : Option Turn) (t n : ℕ) (over : Bool) → o ≡ None → t < n → over ≡ false → (is_some o || (nat_lt t n && not over)) ≡ true
+turn_comes o t n over none early going = rw (none, going) (is_lt t n early)
+  where
+    is_lt : (t n : ℕ) → t < n → (nat_lt t n && true) ≡ true
+    is_lt t n e = grind (arith, nat_tests)
+
+-- what was over by an earlier time
+pub goes_later : (k n : ℕ) (h : Held) → k ≤ n → h.kept.state.owed ≡ None → held_goes_on k h ≡ true → held_goes_on n h ≡ true
+goes_later k n h few owed going = by h.kept.state.owed h.kept.state.time (is_over h.kept.state) owed going
+  where
+    later : (t : ℕ) (over : Bool) → (nat_lt t k && not over) ≡ true → (nat_lt t n && not over) ≡ true
+    later t false e = grind (arith, nat_tests, few)
+    later t true e = grind (arith, nat_tests, few)
+
+    by : (o : Option Turn) (t : ℕ) (over : Bool) → o ≡ None → (is_some o || (nat_lt t k && not over)) ≡ true → (is_some o || (nat_lt t n && not over)) ≡ true
+    by None t over none e = later t over e
+    by (Some turn) t over none e = absurd (cc)
+
+module _ (v : View) (n : ℕ) (f : Fault) (h new : Held) (text more : List ℕ) (b c : Progress) (s : HasHalted f h new text b more c) (owed : b.before.owed ≡ is_some h.kept.state.owed) (test : (b.before.owed || nat_lt h.kept.state.time n) ≡ true) where
+  halted_whole : h.kept.state.owed ≡ None
+  halted_whole = sym (ap (λ (x : Held). x.kept.state.owed) s.still) ∙ s.whole
+
+  halted_going : held_goes_on n new ≡ true
+  halted_going = ap (held_goes_on n) s.still
+      ∙ turn_comes h.kept.state.owed h.kept.state.time n (is_over h.kept.state) halted_whole (early_by h.kept.state.owed h.kept.state.time n b.before.owed owed test halted_whole) s.over
+
   pub halted_told : (from : Held) (a d : Option (List ℕ)) → TellsSo v n from h a d text b → TellsAll (Some f) v n from new a d more c.counts
   halted_told from a d tells = record {
     progress = c;
@@ -218,7 +244,7 @@ module _ (v : View) (n : ℕ) (f : Fault) (h new : Held) (text more : List ℕ) 
           (subst (λ (x : Progress). IsTold v n m new a d text x) (sym s.looked) (told_same v n m h new a d text b s.stays (tells.tells m k)));
     };
     counts = refl;
-    stopped = s.memory;
+    stopped = (s.memory, s.whole, halted_going);
     spent = s.spent;
   }
 
@@ -260,10 +286,10 @@ module _ (v : View) (n : ℕ) (from new : Held) (a : Option (List ℕ)) (unowed 
       tells_within v n from new a a [] b (first_told [] b refl refl refl)
 
   -- where a fault cuts that short
-  pub cut_early : (f : Fault) (text : List ℕ) (k : Counted) → text ≡ [] → k ≡ none_counted → IsNewFault f → TellsAll (Some f) v n from new a a text k
-  cut_early f text k empty uncounted is =
+  pub cut_early : (f : Fault) (text : List ℕ) (k : Counted) → text ≡ [] → k ≡ none_counted → IsNewFault f → held_goes_on (untold_until v n) new ≡ true → TellsAll (Some f) v n from new a a text k
+  cut_early f text k empty uncounted is going =
       let b : Progress = record { before = looked_held false new; counts = none_counted } in
-      record { progress = b; tells = first_told text b empty refl refl; counts = sym uncounted; stopped = new_is f is; spent = none }
+      record { progress = b; tells = first_told text b empty refl refl; counts = sym uncounted; stopped = (new_is f is, owes, goes_later (untold_until v n) n new (until_within v n) owes going); spent = none }
 
 -- and nothing is counted
 pub cut_counted : (v : View) (n : ℕ) (f : Fault) (from new : Held) (c : ProcessorCounts) (e d : WindowEnd) → from.kept.state.owed ≡ None → IsCut f from new → IsNewFault f → RunsWithin (told_from v n) from new → new.kept.state.owed ≡ None
@@ -296,6 +322,22 @@ module _ (v : View) (n : ℕ) (from h : Held) (a d e : Option (List ℕ)) (text 
     traces = λ m k.
         let told = tells.tells m k in
         told_part v n m h a d e text b told from (processor_held v lines c h) (processor_told v n from h c lines m (touched told.early (after n told.choices m)) counted k told.stands) part;
+  }
+
+  -- memory that ran out while it was followed leaves a prefix of the lines
+  pub cut_lines : (b : Progress) → TellsSo v n from h a d text b → Keeps d e → TracesLines v n from a e
+  cut_lines b tells keeps = record {
+    traces = λ m k.
+        let told = tells.tells m k in
+        lines_part v n m h a d e text b told from (processor_held v lines c h) (processor_told v n from h c lines m (touched told.early (after n told.choices m)) counted k told.stands) keeps;
+  }
+
+  -- and where it ran out for the run, the trace so far and the text so far
+  pub halted_traces : (f : Fault) (counts : Counted) → TellsAll (Some f) v n from h a d text counts → IsFinished v counts d e (text ++ processor_held v lines c h) h → TracesShort v n from a e
+  halted_traces f counts all done = record {
+    traces = λ m k.
+        let told = all.tells.tells m k in
+        inl (finished_so_far v n m h a d e text all.progress told from (processor_held v lines c h) (processor_told v n from h c lines m (touched told.early (after n told.choices m)) counted k told.stands) counts all.counts all.spent all.stopped.1 all.stopped.2 done);
   }
 
   pub finished_traces : (counts : Counted) → TellsAll None v n from h a d text counts → IsFinished v counts d e (text ++ processor_held v lines c h) h → Traces v n from a e
@@ -339,9 +381,39 @@ nothing_part v n from a none =
       };
     }
 
+pub nothing_lines : (v : View) (n : ℕ) (from : Held) (a : Option (List ℕ)) → from.own.spent ≡ 0 → TracesLines v n from a a
+unfolding after
+nothing_lines v n from a none =
+    let lines : List ℕ = window_text (left_by (window_end v) None from) in record {
+      traces = λ m k. record {
+        last = m;
+        reached = record { choices = []; early = false; comes_to = refl };
+        processor = processor_held v lines none_processed from;
+        processed = processor_told v n from from none_processed lines m m (nothing_counted (window_end v) (told_from v n) n from none) k k;
+        written = part_none a (trace_along v n [] m);
+      };
+    }
+
+-- a prefix of the lines is what is written where memory runs out
+pub lines_short : (v : View) (n : ℕ) (from : Held) (a d : Option (List ℕ)) → TracesLines v n from a d → TracesShort v n from a d
+lines_short v n from a d lines = record { traces = λ m k. inr (lines.traces m k) }
+
+-- what holds where memory ran out, whatever was answered
+pub short_err : {T : Type 0} (r : Result T Fault) (P : Type 0) → P → IfErr r (λ f. f ≡ fault.Memory → P)
+short_err (Ok x) P p = tt
+short_err (Err f) P p = λ is. p
+
+-- where this was answered
+pub short_is : {T : Type 0} (r : Result T Fault) (e : Fault) (P : Type 0) → r ≡ Err e → (e ≡ fault.Memory → P) → IfErr r (λ f. f ≡ fault.Memory → P)
+short_is {T} r e P is p = subst (λ (x : Result T Fault). IfErr x (λ f. f ≡ fault.Memory → P)) (sym is) p
+
+-- a write that failed is not want of memory
+pub never_short : (e : Fault) (P : Type 0) → e ≡ fault.WriteFault → e ≡ fault.Memory → P
+never_short e P unwritten short = let no : fault.WriteFault ≡ fault.Memory = sym unwritten ∙ short in absurd cc
+
 -- a fault by which a run was cut short
 pub late_cut : (f : Fault) (n : ℕ) (h : Held) → IsStopped (Some f) n h → IsLate f
-late_cut f n h is = subst IsLate (sym is) tt
+late_cut f n h is = subst IsLate (sym is.0) tt
 
 -- What is written at the end.
 

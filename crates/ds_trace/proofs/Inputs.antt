@@ -1,5 +1,5 @@
 -- From the inputs of a trace to what is written.
-use Rattle.std.proofs.Common.{◌≡◌, ℕ, List, [], Option, Result, Ok, Err, refl, sym, ap, ◌∙◌, subst, inl, inr}
+use Rattle.std.proofs.Common.{◌≡◌, ℕ, List, [], ◌++◌, append-nil, Option, Result, Ok, Err, refl, sym, ap, ◌∙◌, subst, inl, inr}
 use Rattle.std.specs.Prelude.{OnOk, OnErr, IfErr, ◌&&◌, codes, nat_le, nat_lt}
 use Rattle.std.specs.Io.KnownBytes.{Keeps}
 use Rattle.ds_word.specs.ResultBinding.{◌>>=◌}
@@ -8,6 +8,8 @@ use Rattle.ds_policy.specs.PolicyParts.{sources_of}
 use Rattle.ds_policy.specs.InputText.{input_of}
 use Rattle.ds_pagemap.specs.Machine.{State}
 use Rattle.ds_pagemap.specs.First.{first_state}
+use Rattle.ds_pagemap.specs.Text.{text_of}
+use Rattle.ds_log.proofs.Sends.{appends_both, part_before}
 use Rattle.ds_pagemap.specs.Inputs.{Refusal, Sources, check, images_from, input_read, inputs_under, inputs_under_by}
 use Rattle.ds_pagemap.specs.Inputs as refusal
 use Rattle.ds_refinement.specs.Held.{Held}
@@ -16,8 +18,9 @@ use Rattle.ds_station.specs.Headline.{Begins, BeginsWith, IsRefused, Loaded, Ref
 use Rattle.ds_station.specs.declared.fault.Fault.{Fault}
 use Rattle.ds_station.specs.declared.fault.Fault.TheVariants as fault
 use Rattle.ds_view.specs.declared.view.View.{View}
-use Rattle.ds_trace.specs.Traces.{TraceEndsBy, TraceEndsReally, WritesTold, WritesToldPart, WritesTrace, WritesTracePart, WritesTracePartReally, WritesTraceReally}
-use Rattle.ds_trace.specs.Shows.{Traces, TracesPart}
+use Rattle.ds_trace.specs.Ends.{end_text}
+use Rattle.ds_trace.specs.Traces.{counts_along, told_to, trace_along, TraceEndsBy, TraceEndsReally, WritesLines, WritesShort, WritesTold, WritesToldPart, WritesToldSoFar, WritesTrace, WritesTracePart, WritesTracePartReally, WritesTraceReally, WritesTraceShort, WritesTraceShortReally}
+use Rattle.ds_trace.specs.Shows.{Traces, TracesPart, TracesShort}
 use Rattle.ds_trace.specs.Handed.{IsLate}
 use Rattle.ds_trace.specs.Processors.{TellsFrom}
 use Rattle.ds_trace.proofs.Processing.{processor_of_some}
@@ -30,10 +33,10 @@ refused_untold fault.WriteFault v read old new n i k = absurd i
 refused_untold fault.Failed v read old new n i k = absurd i
 refused_untold f v read old new n i k = (i, k)
 
-late_by : (f : Fault) (v : View) (read : Result State Refusal) (old new : Option (List ℕ)) (n : ℕ) → IsLate f → Begins read (WritesTracePart v old new n) → TraceEndsBy f v read old new n
-late_by fault.Memory v read old new n late b = inr b
-late_by fault.WriteFault v read old new n late b = b
-late_by f v read old new n late b = absurd late
+late_by : (f : Fault) (v : View) (read : Result State Refusal) (old new : Option (List ℕ)) (n : ℕ) → IsLate f → (f ≡ fault.Memory → Begins read (WritesTraceShort v old new n)) → Begins read (WritesTracePart v old new n) → TraceEndsBy f v read old new n
+late_by fault.Memory v read old new n late short b = inr (short refl)
+late_by fault.WriteFault v read old new n late short b = b
+late_by f v read old new n late short b = absurd late
 
 -- what is told of a station's run is told of a run
 of_some : (v : View) (old new : Option (List ℕ)) (n : ℕ) (s : Held) (m : State) → WritesTold v old new n m (TellsFrom v n s m) → WritesTrace v old new n m
@@ -56,15 +59,59 @@ part_of_some v old new n s m t = record {
   written = t.written;
 }
 
+short_of_some : (v : View) (old new : Option (List ℕ)) (n : ℕ) (s : Held) (m : State) → WritesShort v old new n m (TellsFrom v n s m) → WritesTraceShort v old new n m
+short_of_some v old new n s m (inl t) = inl (record {
+  last = t.last;
+  prefix = t.prefix;
+  going = t.going;
+  processor = t.processor;
+  processed = processor_of_some v n s m t.last t.processor t.processed;
+  between = t.between;
+  trace = t.trace;
+  written = t.written;
+})
+short_of_some v old new n s m (inr t) = inr (record {
+  last = t.last;
+  reached = t.reached;
+  processor = t.processor;
+  processed = processor_of_some v n s m t.last t.processor t.processed;
+  written = t.written;
+})
+
+-- what is written where memory runs out is a prefix of the trace and the text
+pub short_part : (v : View) (old new : Option (List ℕ)) (n : ℕ) (m : State) (Tells : State → List ℕ → Type 0) → WritesShort v old new n m Tells → WritesToldPart v old new n m Tells
+short_part v old new n m Tells (inl t) = record {
+  last = t.last;
+  reached = t.prefix.reached;
+  processor = t.processor;
+  processed = t.processed;
+  written = record {
+    part = told_to v n m t.last t.prefix.reached t.processor ++ text_of t.last;
+    rest = [];
+    whole = append-nil (told_to v n m t.last t.prefix.reached t.processor ++ text_of t.last);
+    appends = appends_both old t.between new (told_to v n m t.last t.prefix.reached t.processor) (text_of t.last) t.trace t.written;
+  };
+}
+short_part v old new n m Tells (inr t) =
+    let lines : List ℕ = trace_along v n t.reached.choices m in
+    let end : List ℕ = end_text v (counts_along v n t.reached.choices m) t.last in record {
+      last = t.last;
+      reached = t.reached;
+      processor = t.processor;
+      processed = t.processed;
+      written = part_before old new (lines ++ t.processor ++ end) (text_of t.last) (part_before old new (lines ++ t.processor) end (part_before old new lines t.processor t.written));
+    }
+
 -- a run that was told to its end
 pub told_ok : {T : Type 0} (r : Result T Fault) (v : View) (read : Result State Refusal) (s : Held) (old new : Option (List ℕ)) (n : ℕ) → Begins read (Stands s) → OnOk r (Traces v n s old new) → OnOk r (Begins read (WritesTrace v old new n))
 told_ok (Ok x) v read s old new n b t = (b.0, b.1, of_some v old new n s b.0 (t.traces b.0 b.2))
 told_ok (Err f) v read s old new n b t = tt
 
 -- or not
-pub told_err : {T : Type 0} (r : Result T Fault) (v : View) (read : Result State Refusal) (s : Held) (old new : Option (List ℕ)) (n : ℕ) → Begins read (Stands s) → OnErr r (TracesPart v n s old new) → IfErr r IsLate → IfErr r (λ f. TraceEndsBy f v read old new n)
-told_err (Ok x) v read s old new n b t late = tt
-told_err (Err f) v read s old new n b t late = late_by f v read old new n late (b.0, b.1, part_of_some v old new n s b.0 (t.traces b.0 b.2))
+pub told_err : {T : Type 0} (r : Result T Fault) (v : View) (read : Result State Refusal) (s : Held) (old new : Option (List ℕ)) (n : ℕ) → Begins read (Stands s) → OnErr r (TracesPart v n s old new) → IfErr r IsLate → IfErr r (λ f. f ≡ fault.Memory → TracesShort v n s old new) → IfErr r (λ f. TraceEndsBy f v read old new n)
+told_err (Ok x) v read s old new n b t late short = tt
+told_err (Err f) v read s old new n b t late short =
+    late_by f v read old new n late (λ is. (b.0, b.1, short_of_some v old new n s b.0 ((short is).traces b.0 b.2))) (b.0, b.1, part_of_some v old new n s b.0 (t.traces b.0 b.2))
 
 begun_not : (read : Result State Refusal) (P : State → Type 0) (r : Refusal) → Begins read P → read ≡ Err r → ⊥
 begun_not read P r b e = let no : Ok b.0 ≡ Err r = sym b.1 ∙ e in cc
@@ -122,16 +169,18 @@ pub told_really : {T : Type 0} (r : Result T Fault) (v : View) (read : Result Lo
 told_really (Ok x) v read s old new n start b t = (b.0, b.1, record { first = s; begins = b.2.0; written = t.traces (first_state b.0.policy b.0.images b.0.input) b.2.1 })
 told_really (Err f) v read s old new n start b t = tt
 
-late_really : (f : Fault) (v : View) (read : Result Loaded Refusal) (old new : Option (List ℕ)) (n start : ℕ) → IsLate f → Begins read (WritesTracePartReally v old new n start) → TraceEndsReally f v read old new n start
-late_really fault.Memory v read old new n start late b = inr b
-late_really fault.WriteFault v read old new n start late b = b
-late_really f v read old new n start late b = tt
+late_really : (f : Fault) (v : View) (read : Result Loaded Refusal) (old new : Option (List ℕ)) (n start : ℕ) → IsLate f → (f ≡ fault.Memory → Begins read (WritesTraceShortReally v old new n start)) → Begins read (WritesTracePartReally v old new n start) → TraceEndsReally f v read old new n start
+late_really fault.Memory v read old new n start late short b = inr (short refl)
+late_really fault.WriteFault v read old new n start late short b = b
+late_really f v read old new n start late short b = tt
 
 -- or not
-pub cut_really : {T : Type 0} (r : Result T Fault) (v : View) (read : Result Loaded Refusal) (s : Held) (old new : Option (List ℕ)) (n start : ℕ) → Begins read (BeginsAt start s) → OnErr r (TracesPart v n s old new) → IfErr r IsLate → IfErr r (λ f. TraceEndsReally f v read old new n start)
-cut_really (Ok x) v read s old new n start b t late = tt
-cut_really (Err f) v read s old new n start b t late =
-    late_really f v read old new n start late (b.0, b.1, record { first = s; begins = b.2.0; written = t.traces (first_state b.0.policy b.0.images b.0.input) b.2.1 })
+pub cut_really : {T : Type 0} (r : Result T Fault) (v : View) (read : Result Loaded Refusal) (s : Held) (old new : Option (List ℕ)) (n start : ℕ) → Begins read (BeginsAt start s) → OnErr r (TracesPart v n s old new) → IfErr r IsLate → IfErr r (λ f. f ≡ fault.Memory → TracesShort v n s old new) → IfErr r (λ f. TraceEndsReally f v read old new n start)
+cut_really (Ok x) v read s old new n start b t late short = tt
+cut_really (Err f) v read s old new n start b t late short =
+    late_really f v read old new n start late
+    (λ is. (b.0, b.1, record { first = s; begins = b.2.0; written = (short is).traces (first_state b.0.policy b.0.images b.0.input) b.2.1 }))
+    (b.0, b.1, record { first = s; begins = b.2.0; written = t.traces (first_state b.0.policy b.0.images b.0.input) b.2.1 })
 
 -- where the inputs are refused, it did nothing
 pub refused_really : {Y : Type 0} (f : Fault) (v : View) (any : Result Y Refusal) (read : Result Loaded Refusal) (old new : Option (List ℕ)) (n start : ℕ) → Refuses f any → Keeps old new → TraceEndsReally f v read old new n start

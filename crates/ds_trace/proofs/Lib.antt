@@ -1,5 +1,6 @@
 pub mod Scanning
 pub mod Results
+pub mod Asking
 pub mod Due
 pub mod Processes
 pub mod Touched

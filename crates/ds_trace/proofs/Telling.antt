@@ -3,9 +3,9 @@ use Rattle.std.proofs.Common.{◌≡◌, ℕ, ◌<◌, ◌≤◌, Bool, true, fa
 use Rattle.std.proofs.lemmas.Bool.Decides.{nat_tests}
 use Rattle.std.specs.Prelude.{◌||◌, ◌&&◌, not, nat_lt, is_some}
 use Rattle.std.proofs.lemmas.List.{append-nil}
-use Rattle.std.specs.Io.KnownBytes.{Appends}
+use Rattle.std.specs.Io.KnownBytes.{Appends, Keeps}
 use Rattle.ds_log.specs.Sent.{AppendsPart}
-use Rattle.ds_log.proofs.Sends.{appends_none, appends_both, part_behind, part_before}
+use Rattle.ds_log.proofs.Sends.{appends_kept, appends_none, appends_both, part_behind, part_before}
 use Rattle.ds_pagemap.specs.declared.turn.Turn.{Turn}
 use Rattle.ds_pagemap.specs.Machine.{State, first, touched}
 use Rattle.ds_pagemap.specs.Run.{half_turn, goes_on, is_over, after, Reaches}
@@ -32,7 +32,7 @@ use Rattle.ds_trace.specs.Halves.{looked_of, found_of, process_in, half_after, h
 use Rattle.ds_trace.specs.Ends.{end_text}
 use Rattle.ds_trace.specs.Processors.{TellsFrom}
 use Rattle.ds_trace.specs.declared.progress.Progress.{Progress}
-use Rattle.ds_trace.specs.Traces.{counts_along, trace_along, told_to, WritesTold, WritesToldPart}
+use Rattle.ds_trace.specs.Traces.{counts_along, trace_along, told_to, WritesLines, WritesTold, WritesToldPart, WritesToldSoFar}
 use Rattle.ds_trace.specs.Handed.{IsFinished, IsHandedOn}
 use Rattle.ds_trace.specs.Shows.{looked_held, half_held, counts_held, progress_held, end_held, IsTold}
 use Rattle.ds_trace.specs.Advanced.{is_last}
@@ -367,6 +367,16 @@ module _ (v : View) (n : ℕ) (m : State) (h : Held) (a d e : Option (List ℕ))
         (subst (AppendsPart a e) told.told (part_behind a d e told.sent text told.appends part))));
   }
 
+  -- of the lines, where nothing more is written
+  pub lines_part : Keeps d e → WritesLines v a e n m (TellsFrom v n start m)
+  lines_part keeps = record {
+    last = last_state;
+    reached = last_reached;
+    processor = processor;
+    processed = processed;
+    written = record { part = told.sent; rest = text; whole = told.told; appends = appends_kept a d e told.sent told.appends keeps };
+  }
+
   -- with the end's text and the text of the state
   both_are : (k : Counted) → b.counts ≡ k → h.own.spent ≡ 0 → told.sent ++ (text ++ processor ++ end_held v k h ++ held_text h) ≡ told_to v n m last_state last_reached processor ++ text_of last_state
   both_are k is none =
@@ -388,6 +398,14 @@ module _ (v : View) (n : ℕ) (m : State) (h : Held) (a d e : Option (List ℕ))
     written = subst (AppendsPart a e) (both_are k is none) (part_behind a d e told.sent (text ++ processor ++ end_held v k h ++ held_text h) told.appends part);
   }
 
+  -- the trace and its end's text are written
+  trace_written : (k : Counted) → b.counts ≡ k → h.own.spent ≡ 0 → (between : Option (List ℕ)) → Appends d between (text ++ processor ++ end_held v k h) → Appends a between (told_to v n m last_state last_reached processor)
+  trace_written k is none between trace = subst (Appends a between)
+      (after_lines told.sent (text ++ processor) (trace_along v n told.choices m ++ processor) (end_held v k h)
+      (after_lines told.sent text (trace_along v n told.choices m) processor told.told)
+      ∙ ap (λ (l : List ℕ). trace_along v n told.choices m ++ processor ++ l) (last_end k is none))
+      (appends_both a d between told.sent (text ++ processor ++ end_held v k h) told.appends trace)
+
   pub finished : (k : Counted) → b.counts ≡ k → h.own.spent ≡ 0 → held_goes_on n h ≡ false → IsFinished v k d e (text ++ processor) h → WritesTold v a e n m (TellsFrom v n start m)
   finished k is none over done = record {
     last = last_state;
@@ -395,10 +413,19 @@ module _ (v : View) (n : ℕ) (m : State) (h : Held) (a d e : Option (List ℕ))
     processor = processor;
     processed = processed;
     between = done.between;
-    trace = subst (Appends a done.between)
-        (after_lines told.sent (text ++ processor) (trace_along v n told.choices m ++ processor) (end_held v k h)
-        (after_lines told.sent text (trace_along v n told.choices m) processor told.told)
-        ∙ ap (λ (l : List ℕ). trace_along v n told.choices m ++ processor ++ l) (last_end k is none))
-        (appends_both a d done.between told.sent (text ++ processor ++ end_held v k h) told.appends done.trace);
+    trace = trace_written k is none done.between done.trace;
+    written = subst (Appends done.between e) last_text done.written;
+  }
+
+  -- so of a run that was cut short
+  pub finished_so_far : (k : Counted) → b.counts ≡ k → h.own.spent ≡ 0 → h.kept.state.owed ≡ None → held_goes_on n h ≡ true → IsFinished v k d e (text ++ processor) h → WritesToldSoFar v a e n m (TellsFrom v n start m)
+  finished_so_far k is none owed going done = record {
+    last = last_state;
+    prefix = record { reached = last_reached; whole = owed_stands h last_state told.stands ∙ owed };
+    going = goes_alike n h last_state told.stands ∙ going;
+    processor = processor;
+    processed = processed;
+    between = done.between;
+    trace = trace_written k is none done.between done.trace;
     written = subst (Appends done.between e) last_text done.written;
   }

@@ -1,8 +1,10 @@
 -- What one step of a station that is followed does.
-use Rattle.std.specs.Prelude.{◌≡◌, ℕ, Bool, true, false, List, ◌++◌, Result, Ok, Err}
+use Rattle.std.specs.Prelude.{◌≡◌, ℕ, Bool, true, false, List, ◌++◌, None, Result, Ok, Err}
 use Rattle.ds_refinement.specs.declared.step.Step.{Step}
 use Rattle.ds_refinement.specs.declared.step.Step.TheVariants.{Inside, Unit, Boundary, Over}
+use Rattle.ds_pagemap.specs.Run.{is_over}
 use Rattle.ds_refinement.specs.Held.{Held}
+use Rattle.ds_refinement.specs.Services.{with_failure}
 use Rattle.ds_refinement.specs.Stands.{IsSound}
 use Rattle.ds_refinement.specs.Steps.{Stays}
 use Rattle.ds_kernel.specs.Ended.{Does}
@@ -32,10 +34,13 @@ pub record HasStepped (last : Bool) (v : View) (h new : Held) (text : List ℕ) 
   pub adds : Adds step v new text b more c
   pub sound : IsSound new
 
--- none was done, since memory ran out
+-- none was done, since memory ran out between two turns where not all have ended
 pub record HasHalted (f : Fault) (h new : Held) (text : List ℕ) (b : Progress) (more : List ℕ) (c : Progress) : Type 0 where
   pub memory : f ≡ fault.Memory
   pub stays : Stays h new
+  pub still : new ≡ with_failure h
+  pub whole : new.kept.state.owed ≡ None
+  pub over : is_over h.kept.state ≡ false
   pub spent : new.own.spent ≡ 0
   pub same : more ≡ text
   pub looked : c ≡ b

@@ -1,5 +1,5 @@
 -- The lines and the end of a trace, by what a station holds.
-use Rattle.std.specs.Prelude.{◌≡◌, ℕ, zero, suc, ◌+◌, Bool, false, if◌then◌else◌, List, [], ◌++◌, length, map, is_some, Option, Some, None}
+use Rattle.std.specs.Prelude.{◌≡◌, ℕ, zero, suc, ◌+◌, Bool, false, true, if◌then◌else◌, List, [], ◌++◌, length, map, is_some, Option, Some, None}
 use Rattle.std.specs.Io.KnownBytes.{Appends}
 use Rattle.ds_pagemap.specs.Machine.{State, process_of, first, touched}
 use Rattle.ds_pagemap.specs.Run.{after}
@@ -22,7 +22,7 @@ use Rattle.ds_trace.specs.Ends.{process_text}
 use Rattle.ds_trace.specs.declared.processor.ProcessorCounts.{ProcessorCounts}
 use Rattle.ds_trace.specs.declared.progress.Progress.{Progress}
 use Rattle.ds_trace.specs.Processors.{processor_text, TellsFrom}
-use Rattle.ds_trace.specs.Traces.{counts_along, trace_along, WritesTold, WritesToldPart}
+use Rattle.ds_trace.specs.Traces.{counts_along, trace_along, WritesLines, WritesShort, WritesTold, WritesToldPart}
 
 -- the unit of a process, if there is one
 abbrev pub start_held : Held → Option ℕ → Option Start
@@ -102,10 +102,10 @@ pub record IsTold (v : View) (n : ℕ) (m : State) (h : Held) (old now : Option 
 pub record TellsSo (v : View) (n : ℕ) (from h : Held) (old now : Option (List ℕ)) (rest : List ℕ) (b : Progress) : Type 0 where
   pub tells : (m : State) → Stands from m → IsTold v n m h old now rest b
 
--- A run came to its end, or a fault cut it short: memory ran out where no unit was begun.
+-- A run came to its end, or a fault cut it short: memory ran out between two turns, where a turn was still to come.
 abbrev pub IsStopped : Option Fault → ℕ → Held → Type 0
 IsStopped None n h = held_goes_on n h ≡ false
-IsStopped (Some f) n h = f ≡ fault.Memory
+IsStopped (Some f) n h = (f ≡ fault.Memory) × (h.kept.state.owed ≡ None) × (held_goes_on n h ≡ true)
 
 -- it was told so far, with these counts, and no instruction of a unit is counted there
 pub record TellsAll (cut : Option Fault) (v : View) (n : ℕ) (from h : Held) (old now : Option (List ℕ)) (rest : List ℕ) (k : Counted) : Type 0 where
@@ -122,3 +122,11 @@ pub record Traces (v : View) (n : ℕ) (from : Held) (old new : Option (List ℕ
 -- or a prefix of what is told of it is written
 pub record TracesPart (v : View) (n : ℕ) (from : Held) (old new : Option (List ℕ)) : Type 0 where
   pub traces : (m : State) → Stands from m → WritesToldPart v old new n m (TellsFrom v n from m)
+
+-- what is written of each where memory ran out
+pub record TracesShort (v : View) (n : ℕ) (from : Held) (old new : Option (List ℕ)) : Type 0 where
+  pub traces : (m : State) → Stands from m → WritesShort v old new n m (TellsFrom v n from m)
+
+-- where that was while it was followed: a prefix of its lines
+pub record TracesLines (v : View) (n : ℕ) (from : Held) (old new : Option (List ℕ)) : Type 0 where
+  pub traces : (m : State) → Stands from m → WritesLines v old new n m (TellsFrom v n from m)

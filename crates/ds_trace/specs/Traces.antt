@@ -1,10 +1,10 @@
 -- The trace of a run, and what is written of it.
-use Rattle.std.specs.Prelude.{◌⊎◌, ⊤, ℕ, Bool, if◌then◌else◌, List, [], ◌∷◌, ◌++◌, Option, Result}
+use Rattle.std.specs.Prelude.{◌≡◌, ◌⊎◌, ⊤, ℕ, Bool, true, if◌then◌else◌, List, [], ◌∷◌, ◌++◌, Option, Result}
 use Rattle.std.specs.Io.KnownBytes.{Appends, Keeps}
 use Rattle.ds_log.specs.Sent.{AppendsPart}
 use Rattle.ds_pagemap.specs.Machine.{State}
 use Rattle.ds_pagemap.specs.First.{first_state}
-use Rattle.ds_pagemap.specs.Run.{half_turn, goes_on, after, Reaches, Ends}
+use Rattle.ds_pagemap.specs.Run.{half_turn, goes_on, after, Reaches, Ends, IsPrefix}
 use Rattle.ds_pagemap.specs.Text.{text_of}
 use Rattle.ds_pagemap.specs.Inputs.{Refusal}
 use Rattle.ds_refinement.specs.Held.{Held}
@@ -57,6 +57,29 @@ pub record WritesToldPart (v : View) (old new : Option (List ℕ)) (n : ℕ) (fi
   pub processed : Tells last processor
   pub written : AppendsPart old new (told_to v n first last reached processor ++ text_of last)
 
+-- A run was cut short between two turns, where a turn was still to come: its trace so far is written, and then its text so far.
+pub record WritesToldSoFar (v : View) (old new : Option (List ℕ)) (n : ℕ) (first : State) (Tells : State → List ℕ → Type 0) : Type 0 where
+  pub last : State
+  pub prefix : IsPrefix n first last
+  pub going : goes_on n last ≡ true
+  pub processor : List ℕ
+  pub processed : Tells last processor
+  pub between : Option (List ℕ)
+  pub trace : Appends old between (told_to v n first last prefix.reached processor)
+  pub written : Appends between new (text_of last)
+
+-- A prefix of the lines of a run that has come somewhere is written, and of what comes after the lines nothing.
+pub record WritesLines (v : View) (old new : Option (List ℕ)) (n : ℕ) (first : State) (Tells : State → List ℕ → Type 0) : Type 0 where
+  pub last : State
+  pub reached : Reaches n first last
+  pub processor : List ℕ
+  pub processed : Tells last processor
+  pub written : AppendsPart old new (trace_along v n reached.choices first)
+
+-- what is written where memory runs out: for the run, or for its trace
+abbrev pub WritesShort : View → Option (List ℕ) → Option (List ℕ) → ℕ → State → (State → List ℕ → Type 0) → Type 0
+WritesShort v old new n first Tells = WritesToldSoFar v old new n first Tells ⊎ WritesLines v old new n first Tells
+
 -- what is told of the processor is of a run of some station from the first state
 abbrev pub WritesTrace : View → Option (List ℕ) → Option (List ℕ) → ℕ → State → Type 0
 WritesTrace v old new n first = WritesTold v old new n first (TellsProcessor v n first)
@@ -65,9 +88,13 @@ WritesTrace v old new n first = WritesTold v old new n first (TellsProcessor v n
 abbrev pub WritesTracePart : View → Option (List ℕ) → Option (List ℕ) → ℕ → State → Type 0
 WritesTracePart v old new n first = WritesToldPart v old new n first (TellsProcessor v n first)
 
+-- the same where memory runs out
+abbrev pub WritesTraceShort : View → Option (List ℕ) → Option (List ℕ) → ℕ → State → Type 0
+WritesTraceShort v old new n first = WritesShort v old new n first (TellsProcessor v n first)
+
 -- when each fault comes, and what is written then: nothing where it refuses the inputs
 abbrev pub TraceEndsBy : Fault → View → Result State Refusal → Option (List ℕ) → Option (List ℕ) → ℕ → Type 0
-TraceEndsBy fault.Memory v read old new n = Keeps old new ⊎ Begins read (WritesTracePart v old new n)
+TraceEndsBy fault.Memory v read old new n = Keeps old new ⊎ Begins read (WritesTraceShort v old new n)
 TraceEndsBy fault.Stuck v read old new n = ⊥
 TraceEndsBy fault.WriteFault v read old new n = Begins read (WritesTracePart v old new n)
 TraceEndsBy fault.Failed v read old new n = ⊥
@@ -89,8 +116,12 @@ WritesTraceReally v old new n start l = WritesOf start l (λ h m. WritesTold v o
 abbrev pub WritesTracePartReally : View → Option (List ℕ) → Option (List ℕ) → ℕ → ℕ → Loaded → Type 0
 WritesTracePartReally v old new n start l = WritesOf start l (λ h m. WritesToldPart v old new n m (TellsFrom v n h m))
 
+-- what is written where memory runs out
+abbrev pub WritesTraceShortReally : View → Option (List ℕ) → Option (List ℕ) → ℕ → ℕ → Loaded → Type 0
+WritesTraceShortReally v old new n start l = WritesOf start l (λ h m. WritesShort v old new n m (TellsFrom v n h m))
+
 -- what the processor did where each fault comes: nothing that is told where the inputs are refused
 abbrev pub TraceEndsReally : Fault → View → Result Loaded Refusal → Option (List ℕ) → Option (List ℕ) → ℕ → ℕ → Type 0
-TraceEndsReally fault.Memory v read old new n start = Keeps old new ⊎ Begins read (WritesTracePartReally v old new n start)
+TraceEndsReally fault.Memory v read old new n start = Keeps old new ⊎ Begins read (WritesTraceShortReally v old new n start)
 TraceEndsReally fault.WriteFault v read old new n start = Begins read (WritesTracePartReally v old new n start)
 TraceEndsReally f v read old new n start = ⊤

@@ -1,15 +1,17 @@
 //! The trace of a run, from texts to a text.
 ghost use Rattle.std.specs.Prelude.{◌≡◌, IfErr, OnOk, Err};
 ghost use Rattle.ds_pagemap.specs.Inputs.{Refusal, inputs, inputs_by, inputs_under, inputs_under_by};
+ghost use Rattle.ds_log.specs.Sent.{IsAskedOnce};
+ghost use Rattle.ds_station.specs.Faults.{is_unwritten};
 ghost use Rattle.ds_station.specs.Headline.{Begins, IsRefused, loaded, sources_seen};
 ghost use Rattle.ds_trace.specs.Traces.{TraceEndsBy, TraceEndsReally, WritesTrace, WritesTraceReally};
 
 use crate::trace::tell;
+use ds_log::Output;
 use ds_policy::Policy;
 use ds_station::{Fault, prepare};
 use ds_view::View;
 use std::alloc::Global;
-use std::io::Write;
 
 /// As `run_files` of `ds_station`, with the trace of the run before its text: what each unit was,
 /// what was logged, what each boundary did, which process runs from when on, and at the end how each
@@ -17,7 +19,7 @@ use std::io::Write;
 ///
 /// Inputs are refused as `run_files` refuses them, and nothing is written. Where memory runs out or a
 /// write fails, a prefix of the trace and the text is written.
-pub fn trace_files<W: Write>(
+pub fn trace_files<O: Output>(
     alloc: Global,
     policy: &[u8],
     sources: &[(&str, &[u8])],
@@ -25,23 +27,24 @@ pub fn trace_files<W: Write>(
     n: u64,
     random: u8,
     view: &View,
-    out: &mut W,
+    out: &mut O,
 ) -> Result<(), Fault>
     ensures ok { OnOk result (Begins
         (inputs policy.now (sources_seen sources.now) input.now n random)
-        (WritesTrace view.now (W.contents out.old) (W.contents out.new) n)) }
+        (WritesTrace view.now (O.contents out.old) (O.contents out.new) n)) }
     ensures real { OnOk result (Begins
         (inputs_by loaded policy.now (sources_seen sources.now) input.now n random)
-        (WritesTraceReally view.now (W.contents out.old) (W.contents out.new) n random)) }
+        (WritesTraceReally view.now (O.contents out.old) (O.contents out.new) n random)) }
     ensures err { IfErr result (λ f. TraceEndsBy f view.now
         (inputs policy.now (sources_seen sources.now) input.now n random)
-        (W.contents out.old) (W.contents out.new) n) }
+        (O.contents out.old) (O.contents out.new) n) }
     ensures cut { IfErr result (λ f. TraceEndsReally f view.now
         (inputs_by loaded policy.now (sources_seen sources.now) input.now n random)
-        (W.contents out.old) (W.contents out.new) n random) }
+        (O.contents out.old) (O.contents out.new) n random) }
     ensures refused { (refusal : Refusal)
         → inputs policy.now (sources_seen sources.now) input.now n random ≡ Err refusal
-        → IsRefused result refusal (W.contents out.old) (W.contents out.new) }
+        → IsRefused result refusal (O.contents out.old) (O.contents out.new) }
+    ensures once { IsAskedOnce (O.answers out.old) (O.answers out.new) (is_unwritten result) }
 {
     let policy = match Policy::read(alloc, policy) {
         Ok(policy) => policy,
@@ -51,7 +54,7 @@ pub fn trace_files<W: Write>(
 }
 
 /// As `trace_files`, under a policy that was read before.
-pub fn trace_policy<W: Write>(
+pub fn trace_policy<O: Output>(
     alloc: Global,
     policy: &Policy,
     sources: &[(&str, &[u8])],
@@ -59,23 +62,24 @@ pub fn trace_policy<W: Write>(
     n: u64,
     random: u8,
     view: &View,
-    out: &mut W,
+    out: &mut O,
 ) -> Result<(), Fault>
     ensures ok { OnOk result (Begins
         (inputs_under policy.now (sources_seen sources.now) input.now n random)
-        (WritesTrace view.now (W.contents out.old) (W.contents out.new) n)) }
+        (WritesTrace view.now (O.contents out.old) (O.contents out.new) n)) }
     ensures real { OnOk result (Begins
         (inputs_under_by loaded policy.now (sources_seen sources.now) input.now n random)
-        (WritesTraceReally view.now (W.contents out.old) (W.contents out.new) n random)) }
+        (WritesTraceReally view.now (O.contents out.old) (O.contents out.new) n random)) }
     ensures err { IfErr result (λ f. TraceEndsBy f view.now
         (inputs_under policy.now (sources_seen sources.now) input.now n random)
-        (W.contents out.old) (W.contents out.new) n) }
+        (O.contents out.old) (O.contents out.new) n) }
     ensures cut { IfErr result (λ f. TraceEndsReally f view.now
         (inputs_under_by loaded policy.now (sources_seen sources.now) input.now n random)
-        (W.contents out.old) (W.contents out.new) n random) }
+        (O.contents out.old) (O.contents out.new) n random) }
     ensures refused { (refusal : Refusal)
         → inputs_under policy.now (sources_seen sources.now) input.now n random ≡ Err refusal
-        → IsRefused result refusal (W.contents out.old) (W.contents out.new) }
+        → IsRefused result refusal (O.contents out.old) (O.contents out.new) }
+    ensures once { IsAskedOnce (O.answers out.old) (O.answers out.new) (is_unwritten result) }
 {
     let mut station = match prepare(alloc, policy, sources, input, n, random) {
         Ok(station) => station,

@@ -1,8 +1,8 @@
 //! The text of a trace on its way to a writer.
-ghost use Rattle.std.specs.Prelude.{◌≡◌, ◌++◌, [], OnErr, OnOk, drop, is_some};
+ghost use Rattle.std.specs.Prelude.{◌≡◌, ◌++◌, [], OnErr, OnOk, drop, is_err, is_some};
 ghost use Rattle.std.specs.String.{string_bytes};
 ghost use Rattle.std.specs.Io.KnownBytes.{Appends};
-ghost use Rattle.ds_log.specs.Sent.{AppendsPart};
+ghost use Rattle.ds_log.specs.Sent.{AppendsPart, IsAskedOnce};
 ghost use Rattle.ds_trace.specs.Boundaries.{boundary_text};
 ghost use Rattle.ds_trace.specs.Changes.{changes_text};
 ghost use Rattle.ds_trace.specs.Halves.{done_text, process_in};
@@ -18,12 +18,11 @@ use crate::lines::{push_unit, was_done};
 use crate::processor::{ProcessorCounts, push_processor};
 use crate::start::Start;
 use crate::window::WindowEnd;
-use ds_log::{WriteFailed, send};
+use ds_log::{Output, WriteFailed, send};
 use ds_station::Station;
 use ds_tlb::Lookaside;
 use ds_view::View;
 use std::alloc::{AllocError, Global};
-use std::io::Write;
 
 /// What is to be written, and room for a line.
 #[derive(Drop)]
@@ -217,12 +216,13 @@ impl Sheet {
     }
 
     /// Hands what is to be written to the writer.
-    pub(crate) fn send<W: Write>(&mut self, out: &mut W) -> Result<(), WriteFailed>
+    pub(crate) fn send<O: Output>(&mut self, out: &mut O) -> Result<(), WriteFailed>
         ensures ok { OnOk result
-            (Appends (W.contents out.old) (W.contents out.new) self.old.text.items) }
+            (Appends (O.contents out.old) (O.contents out.new) self.old.text.items) }
         ensures sent { OnOk result (self.new.text.items ≡ []) }
         ensures err { OnErr result
-            (AppendsPart (W.contents out.old) (W.contents out.new) self.old.text.items) }
+            (AppendsPart (O.contents out.old) (O.contents out.new) self.old.text.items) }
+        ensures once { IsAskedOnce (O.answers out.old) (O.answers out.new) (is_err result) }
     {
         send(out, self.text.as_slice())?;
         self.text.clear();

@@ -1,16 +1,18 @@
 //! A run that is told unit by unit.
 ghost use Rattle.std.specs.Prelude.{◌≡◌, ◌<◌, ◌≤◌, ◌^◌, ◌++◌, ◌||◌, if◌then◌else◌, IfErr, IfOk, OnErr, OnOk, None, [], false, is_some, min, nat_lt, true};
 ghost use Rattle.std.specs.String.{string_bytes};
-ghost use Rattle.std.specs.Io.KnownBytes.{Appends};
-ghost use Rattle.ds_log.specs.Sent.{AppendsPart};
+ghost use Rattle.std.specs.Io.KnownBytes.{Appends, Keeps};
+ghost use Rattle.ds_log.specs.Sent.{AppendsPart, IsAskedOnce};
 ghost use Rattle.ds_refinement.specs.Stands.{IsSound};
+ghost use Rattle.ds_station.specs.Faults.{is_unwritten};
 ghost use Rattle.ds_station.specs.Headline.{held_text};
+ghost use Rattle.ds_station.specs.declared.fault.Fault.TheVariants as fault;
 ghost use Rattle.ds_trace.specs.Advanced.{Adds, Advances, is_last};
 ghost use Rattle.ds_trace.specs.Counted.{CountsStep, HasCounted, WatchesAfter};
 ghost use Rattle.ds_trace.specs.Counts.{none_counted};
 ghost use Rattle.ds_trace.specs.Handed.{IsFinished, IsHandedOn, IsLate};
 ghost use Rattle.ds_trace.specs.Processors.{none_processed, told_from, total, window_end};
-ghost use Rattle.ds_trace.specs.Shows.{TellsAll, Traces, TracesPart, end_held, half_held, progress_held};
+ghost use Rattle.ds_trace.specs.Shows.{TellsAll, Traces, TracesLines, TracesPart, TracesShort, end_held, half_held, progress_held};
 ghost use Rattle.ds_view.specs.Views.{has_lines};
 
 use crate::before::Before;
@@ -19,11 +21,11 @@ use crate::processor::ProcessorCounts;
 use crate::progress::Progress;
 use crate::sheet::Sheet;
 use crate::window::WindowEnd;
+use ds_log::Output;
 use ds_station::{Fault, Station, Step, deliver};
 use ds_tlb::Lookaside;
 use ds_view::View;
 use std::alloc::{AllocError, Global};
-use std::io::Write;
 
 /// So many bytes are handed to the writer at once, or a few more.
 const MOST_BYTES: usize = 65536;
@@ -113,13 +115,15 @@ fn advance<L: Lookaside>(
 }
 
 /// Hands what is to be written to the writer.
-fn hand_all<W: Write>(sheet: &mut Sheet, out: &mut W) -> Result<(), Fault>
+fn hand_all<O: Output>(sheet: &mut Sheet, out: &mut O) -> Result<(), Fault>
     ensures ok { OnOk result
-        (Appends (W.contents out.old) (W.contents out.new) sheet.old.text.items) }
+        (Appends (O.contents out.old) (O.contents out.new) sheet.old.text.items) }
     ensures sent { OnOk result (sheet.new.text.items ≡ []) }
     ensures err { OnErr result
-        (AppendsPart (W.contents out.old) (W.contents out.new) sheet.old.text.items) }
+        (AppendsPart (O.contents out.old) (O.contents out.new) sheet.old.text.items) }
     ensures late { IfErr result IsLate }
+    ensures unwritten { IfErr result (λ f. f ≡ fault.WriteFault) }
+    ensures once { IsAskedOnce (O.answers out.old) (O.answers out.new) (is_unwritten result) }
 {
     match sheet.send(out) {
         Ok(()) => Ok(()),
@@ -128,12 +132,15 @@ fn hand_all<W: Write>(sheet: &mut Sheet, out: &mut W) -> Result<(), Fault>
 }
 
 /// Hands what is to be written to the writer, where it is long.
-fn hand_on<W: Write>(sheet: &mut Sheet, out: &mut W) -> Result<(), Fault>
-    ensures ok { OnOk result (IsHandedOn (W.contents out.old) (W.contents out.new)
+#[tactic(auto, using(ds_log::proofs::Sends::asked_both, crate::proofs::Asking::asked_none))]
+fn hand_on<O: Output>(sheet: &mut Sheet, out: &mut O) -> Result<(), Fault>
+    ensures ok { OnOk result (IsHandedOn (O.contents out.old) (O.contents out.new)
         sheet.old.text.items sheet.new.text.items) }
     ensures err { OnErr result
-        (AppendsPart (W.contents out.old) (W.contents out.new) sheet.old.text.items) }
+        (AppendsPart (O.contents out.old) (O.contents out.new) sheet.old.text.items) }
     ensures late { IfErr result IsLate }
+    ensures unwritten { IfErr result (λ f. f ≡ fault.WriteFault) }
+    ensures once { IsAskedOnce (O.answers out.old) (O.answers out.new) (is_unwritten result) }
 {
     if sheet.text.len() < MOST_BYTES {
         return Ok(());
@@ -163,7 +170,8 @@ fn silent_until(view: &View, n: u64) -> u64
 /// What comes before the first turn that is told goes by `run`. It answers the fault that cut the run
 /// short, if one did. What is left to be written is in the sheet, what was counted in the counts, and
 /// what the buffer held where the window ended in its lines.
-fn follow<L: Lookaside, W: Write>(
+#[tactic(auto, using(ds_log::proofs::Sends::asked_both, crate::proofs::Asking::asked_none))]
+fn follow<L: Lookaside, O: Output>(
     view: &View,
     station: &mut Station<L>,
     n: u64,
@@ -171,7 +179,7 @@ fn follow<L: Lookaside, W: Write>(
     sheet: &mut Sheet,
     counts: &mut ProcessorCounts,
     window: &mut WindowEnd,
-    out: &mut W,
+    out: &mut O,
 ) -> Result<Option<Fault>, Fault>
     requires few { n ≤ 1000000000 }
     requires sound { IsSound station.old }
@@ -184,13 +192,16 @@ fn follow<L: Lookaside, W: Write>(
     requires awaited { window.old.awaited ≡ window_end view.now }
     requires unleft { string_bytes window.old.lines ≡ [] }
     ensures ok { IfOk result (λ cut. TellsAll cut view.now n station.old station.new
-        (W.contents out.old) (W.contents out.new) sheet.new.text.items progress.new.counts) }
+        (O.contents out.old) (O.contents out.new) sheet.new.text.items progress.new.counts) }
     ensures counted { OnOk result
         (HasCounted (window_end view.now) (told_from view.now n) n station.old station.new
         counts.new (string_bytes window.new.lines)) }
     ensures err { OnErr result
-        (TracesPart view.now n station.old (W.contents out.old) (W.contents out.new)) }
+        (TracesPart view.now n station.old (O.contents out.old) (O.contents out.new)) }
     ensures late { IfErr result IsLate }
+    ensures short { IfErr result (λ f. f ≡ fault.Memory
+        → TracesLines view.now n station.old (O.contents out.old) (O.contents out.new)) }
+    ensures once { IsAskedOnce (O.answers out.old) (O.answers out.new) (is_unwritten result) }
 {
     let ran = station.run(silent_until(view, n));
     window.watch(station, false)?;
@@ -212,20 +223,24 @@ fn follow<L: Lookaside, W: Write>(
 
 /// Writes what is left of the trace, the end's text with these counts, and the text of the station's
 /// state.
-fn finish<L: Lookaside, W: Write>(
+#[tactic(auto, using(ds_log::proofs::Sends::asked_both, crate::proofs::Asking::asked_none))]
+fn finish<L: Lookaside, O: Output>(
     alloc: Global,
     view: &View,
     counts: &Counts,
     station: &Station<L>,
     sheet: &mut Sheet,
-    out: &mut W,
+    out: &mut O,
 ) -> Result<(), Fault>
-    ensures ok { OnOk result (IsFinished view.now counts.now (W.contents out.old)
-        (W.contents out.new) sheet.old.text.items station.now) }
-    ensures err { OnErr result (AppendsPart (W.contents out.old) (W.contents out.new)
+    ensures ok { OnOk result (IsFinished view.now counts.now (O.contents out.old)
+        (O.contents out.new) sheet.old.text.items station.now) }
+    ensures err { OnErr result (AppendsPart (O.contents out.old) (O.contents out.new)
         (sheet.old.text.items ++ end_held view.now counts.now station.now
         ++ held_text station.now)) }
     ensures late { IfErr result IsLate }
+    ensures short { IfErr result (λ f. f ≡ fault.Memory
+        → Keeps (O.contents out.old) (O.contents out.new)) }
+    ensures once { IsAskedOnce (O.answers out.old) (O.answers out.new) (is_unwritten result) }
 {
     sheet.push_end(alloc, view, counts, station)?;
     hand_all(sheet, out)?;
@@ -238,22 +253,26 @@ fn finish<L: Lookaside, W: Write>(
 /// Runs a station for n, and writes the trace of the run; where that is wanted what the buffer held
 /// where the window ended, and what the processor did; the end's text; and the text of the state in
 /// which it ended. Where memory runs out or a write fails, a prefix of that is written.
-pub(crate) fn tell<L: Lookaside, W: Write>(
+#[tactic(auto, using(ds_log::proofs::Sends::asked_both, crate::proofs::Asking::asked_none))]
+pub(crate) fn tell<L: Lookaside, O: Output>(
     alloc: Global,
     view: &View,
     station: &mut Station<L>,
     n: u64,
-    out: &mut W,
+    out: &mut O,
 ) -> Result<(), Fault>
     requires few { n ≤ 1000000000 }
     requires sound { IsSound station.old }
     requires working { station.old.own.failed ≡ false }
     requires spent { station.old.own.spent ≡ 0 }
     requires unowed { station.old.kept.state.owed ≡ None }
-    ensures ok { OnOk result (Traces view.now n station.old (W.contents out.old) (W.contents out.new)) }
+    ensures ok { OnOk result (Traces view.now n station.old (O.contents out.old) (O.contents out.new)) }
     ensures err { OnErr result
-        (TracesPart view.now n station.old (W.contents out.old) (W.contents out.new)) }
+        (TracesPart view.now n station.old (O.contents out.old) (O.contents out.new)) }
     ensures late { IfErr result IsLate }
+    ensures short { IfErr result (λ f. f ≡ fault.Memory
+        → TracesShort view.now n station.old (O.contents out.old) (O.contents out.new)) }
+    ensures once { IsAskedOnce (O.answers out.old) (O.answers out.new) (is_unwritten result) }
 {
     let mut sheet = Sheet::new(alloc);
     let mut progress = Progress::new(alloc);

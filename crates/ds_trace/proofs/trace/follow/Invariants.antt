@@ -1,6 +1,7 @@
 use Rattle.std.proofs.Common.{◌≡◌, ◌<◌, false}
 use Rattle.std.specs.Prelude.{is_some}
 use Rattle.ds_kernel.specs.Going.{rank}
+use Rattle.ds_log.specs.Sent.{IsAskedOnce}
 use Rattle.ds_refinement.specs.Stands.{IsSound}
 use Rattle.ds_trace.specs.Processors.{told_from, window_end}
 use Rattle.ds_trace.specs.Counted.{IsCounting}
@@ -9,12 +10,13 @@ use Rattle.ds_trace.proofs.trace.follow.Given as goal
 
 abbrev pub invariant-loop-station : goal.invariant-loop-station
 invariant-loop-station g l = record {
-  tells : TellsSo l.view l.n l.fn.station l.station (g.W.Write.contents l.fn.out) (g.W.Write.contents l.out) l.sheet.text.items l.progress;
+  tells : TellsSo l.view l.n l.fn.station l.station (g.O.Output.contents l.fn.out) (g.O.Output.contents l.out) l.sheet.text.items l.progress;
   sound : IsSound l.station;
   working : l.station.own.failed ≡ false;
   owed : l.progress.before.owed ≡ is_some l.station.kept.state.owed;
   begun : 0 < l.station.own.spent → l.station.kept.state.time < l.n;
   counting : IsCounting (window_end l.view) (told_from l.view l.n) l.n l.fn.station l.station l.counts l.window;
+  asked : IsAskedOnce (g.O.Output.answers l.fn.out) (g.O.Output.answers l.out) false;
 }
 
 abbrev pub decreases-loop-station : goal.decreases-loop-station
