@@ -1,5 +1,5 @@
 -- Why there is no run on the bare machine, and what it leaves.
-use Rattle.std.proofs.Common.{◌≡◌, inl, inr, ℕ, List, [], refl, sym, subst, Bor}
+use Rattle.std.proofs.Common.{◌≡◌, inl, inr, ℕ, Bool, List, [], refl, sym, subst, Bor}
 use Rattle.std.specs.Prelude.{Option, Some, None, Ok, false}
 use Rattle.std.specs.Io.KnownBytes.{Keeps}
 use Rattle.clap.specs.Words.{Text}
@@ -12,7 +12,8 @@ use Rattle.ds_policy.specs.declared.events.fault.EventsFault.TheVariants as even
 use Rattle.ds_log.specs.Sent.{AppendsPart}
 use Rattle.ds_bare.specs.Faults.{is_cut, may_start}
 use Rattle.ds_bare.specs.Keys.{IsFaultOf, keys_in}
-use Rattle.ds_bare.specs.Runs.{bare_text}
+use Rattle.ds_bare.specs.Machine.{machine_at_start}
+use Rattle.ds_bare.specs.Runs.{IsCutBetween, bare_text, told_by}
 use Rattle.ds_bare.specs.declared.fault.BareFault.{BareFault}
 use Rattle.ds_bare.specs.declared.fault.BareFault.TheVariants as bare
 use Rattle.ds_station.specs.Faults.{of_events}
@@ -20,9 +21,10 @@ use Rattle.ds_station.specs.declared.fault.Fault.TheVariants as fault
 use Rattle.ds_station.proofs.Headlines.{keeps_same}
 use Rattle.ds_drive.specs.declared.failure.Failure.{Failure}
 use Rattle.ds_drive.specs.declared.failure.Failure.TheVariants as failure
-use Rattle.ds_drive.specs.BareRuns.{BareFailsBy, HasBareFaults, of_bare}
+use Rattle.ds_drive.specs.BareRuns.{BareFailsBy, CutsBare, HasBareFaults, ShortBare, of_bare}
 use Rattle.ds_drive.specs.Checked.{IsInput, IsUnreadInput}
 use Rattle.ds_drive.specs.Done.{IsCutShort, IsStopped, stream}
+use Rattle.ds_drive.specs.Listening.{Listener, Tells, TellsSome}
 use Rattle.ds_drive.specs.Failures.{IsUnread, failure_number}
 use Rattle.ds_drive.specs.Statuses.{fault_status}
 use Rattle.ds_drive.specs.Told.{failure_line, listed_faults}
@@ -64,30 +66,51 @@ module _ (holds : List ℕ → List ℕ → Type 0) (lacks : List ℕ → Type 0
       → holds request.source.now source → IsInput holds request.keys input → assembled source ≡ Ok image → keys_in (input_of [] input) ≡ Ok keys
       → is_cut e ≡ may_start request.random → (is_cut e ≡ false → Keeps old new)
       → AppendsPart old new (bare_text request.quiet image request.random request.most keys)
+      → (e ≡ bare.Memory → IsCutBetween old new request.quiet request.most (machine_at_start image request.random keys))
       → BareFailsBy (failure.Fault (of_bare e)) holds lacks request old new
-  run_fails bare.BadRandom source input image keys old new source_held input_held assembles says starts kept part = (sym starts, kept refl)
-  run_fails bare.WriteFault source input image keys old new source_held input_held assembles says starts kept part =
+  run_fails bare.BadRandom source input image keys old new source_held input_held assembles says starts kept part short = (sym starts, kept refl)
+  run_fails bare.WriteFault source input image keys old new source_held input_held assembles says starts kept part short =
       record { source = source; input = input; image = image; keys = keys; source_held = source_held; input_held = input_held; assembles = assembles; says = says; starts = sym starts; so = part }
-  run_fails bare.Memory source input image keys old new source_held input_held assembles says starts kept part =
-      inr (record { source = source; input = input; image = image; keys = keys; source_held = source_held; input_held = input_held; assembles = assembles; says = says; starts = sym starts; so = part })
+  run_fails bare.Memory source input image keys old new source_held input_held assembles says starts kept part short =
+      inr (record { source = source; input = input; image = image; keys = keys; source_held = source_held; input_held = input_held; assembles = assembles; says = says; starts = sym starts; so = short refl })
+
+-- a run that was cut between two instructions has told a front of its text
+short_part : (image : List ℕ) (random : ℕ) (quiet : Bool) (most : ℕ) (keys : List Character) (old new : Option (List ℕ)) → IsCutBetween old new quiet most (machine_at_start image random keys) → AppendsPart old new (bare_text quiet image random most keys)
+unfolding bare_text
+short_part image random quiet most keys old new cut =
+    record { part = told_by quiet cut.done (machine_at_start image random keys); rest = cut.rest; whole = cut.goes_on; appends = cut.written }
+
+short_cuts : (holds : List ℕ → List ℕ → Type 0) (request : BareRequest) (old new : Option (List ℕ)) → ShortBare holds request old new → CutsBare holds request old new
+short_cuts holds request old new s = record {
+  source = s.source;
+  input = s.input;
+  image = s.image;
+  keys = s.keys;
+  source_held = s.source_held;
+  input_held = s.input_held;
+  assembles = s.assembles;
+  says = s.says;
+  starts = s.starts;
+  so = short_part s.image request.random request.quiet request.most s.keys old new s.so;
+}
 
 -- whatever the failure, nothing is written, or a front of the text of the run
 pub bare_cut : (words : List Text) (holds : List ℕ → List ℕ → Type 0) (lacks : List ℕ → Type 0) (request : BareRequest) (f : Failure) (old new : Option (List ℕ)) → AsksForBare words request
     → BareFailsBy f holds lacks request old new → IsCutShort words holds old new
 bare_cut words holds lacks request (failure.Fault fault.WriteFault) old new asks cut = inr (inr (inr (inr (inr (inl (request, asks, cut))))))
 bare_cut words holds lacks request (failure.Fault fault.Memory) old new asks (inl kept) = inl kept
-bare_cut words holds lacks request (failure.Fault fault.Memory) old new asks (inr cut) = inr (inr (inr (inr (inr (inl (request, asks, cut))))))
+bare_cut words holds lacks request (failure.Fault fault.Memory) old new asks (inr short) = inr (inr (inr (inr (inr (inl (request, asks, short_cuts holds request old new short))))))
 bare_cut words holds lacks request (failure.Fault fault.BadRandom) old new asks refused = inl refused.1
 bare_cut words holds lacks request (failure.Fault (fault.InputFault line)) old new asks refused = inl refused.1
 bare_cut words holds lacks request (failure.UnreadableFile name) old new asks unread = inl unread.2
 bare_cut words holds lacks request f old new asks none = absurd none
 
 -- What the program says of it.
-module _ (words : List Text) (holds : List ℕ → List ℕ → Type 0) (lacks : List ℕ → Type 0) (status : ℕ) (old new err_old err_new : Option (List ℕ)) where
+module _ (words : List Text) (holds : List ℕ → List ℕ → Type 0) (lacks : List ℕ → Type 0) (status : ℕ) (old new : Option (List ℕ)) (err : Listener) where
   pub bare_stopped : (request : BareRequest) (f : Failure) → fault_status (failure_number f) ≡ status → AsksForBare words request → BareFailsBy f holds lacks request old new
-      → AppendsPart err_old err_new (failure_line f) → IsStopped status words holds lacks (stream old new) (stream err_old err_new)
+      → Tells err (failure_line f) → IsStopped status words holds lacks (stream old new) err
   bare_stopped request f has asks fails told = inr (inr (inr (inr (inl (request, asks, inl (record { failure = f; has = has; so = fails; told = told }))))))
 
   pub bare_faulty : (request : BareRequest) (text : List ℕ) (faults : List SourceFault) → status ≡ 2 → AsksForBare words request → HasBareFaults holds request text faults → Keeps old new
-      → AppendsPart err_old err_new (listed_faults request.source.now text faults) → IsStopped status words holds lacks (stream old new) (stream err_old err_new)
+      → TellsSome err [] (listed_faults request.source.now text faults) → IsStopped status words holds lacks (stream old new) err
   bare_faulty request text faults has asks are kept told = inr (inr (inr (inr (inl (request, asks, inr (record { has = has; text = text; faults = faults; are = are; kept = kept; told = told }))))))

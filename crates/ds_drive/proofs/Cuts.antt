@@ -6,7 +6,7 @@ use Rattle.clap.specs.Words.{Text}
 use Rattle.ds_pagemap.specs.Machine.{State}
 use Rattle.ds_pagemap.specs.Text.{text_of}
 use Rattle.ds_pagemap.specs.Inputs.{Refusal, inputs}
-use Rattle.ds_station.specs.Headline.{Begins, WritesPrefix, WritesPart, EndsBy}
+use Rattle.ds_station.specs.Headline.{Along, Begins, EndsBy, Followed, WritesPart, WritesPrefix, WritesReally}
 use Rattle.ds_station.specs.declared.fault.Fault.{Fault}
 use Rattle.ds_station.specs.declared.fault.Fault.TheVariants as fault
 use Rattle.ds_station.proofs.Headlines.{keeps_same}
@@ -98,6 +98,6 @@ check_cut words holds lacks request r old new asks (inl refused) = inl refused.1
 check_cut words holds lacks request r old new asks (inr cut) = inr (inr (inr (inr (inl (request, asks, cut.1)))))
 
 -- a run of files that was done
-pub run_done : (words : List Text) (holds : List ℕ → List ℕ → Type 0) (request : Request) (old new : Option (List ℕ)) → AsksForRun words request → RunsFiles holds request old new → RunsReally holds request old new
+pub run_done : (words : List Text) (holds : List ℕ → List ℕ → Type 0) (request : Request) (old new : Option (List ℕ)) → AsksForRun words request → RunsFiles holds request old new → RunsReally (WritesReally Along) holds request old new → RunsReally (WritesReally Followed) holds request old new
     → RunsGuarded holds request old new → RunsAlone holds request old new → IsDone words holds old new
-run_done words holds request old new asks runs real guarded alone = inr (inl (request, asks, record { runs = runs; real = real; guarded = guarded; alone = alone }))
+run_done words holds request old new asks runs real followed guarded alone = inr (inl (request, asks, record { runs = runs; real = real; followed = followed; guarded = guarded; alone = alone }))

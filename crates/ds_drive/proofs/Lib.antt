@@ -2,6 +2,7 @@ pub mod BareLemmas
 pub mod BareOrders
 pub mod Cuts
 pub mod Faulty
+pub mod Heard
 pub mod HeldFiles
 pub mod Noting
 pub mod Stops

@@ -33,12 +33,12 @@ use Rattle.ds_drive.proofs.HeldFiles.{all_held, names_held, of_texts, same_value
 use Rattle.ds_drive.specs.Checked.{ChecksBy, IsInput, IsNotRead, IsUnreadInput, RefusesCheck}
 use Rattle.ds_drive.specs.Demo.{demo_inputs}
 use Rattle.ds_drive.specs.Done.{IsStopped, WantsMemory, stream}
+use Rattle.ds_drive.specs.Listening.{Listener, Tells, TellsSome}
 use Rattle.ds_drive.specs.AtFault.{IsCauseOf, IsInputAt, IsPlaceAt, IsReasonAt, IsSourceAt, place_told, plain, texts_seen}
 use Rattle.ds_drive.specs.declared.refused.FaultyPolicy.{FaultyPolicy}
-use Rattle.ds_drive.specs.Told.{failure_line, listed_faults, refused_text}
+use Rattle.ds_drive.specs.Told.{below_text, failure_line, listed_faults}
 use Rattle.ds_drive.specs.declared.refused.Refused.{Refused}
 use Rattle.ds_drive.proofs.Faulty.{nothing_mapped, plain_is, policy_at, texts_at}
-use Rattle.ds_log.specs.Sent.{AppendsPart}
 use Rattle.ds_drive.specs.Failures.{AreUnread, FilesStop, IsNext, IsUnread, IsUnreadRun, MayBeRead, StopsBy, failure_number}
 use Rattle.ds_drive.specs.Listed.{FailsBy, HasFaults}
 use Rattle.ds_drive.specs.Statuses.{fault_status, refuses_input}
@@ -279,27 +279,27 @@ module _ (holds : List ℕ → List ℕ → Type 0) (lacks : List ℕ → Type 0
   })
 
 -- What the program says of it.
-module _ (words : List Text) (holds : List ℕ → List ℕ → Type 0) (lacks : List ℕ → Type 0) (status : ℕ) (old new err_old err_new : Option (List ℕ)) where
+module _ (words : List Text) (holds : List ℕ → List ℕ → Type 0) (lacks : List ℕ → Type 0) (status : ℕ) (old new : Option (List ℕ)) (err : Listener) where
   pub demo_stopped : (f : Fault) → fault_status (number_of f) ≡ status → AsksForDemo words → EndsBy f demo_inputs old new 100
-      → AppendsPart err_old err_new (failure_line (failure.Fault f)) → IsStopped status words holds lacks (stream old new) (stream err_old err_new)
+      → Tells err (failure_line (failure.Fault f)) → IsStopped status words holds lacks (stream old new) err
   demo_stopped f has asks ends told = inl (asks, record { fault = f; has = has; stops = ends; told = told })
 
   pub run_stopped : (request : Request) (f : Failure) → fault_status (failure_number f) ≡ status → AsksForRun words request → StopsBy f holds lacks request old new
-      → AppendsPart err_old err_new (failure_line f) → IsStopped status words holds lacks (stream old new) (stream err_old err_new)
+      → Tells err (failure_line f) → IsStopped status words holds lacks (stream old new) err
   run_stopped request f has asks stops told = inr (inl (request, asks, record { failure = f; has = has; so = stops; told = told }))
 
   pub list_stopped : (request : ListRequest) (f : Failure) → fault_status (failure_number f) ≡ status → AsksForList words request → FailsBy f holds lacks request old new
-      → AppendsPart err_old err_new (failure_line f) → IsStopped status words holds lacks (stream old new) (stream err_old err_new)
+      → Tells err (failure_line f) → IsStopped status words holds lacks (stream old new) err
   list_stopped request f has asks fails told = inr (inr (inl (request, asks, inl (record { failure = f; has = has; so = fails; told = told }))))
 
   pub list_faulty : (request : ListRequest) (text : List ℕ) (faults : List SourceFault) → status ≡ 2 → AsksForList words request → HasFaults holds request text faults → Keeps old new
-      → AppendsPart err_old err_new (listed_faults request.file.now text faults) → IsStopped status words holds lacks (stream old new) (stream err_old err_new)
+      → TellsSome err [] (listed_faults request.file.now text faults) → IsStopped status words holds lacks (stream old new) err
   list_faulty request text faults has asks are kept told = inr (inr (inl (request, asks, inr (record { has = has; text = text; faults = faults; are = are; kept = kept; told = told }))))
 
   pub check_stopped : (request : CheckRequest) (r : Refused) → fault_status (failure_number r.failure) ≡ status → AsksForCheck words request → ChecksBy r holds lacks request old new
-      → AppendsPart err_old err_new (refused_text r) → IsStopped status words holds lacks (stream old new) (stream err_old err_new)
+      → TellsSome err (failure_line r.failure) (below_text r) → IsStopped status words holds lacks (stream old new) err
   check_stopped request r has asks refused told = inr (inr (inr (inl (request, asks, inl (record { refused = r; has = has; so = refused; told = told })))))
 
 -- memory was wanting for the words
-pub wants_memory : (known err_old err_new : Option (List ℕ)) → AppendsPart err_old err_new (failure_line (failure.Fault fault.Memory)) → WantsMemory (stream known known) (stream err_old err_new)
-wants_memory known err_old err_new told = (keeps_same known, told)
+pub wants_memory : (known : Option (List ℕ)) (err : Listener) → Tells err (failure_line (failure.Fault fault.Memory)) → WantsMemory (stream known known) err
+wants_memory known err told = (keeps_same known, told)

@@ -124,15 +124,6 @@ others_same text held p (first ∷ others) d some same is =
     ∙ (ap (λ (t : List ℕ). told_lines (codes "and ") (codes "in line") (Some t) p others) same
     ∙ ap (λ (q : Passed). told_lines (codes "and ") (codes "in line") (Some text) q others) is)
 
--- all was told, or a front of it: in either case a front
-pub told_either : {T E : Type 0} (r : Result T E) (old new : Option (List ℕ)) (text : List ℕ) → OnOk r (Appends old new text) → OnErr r (AppendsPart old new text) → AppendsPart old new text
-told_either (Ok x) old new text all part = record { part = text; rest = []; whole = append-nil text; appends = all }
-told_either (Err e) old new text all part = part
-
--- nothing was told, which is a front of any text
-pub nothing_told : (known : Option (List ℕ)) (text : List ℕ) → AppendsPart known known text
-nothing_told known text = record { part = []; rest = text; whole = refl; appends = appends_none known }
-
 -- the line of words that carry a name
 pub line_carries : {T E : Type 0} (r : Result T E) (old new : Option (List ℕ)) (words name given : List ℕ) → given ≡ name
     → OnOk r (Appends old new (codes "dsmon: " ++ (words ++ ((given ++ []) ++ codes "\n")))) → OnOk r (Appends old new (codes "dsmon: " ++ ((words ++ name) ++ codes "\n")))

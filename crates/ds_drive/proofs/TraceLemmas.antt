@@ -3,7 +3,6 @@ use Rattle.std.proofs.Common.{◌≡◌, ◌⊎◌, inl, inr, ℕ, List, refl}
 use Rattle.std.specs.Prelude.{Option, Result}
 use Rattle.std.specs.Io.KnownBytes.{Keeps}
 use Rattle.clap.specs.Words.{Text}
-use Rattle.ds_log.specs.Sent.{AppendsPart}
 use Rattle.ds_pagemap.specs.Machine.{State}
 use Rattle.ds_pagemap.specs.Inputs.{Refusal}
 use Rattle.ds_station.specs.Headline.{Begins}
@@ -11,13 +10,14 @@ use Rattle.ds_station.specs.declared.fault.Fault.{Fault}
 use Rattle.ds_station.specs.declared.fault.Fault.TheVariants as fault
 use Rattle.ds_station.proofs.Headlines.{keeps_same}
 use Rattle.ds_trace.specs.Traces.{TraceEndsBy, WritesTracePart}
-use Rattle.ds_trace.proofs.Inputs.{refused_untold}
+use Rattle.ds_trace.proofs.Inputs.{refused_untold, short_part}
 use Rattle.ds_view.specs.declared.view.View.{View}
 use Rattle.ds_words.specs.declared.words.TraceRequest.{TraceRequest}
 use Rattle.ds_words.specs.Words.{AsksForTrace}
 use Rattle.ds_drive.specs.declared.failure.Failure.{Failure}
 use Rattle.ds_drive.specs.declared.failure.Failure.TheVariants as failure
 use Rattle.ds_drive.specs.Done.{IsCutShort, IsDone, IsStopped, stream}
+use Rattle.ds_drive.specs.Listening.{Listener, Tells}
 use Rattle.ds_drive.specs.Failures.{IsUnreadRun, failure_number}
 use Rattle.ds_drive.specs.Ran.{TracesReally}
 use Rattle.ds_drive.specs.Statuses.{fault_status}
@@ -39,7 +39,8 @@ module _ (holds : List ℕ → List ℕ → Type 0) (lacks : List ℕ → Type 0
 
 -- whatever the fault, nothing is written, or a front of the trace and the text of a run
 leaves_part : (f : Fault) (v : View) (read : Result State Refusal) (old new : Option (List ℕ)) (n : ℕ) → TraceEndsBy f v read old new n → Keeps old new ⊎ Begins read (WritesTracePart v old new n)
-leaves_part fault.Memory v read old new n ends = ends
+leaves_part fault.Memory v read old new n (inl kept) = inl kept
+leaves_part fault.Memory v read old new n (inr short) = inr (short.0, short.1, short_part v old new n short.0 _ short.2)
 leaves_part fault.Stuck v read old new n none = absurd none
 leaves_part fault.WriteFault v read old new n part = inr part
 leaves_part fault.Failed v read old new n none = absurd none
@@ -62,8 +63,8 @@ pub trace_done : (words : List Text) (holds : List ℕ → List ℕ → Type 0) 
 trace_done words holds request old new asks traces real = inr (inr (inr (inr (inr (request, asks, record { traces = traces; real = real })))))
 
 -- What the program says of it.
-pub trace_stopped : (words : List Text) (holds : List ℕ → List ℕ → Type 0) (lacks : List ℕ → Type 0) (status : ℕ) (old new err_old err_new : Option (List ℕ)) (request : TraceRequest) (f : Failure)
+pub trace_stopped : (words : List Text) (holds : List ℕ → List ℕ → Type 0) (lacks : List ℕ → Type 0) (status : ℕ) (old new : Option (List ℕ)) (err : Listener) (request : TraceRequest) (f : Failure)
     → fault_status (failure_number f) ≡ status → AsksForTrace words request → TraceStopsBy f holds lacks request old new
-    → AppendsPart err_old err_new (failure_line f) → IsStopped status words holds lacks (stream old new) (stream err_old err_new)
-trace_stopped words holds lacks status old new err_old err_new request f has asks stops told =
+    → Tells err (failure_line f) → IsStopped status words holds lacks (stream old new) err
+trace_stopped words holds lacks status old new err request f has asks stops told =
     inr (inr (inr (inr (inr (request, asks, record { failure = f; has = has; so = stops; told = told })))))

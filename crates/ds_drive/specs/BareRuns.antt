@@ -10,7 +10,8 @@ use Rattle.ds_policy.specs.declared.command.Character.{Character}
 use Rattle.ds_log.specs.Sent.{AppendsPart}
 use Rattle.ds_bare.specs.Faults.{may_start}
 use Rattle.ds_bare.specs.Keys.{keys_in}
-use Rattle.ds_bare.specs.Runs.{bare_text}
+use Rattle.ds_bare.specs.Machine.{machine_at_start}
+use Rattle.ds_bare.specs.Runs.{IsCutBetween, bare_text}
 use Rattle.ds_bare.specs.declared.fault.BareFault.{BareFault}
 use Rattle.ds_bare.specs.declared.fault.BareFault.TheVariants as bare
 use Rattle.ds_station.specs.declared.fault.Fault.{Fault}
@@ -29,9 +30,9 @@ of_bare bare.WriteFault = fault.WriteFault
 of_bare bare.Memory = fault.Memory
 
 -- a source and an input, each as its file holds it, are good: the source has an image, and the
--- input's lines say characters; Random may start where it is wanted; and of the text of their run
--- this holds
-pub record OfBareRun (holds : List ℕ → List ℕ → Type 0) (request : BareRequest) (P : List ℕ → Type 0) : Type 0 where
+-- input's lines say characters; Random may start where it is wanted; and of the image and the
+-- characters this holds
+pub record OfBareRun (holds : List ℕ → List ℕ → Type 0) (request : BareRequest) (P : List ℕ → List Character → Type 0) : Type 0 where
   pub source : List ℕ
   pub input : List ℕ
   pub image : List ℕ
@@ -41,15 +42,19 @@ pub record OfBareRun (holds : List ℕ → List ℕ → Type 0) (request : BareR
   pub assembles : assembled source ≡ Ok image
   pub says : keys_in (input_of [] input) ≡ Ok keys
   pub starts : may_start request.random ≡ true
-  pub so : P (bare_text request.quiet image request.random request.most keys)
+  pub so : P image keys
 
--- it is written
+-- the text of their run is written
 abbrev pub RunsBare : (List ℕ → List ℕ → Type 0) → BareRequest → Option (List ℕ) → Option (List ℕ) → Type 0
-RunsBare holds request old new = OfBareRun holds request (λ text. Appends old new text)
+RunsBare holds request old new = OfBareRun holds request (λ image keys. Appends old new (bare_text request.quiet image request.random request.most keys))
 
 -- a front of it is written
 abbrev pub CutsBare : (List ℕ → List ℕ → Type 0) → BareRequest → Option (List ℕ) → Option (List ℕ) → Type 0
-CutsBare holds request old new = OfBareRun holds request (λ text. AppendsPart old new text)
+CutsBare holds request old new = OfBareRun holds request (λ image keys. AppendsPart old new (bare_text request.quiet image request.random request.most keys))
+
+-- it was cut between two instructions
+abbrev pub ShortBare : (List ℕ → List ℕ → Type 0) → BareRequest → Option (List ℕ) → Option (List ℕ) → Type 0
+ShortBare holds request old new = OfBareRun holds request (λ image keys. IsCutBetween old new request.quiet request.most (machine_at_start image request.random keys))
 
 -- the source's file holds this source, and these are its faults
 pub record HasBareFaults (holds : List ℕ → List ℕ → Type 0) (request : BareRequest) (text : List ℕ) (faults : List SourceFault) : Type 0 where
@@ -76,7 +81,7 @@ IsNamedByBare request name = (name ≡ request.source.now) ⊎ ((input : Bor (Li
 -- why each failure comes, and what it leaves
 abbrev pub BareFailsBy : Failure → (List ℕ → List ℕ → Type 0) → (List ℕ → Type 0) → BareRequest → Option (List ℕ) → Option (List ℕ) → Type 0
 BareFailsBy (failure.Fault fault.WriteFault) holds lacks request old new = CutsBare holds request old new
-BareFailsBy (failure.Fault fault.Memory) holds lacks request old new = Keeps old new ⊎ CutsBare holds request old new
+BareFailsBy (failure.Fault fault.Memory) holds lacks request old new = Keeps old new ⊎ ShortBare holds request old new
 BareFailsBy (failure.Fault fault.BadRandom) holds lacks request old new = (may_start request.random ≡ false) × Keeps old new
 BareFailsBy (failure.Fault (fault.InputFault line)) holds lacks request old new = HasWrongLine holds request line × Keeps old new
 BareFailsBy (failure.UnreadableFile name) holds lacks request old new = IsNamedByBare request name.now × lacks name.now × Keeps old new

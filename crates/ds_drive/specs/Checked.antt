@@ -12,6 +12,7 @@ use Rattle.ds_pagemap.specs.Inputs.{Sources, inputs}
 use Rattle.ds_station.specs.Headline.{EndsBy}
 use Rattle.ds_station.specs.declared.fault.Fault.{Fault}
 use Rattle.ds_station.specs.declared.fault.Fault.TheVariants as fault
+use Rattle.ds_ties.specs.Texts.{ties_text}
 use Rattle.ds_drive.specs.declared.failure.Failure.{Failure}
 use Rattle.ds_drive.specs.declared.failure.Failure.TheVariants as failure
 use Rattle.ds_drive.specs.declared.refused.Refused.{Refused}
@@ -41,9 +42,13 @@ pub record AreGood (holds : List ℕ → List ℕ → Type 0) (request : CheckRe
   pub first : State
   pub begins : inputs policy sources input 0 63 ≡ Ok first
 
--- what they mean: what is explained, and where the processes start
+-- where the processes start, and below it what ties each of them to the others
+abbrev pub with_ties : List ℕ → List ℕ → List ℕ
+with_ties starts ties = codes "starts\n" ++ (starts ++ (codes "ties\n" ++ ties))
+
+-- what they mean: what is explained, where the processes start, and what ties each of them to the others
 abbrev pub meaning_text : PolicyValue → Sources → List ℕ → InputValue → List ℕ
-meaning_text value sources input events = explained value input events ++ (codes "starts\n" ++ starts_of value sources)
+meaning_text value sources input events = explained value input events ++ with_ties (starts_of value sources) (ties_text value events)
 
 -- of what they mean, and of the notes on them, this holds
 pub record OfGood (holds : List ℕ → List ℕ → Type 0) (request : CheckRequest) (P : List ℕ → List ℕ → Type 0) : Type 0 where

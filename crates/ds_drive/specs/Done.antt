@@ -1,5 +1,5 @@
 -- What the program has done.
-use Rattle.std.specs.Prelude.{◌≡◌, ◌⊎◌, ℕ, List, Option}
+use Rattle.std.specs.Prelude.{◌≡◌, ◌⊎◌, ℕ, List, [], Option}
 use Rattle.std.specs.Io.KnownBytes.{Keeps}
 use Rattle.clap.specs.Words.{Text}
 use Rattle.ds_asm.specs.declared.fault.SourceFault.{SourceFault}
@@ -16,8 +16,8 @@ use Rattle.ds_drive.specs.Demo.{demo_inputs}
 use Rattle.ds_drive.specs.declared.failure.Failure.TheVariants as failure
 use Rattle.ds_drive.specs.declared.refused.Refused.{Refused}
 use Rattle.ds_drive.specs.Failures.{CutsFiles, StopsBy, failure_number, memory_failure}
-use Rattle.ds_drive.specs.Told.{failure_line, listed_faults, refused_text}
-use Rattle.ds_log.specs.Sent.{AppendsPart}
+use Rattle.ds_drive.specs.Told.{below_text, failure_line, listed_faults}
+use Rattle.ds_drive.specs.Listening.{Listener, Tells, TellsSome}
 use Rattle.ds_drive.specs.Statuses.{fault_status}
 use Rattle.ds_drive.specs.BareRuns.{RunsBare, CutsBare, BareFailsBy, HasBareFaults}
 use Rattle.ds_drive.specs.Checked.{Explains, CutsExplanation, ChecksBy, HasNotes}
@@ -59,51 +59,47 @@ pub record Stream : Type 0 where
 abbrev pub stream : Option (List ℕ) → Option (List ℕ) → Stream
 stream old new = record { old = old; new = new }
 
--- a front of a text was told
-abbrev pub Tells : Stream → List ℕ → Type 0
-Tells err text = AppendsPart err.old err.new text
-
 -- the demonstration ended by a fault of this status, which was told
-pub record DemoStops (status : ℕ) (out err : Stream) : Type 0 where
+pub record DemoStops (status : ℕ) (out : Stream) (err : Listener) : Type 0 where
   pub fault : Fault
   pub has : fault_status (number_of fault) ≡ status
   pub stops : EndsBy fault demo_inputs out.old out.new 100
   pub told : Tells err (failure_line (failure.Fault fault))
 
 -- a failure of this status, of which this holds, was told
-pub record FailsWith (status : ℕ) (err : Stream) (P : Failure → Type 0) : Type 0 where
+pub record FailsWith (status : ℕ) (err : Listener) (P : Failure → Type 0) : Type 0 where
   pub failure : Failure
   pub has : fault_status (failure_number failure) ≡ status
   pub so : P failure
   pub told : Tells err (failure_line failure)
 
--- the file is a source with faults, which have status 2: they were told, each with its reason, and nothing is written
-pub record IsFaulty (status : ℕ) (holds : List ℕ → List ℕ → Type 0) (request : ListRequest) (out err : Stream) : Type 0 where
+-- the file is a source with faults, which have status 2: they were told, each with its reason, as far as there was memory for that, and nothing is written
+pub record IsFaulty (status : ℕ) (holds : List ℕ → List ℕ → Type 0) (request : ListRequest) (out : Stream) (err : Listener) : Type 0 where
   pub has : status ≡ 2
   pub text : List ℕ
   pub faults : List SourceFault
   pub are : HasFaults holds request text faults
   pub kept : Keeps out.old out.new
-  pub told : Tells err (listed_faults request.file.now text faults)
+  pub told : TellsSome err [] (listed_faults request.file.now text faults)
 
 -- so where the source was to run on the bare machine
-pub record IsFaultyBare (status : ℕ) (holds : List ℕ → List ℕ → Type 0) (request : BareRequest) (out err : Stream) : Type 0 where
+pub record IsFaultyBare (status : ℕ) (holds : List ℕ → List ℕ → Type 0) (request : BareRequest) (out : Stream) (err : Listener) : Type 0 where
   pub has : status ≡ 2
   pub text : List ℕ
   pub faults : List SourceFault
   pub are : HasBareFaults holds request text faults
   pub kept : Keeps out.old out.new
-  pub told : Tells err (listed_faults request.source.now text faults)
+  pub told : TellsSome err [] (listed_faults request.source.now text faults)
 
 -- a refusal of this status, of which this holds, was told
-pub record RefusesWith (status : ℕ) (err : Stream) (P : Refused → Type 0) : Type 0 where
+pub record RefusesWith (status : ℕ) (err : Listener) (P : Refused → Type 0) : Type 0 where
   pub refused : Refused
   pub has : fault_status (failure_number refused.failure) ≡ status
   pub so : P refused
-  pub told : Tells err (refused_text refused)
+  pub told : TellsSome err (failure_line refused.failure) (below_text refused)
 
 -- there are notes that are taken for faults, which have status 2: they were told, and nothing is written
-pub record IsNoted (status : ℕ) (holds : List ℕ → List ℕ → Type 0) (request : CheckRequest) (out err : Stream) : Type 0 where
+pub record IsNoted (status : ℕ) (holds : List ℕ → List ℕ → Type 0) (request : CheckRequest) (out : Stream) (err : Listener) : Type 0 where
   pub has : status ≡ 2
   pub notes : List ℕ
   pub are : HasNotes holds request notes
@@ -111,7 +107,7 @@ pub record IsNoted (status : ℕ) (holds : List ℕ → List ℕ → Type 0) (re
   pub told : Tells err notes
 
 -- what the words ask for is not done, for a cause that has this status and was told
-abbrev pub IsStopped : ℕ → List Text → (List ℕ → List ℕ → Type 0) → (List ℕ → Type 0) → Stream → Stream → Type 0
+abbrev pub IsStopped : ℕ → List Text → (List ℕ → List ℕ → Type 0) → (List ℕ → Type 0) → Stream → Listener → Type 0
 IsStopped status words holds lacks out err =
     (AsksForDemo words × DemoStops status out err)
     ⊎ (((request : Request) × AsksForRun words request × FailsWith status err (λ f. StopsBy f holds lacks request out.old out.new))
@@ -121,5 +117,5 @@ IsStopped status words holds lacks out err =
     ⊎ ((request : TraceRequest) × AsksForTrace words request × FailsWith status err (λ f. TraceStopsBy f holds lacks request out.old out.new))))))
 
 -- nothing is written, and want of memory was told
-abbrev pub WantsMemory : Stream → Stream → Type 0
+abbrev pub WantsMemory : Stream → Listener → Type 0
 WantsMemory out err = Keeps out.old out.new × Tells err (failure_line memory_failure)

@@ -202,7 +202,6 @@ text_or_none (Some text) = text
 abbrev pub why_told : Refused → List ℕ
 why_told r = text_or_none (or_next (reason_told r) (mended (failure_number r.failure)))
 
--- what is told of a check that is refused: the failure's line; the place in the policy, and the line of the policy, of the source or of the input with a caret; the reason and how it is mended; and the other faults of the source
-abbrev pub refused_text : Refused → List ℕ
-refused_text r = failure_line r.failure
-    ++ (policy_shown r.policy ++ (source_shown r.source ++ (input_shown r.input ++ (why_told r ++ others_shown r.source))))
+-- what is told of a check that is refused below the failure's line: the place in the policy, and the line of the policy, of the source or of the input with a caret; the reason and how it is mended; and the other faults of the source
+abbrev pub below_text : Refused → List ℕ
+below_text r = policy_shown r.policy ++ (source_shown r.source ++ (input_shown r.input ++ (why_told r ++ others_shown r.source)))

@@ -1,8 +1,8 @@
 //! A policy, its sources and an input checked and explained.
-ghost use Rattle.std.specs.Prelude.{◌≡◌, ◌⊎◌, ◌<◌, ◌++◌, codes, ℕ, List, IfErr, IfOk, OnOk, OnErr};
+ghost use Rattle.std.specs.Prelude.{◌≡◌, ◌⊎◌, ◌<◌, ◌++◌, ℕ, List, IfErr, IfOk, OnOk, OnErr};
 ghost use Rattle.std.specs.Io.KnownBytes.{Keeps};
 ghost use Rattle.ds_drive.specs.AtFault.{texts_seen};
-ghost use Rattle.ds_drive.specs.Checked.{AreGood, Checks, ChecksBy, IsInput, RefusesCheck, IsUnreadInput, are_faults, with_notes};
+ghost use Rattle.ds_drive.specs.Checked.{AreGood, Checks, ChecksBy, IsInput, RefusesCheck, IsUnreadInput, are_faults, with_notes, with_ties};
 
 use crate::failure::Failure;
 use crate::files::Files;
@@ -14,6 +14,7 @@ use ds_log::send;
 use ds_policy::{Events, Policy};
 use ds_policy_reasons::policy_reason;
 use ds_station::{Fault, run_policy};
+use ds_ties::ties_text;
 use ds_words::CheckRequest;
 use std::alloc::{AllocError, Global};
 use std::io::{Write, sink};
@@ -115,21 +116,24 @@ fn are_faults<'a>(request: &CheckRequest<'a>, notes: &[u8]) -> bool
     request.notes_as_faults && !notes.is_empty()
 }
 
-/// Adds what was found, with a line before each part that names it.
-fn push_findings(text: &mut Vec<u8>, found: &Findings) -> Result<(), AllocError>
+/// Adds what was found, and what ties the processes to each other, with a line before each part that
+/// names it.
+fn push_findings(text: &mut Vec<u8>, found: &Findings, ties: &[u8]) -> Result<(), AllocError>
     ensures { OnOk result (text.new.items ≡ with_notes
-        (text.old.items ++ (codes "starts\n" ++ found.now.starts.items)) found.now.notes.items) }
+        (text.old.items ++ with_ties found.now.starts.items ties.now) found.now.notes.items) }
 {
     text.extend_from_slice(b"starts\n")?;
     text.extend_from_slice(&found.starts)?;
+    text.extend_from_slice(b"ties\n")?;
+    text.extend_from_slice(ties)?;
     text.extend_from_slice(b"notes\n")?;
     text.extend_from_slice(&found.notes)
 }
 
 /// Reads the policy, the input and each source, as a run would, and writes what they mean: the
-/// permission table at the start, what is near a limit, what comes when, and where each process
-/// starts; and then the notes. Where there are notes, and the words take notes for faults, it
-/// answers them, and nothing is written.
+/// permission table at the start, what is near a limit, what comes when, where each process starts,
+/// and what ties it to the others; and then the notes. Where there are notes, and the words take notes
+/// for faults, it answers them, and nothing is written.
 pub fn check_files<'a, F: Files, W: Write>(
     alloc: Global,
     request: &CheckRequest<'a>,
@@ -154,8 +158,9 @@ pub fn check_files<'a, F: Files, W: Write>(
     if are_faults(request, &found.notes) {
         return Ok(Checking::Noted(found.notes));
     }
+    let ties = ties_text(alloc, &policy, &events)?;
     let mut text = explain(alloc, &policy, &input, events)?;
-    push_findings(&mut text, &found)?;
+    push_findings(&mut text, &found, &ties)?;
     match send(out, &text) {
         Ok(()) => Ok(Checking::Explained),
         Err(_) => Err(Refused::from(Failure::Fault(Fault::WriteFault))),

@@ -1,6 +1,7 @@
 //! The demonstration: one process that writes `A` to its console and exits.
 ghost use Rattle.std.specs.Prelude.{IfErr, OnOk};
-ghost use Rattle.ds_station.specs.Headline.{Begins, EndsBy, Writes, WritesReally};
+ghost use Rattle.ds_station.specs.Alone.{WritesEachAlone};
+ghost use Rattle.ds_station.specs.Headline.{Along, Begins, EndsBy, Followed, Writes, WritesReally};
 ghost use Rattle.ds_station.specs.Written.{WritesWholeGuarded};
 ghost use Rattle.ds_drive.specs.Demo.{demo_inputs, demo_loaded};
 
@@ -45,9 +46,13 @@ pub fn run_demo<W: Write>(alloc: Global, out: &mut W) -> Result<(), Fault>
     ensures ok { OnOk result (Begins demo_inputs
         (Writes (W.contents out.old) (W.contents out.new) 100)) }
     ensures real { OnOk result (Begins demo_loaded
-        (WritesReally (W.contents out.old) (W.contents out.new) 100 63)) }
+        (WritesReally Along (W.contents out.old) (W.contents out.new) 100 63)) }
+    ensures followed { OnOk result (Begins demo_loaded
+        (WritesReally Followed (W.contents out.old) (W.contents out.new) 100 63)) }
     ensures guarded { OnOk result (Begins demo_inputs
         (WritesWholeGuarded (W.contents out.old) (W.contents out.new) 100)) }
+    ensures alone { OnOk result
+        (WritesEachAlone (W.contents out.old) (W.contents out.new) demo_inputs) }
     ensures err { IfErr result (λ fault.
         EndsBy fault demo_inputs (W.contents out.old) (W.contents out.new) 100) }
 {

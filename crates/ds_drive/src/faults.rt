@@ -3,16 +3,17 @@ ghost use Rattle.std.specs.Prelude.{◌≡◌, ◌++◌, IfOk, OnOk, OnErr, opti
 ghost use Rattle.std.specs.Io.KnownBytes.{Appends};
 ghost use Rattle.ds_asm.specs.Assembling.{source_fault_line};
 ghost use Rattle.ds_drive.specs.Told.{at_end, caret_below, fault_head, fault_name, pass, passed_in, reason_after, reason_below, shown_in, told_line, told_lines};
-ghost use Rattle.ds_log.specs.Sent.{AppendsPart};
+ghost use Rattle.ds_drive.specs.Listening.{is_unwritten};
+ghost use Rattle.ds_drive.specs.declared.faults.Untold.TheVariants as variants;
+ghost use Rattle.ds_log.specs.Sent.{AppendsPart, IsAskedOnce};
 ghost use Rattle.ds_source_reasons.specs.Told.{plain_fault};
 
 use ds_asm::{SourceFault, first_line};
 use ds_check::{Lines, push_caret};
-use ds_log::{WriteFailed, send};
+use ds_log::{Output, WriteFailed, send};
 use ds_source_reasons::{FaultReason, FaultyLines, caret_place, push_reason};
 use itoa::Buffer;
 use std::alloc::{AllocError, Global};
-use std::io::Write;
 
 /// From how many bytes on a text goes to the writer.
 const BYTES_AT_ONCE: usize = 32_768;
@@ -25,19 +26,28 @@ pub(crate) struct Wording<'a> {
     pub(crate) place: &'a [u8],
 }
 
-/// What kept faults from being told: the writer failed, or memory ran out.
+/// What kept a text from being told.
 #[derive(Clone, Copy, Debug, PartialEq, Eq)]
-pub(crate) struct Untold;
+pub(crate) enum Untold {
+    /// The writer failed.
+    Unwritten,
+    /// Memory ran out.
+    NoMemory,
+}
 
 impl From<AllocError> for Untold {
+    ghost from_gives = { λ _ e. e ≡ variants.NoMemory };
+
     fn from(_e: AllocError) -> Untold {
-        Untold
+        Untold::NoMemory
     }
 }
 
 impl From<WriteFailed> for Untold {
+    ghost from_gives = { λ _ e. e ≡ variants.Unwritten };
+
     fn from(_e: WriteFailed) -> Untold {
-        Untold
+        Untold::Unwritten
     }
 }
 
@@ -59,7 +69,8 @@ fn push_head<'a>(
 /// Tells of faults, a line each with the reason at its end, and shows the source's line with a caret
 /// below it where the source's lines are lent. Where the writer fails, or memory runs out, the rest is not
 /// told.
-pub(crate) fn tell_lines<'a, 's, E: Write>(
+#[tactic(auto, using(ds_log::proofs::Sends::asked_both, ds_bare::proofs::CutBetween::asked_none))]
+pub(crate) fn tell_lines<'a, 's, E: Output>(
     alloc: Global,
     err: &mut E,
     wording: Wording<'a>,
@@ -73,6 +84,7 @@ pub(crate) fn tell_lines<'a, 's, E: Write>(
     ensures front { OnErr result (AppendsPart (E.contents err.old) (E.contents err.new)
         (told_lines wording.entry.front.now wording.entry.place.now lines.old
         (passed_in reasons.entry) faults.now)) }
+    ensures once { IsAskedOnce (E.answers err.old) (E.answers err.new) (is_unwritten result) }
 {
     let mut sheet = Vec::new(alloc);
     let mut words = Vec::new(alloc);

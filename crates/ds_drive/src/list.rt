@@ -1,8 +1,8 @@
 //! A file listed: a source with its bytes, or the words of a file as a source.
-ghost use Rattle.std.specs.Prelude.{◌≡◌, ℕ, List, IfErr, IfOk};
+ghost use Rattle.std.specs.Prelude.{◌≡◌, ℕ, List, [], IfErr, IfOk};
 ghost use Rattle.ds_drive.specs.Listed.{IsListed, Lists, FailsBy};
+ghost use Rattle.ds_drive.specs.Listening.{TellsSome, listener};
 ghost use Rattle.ds_drive.specs.Told.{listed_faults};
-ghost use Rattle.ds_log.specs.Sent.{AppendsPart};
 
 use crate::failure::Failure;
 use crate::faults::{Wording, tell_lines};
@@ -12,7 +12,7 @@ use crate::refused::FaultySource;
 use crate::run::named_file;
 use crate::status::INPUT_REFUSED;
 use ds_listing::{Listed, listing_or_faults, source_of_file};
-use ds_log::send;
+use ds_log::{Output, send};
 use ds_source_reasons::FaultyLines;
 use ds_station::Fault;
 use ds_words::ListRequest;
@@ -71,10 +71,11 @@ pub fn list_file<'a, F: Files, W: Write>(
 
 /// Tells of the faults of a source, a line for each with the reason at its end, and answers the
 /// status. Where the writer fails, or memory runs out, the rest is not told.
-#[tactic(auto, using(crate::proofs::Tellings::told_either, crate::proofs::Tellings::nothing_told))]
-pub fn tell_faults<E: Write>(alloc: Global, err: &mut E, file: &str, source: &FaultySource) -> u8
+#[tactic(auto, using(crate::proofs::Heard::told_some, crate::proofs::Heard::told_nothing))]
+pub fn tell_faults<E: Output>(alloc: Global, err: &mut E, file: &str, source: &FaultySource) -> u8
     ensures status { result ≡ 2 }
-    ensures told { AppendsPart (E.contents err.old) (E.contents err.new)
+    ensures told { TellsSome (listener (E.contents err.old) (E.contents err.new)
+        (E.answers err.old) (E.answers err.new)) []
         (listed_faults file.now source.now.text.items source.now.faults.items) }
 {
     let mut place = Vec::new(alloc);

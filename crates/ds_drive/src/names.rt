@@ -1,11 +1,10 @@
 //! A file's name as it is shown, in one line and without control characters.
-ghost use Rattle.std.specs.Prelude.{◌≡◌, ◌<◌, OnErr, OnOk};
+ghost use Rattle.std.specs.Prelude.{◌≡◌, ◌<◌, OnErr, OnOk, is_err};
 ghost use Rattle.std.specs.Io.KnownBytes.{Appends};
 ghost use Rattle.ds_drive.specs.Names.{digit, shown_byte, shown_name};
-ghost use Rattle.ds_log.specs.Sent.{AppendsPart};
+ghost use Rattle.ds_log.specs.Sent.{AppendsPart, IsAskedOnce};
 
-use ds_log::{WriteFailed, send};
-use std::io::Write;
+use ds_log::{Output, WriteFailed, send};
 
 /// A hexadecimal digit, in lower case.
 fn digit(number: u8) -> u8
@@ -20,11 +19,12 @@ fn digit(number: u8) -> u8
 }
 
 /// Hands a byte of a name to the writer, or what is shown of it where it is a control character.
-fn send_byte<W: Write>(out: &mut W, byte: u8) -> Result<(), WriteFailed>
+fn send_byte<O: Output>(out: &mut O, byte: u8) -> Result<(), WriteFailed>
     ensures ok { OnOk result
-        (Appends (W.contents out.old) (W.contents out.new) (shown_byte byte)) }
+        (Appends (O.contents out.old) (O.contents out.new) (shown_byte byte)) }
     ensures err { OnErr result
-        (AppendsPart (W.contents out.old) (W.contents out.new) (shown_byte byte)) }
+        (AppendsPart (O.contents out.old) (O.contents out.new) (shown_byte byte)) }
+    ensures once { IsAskedOnce (O.answers out.old) (O.answers out.new) (is_err result) }
 {
     if byte == b'\n' {
         return send(out, b"\\n");
@@ -36,12 +36,13 @@ fn send_byte<W: Write>(out: &mut W, byte: u8) -> Result<(), WriteFailed>
 }
 
 /// Hands a name to the writer as it is shown.
-#[tactic(auto, unfolding(crate::specs::Names::shown_name))]
-pub(crate) fn send_name<W: Write>(out: &mut W, name: &[u8]) -> Result<(), WriteFailed>
+#[tactic(auto, unfolding(crate::specs::Names::shown_name), using(ds_log::proofs::Sends::asked_both, ds_bare::proofs::CutBetween::asked_none))]
+pub(crate) fn send_name<O: Output>(out: &mut O, name: &[u8]) -> Result<(), WriteFailed>
     ensures ok { OnOk result
-        (Appends (W.contents out.old) (W.contents out.new) (shown_name name.now)) }
+        (Appends (O.contents out.old) (O.contents out.new) (shown_name name.now)) }
     ensures err { OnErr result
-        (AppendsPart (W.contents out.old) (W.contents out.new) (shown_name name.now)) }
+        (AppendsPart (O.contents out.old) (O.contents out.new) (shown_name name.now)) }
+    ensures once { IsAskedOnce (O.answers out.old) (O.answers out.new) (is_err result) }
 {
     for byte in name {
         send_byte(out, *byte)?;

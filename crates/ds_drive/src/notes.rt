@@ -2,18 +2,17 @@
 ghost use Rattle.std.specs.Prelude.{◌≡◌, ◌++◌, ◌∷◌, [], IfOk, OnOk};
 ghost use Rattle.std.specs.List.{flat_map};
 ghost use Rattle.ds_drive.specs.AtFault.{texts_seen};
+ghost use Rattle.ds_drive.specs.Listening.{Tells, listener};
 ghost use Rattle.ds_drive.specs.Noted.{image_of, images_of, notes_text, source_notes, starts_of};
-ghost use Rattle.ds_log.specs.Sent.{AppendsPart};
 
 use crate::run::{SourceText, lent};
 use crate::status::INPUT_REFUSED;
 use ds_asm::{Image, assemble};
 use ds_check::{AssembledSources, starts_text};
-use ds_log::send;
+use ds_log::{Output, send};
 use ds_notes::{code_notes, code_notes_text, policy_notes, policy_notes_text};
 use ds_policy::{OutOfMemory, Policy};
 use std::alloc::{AllocError, Global};
-use std::io::Write;
 
 /// What a check finds besides what is explained of a policy and an input.
 #[derive(Drop)]
@@ -106,10 +105,11 @@ fn push_image(images: &mut Vec<Image>, image: Image) -> Result<(), AllocError>
 
 /// Tells of notes that are taken for faults, and answers the status. Where the writer fails, the
 /// rest is not told.
-#[tactic(auto, using(crate::proofs::Tellings::told_either))]
-pub fn tell_notes<E: Write>(err: &mut E, notes: &[u8]) -> u8
+#[tactic(auto, using(crate::proofs::Heard::told_so))]
+pub fn tell_notes<E: Output>(err: &mut E, notes: &[u8]) -> u8
     ensures status { result ≡ 2 }
-    ensures told { AppendsPart (E.contents err.old) (E.contents err.new) notes.now }
+    ensures told { Tells (listener (E.contents err.old) (E.contents err.new)
+        (E.answers err.old) (E.answers err.new)) notes.now }
 {
     let _ = send(err, notes);
     INPUT_REFUSED

@@ -4,8 +4,8 @@ ghost use Rattle.std.specs.Io.KnownBytes.{Keeps};
 ghost use Rattle.clap.specs.Words.{fault_of};
 ghost use Rattle.ds_drive.specs.Done.{IsCutShort, IsDone, IsStopped, WantsMemory, stream};
 ghost use Rattle.ds_drive.specs.Failures.{memory_failure};
+ghost use Rattle.ds_drive.specs.Listening.{Tells, listener};
 ghost use Rattle.ds_drive.specs.Told.{failure_line};
-ghost use Rattle.ds_log.specs.Sent.{AppendsPart};
 ghost use Rattle.ds_words.specs.Words.{AsksForSomething, dsmon_app};
 
 use crate::bare::bare_file;
@@ -19,7 +19,7 @@ use crate::run::run_request;
 use crate::status::{DONE, WORDS_REFUSED};
 use crate::told::{tell, tell_refused};
 use crate::trace::trace_request;
-use ds_log::send;
+use ds_log::{Output, send};
 use ds_station::Fault;
 use ds_words::{Wish, wish_of};
 use std::alloc::Global;
@@ -28,8 +28,8 @@ use std::io::{ErrorKind, Write};
 /// Does what the words ask for, the program's own name first, and answers the status: 0 done; 1 the
 /// words were refused for another cause than memory, or ask for help; 2 refused input; 3 a fault of
 /// the run. What was refused is told on `err`; that a write there fails changes no status.
-#[tactic(auto, using(ds_words::proofs::WordLemmas::alone, crate::proofs::Cuts::nothing_written, crate::proofs::Cuts::demo_cut, crate::proofs::Cuts::run_cut, crate::proofs::Cuts::list_cut, crate::proofs::Cuts::check_cut, crate::proofs::BareLemmas::bare_cut, crate::proofs::BareLemmas::bare_stopped, crate::proofs::BareLemmas::bare_faulty, crate::proofs::Stops::demo_stopped, crate::proofs::Stops::run_stopped, crate::proofs::Stops::list_stopped, crate::proofs::Stops::list_faulty, crate::proofs::Stops::check_stopped, crate::proofs::Noting::check_noted, crate::proofs::Stops::wants_memory, crate::proofs::TraceLemmas::trace_cut, crate::proofs::TraceLemmas::trace_done, crate::proofs::TraceLemmas::trace_stopped))]
-pub fn drive<F: Files, W: Write, E: Write>(
+#[tactic(auto, using(crate::proofs::Heard::told_so, ds_words::proofs::WordLemmas::alone, crate::proofs::Cuts::nothing_written, crate::proofs::Cuts::demo_cut, crate::proofs::Cuts::run_cut, crate::proofs::Cuts::list_cut, crate::proofs::Cuts::check_cut, crate::proofs::BareLemmas::bare_cut, crate::proofs::BareLemmas::bare_stopped, crate::proofs::BareLemmas::bare_faulty, crate::proofs::Stops::demo_stopped, crate::proofs::Stops::run_stopped, crate::proofs::Stops::list_stopped, crate::proofs::Stops::list_faulty, crate::proofs::Stops::check_stopped, crate::proofs::Noting::check_noted, crate::proofs::Stops::wants_memory, crate::proofs::TraceLemmas::trace_cut, crate::proofs::TraceLemmas::trace_done, crate::proofs::TraceLemmas::trace_stopped))]
+pub fn drive<F: Files, W: Write, E: Output>(
     alloc: Global,
     words: &[String],
     files: &mut F,
@@ -44,7 +44,8 @@ pub fn drive<F: Files, W: Write, E: Write>(
     ensures refused { result ≡ 1 → W.contents out.new ≡ W.contents out.old }
     ensures unasked { result ≡ 1 → files.new ≡ files.old }
     ensures kind { result ≡ 1 → fault_of dsmon_app (map string_bytes words.now) ≡ []
-        → AppendsPart (E.contents err.old) (E.contents err.new)
+        → Tells (listener (E.contents err.old) (E.contents err.new) (E.answers err.old)
+        (E.answers err.new))
         (codes "dsmon: --only takes end, calls, denials, switches or units\n") }
     ensures done { result ≡ 0
         → IsDone (map string_bytes words.now) (F.holds files.old) (W.contents out.old)
@@ -54,13 +55,16 @@ pub fn drive<F: Files, W: Write, E: Write>(
     ensures unread { result ≡ 2 → Keeps (W.contents out.old) (W.contents out.new) }
     ensures stopped { result ≡ 2 → IsStopped 2 (map string_bytes words.now) (F.holds files.old)
         (F.lacks files.old) (stream (W.contents out.old) (W.contents out.new))
-        (stream (E.contents err.old) (E.contents err.new)) }
+        (listener (E.contents err.old) (E.contents err.new) (E.answers err.old)
+        (E.answers err.new)) }
     ensures failed { result ≡ 3
         → WantsMemory (stream (W.contents out.old) (W.contents out.new))
-        (stream (E.contents err.old) (E.contents err.new))
+        (listener (E.contents err.old) (E.contents err.new) (E.answers err.old)
+        (E.answers err.new))
         ⊎ IsStopped 3 (map string_bytes words.now) (F.holds files.old) (F.lacks files.old)
         (stream (W.contents out.old) (W.contents out.new))
-        (stream (E.contents err.old) (E.contents err.new)) }
+        (listener (E.contents err.old) (E.contents err.new) (E.answers err.old)
+        (E.answers err.new)) }
     ensures silent { result ≡ 0 → E.contents err.new ≡ E.contents err.old }
     ensures kept { (file bytes : List ℕ) → F.holds files.new file bytes
         → F.holds files.old file bytes }
@@ -105,20 +109,33 @@ pub fn drive<F: Files, W: Write, E: Write>(
             tell(err, &Failure::Fault(Fault::Memory))
         }
         Err(error) => {
-            let _ = write!(err, "{error}");
+            tell_words(alloc, err, &error);
             WORDS_REFUSED
         }
     }
 }
 
+/// Tells what is wrong with the words, or the help that they ask for, as far as there is memory for
+/// the text.
+fn tell_words<E: Output>(alloc: Global, err: &mut E, error: &clap::Error) {
+    let mut text = String::new(alloc);
+    let _ = write!(text, "{error}");
+    let _ = send(err, text.as_bytes());
+}
+
 /// Tells why the program's words could not be had, and answers the status.
-pub fn refuse_words<E: Write>(err: &mut E, kind: ErrorKind) -> u8
+#[tactic(auto, using(crate::proofs::Heard::told_so))]
+pub fn refuse_words<E: Output>(err: &mut E, kind: ErrorKind) -> u8
     ensures memory { kind ≡ ErrorKind.OutOfMemory → result ≡ 3 }
     ensures other { kind ≢ ErrorKind.OutOfMemory → result ≡ 1 }
-    ensures told { kind ≡ ErrorKind.OutOfMemory → AppendsPart (E.contents err.old)
-        (E.contents err.new) (failure_line memory_failure) }
-    ensures told_other { kind ≢ ErrorKind.OutOfMemory → AppendsPart (E.contents err.old)
-        (E.contents err.new) (codes "dsmon: the words are no text\n") }
+    ensures told { kind ≡ ErrorKind.OutOfMemory
+        → Tells (listener (E.contents err.old) (E.contents err.new) (E.answers err.old)
+        (E.answers err.new))
+        (failure_line memory_failure) }
+    ensures told_other { kind ≢ ErrorKind.OutOfMemory
+        → Tells (listener (E.contents err.old) (E.contents err.new) (E.answers err.old)
+        (E.answers err.new))
+        (codes "dsmon: the words are no text\n") }
 {
     if kind == ErrorKind::OutOfMemory {
         return tell(err, &Failure::Fault(Fault::Memory));

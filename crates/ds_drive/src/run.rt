@@ -1,6 +1,6 @@
 //! A run of files: the policy, the input, and the sources that the policy names.
 ghost use Rattle.std.specs.Prelude.{◌≡◌, ◌≤◌, ℕ, List, IfErr, IfOk, OnOk, All, length, map};
-ghost use Rattle.ds_station.specs.Headline.{sources_seen};
+ghost use Rattle.ds_station.specs.Headline.{Along, Followed, WritesReally, sources_seen};
 ghost use Rattle.ds_drive.specs.AtFault.{texts_seen};
 ghost use Rattle.ds_drive.specs.Failures.{AreUnread, HoldsInputs, IsUnread, IsUnreadRun, RunsFiles, StopsBy};
 ghost use Rattle.ds_drive.specs.Ran.{RunsAlone, RunsGuarded, RunsReally};
@@ -40,7 +40,11 @@ pub fn run_request<'a, F: Files, W: Write>(
     ensures ok { OnOk result
         (RunsFiles (F.holds files.old) request.now (W.contents out.old) (W.contents out.new)) }
     ensures real { OnOk result
-        (RunsReally (F.holds files.old) request.now (W.contents out.old) (W.contents out.new)) }
+        (RunsReally (WritesReally Along) (F.holds files.old) request.now
+        (W.contents out.old) (W.contents out.new)) }
+    ensures followed { OnOk result
+        (RunsReally (WritesReally Followed) (F.holds files.old) request.now
+        (W.contents out.old) (W.contents out.new)) }
     ensures guarded { OnOk result
         (RunsGuarded (F.holds files.old) request.now (W.contents out.old) (W.contents out.new)) }
     ensures alone { OnOk result

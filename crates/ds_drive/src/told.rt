@@ -1,13 +1,14 @@
 //! What standard error is told of a failure, and of a check that is refused.
-ghost use Rattle.std.specs.Prelude.{◌≡◌, ◌++◌, OnErr, OnOk, Some, codes, flat_map};
+ghost use Rattle.std.specs.Prelude.{◌≡◌, ◌++◌, OnErr, OnOk, Some, codes, flat_map, is_err};
 ghost use Rattle.ds_asm.specs.Assembling.{source_fault_line};
 ghost use Rattle.std.specs.Io.KnownBytes.{Appends};
 ghost use Rattle.ds_check.specs.Carets.{place_shown};
 ghost use Rattle.ds_drive.specs.Failures.{failure_number};
+ghost use Rattle.ds_drive.specs.Listening.{Tells, TellsSome, is_unwritten, listener};
 ghost use Rattle.ds_drive.specs.Names.{shown_name};
 ghost use Rattle.ds_drive.specs.Statuses.{fault_status};
-ghost use Rattle.ds_drive.specs.Told.{cause_below, cause_shown, failure_line, fault_words, input_shown, none_passed, others_shown, others_told, pass, passed_in, place_line, policy_shown, reason_after, refused_text, shown_in, source_fault_words, source_shown, why_told};
-ghost use Rattle.ds_log.specs.Sent.{AppendsPart};
+ghost use Rattle.ds_drive.specs.Told.{below_text, cause_below, cause_shown, failure_line, fault_words, input_shown, none_passed, others_shown, others_told, pass, passed_in, place_line, policy_shown, reason_after, shown_in, source_fault_words, source_shown, why_told};
+ghost use Rattle.ds_log.specs.Sent.{AppendsPart, IsAskedOnce};
 
 use crate::failure::Failure;
 use crate::faults::{Untold, Wording, push_caret_at, push_shown, tell_lines};
@@ -17,20 +18,20 @@ use crate::status::status_of;
 use crate::why::{first_reason, push_mending, push_reason_told};
 use ds_asm::SourceFault;
 use ds_check::{Lines, Place, push_place};
-use ds_log::{WriteFailed, send};
+use ds_log::{Output, WriteFailed, send, send_all};
 use ds_policy_reasons::{InputCause, cause_place};
 use ds_source_reasons::FaultyLines;
 use ds_station::Fault;
 use itoa::Buffer;
 use std::alloc::{AllocError, Global};
-use std::io::Write;
 
 /// Tells of a failure in one line, and answers the status. Where the writer fails, the rest is not
 /// told.
-#[tactic(auto, using(crate::proofs::Tellings::told_either))]
-pub fn tell<'a, E: Write>(err: &mut E, failure: &Failure<'a>) -> u8
+#[tactic(auto, using(crate::proofs::Heard::told_so))]
+pub fn tell<'a, E: Output>(err: &mut E, failure: &Failure<'a>) -> u8
     ensures status { result ≡ fault_status (failure_number failure.now) }
-    ensures told { AppendsPart (E.contents err.old) (E.contents err.new)
+    ensures told { Tells (listener (E.contents err.old) (E.contents err.new)
+        (E.answers err.old) (E.answers err.new))
         (failure_line failure.now) }
 {
     let _ = send_failure(err, failure);
@@ -40,28 +41,44 @@ pub fn tell<'a, E: Write>(err: &mut E, failure: &Failure<'a>) -> u8
 /// Tells of a refusal as a run does, and below it where it is: the line of the policy, of the source
 /// or of the input, with a caret; the reason and how it is mended; and the other faults of the
 /// source. Answers the status. Where the writer fails, or memory runs out, the rest is not told.
-#[tactic(auto, using(crate::proofs::Tellings::told_either))]
-pub fn tell_refused<'a, E: Write>(alloc: Global, err: &mut E, refused: &Refused<'a>) -> u8
+pub fn tell_refused<'a, E: Output>(alloc: Global, err: &mut E, refused: &Refused<'a>) -> u8
     ensures status { result ≡ fault_status (failure_number refused.now.failure) }
-    ensures told { AppendsPart (E.contents err.old) (E.contents err.new)
-        (refused_text refused.now) }
+    ensures told { TellsSome (listener (E.contents err.old) (E.contents err.new)
+        (E.answers err.old) (E.answers err.new))
+        (failure_line refused.now.failure) (below_text refused.now) }
 {
-    let _ = send_refused(alloc, err, refused);
+    send_refused(alloc, err, refused);
     status_of(refused.failure.number())
 }
 
 /// Hands all that is told of a refusal to the writer.
-fn send_refused<'a, E: Write>(
+#[tactic(auto, using(crate::proofs::Heard::told_behind, crate::proofs::Heard::told_first))]
+fn send_refused<'a, E: Output>(alloc: Global, err: &mut E, refused: &Refused<'a>)
+    ensures { TellsSome (listener (E.contents err.old) (E.contents err.new)
+        (E.answers err.old) (E.answers err.new))
+        (failure_line refused.now.failure) (below_text refused.now) }
+{
+    match send_failure(err, &refused.failure) {
+        Ok(()) => {
+            let _ = send_below(alloc, err, refused);
+        }
+        Err(_) => {}
+    }
+}
+
+/// Hands what is told of a refusal below its first line to the writer.
+#[tactic(auto, using(ds_log::proofs::Sends::asked_both))]
+fn send_below<'a, E: Output>(
     alloc: Global,
     err: &mut E,
     refused: &Refused<'a>,
 ) -> Result<(), Untold>
     ensures all { OnOk result (Appends (E.contents err.old) (E.contents err.new)
-        (refused_text refused.now)) }
+        (below_text refused.now)) }
     ensures front { OnErr result (AppendsPart (E.contents err.old) (E.contents err.new)
-        (refused_text refused.now)) }
+        (below_text refused.now)) }
+    ensures once { IsAskedOnce (E.answers err.old) (E.answers err.new) (is_unwritten result) }
 {
-    send_failure(err, &refused.failure)?;
     send_policy(alloc, err, &refused.policy)?;
     send_source(alloc, err, &refused.source)?;
     send_input(alloc, err, &refused.input)?;
@@ -70,11 +87,12 @@ fn send_refused<'a, E: Write>(
 }
 
 /// Hands the line of a failure to the writer.
-fn send_failure<'a, E: Write>(err: &mut E, failure: &Failure<'a>) -> Result<(), Untold>
+fn send_failure<'a, E: Output>(err: &mut E, failure: &Failure<'a>) -> Result<(), WriteFailed>
     ensures all { OnOk result (Appends (E.contents err.old) (E.contents err.new)
         (failure_line failure.now)) }
     ensures front { OnErr result (AppendsPart (E.contents err.old) (E.contents err.new)
         (failure_line failure.now)) }
+    ensures once { IsAskedOnce (E.answers err.old) (E.answers err.new) (is_err result) }
 {
     match failure {
         Failure::UnreadableFile(name) => send_unreadable(err, name.as_bytes()),
@@ -86,11 +104,13 @@ fn send_failure<'a, E: Write>(err: &mut E, failure: &Failure<'a>) -> Result<(), 
 }
 
 /// Hands the line of a file that can't be read to the writer.
-fn send_unreadable<E: Write>(err: &mut E, name: &[u8]) -> Result<(), Untold>
+#[tactic(auto, using(ds_log::proofs::Sends::asked_both))]
+fn send_unreadable<E: Output>(err: &mut E, name: &[u8]) -> Result<(), WriteFailed>
     ensures all { OnOk result (Appends (E.contents err.old) (E.contents err.new)
         (codes "dsmon: " ++ ((codes "26 Unreadable " ++ shown_name name.now) ++ codes "\n"))) }
     ensures front { OnErr result (AppendsPart (E.contents err.old) (E.contents err.new)
         (codes "dsmon: " ++ ((codes "26 Unreadable " ++ shown_name name.now) ++ codes "\n"))) }
+    ensures once { IsAskedOnce (E.answers err.old) (E.answers err.new) (is_err result) }
 {
     send(err, b"dsmon: 26 Unreadable ")?;
     send_name(err, name)?;
@@ -99,11 +119,12 @@ fn send_unreadable<E: Write>(err: &mut E, name: &[u8]) -> Result<(), Untold>
 }
 
 /// Hands the line of a fault to the writer.
-fn send_fault<E: Write>(err: &mut E, fault: &Fault) -> Result<(), Untold>
+fn send_fault<E: Output>(err: &mut E, fault: &Fault) -> Result<(), WriteFailed>
     ensures all { OnOk result (Appends (E.contents err.old) (E.contents err.new)
         (codes "dsmon: " ++ (fault_words fault.now ++ codes "\n"))) }
     ensures front { OnErr result (AppendsPart (E.contents err.old) (E.contents err.new)
         (codes "dsmon: " ++ (fault_words fault.now ++ codes "\n"))) }
+    ensures once { IsAskedOnce (E.answers err.old) (E.answers err.new) (is_err result) }
 {
     let mut digits = Buffer::new();
     match fault {
@@ -130,11 +151,16 @@ fn send_fault<E: Write>(err: &mut E, fault: &Fault) -> Result<(), Untold>
 }
 
 /// Hands the line of a fault of the source of this name to the writer.
-fn send_source_fault<E: Write>(err: &mut E, name: &str, fault: &SourceFault) -> Result<(), Untold>
+fn send_source_fault<E: Output>(
+    err: &mut E,
+    name: &str,
+    fault: &SourceFault,
+) -> Result<(), WriteFailed>
     ensures all { OnOk result (Appends (E.contents err.old) (E.contents err.new)
         (codes "dsmon: " ++ (source_fault_words name.now fault.now ++ codes "\n"))) }
     ensures front { OnErr result (AppendsPart (E.contents err.old) (E.contents err.new)
         (codes "dsmon: " ++ (source_fault_words name.now fault.now ++ codes "\n"))) }
+    ensures once { IsAskedOnce (E.answers err.old) (E.answers err.new) (is_err result) }
 {
     let mut numbers = Buffer::new();
     let mut lines = Buffer::new();
@@ -153,13 +179,15 @@ fn send_source_fault<E: Write>(err: &mut E, name: &str, fault: &SourceFault) -> 
 }
 
 /// Hands a line of the program to the writer: some words, and what they carry.
-fn send_line<E: Write>(err: &mut E, words: &[&[u8]], carried: &[&[u8]]) -> Result<(), Untold>
+#[tactic(auto, using(ds_log::proofs::Sends::asked_both))]
+fn send_line<E: Output>(err: &mut E, words: &[&[u8]], carried: &[&[u8]]) -> Result<(), WriteFailed>
     ensures all { OnOk result (Appends (E.contents err.old) (E.contents err.new)
         (codes "dsmon: " ++ (flat_map (λ word. word.now) words.now
         ++ (flat_map (λ word. word.now) carried.now ++ codes "\n")))) }
     ensures front { OnErr result (AppendsPart (E.contents err.old) (E.contents err.new)
         (codes "dsmon: " ++ (flat_map (λ word. word.now) words.now
         ++ (flat_map (λ word. word.now) carried.now ++ codes "\n")))) }
+    ensures once { IsAskedOnce (E.answers err.old) (E.answers err.new) (is_err result) }
 {
     send(err, b"dsmon: ")?;
     send_all(err, words)?;
@@ -168,21 +196,8 @@ fn send_line<E: Write>(err: &mut E, words: &[&[u8]], carried: &[&[u8]]) -> Resul
     Ok(())
 }
 
-/// Hands the pieces of a text to the writer, one after another.
-fn send_all<W: Write>(out: &mut W, pieces: &[&[u8]]) -> Result<(), WriteFailed>
-    ensures ok { OnOk result
-        (Appends (W.contents out.old) (W.contents out.new) (flat_map (λ p. p.now) pieces.now)) }
-    ensures err { OnErr result
-        (AppendsPart (W.contents out.old) (W.contents out.new) (flat_map (λ p. p.now) pieces.now)) }
-{
-    for piece in pieces {
-        send(out, piece)?;
-    }
-    Ok(())
-}
-
 /// Tells where a policy is at fault and shows its line with a caret, where it is.
-fn send_policy<E: Write>(
+fn send_policy<E: Output>(
     alloc: Global,
     err: &mut E,
     policy: &Option<FaultyPolicy>,
@@ -191,6 +206,7 @@ fn send_policy<E: Write>(
         (policy_shown policy.now)) }
     ensures front { OnErr result (AppendsPart (E.contents err.old) (E.contents err.new)
         (policy_shown policy.now)) }
+    ensures once { IsAskedOnce (E.answers err.old) (E.answers err.new) (is_unwritten result) }
 {
     match policy {
         Some(policy) => show_place(alloc, err, &policy.text, policy.place),
@@ -199,11 +215,17 @@ fn send_policy<E: Write>(
 }
 
 /// Tells a place of a policy's text and shows its line with a caret.
-fn show_place<E: Write>(alloc: Global, err: &mut E, text: &[u8], place: Place) -> Result<(), Untold>
+fn show_place<E: Output>(
+    alloc: Global,
+    err: &mut E,
+    text: &[u8],
+    place: Place,
+) -> Result<(), Untold>
     ensures all { OnOk result (Appends (E.contents err.old) (E.contents err.new)
         (place_line place ++ place_shown text.now place)) }
     ensures front { OnErr result (AppendsPart (E.contents err.old) (E.contents err.new)
         (place_line place ++ place_shown text.now place)) }
+    ensures once { IsAskedOnce (E.answers err.old) (E.answers err.new) (is_unwritten result) }
 {
     let mut shown = Vec::new(alloc);
     push_place_line(&mut shown, place)?;
@@ -225,7 +247,7 @@ fn push_place_line(sheet: &mut Vec<u8>, place: Place) -> Result<(), AllocError>
 
 /// Shows the line of the first fault of a source that is at fault, with a caret below it, where one
 /// is.
-fn send_source<E: Write>(
+fn send_source<E: Output>(
     alloc: Global,
     err: &mut E,
     source: &Option<FaultySource>,
@@ -234,6 +256,7 @@ fn send_source<E: Write>(
         (source_shown source.now)) }
     ensures front { OnErr result (AppendsPart (E.contents err.old) (E.contents err.new)
         (source_shown source.now)) }
+    ensures once { IsAskedOnce (E.answers err.old) (E.answers err.new) (is_unwritten result) }
 {
     match source {
         Some(source) => match source.faults.first() {
@@ -245,7 +268,7 @@ fn send_source<E: Write>(
 }
 
 /// Shows the line of the first fault of a source, with a caret below it.
-fn show_fault<E: Write>(
+fn show_fault<E: Output>(
     alloc: Global,
     err: &mut E,
     text: &[u8],
@@ -257,6 +280,7 @@ fn show_fault<E: Write>(
     ensures front { OnErr result (AppendsPart (E.contents err.old) (E.contents err.new)
         (shown_in (Some text.now) (reason_after (none_passed text.now) first.now)
         (source_fault_line first.now))) }
+    ensures once { IsAskedOnce (E.answers err.old) (E.answers err.new) (is_unwritten result) }
 {
     let mut lines = Some(Lines::of(text));
     let mut shown = Vec::new(alloc);
@@ -267,7 +291,7 @@ fn show_fault<E: Write>(
 }
 
 /// Tells of the faults after the first of a source that is at fault, where one is.
-fn send_others<E: Write>(
+fn send_others<E: Output>(
     alloc: Global,
     err: &mut E,
     source: &Option<FaultySource>,
@@ -276,6 +300,7 @@ fn send_others<E: Write>(
         (others_shown source.now)) }
     ensures front { OnErr result (AppendsPart (E.contents err.old) (E.contents err.new)
         (others_shown source.now)) }
+    ensures once { IsAskedOnce (E.answers err.old) (E.answers err.new) (is_unwritten result) }
 {
     match source {
         Some(source) => send_faults(alloc, err, &source.text, &source.faults),
@@ -284,7 +309,7 @@ fn send_others<E: Write>(
 }
 
 /// Tells of the faults after the first, each with its reason and its line.
-fn send_faults<E: Write>(
+fn send_faults<E: Output>(
     alloc: Global,
     err: &mut E,
     text: &[u8],
@@ -294,6 +319,7 @@ fn send_faults<E: Write>(
         (others_told text.now faults.now)) }
     ensures front { OnErr result (AppendsPart (E.contents err.old) (E.contents err.new)
         (others_told text.now faults.now)) }
+    ensures once { IsAskedOnce (E.answers err.old) (E.answers err.new) (is_unwritten result) }
 {
     let wording = Wording {
         front: "and ",
@@ -320,7 +346,7 @@ fn after_first<'s>(text: &'s [u8], first: &SourceFault) -> FaultyLines<'s>
 }
 
 /// Shows the line of an input that is at fault with a caret below it, where it is.
-fn send_input<E: Write>(
+fn send_input<E: Output>(
     alloc: Global,
     err: &mut E,
     input: &Option<FaultyInput>,
@@ -329,6 +355,7 @@ fn send_input<E: Write>(
         (input_shown input.now)) }
     ensures front { OnErr result (AppendsPart (E.contents err.old) (E.contents err.new)
         (input_shown input.now)) }
+    ensures once { IsAskedOnce (E.answers err.old) (E.answers err.new) (is_unwritten result) }
 {
     match input {
         Some(input) => show_line(alloc, err, &input.text, input.line, input.cause),
@@ -337,7 +364,7 @@ fn send_input<E: Write>(
 }
 
 /// Shows the line of this number of an input, with a caret below what is wrong there.
-fn show_line<E: Write>(
+fn show_line<E: Output>(
     alloc: Global,
     err: &mut E,
     text: &[u8],
@@ -348,6 +375,7 @@ fn show_line<E: Write>(
         (cause_shown text.now number cause)) }
     ensures front { OnErr result (AppendsPart (E.contents err.old) (E.contents err.new)
         (cause_shown text.now number cause)) }
+    ensures once { IsAskedOnce (E.answers err.old) (E.answers err.new) (is_unwritten result) }
 {
     let mut lines = Lines::of(text);
     let mut shown = Vec::new(alloc);
@@ -372,11 +400,12 @@ fn push_cause_below(
 }
 
 /// Tells why a check is refused with what to write; where no reason is known, how it is mended.
-fn send_why<'a, E: Write>(alloc: Global, err: &mut E, refused: &Refused<'a>) -> Result<(), Untold>
+fn send_why<'a, E: Output>(alloc: Global, err: &mut E, refused: &Refused<'a>) -> Result<(), Untold>
     ensures all { OnOk result (Appends (E.contents err.old) (E.contents err.new)
         (why_told refused.now)) }
     ensures front { OnErr result (AppendsPart (E.contents err.old) (E.contents err.new)
         (why_told refused.now)) }
+    ensures once { IsAskedOnce (E.answers err.old) (E.answers err.new) (is_unwritten result) }
 {
     let mut sheet = Vec::new(alloc);
     if !push_reason_told(&mut sheet, refused)? {

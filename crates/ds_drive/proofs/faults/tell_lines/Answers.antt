@@ -1,5 +1,5 @@
 use Rattle.std.proofs.Common.{◌∙◌, refl, arith}
-use Rattle.ds_log.proofs.Sends.{at_err}
+use Rattle.ds_log.proofs.Sends.{asked_both, at_err}
 use Rattle.ds_drive.proofs.Tellings.{none_left, one_told, sent_all, sent_part, sheet_sent}
 use Rattle.ds_drive.proofs.faults.tell_lines.Goals as goal
 use Rattle.ds_drive.proofs.faults.tell_lines.Goals.{then-len-ge-BYTES_AT_ONCE+in_ok-send, else-len-ge-BYTES_AT_ONCE}
@@ -18,6 +18,10 @@ loop-fault-preserved g c =
       told = elim c.if-len-ge-BYTES_AT_ONCE.branch [
         | then-len-ge-BYTES_AT_ONCE+in_ok-send w ↦ rw (w.err-is, w.sheet-is) (sheet_sent _ _ _ _ _ _ _ _ told w.deref.ensures.value w.in_ok-send.ensures.ok w.clear.ensures.items)
         | else-len-ge-BYTES_AT_ONCE w ↦ rw (w.err-is, w.sheet-is) told
+      ];
+      asked = elim c.if-len-ge-BYTES_AT_ONCE.branch [
+        | then-len-ge-BYTES_AT_ONCE+in_ok-send w ↦ rw (w.err-is) (asked_both _ _ _ _ c.loop-fault.invariant.asked w.in_ok-send.ensures.once)
+        | else-len-ge-BYTES_AT_ONCE w ↦ rw (w.err-is) c.loop-fault.invariant.asked
       ];
     }
 

@@ -1,4 +1,5 @@
-use Rattle.std.proofs.Common.{◌≡◌, ◌++◌, drop}
+use Rattle.std.proofs.Common.{◌≡◌, ◌++◌, drop, false}
+use Rattle.ds_log.specs.Sent.{IsAskedOnce}
 use Rattle.ds_drive.specs.Told.{passed_in, told_lines}
 use Rattle.ds_drive.proofs.Tellings.{SentOf}
 use Rattle.ds_drive.proofs.faults.tell_lines.Given as goal
@@ -6,7 +7,8 @@ use Rattle.ds_drive.proofs.faults.tell_lines.Given as goal
 abbrev pub invariant-loop-fault : goal.invariant-loop-fault
 invariant-loop-fault g l = record {
   same : l.lines ≡ l.fn.lines;
-  told : SentOf (g.E.Write.contents l.fn.err) (g.E.Write.contents l.err)
+  told : SentOf (g.E.Output.contents l.fn.err) (g.E.Output.contents l.err)
       (l.sheet.items ++ told_lines l.wording.front.now l.wording.place.now l.fn.lines (passed_in l.reasons) (drop l.fault-index l.faults))
       (told_lines l.wording.front.now l.wording.place.now l.fn.lines (passed_in l.fn.reasons) l.faults);
+  asked : IsAskedOnce (g.E.Output.answers l.fn.err) (g.E.Output.answers l.err) false;
 }

@@ -9,5 +9,5 @@ pub returns-in_err-send_byte-clause-err : goal.returns-in_err-send_byte-clause-e
 unfolding shown_name
 returns-in_err-send_byte-clause-err g c = at_err c.from_residual.result
     (subst (AppendsPart _ _) (flat_map_at shown_byte c.args.name.now c.loop-byte.byte-index _ c.loop-byte-test.true)
-    (part_behind _ _ _ (flat_map shown_byte (take c.loop-byte.byte-index c.args.name.now)) _ c.loop-byte.invariant
+    (part_behind _ _ _ (flat_map shown_byte (take c.loop-byte.byte-index c.args.name.now)) _ c.loop-byte.invariant.shown
     (part_before _ _ _ (flat_map shown_byte (drop (suc c.loop-byte.byte-index) c.args.name.now)) c.in_err-send_byte.ensures.err)))

@@ -63,7 +63,7 @@ returns-in-Ok-Faults-clause-stopped g c two =
     let old = g.W.Write.contents c.args.out.now in
     let new = g.W.Write.contents c.list_file.new.out in
     let lists = subst (λ (came : Listing). Lists came holds c.in-Ok-Some-List.request old new) c.in-Ok-Faults.field-0-is c.in-Ok-Faults.ensures.ok in
-    list_faulty (map string_bytes c.args.words.now) holds (g.F.Files.lacks c.args.files.now) 2 old new (g.E.Write.contents c.args.err.now) (g.E.Write.contents c.tell_faults.new.err) c.in-Ok-Some-List.request c.in-Ok-Faults.source.text.items c.in-Ok-Faults.source.faults.items refl (search rules) lists.0 lists.1 (search rules)
+    list_faulty (map string_bytes c.args.words.now) holds (g.F.Files.lacks c.args.files.now) 2 old new _ c.in-Ok-Some-List.request c.in-Ok-Faults.source.text.items c.in-Ok-Faults.source.faults.items refl (search rules) lists.0 lists.1 (search rules)
 
 pub returns-in-Ok-Faults-bare_file-clause-stopped : goal.returns-in-Ok-Faults-bare_file-clause-stopped
 returns-in-Ok-Faults-bare_file-clause-stopped g c two =
@@ -71,7 +71,7 @@ returns-in-Ok-Faults-bare_file-clause-stopped g c two =
     let old = g.W.Write.contents c.args.out.now in
     let new = g.W.Write.contents c.bare_file.new.out in
     let runs = subst (λ (came : Listing). RunsOrIsFaulty came holds c.in-Ok-Some-Bare.request old new) c.in-Ok-Faults-bare_file.field-0-is c.in-Ok-Faults-bare_file.ensures.ok in
-    bare_faulty (map string_bytes c.args.words.now) holds (g.F.Files.lacks c.args.files.now) 2 old new (g.E.Write.contents c.args.err.now) (g.E.Write.contents c.tell_faults-in-Ok-Faults-bare_file.new.err) c.in-Ok-Some-Bare.request c.in-Ok-Faults-bare_file.source.text.items c.in-Ok-Faults-bare_file.source.faults.items refl (search rules) runs.0 runs.1 (search rules)
+    bare_faulty (map string_bytes c.args.words.now) holds (g.F.Files.lacks c.args.files.now) 2 old new _ c.in-Ok-Some-Bare.request c.in-Ok-Faults-bare_file.source.text.items c.in-Ok-Faults-bare_file.source.faults.items refl (search rules) runs.0 runs.1 (search rules)
 
 pub returns-in-Ok-Noted-clause-stopped : goal.returns-in-Ok-Noted-clause-stopped
 returns-in-Ok-Noted-clause-stopped g c two =
@@ -79,11 +79,11 @@ returns-in-Ok-Noted-clause-stopped g c two =
     let old = g.W.Write.contents c.args.out.now in
     let new = g.W.Write.contents c.check_files.new.out in
     let checks = subst (λ (came : Checking). Checks came holds c.in-Ok-Some-Check.request old new) c.in-Ok-Noted.field-0-is c.in-Ok-Noted.ensures.ok in
-    check_noted (map string_bytes c.args.words.now) holds (g.F.Files.lacks c.args.files.now) 2 old new (g.E.Write.contents c.args.err.now) (g.E.Write.contents c.tell_notes.new.err) c.in-Ok-Some-Check.request c.in-Ok-Noted.notes.items refl (search rules) checks.0 checks.1 (search rules)
+    check_noted (map string_bytes c.args.words.now) holds (g.F.Files.lacks c.args.files.now) 2 old new _ c.in-Ok-Some-Check.request c.in-Ok-Noted.notes.items refl (search rules) checks.0 checks.1 (search rules)
 
 pub returns-in-Ok-run_request-clause-done : goal.returns-in-Ok-run_request-clause-done
 returns-in-Ok-run_request-clause-done g c zero =
-    run_done _ (g.F.Files.holds c.args.files.now) _ (g.W.Write.contents c.args.out.now) (g.W.Write.contents c.run_request.new.out) (search rules) c.in-Ok-run_request.ensures.ok c.in-Ok-run_request.ensures.real c.in-Ok-run_request.ensures.guarded c.in-Ok-run_request.ensures.alone
+    run_done _ (g.F.Files.holds c.args.files.now) _ (g.W.Write.contents c.args.out.now) (g.W.Write.contents c.run_request.new.out) (search rules) c.in-Ok-run_request.ensures.ok c.in-Ok-run_request.ensures.real c.in-Ok-run_request.ensures.followed c.in-Ok-run_request.ensures.guarded c.in-Ok-run_request.ensures.alone
 
 pub returns-in-Ok-trace_request-clause-asked : goal.returns-in-Ok-trace_request-clause-asked
 returns-in-Ok-trace_request-clause-asked g c done = inr (inr (inr (inr (inr (c.in-Ok-Some-Trace.request, search rules)))))

@@ -1,50 +1,7 @@
-use Rattle.ds_log.proofs.Sends.{at_err, ok_gives, err_gives, appends_both, part_behind, part_before}
-use Rattle.ds_drive.specs.Told.{failure_line, policy_shown, source_shown, input_shown, why_told}
+use Rattle.ds_drive.specs.Told.{below_text, failure_line}
+use Rattle.ds_drive.proofs.Heard.{told_behind}
 use Rattle.ds_drive.proofs.told.send_refused.Goals as goal
 
-pub returns-in_err-send_failure-clause-front : goal.returns-in_err-send_failure-clause-front
-returns-in_err-send_failure-clause-front g c = at_err c.from_residual.result (part_before _ _ _ _ c.in_err-send_failure.ensures.front)
-
-pub returns-in_err-send_policy-clause-front : goal.returns-in_err-send_policy-clause-front
-returns-in_err-send_policy-clause-front g c = at_err c.from_residual-in_err-send_policy.result
-    (part_behind _ _ _ (failure_line c.args.refused.now.failure) _ c.in_ok-send_failure.ensures.all
-    (part_before _ _ _ _ c.in_err-send_policy.ensures.front))
-
-pub returns-in_err-send_source-clause-front : goal.returns-in_err-send_source-clause-front
-returns-in_err-send_source-clause-front g c = at_err c.from_residual-in_err-send_source.result
-    (part_behind _ _ _ (failure_line c.args.refused.now.failure) _ c.in_ok-send_failure.ensures.all
-    (part_behind _ _ _ (policy_shown c.args.refused.now.policy) _ c.in_ok-send_policy.ensures.all
-    (part_before _ _ _ _ c.in_err-send_source.ensures.front)))
-
-pub returns-in_err-send_input-clause-front : goal.returns-in_err-send_input-clause-front
-returns-in_err-send_input-clause-front g c = at_err c.from_residual-in_err-send_input.result
-    (part_behind _ _ _ (failure_line c.args.refused.now.failure) _ c.in_ok-send_failure.ensures.all
-    (part_behind _ _ _ (policy_shown c.args.refused.now.policy) _ c.in_ok-send_policy.ensures.all
-    (part_behind _ _ _ (source_shown c.args.refused.now.source) _ c.in_ok-send_source.ensures.all
-    (part_before _ _ _ _ c.in_err-send_input.ensures.front))))
-
-pub returns-in_err-send_why-clause-front : goal.returns-in_err-send_why-clause-front
-returns-in_err-send_why-clause-front g c = at_err c.from_residual-in_err-send_why.result
-    (part_behind _ _ _ (failure_line c.args.refused.now.failure) _ c.in_ok-send_failure.ensures.all
-    (part_behind _ _ _ (policy_shown c.args.refused.now.policy) _ c.in_ok-send_policy.ensures.all
-    (part_behind _ _ _ (source_shown c.args.refused.now.source) _ c.in_ok-send_source.ensures.all
-    (part_behind _ _ _ (input_shown c.args.refused.now.input) _ c.in_ok-send_input.ensures.all
-    (part_before _ _ _ _ c.in_err-send_why.ensures.front)))))
-
-pub returns-clause-all : goal.returns-clause-all
-returns-clause-all g c = ok_gives c.send_others.result
-    (λ p. appends_both _ _ _ (failure_line c.args.refused.now.failure) _ c.in_ok-send_failure.ensures.all
-    (appends_both _ _ _ (policy_shown c.args.refused.now.policy) _ c.in_ok-send_policy.ensures.all
-    (appends_both _ _ _ (source_shown c.args.refused.now.source) _ c.in_ok-send_source.ensures.all
-    (appends_both _ _ _ (input_shown c.args.refused.now.input) _ c.in_ok-send_input.ensures.all
-    (appends_both _ _ _ (why_told c.args.refused.now) _ c.in_ok-send_why.ensures.all p)))))
-    c.send_others.ensures.all
-
-pub returns-clause-front : goal.returns-clause-front
-returns-clause-front g c = err_gives c.send_others.result
-    (λ p. part_behind _ _ _ (failure_line c.args.refused.now.failure) _ c.in_ok-send_failure.ensures.all
-    (part_behind _ _ _ (policy_shown c.args.refused.now.policy) _ c.in_ok-send_policy.ensures.all
-    (part_behind _ _ _ (source_shown c.args.refused.now.source) _ c.in_ok-send_source.ensures.all
-    (part_behind _ _ _ (input_shown c.args.refused.now.input) _ c.in_ok-send_input.ensures.all
-    (part_behind _ _ _ (why_told c.args.refused.now) _ c.in_ok-send_why.ensures.all p)))))
-    c.send_others.ensures.front
+pub returns-in-Ok : goal.returns-in-Ok
+returns-in-Ok g c = told_behind c.send_below.result _ _ _ _ _ _ (failure_line c.args.refused.now.failure) (below_text c.args.refused.now)
+    c.in-Ok.ensures.all c.in-Ok.ensures.once c.send_below.ensures.all c.send_below.ensures.front c.send_below.ensures.once

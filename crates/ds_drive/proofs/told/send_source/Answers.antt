@@ -6,6 +6,6 @@ use Rattle.ds_drive.proofs.told.send_source.Goals as goal
 
 pub returns-in-Some-first-clause-front : goal.returns-in-Some-first-clause-front
 returns-in-Some-first-clause-front g c =
-    subst (λ (l : List ℕ). OnErr c.show_fault.result (AppendsPart (g.E.Write.contents c.args.err.now) (g.E.Write.contents c.show_fault.new.err) l))
+    subst (λ (l : List ℕ). OnErr c.show_fault.result (AppendsPart (g.E.Output.contents c.args.err.now) (g.E.Output.contents c.show_fault.new.err) l))
     (first_shown c.args.source.now c.in-Some.source _ _ c.in-Some-first.first.now c.in-Some.is c.deref-in-Some-first.ensures.value c.deref.ensures.value c.in-Some-first.ensures.value)
     c.show_fault.ensures.front

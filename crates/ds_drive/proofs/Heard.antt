@@ -1,0 +1,74 @@
+-- What is told to a place that takes bytes.
+use Rattle.std.proofs.Common.{◌≡◌, ℕ, Bool, true, false, List, [], ◌++◌, append-nil, append_assoc, refl}
+use Rattle.std.specs.Prelude.{Option, Some, None, Result, Ok, Err, OnOk, OnErr, is_err}
+use Rattle.std.specs.Io.KnownBytes.{Appends}
+use Rattle.ds_log.specs.Sent.{Answers, AppendsPart, IsAskedOnce}
+use Rattle.ds_log.proofs.Sends.{appends_both, appends_none, asked_both, part_behind, part_before}
+use Rattle.ds_bare.proofs.CutBetween.{asked_none}
+use Rattle.ds_drive.specs.declared.faults.Untold.{Untold}
+use Rattle.ds_drive.specs.declared.faults.Untold.TheVariants.{Unwritten, NoMemory}
+use Rattle.ds_drive.specs.Listening.{Listener, Tells, TellsSome, is_unwritten, listener}
+
+-- all of a text is a front of it
+pub whole_part : (old new : Option (List ℕ)) (text : List ℕ) → Appends old new text → AppendsPart old new text
+whole_part old new text all = record { part = text; rest = []; whole = append-nil text; appends = all }
+
+-- a text was told
+tells_all : (old new : Option (List ℕ)) (before after : Option Answers) (text : List ℕ) → IsAskedOnce before after false → Appends old new text → Tells (listener old new before after) text
+tells_all old new before after text once all = record { failed = false; once = once; front = whole_part old new text all; whole = λ good. all }
+
+-- or a front of it
+tells_front : (old new : Option (List ℕ)) (before after : Option Answers) (text : List ℕ) → IsAskedOnce before after true → AppendsPart old new text → Tells (listener old new before after) text
+tells_front old new before after text once part = record { failed = true; once = once; front = part; whole = λ good. absurd cc }
+
+-- by what a writer of it answered
+pub told_so : {T E : Type 0} (r : Result T E) (old new : Option (List ℕ)) (before after : Option Answers) (text : List ℕ)
+    → OnOk r (Appends old new text) → OnErr r (AppendsPart old new text) → IsAskedOnce before after (is_err r) → Tells (listener old new before after) text
+told_so (Ok x) old new before after text all part once = tells_all old new before after text once all
+told_so (Err e) old new before after text all part once = tells_front old new before after text once part
+
+-- a text is told before what another writer told, or failed to
+pub told_behind : {T : Type 0} (r : Result T Untold) (old mid new : Option (List ℕ)) (before between after : Option Answers) (text behind : List ℕ)
+    → Appends old mid text → IsAskedOnce before between false
+    → OnOk r (Appends mid new behind) → OnErr r (AppendsPart mid new behind) → IsAskedOnce between after (is_unwritten r) → TellsSome (listener old new before after) text behind
+told_behind (Ok x) old mid new before between after text behind first asked all part once = record {
+  told = behind;
+  untold = [];
+  all = append-nil behind;
+  tells = tells_all old new before after (text ++ behind) (asked_both before between after false asked once) (appends_both old mid new text behind first all);
+}
+told_behind (Err Unwritten) old mid new before between after text behind first asked all part once = record {
+  told = behind;
+  untold = [];
+  all = append-nil behind;
+  tells = tells_front old new before after (text ++ behind) (asked_both before between after true asked once) (part_behind old mid new text behind first part);
+}
+told_behind (Err NoMemory) old mid new before between after text behind first asked all part once = record {
+  told = part.part;
+  untold = part.rest;
+  all = part.whole;
+  tells = tells_all old new before after (text ++ part.part) (asked_both before between after false asked once) (appends_both old mid new text part.part first part.appends);
+}
+
+-- or by that writer alone
+pub told_some : {T : Type 0} (r : Result T Untold) (old new : Option (List ℕ)) (before after : Option Answers) (text : List ℕ)
+    → OnOk r (Appends old new text) → OnErr r (AppendsPart old new text) → IsAskedOnce before after (is_unwritten r) → TellsSome (listener old new before after) [] text
+told_some r old new before after text all part once = told_behind r old old new before before after [] text (appends_none old) (asked_none before) all part once
+
+-- its writer failed in the first text
+pub told_first : (old new : Option (List ℕ)) (before after : Option Answers) (text behind : List ℕ) → AppendsPart old new text → IsAskedOnce before after true → TellsSome (listener old new before after) text behind
+told_first old new before after text behind part once = record {
+  told = behind;
+  untold = [];
+  all = append-nil behind;
+  tells = tells_front old new before after (text ++ behind) once (part_before old new text behind part);
+}
+
+-- nothing was told, for want of memory
+pub told_nothing : (known : Option (List ℕ)) (answers : Option Answers) (text : List ℕ) → TellsSome (listener known known answers answers) [] text
+told_nothing known answers text = record {
+  told = [];
+  untold = text;
+  all = refl;
+  tells = tells_all known known answers answers [] (asked_none answers) (appends_none known);
+}
