@@ -25,6 +25,10 @@ POLICIES = [  # the options and programs of each
     ([], ["sieve"]),
     ([], ["editor"]),
     (["--give", "--line", "0,1"], ["sender", "receiver"]),
+    (["--keys", f"{EXAMPLES}/calculator.txt", "--pace", "20000"], ["calculator"]),
+    (["--keys", f"{EXAMPLES}/words.txt", "--pace", "20000"], ["words"]),
+    (["--data", f"{EXAMPLES}/letters.txt@00500000"], ["letters"]),
+    ([], ["library"]),
 ]
 
 
@@ -36,8 +40,14 @@ def tools_here():
     return "".join(f"{it.splitlines()[0]}\n" for it in said)
 
 
+def written(folder):
+    """The texts in a folder that elf_to_policy wrote and may write anew, by their names."""
+    texts = {it.name: it.read_text("ascii") for it in folder.iterdir() if it.suffix in (".toml", ".s", ".input")}
+    return {name: text for name, text in texts.items() if text.startswith(elf_to_policy.HEAD)}
+
+
 def made():
-    """The policies and sources that come of the programs as the compiler makes them, by their names."""
+    """The policies, sources and keys that come of the programs as the compiler makes them, by their names."""
     with tempfile.TemporaryDirectory(prefix="c-examples-") as room:
         built = subprocess.run(["make", "-C", str(EXAMPLES), f"BUILD={room}"], capture_output=True, text=True)
         if built.returncode:
@@ -49,12 +59,12 @@ def made():
                 status = elf_to_policy.main([*words, "--into", str(into), *(f"{room}/{it}.elf" for it in programs)])
             if status:
                 sys.exit(f"c_examples: {' '.join(programs)} can't be made a policy")
-        return {it.name: it.read_text("ascii") for it in into.iterdir() if it.suffix in (".toml", ".s")}
+        return written(into)
 
 
 def different(texts):
     """The names whose texts are not those of examples/c/, and those there that no text has."""
-    there = {it.name: it.read_text("ascii") for it in EXAMPLES.iterdir() if it.suffix in (".toml", ".s")}
+    there = written(EXAMPLES)
     return sorted(it for it in texts.keys() | there.keys() if texts.get(it) != there.get(it))
 
 

@@ -9,10 +9,11 @@ from unittest import mock
 sys.dont_write_bytecode = True
 
 import c_examples  # noqa: E402
-from c_examples import EXAMPLES, check, different  # noqa: E402
+from c_examples import EXAMPLES, check, different, written  # noqa: E402
+from elf_to_policy import HEAD  # noqa: E402
 
 NOTED = (EXAMPLES / "compiler").read_text("ascii")
-THERE = {it.name: it.read_text("ascii") for it in EXAMPLES.iterdir() if it.suffix in (".toml", ".s")}
+THERE = written(EXAMPLES)
 OTHER = {**THERE, "sieve-1.s": THERE["sieve-1.s"] + ".word 0x00000000\n"}
 
 
@@ -43,6 +44,11 @@ class Tests(unittest.TestCase):
     def test_a_file_too_many_or_too_few_is_different(self):
         self.assertEqual(["sieve.toml"], different({name: text for name, text in THERE.items() if name != "sieve.toml"}))
         self.assertEqual(["more-1.s"], different({**THERE, "more-1.s": ""}))
+
+    def test_what_a_person_wrote_is_not_compared(self):
+        self.assertIn("words.input", THERE)
+        self.assertNotIn("editor.input", THERE)
+        self.assertTrue(all(it.startswith(HEAD) for it in THERE.values()))
 
 
 if __name__ == "__main__":
