@@ -15,7 +15,7 @@ sys.dont_write_bytecode = True
 from c_examples import EXAMPLES, POLICIES  # noqa: E402
 from elf_to_policy import HEAD, main  # noqa: E402
 from later_instructions import coprocessor, later  # noqa: E402
-from reading_model import policy_refusal  # noqa: E402
+from reading_model import input_refusal, policy_refusal  # noqa: E402
 
 TOP = Path(__file__).resolve().parent.parent
 PAGE = 4096
@@ -137,7 +137,7 @@ class Tests(unittest.TestCase):
 
     def test_the_lines_to_type_are_told(self):
         with self.folder(one=elf(SMALL)) as folder:
-            self.assertEqual([f"cd {folder.room}", "dsmon check one.toml", "dsmon run one.toml one.input 100000"], folder.run()[1])
+            self.assertEqual([f"cd {folder.room}", "dsmon check one.toml", "dsmon run one.toml one.input 1000000000"], folder.run()[1])
 
     def test_two_hundred_kilobytes_lie_in_four_sources(self):
         held = b"".join(struct.pack("<I", 0x3C000000 + k) for k in range(200 * 1024 // 4))
@@ -359,12 +359,103 @@ class Tests(unittest.TestCase):
             self.assertTrue(policy.name.startswith("Old_program__v1.2__xxx"))
             self.assertIsNone(policy_refusal(policy.read_bytes()))
 
+    def test_a_file_lies_in_pages_that_each_process_may_read(self):
+        held = bytes(range(1, 256)) * 20
+        with self.folder(one=elf(SMALL), two=elf(SMALL)) as folder:
+            text = folder.room / "a text.bin"
+            text.write_bytes(held)
+            self.assertEqual((0, []), folder.run("--data", f"{text}@00500000", "--give")[::2])
+            text.unlink()
+            self.assertLessEqual({"one.toml", "one-1.s", "two-1.s", "a_text.bin-1.s"}, folder.written())
+            for process in (1, 2):
+                memory, rights = folder.memory("one", process)
+                self.assertEqual(memory_of([*SMALL, (0x00500000, held, 0, 4)]), memory)
+                self.assertEqual(["read", "read"], [rights[0x00500000], rights[0x00501000]])
+            policy = folder.policy("one")
+            shared = [it for it in policy["rule"] if it["address"] >> 12 == 0x500]
+            self.assertEqual([(1, "d1a00500000", False), (2, "d1a00500000", False)], [(it["process"], it["page"], "give" in it) for it in shared])
+            self.assertEqual(1, sum(it["name"] == "d1a00500000" for it in policy["page"]))
+            self.assertIsNone(policy_refusal((folder.room / "one.toml").read_bytes()))
+
+    def test_data_where_something_lies_already_is_refused_by_name(self):
+        for address, owner in [("00400000", "one"), ("0x00402000", "one"), ("7FFFC000", "the stack of one"), ("00500000", "{text}@00500000")]:
+            with self.folder(one=elf(SMALL)) as folder:
+                text = folder.room / "text"
+                text.write_bytes(b"x" * PAGE)
+                status, out, err = folder.run("--data", f"{text}@00500000", "--data", f"{text}@{address}")
+                self.assertEqual((2, []), (status, out))
+                where = int(address, 16)
+                self.assertEqual([f"elf_to_policy: {text}@{address}: the page at {where:08X} is taken by {owner.format(text=text)}"], err)
+                self.assertEqual({"text"}, folder.written())
+        with self.folder(one=elf(SMALL)) as folder:
+            text = folder.room / "text"
+            text.write_bytes(b"x" * (PAGE + 1))
+            self.assertIn("the page at 00400000 is taken by one", folder.run("--data", f"{text}@003FF000")[2][0])
+            self.assertEqual(0, folder.run("--data", f"{text}@003FE000")[0])
+
+    def test_data_that_does_not_fit_is_refused_by_name(self):
+        with self.folder(one=elf([*SMALL, (0x00800000, b"", 4, DATA), (0x00C00000, b"", 4, DATA)])) as folder:
+            text, empty, long = (folder.room / it for it in ("text", "empty", "long"))
+            text.write_bytes(b"text"), empty.write_bytes(b""), long.write_bytes(b"x" * (250 * PAGE))
+            for given, why in [
+                (f"{text}@00500004", "00500004 is no address of a page"), (f"{text}@80000000", "80000000 is no address of a page"), (f"{text}@5G", "no FILE@ADDRESS"),
+                (f"{text}", "no FILE@ADDRESS"), ("@00500000", "no FILE@ADDRESS"), (f"{text}@", "no FILE@ADDRESS"), (f"{text}@-1000", "no FILE@ADDRESS"),
+                (f"{text}@123456789", "no FILE@ADDRESS"), (f"{empty}@00500000", "the file is empty"), (f"{text}x@00500000", "no file of this name"),
+                (f"{folder.room}@00500000", "no file of this name"), (f"{long}@7FFFF000", "reaches beyond 7FFFFFFF"),
+                (f"{text}@01000000", "with it one has 5 regions of 4 MiB"), (f"{long}@00500000", "with it one has 259 pages: a process may have 256"),
+            ]:
+                with self.subTest(given):
+                    status, out, err = folder.run("--data", given)
+                    self.assertEqual((2, [], 1), (status, out, len(err)), err)
+                    self.assertIn(why, err[0])
+            self.assertEqual({"text", "empty", "long"}, folder.written())
+
+    def test_two_files_of_one_name_are_not_both_data(self):
+        with self.folder(one=elf(SMALL)) as folder:
+            (folder.room / "more").mkdir()
+            for path, held in [("text", b"one"), ("more/text", b"two")]:
+                (folder.room / path).write_bytes(held)
+            status, _, err = folder.run("--data", f"{folder.room}/text@00500000", "--data", f"{folder.room}/more/text@00501000")
+            self.assertEqual((2, ["elf_to_policy: two files are called text, and their sources would have one name"]), (status, err))
+
+    def test_a_file_comes_in_as_keys_of_64_at_a_time(self):
+        held = bytes(range(256)) + b"end"
+        with self.folder(one=elf(SMALL), two=elf(SMALL)) as folder:
+            text = folder.room / "text"
+            text.write_bytes(held)
+            self.assertEqual((0, []), folder.run("--keys", str(text), "--pace", "1000", "--line", "2,1")[::2])
+            given = (folder.room / "one.input").read_bytes()
+            lines = [it.split() for it in given.decode().splitlines() if not it.startswith("#")]
+            self.assertEqual([(str(1000 * k), "key", "2") for k in range(1, 7)], [tuple(it[:3]) for it in lines])
+            self.assertEqual([held[k:k + 64] for k in range(0, 259, 64)] + [b"\4"], [bytes.fromhex(it[3]) for it in lines])
+            self.assertIsNone(input_refusal(given, ()))
+            text.write_bytes(b"")
+            self.assertEqual(0, folder.run("--keys", str(text))[0])
+            self.assertTrue((folder.room / "one.input").read_text().endswith("\n100000 key 0 04\n"))
+            (folder.room / "one.input").write_text("5 key 0 41\n")
+            self.assertIn("one.input: it is there already", folder.run("--keys", str(text))[2][0])
+
+    def test_keys_that_do_not_fit_are_refused_by_name(self):
+        with self.folder(one=elf(SMALL)) as folder:
+            text = folder.room / "text"
+            for size, pace, why in [(64 * 4095, 1000, None), (64 * 4095 + 1, 1000, "at most 262080 can come in"), (64, 500_000_000, None), (65, 500_000_000, "its end would come at 1500000000")]:
+                text.write_bytes(b"x" * size)
+                status, _, err = folder.run("--keys", str(text), "--pace", str(pace))
+                self.assertEqual((2, 1) if why else (0, 0), (status, len(err)))
+                if why:
+                    self.assertIn(why, err[0])
+                else:
+                    self.assertIsNone(input_refusal((folder.room / "one.input").read_bytes(), ()))
+            self.assertIn("no file of this name", folder.run("--keys", f"{text}x")[2][0])
+            for pace in ("0", "1000000001", "1e3"):
+                self.assertEqual(2, folder.run("--keys", str(text), "--pace", pace)[0])
+
     def test_the_examples_are_rows_by_the_lines_that_are_told(self):
         rows = [it.split(maxsplit=3) for it in (TOP / "crates/rows/data/rows").read_text().splitlines()]
         mine = {words for folder, _, _, words in rows if folder == "examples/c"}
-        for _, programs in POLICIES:
+        for *_, programs in POLICIES:
             name = programs[0]
-            self.assertIn(f"run {name}.toml {name}.input 100000", mine)
+            self.assertIn(f"run {name}.toml {name}.input 1000000000", mine)
             self.assertTrue(all((EXAMPLES / f"{it}-1.s").is_file() for it in programs))
 
     def test_the_commands_of_the_document_are_rows(self):
