@@ -16,6 +16,8 @@ COMMANDS = [  # those that take longest first
     ["tools/test_wrong_bodies.py"],
     ["tools/wrong_bodies.py", "--count"],
     ["tools/test_elf_to_policy.py"],
+    ["tools/test_c_library.py"],
+    ["tools/test_conformance.py"],
     ["tools/test_hostile_cases.py"],
     ["tools/test_reading_cases.py"],
     ["tools/test_grants_cases.py"],
