@@ -1,0 +1,2 @@
+addiu $2,$0,0
+syscall
