@@ -36,8 +36,6 @@ abbrev pub double : ℕ → ℕ
 double n = n + n
 abbrev pub after : ℕ → ℕ
 after n = n + 1
-abbrev pub unused : ℕ
-unused = 1
 """
 ROWS = """\
 use Rattle.std.specs.Prelude.{◌≡◌, refl}
@@ -53,8 +51,7 @@ EDITS = {
     "next.a_constant": ("refused by next next", "const FIRST: u32 = 1;", "const FIRST: u32 = 2;"),
     "next.a_constant_named": ("refused by next next", "const FIRST: u32 = 1;", "const FIRST: u32 = 3;", "function: next", "clause: next"),
     "next.another_clause": ("NOT REFUSED: not by the clause up that it names; refused by next next", "n + FIRST", "n + FIRST + 3", "clause: up"),
-    "next.harmless": (PROVED, "n + FIRST", "FIRST + n"),
-    "next.one_too_many": ("refused by next next", "n + FIRST", "n + FIRST + 1"),
+    "twice.harmless": (PROVED, "sum(n, n)", "sum(n, n) + 0"),
     "order.green_is_red": ("refused by order ensures", "Lamp::Green => 4", "Lamp::Green => 3", "clause: ensures"),
     "order.red_is_green": ("refused by order ensures", "Lamp::Red => 3", "Lamp::Red => 4"),
     "order.red_is_nothing": ("refused by order ensures", "Lamp::Red => 3", "Lamp::Red => 0"),
@@ -62,9 +59,9 @@ EDITS = {
     "sum.stands_for": ("refused by sum ensures, which stands for twice ensures", "} { a + b", "} { a + b + 2", "stands for: twice ensures"),
     "twice.one_too_many": ("refused by twice ensures", "sum(n, n)", "sum(n, n) + 1"),
     "after.the_same": ("refused by the law a_number_is_below_the_next", "after n = n + 1", "after n = n", "law: a_number_is_below_the_next"),
-    "double.another_row": ("NOT REFUSED: the row double_0_is_0 still holds", "double n = n + n", "double n = n + n + n", "row: double_0_is_0"),
-    "double.its_row": ("refused by the row double_2_is_4", "double n = n + n", "double n = n + n + n", "row: double_2_is_4"),
-    "unused.harmless": (PROVED, "unused = 1", "unused = 2"),
+    "double.another_row": ("NOT REFUSED: the row double_0_is_0 still holds; refused is double_2_is_4", "double n = n + n", "double n = n + n + n", "row: double_0_is_0"),
+    "double.its_row": ("refused by the row double_2_is_4; the law a_number_is_below_the_next holds all the same", "double n = n + n", "double n = n + n + n", "row: double_2_is_4", "law: a_number_is_below_the_next"),
+    "double.harmless": (PROVED, "double n = n + n", "double n = n + (n + 0)"),
 }
 BAD = {
     "next.unknown": ("BAD EDIT: it is no code: ", "n + FIRST", "n + missing"),
@@ -92,8 +89,8 @@ class Test(unittest.TestCase):
 
     def ran(self, edits, *words):
         """Runs the command, and returns its status and what it printed."""
-        tool = Path(__file__).with_name("wrong_bodies.py")
-        done = subprocess.run([sys.executable, tool, *words, "--root", self.room(edits)], stdout=subprocess.PIPE, stderr=subprocess.STDOUT, text=True)
+        words = [sys.executable, Path(__file__).with_name("wrong_bodies.py"), *words, "--root", self.room(edits)]
+        done = subprocess.run(words, stdout=subprocess.PIPE, stderr=subprocess.STDOUT, text=True)
         return done.returncode, done.stdout
 
     def lacks(self, edits, implied=""):
@@ -102,12 +99,11 @@ class Test(unittest.TestCase):
 
     def has_verdicts(self, edits, counts, said):
         for name, (verdict, *_) in edits.items():
-            with self.subTest(name):
-                self.assertIn(f"\ntoy/{name}.edit: {verdict}", f"\n{said[1]}")
+            self.assertIn(f"\ntoy/{name}.edit: {verdict}", f"\n{said[1]}")
         self.assertEqual((1, counts), (said[0], said[1].splitlines()[-1]))
 
     def test_each_edit_has_its_verdict(self):
-        self.has_verdicts(EDITS, "10 refused, 5 not refused", self.ran(EDITS))
+        self.has_verdicts(EDITS, "9 refused, 5 not refused", self.ran(EDITS))
 
     def test_an_edit_that_is_no_code_is_told_and_nothing_is_proved(self):
         said = self.ran({**BAD, "twice.well": ("", "sum(n, n)", "sum(n, n) + 2")})
@@ -119,8 +115,7 @@ class Test(unittest.TestCase):
 
     def test_two_edits_of_one_arm_are_not_tried_together(self):
         edits = Repository(self.room({name: it for name, it in EDITS.items() if name.startswith("order.")})).crates["toy"].edits
-        names = [[it.name for it in batch] for batch in batches_of(edits, Edit.clashes)]
-        self.assertEqual([["order.green_is_red.edit", "order.red_is_green.edit"], ["order.red_is_nothing.edit"]], names)
+        self.assertEqual([["order.green_is_red.edit", "order.red_is_green.edit"], ["order.red_is_nothing.edit"]], [[it.name for it in batch] for batch in batches_of(edits, Edit.clashes)])
 
     def test_what_lacks_its_edit_or_has_too_many_is_told(self):
         few = {it: EDITS[it] for it in ("next.a_constant_named", "order.red_is_green")}

@@ -2,9 +2,8 @@
 """Tries the wrong bodies of the crates, crates/NAME/wrong/*.edit: the prover must refuse each of them.
 
 Without names all are tried, and what they have to name is counted; with names those of these crates, and by CRATE/EDIT one edit. First each
-edit is applied and read by the prover's front end; one that is no code is told, and nothing is proved then. docs/gate.md says more.
-
-The last line is 'N refused, M not refused'. The status is 0 where M is 0 and nothing lacks its edit.
+edit is applied and read by the prover's front end; one that is no code is told, and nothing is proved then. docs/gate.md says more. The last
+line is 'N refused, M not refused'. The status is 0 where M is 0 and nothing lacks its edit.
 """
 import argparse
 import os

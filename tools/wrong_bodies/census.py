@@ -43,7 +43,6 @@ def lacks_of(repository, crate):
         if (not body.method or body.method in repository.methods) and key(body) not in tried:
             yield f"{crate.name}: no edit of {'the law ' if body.is_law else ''}{body.function}"
     named = implied | {pair for edit in crate.edits for _, pairs in edit.clauses for pair in pairs}
-    # (of a trait's method that of one type)
     words = [f"::{it}" for it in EACH_CLAUSE.get(crate.name, ())]
     fits = lambda name: any(f"::{name}".endswith(it) or it.endswith("*") and it[:-1] in f"::{name}" for it in words)
     each = {key(it): it for it in public.values() if fits(it.function) or fits(it.method)}

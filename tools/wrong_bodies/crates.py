@@ -18,11 +18,8 @@ PUBLIC_USE = re.compile(r"\bpub\s+use\s+([^;]*);")
 PAIR = re.compile(r"(?m)^old: (.+)\nnew:(?: (.*))?$")
 OTHER = re.compile(r"(?m)^(?!(?:file|old|new|row|law|clause|stands for|function|tried):|$).*")
 MODULE = re.compile(r"(?P<test>#\[cfg\(test\)\]\s*)?(?P<public>\bpub\s+)?\bmod\s+(?P<name>\w+)\s*;")
-
-
-def modules_of(file):
-    """Returns the modules that lead to a file of src/, outermost first."""
-    return [it for it in re.sub(r"(/mod)?\.rt\Z", "", file).split("/")[1:] if it not in ("lib", "main")]
+# The modules that lead to a file of src/, outermost first.
+modules_of = lambda file: [it for it in re.sub(r"(/mod)?\.rt\Z", "", file).split("/")[1:] if it not in ("lib", "main")]  # noqa: E731
 
 
 def closed(code):
@@ -54,8 +51,8 @@ class Crate:
         self.repository, self.name, self.uses, self.folder, self.edits = repository, name, uses, Path(repository.root, "crates", name), []
         read = lambda pattern: {it.relative_to(self.folder).as_posix(): it.read_text("utf-8") for it in sorted(self.folder.glob(pattern))}
         texts, specs, proofs = read("src/**/*.rt"), read("specs/**/*.antt"), read("proofs/**/*.antt")
-        self.logic, self.is_program, self.methods = "\n".join([*specs.values(), *proofs.values()]), "src/main.rt" in texts, {}
-        self.size = len(self.logic) + sum(map(len, texts.values()))
+        self.logic, self.is_program, self.methods = {**specs, **proofs}, "src/main.rt" in texts, {}
+        self.size = sum(map(len, [*self.logic.values(), *texts.values()]))
         codes = {path: NO_CODE.sub(lambda it: re.sub(r"[^\n]", " ", it[0]), text) for path, text in texts.items()}
         modules = [("/".join([*modules_of(path), it["name"]]), it) for path, code in codes.items() for it in MODULE.finditer(code)]
         tests = tuple(f"src/{name}{end}" for name, it in modules if it["test"] for end in (".rt", "/"))
@@ -90,10 +87,11 @@ class Crate:
                 is_open = all("/".join(modules[: n + 1]) in self.open_modules for n in range(len(modules)))
                 is_public = bool(head["public"] or trait) and (self.is_program or of_type in self.handed_out or is_open)
                 is_law = is_public and not trait and not code[at + 1 : end - 1].strip()
-                # (the name as a check prints it, without the crate's; `method` of a trait that it implements; no clauses where the trait has them)
+                # (the name as a check prints it, without the crate's; `method` of a trait that it implements; no clauses where the trait has them; plain where its proof's place is its name)
                 yield Part(
                     function="::".join([*names, head["name"]]), start=at, end=end, arms=[*arms_in(code, ends, at, end)], clauses=clauses, is_law=is_law,
                     is_public=is_public, method=trait and f"{trait}::{head['name']}", is_default=is_declared,
+                    is_plain=not is_law and not is_declared and (not trait or of_type in self.homes) and not Path(self.folder, "proofs", *names, f"+{head['name']}").is_dir(),
                 )  # fmt: skip
 
     def blocks(self, path, code, ends):
@@ -124,11 +122,10 @@ class Edit:
         self.rows, self.laws, self.stands = sum(lines("row"), []), sum(lines("law"), []), lines("stands for")
         # (by function the arms that it changes, or none where it may change all; the first has to be refused)
         self.functions = {name: frozenset(arms) for name, *arms in lines("function")}
-        self.names_arms = any(self.functions.values())
         files = sorted({it[0] for it in lines("file")})
         self.file, self.is_turned = "".join(files[:1]), "".join(files[:1]).startswith("specs/")
         # (the first function, those of which a check is asked, and each clause that it names, with the functions, and methods of a trait, that it may be of)
-        self.function, self.asked, self.clauses = "", [], []
+        self.function, self.asked, self.clauses, self.modules = "", [], [], []
         self.why = self.apply(files) or self.find(lines("clause"))
         self.verdict = "BAD EDIT" if self.why else ""
 
@@ -159,7 +156,10 @@ class Edit:
         self.function = next(iter(self.functions), "")
         # (a check cannot be asked of a trait's own body of a method, so the whole crate is checked then)
         self.asked = [] if any(it.function in self.functions and it.is_default for it in crate.by_name.values()) else [*self.functions]
-        lost = [f"row {it}" for it in self.rows if not re.search(rf"(?m)^(?:\w+ )*{re.escape(it)} : ", crate.logic)]
+        self.asked += [body.function for law in self.laws for body in crate.named(law)] + ["rows_of_edits::read"] * bool(self.rows)
+        at = {it: [path for path, text in crate.logic.items() if re.search(rf"(?m)^(?:\w+ )*{re.escape(it)} : ", text)] for it in self.rows}
+        self.modules = sorted({f"Rattle.{crate.name}.{path[:-5].replace('/', '.')}" for paths in at.values() for path in paths})
+        lost = [f"row {it}" for it, paths in at.items() if not paths]
         lost += [f"function {it}" for it in self.functions if it not in crate.by_name]
         lost += [f"law {it}" for it in self.laws if not any(body.is_law for body in crate.named(it))]
         lost += [f"public clause {' '.join(it)}" for it in self.stands if not crate.repository.has_public(*it)]

@@ -9,9 +9,8 @@ from typing import NamedTuple
 from .crates import Edit
 
 KIT = Path(shutil.which("rt") or "rt").resolve().parent.parent
-# A function's line names the goals that no search proved and no answer is written for.
+# A function's line names the goals that no search proved and no answer is written for; an error at an answer names its goal first.
 NOT_SEARCHED = re.compile(r"`search` did not prove ([^;]*)")
-# An error at an answer names its goal first.
 IN_PROOF = re.compile(r"(?:\./)?proofs/(\S+)/(Answers|Proof|Invariants)\.antt:\d+:\d+: error: (?:`([^`]*)`: )?(.*)")
 # What another function's failure, or a name that the edit took away, makes an error of a proof file.
 NOT_OWN = re.compile(r"is not in scope|has no |is no name|not admitted|not proved")
@@ -19,10 +18,11 @@ NOT_OWN = re.compile(r"is not in scope|has no |is no name|not admitted|not prove
 IN_SOURCE = re.compile(r"(?:\./)?(?:src|specs)/\S+?:\d+:\d+: error(?:\[[\w-]+\])?: (?:(`[^`]*`): )?(.*)")
 UNREADABLE = re.compile(r"is not in scope|has no field|is no name|operand is missing|expected the end|cannot continue")
 # Goals of a loop's invariant, which stands in proofs/; the clause that a goal is of.
-LOOP_GOAL = re.compile(r"-(?:init|preserved|smaller)(?:-|\Z)")
-CLAUSE_GOAL = re.compile(r"-clause-(\w+)")
+LOOP_GOAL, CLAUSE_GOAL = re.compile(r"-(?:init|preserved|smaller)(?:-|\Z)"), re.compile(r"-clause-(\w+)")
 REFUSED = re.compile(r"(?:\./)?(?:specs|proofs)/(?P<file>\S+)\.antt:\d+:\d+: error: `(?P<name>[^`]*)`: (?P<why>.*)")
 NOT_PROVED = re.compile(r"fn \w+::(\S+): (?:not proved|no proof)")
+ROWS = "ghost use Rattle.std.specs.Prelude.{◌≡◌};\nfn read() -> u8 ensures { result ≡ 0 } { 0 }\n"  # a function that has rows read
+unquoted = lambda words: re.sub(r"`[^`]*`", "", words)  # noqa: E731
 
 
 class Said(NamedTuple):
@@ -37,13 +37,13 @@ class Said(NamedTuple):
         found = [it for it in map(IN_SOURCE.match, self.lines) if it and (not it[1] or UNREADABLE.search(unquoted(it[2])))]
         return self.status in (0, 1) and not found and self.lines[-1].startswith(("only=", "logic="))
 
+    def is_proved(self):
+        """Returns whether nothing was refused but what a copy has in place of proofs."""
+        return self.status == 0 or not self.goals and all("`missing`" in it for it in self.lines if ": error" in it)
+
     def complaint(self):
         """Returns the first error that it printed."""
         return next((it for it in self.lines if ": error" in it or it.startswith("error")), self.lines[-1])
-
-
-def unquoted(words):
-    return re.sub(r"`[^`]*`", "", words)
 
 
 def goals_in(lines, crate):
@@ -61,39 +61,49 @@ def goals_in(lines, crate):
 
 
 class Prover:
-    """Checks a copy of one crate in a room, over what its own checks kept in out/ and what those of this prover keep."""
+    """Checks a copy of one crate in a room, over what the checks of this prover keep."""
 
     def __init__(self, crate, room):
         self.crate, self.room, self.seconds = crate, room, 0.0
-        for part in ("src", "specs", "proofs", "out/incremental"):
-            if Path(crate.folder, part).is_dir():
-                shutil.copytree(Path(crate.folder, part), Path(room, Path(part).name))
         folder = lambda it: f"{crate.repository.root}/crates/{it}/out/rlib" if it in crate.repository.crates else f"{KIT}/rlibs"
-        self.words = ["--crate-name", crate.name, "src/main.rt" if crate.is_program else "src/lib.rt"]
+        self.root = "src/main.rt" if crate.is_program else "src/lib.rt"
+        self.words = ["--crate-name", crate.name, self.root, "--incremental", f"{room}/incremental", "--jobs", "1"]
         self.words += [word for it in ("std", *crate.uses) for word in ("--extern", f"{it}={folder(it)}/{it}.rlib")]
         below = sorted({folder("std"), *(folder(it.name) for it in crate.repository.below(crate))})
         self.words += [word for it in below for word in ("-L", f"dependency={it}")]
         self.words += ["--antt-project", f"{KIT}/rattle/logic/antt-project.json", "--logic-built", f"{KIT}/logic_built"]
-        self.words += ["--incremental", f"{room}/incremental", "--jobs", "1"]
 
     def check(self, edits, functions):
-        """Checks a copy of the crate with these edits: the functions alone, or all where none is named."""
-        return self.ran(edits, "check", *self.words, *(word for it in sorted(set(functions)) for word in ("--only", it)))
+        """Checks a copy of the crate with these edits: these functions alone, or all where there is none. Where code is known to be of some functions, others have a proof
+        in the copy that is refused at once. A function of the copy's own has the rows read that turned definitions name."""
+        files, rows = {}, [f"use {it} as rows{at}\n" for edit in edits for at, it in enumerate(edit.modules)]
+        broken = {name for it in edits for name in it.functions}
+        for body in self.crate.by_name.values() if broken else ():
+            if body.is_plain and body.function not in broken:
+                place, name = f"proofs/{body.function.replace('::', '/')}", body.function.rpartition("::")[2]
+                files.update({f"{place}/{it}.antt": "" for it in ("Answers", "Invariants")})
+                files[f"{place}/Proof.antt"] = f"pub {name}_spec : missing\n{name}_spec = missing\n"
+        if rows:
+            files = {self.root: self.crate.texts[self.root] + "mod rows_of_edits;\n", "src/rows_of_edits.rt": ROWS}
+            files["proofs/rows_of_edits/read/Answers.antt"] = "".join(rows)
+        return self.ran(edits, files, "check", *self.words, *(word for it in sorted(set(functions)) for word in ("--only", it)))
 
-    def ran(self, edits, *words):
-        """Runs rattle in the copy of the crate with these edits."""
+    def ran(self, edits, files, *words):
+        """Runs rattle in a copy of the crate with files of its own, of which those without text are left out, and with these edits, the last of a text first."""
+        for part in ("src", "specs", "proofs"):
+            shutil.rmtree(Path(self.room, part), ignore_errors=True)
+            shutil.copytree(Path(self.crate.folder, part), Path(self.room, part)) if Path(self.crate.folder, part).is_dir() else None
+        for it, text in files.items():
+            Path(self.room, it).parent.mkdir(parents=True, exist_ok=True)
+            Path(self.room, it).write_text(text, "utf-8") if text else Path(self.room, it).unlink(missing_ok=True)
         for it in sorted(edits, key=lambda it: -it.start):
-            # (those of one file from its end, so that each finds its text where it was)
             text = Path(self.room, it.file).read_text("utf-8")
             Path(self.room, it.file).write_text(text[: it.start] + it.new + text[it.end :], "utf-8")
-        words = [f"{KIT}/bin/rattle", *words]
-        with subprocess.Popen(words, cwd=self.room, stdin=subprocess.DEVNULL, stdout=subprocess.PIPE, stderr=subprocess.STDOUT) as ran:
+        with subprocess.Popen([f"{KIT}/bin/rattle", *words], cwd=self.room, stdin=subprocess.DEVNULL, stdout=subprocess.PIPE, stderr=subprocess.STDOUT) as ran:
             lines = ran.stdout.read().decode("utf-8", "replace").rstrip("\n").split("\n")
             _, status, used = os.wait4(ran.pid, 0)
             ran.returncode = os.waitstatus_to_exitcode(status)
         self.seconds += used.ru_utime + used.ru_stime
-        for it in edits:
-            Path(self.room, it.file).write_text(self.crate.texts[it.file], "utf-8")
         return Said(ran.returncode, lines, goals_in(lines, self.crate.name))
 
 
@@ -131,7 +141,7 @@ def read_edits(prover, edits):
     """Has the prover's front end read edits, as many together as there may be, and marks those that are no code over today's text. Of a turned
     definition it is told here whether it parses, and when it is tried whether its names are known."""
     for it in (it for it in edits if it.is_turned):
-        said = prover.ran([it], "fmt", "--write", it.file)
+        said = prover.ran([it], {}, "fmt", "--write", it.file)
         it.verdict, it.why = ("BAD EDIT", f"it is no definition: {said.complaint()}") if said.status else ("", "")
     left = batches_of([it for it in edits if not it.is_turned], Edit.overlaps)
     while left:
@@ -146,9 +156,9 @@ def read_edits(prover, edits):
 def try_edits(prover, edits):
     """Tries edits of a crate, those of code in batches. A caller of a broken function says that a goal is not proved only of a goal of its own, so a
     batch refuses an edit by goals of its own function, or arm, where no function without an edit has one; else it is halved. An edit that no batch
-    refuses is tried alone by its functions, one that can be asked of none by the whole crate, and so is a turned definition."""
-    is_alone = lambda it: it.is_turned or not it.asked
-    left = [*([it] for it in edits if is_alone(it)), *batches_of([it for it in edits if not is_alone(it)], Edit.clashes)]
+    refuses is tried alone by its functions, a turned definition by the laws and rows that it names, and one that can be asked of none by the whole crate."""
+    together = [it for it in edits if it.asked and not it.is_turned]
+    left = [*([it] for it in edits if it not in together), *batches_of(together, Edit.clashes)]
     while left:
         batch = left.pop()
         edit, functions = batch[0], [name for it in batch for name in it.asked]
@@ -161,7 +171,7 @@ def try_edits(prover, edits):
             left += [[it] for it in batch if it.verdict != "refused"]
         elif not said.could_read():
             edit.verdict, edit.why = "BAD EDIT" if edit.is_turned else "NOT TRIED", f"the prover cannot read it, or could not tell: {said.complaint()}"
-        elif said.status == 0:
+        elif said.is_proved():
             edit.verdict, edit.why = "NOT REFUSED", "the crate is still proved with this edit"
         else:
             judge_turned(edit, said) if edit.is_turned else judge(edit, [*goals_of(None, said, batch)])
@@ -173,7 +183,7 @@ def goals_of(edit, said, batch):
     for function in edit.functions if edit else said.goals:
         goals, beside = said.goals.get(function, []), [it for it in batch if edit and it is not edit and function in it.functions]
         is_told = all(any(it.owns(goal, function) for it in (edit, *beside)) for goal in goals) if beside else True
-        yield from ((function, it) for it in goals if not beside or edit.owns(it, function) and (is_told or not edit.names_arms))
+        yield from ((function, it) for it in goals if not beside or edit.owns(it, function) and (is_told or not any(edit.functions.values())))
 
 
 def clauses_among(crate, goals):
@@ -199,18 +209,17 @@ def judge(edit, goals):
 
 def judge_turned(edit, said):
     """Gives a turned definition its verdict: each row that it names has to be refused, or else each law, or some row, law or public clause."""
-    crate = edit.crate
-    errors = [it for it in map(REFUSED.match, said.lines) if it and not NOT_OWN.search(unquoted(it["why"]))]
-    rows = [it["name"] for it in errors if it["file"].endswith("Rows")]
+    crate, errors = edit.crate, {it["name"]: it["file"] for it in map(REFUSED.match, said.lines) if it and not NOT_OWN.search(unquoted(it["why"]))}
+    rows = [name for name, file in errors.items() if file.endswith("Rows")]
     laws = [it[1] for it in map(NOT_PROVED.match, said.lines) if it and it[1] in crate.by_name and crate.by_name[it[1]].is_law]
     clauses = [" ".join(it) for it in clauses_among(crate, goals_of(None, said, []))[1] if it[0] not in laws]
-    left = [f"row {it}" for it in edit.rows if it not in rows]
-    left += [f"law {it}" for it in edit.laws if not edit.rows and not any(body.function in laws for body in crate.named(it))]
+    held = [f"the law {it}" for it in edit.laws if not {body.function for body in crate.named(it)} & {*laws}]
+    left = [f"the row {it}" for it in edit.rows if it not in rows] if edit.rows else held
     told = [*(f"the row {it}" for it in edit.rows or rows[:1]), *(f"the law {it}" for it in laws[:3]), *clauses[:1]]
     edit.laws += laws
     if left:
-        edit.verdict, edit.why = "NOT REFUSED", f"the {left[0]} still holds; refused is {', '.join([*rows, *laws, *(it['name'] for it in errors)][:3])}"
+        edit.verdict, edit.why = "NOT REFUSED", f"{left[0]} still holds; refused is {', '.join([*rows, *laws, *errors][:3])}"
     elif told:
-        edit.verdict, edit.why = "refused", ", ".join(told)
+        edit.verdict, edit.why = "refused", ", ".join(told) + "".join(f"; {it} holds all the same" for it in held)
     else:
         edit.verdict, edit.why = "NOT REFUSED", f"by no row, law or public clause, but by {said.complaint()}"
