@@ -1,3 +1,2 @@
 pub mod Apart
-pub mod Columns
 pub mod Sizes

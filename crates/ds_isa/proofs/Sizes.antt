@@ -6,7 +6,7 @@ use Rattle.ds_isa.specs.declared.instr.Instr.{Instr}
 use Rattle.ds_isa.specs.declared.instr.Instr.TheVariants as instr
 use Rattle.ds_isa.specs.Registers.{Registers, read}
 use Rattle.ds_isa.specs.declared.uses.Shape.TheVariants.{Straight}
-use Rattle.ds_isa.specs.Encoding.{uses}
+use Rattle.ds_isa.specs.Uses.{uses}
 use Rattle.ds_isa.specs.Meaning.{Faults, meaning, overflow, written_or_trap}
 use Rattle.ds_isa.specs.Shapes.{effect_shape}
 use Rattle.ds_isa.specs.Access.{access_size, size_asked}

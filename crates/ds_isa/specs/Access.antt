@@ -5,7 +5,7 @@ use Rattle.ds_isa.specs.declared.instr.Size.TheVariants.{Byte, Half, Word, Part}
 use Rattle.ds_isa.specs.declared.instr.Kind.{Kind}
 use Rattle.ds_isa.specs.declared.instr.Kind.TheVariants.{Fetch, Load, Store}
 use Rattle.ds_isa.specs.declared.instr.Instr.{Instr}
-use Rattle.ds_isa.specs.Encoding.{uses}
+use Rattle.ds_isa.specs.Uses.{uses}
 use Rattle.ds_isa.specs.Shapes.{size_of}
 use Rattle.ds_isa.specs.Meaning.{Effect, Loads, Stores}
 

@@ -1,6 +1,6 @@
 -- The fields of an instruction's word, what a row fixes in them, and what stands in their places in
 -- a source text.
-use Rattle.std.specs.Prelude.{ℕ, ◌+◌, ◌*◌, ◌%◌, ◌^◌, ◌&&◌, ◌==◌, if◌then◌else◌, List, [], ◌∷◌, map}
+use Rattle.std.specs.Prelude.{ℕ, ◌+◌, ◌*◌, ◌%◌, ◌^◌, List, [], ◌∷◌, map}
 use Rattle.ds_word.specs.Word.{bits}
 
 -- a field of a word: its lowest bit, and how many bits
@@ -113,9 +113,3 @@ abbrev pub filled : List Field → List ℕ → ℕ
 filled [] values = 0
 filled (f ∷ more) [] = 0
 filled (f ∷ more) (v ∷ values) = v % 2 ^ f.width * 2 ^ f.lo + filled more values
-
--- the value in a field, of fields that are filled with values; 0 in any other
-abbrev pub value_in : List Field → List ℕ → Field → ℕ
-value_in [] values f = 0
-value_in (g ∷ more) [] f = 0
-value_in (g ∷ more) (v ∷ values) f = if (g.lo == f.lo) && (g.width == f.width) then v else value_in more values f

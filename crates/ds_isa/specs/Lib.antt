@@ -1,5 +1,6 @@
 pub mod Fields
 pub mod Instruction
+pub mod Uses
 pub mod Encoding
 pub mod Registers
 pub mod Meaning

@@ -2,7 +2,8 @@
 use Rattle.std.specs.Prelude.{ℕ, ◌≡◌, [], ◌∷◌, Option, Some, None, slice_set, codes, map, refl}
 use Rattle.ds_isa.specs.declared.instr.Instr.TheVariants as instr
 use Rattle.ds_isa.specs.declared.instr.Size.TheVariants as size
-use Rattle.ds_isa.specs.Instruction.{instruction_of, uses_of, storing, loading, branching, rows}
+use Rattle.ds_isa.specs.Instruction.{instruction_of, rows}
+use Rattle.ds_isa.specs.Uses.{storing, loading, branching, uses}
 use Rattle.ds_isa.specs.Encoding.{encoded}
 use Rattle.ds_isa.specs.Registers.{Registers, zero_registers, read, settled, written, loaded}
 use Rattle.ds_isa.specs.Meaning.{Effect, meaning, Goes, Branches, Loads, Stores, Faults, Calls, Privileged}
@@ -64,15 +65,15 @@ pub word_of_a_call : encoded (instr.Syscall 0x12345) ≡ 0x0048_D14C
 word_of_a_call = refl
 
 -- sw $31,-32768($29) reads both and writes none
-pub uses_of_a_store : uses_of 0xAFBF_8000 ≡ storing size.Word (Some 29) (Some 31)
+pub uses_of_a_store : uses (instruction_of 0xAFBF_8000) ≡ storing size.Word (Some 29) (Some 31)
 uses_of_a_store = refl
 
 -- jalr $5,$6 links in register 5
-pub uses_of_a_call : uses_of 0x00C0_2809 ≡ branching (Some 6) None (Some 5)
+pub uses_of_a_call : uses (instruction_of 0x00C0_2809) ≡ branching (Some 6) None (Some 5)
 uses_of_a_call = refl
 
 -- lwl $2,4($3) merges into register 2, and so reads it
-pub uses_of_a_part : uses_of 0x8862_0004 ≡ loading size.Part (Some 3) (Some 2) (Some 2)
+pub uses_of_a_part : uses (instruction_of 0x8862_0004) ≡ loading size.Part (Some 3) (Some 2) (Some 2)
 uses_of_a_part = refl
 
 -- mfc2 $4,$5, a word of coprocessor 2

@@ -2,7 +2,7 @@
 ghost use Rattle.std.specs.Prelude.{◌≡◌, ◌≢◌, ℕ};
 ghost use Rattle.ds_isa.specs.declared.instr.Instr.{Instr};
 ghost use Rattle.ds_isa.specs.Access.{is_store, is_aligned, access_size, size_asked};
-ghost use Rattle.ds_isa.specs.Encoding.{uses};
+ghost use Rattle.ds_isa.specs.Uses.{uses};
 ghost use Rattle.ds_isa.specs.Meaning.{Faults, meaning, overflow};
 ghost use Rattle.ds_isa.specs.Registers.{Registers};
 ghost use Rattle.ds_isa.specs.Shapes.{effect_shape};

@@ -1,8 +1,8 @@
 //! From a word to its instruction.
 ghost use Rattle.std.specs.Prelude.{◌≡◌, ◌≤◌, length};
 ghost use Rattle.ds_word.specs.Word.{bits};
-ghost use Rattle.ds_isa.specs.Instruction.{instruction_of, rows_of, uses_of};
-ghost use Rattle.ds_isa.specs.Encoding.{encoded, uses};
+ghost use Rattle.ds_isa.specs.Instruction.{instruction_of, rows_of};
+ghost use Rattle.ds_isa.specs.Encoding.{encoded};
 
 use crate::instr::Instr;
 use crate::instruction_table;
@@ -203,14 +203,11 @@ fn by_operation(word: u32) -> Instr
 }
 
 /// The instruction that a word is: that of the row that it fits, or else `Cop` where its operation is
-/// one of a coprocessor, or else `Reserved`. Its word is the one given, and the registers that it
-/// uses are those of the row.
+/// one of a coprocessor, or else `Reserved`. Its word is the one given.
 #[inline(always)]
-#[tactic(auto, using(crate::proofs::Columns::uses_of_instruction))]
 pub fn decode(word: u32) -> Instr
     ensures value { result ≡ instruction_of word }
     ensures back { encoded result ≡ word }
-    ensures registers { uses result ≡ uses_of word }
 {
     by_operation(word)
 }

@@ -3,7 +3,7 @@
 //! A register is the number in its field: register 0 counts as one that is read or written, though
 //! it reads 0 and keeps 0.
 ghost use Rattle.std.specs.Prelude.{◌≡◌};
-ghost use Rattle.ds_isa.specs.Encoding.{uses};
+ghost use Rattle.ds_isa.specs.Uses.{uses};
 ghost use Rattle.ds_isa.specs.Shapes.{is_branch};
 
 use crate::instr::{Instr, Size};

@@ -10,7 +10,7 @@ use Rattle.ds_word.specs.Product.{halves, product_signed, quotient_signed, quoti
 use Rattle.ds_isa.specs.declared.instr.Instr.{Instr}
 use Rattle.ds_isa.specs.declared.instr.Instr.TheVariants as instr
 use Rattle.ds_isa.specs.declared.instr.Late.{Late}
-use Rattle.ds_isa.specs.Encoding.{uses}
+use Rattle.ds_isa.specs.Uses.{uses}
 use Rattle.ds_isa.specs.Registers.{Registers, late_or, read, settled, written, loaded}
 use Rattle.ds_isa.specs.Meaning.{meaning, written_or_trap, with_hi_lo, branch_target, newest}
 use Rattle.ds_quiet.specs.Alike.{is_kernel_register, is_late, is_quiet_operand, is_quiet_merge, merges, is_quiet, AreLateAlike, AreAlike, DoAlike}

@@ -10,7 +10,7 @@ use Rattle.ds_isa.specs.declared.instr.Late.{Late}
 use Rattle.ds_isa.specs.declared.instr.Size.TheVariants.{Word}
 use Rattle.ds_isa.specs.Fields as fields
 use Rattle.ds_isa.specs.Fields.{in_word}
-use Rattle.ds_isa.specs.Instruction.{Row, rows, jalr, fits, by_rows, of_no_row, is_coprocessor, instruction_of}
+use Rattle.ds_isa.specs.Instruction.{Row, rows, fits, by_rows, of_no_row, is_coprocessor, instruction_of}
 use Rattle.ds_isa.specs.Registers.{Registers, late_or, read, settled, written}
 use Rattle.ds_isa.specs.Meaning.{Effect, Goes, Branches, Loads, Stores, Faults, Calls, Privileged, meaning, written_or_trap, behind_slot, branch_target, jump_target}
 use Rattle.ds_isa.specs.declared.instr.Kind.{Kind}
@@ -133,15 +133,15 @@ plain : {A : Type 0} → A → Unit {0}
 plain fits = tt
 
 -- the row of jalr, and those of bltzal and bgezal
-unlinked : (w : ℕ) → fits jalr w ≡ true → IsApart (jalr.instruction (in_word w))
-unlinked w f = fields_apart (w / 2 ^ 11) (w / 2 ^ 21) (not_reserved _ _ f)
+unlinked : (fixed : Bool) (w : ℕ) → (fixed && not (in_word w fields.rd == in_word w fields.rs)) ≡ true → (in_word w fields.rd % 32 == in_word w fields.rs % 32) ≡ false
+unlinked fixed w f = fields_apart (w / 2 ^ 11) (w / 2 ^ 21) (not_reserved fixed _ f)
 
 unlinked_31 : (fixed : Bool) (w : ℕ) → (fixed && not (in_word w fields.rs == 31)) ≡ true → (31 == in_word w fields.rs % 32) ≡ false
 unlinked_31 fixed w f = other_than_31 (w / 2 ^ 21) (not_reserved fixed _ f)
 
 rows_apart : (w : ℕ) → EachApart rows w
 rows_apart w =
-    plain also plain also plain also plain also plain also plain also plain also unlinked w also
+    plain also plain also plain also plain also plain also plain also plain also unlinked _ w also
     plain also plain also plain also plain also plain also plain also plain also plain also
     plain also plain also plain also plain also plain also plain also plain also plain also
     plain also plain also plain also plain also plain also plain also unlinked_31 _ w also unlinked_31 _ w also
