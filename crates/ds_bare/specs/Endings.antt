@@ -1,5 +1,5 @@
 -- When a run of the bare machine ends, and why.
-use Rattle.std.specs.Prelude.{ℕ, zero, suc, ◌*◌, Bool, true, false, ◌&&◌, not, ◌==◌, if◌then◌else◌, List, Option, Some, None, Result, Ok, Err}
+use Rattle.std.specs.Prelude.{ℕ, zero, suc, ◌+◌, ◌*◌, Bool, true, false, ◌&&◌, not, ◌==◌, if◌then◌else◌, List, Option, Some, None, Result, Ok, Err}
 use Rattle.ds_word.specs.Bytes.{word_at}
 use Rattle.ds_isa.specs.declared.instr.Size.TheVariants.{Word}
 use Rattle.ds_isa.specs.declared.instr.Kind.TheVariants.{Fetch}
@@ -29,10 +29,10 @@ word_at_pc c b = word_in b (reached c Fetch Word c.pc)
 abbrev pub is_at : CoreState → ℕ → Bool
 is_at c addr = (c.pc == addr) && not (is_user c.system)
 
--- whether the first so many words of memory are 0
-unfoldable pub are_zero : List ℕ → ℕ → Bool
-are_zero memory zero = true
-are_zero memory (suc n) = are_zero memory n && (word_at memory (4 * n) == 0)
+-- whether so many words of memory from a place on are 0
+unfoldable pub are_zero : List ℕ → ℕ → ℕ → Bool
+are_zero memory place zero = true
+are_zero memory place (suc n) = are_zero memory place n && (word_at memory (place + 4 * n) == 0)
 
 -- `break 1`
 abbrev pub finish : ℕ
@@ -49,15 +49,12 @@ is_breakpoint Retired = false
 is_breakpoint Branched = false
 is_breakpoint (Raised code) = number_of code == 9
 
--- what an exception ends, by its event and the instruction's word
-abbrev pub vector_ending : Event → Option ℕ → Ending
-vector_ending event w = if is_breakpoint event && is_finish w then Finished else AtGeneralVector
-
--- why the run ends after a step, if it does: by the instruction's word, the step's event, and what it left
+-- why the run ends after a step, if it does: the program said `break 1`, or the processor has come to a vector from which on 32 words are 0
 unfoldable pub ending_by : Option ℕ → Event → CoreState → BusState → Option Ending
 ending_by w event c b =
-    if is_at c 0x80000080 then Some (vector_ending event w)
-    else if is_at c 0x80000000 && are_zero b.memory 32 then Some NoHandler
+    if is_breakpoint event && is_finish w then Some Finished
+    else if is_at c 0x80000080 && are_zero b.memory 0x80 32 then Some AtGeneralVector
+    else if is_at c 0x80000000 && are_zero b.memory 0 32 then Some NoHandler
     else None
 
 -- the same for a machine's next step

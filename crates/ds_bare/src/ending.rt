@@ -3,7 +3,7 @@ ghost use Rattle.std.specs.Prelude.{◌≡◌, ◌<◌, ◌≤◌, true};
 ghost use Rattle.ds_amap.specs.declared.map.Fault.{Fault};
 ghost use Rattle.ds_core.specs.Access.{mode_of};
 ghost use Rattle.ds_core.specs.Core.{CoreState, Step};
-ghost use Rattle.ds_bare.specs.Endings.{are_zero, ending_by, is_at, is_breakpoint, is_finish, vector_ending, word_at_pc, word_in};
+ghost use Rattle.ds_bare.specs.Endings.{are_zero, ending_by, is_at, is_breakpoint, is_finish, word_at_pc, word_in};
 
 use ds_amap::{Access, Mode, Physical, translate};
 use ds_core::{Core, Event};
@@ -22,17 +22,23 @@ pub enum Ending {
     Counted,
     /// The program said `break 1`.
     Finished,
-    /// An exception came to the general vector, 80000080.
+    /// The processor came to the general vector, 80000080, and 32 words from there on are 0.
     AtGeneralVector,
-    /// A miss came to the refill vector, 80000000, and 32 words from there on are 0.
+    /// It came to the refill vector, 80000000, and 32 words from there on are 0.
     NoHandler,
 }
 
 /// `break 1`.
 const FINISH: u32 = 0x4d;
 
-/// How many words a handler at the refill vector may have.
+/// How many words from a vector on are looked at: from the refill vector on, all before the other.
 const HANDLER_WORDS: u32 = 32;
+
+/// The physical address of the refill vector.
+const REFILL_PLACE: u32 = 0;
+
+/// The physical address of the general vector.
+const GENERAL_PLACE: u32 = 0x80;
 
 /// The mode of the processor.
 #[inline(always)]
@@ -87,13 +93,14 @@ fn is_at(core: &Processor, address: u32) -> bool
     core.pc == address && !core.cp0.user()
 }
 
-/// Whether the words at the refill vector are all 0.
+/// Whether the words from the place of a vector on are all 0.
 #[tactic(auto, unfolding(crate::specs::Endings::are_zero))]
-fn has_no_handler(bus: &Bus) -> bool
-    ensures { result ≡ are_zero bus.now.memory 32 }
+fn are_zero(bus: &Bus, place: u32) -> bool
+    requires { place ≤ 128 }
+    ensures { result ≡ are_zero bus.now.memory place 32 }
 {
     for word in 0..HANDLER_WORDS {
-        if bus.word(4 * word) != 0 {
+        if bus.word(place + 4 * word) != 0 {
             return false;
         }
     }
@@ -118,17 +125,6 @@ fn is_finish(word: Option<u32>) -> bool
     }
 }
 
-/// What an exception ends, by its event and the instruction's word.
-fn vector_ending(event: Event, word: Option<u32>) -> Ending
-    ensures { result ≡ vector_ending event word }
-{
-    if is_breakpoint(event) && is_finish(word) {
-        Ending::Finished
-    } else {
-        Ending::AtGeneralVector
-    }
-}
-
 /// Why the run ends after a step of the instruction with this word, if it does.
 #[inline(always)]
 #[tactic(auto, unfolding(crate::specs::Endings::ending_by))]
@@ -140,10 +136,13 @@ pub(crate) fn ending_by(
 ) -> Option<Ending>
     ensures { result ≡ ending_by word event core.now bus.now }
 {
-    if is_at(core, GENERAL_VECTOR) {
-        return Some(vector_ending(event, word));
+    if is_breakpoint(event) && is_finish(word) {
+        return Some(Ending::Finished);
     }
-    if is_at(core, REFILL_VECTOR) && has_no_handler(bus) {
+    if is_at(core, GENERAL_VECTOR) && are_zero(bus, GENERAL_PLACE) {
+        return Some(Ending::AtGeneralVector);
+    }
+    if is_at(core, REFILL_VECTOR) && are_zero(bus, REFILL_PLACE) {
         return Some(Ending::NoHandler);
     }
     None
