@@ -1,0 +1,166 @@
+#!/usr/bin/env python3
+"""Writes the drawn programs in crates/rows/data/bare/, each with the text of tools/bare_model.py.
+
+A program has the nine words at 80000000, over a page table of its own with pages of each kind, and a handler at 80000080 that counts, takes what
+the devices ask with, and goes on after whatever raised the exception. Then come drawn instructions in mapped pages, in user mode or in
+kernel mode: sums, accesses of memory and devices by all segments, calls, branches, and those of the coprocessor. tools/test_bare_cases.py
+tests that the files are as this script writes them, and that each exception is met.
+"""
+import random
+import sys
+from pathlib import Path
+
+sys.dont_write_bytecode = True
+
+from bare_model import told  # noqa: E402
+
+FOLDER = Path(__file__).resolve().parent.parent / "crates" / "rows" / "data" / "bare"
+CASES, MOST, START = 16, 500, 40
+WORDS = f"bare one.s {MOST} --random {START} --keys drawn.input".split()
+
+FRONT = """\
+j setup
+nop
+mfc0 $26, $4
+mfc0 $27, $14
+lw $26, 0($26)
+nop
+mtc0 $26, $2
+nop
+{write}
+jr $27
+rfe
+j general
+.word body
+general: mfc0 $26, $13
+mfc0 $27, $14
+mtc0 $zero, $13
+lui $24, 0xBFE8
+lw $24, 0x30($24)
+addiu $25, $25, 1
+lui $24, 0xBFE0
+lw $24, 8($24)
+nop
+andi $24, $26, 0x7C
+beq $24, $zero, back
+nop
+addiu $27, $27, 4
+bgez $26, back
+nop
+addiu $27, $27, 4
+back: jr $27
+rfe
+setup: lui $8, 0x8000
+lui $9, 0x8040
+addiu $10, $9, 36
+copy: lw $11, 8($9)
+addiu $9, $9, 4
+sw $11, 0($8)
+bne $9, $10, copy
+addiu $8, $8, 4
+lw $11, 8($9)
+lui $8, 0x8000
+sw $11, 0x80($8)
+lui $8, 0x8060
+mtc0 $8, $4
+lui $17, 0x8050
+lui $18, 0xBFE8
+lui $19, 0xBFE0
+lui $20, 0xBFF0
+lui $21, 0xC000
+lui $16, 0x0041
+ori $22, $16, 0x1000
+ori $23, $16, 0x2000
+"""
+BACK = """\
+lw $10, 12($9)
+nop
+jr $10
+rfe
+body:
+"""
+POINTERS = (16, 16, 17, 17, 18, 19, 20, 21, 22, 23, 23)  # registers with addresses of pages, of kseg0, of each device and of kseg2
+SUMS, HALVES = "add addu sub subu and or xor nor slt sltu".split(), "addi addiu slti sltiu".split()
+LOADS, STORES = "lw lw lb lbu lh lhu lwl lwr".split(), "sw sw sb sh swl swr".split()
+PLACES = (0, 4, 8, 0x10, 0x18, 0x28, 0x2C, 0x30)
+STRANGE = (0x4400_0000, 0x4800_1234, 0xC400_0000, 0x4000_0001, 0x4200_0000)  # words of coprocessors that name no instruction
+
+
+def put(value, address):
+    """Stores a word at an address of a register."""
+    return [f"lui $10, 0x{value >> 16:X}", f"ori $10, $10, 0x{value & 0xFFFF:X}", f"sw $10, {address}"]
+
+
+def front(drawn):
+    """The words of the handlers, the page table, the devices, and the way to the body."""
+    lines = FRONT.format(write=drawn.choice(["tlbwr", "tlbwr", "tlbwi"])).splitlines()
+    for page in range(2):
+        lines += put(0x40_0600 + 0x1000 * page, f"{0x1000 + 4 * page}($8)")
+    for page in range(4):
+        frame = drawn.choice([0x50_0000, 0x50_0000, 0x51_0000, 0x80_0000, 0x1FE0_0000])
+        lines += put(frame + 0x1000 * page + drawn.choice([0, 0x200, 0x400, 0x600, 0x700, 0xE00]), f"{0x1040 + 4 * page}($8)")
+    lines += [*put(drawn.choice([6, 7]), "0x28($18)"), *put(0x40, "0x2C($18)")]
+    lines += [*put(0x60, "0($19)"), *put(drawn.randrange(1, 16), "16($19)"), *put(0x80_0000, "0($20)")]
+    mode = drawn.choice([0, 8]) | drawn.choice([0x0, 0x1000_0000, 0x2000_0000]) | drawn.choice([0xC04, 0xF04, 0x804])
+    return [*lines, f"lui $10, 0x{mode >> 16:X}", f"ori $10, $10, 0x{mode & 0xFFFF:X}", "mtc0 $10, $12", *BACK.splitlines()]
+
+
+def instruction(drawn, label):
+    """An instruction: of ten kinds, as often as one of these is asked for."""
+    anywhere, own = (lambda: f"${drawn.randrange(24)}"), (lambda: f"${drawn.randrange(1, 16)}")
+    place = lambda: drawn.choice(["0x18($19)", f"{drawn.choice(PLACES)}($18)", *(f"{drawn.choice([0, 4, 8, drawn.randrange(-8, 64)])}(${drawn.choice(POINTERS)})" for _ in range(6))])  # noqa: E731
+    match drawn.choices(range(10), [24, 12, 12, 12, 12, 5, 7, 10, 2, 8])[0]:
+        case 0: return f"{drawn.choice(SUMS)} {own()}, {anywhere()}, {anywhere()}"
+        case 1: return f"{drawn.choice(HALVES)} {own()}, {anywhere()}, {drawn.randrange(-2**15, 2**15)}"
+        case 2: return f"lui {own()}, {drawn.choice([0x7FFF, 0x8000, drawn.randrange(2**16)])}"
+        case 3: return f"{drawn.choice(LOADS)} {own()}, {place()}"
+        case 4: return f"{drawn.choice(STORES)} {anywhere()}, {place()}"
+        case 5: return drawn.choice(["syscall", "syscall 7", "break", "break 2"])
+        case 6: return drawn.choice([f"{it} {anywhere()}, {anywhere()}, {label}" for it in ("beq", "bne")] + [f"{it} {anywhere()}, {label}" for it in ("blez", "bgtz", "bltz", "bgezal")] + [f"j {label}"])
+        case 7:
+            read, write = drawn.choice([0, 1, 2, 3, 4, 8, 10, 12, 13, 14, 15]), drawn.choice([0, 2, 4, 8, 10, 13, 14])
+            return drawn.choice(["tlbp", "tlbr", "tlbwi", "tlbwr", f"mfc0 {own()}, ${read}", f"mfc0 {own()}, ${read}", f"mtc0 {anywhere()}, ${write}"])
+        case 8: return f".word 0x{drawn.choice([*STRANGE, drawn.getrandbits(32)]):X}"
+        case _:
+            return drawn.choice([f"{it} {own()}, {anywhere()}, {drawn.randrange(32)}" for it in ("sll", "srl", "sra")] + [f"{it} {anywhere()}, {anywhere()}" for it in ("mult", "divu")] + [f"mfhi {own()}", f"mflo {own()}"])
+
+
+def source(drawn):
+    """The text of a drawn program. A branch leads forward, by at most eight instructions."""
+    count, labels, lines = drawn.randrange(100, 250), {}, []
+    for k in range(count):
+        label = f"x{k}"
+        said = instruction(drawn, label)
+        if said.endswith(label):
+            labels.setdefault(min(k + drawn.randrange(2, 9), count), []).append(label)
+        lines.append(said)
+    marked = [mark for k in range(count) for mark in [*(f"{it}:" for it in labels.get(k, [])), lines[k]]]
+    return "\n".join([*front(drawn), *marked, *(f"{it}:" for it in labels.get(count, [])), "break 1"]) + "\n"
+
+
+def keys():
+    """The input of all programs: characters of the four lines, more of them at once than there is room for."""
+    drawn = random.Random("keys")
+    lines = [f"{time} key {drawn.randrange(4)} {drawn.randbytes(drawn.choice([1, 1, 2])).hex().upper()}" for time in sorted(drawn.randrange(100, MOST - 20) for _ in range(20))]
+    return "\n".join(["# For drawn.cases.", "20 key 0 41", *lines, f"{MOST - 20} key 1 {drawn.randbytes(70).hex().upper()}"]) + "\n"
+
+
+def cases():
+    """Each program, with its text."""
+    for k in range(1, CASES + 1):
+        text = source(random.Random(k))
+        yield k, text, told({"one.s": text, "drawn.input": keys()}.get, WORDS).decode()
+
+
+def files():
+    table = "".join(f"== program {k}\n{text}--\n{wanted}" for k, text, wanted in cases())
+    return {FOLDER / "drawn.input": keys(), FOLDER / "drawn.cases": "# Programs that were drawn. Written by tools/bare_cases.py.\n\n" + table}
+
+
+def main():
+    for path, content in files().items():
+        path.write_text(content)
+
+
+if __name__ == "__main__":
+    main()
