@@ -1,8 +1,10 @@
 -- At the beginning of a unit a station shows the registers of the processes in each machine state that it stands for.
-use Rattle.std.proofs.Common.{◌≡◌, ◌≢◌, ℕ, ◌<◌, Bool, true, false, cond, List, [], ◌∷◌, refl, sym, ap, ◌∙◌, arith}
+use Rattle.std.proofs.Common.{◌≡◌, ◌≢◌, ℕ, ◌-◌, ◌<◌, Bool, true, false, cond, List, [], ◌∷◌, refl, sym, ap, ◌∙◌, arith, length}
+use Rattle.std.proofs.lemmas.List.{get_or_past}
 use Rattle.std.proofs.lemmas.Bool.Decides.{nat_tests}
 use Rattle.ds_isa.specs.Registers.{Registers}
 use Rattle.ds_core.specs.Core.{CoreState}
+use Rattle.ds_policy.specs.Pages.{Table, entries_of}
 use Rattle.ds_pagemap.specs.Machine.{State, Process, no_process, process_of, with_process, first}
 use Rattle.ds_pagemap.specs.Boundary.{is_first}
 use Rattle.ds_pagemap.proofs.Processes.{process_of-with_process_other}
@@ -15,6 +17,10 @@ use Rattle.ds_station.specs.Reads.{general_held, ShowsGeneral}
 
 other_first : (q p : ℕ) (rest : List ℕ) → is_first (first (q ∷ rest)) p ≡ false → p ≢ q
 other_first q p rest not e = grind (arith, nat_tests)
+
+-- a process that a table does not have has no entries
+pub entries_past : (table : Table) (p : ℕ) → length table < p → [] ≡ entries_of table p
+entries_past table p past = sym (get_or_past table (p - 1) [] (omega (arith, past)))
 
 -- a process that does not run is kept, with its late load finished
 pub seated_by : (queue : List ℕ) (c : CoreState) (k : Kept) (m : State) (p : ℕ) → RunningBy queue c k m → bare (vacated queue m) ≡ vacated queue k.state → 0 < p → is_first (first queue) p ≡ false

@@ -2,6 +2,7 @@
 ghost use Rattle.std.specs.Prelude.{◌≡◌, ◌<◌, ◌≤◌, [], length, slice_get, slice_index_or, IfSome, Some};
 ghost use Rattle.ds_pagemap.specs.Boundary.{is_first};
 ghost use Rattle.ds_pagemap.specs.Machine.{first, process_of};
+ghost use Rattle.ds_policy.specs.Pages.{entries_of};
 ghost use Rattle.ds_procs.specs.declared.process.Standing.TheVariants.{Ready};
 ghost use Rattle.ds_refinement.specs.Held.{last_boundary};
 ghost use Rattle.ds_refinement.specs.Units.{has_left_user};
@@ -11,7 +12,7 @@ use crate::stage::Stage;
 use crate::station::Station;
 use ds_cp0::register;
 use ds_isa::{Kind, Size};
-use ds_policy::{Access, TimedCommand, Verdict};
+use ds_policy::{Access, Entry as PageEntry, TimedCommand, Verdict};
 use ds_procs::Standing;
 use ds_tlb::{Entry, Lookaside};
 use ds_word::wrapping_sum;
@@ -168,6 +169,20 @@ impl<L: Lookaside> Station<L> {
                 Some(self.parts.bus.word(place))
             }
             Verdict::Denied { .. } => None,
+        }
+    }
+
+    /// The entries of a process in the permission table, by its number from 1; of none there are none.
+    #[tactic(auto, using(crate::proofs::Showing::entries_past))]
+    pub fn entries(&self, process: u32) -> &[PageEntry]
+        requires above { 0 < process }
+        ensures { result.now ≡ entries_of self.now.kept.grants.table process }
+    {
+        let table = self.parts.monitor.grants.table();
+        if process as usize <= table.processes() {
+            table.entries(process)
+        } else {
+            &[]
         }
     }
 

@@ -8,7 +8,7 @@ use Rattle.ds_view.specs.declared.view.View.{View}
 
 -- all lines
 abbrev pub whole : View
-whole = record { from = 0; to = None; processes = None; only = None; processor = false }
+whole = record { from = 0; to = None; processes = None; only = None; processor = false; entries = false }
 
 -- whether the end alone is told
 abbrev pub is_end : Option Only → Bool
@@ -72,6 +72,10 @@ shows_denials v p = tells_denials v.only && shows_process v p
 -- whether it is told which process runs, and how each stands
 abbrev pub shows_switches : View → Bool
 shows_switches v = tells_switches v.only
+
+-- whether it is told which entries there are: where anything that happens is told, and that is wanted
+abbrev pub shows_entries : View → Bool
+shows_entries v = has_lines v && v.entries
 
 -- whether it is told what else happens at a boundary
 abbrev pub shows_rest : View → Bool

@@ -1,6 +1,6 @@
 //! Which lines of a trace are told.
 ghost use Rattle.std.specs.Prelude.{◌≡◌};
-ghost use Rattle.ds_view.specs.Views.{has_lines, is_before, shows_denials, shows_process, shows_rest, shows_switches, shows_turn, shows_unit, whole};
+ghost use Rattle.ds_view.specs.Views.{has_lines, is_before, shows_denials, shows_entries, shows_process, shows_rest, shows_switches, shows_turn, shows_unit, whole};
 
 use crate::processes::Processes;
 
@@ -32,6 +32,8 @@ pub struct View {
     pub only: Option<Only>,
     /// Whether the end tells what the processor did, which depends on Random.
     pub processor: bool,
+    /// Whether it is told which entries of the permission table there are, and how each changes.
+    pub entries: bool,
 }
 
 fn is_before(to: Option<u64>, began: u64) -> bool
@@ -54,6 +56,7 @@ impl View {
             processes: None,
             only: None,
             processor: false,
+            entries: false,
         }
     }
 
@@ -105,6 +108,13 @@ impl View {
         ensures { result ≡ shows_switches self.now }
     {
         matches!(self.only, None | Some(Only::Switches))
+    }
+
+    /// Whether it is told which entries there are, and how each changes.
+    pub fn shows_entries(&self) -> bool
+        ensures { result ≡ shows_entries self.now }
+    {
+        self.has_lines() && self.entries
     }
 
     /// Whether it is told what else happens at a boundary.

@@ -8,6 +8,9 @@ use Rattle.std.proofs.lemmas.Bool.{true≢false}
 use Rattle.clap.proofs.WalkLemmas.{first_value-rows, one_text-rows}
 use Rattle.clap.specs.declared.parser.matches.Found.{Found}
 use Rattle.ds_view.specs.declared.view.Only.{Only}
+use Rattle.ds_words.specs.declared.words.TraceRequest.{TraceRequest}
+use Rattle.ds_words.specs.declared.words.Wish.{Wish}
+use Rattle.ds_words.specs.declared.words.Wish.TheVariants.{Trace}
 use Rattle.ds_words.specs.Words.{IsGiven, IsNumber, kind_word}
 
 -- a word that was found is that of the rows
@@ -112,3 +115,15 @@ pub widened : (q r : Option ℕ) → MatchOption q (r ≡ None) (λ x. IsSomeAnd
 widened None r is = is
 widened (Some x) None is = absurd is
 widened (Some x) (Some y) is = ap Some is
+
+-- a trace that is asked for, or this one
+trace_or : TraceRequest → Option Wish → TraceRequest
+trace_or t (Some (Trace x)) = x
+trace_or t other = t
+
+-- what holds of the trace that was read holds of that which is asked for
+pub mapped_trace : (P : TraceRequest → Type 0) (q : Option TraceRequest) (r : Option Wish) (request : TraceRequest) → MatchOption q (r ≡ None) (λ x. IsSomeAnd r (λ y. y ≡ Trace x)) → IfSome q P → r ≡ Some (Trace request) → P request
+unfolding trace_or
+mapped_trace P None r request cases holds is = let no : None ≡ Some (Trace request) = sym cases ∙ is in absurd (cc)
+mapped_trace P (Some x) None request cases holds is = absurd cases
+mapped_trace P (Some x) (Some y) request cases holds is = subst P (ap (trace_or x) (sym (ap Some cases) ∙ is)) holds

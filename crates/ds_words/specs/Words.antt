@@ -68,13 +68,21 @@ only_rule = record (new_rule (codes "KIND")) { long = Some (codes "only") }
 abbrev pub processor_rule : Rule
 processor_rule = record (new_rule (codes "processor")) { long = Some (codes "processor"); action = Some SetTrue }
 
+-- `--entries`
+abbrev pub entries_rule : Rule
+entries_rule = record (new_rule (codes "entries")) { long = Some (codes "entries"); action = Some SetTrue }
+
 -- with `[--from T] [--to T] [--process P]..`
 abbrev pub of_turns : App → App
 of_turns app = with_rule (with_rule (with_rule app from_rule) to_rule) process_rule
 
--- `trace POLICY INPUT N [--random R] [--from T] [--to T] [--process P].. [--only KIND] [--processor]`
+-- with `[--only KIND] [--processor] [--entries]`
+abbrev pub of_lines : App → App
+of_lines app = with_rule (with_rule (with_rule app only_rule) processor_rule) entries_rule
+
+-- `trace POLICY INPUT N [--random R] [--from T] [--to T] [--process P].. [--only KIND] [--processor] [--entries]`
 abbrev pub trace_app : App
-trace_app = with_rule (with_rule (of_turns (of_run (new_app (codes "trace")))) only_rule) processor_rule
+trace_app = of_lines (of_turns (of_run (new_app (codes "trace"))))
 
 -- `--words`
 abbrev pub words_rule : Rule
@@ -186,6 +194,8 @@ pub record NamesView (rows : List Row) (view : View) : Type 0 where
   pub only : first_of (codes "KIND") rows ≡ option_map kind_word view.only
   pub processor : one_of (codes "processor") rows ≡ Some (codes "true") → view.processor ≡ true
   pub lines : one_of (codes "processor") rows ≡ Some (codes "false") → view.processor ≡ false
+  pub entries : one_of (codes "entries") rows ≡ Some (codes "true") → view.entries ≡ true
+  pub rest : one_of (codes "entries") rows ≡ Some (codes "false") → view.entries ≡ false
 
 -- what stands after `trace` names the files and the numbers, and says which lines are told
 pub record NamesTrace (rows : List Row) (request : TraceRequest) : Type 0 where

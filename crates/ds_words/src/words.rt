@@ -2,7 +2,7 @@
 ghost use Rattle.std.specs.Prelude.{ℕ, Option, ◌≡◌, ◌↔◌, IfOk, IfSome, None, Some, codes, false, map, option_map, string_bytes};
 ghost use Rattle.clap.specs.Words.{FailsBy, app_of, fault_of, first_of, found_of, many_of, new_app, new_rule, one_of, rows_of, rule_of, subcommand_name_of, subcommand_of, subcommand_rows_of, values_left, with_rule, with_subcommand};
 ghost use Rattle.clap.specs.declared.builder.command.Command.TheViews.{out-Command as fields_of};
-ghost use Rattle.ds_words.specs.Words.{AsksForBare, AsksForCheck, AsksForList, AsksForRun, AsksForSomething, AsksForTrace, IsGiven, NamesBare, NamesCheck, NamesList, NamesProcesses, NamesRun, NamesTrace, NamesView, WriteProcesses, bare_app, check_app, command_named, dsmon_app, files_app, from_rule, keys_rule, kind_word, list_app, machine_app, notes_rule, of_files, of_run, of_turns, only_rule, process_rule, processor_rule, quiet_rule, random_rule, required_rule, run_app, time_rule, to_rule, trace_app, words_rule};
+ghost use Rattle.ds_words.specs.Words.{AsksForBare, AsksForCheck, AsksForList, AsksForRun, AsksForSomething, AsksForTrace, IsGiven, NamesBare, NamesCheck, NamesList, NamesProcesses, NamesRun, NamesTrace, NamesView, WriteProcesses, bare_app, check_app, command_named, dsmon_app, entries_rule, files_app, from_rule, keys_rule, kind_word, list_app, machine_app, notes_rule, of_files, of_lines, of_run, of_turns, only_rule, process_rule, processor_rule, quiet_rule, random_rule, required_rule, run_app, time_rule, to_rule, trace_app, words_rule};
 
 use clap::builder::ValueParser;
 use clap::parser::ValuesRef;
@@ -122,7 +122,8 @@ runs from when on; then how each process stands; and then what the run writes.
 A turn is a unit, or a tick in which nobody runs, with the boundary after it. --from, --to, --process
 and --only leave out lines of turns. --process may stand more than once: each process that is named is
 told of, and where none is named, all are. With --processor and --to it is told, too, what the buffer
-holds at that time. KIND is one of these:
+holds at that time. With --entries the permission table is told before the first turn, and then each
+entry that changes or goes, whatever KIND is but `end`. KIND is one of these:
   units     the units alone
   calls     the units that are calls
   denials   what was denied
@@ -142,18 +143,25 @@ Examples:
     ..
   dsmon trace policy.toml input.txt 1000000 --from 900000 --process 2
   dsmon trace policy.toml input.txt 1000 --process 2 --process 3
-  dsmon trace policy.toml input.txt 1000 --only calls";
+  dsmon trace policy.toml input.txt 1000 --only calls
+  dsmon trace policy.toml input.txt 1000 --only switches --entries
+    0 entry 1 00400000 read page 1 rule 1
+    0 entry 1 00410000 write page 2 rule 2 give
+    ..
+    9 entry 2 00410000 read page 2 rule 2 give giver 1 parent 1 00410000
+    30 entry 2 00410000 gone
+    ..";
 
 /// What stands at the end of the help of `check`.
 const CHECK_HELP: &str =
     "POLICY, its sources and INPUT are read as a run reads them. Where all is good, the permission table
 at the start is written, process by process; then what is near a limit; then what comes when; then
 where each process starts, and what ties it to the others, so that it may tell who else is there; then
-the notes: what is worth a look in the policy and in its sources, though nothing is refused for it.
-Where something is refused, standard error tells the refusal as a run does, where it is as far as
-that is known, the reason with what to write, and the other faults of the source with their reasons.
-The status is 2 then. With --notes-as-faults it is 2 where there is a note, too: nothing is written
-then, and standard error has the notes.
+the notes: what is worth a look in the policy, in its sources and in INPUT, though nothing is refused
+for it. Where something is refused, standard error tells the refusal as a run does, where it is as far
+as that is known, the reason with what to write, and the other faults of the source with their
+reasons. The status is 2 then. With --notes-as-faults it is 2 where there is a note, too: nothing is
+written then, and standard error has the notes.
 
 Examples:
   dsmon check policy.toml input.txt
@@ -197,10 +205,11 @@ Examples:
 
 /// What stands at the end of the help of `bare`.
 const BARE_HELP: &str =
-    "The source starts at 80400000, in kernel mode, with no monitor: a miss goes to 80000000 or 80000080,
-and a handler at 80000000 is the source's own. Each instruction is a line, with what it changed; at
-the end come the registers, the entries of the buffer and what the lines sent. It ends after N
-instructions, with `break 1`, at 80000080, or at 80000000 where no handler is. The status is 0 then.
+    "The source starts at 80400000, in kernel mode, with no monitor: a miss goes to 80000000, all else to
+80000080, and the handlers there are the source's own. Each instruction is a line, with what it
+changed; at the end come the registers, the entries of the buffer and what the lines sent. It ends
+after N instructions, with `break 1`, or at one of the two where the next 32 words are 0. The status
+is 0 then.
 Of INPUT the key lines count, their times in instructions.
 
 Examples:
@@ -345,6 +354,29 @@ fn processor_argument<'a>(alloc: Global) -> Arg<'a>
         .help("At the end it is told what the processor did, which depends on R")
 }
 
+fn entries_argument<'a>(alloc: Global) -> Arg<'a>
+    ensures rule { rule_of result ≡ entries_rule }
+    ensures local { result.global ≡ false }
+{
+    Arg::new(alloc, "entries")
+        .long("entries")
+        .action(ArgAction::SetTrue)
+        .help(
+            "It is told who may touch what: each entry of the permission table, and how each changes",
+        )
+}
+
+fn with_lines<'a>(alloc: Global, described: Command<'a>) -> Result<Command<'a>, AllocError>
+    requires { (fields_of described).has_globals ≡ false }
+    ensures app { IfOk result (λ c. app_of c ≡ of_lines (app_of described.entry)) }
+    ensures local { IfOk result (λ c. (fields_of c).has_globals ≡ false) }
+{
+    described
+        .arg(only_argument(alloc))?
+        .arg(processor_argument(alloc))?
+        .arg(entries_argument(alloc))
+}
+
 fn with_turns<'a>(alloc: Global, described: Command<'a>) -> Result<Command<'a>, AllocError>
     requires { (fields_of described).has_globals ≡ false }
     ensures app { IfOk result (λ c. app_of c ≡ of_turns (app_of described.entry)) }
@@ -360,9 +392,8 @@ fn trace_command<'a>(alloc: Global) -> Result<Command<'a>, AllocError>
     ensures app { IfOk result (λ c. app_of c ≡ trace_app) }
     ensures local { IfOk result (λ c. (fields_of c).has_globals ≡ false) }
 {
-    with_turns(alloc, with_numbers(alloc, trace_described(alloc))?)?
-        .arg(only_argument(alloc))?
-        .arg(processor_argument(alloc))
+    let numbered = with_numbers(alloc, trace_described(alloc))?;
+    with_lines(alloc, with_turns(alloc, numbered)?)
 }
 
 fn input_argument<'a>(alloc: Global) -> Arg<'a>
@@ -470,7 +501,7 @@ fn bare_command<'a>(alloc: Global) -> Command<'a>
     ensures { app_of result ≡ bare_app }
 {
     Command::new(alloc, "dsmon")
-        .version("0.1.0")
+        .version("1.0.0")
         .about("Runs a simulated MIPS workstation under a page policy")
         .after_help(HELP)
         .subcommand_required(true)
@@ -624,6 +655,7 @@ fn view_of<'a>(found: &ArgMatches<'a>) -> Option<View>
         processes: processes_named(found)?,
         only: kind_of(found)?,
         processor: found.get_flag("processor"),
+        entries: found.get_flag("entries"),
     })
 }
 

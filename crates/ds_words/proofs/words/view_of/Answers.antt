@@ -22,4 +22,6 @@ returns-clause-some c =
       only = c.in_ok-kind_of.ensures.some;
       processor = λ is. c.get_flag.ensures.value (one_text-rows found _ ∙ is);
       lines = λ is. c.get_flag.ensures.other (one_text-rows found _ ∙ is);
+      entries = λ is. c.get_flag-2.ensures.value (one_text-rows found _ ∙ is);
+      rest = λ is. c.get_flag-2.ensures.other (one_text-rows found _ ∙ is);
     }
