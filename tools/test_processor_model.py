@@ -29,7 +29,7 @@ class Touched(Traced):
 def begun(read, policy, given, kind=Traced, random=63):
     trace_model.Traced, was = kind, trace_model.Traced
     try:
-        view = {"from": 0, "to": 2**63, "processes": set(), "only": None, "processor": True, "random": random}
+        view = {"from": 0, "to": 2**63, "processes": set(), "only": None, "processor": True, "entries": False, "random": random}
         return trace_model.begun(read, policy, given, view)
     finally:
         trace_model.Traced = was

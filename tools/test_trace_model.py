@@ -33,6 +33,11 @@ def in_folder(folder, *words):
     return traced(files_in(DATA / folder), ["trace", *map(str, words)]).decode().splitlines()
 
 
+def is_entry(line):
+    """Whether a line tells of an entry of the permission table."""
+    return line.split(" ")[1:2] == ["entry"]
+
+
 class Tests(unittest.TestCase):
     def test_each_row_of_a_trace_is_as_the_model_has_it(self):
         found = list(rows())
@@ -112,7 +117,7 @@ class Tests(unittest.TestCase):
 
     def test_the_labs_show_what_their_commands_write(self):
         folder = DATA / "examples" / "labs"
-        blocks = [it.replace("\n    ", "\n")[4:] + "\n" for it in re.findall(r"(?<=\n\n)    .*(?:\n    .*)*", (folder / "README.md").read_text())]
+        blocks = [it.replace("\n    ", "\n")[4:] + "\n" for it in re.findall(r"(?<=\n\n)    .*(?:\n    .*)*", (folder / "answers.md").read_text())]
         shown = [(it.strip().split(" | "), text) for it, text in zip(blocks, blocks[1:]) if it.startswith("dsmon trace ") and " | " in it]
         self.assertEqual(5, len(shown))
         for (command, filter_), text in shown:
@@ -123,7 +128,7 @@ class Tests(unittest.TestCase):
         folder = DATA / "examples" / "labs"
         texts = {name.split()[0]: text for name, _, text in cases((folder / "reach.cases").read_text())} | {"80": (folder / "reach.told").read_text()}
         counts = {pages: re.search(r"instructions (\d+) refills (\d+)", text).groups() for pages, text in texts.items()}
-        table = re.findall(r"^\| (\d+) \| (\S+) \| (\S+) \| (\S+) \|$", (folder / "README.md").read_text().replace(",", ""), flags=re.M)
+        table = re.findall(r"^\| (\d+) \| (\S+) \| (\S+) \| (\S+) \|$", (folder / "answers.md").read_text().replace(",", ""), flags=re.M)
         self.assertEqual(counts, {pages: (instructions, refills) for pages, refills, instructions, _ in table})
         for pages, refills, instructions, own in table:
             self.assertEqual(int(instructions), int(own) + 10 * (int(refills) - 1) + 4)
@@ -133,6 +138,23 @@ class Tests(unittest.TestCase):
         for line in lines():
             for n in HIDDEN:
                 self.assertNotIn(f"  ${n}=", line)
+
+    def test_entries_add_lines_and_nothing_else(self):
+        for flags in ((), ("--from", 36), ("--process", 3), ("--only", "calls"), ("--only", "end"), ("--to", 30, "--processor")):
+            words = "traces/entries", "three.toml", "operator.input", 100, *flags
+            found = in_folder(*words, "--entries")
+            self.assertEqual([it for it in found if not is_entry(it)], in_folder(*words), flags)
+            self.assertEqual(any(map(is_entry, found)), "end" not in flags, flags)
+
+    def test_a_window_has_the_entries_that_the_whole_has_then(self):
+        words = "traces/entries", "three.toml", "operator.input", 100, "--entries"
+        whole = [it.split(" ", 4) for it in in_folder(*words) if is_entry(it)]
+        for begin in range(71):
+            found = [it.split(" ", 4) for it in in_folder(*words, "--from", begin) if is_entry(it)]
+            first = int(found[0][0]) if found else 0
+            table = {(p, address): said for time, _, p, address, said in whole if int(time) <= first}
+            opening = {(p, address): said for time, _, p, address, said in found if int(time) == first}
+            self.assertEqual({place: said for place, said in table.items() if said != "gone"} if found else {}, opening, begin)
 
 
 if __name__ == "__main__":

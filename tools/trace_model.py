@@ -6,7 +6,7 @@
     tools/trace_model.py --write          writes the text of each of them anew, and names the cases that the model can't tell
 
 It is written after docs/trace.md, over tools/hostile_model.py, and shares nothing with the program; what the processor did is from
-tools/processor_model.py. It has no touch, so it stops with NotQuiet at a guest that could tell. Rights that end by themselves are not in it.
+tools/processor_model.py. It has no touch, so it stops with NotQuiet at a guest that could tell.
 """
 import re
 import sys
@@ -18,7 +18,7 @@ sys.dont_write_bytecode = True
 
 from hostile_model import CODES, LOADS, STORES, NotQuiet, decode, encode, signed  # noqa: E402
 from processor_model import Processor  # noqa: E402
-from turns_model import MASK, Denied, assemble  # noqa: E402
+from turns_model import MASK, NO_ENTRY, Denied, assemble  # noqa: E402
 
 DATA = Path(__file__).resolve().parent.parent / "crates" / "rows" / "data"
 BRANCHES = ("beq", "bne", "blez", "bgtz", "bltz", "bgez", "bltzal", "bgezal")
@@ -76,7 +76,11 @@ def begun(read, policy, given, view):
     frames = said.get("frames", len(pages))
     rules = [(it["process"], it["address"], it["right"], names.index(it["page"]) if "page" in it else None, it.get("give", False)) for it in said.get("rule", [])]
     processes = [(it["start"], it.get("line", 0)) for it in said["process"]]
-    return Traced(processes, pages + [bytes(4096)] * (frames - len(pages)), len(names), frames, rules, said.get("rate", 0), events_of(read(given), names), view["random"], view)
+    run = Traced(processes, pages + [bytes(4096)] * (frames - len(pages)), len(names), frames, rules, said.get("rate", 0), events_of(read(given), names), view["random"], view)
+    for it in said.get("rule", []):
+        place = it["process"], it["address"]
+        run.table[place] = run.table[place]._replace(until=it.get("until"))
+    return run
 
 
 def events_of(text, names):
@@ -142,7 +146,7 @@ class Traced(Processor):
 
     def __init__(self, *begun):
         *begun, self.view = begun
-        self.began, self.lines, self.left = 0, [], []
+        self.began, self.lines, self.left, self.is_open = 0, [], [], False
         self.happened, self.called, self.denied = Counter(), Counter(), Counter()
         super().__init__(*begun)
 
@@ -190,7 +194,25 @@ class Traced(Processor):
 
     def looked(self):
         return {"standings": {p: q.state for p, q in self.processes.items()}, "runner": self.ready[0] if self.ready else None,
-                "queued": [len(it) for it in self.queues], "logged": len(self.log)}
+                "queued": [len(it) for it in self.queues], "logged": len(self.log), "table": dict(self.table)}
+
+    def tell_entries(self, time, before):
+        """The entries that have gone, and those that are new or otherwise than in a table, process by process."""
+        if not self.view["entries"] or self.view["only"] == "end":
+            return
+        for p in filter(self.shows, self.processes):
+            for q, address in before:
+                if q == p and (q, address) not in self.table:
+                    self.tell(f"{time} entry {p} {address:08X} gone")
+            for (q, address), entry in self.table.items():
+                if q == p and before.get((q, address)) != entry:
+                    self.tell(f"{time} entry {p} {address:08X} {words_of(entry)}")
+
+    def open(self):
+        """All entries, before the first turn that is told."""
+        if self.is_in_view() and not self.is_open:
+            self.is_open = True
+            self.tell_entries(self.began, {})
 
     def tell_changes(self, before):
         """Who stands otherwise, who gives way, and who runs."""
@@ -239,6 +261,7 @@ class Traced(Processor):
         if self.tells("denials") and self.shows(p):
             for line in logged:
                 self.tell(f"denied {line}")
+        self.tell_entries(self.time, before["table"])
         self.tell_changes(before)
 
     def call_text(self, r):
@@ -252,8 +275,16 @@ class Traced(Processor):
 
     # A boundary.
 
+    def expire(self):
+        """Rights whose end has come are taken, and their rules are left."""
+        for place, entry in self.table.items():
+            if entry.until is not None and entry.until <= self.time:
+                self.changes("end of a right", *place)
+                self.table[place] = NO_ENTRY._replace(rule=entry.rule)
+
     def boundary_half(self, runner):
         before, lost = self.looked(), 0
+        self.expire()
         due = [it for it in self.events if it[0] <= self.time]
         self.events = [it for it in self.events if it[0] > self.time]
         for _, what, *o in due:
@@ -286,6 +317,7 @@ class Traced(Processor):
         if self.rate and self.began // slice_ != self.time // slice_ and runner and self.ready[:1] == [runner]:
             self.ready.append(self.ready.pop(0))
         self.enter()
+        self.tell_entries(self.time, before["table"])
         self.tell_changes(before)
 
     def leave(self):
@@ -297,6 +329,7 @@ class Traced(Processor):
         if self.time >= self.view["from"]:  # (what comes before goes by at once)
             self.leave()
         self.began, runner = self.time, self.ready[0] if self.ready else None
+        self.open()
         if runner:
             self.unit_half(runner)
         else:
@@ -339,6 +372,25 @@ class Traced(Processor):
         return "".join(f"{line}\n" for line in lines).encode() + super().text()
 
 
+# Entries.
+
+def words_of(entry):
+    """All that an entry is."""
+    words = [entry.right]
+    if entry.page is not None:
+        words += ["page", entry.page + 1]
+    words += ["rule", entry.rule]
+    if entry.until is not None:
+        words += ["until", entry.until]
+    if entry.give:
+        words.append("give")
+    if entry.giver:
+        words += ["giver", entry.giver]
+    if entry.parent:
+        words += ["parent", entry.parent[0], f"{entry.parent[1]:08X}"]
+    return " ".join(map(str, words))
+
+
 # Lines of the log.
 
 def is_refused_command(line):
@@ -355,8 +407,8 @@ def rule_of(line):
 def traced(read, words):
     """What `dsmon` writes for these words, the first of which is `trace`, with a function from a file's name to its text."""
     _, policy, given, n, *flags = [part for word in words for part in word.split("=")]
-    view = {"from": 0, "to": 2**63, "processes": set(), "only": None, "processor": "--processor" in flags, "random": 63}
-    flags = [it for it in flags if it != "--processor"]
+    view = {"from": 0, "to": 2**63, "processes": set(), "only": None, "processor": "--processor" in flags, "entries": "--entries" in flags, "random": 63}
+    flags = [it for it in flags if it not in ("--processor", "--entries")]
     for flag, value in zip(flags[::2], flags[1::2]):
         match flag:
             case "--from" | "--to" | "--random": view[flag[2:]] = int(value)

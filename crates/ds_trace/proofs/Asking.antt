@@ -1,6 +1,6 @@
 -- How often a place is asked.
 use Rattle.std.proofs.Common.{◌≡◌, false, refl, subst, sym}
-use Rattle.std.specs.Prelude.{Option, Some, None, Result, Ok, Err}
+use Rattle.std.specs.Prelude.{Option, Some, None, Err}
 use Rattle.ds_log.specs.Sent.{Answers, IsAskedOnce}
 use Rattle.ds_station.specs.Faults.{is_unwritten}
 use Rattle.ds_station.specs.declared.fault.Fault.{Fault}

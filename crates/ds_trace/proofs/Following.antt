@@ -275,20 +275,20 @@ ran_whole k new over = by new.kept.state.owed (nat_lt new.kept.state.time k && n
 
 -- of what comes before the first turn that is told
 module _ (v : View) (n : ℕ) (from new : Held) (a : Option (List ℕ)) (unowed : from.kept.state.owed ≡ None) (runs : RunsWithin (untold_until v n) from new) (owes : new.kept.state.owed ≡ None) (none : new.own.spent ≡ 0) where
-  pub first_told : (text : List ℕ) (b : Progress) → text ≡ [] → b.before ≡ looked_held false new → b.counts ≡ none_counted → TellsSo v n from new a a text b
+  pub first_told : (text : List ℕ) (b : Progress) → text ≡ [] → b.before ≡ looked_held v false new → b.counts ≡ none_counted → TellsSo v n from new a a text b
   first_told text b empty looks uncounted = subst (λ (l : List ℕ). TellsSo v n from new a a l b) (sym empty)
       (record { tells = λ m k. told_first v (untold_until v n) n m from new a b (until_within v n) (until_silent v n) k runs unowed owes none looks uncounted })
 
   -- so a run came there
   pub first_within : RunsWithin n from new
   first_within =
-      let b : Progress = record { before = looked_held false new; counts = none_counted } in
+      let b : Progress = record { before = looked_held v false new; counts = none_counted } in
       tells_within v n from new a a [] b (first_told [] b refl refl refl)
 
   -- where a fault cuts that short
   pub cut_early : (f : Fault) (text : List ℕ) (k : Counted) → text ≡ [] → k ≡ none_counted → IsNewFault f → held_goes_on (untold_until v n) new ≡ true → TellsAll (Some f) v n from new a a text k
   cut_early f text k empty uncounted is going =
-      let b : Progress = record { before = looked_held false new; counts = none_counted } in
+      let b : Progress = record { before = looked_held v false new; counts = none_counted } in
       record { progress = b; tells = first_told text b empty refl refl; counts = sym uncounted; stopped = (new_is f is, owes, goes_later (untold_until v n) n new (until_within v n) owes going); spent = none }
 
 -- and nothing is counted

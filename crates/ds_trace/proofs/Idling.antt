@@ -1,6 +1,8 @@
 -- A turn in which nobody runs is told of by its boundary alone.
-use Rattle.std.proofs.Common.{◌≡◌, ℕ, suc, ◌+◌, ◌-◌, Bool, true, false, cond, List, [], ◌∷◌, ◌++◌, Option, Some, None, refl, sym, ap, ◌∙◌, arith}
-use Rattle.std.specs.Prelude.{is_some, length, map, slice_get}
+use Rattle.std.proofs.Common.{◌≡◌, ℕ, suc, ◌+◌, ◌-◌, ◌<◌, Bool, true, false, cond, List, [], ◌∷◌, ◌++◌, Option, Some, None, refl, sym, ap, ◌∙◌, arith, append_assoc}
+use Rattle.std.proofs.lemmas.Bool.Decides.{nat_tests}
+use Rattle.std.proofs.lemmas.List.{append-nil}
+use Rattle.std.specs.Prelude.{◌&&◌, ◌==◌, is_some, length, map, slice_get}
 use Rattle.ds_procs.specs.declared.process.Standing.{Standing}
 use Rattle.ds_procs.specs.declared.process.Standing.TheVariants.{Ready, Waiting, Parked, Ended}
 use Rattle.ds_pagemap.specs.declared.turn.Turn.{Turn}
@@ -10,14 +12,15 @@ use Rattle.ds_pagemap.specs.Boundary.{boundary}
 use Rattle.ds_pagemap.specs.Run.{half_turn}
 use Rattle.ds_refinement.specs.Held.{began_or}
 use Rattle.ds_view.specs.declared.view.View.{View}
-use Rattle.ds_view.specs.Views.{shows_switches, shows_turn}
+use Rattle.ds_view.specs.Views.{has_lines, shows_entries, shows_switches, shows_turn}
 use Rattle.ds_trace.specs.declared.start.Start.{Start}
 use Rattle.ds_trace.specs.Looks.{Looked, Found}
 use Rattle.ds_trace.specs.Starts.{start_of}
 use Rattle.ds_trace.specs.Boundaries.{due_by}
 use Rattle.ds_trace.specs.Changes.{same_first, same_standing, standing_line, standings_text, way_text, switch_text, changes_text}
-use Rattle.ds_trace.specs.Counts.{Counted, plus, lost_of, is_counted, counts_after}
-use Rattle.ds_trace.specs.Halves.{log_of, looked_of, found_of, process_in, half_after, half_text, half_counts}
+use Rattle.ds_trace.specs.Entries.{tables_text}
+use Rattle.ds_trace.specs.Counts.{Counted, plus, lost_of, is_counted, is_unbegun, rest_counted, switch_counted, counts_after}
+use Rattle.ds_trace.specs.Halves.{log_of, told_table, looked_of, found_of, process_in, done_text, opening_text, half_after, half_text, half_counts}
 
 untouched : (x : State) (d : Bool) → x.ready ≡ [] → touched d x ≡ x
 untouched x true none = ap (touch_first x) none
@@ -36,8 +39,8 @@ idle_turn x d owed none =
 
 -- What is looked at is the same before it and after it.
 
-abbrev looked_by : State → Option Turn → Option Start → Looked
-looked_by x owed start = record {
+abbrev looked_by : View → State → Option Turn → Option Start → Looked
+looked_by v x owed start = record {
   owed = is_some owed;
   began = began_or owed x.time;
   start = cond (is_some owed) None start;
@@ -47,12 +50,13 @@ looked_by x owed start = record {
   characters = length x.characters;
   queued = map length x.queues;
   standings = map (λ q. q.standing) x.processes;
+  table = told_table v x.memory.table;
 }
 
-pub idle_looked : (x : State) → x.owed ≡ None → x.ready ≡ [] → looked_of x ≡ record (looked_of (idle_after x)) { owed = false }
-idle_looked x owed none =
-    ap (λ (o : Option Turn). looked_by x o (start_of x (first x.ready))) owed
-    ∙ ap (λ (queue : List ℕ). looked_by x None (start_of x (first queue))) none
+pub idle_looked : (v : View) (x : State) → x.owed ≡ None → x.ready ≡ [] → looked_of v x ≡ record (looked_of v (idle_after x)) { owed = false }
+idle_looked v x owed none =
+    ap (λ (o : Option Turn). looked_by v x o (start_of x (first x.ready))) owed
+    ∙ ap (λ (queue : List ℕ). looked_by v x None (start_of x (first queue))) none
 
 -- The turn itself tells nothing.
 
@@ -88,19 +92,60 @@ changes_none v b f before after same =
     ∙ (ap (λ (o : Option ℕ). cond (shows_switches v) (switch_text v f.time None o) []) after
     ∙ both_none (shows_switches v)))
 
-pub idle_text : (v : View) (x : State) → x.owed ≡ None → x.ready ≡ [] → half_text v x (idle_after x) ≡ []
-idle_text v x owed none =
-    let b : Looked = record (looked_of (idle_after x)) { owed = false } in
+-- but the entries before it, where it is the first
+abbrev pub idle_opening : View → Counted → State → List ℕ
+idle_opening v k x = cond (shows_turn v x.time) (opening_text v k (looked_of v (idle_after x))) []
+
+pub idle_text : (v : View) (k : Counted) (x : State) → x.owed ≡ None → x.ready ≡ [] → half_text v k x (idle_after x) ≡ idle_opening v k x
+idle_text v k x owed none =
+    let b : Looked = record (looked_of v (idle_after x)) { owed = false } in
     let f : Found = found_of 0 (idle_after x) in
     let runs : first x.ready ≡ None = ap first none in
-    ap (λ (l : Looked). half_after v l (found_of (process_in l.start) (idle_after x))) (idle_looked x owed none)
-    ∙ (ap (λ (l : List ℕ). cond (shows_turn v x.time) l []) (changes_none v b f runs runs
+    ap (λ (l : Looked). half_after v k l (found_of (process_in l.start) (idle_after x))) (idle_looked v x owed none)
+    ∙ (ap (λ (l : List ℕ). cond (shows_turn v x.time) (opening_text v k b ++ [] ++ l) []) (changes_none v b f runs runs
     (standings_same v (x.time + 1) b.standings 1 0 b.standings refl (λ j i is. ap (slice_get b.standings) (omega (arith, is)))))
-    ∙ both_none (shows_turn v x.time))
+    ∙ ap (λ (l : List ℕ). cond (shows_turn v x.time) l []) (append-nil (opening_text v k b ++ []) ∙ append-nil (opening_text v k b)))
+
+-- After it a turn is counted.
+
+none_left : (n : ℕ) → 0 < n → (n == 0) ≡ false
+none_left n some = grind (arith, nat_tests)
+
+and_false : (b : Bool) → (b && false) ≡ false
+and_false true = refl
+and_false false = refl
+
+begun_more : (units n : ℕ) → ((units == 0) && (plus n 1 == 0)) ≡ false
+begun_more units n =
+    let some : 0 < plus n 1 = omega arith in
+    ap (λ (b : Bool). (units == 0) && b) (none_left (plus n 1) some) ∙ and_false (units == 0)
+
+begun_by : (lines turn entries : Bool) (k more : Counted) → turn ≡ true → is_unbegun more ≡ false → ((lines && entries) && is_unbegun (cond (lines && turn) more k)) ≡ false
+begun_by false turn entries k more told begun = refl
+begun_by true turn entries k more told begun =
+    ap (λ (b : Bool). entries && is_unbegun (cond b more k)) told
+    ∙ (ap (λ (b : Bool). entries && b) begun ∙ and_false entries)
+
+idle_begun : (v : View) (k : Counted) (x : State) → x.owed ≡ None → x.ready ≡ [] → shows_turn v x.time ≡ true → (shows_entries v && is_unbegun (half_counts v k x (idle_after x))) ≡ false
+idle_begun v k x owed none told =
+    let b : Looked = record (looked_of v (idle_after x)) { owed = false } in
+    let f : Found = found_of 0 (idle_after x) in
+    ap (λ (l : Looked). shows_entries v && is_unbegun (counts_after v k l (found_of (process_in l.start) (idle_after x)))) (idle_looked v x owed none)
+    ∙ begun_by (has_lines v) (shows_turn v x.time) v.entries k (switch_counted (rest_counted k b f) b.runner f.runner) told (begun_more k.units k.idle)
 
 -- and its boundary tells what is after both
-pub idle_boundary : (v : View) (x t : State) → x.owed ≡ None → x.ready ≡ [] → half_after v (looked_of x) (found_of (process_in (looked_of x).start) t) ≡ half_text v (idle_after x) t
-idle_boundary v x t owed none = ap (λ (l : Looked). half_after v l (found_of (process_in l.start) t)) (idle_looked x owed none)
+two_parts : (turn : Bool) (opening second done rest : List ℕ) → (turn ≡ true → second ≡ []) → cond turn (opening ++ done ++ rest) [] ≡ cond turn opening [] ++ cond turn (second ++ done ++ rest) []
+two_parts true opening second done rest none = append_assoc opening done rest ∙ ap (λ (l : List ℕ). opening ++ (l ++ done ++ rest)) (sym (none refl))
+two_parts false opening second done rest none = refl
+
+pub idle_boundary : (v : View) (k : Counted) (x t : State) → x.owed ≡ None → x.ready ≡ []
+    → half_after v k (looked_of v x) (found_of (process_in (looked_of v x).start) t) ≡ idle_opening v k x ++ half_text v (half_counts v k x (idle_after x)) (idle_after x) t
+idle_boundary v k x t owed none =
+    let b : Looked = looked_of v (idle_after x) in
+    let f : Found = found_of 0 t in
+    ap (λ (l : Looked). half_after v k l (found_of (process_in l.start) t)) (idle_looked v x owed none)
+    ∙ two_parts (shows_turn v x.time) (opening_text v k b) (opening_text v (half_counts v k x (idle_after x)) b) (done_text v b f None) (changes_text v b f)
+    (λ told. ap (λ (c : Bool). cond c (tables_text v b.began [] b.table) []) (idle_begun v k x owed none told))
 
 -- The tick is counted once.
 
@@ -119,15 +164,15 @@ counts_twice true k after is lost none = refl
 counts_twice false k after is lost none = refl
 
 -- with its boundary
-pub idle_counts : (v : View) (k : Counted) (x t : State) → x.owed ≡ None → x.ready ≡ [] → counts_after v k (looked_of x) (found_of (process_in (looked_of x).start) t) ≡ half_counts v (half_counts v k x (idle_after x)) (idle_after x) t
+pub idle_counts : (v : View) (k : Counted) (x t : State) → x.owed ≡ None → x.ready ≡ [] → counts_after v k (looked_of v x) (found_of (process_in (looked_of v x).start) t) ≡ half_counts v (half_counts v k x (idle_after x)) (idle_after x) t
 idle_counts v k x t owed none =
-    let b : Looked = record (looked_of (idle_after x)) { owed = false } in
+    let b : Looked = record (looked_of v (idle_after x)) { owed = false } in
     let counted : Bool = is_counted v x.time in
     let lost : ℕ = lost_of b (found_of 0 t) in
     let none_lost : ℕ = lost_of b (found_of 0 (idle_after x)) in
     let runs : first x.ready ≡ None = ap first none in
-    ap (λ (l : Looked). counts_after v k l (found_of (process_in l.start) t)) (idle_looked x owed none)
+    ap (λ (l : Looked). counts_after v k l (found_of (process_in l.start) t)) (idle_looked v x owed none)
     ∙ (ap (λ (o : Option ℕ). counts_by counted k false o (first t.ready) (is_some t.owed) lost) runs
     ∙ (counts_twice counted k (first t.ready) (is_some t.owed) lost none_lost
     ∙ (sym (ap (λ (o : Option ℕ). counts_by counted (counts_by counted k false o o true none_lost) true o (first t.ready) (is_some t.owed) lost) runs)
-    ∙ sym (ap (λ (l : Looked). counts_after v (counts_after v k l (found_of (process_in l.start) (idle_after x))) (looked_of (idle_after x)) (found_of 0 t)) (idle_looked x owed none)))))
+    ∙ sym (ap (λ (l : Looked). counts_after v (counts_after v k l (found_of (process_in l.start) (idle_after x))) (looked_of v (idle_after x)) (found_of 0 t)) (idle_looked v x owed none)))))

@@ -19,7 +19,7 @@ use Rattle.ds_station.specs.declared.fault.Fault.{Fault}
 use Rattle.ds_station.specs.declared.fault.Fault.TheVariants as fault
 use Rattle.ds_view.specs.declared.view.View.{View}
 use Rattle.ds_trace.specs.Ends.{end_text}
-use Rattle.ds_trace.specs.Traces.{counts_along, told_to, trace_along, TraceEndsBy, TraceEndsReally, WritesLines, WritesShort, WritesTold, WritesToldPart, WritesToldSoFar, WritesTrace, WritesTracePart, WritesTracePartReally, WritesTraceReally, WritesTraceShort, WritesTraceShortReally}
+use Rattle.ds_trace.specs.Traces.{counts_along, told_to, trace_along, TraceEndsBy, TraceEndsReally, WritesShort, WritesTold, WritesToldPart, WritesTrace, WritesTracePart, WritesTracePartReally, WritesTraceReally, WritesTraceShort, WritesTraceShortReally}
 use Rattle.ds_trace.specs.Shows.{Traces, TracesPart, TracesShort}
 use Rattle.ds_trace.specs.Handed.{IsLate}
 use Rattle.ds_trace.specs.Processors.{TellsFrom}

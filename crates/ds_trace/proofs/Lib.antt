@@ -3,6 +3,7 @@ pub mod Results
 pub mod Asking
 pub mod Due
 pub mod Processes
+pub mod Tables
 pub mod Touched
 pub mod LeftAlone
 pub mod Idling

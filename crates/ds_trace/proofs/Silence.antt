@@ -18,7 +18,7 @@ use Rattle.ds_trace.specs.declared.start.Start.{Start}
 use Rattle.ds_trace.specs.Looks.{Looked, Found}
 use Rattle.ds_trace.specs.Changes.{changes_text}
 use Rattle.ds_trace.specs.Counts.{Counted, none_counted, done_counted, switch_counted, counts_after}
-use Rattle.ds_trace.specs.Halves.{looked_of, found_of, process_in, done_text, half_after, half_text, half_counts}
+use Rattle.ds_trace.specs.Halves.{looked_of, found_of, process_in, done_text, opening_text, half_after, half_text, half_counts}
 use Rattle.ds_trace.specs.Traces.{next_counts, next_text, counts_along, trace_along}
 
 -- Half turns that are not told.
@@ -44,9 +44,9 @@ done_none : (v : View) (b : Looked) (f : Found) (o : Option Start) → done_text
 done_none v b f None = or_none f.owed [] refl
 done_none v b f (Some s) = refl
 
-end_silent : (v : View) (b : Looked) (f : Found) → v.only ≡ Some End → half_after v b f ≡ []
-end_silent v b f is =
-    ap (λ (o : Option Only). half_after (record v { only = o }) b f) is
+end_silent : (v : View) (c : Counted) (b : Looked) (f : Found) → v.only ≡ Some End → half_after v c b f ≡ []
+end_silent v c b f is =
+    ap (λ (o : Option Only). half_after (record v { only = o }) c b f) is
     ∙ both_none (shows_turn v b.began) (done_text (record v { only = Some End }) b f b.start ++ []) (ap (λ (l : List ℕ). l ++ []) (done_none v b f b.start))
 
 -- nothing of turns that begin before a time is told
@@ -56,9 +56,9 @@ IsSilent v k = (v.only ≡ Some End) ⊎ (k ≤ v.from)
 not_yet : (from began k : ℕ) → began < k → k ≤ from → nat_le from began ≡ false
 not_yet from began k early late = grind (arith, nat_tests)
 
-half_silent : (v : View) (k : ℕ) (b : Looked) (f : Found) → IsSilent v k → b.began < k → half_after v b f ≡ []
-half_silent v k b f (inl end) early = end_silent v b f end
-half_silent v k b f (inr late) early = ap (λ (x : Bool). cond (x && is_before v.to b.began) (done_text v b f b.start ++ changes_text v b f) []) (not_yet v.from b.began k early late)
+half_silent : (v : View) (k : ℕ) (c : Counted) (b : Looked) (f : Found) → IsSilent v k → b.began < k → half_after v c b f ≡ []
+half_silent v k c b f (inl end) early = end_silent v c b f end
+half_silent v k c b f (inr late) early = ap (λ (x : Bool). cond (x && is_before v.to b.began) (opening_text v c b ++ done_text v b f b.start ++ changes_text v b f) []) (not_yet v.from b.began k early late)
 
 -- nor counted
 none_counts : (b : Bool) (more k : Counted) → cond (b && false) more k ≡ k
@@ -120,15 +120,16 @@ module _ (v : View) (k n : ℕ) (within : k ≤ n) (silent : IsSilent v k) where
   unfolding after trace_along counts_along
   untold_half m x d begun on before =
       let goes : goes_on n x ≡ true = longer (is_some x.owed) (not (is_over x)) x.time k n within on in
-      let none : half_text v x (half_turn d x) ≡ [] =
-      half_silent v k (looked_of x) (found_of (process_in (looked_of x).start) (half_turn d x)) silent (began_early k x.owed x.time (not (is_over x)) begun on) in
+      let none : half_text v none_counted x (half_turn d x) ≡ [] =
+      half_silent v k none_counted (looked_of v x) (found_of (process_in (looked_of v x).start) (half_turn d x)) silent (began_early k x.owed x.time (not (is_over x)) begun on) in
       let uncounts : half_counts v none_counted x (half_turn d x) ≡ none_counted =
-      counts_silent v k none_counted (looked_of x) (found_of (process_in (looked_of x).start) (half_turn d x)) silent (began_early k x.owed x.time (not (is_over x)) begun on) in record {
+      counts_silent v k none_counted (looked_of v x) (found_of (process_in (looked_of v x).start) (half_turn d x)) silent (began_early k x.owed x.time (not (is_over x)) begun on) in record {
         choices = d ∷ before.choices;
         comes = ap (go n d) before.comes ∙ ap (λ (b : Bool). cond b (half_turn d x) x) goes;
-        untold = ap (λ (l : List ℕ). l ++ next_text v n d (after n before.choices m)) before.untold
-            ∙ (ap (next_text v n d) before.comes
-            ∙ (ap (λ (b : Bool). cond b (half_text v x (half_turn d x)) []) goes ∙ none));
+        untold = ap (λ (l : List ℕ). l ++ next_text v n d (after n before.choices m) (counts_along v n before.choices m)) before.untold
+            ∙ (ap (next_text v n d (after n before.choices m)) before.uncounted
+            ∙ (ap (λ (s : State). next_text v n d s none_counted) before.comes
+            ∙ (ap (λ (b : Bool). cond b (half_text v none_counted x (half_turn d x)) []) goes ∙ none)));
         uncounted = ap (next_counts v n d (after n before.choices m)) before.uncounted
             ∙ (ap (λ (s : State). next_counts v n d s none_counted) before.comes
             ∙ (ap (λ (b : Bool). cond b (half_counts v none_counted x (half_turn d x)) none_counted) goes ∙ uncounts));

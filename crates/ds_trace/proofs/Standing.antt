@@ -6,6 +6,7 @@ use Rattle.std.proofs.lemmas.Bool.Decides.{nat_tests}
 use Rattle.ds_word.specs.Word.{word, bits}
 use Rattle.ds_isa.specs.Registers.{Registers}
 use Rattle.ds_policy.specs.Grants.{PageState}
+use Rattle.ds_policy.specs.Pages.{Table}
 use Rattle.ds_cp0.specs.System.{is_user}
 use Rattle.ds_core.specs.Core.{CoreState}
 use Rattle.ds_procs.specs.declared.process.Standing.{Standing}
@@ -29,7 +30,7 @@ use Rattle.ds_trace.specs.Changes.{changes_text}
 use Rattle.ds_trace.specs.Counts.{Counted, is_counted, done_counted, switch_counted, counts_after}
 use Rattle.ds_trace.specs.Logs.{lines_of}
 use Rattle.ds_trace.specs.Summaries.{summary_text}
-use Rattle.ds_trace.specs.Halves.{log_of, looked_of, found_of, next_boundary, process_in, done_text, half_after}
+use Rattle.ds_trace.specs.Halves.{log_of, told_table, looked_of, found_of, next_boundary, process_in, done_text, opening_text, half_after}
 use Rattle.ds_trace.specs.Ends.{process_text, processes_text, end_text}
 use Rattle.ds_trace.specs.Shows.{start_held, looked_held, found_held, half_held, counts_held, processes_held, end_held}
 
@@ -78,9 +79,9 @@ processes_stand lines h (x ∷ xs) p same =
     ∙ (ap (λ (general : List ℕ). process_text lines p x.standing x.pc general ++ processes_held lines h (p + 1) (length xs)) here.2
     ∙ ap (λ (l : List ℕ). process_text lines p x.standing x.pc x.registers.general ++ l) (processes_stand lines h xs (p + 1) (λ j i is. same j (suc i) (omega (arith, is))))))
 
--- what is looked at of a state, with this unit, log and standings
-abbrev looked_by : State → Option Start → ℕ → List Standing → Looked
-looked_by s start logged standings = record {
+-- what is looked at of a state, with this unit, log, standings and table
+abbrev looked_by : View → State → Option Start → ℕ → List Standing → Table → Looked
+looked_by v s start logged standings table = record {
   owed = is_some s.owed;
   began = last_boundary s;
   start = cond (is_some s.owed) None start;
@@ -90,6 +91,7 @@ looked_by s start logged standings = record {
   characters = length s.characters;
   queued = map length s.queues;
   standings = standings;
+  table = told_table v table;
 }
 
 -- what is found of it
@@ -107,8 +109,8 @@ found_by s log general memory standings = record {
 }
 
 -- the lines of a half turn, by its unit
-abbrev half_by : View → Looked → Found → Option Start → List ℕ
-half_by v b f o = cond (shows_turn v b.began) (done_text v b f o ++ changes_text v b f) []
+abbrev half_by : View → Counted → Looked → Found → Option Start → List ℕ
+half_by v c b f o = cond (shows_turn v b.began) (opening_text v c b ++ done_text v b f o ++ changes_text v b f) []
 
 -- the counts after it, by its unit
 abbrev counts_by : View → Counted → Looked → Found → Option Start → Counted
@@ -188,16 +190,18 @@ module _ (h : Held) (m : State) (k : Stands h m) where
       ∙ (ap (λ (t : ℕ). Some (start_at m.memory (general_of m p) t p (address_held h p))) (sym (time_stands h m k))
       ∙ ap (λ (pc : ℕ). Some (start_at m.memory (general_of m p) m.time p pc)) (address_stands p (some_first p is) none)))
 
-  pub looked_stands : (owed : Bool) → owed ≡ is_some m.owed → h.own.spent ≡ 0 → looked_held owed h ≡ looked_of m
-  looked_stands owed is none =
+  pub looked_stands : (v : View) (owed : Bool) → owed ≡ is_some m.owed → h.own.spent ≡ 0 → looked_held v owed h ≡ looked_of v m
+  looked_stands v owed is none =
       let s : Option Start = start_held h (first h.kept.state.ready) in
       let standings : List Standing = map (λ (q : Process). q.standing) h.kept.state.processes in
-      ap (λ (b : Bool). looked_held b h) (is ∙ ap is_some (owed_stands h m k))
-      ∙ (ap (λ (x : State). looked_by x s (length h.kept.log) standings) (sym state_stands)
-      ∙ (ap (λ (o : Option Start). looked_by m o (length h.kept.log) standings)
+      let table : Table = h.kept.grants.table in
+      ap (λ (b : Bool). looked_held v b h) (is ∙ ap is_some (owed_stands h m k))
+      ∙ (ap (λ (x : State). looked_by v x s (length h.kept.log) standings table) (sym state_stands)
+      ∙ (ap (λ (o : Option Start). looked_by v m o (length h.kept.log) standings table)
       (start_by (first h.kept.state.ready) refl none ∙ ap (λ (ready : List ℕ). start_of m (first ready)) (sym ready_stands))
-      ∙ (ap (λ (log : List ℕ). looked_by m (start_of m (first m.ready)) (length log) standings) (sym log_stands)
-      ∙ ap (λ (ss : List Standing). looked_by m (start_of m (first m.ready)) (length (log_of m)) ss) standings_stand)))
+      ∙ (ap (λ (log : List ℕ). looked_by v m (start_of m (first m.ready)) (length log) standings table) (sym log_stands)
+      ∙ (ap (λ (ss : List Standing). looked_by v m (start_of m (first m.ready)) (length (log_of m)) ss table) standings_stand
+      ∙ ap (λ (s : PageState). looked_by v m (start_of m (first m.ready)) (length (log_of m)) (map (λ (q : Process). q.standing) m.processes) s.table) (sym memory_stands)))))
 
   -- After it.
 
@@ -211,15 +215,15 @@ module _ (h : Held) (m : State) (k : Stands h m) where
       ∙ ap (λ (ss : List Standing). found_by m (log_of m) general m.memory ss) standings_stand))
 
   -- a boundary tells of no registers
-  half_stands_by : (v : View) (b : Looked) (o : Option Start) → ((s : Start) → o ≡ Some s → general_held h s.process ≡ general_of m s.process)
-      → half_by v b (found_held (process_in o) h) o ≡ half_by v b (found_of (process_in o) m) o
-  half_stands_by v b None same = ap (λ (f : Found). half_by v b f None) (found_alike [])
-  half_stands_by v b (Some s) same =
-      ap (λ (f : Found). half_by v b f (Some s)) (found_alike (general_held h s.process))
-      ∙ ap (λ (general : List ℕ). half_by v b (record (found_of 0 m) { general = general }) (Some s)) (same s refl)
+  half_stands_by : (v : View) (c : Counted) (b : Looked) (o : Option Start) → ((s : Start) → o ≡ Some s → general_held h s.process ≡ general_of m s.process)
+      → half_by v c b (found_held (process_in o) h) o ≡ half_by v c b (found_of (process_in o) m) o
+  half_stands_by v c b None same = ap (λ (f : Found). half_by v c b f None) (found_alike [])
+  half_stands_by v c b (Some s) same =
+      ap (λ (f : Found). half_by v c b f (Some s)) (found_alike (general_held h s.process))
+      ∙ ap (λ (general : List ℕ). half_by v c b (record (found_of 0 m) { general = general }) (Some s)) (same s refl)
 
-  pub half_stands : (v : View) (b : Looked) → ((s : Start) → b.start ≡ Some s → general_held h s.process ≡ general_of m s.process) → half_held v b h ≡ half_after v b (found_of (process_in b.start) m)
-  half_stands v b same = half_stands_by v b b.start same
+  pub half_stands : (v : View) (c : Counted) (b : Looked) → ((s : Start) → b.start ≡ Some s → general_held h s.process ≡ general_of m s.process) → half_held v c b h ≡ half_after v c b (found_of (process_in b.start) m)
+  half_stands v c b same = half_stands_by v c b b.start same
 
   -- and so are the counts
   counts_stand_by : (v : View) (c : Counted) (b : Looked) (o : Option Start) → ((s : Start) → o ≡ Some s → general_held h s.process ≡ general_of m s.process)

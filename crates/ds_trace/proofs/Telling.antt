@@ -2,7 +2,6 @@
 use Rattle.std.proofs.Common.{◌≡◌, ℕ, ◌<◌, ◌≤◌, Bool, true, false, cond, List, [], ◌∷◌, ◌++◌, Option, Some, None, refl, sym, ap, subst, ◌∙◌, inl, inr, arith, append_assoc}
 use Rattle.std.proofs.lemmas.Bool.Decides.{nat_tests}
 use Rattle.std.specs.Prelude.{◌||◌, ◌&&◌, not, nat_lt, is_some}
-use Rattle.std.proofs.lemmas.List.{append-nil}
 use Rattle.std.specs.Io.KnownBytes.{Appends, Keeps}
 use Rattle.ds_log.specs.Sent.{AppendsPart}
 use Rattle.ds_log.proofs.Sends.{appends_kept, appends_none, appends_both, part_behind, part_before}
@@ -37,15 +36,15 @@ use Rattle.ds_trace.specs.Handed.{IsFinished, IsHandedOn}
 use Rattle.ds_trace.specs.Shows.{looked_held, half_held, counts_held, progress_held, end_held, IsTold}
 use Rattle.ds_trace.specs.Advanced.{is_last}
 use Rattle.ds_trace.proofs.Touched.{looked_touched, half_touched, counts_touched, touched_ready}
-use Rattle.ds_trace.proofs.Idling.{idle_after, idle_turn, idle_looked, idle_text, idle_boundary, idle_counts}
+use Rattle.ds_trace.proofs.Idling.{idle_after, idle_turn, idle_looked, idle_opening, idle_text, idle_boundary, idle_counts}
 use Rattle.ds_trace.proofs.Silence.{IsSilent, IsUntold, untold}
 use Rattle.ds_trace.proofs.Standing.{looked_stands, half_stands, counts_stand, general_stands, some_first, end_stands}
 
 -- A half turn more.
 
-along_more : (v : View) (n : ℕ) (d : Bool) (cs : List Bool) (m : State) → goes_on n (after n cs m) ≡ true → trace_along v n (d ∷ cs) m ≡ trace_along v n cs m ++ half_text v (after n cs m) (half_turn d (after n cs m))
+along_more : (v : View) (n : ℕ) (d : Bool) (cs : List Bool) (m : State) → goes_on n (after n cs m) ≡ true → trace_along v n (d ∷ cs) m ≡ trace_along v n cs m ++ half_text v (counts_along v n cs m) (after n cs m) (half_turn d (after n cs m))
 unfolding trace_along
-along_more v n d cs m on = ap (λ (b : Bool). trace_along v n cs m ++ cond b (half_text v (after n cs m) (half_turn d (after n cs m))) []) on
+along_more v n d cs m on = ap (λ (b : Bool). trace_along v n cs m ++ cond b (half_text v (counts_along v n cs m) (after n cs m) (half_turn d (after n cs m))) []) on
 
 counts_more : (v : View) (n : ℕ) (d : Bool) (cs : List Bool) (m : State) → goes_on n (after n cs m) ≡ true → counts_along v n (d ∷ cs) m ≡ half_counts v (counts_along v n cs m) (after n cs m) (half_turn d (after n cs m))
 unfolding counts_along
@@ -58,26 +57,26 @@ after_more n d cs m on = ap (λ (b : Bool). cond b (half_turn d (after n cs m)) 
 -- Of the way to the first turn that is told nothing is written, and nothing is to be written.
 
 module _ (v : View) (k n : ℕ) (m : State) (h new : Held) (a : Option (List ℕ)) (b : Progress) (within : k ≤ n) (silent : IsSilent v k) where
-  untold_from : (x : State) (early : Bool) → IsUntold v n m x → Stands new (touched early x) → b.before ≡ looked_of x → b.counts ≡ none_counted → IsTold v n m new a a [] b
+  untold_from : (x : State) (early : Bool) → IsUntold v n m x → Stands new (touched early x) → b.before ≡ looked_of v x → b.counts ≡ none_counted → IsTold v n m new a a [] b
   untold_from x early u stands is none = record {
     choices = u.choices;
     early = early;
     stands = subst (λ (y : State). Stands new (touched early y)) (sym u.comes) stands;
-    looked = is ∙ sym (ap looked_of u.comes);
+    looked = is ∙ sym (ap (looked_of v) u.comes);
     counted = none ∙ sym u.uncounted;
     sent = [];
     appends = appends_none a;
     told = sym u.untold;
   }
 
-  pub told_first : Stands h m → RunsWithin k h new → h.kept.state.owed ≡ None → new.kept.state.owed ≡ None → new.own.spent ≡ 0 → b.before ≡ looked_held false new → b.counts ≡ none_counted → IsTold v n m new a a [] b
+  pub told_first : Stands h m → RunsWithin k h new → h.kept.state.owed ≡ None → new.kept.state.owed ≡ None → new.own.spent ≡ 0 → b.before ≡ looked_held v false new → b.counts ≡ none_counted → IsTold v n m new a a [] b
   told_first stands runs unowed owes none is uncounted =
       let t = runs.runs m stands in
       let x : State = after k t.1.choices m in
       let there : Stands new (touched t.1.early x) = subst (Stands new) t.1.comes_to t.2 in
       let owed : (touched t.1.early x).owed ≡ None = owed_stands new (touched t.1.early x) there ∙ owes in
       untold_from x t.1.early (untold v k n within silent t.1.choices m (owed_stands h m stands ∙ unowed)) there
-      (is ∙ (looked_stands new (touched t.1.early x) there false (sym (ap is_some owed)) none ∙ looked_touched t.1.early x)) uncounted
+      (is ∙ (looked_stands new (touched t.1.early x) there v false (sym (ap is_some owed)) none ∙ looked_touched v t.1.early x)) uncounted
 
 -- A part of a unit tells nothing.
 
@@ -121,15 +120,17 @@ module _ (v : View) (n : ℕ) (m : State) (h new : Held) (a d : Option (List ℕ
 
   -- by the half turn that leads from where the run was
   told_half : (t : State) (touch late owed : Bool) → goes_on n at ≡ true → t ≡ touched late (half_turn touch at) → Stands new t → owed ≡ is_some t.owed → new.own.spent ≡ 0
-      → ((s : Start) → b.before.start ≡ Some s → general_held new s.process ≡ general_of t s.process) → more ≡ rest ++ half_held v b.before new → c ≡ progress_held owed v b new → IsTold v n m new a d more c
+      → ((s : Start) → b.before.start ≡ Some s → general_held new s.process ≡ general_of t s.process) → more ≡ rest ++ half_held v b.counts b.before new → c ≡ progress_held owed v b new → IsTold v n m new a d more c
   unfolding after
   told_half t touch late owed on is k owes none same adds looks =
       let next = after_more n touch told.choices m on in
-      let line : half_held v b.before new ≡ half_text v at (half_turn touch at) =
-      half_stands new t k v b.before same
-      ∙ (ap (λ (y : State). half_after v b.before (found_of (process_in b.before.start) y)) is
-      ∙ (half_touched v b.before (process_in b.before.start) late (half_turn touch at)
-      ∙ ap (λ (x : Looked). half_after v x (found_of (process_in x.start) (half_turn touch at))) told.looked)) in
+      let so_far : Counted = counts_along v n told.choices m in
+      let line : half_held v b.counts b.before new ≡ half_text v so_far at (half_turn touch at) =
+      half_stands new t k v b.counts b.before same
+      ∙ (ap (λ (y : State). half_after v b.counts b.before (found_of (process_in b.before.start) y)) is
+      ∙ (half_touched v b.counts b.before (process_in b.before.start) late (half_turn touch at)
+      ∙ (ap (λ (x : Looked). half_after v b.counts x (found_of (process_in x.start) (half_turn touch at))) told.looked
+      ∙ ap (λ (x : Counted). half_text v x at (half_turn touch at)) told.counted))) in
       let counts : counts_held v b.counts b.before new ≡ half_counts v (counts_along v n told.choices m) at (half_turn touch at) =
       counts_stand new t k v b.counts b.before same
       ∙ (ap (λ (y : State). counts_after v b.counts b.before (found_of (process_in b.before.start) y)) is
@@ -139,13 +140,13 @@ module _ (v : View) (n : ℕ) (m : State) (h new : Held) (a d : Option (List ℕ
         choices = touch ∷ told.choices;
         early = late;
         stands = subst (Stands new) (is ∙ ap (touched late) (sym next)) k;
-        looked = ap (λ (x : Progress). x.before) looks ∙ (looked_stands new t k owed owes none ∙ (ap looked_of is ∙ (looked_touched late (half_turn touch at) ∙ ap looked_of (sym next))));
+        looked = ap (λ (x : Progress). x.before) looks ∙ (looked_stands new t k v owed owes none ∙ (ap (looked_of v) is ∙ (looked_touched v late (half_turn touch at) ∙ ap (looked_of v) (sym next))));
         counted = ap (λ (x : Progress). x.counts) looks ∙ (counts ∙ sym (counts_more v n touch told.choices m on));
         sent = told.sent;
         appends = told.appends;
         told = ap (λ (l : List ℕ). told.sent ++ l) (adds ∙ ap (λ (l : List ℕ). rest ++ l) line)
-            ∙ (sym (append_assoc told.sent rest (half_text v at (half_turn touch at)))
-            ∙ (ap (λ (l : List ℕ). l ++ half_text v at (half_turn touch at)) told.told
+            ∙ (sym (append_assoc told.sent rest (half_text v so_far at (half_turn touch at)))
+            ∙ (ap (λ (l : List ℕ). l ++ half_text v so_far at (half_turn touch at)) told.told
             ∙ sym (along_more v n touch told.choices m on)));
       }
 
@@ -231,7 +232,7 @@ module _ (v : View) (n : ℕ) (m : State) (h new : Held) (a d : Option (List ℕ
       let runs : first here.ready ≡ Some s.process = start_process (is_some here.owed) here (first here.ready) s (start_is s is) in
       some_first h now told.stands s.process (sym (ap first ready_here) ∙ runs)
 
-  pub told_unit : Follows Unit h new → Moves Unit h new → more ≡ rest ++ half_held v b.before new → c ≡ progress_held true v b new → IsTold v n m new a d more c
+  pub told_unit : Follows Unit h new → Moves Unit h new → more ≡ rest ++ half_held v b.counts b.before new → c ≡ progress_held true v b new → IsTold v n m new a d more c
   told_unit f moves adds looks =
       let t = f.follows now told.stands in
       let half = half_is here now t.0 told.early refl t.1.2 in
@@ -239,7 +240,7 @@ module _ (v : View) (n : ℕ) (m : State) (h new : Held) (a d : Option (List ℕ
       told_half v n m h new a d rest more b c told t.0 half.0 half.1 true goes_here half.2 t.2 (sym owes) moves.3
       (λ s is. general_stands new t.0 t.2 s.process (some_process s is) moves.3) adds looks
 
-  owed_boundary_told : (t : State) → Stands new t → (now.owed ≡ None → ⊥) → HalfTo now t → Moves Boundary h new → more ≡ rest ++ half_held v b.before new → c ≡ progress_held false v b new → IsTold v n m new a d more c
+  owed_boundary_told : (t : State) → Stands new t → (now.owed ≡ None → ⊥) → HalfTo now t → Moves Boundary h new → more ≡ rest ++ half_held v b.counts b.before new → c ≡ progress_held false v b new → IsTold v n m new a d more c
   owed_boundary_told t k owed goes moves adds looks =
       let half = half_is here now t told.early refl goes in
       let owes : is_some here.owed ≡ true = ap is_some (sym (touched_owed told.early here)) ∙ owes_some now.owed owed in
@@ -254,59 +255,65 @@ module _ (v : View) (n : ℕ) (m : State) (h new : Held) (a d : Option (List ℕ
 
   no_unit : (s : Start) → b.before.start ≡ Some s → from.owed ≡ None → from.ready ≡ [] → ⊥
   no_unit s starts owed none =
-      let no : None ≡ Some s = sym (ap (λ (x : Looked). x.start) (idle_looked from owed none)) ∙ (sym (ap (λ (x : Looked). x.start) told.looked) ∙ starts) in cc
+      let no : None ≡ Some s = sym (ap (λ (x : Looked). x.start) (idle_looked v from owed none)) ∙ (sym (ap (λ (x : Looked). x.start) told.looked) ∙ starts) in cc
 
   -- both half turns, by their touches
   told_idle : (t : State) (first_touch touch late : Bool) → from.owed ≡ None → from.ready ≡ [] → t ≡ touched late (half_turn touch (half_turn first_touch from)) → Stands new t → t.owed ≡ None → new.own.spent ≡ 0
-      → more ≡ rest ++ half_held v b.before new → c ≡ progress_held false v b new → IsTold v n m new a d more c
+      → more ≡ rest ++ half_held v b.counts b.before new → c ≡ progress_held false v b new → IsTold v n m new a d more c
   told_idle t first_touch touch late owed none is k unowed begun adds looks =
       let between : after n (first_touch ∷ told.choices) m ≡ idle_after from = after_more n first_touch told.choices m on ∙ idle_turn from first_touch owed none in
       let goes : goes_on n (after n (first_touch ∷ told.choices) m) ≡ true = ap (goes_on n) between in
       let last : State = half_turn touch (idle_after from) in
       let next : after n (touch ∷ first_touch ∷ told.choices) m ≡ last = after_more n touch (first_touch ∷ told.choices) m goes ∙ ap (half_turn touch) between in
       let came : t ≡ touched late last = is ∙ ap (λ (x : State). touched late (half_turn touch x)) (idle_turn from first_touch owed none) in
-      let line : half_held v b.before new ≡ half_text v (idle_after from) last =
-      half_stands new t k v b.before (λ s starts. absurd (no_unit s starts owed none))
-      ∙ (ap (λ (y : State). half_after v b.before (found_of (process_in b.before.start) y)) came
-      ∙ (half_touched v b.before (process_in b.before.start) late last
-      ∙ (ap (λ (x : Looked). half_after v x (found_of (process_in x.start) last)) told.looked ∙ idle_boundary v from last owed none))) in
-      let first_line : trace_along v n (first_touch ∷ told.choices) m ≡ trace_along v n told.choices m =
-      along_more v n first_touch told.choices m on
-      ∙ (ap (λ (x : State). trace_along v n told.choices m ++ half_text v from x) (idle_turn from first_touch owed none)
-      ∙ (ap (λ (l : List ℕ). trace_along v n told.choices m ++ l) (idle_text v from owed none) ∙ append-nil (trace_along v n told.choices m))) in
-      let second_line : trace_along v n (touch ∷ first_touch ∷ told.choices) m ≡ trace_along v n told.choices m ++ half_text v (idle_after from) last =
-      along_more v n touch (first_touch ∷ told.choices) m goes
-      ∙ (ap (λ (x : State). trace_along v n (first_touch ∷ told.choices) m ++ half_text v x (half_turn touch x)) between
-      ∙ ap (λ (l : List ℕ). l ++ half_text v (idle_after from) last) first_line) in
       let before : Counted = counts_along v n told.choices m in
-      let counts : counts_held v b.counts b.before new ≡ half_counts v (half_counts v before from (idle_after from)) (idle_after from) last =
+      let ticked : Counted = half_counts v before from (idle_after from) in
+      let opening : List ℕ = idle_opening v before from in
+      let half : List ℕ = half_text v ticked (idle_after from) last in
+      let line : half_held v b.counts b.before new ≡ opening ++ half =
+      half_stands new t k v b.counts b.before (λ s starts. absurd (no_unit s starts owed none))
+      ∙ (ap (λ (y : State). half_after v b.counts b.before (found_of (process_in b.before.start) y)) came
+      ∙ (half_touched v b.counts b.before (process_in b.before.start) late last
+      ∙ (ap (λ (x : Looked). half_after v b.counts x (found_of (process_in x.start) last)) told.looked
+      ∙ (ap (λ (x : Counted). half_after v x (looked_of v from) (found_of (process_in (looked_of v from).start) last)) told.counted
+      ∙ idle_boundary v before from last owed none)))) in
+      let first_count : counts_along v n (first_touch ∷ told.choices) m ≡ ticked =
+      counts_more v n first_touch told.choices m on ∙ ap (half_counts v before from) (idle_turn from first_touch owed none) in
+      let second_count : counts_along v n (touch ∷ first_touch ∷ told.choices) m ≡ half_counts v ticked (idle_after from) last =
+      counts_more v n touch (first_touch ∷ told.choices) m goes
+      ∙ (ap (λ (x : State). half_counts v (counts_along v n (first_touch ∷ told.choices) m) x (half_turn touch x)) between
+      ∙ ap (λ (x : Counted). half_counts v x (idle_after from) last) first_count) in
+      let first_line : trace_along v n (first_touch ∷ told.choices) m ≡ trace_along v n told.choices m ++ opening =
+      along_more v n first_touch told.choices m on
+      ∙ (ap (λ (x : State). trace_along v n told.choices m ++ half_text v before from x) (idle_turn from first_touch owed none)
+      ∙ ap (λ (l : List ℕ). trace_along v n told.choices m ++ l) (idle_text v before from owed none)) in
+      let second_line : trace_along v n (touch ∷ first_touch ∷ told.choices) m ≡ (trace_along v n told.choices m ++ opening) ++ half =
+      along_more v n touch (first_touch ∷ told.choices) m goes
+      ∙ (ap (λ (x : State). trace_along v n (first_touch ∷ told.choices) m ++ half_text v (counts_along v n (first_touch ∷ told.choices) m) x (half_turn touch x)) between
+      ∙ (ap (λ (x : Counted). trace_along v n (first_touch ∷ told.choices) m ++ half_text v x (idle_after from) last) first_count
+      ∙ ap (λ (l : List ℕ). l ++ half) first_line)) in
+      let counts : counts_held v b.counts b.before new ≡ half_counts v ticked (idle_after from) last =
       counts_stand new t k v b.counts b.before (λ s starts. absurd (no_unit s starts owed none))
       ∙ (ap (λ (y : State). counts_after v b.counts b.before (found_of (process_in b.before.start) y)) came
       ∙ (counts_touched v b.counts b.before (process_in b.before.start) late last
       ∙ (ap (λ (x : Looked). counts_after v b.counts x (found_of (process_in x.start) last)) told.looked
-      ∙ (ap (λ (x : Counted). counts_after v x (looked_of from) (found_of (process_in (looked_of from).start) last)) told.counted
-      ∙ idle_counts v before from last owed none)))) in
-      let first_count : counts_along v n (first_touch ∷ told.choices) m ≡ half_counts v before from (idle_after from) =
-      counts_more v n first_touch told.choices m on ∙ ap (half_counts v before from) (idle_turn from first_touch owed none) in
-      let second_count : counts_along v n (touch ∷ first_touch ∷ told.choices) m ≡ half_counts v (half_counts v before from (idle_after from)) (idle_after from) last =
-      counts_more v n touch (first_touch ∷ told.choices) m goes
-      ∙ (ap (λ (x : State). half_counts v (counts_along v n (first_touch ∷ told.choices) m) x (half_turn touch x)) between
-      ∙ ap (λ (x : Counted). half_counts v x (idle_after from) last) first_count) in record {
+      ∙ (ap (λ (x : Counted). counts_after v x (looked_of v from) (found_of (process_in (looked_of v from).start) last)) told.counted
+      ∙ idle_counts v before from last owed none)))) in record {
         choices = touch ∷ first_touch ∷ told.choices;
         early = late;
         stands = subst (Stands new) (came ∙ ap (touched late) (sym next)) k;
-        looked = ap (λ (x : Progress). x.before) looks ∙ (looked_stands new t k false (sym (owes_none t.owed unowed)) begun ∙ (ap looked_of came ∙ (looked_touched late last ∙ ap looked_of (sym next))));
+        looked = ap (λ (x : Progress). x.before) looks ∙ (looked_stands new t k v false (sym (owes_none t.owed unowed)) begun ∙ (ap (looked_of v) came ∙ (looked_touched v late last ∙ ap (looked_of v) (sym next))));
         counted = ap (λ (x : Progress). x.counts) looks ∙ (counts ∙ sym second_count);
         sent = told.sent;
         appends = told.appends;
         told = ap (λ (l : List ℕ). told.sent ++ l) (adds ∙ ap (λ (l : List ℕ). rest ++ l) line)
-            ∙ (sym (append_assoc told.sent rest (half_text v (idle_after from) last))
-            ∙ (ap (λ (l : List ℕ). l ++ half_text v (idle_after from) last) told.told
-            ∙ sym second_line));
+            ∙ (sym (append_assoc told.sent rest (opening ++ half))
+            ∙ (ap (λ (l : List ℕ). l ++ (opening ++ half)) told.told
+            ∙ (sym (append_assoc (trace_along v n told.choices m) opening half) ∙ sym second_line)));
       }
 
 module _ (v : View) (n : ℕ) (m : State) (h new : Held) (a d : Option (List ℕ)) (rest more : List ℕ) (b c : Progress) (told : IsTold v n m h a d rest b) (going : held_goes_on n h ≡ true) where
-  pub told_boundary : Follows Boundary h new → Moves Boundary h new → more ≡ rest ++ half_held v b.before new → c ≡ progress_held false v b new → IsTold v n m new a d more c
+  pub told_boundary : Follows Boundary h new → Moves Boundary h new → more ≡ rest ++ half_held v b.counts b.before new → c ≡ progress_held false v b new → IsTold v n m new a d more c
   told_boundary f moves adds looks =
       let x : State = after n told.choices m in
       let t = f.follows (touched told.early x) told.stands in

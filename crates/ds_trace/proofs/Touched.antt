@@ -3,7 +3,7 @@ use Rattle.std.proofs.Common.{◌≡◌, ◌≢◌, ℕ, zero, suc, ◌+◌, ◌
 use Rattle.std.specs.Prelude.{is_some, length, map, drop, codes, decimal, slice_index, ◌||◌, ◌==◌}
 use Rattle.std.proofs.lemmas.List.{get_or-set_other}
 use Rattle.ds_word.specs.Word.{word, sign_extended}
-use Rattle.ds_isa.specs.Encoding.{uses}
+use Rattle.ds_isa.specs.Uses.{uses}
 use Rattle.ds_isa.specs.Instruction.{instruction_of}
 use Rattle.ds_listing.specs.Texts.{hex8}
 use Rattle.ds_policy.specs.Grants.{PageState}
@@ -25,7 +25,7 @@ use Rattle.ds_trace.specs.Lines.{is_hidden, shown, register_of, register_text, r
 use Rattle.ds_trace.specs.Boundaries.{due_by}
 use Rattle.ds_trace.specs.Changes.{changes_text, standing_text}
 use Rattle.ds_trace.specs.Counts.{Counted, is_counted, unit_counted, done_counted, switch_counted, counts_after}
-use Rattle.ds_trace.specs.Halves.{log_of, next_boundary, looked_of, found_of, process_in, done_text, half_after, half_text, half_counts}
+use Rattle.ds_trace.specs.Halves.{log_of, next_boundary, told_table, looked_of, found_of, process_in, entries_text, done_text, opening_text, half_after, half_text, half_counts}
 use Rattle.ds_trace.specs.Logs.{lines_of}
 use Rattle.ds_trace.specs.Summaries.{summary_text}
 use Rattle.ds_trace.specs.Ends.{left_text, registers_text, parked_text, process_text, processes_text, end_text}
@@ -86,8 +86,8 @@ start_first q m (Some p) = read_again (λ (x : Process). Some (start_at m.memory
     (λ x. ap (λ (s : Start). Some s) (start_kept m.memory x.registers.general m.time p x.pc)) m.processes (q - 1) (p - 1) no_process
 
 -- what is looked at, with this unit and these standings
-abbrev looked_with : State → Option Start → List Standing → Looked
-looked_with m start standings = record {
+abbrev looked_with : View → State → Option Start → List Standing → Looked
+looked_with v m start standings = record {
   owed = is_some m.owed;
   began = last_boundary m;
   start = cond (is_some m.owed) None start;
@@ -97,17 +97,18 @@ looked_with m start standings = record {
   characters = length m.characters;
   queued = map length m.queues;
   standings = standings;
+  table = told_table v m.memory.table;
 }
 
-looked_first : (ready : List ℕ) (m : State) → looked_of (touch_first m ready) ≡ looked_of m
-looked_first [] m = refl
-looked_first (q ∷ rest) m =
-    ap (λ (s : Option Start). looked_with m s (map (λ (x : Process). x.standing) (with_process m q (touched_process (process_of m q))).processes)) (start_first q m (first m.ready))
-    ∙ ap (λ (ss : List Standing). looked_with m (start_of m (first m.ready)) ss) (map_again (λ (x : Process). x.standing) touched_process (λ x. refl) m.processes (q - 1) no_process)
+looked_first : (v : View) (ready : List ℕ) (m : State) → looked_of v (touch_first m ready) ≡ looked_of v m
+looked_first v [] m = refl
+looked_first v (q ∷ rest) m =
+    ap (λ (s : Option Start). looked_with v m s (map (λ (x : Process). x.standing) (with_process m q (touched_process (process_of m q))).processes)) (start_first q m (first m.ready))
+    ∙ ap (λ (ss : List Standing). looked_with v m (start_of m (first m.ready)) ss) (map_again (λ (x : Process). x.standing) touched_process (λ x. refl) m.processes (q - 1) no_process)
 
-pub looked_touched : (b : Bool) (m : State) → looked_of (touched b m) ≡ looked_of m
-looked_touched true m = looked_first m.ready m
-looked_touched false m = refl
+pub looked_touched : (v : View) (b : Bool) (m : State) → looked_of v (touched b m) ≡ looked_of v m
+looked_touched v true m = looked_first v m.ready m
+looked_touched v false m = refl
 
 -- After it.
 
@@ -160,11 +161,11 @@ unit_kept s done f pc =
 done_kept : (v : View) (b : Looked) (f : Found) (pc : ℕ) (o : Option Start) → done_text v b (touched_found f pc) o ≡ done_text v b f o
 done_kept v b f pc None = refl
 done_kept v b f pc (Some s) =
-    ap (λ (l : List ℕ). cond (shows_unit v s.process (is_some s.call)) l [] ++ cond (shows_denials v s.process) (denied_text (drop b.logged f.log)) [])
+    ap (λ (l : List ℕ). (cond (shows_unit v s.process (is_some s.call)) l [] ++ cond (shows_denials v s.process) (denied_text (drop b.logged f.log)) []) ++ entries_text v b f)
     (unit_kept s (was_done s (drop b.logged f.log)) f pc)
 
-half_kept : (v : View) (b : Looked) (f : Found) (pc : ℕ) → half_after v b (touched_found f pc) ≡ half_after v b f
-half_kept v b f pc = ap (λ (l : List ℕ). cond (shows_turn v b.began) (l ++ changes_text v b f) []) (done_kept v b f pc b.start)
+half_kept : (v : View) (k : Counted) (b : Looked) (f : Found) (pc : ℕ) → half_after v k b (touched_found f pc) ≡ half_after v k b f
+half_kept v k b f pc = ap (λ (l : List ℕ). cond (shows_turn v b.began) (opening_text v k b ++ l ++ changes_text v b f) []) (done_kept v b f pc b.start)
 
 -- what is found, with these registers and standings
 abbrev found_with : State → List ℕ → List Standing → Found
@@ -194,13 +195,13 @@ module _ {Y : Type 0} (g : Found → Y) (keeps : (f : Found) (pc : ℕ) → g (t
   found_touched p true t = found_first p t.ready t
   found_touched p false t = refl
 
-pub half_touched : (v : View) (b : Looked) (p : ℕ) (late : Bool) (t : State) → half_after v b (found_of p (touched late t)) ≡ half_after v b (found_of p t)
-half_touched v b p late t = found_touched (half_after v b) (half_kept v b) p late t
+pub half_touched : (v : View) (k : Counted) (b : Looked) (p : ℕ) (late : Bool) (t : State) → half_after v k b (found_of p (touched late t)) ≡ half_after v k b (found_of p t)
+half_touched v k b p late t = found_touched (half_after v k b) (half_kept v k b) p late t
 
-pub lines_touched : (v : View) (a b : Bool) (m t : State) → half_text v (touched a m) (touched b t) ≡ half_text v m t
-lines_touched v a b m t =
-    ap (λ (l : Looked). half_after v l (found_of (process_in l.start) (touched b t))) (looked_touched a m)
-    ∙ half_touched v (looked_of m) (process_in (looked_of m).start) b t
+pub lines_touched : (v : View) (k : Counted) (a b : Bool) (m t : State) → half_text v k (touched a m) (touched b t) ≡ half_text v k m t
+lines_touched v k a b m t =
+    ap (λ (l : Looked). half_after v k l (found_of (process_in l.start) (touched b t))) (looked_touched v a m)
+    ∙ half_touched v k (looked_of v m) (process_in (looked_of v m).start) b t
 
 -- The counts.
 
@@ -216,8 +217,8 @@ counts_touched v k b p late t = found_touched (counts_after v k b) (counts_kept 
 
 pub half_counts_touched : (v : View) (k : Counted) (a b : Bool) (m t : State) → half_counts v k (touched a m) (touched b t) ≡ half_counts v k m t
 half_counts_touched v k a b m t =
-    ap (λ (l : Looked). counts_after v k l (found_of (process_in l.start) (touched b t))) (looked_touched a m)
-    ∙ counts_touched v k (looked_of m) (process_in (looked_of m).start) b t
+    ap (λ (l : Looked). counts_after v k l (found_of (process_in l.start) (touched b t))) (looked_touched v a m)
+    ∙ counts_touched v k (looked_of v m) (process_in (looked_of v m).start) b t
 
 -- The end.
 

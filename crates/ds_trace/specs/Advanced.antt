@@ -22,8 +22,8 @@ is_last other = false
 -- what a step adds to a text and to what is kept of a run: where it ends a half turn, the lines and the counts of that
 abbrev pub Adds : Step → View → Held → List ℕ → Progress → List ℕ → Progress → Type 0
 Adds Inside v h text b more c = (more ≡ text) × (c ≡ b)
-Adds Unit v h text b more c = (more ≡ text ++ half_held v b.before h) × (c ≡ progress_held true v b h)
-Adds Boundary v h text b more c = (more ≡ text ++ half_held v b.before h) × (c ≡ progress_held false v b h)
+Adds Unit v h text b more c = (more ≡ text ++ half_held v b.counts b.before h) × (c ≡ progress_held true v b h)
+Adds Boundary v h text b more c = (more ≡ text ++ half_held v b.counts b.before h) × (c ≡ progress_held false v b h)
 Adds Over v h text b more c = (more ≡ text) × (c ≡ b)
 
 -- a step of a kind was done, and told of

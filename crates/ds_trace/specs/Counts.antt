@@ -39,6 +39,10 @@ none_counted = record {
   denied = [];
 }
 
+-- whether no turn is counted yet: the first half turn of each is a unit or a tick in which nobody runs
+abbrev pub is_unbegun : Counted → Bool
+is_unbegun k = (k.units == 0) && (k.idle == 0)
+
 -- A count with so many more. It stops at the greatest number of 64 bits, to which no run of 1,000,000,000 ticks comes.
 abbrev pub plus : ℕ → ℕ → ℕ
 plus count more = min (count + more) (2 ^ 64 - 1)

@@ -1,17 +1,19 @@
 -- The lines of a half turn.
-use Rattle.std.specs.Prelude.{ℕ, ◌+◌, if◌then◌else◌, List, [], ◌++◌, length, drop, flat_map, map, is_some, Option, Some, None}
+use Rattle.std.specs.Prelude.{ℕ, ◌+◌, ◌&&◌, if◌then◌else◌, List, [], ◌++◌, length, drop, flat_map, map, is_some, Option, Some, None}
 use Rattle.ds_log.specs.Text as log
+use Rattle.ds_policy.specs.Pages.{Table}
 use Rattle.ds_pagemap.specs.Machine.{State, first}
 use Rattle.ds_refinement.specs.Held.{last_boundary}
 use Rattle.ds_view.specs.declared.view.View.{View}
-use Rattle.ds_view.specs.Views.{shows_turn}
+use Rattle.ds_view.specs.Views.{shows_entries, shows_turn}
 use Rattle.ds_trace.specs.declared.start.Start.{Start}
 use Rattle.ds_trace.specs.Starts.{general_of, next_start}
 use Rattle.ds_trace.specs.Looks.{Looked, Found}
 use Rattle.ds_trace.specs.Lines.{unit_told}
 use Rattle.ds_trace.specs.Boundaries.{due_by, boundary_text}
 use Rattle.ds_trace.specs.Changes.{changes_text}
-use Rattle.ds_trace.specs.Counts.{Counted, counts_after}
+use Rattle.ds_trace.specs.Entries.{tables_text}
+use Rattle.ds_trace.specs.Counts.{Counted, counts_after, is_unbegun}
 
 -- the text of a state's log
 abbrev pub log_of : State → List ℕ
@@ -21,9 +23,13 @@ log_of m = flat_map log.line_text m.log
 abbrev pub next_boundary : State → ℕ
 next_boundary m = if is_some m.owed then m.time else m.time + 1
 
+-- the permission table, where a view wants its entries
+abbrev pub told_table : View → Table → Table
+told_table v table = if shows_entries v then table else []
+
 -- what of a state the lines of its next half turn tell
-abbrev pub looked_of : State → Looked
-looked_of m = record {
+abbrev pub looked_of : View → State → Looked
+looked_of v m = record {
   owed = is_some m.owed;
   began = last_boundary m;
   start = next_start m;
@@ -33,6 +39,7 @@ looked_of m = record {
   characters = length m.characters;
   queued = map length m.queues;
   standings = map (λ q. q.standing) m.processes;
+  table = told_table v m.memory.table;
 }
 
 -- what is found in the state after it, with the registers of this process
@@ -54,19 +61,27 @@ abbrev pub process_in : Option Start → ℕ
 process_in None = 0
 process_in (Some s) = s.process
 
--- what was done: a unit, or a boundary, which leaves none owed
+-- the lines of the entries that were changed
+abbrev pub entries_text : View → Looked → Found → List ℕ
+entries_text v b f = if shows_entries v then tables_text v f.time b.table f.memory.table else []
+
+-- what was done: a unit, or a boundary, which leaves none owed; a tick in which nobody runs changes nothing that is told
 abbrev pub done_text : View → Looked → Found → Option Start → List ℕ
-done_text v b f None = if f.owed then [] else boundary_text v b f
-done_text v b f (Some s) = unit_told v s (drop b.logged f.log) f
+done_text v b f None = if f.owed then [] else boundary_text v b f ++ entries_text v b f
+done_text v b f (Some s) = unit_told v s (drop b.logged f.log) f ++ entries_text v b f
 
--- the lines of a half turn, by what was before it and what is found after it
-abbrev pub half_after : View → Looked → Found → List ℕ
-half_after v b f = if shows_turn v b.began then done_text v b f b.start ++ changes_text v b f else []
+-- before the first half turn that is counted, the lines of all entries: what has changed from a table that has none
+abbrev pub opening_text : View → Counted → Looked → List ℕ
+opening_text v k b = if shows_entries v && is_unbegun k then tables_text v b.began [] b.table else []
 
--- the lines of the half turn that leads from a state to another
-abbrev pub half_text : View → State → State → List ℕ
-half_text v m t = half_after v (looked_of m) (found_of (process_in (next_start m)) t)
+-- the lines of a half turn, by the counts before it, what was before it and what is found after it
+abbrev pub half_after : View → Counted → Looked → Found → List ℕ
+half_after v k b f = if shows_turn v b.began then opening_text v k b ++ done_text v b f b.start ++ changes_text v b f else []
+
+-- the lines of the half turn that leads from a state, with these counts, to another
+abbrev pub half_text : View → Counted → State → State → List ℕ
+half_text v k m t = half_after v k (looked_of v m) (found_of (process_in (next_start m)) t)
 
 -- the counts after it
 abbrev pub half_counts : View → Counted → State → State → Counted
-half_counts v k m t = counts_after v k (looked_of m) (found_of (process_in (next_start m)) t)
+half_counts v k m t = counts_after v k (looked_of v m) (found_of (process_in (next_start m)) t)

@@ -5,6 +5,8 @@ pub mod Stores
 pub mod Lines
 pub mod Boundaries
 pub mod Changes
+pub mod Entries
+pub mod EntryRows
 pub mod Counts
 pub mod Halves
 pub mod Logs

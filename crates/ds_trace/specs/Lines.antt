@@ -1,7 +1,7 @@
 -- The lines of a unit.
 use Rattle.std.specs.Prelude.{codes, decimal, ℕ, ◌+◌, Bool, ◌==◌, ◌||◌, if◌then◌else◌, List, [], ◌++◌, length, slice_index, is_some, Option, Some, None}
 use Rattle.ds_word.specs.Word.{word}
-use Rattle.ds_isa.specs.Encoding.{uses}
+use Rattle.ds_isa.specs.Uses.{uses}
 use Rattle.ds_isa.specs.Instruction.{instruction_of}
 use Rattle.ds_listing.specs.Texts.{hex8, text_of}
 use Rattle.ds_procs.specs.declared.call.Call.{Call}

@@ -1,6 +1,7 @@
 -- What the lines of a half turn look at: of the state before it, and of the state after it.
 use Rattle.std.specs.Prelude.{ℕ, Bool, List, Option}
 use Rattle.ds_policy.specs.Grants.{PageState}
+use Rattle.ds_policy.specs.Pages.{Table}
 use Rattle.ds_policy.specs.declared.command.TimedCommand.{TimedCommand}
 use Rattle.ds_procs.specs.declared.process.Standing.{Standing}
 use Rattle.ds_trace.specs.declared.start.Start.{Start}
@@ -22,6 +23,8 @@ pub record Looked : Type 0 where
   pub characters : ℕ
   pub queued : List ℕ
   pub standings : List Standing
+  -- the permission table, where entries are told of
+  pub table : Table
 
 -- what is found after it, with the registers of the process whose unit it was
 pub record Found : Type 0 where

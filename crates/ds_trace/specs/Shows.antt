@@ -15,7 +15,7 @@ use Rattle.ds_trace.specs.Starts.{start_at}
 use Rattle.ds_trace.specs.Looks.{Looked, Found}
 use Rattle.ds_trace.specs.Boundaries.{due_by}
 use Rattle.ds_trace.specs.Counts.{Counted, counts_after}
-use Rattle.ds_trace.specs.Halves.{looked_of, process_in, half_after}
+use Rattle.ds_trace.specs.Halves.{looked_of, process_in, half_after, told_table}
 use Rattle.ds_trace.specs.Logs.{lines_of}
 use Rattle.ds_trace.specs.Summaries.{summary_text}
 use Rattle.ds_trace.specs.Ends.{process_text}
@@ -30,8 +30,8 @@ start_held h None = None
 start_held h (Some p) = Some (start_at (memory_held h) (general_held h p) h.kept.state.time p (address_held h p))
 
 -- what of a station the lines of its next half turn tell, by whether a boundary is owed
-abbrev pub looked_held : Bool → Held → Looked
-looked_held owed h = record {
+abbrev pub looked_held : View → Bool → Held → Looked
+looked_held v owed h = record {
   owed = owed;
   began = last_boundary h.kept.state;
   start = if owed then None else start_held h (first h.kept.state.ready);
@@ -41,6 +41,7 @@ looked_held owed h = record {
   characters = length h.kept.state.characters;
   queued = map length h.kept.state.queues;
   standings = map (λ q. q.standing) h.kept.state.processes;
+  table = told_table v h.kept.grants.table;
 }
 
 -- what is found after it, with the registers of this process
@@ -57,9 +58,9 @@ found_held p h = record {
   standings = map (λ q. q.standing) h.kept.state.processes;
 }
 
--- the lines of a half turn, by what was before it and what is held after it
-abbrev pub half_held : View → Looked → Held → List ℕ
-half_held v b h = half_after v b (found_held (process_in b.start) h)
+-- the lines of a half turn, by the counts before it, what was before it and what is held after it
+abbrev pub half_held : View → Counted → Looked → Held → List ℕ
+half_held v k b h = half_after v k b (found_held (process_in b.start) h)
 
 -- the counts after it
 abbrev pub counts_held : View → Counted → Looked → Held → Counted
@@ -67,7 +68,7 @@ counts_held v k b h = counts_after v k b (found_held (process_in b.start) h)
 
 -- what is looked at for the next, and the counts
 abbrev pub progress_held : Bool → View → Progress → Held → Progress
-progress_held owed v b h = record { before = looked_held owed h; counts = counts_held v b.counts b.before h }
+progress_held owed v b h = record { before = looked_held v owed h; counts = counts_held v b.counts b.before h }
 
 -- the lines of so many processes, the first of which has this number, by these lines of the log
 abbrev pub processes_held : List (List ℕ) → Held → ℕ → ℕ → List ℕ
@@ -92,7 +93,7 @@ pub record IsTold (v : View) (n : ℕ) (m : State) (h : Held) (old now : Option 
   pub choices : List Bool
   pub early : Bool
   pub stands : Stands h (touched early (after n choices m))
-  pub looked : b.before ≡ looked_of (after n choices m)
+  pub looked : b.before ≡ looked_of v (after n choices m)
   pub counted : b.counts ≡ counts_along v n choices m
   pub sent : List ℕ
   pub appends : Appends old now sent

@@ -17,15 +17,6 @@ use Rattle.ds_trace.specs.Halves.{half_counts, half_text}
 use Rattle.ds_trace.specs.Ends.{end_text}
 use Rattle.ds_trace.specs.Processors.{TellsFrom, TellsProcessor}
 
--- the lines of the next half turn of a run for n, if the run goes on
-abbrev pub next_text : View → ℕ → Bool → State → List ℕ
-next_text v n touch m = if goes_on n m then half_text v m (half_turn touch m) else []
-
--- the lines of a run for n by these choices, the newest half turn last
-unfoldable pub trace_along : View → ℕ → List Bool → State → List ℕ
-trace_along v n [] m = []
-trace_along v n (touch ∷ earlier) m = trace_along v n earlier m ++ next_text v n touch (after n earlier m)
-
 -- the counts after the next half turn of a run for n, if the run goes on
 abbrev pub next_counts : View → ℕ → Bool → State → Counted → Counted
 next_counts v n touch m k = if goes_on n m then half_counts v k m (half_turn touch m) else k
@@ -34,6 +25,15 @@ next_counts v n touch m k = if goes_on n m then half_counts v k m (half_turn tou
 unfoldable pub counts_along : View → ℕ → List Bool → State → Counted
 counts_along v n [] m = none_counted
 counts_along v n (touch ∷ earlier) m = next_counts v n touch (after n earlier m) (counts_along v n earlier m)
+
+-- the lines of the next half turn of a run for n with these counts, if the run goes on
+abbrev pub next_text : View → ℕ → Bool → State → Counted → List ℕ
+next_text v n touch m k = if goes_on n m then half_text v k m (half_turn touch m) else []
+
+-- the lines of a run for n by these choices, the newest half turn last
+unfoldable pub trace_along : View → ℕ → List Bool → State → List ℕ
+trace_along v n [] m = []
+trace_along v n (touch ∷ earlier) m = trace_along v n earlier m ++ next_text v n touch (after n earlier m) (counts_along v n earlier m)
 
 -- the lines of the way to a state, what the processor did, and that state's end with the counts of the way
 abbrev pub told_to : View → (n : ℕ) (m t : State) → Reaches n m t → List ℕ → List ℕ

@@ -4,11 +4,13 @@ ghost use Rattle.ds_pagemap.specs.Machine.{first};
 ghost use Rattle.ds_trace.specs.Boundaries.{due_by};
 ghost use Rattle.ds_trace.specs.Shows.{looked_held, start_held};
 
+use crate::entries::{Row, push_rows};
 use crate::start::Start;
 use ds_policy::TimedCommand;
 use ds_procs::Standing;
 use ds_station::Station;
 use ds_tlb::Lookaside;
+use ds_view::View;
 use std::alloc::{AllocError, Global};
 use std::marker::Model;
 
@@ -35,6 +37,9 @@ pub(crate) struct Before {
     pub queued: [usize; LINES],
     /// How each process stands.
     pub standings: Vec<Standing>,
+    /// The entries of each process, where they are told of.
+    pub table: Vec<Row>,
+    alloc: Global,
 }
 
 impl Model for Before {
@@ -52,6 +57,7 @@ impl Model for Before {
       characters = b.characters;
       queued = b.queued;
       standings = b.standings.items;
+      table = b.table.items;
     } };
 }
 
@@ -125,16 +131,19 @@ impl Before {
             characters: 0,
             queued: [0; LINES],
             standings: Vec::new(alloc),
+            table: Vec::new(alloc),
+            alloc,
         }
     }
 
-    /// What a station shows, by whether a boundary is owed.
+    /// What a station shows a view, by whether a boundary is owed.
     pub(crate) fn look<L: Lookaside>(
         &mut self,
+        view: &View,
         station: &Station<L>,
         owed: bool,
     ) -> Result<(), AllocError>
-        ensures { OnOk result (self.new ≡ looked_held owed station.now) }
+        ensures { OnOk result (self.new ≡ looked_held view.now owed station.now) }
     {
         self.owed = owed;
         self.began = station.turn_began();
@@ -147,6 +156,11 @@ impl Before {
         let commands = station.commands_to_come();
         push_due(&mut self.due, commands, station.time(), owed)?;
         self.standings.clear();
-        push_standings(&mut self.standings, station)
+        push_standings(&mut self.standings, station)?;
+        self.table.clear();
+        if view.shows_entries() {
+            push_rows(self.alloc, &mut self.table, station)?;
+        }
+        Ok(())
     }
 }

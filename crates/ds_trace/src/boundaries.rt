@@ -11,7 +11,7 @@ use ds_tlb::Lookaside;
 use std::alloc::AllocError;
 
 /// Adds a process and an address, each after a blank.
-fn push_place(line: &mut String, process: u32, address: u32) -> Result<(), AllocError>
+pub(crate) fn push_place(line: &mut String, process: u32, address: u32) -> Result<(), AllocError>
     ensures { OnOk result
         (string_bytes line.new ≡ string_bytes line.old ++ place_text process address) }
 {

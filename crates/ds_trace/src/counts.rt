@@ -1,7 +1,7 @@
 //! What is counted of a run.
 ghost use Rattle.std.specs.Prelude.{◌≡◌, ◌<◌, OnOk, is_some, slice_index};
 ghost use Rattle.ds_station.specs.Reads.{general_held};
-ghost use Rattle.ds_trace.specs.Counts.{done_counted, is_copy, is_counted, none_counted, number_of, plus, rest_counted, switch_counted, unit_counted, with_call};
+ghost use Rattle.ds_trace.specs.Counts.{done_counted, is_copy, is_counted, is_unbegun, none_counted, number_of, plus, rest_counted, switch_counted, unit_counted, with_call};
 ghost use Rattle.ds_trace.specs.Halves.{process_in};
 ghost use Rattle.ds_trace.specs.Shows.{counts_held, found_held};
 
@@ -125,6 +125,13 @@ fn is_counted(view: &View, began: u64) -> bool
 }
 
 impl Counts {
+    /// Whether no turn is counted yet.
+    pub(crate) fn is_unbegun(&self) -> bool
+        ensures { result ≡ is_unbegun self.now }
+    {
+        self.units == 0 && self.idle == 0
+    }
+
     /// Nothing is counted yet.
     pub(crate) fn new(alloc: Global) -> Counts
         ensures { result ≡ none_counted }

@@ -10,8 +10,8 @@ ghost use Rattle.ds_trace.specs.Halves.{half_counts, half_text};
 /// A touch of the process that runs, before a half turn and after it, changes no line and no count,
 /// and no line of the end.
 pub fn a_touch_changes_no_line()
-    ensures lines { (v : View) (a b : Bool) (m t : State)
-        → half_text v (touched a m) (touched b t) ≡ half_text v m t }
+    ensures lines { (v : View) (k : Counted) (a b : Bool) (m t : State)
+        → half_text v k (touched a m) (touched b t) ≡ half_text v k m t }
     ensures counts { (v : View) (k : Counted) (a b : Bool) (m t : State)
         → half_counts v k (touched a m) (touched b t) ≡ half_counts v k m t }
     ensures end { (v : View) (k : Counted) (b : Bool) (m : State)

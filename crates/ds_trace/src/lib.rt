@@ -8,6 +8,7 @@ mod changes;
 mod counts;
 mod digits;
 mod ends;
+mod entries;
 mod files;
 mod laws;
 mod lines;

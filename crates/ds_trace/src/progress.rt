@@ -39,6 +39,6 @@ impl Progress {
         ensures { OnOk result (self.new ≡ progress_held owed view.now self.old station.now) }
     {
         self.counts.add(view, &self.before, station, owed)?;
-        self.before.look(station, owed)
+        self.before.look(view, station, owed)
     }
 }

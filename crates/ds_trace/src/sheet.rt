@@ -5,7 +5,7 @@ ghost use Rattle.std.specs.Io.KnownBytes.{Appends};
 ghost use Rattle.ds_log.specs.Sent.{AppendsPart, IsAskedOnce};
 ghost use Rattle.ds_trace.specs.Boundaries.{boundary_text};
 ghost use Rattle.ds_trace.specs.Changes.{changes_text};
-ghost use Rattle.ds_trace.specs.Halves.{done_text, process_in};
+ghost use Rattle.ds_trace.specs.Halves.{done_text, entries_text, opening_text, process_in};
 ghost use Rattle.ds_trace.specs.Lines.{denied_text, unit_told};
 ghost use Rattle.ds_trace.specs.Shows.{end_held, found_held, half_held, processor_held};
 
@@ -14,6 +14,7 @@ use crate::boundaries::{push_commands, push_keys, push_lost};
 use crate::changes::{push_changes, push_switch, push_way};
 use crate::counts::Counts;
 use crate::ends::push_end;
+use crate::entries::{push_table, push_tables};
 use crate::lines::{push_unit, was_done};
 use crate::processor::{ProcessorCounts, push_processor};
 use crate::start::Start;
@@ -112,7 +113,32 @@ impl Sheet {
         self.text.extend_from_slice(self.line.as_bytes())
     }
 
-    /// Adds what was done: a unit, or a boundary.
+    /// Adds the lines of the entries that were changed, where they are wanted.
+    fn push_entries<L: Lookaside>(
+        &mut self,
+        view: &View,
+        before: &Before,
+        station: &Station<L>,
+    ) -> Result<(), AllocError>
+        ensures { OnOk result (self.new.text.items ≡ self.old.text.items
+            ++ entries_text view.now before.now
+            (found_held (process_in before.now.start) station.now)) }
+    {
+        if !view.shows_entries() {
+            return Ok(());
+        }
+        self.line.clear();
+        push_tables(
+            &mut self.line,
+            view,
+            station.time(),
+            before.table.as_slice(),
+            station,
+        )?;
+        self.text.extend_from_slice(self.line.as_bytes())
+    }
+
+    /// Adds what was done: a unit, or a boundary, with the entries that it changed.
     fn push_done<L: Lookaside>(
         &mut self,
         view: &View,
@@ -127,14 +153,16 @@ impl Sheet {
     {
         match before.start {
             Some(start) => {
-                self.push_unit(view, &start, logged_since(station, before.logged), station)
+                let logged = logged_since(station, before.logged);
+                self.push_unit(view, &start, logged, station)?;
+                self.push_entries(view, before, station)
             }
             None => {
                 if owed {
-                    Ok(())
-                } else {
-                    self.push_boundary(view, before, station)
+                    return Ok(());
                 }
+                self.push_boundary(view, before, station)?;
+                self.push_entries(view, before, station)
             }
         }
     }
@@ -161,22 +189,42 @@ impl Sheet {
         self.text.extend_from_slice(self.line.as_bytes())
     }
 
-    /// Adds the lines of a half turn, by what was looked at before it and what the station shows now,
-    /// and by whether it owes a boundary now.
+    /// Adds the lines of all entries before the first half turn that is counted, where they are wanted.
+    fn push_opening(
+        &mut self,
+        view: &View,
+        counts: &Counts,
+        before: &Before,
+    ) -> Result<(), AllocError>
+        ensures { OnOk result (self.new.text.items ≡ self.old.text.items
+            ++ opening_text view.now counts.now before.now) }
+    {
+        if !(view.shows_entries() && counts.is_unbegun()) {
+            return Ok(());
+        }
+        self.line.clear();
+        push_table(&mut self.line, view, before.began, before.table.as_slice())?;
+        self.text.extend_from_slice(self.line.as_bytes())
+    }
+
+    /// Adds the lines of a half turn, by the counts before it, what was looked at before it and what the
+    /// station shows now, and by whether it owes a boundary now.
     pub(crate) fn push_half<L: Lookaside>(
         &mut self,
         view: &View,
+        counts: &Counts,
         before: &Before,
         station: &Station<L>,
         owed: bool,
     ) -> Result<(), AllocError>
         requires owed { owed ≡ is_some station.now.kept.state.owed }
-        ensures { OnOk result (self.new.text.items
-            ≡ self.old.text.items ++ half_held view.now before.now station.now) }
+        ensures { OnOk result (self.new.text.items ≡ self.old.text.items
+            ++ half_held view.now counts.now before.now station.now) }
     {
         if !view.shows_turn(before.began) {
             return Ok(());
         }
+        self.push_opening(view, counts, before)?;
         self.push_done(view, before, station, owed)?;
         self.push_changes(view, before, station)
     }

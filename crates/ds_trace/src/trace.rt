@@ -40,11 +40,11 @@ fn tell_half<L: Lookaside>(
 ) -> Result<(), AllocError>
     requires owed { owed ≡ is_some station.now.kept.state.owed }
     ensures text { OnOk result (sheet.new.text.items
-        ≡ sheet.old.text.items ++ half_held view.now progress.old.before station.now) }
+        ≡ sheet.old.text.items ++ half_held view.now progress.old.counts progress.old.before station.now) }
     ensures next { OnOk result
         (progress.new ≡ progress_held owed view.now progress.old station.now) }
 {
-    sheet.push_half(view, &progress.before, station, owed)?;
+    sheet.push_half(view, &progress.counts, &progress.before, station, owed)?;
     progress.go_on(view, station, owed)
 }
 
@@ -209,7 +209,7 @@ fn follow<L: Lookaside, O: Output>(
         Ok(()) => {}
         Err(fault) => return Ok(Some(fault)),
     }
-    progress.before.look(station, false)?;
+    progress.before.look(view, station, false)?;
     while is_before(station, n, &progress.before) {
         match advance(view, station, sheet, progress, counts, window)? {
             Ok(false) => {}

@@ -1,0 +1,10 @@
+use Rattle.std.proofs.Common.{◌≡◌, ◌++◌, drop}
+use Rattle.std.specs.String.{string_bytes}
+use Rattle.ds_trace.specs.Entries.{gone_text}
+use Rattle.ds_trace.proofs.entries.push_all_gone.Given as goal
+
+-- what is written, and what the entries that are left will add, is what all say
+abbrev pub invariant-loop-entry : goal.invariant-loop-entry
+invariant-loop-entry l =
+    string_bytes l.line ++ gone_text l.time l.process l.after (drop l.entry-index l.before)
+    ≡ string_bytes l.fn.line ++ gone_text l.time l.process l.after l.before

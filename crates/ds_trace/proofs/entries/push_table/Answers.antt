@@ -1,0 +1,9 @@
+use Rattle.std.proofs.Common.{refl, [], arith}
+use Rattle.std.specs.String.{string_bytes}
+use Rattle.ds_trace.proofs.Tables.{tables_more}
+use Rattle.ds_trace.proofs.entries.push_table.Goals as goal
+
+pub loop-process-preserved : goal.loop-process-preserved
+loop-process-preserved c =
+    tables_more c.args.view.now c.args.time [] c.args.rows.now c.loop-process.process (string_bytes c.loop-process.line) (string_bytes c.push_changed.new.line) _ [] c.row_of.result.now
+    (omega (arith, c.loop-process-test.true)) refl c.row_of.ensures c.in_ok-push_changed.ensures c.loop-process.invariant
