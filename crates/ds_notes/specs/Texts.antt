@@ -1,7 +1,8 @@
 -- Notes as text, a line for each.
-use Rattle.std.specs.Prelude.{codes, decimal, ℕ, List, [], ◌++◌, slice_get, Option, None, Some}
+use Rattle.std.specs.Prelude.{codes, decimal, ℕ, ◌-◌, List, [], ◌++◌, slice_get, Option, None, Some}
 use Rattle.std.specs.List.{flat_map}
 use Rattle.ds_policy.specs.declared.policy.PolicyPage.{PolicyPage}
+use Rattle.ds_notes.specs.declared.input.Crowd.{Crowd}
 use Rattle.ds_notes.specs.declared.instruction.CodeNote.{CodeNote}
 use Rattle.ds_notes.specs.declared.instruction.CodeNote.TheVariants.{BranchInSlot, LoadDelay, KernelRegister}
 use Rattle.ds_notes.specs.declared.instruction.PlacedNote.{PlacedNote}
@@ -53,3 +54,23 @@ policy_line pages (WritableCode page) = page_line pages page (codes ": it has a 
 -- the notes on a policy with these pages
 abbrev pub policy_notes_text : List PolicyPage → List PolicyNote → List ℕ
 policy_notes_text pages notes = flat_map (policy_line pages) notes
+
+-- how many characters come in
+unfoldable pub come_in : ℕ → List ℕ
+come_in count = decimal count ++ codes " characters come in, and a boundary takes 64, so it loses "
+
+-- how many of so many a boundary loses
+unfoldable pub loses : ℕ → List ℕ
+loses count = decimal (count - 64) ++ codes ": give those after the 64th a later time\n"
+
+-- when characters come in
+unfoldable pub comes_at : ℕ → List ℕ
+comes_at time = codes "input, time " ++ (decimal time ++ codes ": ")
+
+-- what is said of characters that come in together
+abbrev pub crowd_line : Crowd → List ℕ
+crowd_line c = comes_at c.time ++ (come_in c.count ++ loses c.count)
+
+-- the notes on an input
+abbrev pub crowds_text : List Crowd → List ℕ
+crowds_text crowds = flat_map crowd_line crowds

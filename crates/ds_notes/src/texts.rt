@@ -1,8 +1,9 @@
 //! Notes as text, a line for each.
 ghost use Rattle.std.specs.Prelude.{◌≡◌, ◌++◌, IfOk, OnOk, decimal};
 ghost use Rattle.std.specs.List.{flat_map};
-ghost use Rattle.ds_notes.specs.Texts.{code_line, code_notes_text, code_text, named_line, page_line, policy_line, policy_notes_text, process_line, register_text};
+ghost use Rattle.ds_notes.specs.Texts.{loses, code_line, code_notes_text, code_text, come_in, crowd_line, crowds_text, comes_at, named_line, page_line, policy_line, policy_notes_text, process_line, register_text};
 
+use crate::input::Crowd;
 use crate::instruction::{CodeNote, PlacedNote};
 use crate::policy::PolicyNote;
 use ds_policy::{OutOfMemory, PolicyPage};
@@ -140,4 +141,61 @@ fn push_named(sheet: &mut Vec<u8>, page: &PolicyPage, what: &[u8]) -> Result<(),
     sheet.extend_from_slice(b"page ")?;
     sheet.extend_from_slice(page.name.as_str().as_bytes())?;
     sheet.extend_from_slice(what)
+}
+
+/// The notes on an input, each with its time and how many characters are lost.
+pub fn crowds_text(alloc: Global, crowds: &[Crowd]) -> Result<Vec<u8>, OutOfMemory>
+    ensures { IfOk result (λ v. v.items ≡ crowds_text crowds.now) }
+{
+    let mut sheet = Vec::new(alloc);
+    for crowd in crowds {
+        push_crowd(&mut sheet, crowd)?;
+    }
+    Ok(sheet)
+}
+
+fn push_crowd(sheet: &mut Vec<u8>, crowd: &Crowd) -> Result<(), AllocError>
+    ensures { OnOk result (sheet.new.items ≡ sheet.old.items ++ crowd_line crowd.now) }
+{
+    push_comes_at(sheet, crowd.time)?;
+    push_come_in(sheet, crowd.count)?;
+    push_loses(sheet, crowd.count)
+}
+
+#[tactic(auto, unfolding(crate::specs::Texts::comes_at))]
+fn push_comes_at(sheet: &mut Vec<u8>, time: u64) -> Result<(), AllocError>
+    ensures { OnOk result (sheet.new.items ≡ sheet.old.items ++ comes_at time) }
+{
+    sheet.extend_from_slice(b"input, time ")?;
+    push_number(sheet, time, b": ")
+}
+
+/// Adds a number and what follows it.
+fn push_number(sheet: &mut Vec<u8>, number: u64, what: &[u8]) -> Result<(), AllocError>
+    ensures { OnOk result (sheet.new.items ≡ sheet.old.items ++ (decimal number ++ what.now)) }
+{
+    push_decimal(sheet, number)?;
+    sheet.extend_from_slice(what)
+}
+
+#[tactic(auto, unfolding(crate::specs::Texts::come_in))]
+fn push_come_in(sheet: &mut Vec<u8>, count: usize) -> Result<(), AllocError>
+    ensures { OnOk result (sheet.new.items ≡ sheet.old.items ++ come_in count) }
+{
+    push_number(
+        sheet,
+        count as u64,
+        b" characters come in, and a boundary takes 64, so it loses ",
+    )
+}
+
+#[tactic(auto, unfolding(crate::specs::Texts::loses))]
+fn push_loses(sheet: &mut Vec<u8>, count: usize) -> Result<(), AllocError>
+    ensures { OnOk result (sheet.new.items ≡ sheet.old.items ++ loses count) }
+{
+    push_number(
+        sheet,
+        count.saturating_sub(64) as u64,
+        b": give those after the 64th a later time\n",
+    )
 }
