@@ -1,5 +1,5 @@
 -- A reason is given where a policy is refused, and nowhere else.
-use Rattle.std.proofs.Common.{◌≡◌, ap, refl, ℕ, ◌+◌, Bool, true, false, codes, List, [], ◌∷◌, ◌++◌, length, inl, inr}
+use Rattle.std.proofs.Common.{◌≡◌, ◌∙◌, ap, refl, ℕ, ◌+◌, Bool, true, false, codes, List, [], ◌∷◌, ◌++◌, length, inl, inr}
 use Rattle.std.specs.Prelude.{Option, Some, None, option_map, option_and_then, Result, Ok, Err, IfErr, nat_le, nat_lt, ◌&&◌}
 use Rattle.std.proofs.lemmas.Bool.{cases_Bool}
 use Rattle.toml.specs.Data.{Data, Items, no_items, item, Members, get_member}
@@ -102,3 +102,11 @@ document_told (Some ms) = result_told ms (says ms) (says_told ms)
 pub reason_refusal : (text : List ℕ) → option_map refusal_of (policy_reason text) ≡ refused_by (policy_of text)
 unfolding policy_of
 reason_refusal text = document_told (document text)
+
+told_none : (o : Option PolicyReason) → option_map refusal_of o ≡ None → o ≡ None
+told_none None h = refl
+told_none (Some r) h = cc
+
+-- what is not refused has no reason
+pub no_reason : (text : List ℕ) → refused_by (policy_of text) ≡ None → policy_reason text ≡ None
+no_reason text h = told_none (policy_reason text) (reason_refusal text ∙ h)

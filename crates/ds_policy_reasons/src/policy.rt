@@ -3,7 +3,7 @@ ghost use Rattle.std.specs.Prelude.{◌≡◌, ◌≤◌, IfOk, length, option_m
 ghost use Rattle.toml.specs.View.{table_view};
 ghost use Rattle.ds_policy.specs.Document.{document};
 ghost use Rattle.ds_policy.specs.PolicyText.{policy_of};
-ghost use Rattle.ds_policy_reasons.specs.Policies.{version_in, frames_in, array_reason, key_reason, rule_in, refusal_reason, result_reason, policy_reason, fault_seen, refused_by};
+ghost use Rattle.ds_policy_reasons.specs.Policies.{version_in, frames_in, array_reason, key_reason, rule_in, refusal_reason, policy_reason, fault_seen, refused_by};
 
 use crate::document::{array_at, number_at};
 use crate::pages::pages_reason;
@@ -14,12 +14,19 @@ use ds_policy::{OutOfMemory, Policy, PolicyFault};
 use std::alloc::{AllocError, Global};
 use toml::Table;
 
-/// Why a policy is refused, if it is.
+/// Why a policy is refused, if it is. Of a text no more than one document is kept at a time.
+#[tactic(auto, using(crate::proofs::PolicyLaws::no_reason))]
 pub fn policy_reason(alloc: Global, text: &[u8]) -> Result<Option<PolicyReason>, OutOfMemory>
     ensures { IfOk result (λ o. o ≡ policy_reason text.now) }
 {
+    let Some(fault) = fault_of(alloc, text)? else {
+        return Ok(None);
+    };
     match root(alloc, text)? {
-        Some(table) => reason_in(alloc, text, &table),
+        Some(table) => {
+            let reason = fault_reason(alloc, &table, fault)?;
+            Ok(Some(reason))
+        }
         None => Ok(Some(PolicyReason::NotToml)),
     }
 }
@@ -37,19 +44,6 @@ fn root(alloc: Global, text: &[u8]) -> Result<Option<Table>, OutOfMemory>
                 Ok(None)
             }
         }
-    }
-}
-
-/// Why the policy of a document is refused, if it is.
-fn reason_in(alloc: Global, text: &[u8], table: &Table) -> Result<Option<PolicyReason>, OutOfMemory>
-    ensures { IfOk result (λ o. o ≡ result_reason (table_view table.now) (policy_of text.now)) }
-{
-    match fault_of(alloc, text)? {
-        Some(fault) => {
-            let reason = fault_reason(alloc, table, fault)?;
-            Ok(Some(reason))
-        }
-        None => Ok(None),
     }
 }
 
