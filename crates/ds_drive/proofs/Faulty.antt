@@ -1,12 +1,17 @@
 -- What is at fault where a check is refused.
-use Rattle.std.proofs.Common.{◌≡◌, ◌∙◌, ℕ, suc, zero, ◌<◌, List, [], ◌∷◌, true, false, Option, None, Some, Ok, refl, sym, ap, subst, length, get_or, arith}
-use Rattle.std.specs.Prelude.{bytes_eq, option_map, position, slice_index_or, is_some, IfSome}
+use Rattle.std.proofs.Common.{◌≡◌, ◌∙◌, ℕ, suc, zero, ◌<◌, List, [], ◌∷◌, Bool, true, false, Option, None, Some, Ok, refl, sym, ap, subst, length, get_or, arith}
+use Rattle.std.specs.Prelude.{bytes_eq, option_map, position, slice_index_or, is_ok, is_some, IfSome, not, Result}
+use Rattle.std.specs.List.{find}
+use Rattle.clap.proofs.RemoveLemmas.{find-none}
 use Rattle.ds_asm.specs.Faults.{all_faults}
 use Rattle.std.proofs.lemmas.Bool.{true≢false}
 use Rattle.std.proofs.lemmas.List.Quantifiers.{position-Some}
 use Rattle.ds_asm.specs.declared.fault.SourceFault.{SourceFault}
 use Rattle.ds_policy.specs.Value.{PolicyValue}
-use Rattle.ds_policy.specs.PolicyText.{policy_of}
+use Rattle.ds_policy.specs.Document.{document}
+use Rattle.ds_policy.specs.PolicyText.{policy_of, says}
+use Rattle.ds_policy.specs.Refusal.{PolicyRefusal, bad_toml, or_else}
+use Rattle.ds_word.specs.ResultBinding.{◌>>=◌}
 use Rattle.ds_policy.specs.declared.policy.PolicyPage.{PolicyPage}
 use Rattle.ds_policy_reasons.specs.Policies.{policy_reason, refusal_of, refused_by}
 use Rattle.ds_policy_reasons.specs.declared.input_cause.InputCause.{InputCause}
@@ -42,11 +47,18 @@ no_input_at (policy_fault.BadRule number) input = tt
 no_input_at (policy_fault.Limit key) input = tt
 no_input_at policy_fault.Memory input = tt
 
+-- nor of a source
+no_source_at : (e : PolicyFault) (sources : Sources) → IsSourceAt (of_policy e) sources None
+no_source_at policy_fault.BadToml sources = refl
+no_source_at (policy_fault.BadRule number) sources = refl
+no_source_at (policy_fault.Limit key) sources = refl
+no_source_at policy_fault.Memory sources = refl
+
 -- what is at fault where the policy is refused
 pub policy_at : (e : PolicyFault) (policy input : List ℕ) (r : Refused) → IfSome r.policy (λ p. p.text.items ≡ policy) → IsPlaceAt (of_policy e) policy (place_told r.policy) → IsReasonAt (of_policy e) policy r.reason
     → r.source ≡ None → r.input ≡ None → IsAtFault (of_policy e) r policy [] input
 policy_at e policy input r own place why no_source no_input = record {
-  source_at = subst (IsSourceAt (of_policy e) []) (sym no_source) tt;
+  source_at = subst (IsSourceAt (of_policy e) []) (sym no_source) (no_source_at e []);
   input_at = subst (IsInputAt (of_policy e) input) (sym no_input) (no_input_at e input);
   policy_at = own;
   place_at = place;
@@ -84,9 +96,18 @@ cause_told f pages input None cause at is so = tt
 cause_told (fault.InputFault line) pages input (Some i) cause at is so = is ∙ (so ∙ ap (cause_of pages) (sym at.0))
 cause_told f pages input (Some i) cause none is so = absurd none
 
+document_by : {A : Type 0} (o : Option A) (f : A → Result PolicyValue PolicyRefusal) (value : PolicyValue) → (or_else o bad_toml >>= f) ≡ Ok value → is_some o ≡ true
+document_by None f value is = absurd (true≢false (sym (ap is_ok is)))
+document_by (Some x) f value is = refl
+
+-- a good policy is a document
+is_document : (policy : List ℕ) (value : PolicyValue) → policy_of policy ≡ Ok value → is_some (document policy) ≡ true
+unfolding policy_of
+is_document policy value read = document_by (document policy) says value read
+
 -- nor a place
 no_place_at : (f : Fault) (policy : List ℕ) (value : PolicyValue) → policy_of policy ≡ Ok value → IsPlaceAt f policy None
-no_place_at fault.BadToml policy value read = tt
+no_place_at fault.BadToml policy value read = (ap not (sym (is_document policy value read)), tt)
 no_place_at (fault.BadRule number) policy value read = ap (place_of policy) (no_reason policy value read)
 no_place_at (fault.Limit key) policy value read = ap (place_of policy) (no_reason policy value read)
 no_place_at fault.BadRandom policy value read = refl
@@ -126,10 +147,28 @@ named_first texts name i d is =
     let first = position-Some (λ s. bytes_eq s.name name) texts i d is in
     named_at texts name i d first.0 first.1 first.2
 
--- what was found by that name is the source at fault
-pub source_found : (f : Fault) (name given : List ℕ) (first : SourceFault) (texts held : List SourceText) (i : ℕ) (s : SourceText) (r : FaultySource)
-    → f ≡ fault.InSource name first → given ≡ name → held ≡ texts → position (λ s. bytes_eq s.name given) held ≡ Some i → s ≡ slice_index_or texts i s
-    → r.text.items ≡ s.text.items → r.faults.items ≡ all_faults r.text.items → IsSourceAt f (texts_seen texts) (Some r)
-source_found f name given first texts held i s r is named same at found text faults =
-    let there = named_first texts name i s (subst (λ (l : List SourceText). position (λ t. bytes_eq t.name name) l ≡ Some i) same (subst (λ (n : List ℕ). position (λ t. bytes_eq t.name n) held ≡ Some i) named at)) in
-    subst (λ (x : Fault). IsSourceAt x (texts_seen texts) (Some r)) (sym is) (there ∙ ap (λ (t : List ℕ). Some t) (ap (λ (x : SourceText). x.text.items) (sym found) ∙ sym text), faults)
+-- what was found by that name is the source
+pub source_found : (name : List ℕ) (texts held : List SourceText) (i : ℕ) (s : SourceText) (faults : List SourceFault)
+    → held ≡ texts → position (λ s. bytes_eq s.name name) held ≡ Some i → s ≡ slice_index_or texts i s → faults ≡ all_faults s.text.items
+    → (text_named (texts_seen texts) name ≡ Some s.text.items) × (faults ≡ all_faults s.text.items)
+source_found name texts held i s faults same at found are =
+    let there = named_first texts name i s (subst (λ (l : List SourceText). position (λ t. bytes_eq t.name name) l ≡ Some i) same at) in
+    (there ∙ ap (λ (x : SourceText). Some x.text.items) (sym found), are)
+
+nowhere_by : (texts : List SourceText) (name : List ℕ) → find (λ s. bytes_eq s.name name) texts ≡ None → text_named (texts_seen texts) name ≡ None
+nowhere_by [] name none = refl
+nowhere_by (s ∷ texts) name none = at (bytes_eq s.name name) refl (λ rest. nowhere_by texts name rest)
+  where
+    at : (b : Bool) → bytes_eq s.name name ≡ b → (find (λ t. bytes_eq t.name name) texts ≡ None → text_named (texts_seen texts) name ≡ None) → text_named (texts_seen (s ∷ texts)) name ≡ None
+    at true same later =
+        let found : find (λ t. bytes_eq t.name name) (s ∷ texts) ≡ Some s = rw same refl in
+        let bad : ◌≡◌ {A = Option SourceText} (Some s) None = sym found ∙ none in
+        absurd (true≢false (ap is_some bad))
+    at false same later =
+        let passed : find (λ t. bytes_eq t.name name) (s ∷ texts) ≡ find (λ t. bytes_eq t.name name) texts = rw same refl in
+        rw same (later (sym passed ∙ none))
+
+-- where none was found, no source has that name
+pub source_nowhere : (name : List ℕ) (texts held : List SourceText) → held ≡ texts → position (λ s. bytes_eq s.name name) held ≡ None → text_named (texts_seen texts) name ≡ None
+source_nowhere name texts held same none =
+    nowhere_by texts name (find-none (λ s. bytes_eq s.name name) texts (subst (λ (l : List SourceText). position (λ t. bytes_eq t.name name) l ≡ None) same none))

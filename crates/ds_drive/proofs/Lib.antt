@@ -5,6 +5,8 @@ pub mod Faulty
 pub mod Heard
 pub mod HeldFiles
 pub mod Noting
+pub mod ReadingStatuses
+pub mod Readings
 pub mod Stops
 pub mod Tellings
 pub mod TraceLemmas

@@ -48,7 +48,7 @@ notes_all texts k notes end are = are ∙ (ap (flat_map (λ (s : SourceText). so
 
 -- the writer failed before all was written
 pub check_cut_off : (holds : List ℕ → List ℕ → Type 0) (lacks : List ℕ → Type 0) (request : CheckRequest) (value : PolicyValue) (sources : Sources) (input : List ℕ) (events : InputValue) (r : Refused) (notes starts ties told text : List ℕ) (old new : Option (List ℕ))
-    → AreGood holds request value sources input events → notes ≡ notes_text value sources → starts ≡ starts_of value sources → ties ≡ ties_text value events → told ≡ explained value input events
+    → AreGood holds request value sources input events → notes ≡ notes_text value sources events → starts ≡ starts_of value sources → ties ≡ ties_text value events → told ≡ explained value input events
     → are_faults request notes ≡ false → r ≡ plain (failure.Fault fault.WriteFault)
     → text ≡ with_notes (told ++ with_ties starts ties) notes → AppendsPart old new text
     → ChecksBy r holds lacks request old new

@@ -1,8 +1,9 @@
 -- Which source, which input and which place in a policy are told of a check that is refused.
-use Rattle.std.specs.Prelude.{◌≡◌, ◌≤◌, ℕ, List, Option, None, Some, Ok, IfSome, length, map, option_map, ⊤}
+use Rattle.std.specs.Prelude.{◌≡◌, ◌≤◌, ℕ, List, Option, None, Some, Ok, IfSome, is_some, length, map, not, option_map, ⊤}
 use Rattle.ds_asm.specs.Faults.{all_faults}
 use Rattle.ds_check.specs.declared.places.Place.{Place}
 use Rattle.ds_check.specs.Places.{place_at}
+use Rattle.ds_policy.specs.Document.{document}
 use Rattle.ds_policy.specs.PolicyText.{policy_of}
 use Rattle.ds_policy.specs.Value.{PolicyValue}
 use Rattle.ds_policy.specs.declared.policy.PolicyPage.{PolicyPage}
@@ -29,11 +30,15 @@ texts_seen texts = map (λ s. (s.name, s.text.items)) texts
 abbrev pub plain : Failure → Refused
 plain f = record { failure = f; source = None; input = None; reason = None; policy = None }
 
--- the source that is told is the one that the fault names, with all its faults; where memory is wanting for them, none is told
+-- the source of this name is told with all its faults, and none only where no source has the name
+abbrev pub IsSourceOf : List ℕ → Sources → Option FaultySource → Type 0
+IsSourceOf name sources None = text_named sources name ≡ None
+IsSourceOf name sources (Some s) = (text_named sources name ≡ Some s.text.items) × (s.faults.items ≡ all_faults s.text.items)
+
+-- the source that the fault names is told, and none of a fault that names none
 abbrev pub IsSourceAt : Fault → Sources → Option FaultySource → Type 0
-IsSourceAt f sources None = ⊤
-IsSourceAt (fault.InSource name first) sources (Some s) = (text_named sources name ≡ Some s.text.items) × (s.faults.items ≡ all_faults s.text.items)
-IsSourceAt f sources (Some s) = ⊥
+IsSourceAt (fault.InSource name first) sources told = IsSourceOf name sources told
+IsSourceAt f sources told = told ≡ None
 
 -- an input is told where the fault is the input's, with the fault's line
 abbrev pub IsInputAt : Fault → List ℕ → Option FaultyInput → Type 0
@@ -46,11 +51,11 @@ IsInputAt f text (Some i) = ⊥
 abbrev pub place_told : Option FaultyPolicy → Option Place
 place_told told = option_map (λ p. p.place) told
 
--- where the fault is the policy's, the place that its reason names is told; where the policy is no document, some place in its text, unless memory is wanting; and of another fault none
+-- where the fault is the policy's, the place that its reason names is told; exactly where the policy is no document, some place in its text; and of another fault none
 abbrev pub IsPlaceAt : Fault → List ℕ → Option Place → Type 0
 IsPlaceAt (fault.BadRule number) policy place = place ≡ place_of policy (policy_reason policy)
 IsPlaceAt (fault.Limit key) policy place = place ≡ place_of policy (policy_reason policy)
-IsPlaceAt fault.BadToml policy place = IfSome place (λ p. (n : ℕ) × (n ≤ length policy) × (p ≡ place_at policy n))
+IsPlaceAt fault.BadToml policy place = (is_some place ≡ not (is_some (document policy))) × IfSome place (λ p. (n : ℕ) × (n ≤ length policy) × (p ≡ place_at policy n))
 IsPlaceAt f policy place = place ≡ None
 
 -- where the fault is the policy's its reason is told, and nowhere else

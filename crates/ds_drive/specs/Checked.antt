@@ -57,7 +57,7 @@ pub record OfGood (holds : List ℕ → List ℕ → Type 0) (request : CheckReq
   pub input : List ℕ
   pub events : InputValue
   pub good : AreGood holds request value sources input events
-  pub so : P (meaning_text value sources input events) (notes_text value sources)
+  pub so : P (meaning_text value sources input events) (notes_text value sources events)
 
 -- these notes are taken for faults: the words say so, and there is one
 abbrev pub are_faults : CheckRequest → List ℕ → Bool

@@ -11,6 +11,7 @@ pub mod Failures
 pub mod Noted
 pub mod PolicyPlaces
 pub mod Ran
+pub mod Reading
 pub mod Statuses
 pub mod Told
 pub mod TraceRuns

@@ -6,10 +6,11 @@ use Rattle.ds_asm.specs.Assembly.{assembled}
 use Rattle.ds_check.specs.Starts.{starts_text}
 use Rattle.ds_listing.specs.Listing.{rows_of}
 use Rattle.ds_notes.specs.CodeNotes.{notes_after}
+use Rattle.ds_notes.specs.InputNotes.{crowds}
 use Rattle.ds_notes.specs.PolicyNotes.{policy_notes}
-use Rattle.ds_notes.specs.Texts.{code_notes_text, policy_notes_text}
+use Rattle.ds_notes.specs.Texts.{code_notes_text, crowds_text, policy_notes_text}
 use Rattle.ds_pagemap.specs.Inputs.{Sources}
-use Rattle.ds_policy.specs.Value.{PolicyValue}
+use Rattle.ds_policy.specs.Value.{InputValue, PolicyValue}
 
 -- the bytes of an image; none where there are faults in its place
 abbrev pub image_in : Result (List ℕ) SourceFault → List ℕ
@@ -33,6 +34,14 @@ abbrev pub source_notes : List ℕ → List ℕ → List ℕ
 source_notes name text = code_notes_text name (notes_after None (rows_of text (image_of text)))
 
 -- the notes on a policy and its sources: those on the policy, and then those on each source
-abbrev pub notes_text : PolicyValue → Sources → List ℕ
-notes_text policy sources =
+abbrev pub guest_notes : PolicyValue → Sources → List ℕ
+guest_notes policy sources =
     policy_notes_text policy.pages (policy_notes policy (images_of sources)) ++ flat_map (λ s. source_notes s.0 s.1) sources
+
+-- the notes on an input: the characters that a boundary can't take
+abbrev pub input_notes : InputValue → List ℕ
+input_notes input = crowds_text (crowds input.characters)
+
+-- the notes on a policy, its sources and an input
+abbrev pub notes_text : PolicyValue → Sources → InputValue → List ℕ
+notes_text policy sources input = guest_notes policy sources ++ input_notes input

@@ -1,5 +1,7 @@
--- Worked statuses and names.
-use Rattle.std.specs.Prelude.{codes, refl, ◌≡◌, [], ◌∷◌, map, replicate}
+-- Worked statuses and names, and orders of reading.
+use Rattle.std.specs.Prelude.{codes, refl, ◌≡◌, ⊤, ℕ, List, [], ◌∷◌, None, Some, map, replicate}
+use Rattle.ds_drive.specs.Reading.{AreInOrder, AskedFile}
+use Rattle.ds_drive.specs.declared.files.FileFault.TheVariants as file
 use Rattle.ds_drive.specs.Names.{shown_name}
 use Rattle.ds_drive.specs.Statuses.{fault_status}
 
@@ -18,3 +20,12 @@ a_name_stays_in_its_line = refl
 pub other_names_are_as_they_are : shown_name (32 ∷ 92 ∷ 195 ∷ 169 ∷ []) ≡ 32 ∷ 92 ∷ 195 ∷ 169 ∷ []
 unfolding shown_name
 other_names_are_as_they_are = refl
+
+-- the first was read, and the second can't be
+pub files_are_asked_for_in_their_order : AreInOrder (λ unread. unread ≡ Some (codes "b", file.Unreadable)) (codes "a" ∷ codes "b" ∷ codes "c" ∷ []) ((codes "a", None) ∷ (codes "b", Some file.Unreadable) ∷ [])
+files_are_asked_for_in_their_order = (refl, (refl, refl, refl))
+
+-- the second is not asked for first, nor any after one that was not read
+pub others_are_not_asked_for : (AreInOrder (λ unread. ⊤) ((1 ∷ []) ∷ (2 ∷ []) ∷ []) (((2 ∷ []), None) ∷ []) → ◌≡◌ {A = List ℕ} (2 ∷ []) (1 ∷ []))
+    × (AreInOrder (λ unread. ⊤) ((1 ∷ []) ∷ (2 ∷ []) ∷ []) (((1 ∷ []), Some file.Unreadable) ∷ ((2 ∷ []), None) ∷ []) → ◌≡◌ {A = List AskedFile} (((2 ∷ []), None) ∷ []) [])
+others_are_not_asked_for = (λ order. order.0, λ order. order.1)

@@ -1,7 +1,8 @@
 //! A source run on the bare machine.
-ghost use Rattle.std.specs.Prelude.{◌≡◌, ℕ, List, IfErr, IfOk};
+ghost use Rattle.std.specs.Prelude.{◌≡◌, ℕ, List, IfErr, IfOk, OnOk};
 ghost use Rattle.ds_drive.specs.BareOrder.{IsRefusedAfter};
 ghost use Rattle.ds_drive.specs.BareRuns.{RunsOrIsFaulty, BareFailsBy, of_bare};
+ghost use Rattle.ds_drive.specs.Reading.{ReadsAll, ReadsUntil, TellsOf, bare_names};
 
 use crate::check::input_of;
 use crate::failure::Failure;
@@ -29,7 +30,7 @@ fn fault_of(fault: BareFault) -> Fault
 
 /// Reads the source, and the input where one is named, and runs the source's image on the bare
 /// machine, or answers the faults of the source. Nothing is written before both are read and good.
-#[tactic(auto, using(crate::proofs::BareLemmas::source_unread, crate::proofs::BareLemmas::input_unread, crate::proofs::BareLemmas::memory_keeps, crate::proofs::BareOrders::unread_after, crate::proofs::BareOrders::input_unread_after, crate::proofs::BareOrders::line_after, crate::proofs::BareOrders::start_after))]
+#[tactic(auto, using(crate::proofs::BareLemmas::source_unread, crate::proofs::BareLemmas::input_unread, crate::proofs::BareLemmas::memory_keeps, crate::proofs::BareOrders::unread_after, crate::proofs::BareOrders::input_unread_after, crate::proofs::BareOrders::line_after, crate::proofs::BareOrders::start_after, crate::proofs::Readings::read_all, crate::proofs::Readings::first_unread, crate::proofs::Readings::one_then_until, crate::proofs::Readings::one_then_others))]
 pub fn bare_file<'a, F: Files, W: Write>(
     alloc: Global,
     request: &BareRequest<'a>,
@@ -41,6 +42,10 @@ pub fn bare_file<'a, F: Files, W: Write>(
     ensures err { IfErr result (λ f. BareFailsBy f (F.holds files.old) (F.lacks files.old)
         request.now (W.contents out.old) (W.contents out.new)) }
     ensures after { IfErr result (λ f. IsRefusedAfter f (F.holds files.old) request.now) }
+    ensures reads { OnOk result (ReadsAll (bare_names request.now)
+        (F.asked files.old) (F.asked files.new)) }
+    ensures reads_until { IfErr result (λ f. ReadsUntil (TellsOf f) (bare_names request.now)
+        (F.asked files.old) (F.asked files.new)) }
     ensures kept { (file bytes : List ℕ) → F.holds files.new file bytes
         → F.holds files.old file bytes }
     ensures lacked { (file : List ℕ) → F.lacks files.new file → F.lacks files.old file }

@@ -2,11 +2,13 @@
 ghost use Rattle.std.specs.Prelude.{◌≡◌, ◌⊎◌, ◌<◌, ◌++◌, ℕ, List, IfErr, IfOk, OnOk, OnErr};
 ghost use Rattle.std.specs.Io.KnownBytes.{Keeps};
 ghost use Rattle.ds_drive.specs.AtFault.{texts_seen};
+ghost use Rattle.ds_drive.specs.Noted.{input_notes};
 ghost use Rattle.ds_drive.specs.Checked.{AreGood, Checks, ChecksBy, IsInput, RefusesCheck, IsUnreadInput, are_faults, with_notes, with_ties};
+ghost use Rattle.ds_drive.specs.Reading.{ReadsAll, ReadsRun, ReadsRunUntil, ReadsUntil, TellsOf, input_names};
 
 use crate::failure::Failure;
 use crate::files::Files;
-use crate::notes::{Findings, findings_of};
+use crate::notes::{Findings, findings_of, input_notes};
 use crate::refused::{Refused, cause_of};
 use crate::run::{SourceText, lent, named_file, source_texts};
 use ds_check::explain;
@@ -35,9 +37,12 @@ struct Good {
     texts: Vec<SourceText>,
     input: Vec<u8>,
     events: Events,
+    /// The notes on the input, as text.
+    notes: Vec<u8>,
 }
 
 /// The bytes of the input's file; none where no file is named.
+#[tactic(auto, using(crate::proofs::Readings::none_read))]
 pub(crate) fn input_of<'a, F: Files>(
     alloc: Global,
     files: &mut F,
@@ -45,6 +50,10 @@ pub(crate) fn input_of<'a, F: Files>(
 ) -> Result<Vec<u8>, Failure<'a>>
     ensures found { IfOk result (λ bytes. IsInput (F.holds files.old) name.entry bytes.items) }
     ensures unread { IfErr result (IsUnreadInput (F.lacks files.old) name.entry) }
+    ensures reads { OnOk result (ReadsAll (input_names name.entry)
+        (F.asked files.old) (F.asked files.new)) }
+    ensures reads_until { IfErr result (λ f. ReadsUntil (TellsOf f) (input_names name.entry)
+        (F.asked files.old) (F.asked files.new)) }
     ensures kept { (file bytes : List ℕ) → F.holds files.new file bytes
         → F.holds files.old file bytes }
     ensures lacked { (file : List ℕ) → F.lacks files.new file → F.lacks files.old file }
@@ -57,7 +66,7 @@ pub(crate) fn input_of<'a, F: Files>(
 
 /// Reads the policy, the input and each source, as a run would, and answers what a run would refuse.
 /// Once a run of no ticks has taken the input, only want of memory refuses it.
-#[tactic(auto, using(crate::proofs::Stops::check_unread, crate::proofs::Stops::check_input_unread, crate::proofs::Stops::check_source_unread, crate::proofs::Stops::memory_refuses))]
+#[tactic(auto, using(crate::proofs::Stops::check_unread, crate::proofs::Stops::check_input_unread, crate::proofs::Stops::check_source_unread, crate::proofs::Stops::memory_refuses, crate::proofs::Readings::policy_unread_until, crate::proofs::Readings::source_unread_until, crate::proofs::Readings::run_read, crate::proofs::Readings::all_read_until))]
 fn read_good<'a, F: Files>(
     alloc: Global,
     request: &CheckRequest<'a>,
@@ -65,8 +74,14 @@ fn read_good<'a, F: Files>(
 ) -> Result<Good, Refused<'a>>
     ensures good { IfOk result (λ good. AreGood (F.holds files.old) request.now
         good.policy (texts_seen good.texts.items) good.input.items good.events) }
+    ensures notes { IfOk result (λ good. good.notes.items ≡ input_notes good.events) }
     ensures refused { IfErr result (λ r. RefusesCheck r (F.holds files.old)
         (F.lacks files.old) request.now) }
+    ensures reads { OnOk result (ReadsRun (F.holds files.old) request.now.policy.now
+        (input_names request.now.input) (F.asked files.old) (F.asked files.new)) }
+    ensures reads_until { IfErr result (λ r. ReadsRunUntil (TellsOf r.failure)
+        (F.holds files.old) request.now.policy.now (input_names request.now.input)
+        (F.asked files.old) (F.asked files.new)) }
     ensures kept { (file bytes : List ℕ) → F.holds files.new file bytes
         → F.holds files.old file bytes }
     ensures lacked { (file : List ℕ) → F.lacks files.new file → F.lacks files.old file }
@@ -77,7 +92,8 @@ fn read_good<'a, F: Files>(
         Ok(policy) => policy,
         Err(fault) => {
             let reason = policy_reason(alloc, &text)?;
-            return Err(Refused::of_policy(alloc, Fault::from(fault), text, reason));
+            let refused = Refused::of_policy(alloc, Fault::from(fault), text, reason)?;
+            return Err(refused);
         }
     };
     let texts = source_texts(alloc, files, policy.sources())?;
@@ -95,15 +111,18 @@ fn read_good<'a, F: Files>(
         Err(fault) => {
             drop(sources);
             let cause = cause_of(alloc, &policy, &fault, &input)?;
-            return Err(Refused::of_texts(alloc, fault, texts, input, cause));
+            let refused = Refused::of_texts(alloc, fault, texts, input, cause)?;
+            return Err(refused);
         }
     }
+    let notes = input_notes(alloc, &policy, &input)?;
     match Events::read(alloc, input.as_slice(), &policy) {
         Ok(events) => Ok(Good {
             policy,
             texts,
             input,
             events,
+            notes,
         }),
         Err(_) => Err(Refused::from(Failure::Fault(Fault::Memory))),
     }
@@ -134,6 +153,7 @@ fn push_findings(text: &mut Vec<u8>, found: &Findings, ties: &[u8]) -> Result<()
 /// permission table at the start, what is near a limit, what comes when, where each process starts,
 /// and what ties it to the others; and then the notes. Where there are notes, and the words take notes
 /// for faults, it answers them, and nothing is written.
+#[tactic(auto, using(crate::proofs::Readings::run_read_until))]
 pub fn check_files<'a, F: Files, W: Write>(
     alloc: Global,
     request: &CheckRequest<'a>,
@@ -144,6 +164,11 @@ pub fn check_files<'a, F: Files, W: Write>(
         (W.contents out.old) (W.contents out.new)) }
     ensures err { IfErr result (λ r. ChecksBy r (F.holds files.old) (F.lacks files.old)
         request.now (W.contents out.old) (W.contents out.new)) }
+    ensures reads { OnOk result (ReadsRun (F.holds files.old) request.now.policy.now
+        (input_names request.now.input) (F.asked files.old) (F.asked files.new)) }
+    ensures reads_until { IfErr result (λ r. ReadsRunUntil (TellsOf r.failure)
+        (F.holds files.old) request.now.policy.now (input_names request.now.input)
+        (F.asked files.old) (F.asked files.new)) }
     ensures kept { (file bytes : List ℕ) → F.holds files.new file bytes
         → F.holds files.old file bytes }
     ensures lacked { (file : List ℕ) → F.lacks files.new file → F.lacks files.old file }
@@ -153,8 +178,9 @@ pub fn check_files<'a, F: Files, W: Write>(
         texts,
         input,
         events,
+        notes,
     } = read_good(alloc, request, files)?;
-    let found = findings_of(alloc, &policy, &texts)?;
+    let found = findings_of(alloc, &policy, &texts, &notes)?;
     if are_faults(request, &found.notes) {
         return Ok(Checking::Noted(found.notes));
     }

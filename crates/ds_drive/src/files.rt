@@ -1,6 +1,7 @@
 //! Where the program's files come from.
-ghost use Rattle.std.specs.Prelude.{◌≡◌, ◌≢◌, ◌<◌, ◌≤◌, ℕ, List, ⊤, Ok, Err, IfErr, IfOk, vec_len};
+ghost use Rattle.std.specs.Prelude.{◌≡◌, ◌≢◌, ◌<◌, ◌≤◌, ◌∷◌, ℕ, List, [], Option, None, ⊤, Ok, Err, IfErr, IfOk, vec_len};
 ghost use Rattle.std.specs.IoError.{error_kind};
+ghost use Rattle.ds_drive.specs.Reading.{AskedFile, HasAsked, why_unread};
 
 use std::alloc::Global;
 use std::fs::File;
@@ -27,11 +28,16 @@ pub trait Files {
     /// The file of this name may be found unreadable, now or later.
     ghost lacks: { Self → List ℕ → Type 0 } = { λ _ _. ⊤ };
 
+    /// The files that were asked for so far, where they are counted.
+    ghost asked: { Self → Option (List AskedFile) } = { λ _. None };
+
     /// The bytes of the file of this name.
     fn read(&mut self, alloc: Global, name: &str) -> Result<Vec<u8>, FileFault>
         ensures limit { IfOk result (λ bytes. vec_len bytes ≤ 16777216) }
         ensures found { IfOk result (λ bytes. holds self.old name.now bytes.items) }
         ensures unread { result ≡ Err FileFault.Unreadable → lacks self.old name.now }
+        ensures counted { HasAsked (asked self.old) (asked self.new)
+            ((name.now, why_unread result) ∷ []) }
         ensures kept { (file bytes : List ℕ) → holds self.new file bytes
             → holds self.old file bytes }
         ensures lacked { (file : List ℕ) → lacks self.new file → lacks self.old file };

@@ -1,7 +1,8 @@
 //! A file listed: a source with its bytes, or the words of a file as a source.
-ghost use Rattle.std.specs.Prelude.{◌≡◌, ℕ, List, [], IfErr, IfOk};
+ghost use Rattle.std.specs.Prelude.{◌≡◌, ◌∷◌, ℕ, List, [], IfErr, IfOk, OnOk};
 ghost use Rattle.ds_drive.specs.Listed.{IsListed, Lists, FailsBy};
 ghost use Rattle.ds_drive.specs.Listening.{TellsSome, listener};
+ghost use Rattle.ds_drive.specs.Reading.{ReadsAll, ReadsUntil, TellsOf};
 ghost use Rattle.ds_drive.specs.Told.{listed_faults};
 
 use crate::failure::Failure;
@@ -41,7 +42,7 @@ fn listed(alloc: Global, words: bool, bytes: &[u8]) -> Result<Listed, AllocError
 }
 
 /// Reads the file, and writes its listing, or answers the faults of the source.
-#[tactic(auto, using(crate::proofs::Cuts::unread_keeps))]
+#[tactic(auto, using(crate::proofs::Cuts::unread_keeps, crate::proofs::Readings::read_all))]
 pub fn list_file<'a, F: Files, W: Write>(
     alloc: Global,
     request: &ListRequest<'a>,
@@ -52,6 +53,10 @@ pub fn list_file<'a, F: Files, W: Write>(
         (W.contents out.old) (W.contents out.new)) }
     ensures err { IfErr result (λ f. FailsBy f (F.holds files.old) (F.lacks files.old) request.now
         (W.contents out.old) (W.contents out.new)) }
+    ensures reads { OnOk result (ReadsAll (request.now.file.now ∷ [])
+        (F.asked files.old) (F.asked files.new)) }
+    ensures reads_until { IfErr result (λ f. ReadsUntil (TellsOf f) (request.now.file.now ∷ [])
+        (F.asked files.old) (F.asked files.new)) }
     ensures kept { (file bytes : List ℕ) → F.holds files.new file bytes
         → F.holds files.old file bytes }
     ensures lacked { (file : List ℕ) → F.lacks files.new file → F.lacks files.old file }

@@ -1,17 +1,19 @@
 //! What a check finds in the sources of a policy: where its processes start, and the notes.
 ghost use Rattle.std.specs.Prelude.{◌≡◌, ◌++◌, ◌∷◌, [], IfOk, OnOk};
 ghost use Rattle.std.specs.List.{flat_map};
+ghost use Rattle.ds_policy.specs.InputText.{input_of};
+ghost use Rattle.ds_policy.specs.Value.{InputValue};
 ghost use Rattle.ds_drive.specs.AtFault.{texts_seen};
 ghost use Rattle.ds_drive.specs.Listening.{Tells, listener};
-ghost use Rattle.ds_drive.specs.Noted.{image_of, images_of, notes_text, source_notes, starts_of};
+ghost use Rattle.ds_drive.specs.Noted.{guest_notes, image_of, images_of, input_notes, source_notes, starts_of};
 
 use crate::run::{SourceText, lent};
 use crate::status::INPUT_REFUSED;
 use ds_asm::{Image, assemble};
 use ds_check::{AssembledSources, starts_text};
 use ds_log::{Output, send};
-use ds_notes::{code_notes, code_notes_text, policy_notes, policy_notes_text};
-use ds_policy::{OutOfMemory, Policy};
+use ds_notes::{code_notes, code_notes_text, crowds, crowds_text, policy_notes, policy_notes_text};
+use ds_policy::{Events, EventsFault, OutOfMemory, Policy};
 use std::alloc::{AllocError, Global};
 
 /// What a check finds besides what is explained of a policy and an input.
@@ -23,16 +25,34 @@ pub(crate) struct Findings {
     pub(crate) notes: Vec<u8>,
 }
 
-/// What is found in a policy and in the texts of its sources, which assemble.
+/// The notes on an input that was read with this policy, as text.
+pub(crate) fn input_notes(
+    alloc: Global,
+    policy: &Policy,
+    input: &[u8],
+) -> Result<Vec<u8>, OutOfMemory>
+    ensures { IfOk result (λ notes. (read : InputValue)
+        → input_of policy.now.pages input.now ≡ Ok read → notes.items ≡ input_notes read) }
+{
+    match Events::read(alloc, input, policy) {
+        Ok(events) => crowds_text(alloc, &crowds(alloc, events)?),
+        Err(EventsFault::InputFault(_)) => Ok(Vec::new(alloc)),
+        Err(EventsFault::Memory) => Err(OutOfMemory),
+    }
+}
+
+/// What is found in a policy and in the texts of its sources, which assemble, with the notes on the
+/// input behind.
 pub(crate) fn findings_of(
     alloc: Global,
     policy: &Policy,
     texts: &[SourceText],
+    input_notes: &[u8],
 ) -> Result<Findings, OutOfMemory>
     ensures starts { IfOk result
         (λ f. f.starts.items ≡ starts_of policy.now (texts_seen texts.now)) }
     ensures notes { IfOk result
-        (λ f. f.notes.items ≡ notes_text policy.now (texts_seen texts.now)) }
+        (λ f. f.notes.items ≡ guest_notes policy.now (texts_seen texts.now) ++ input_notes.now) }
 {
     let guests = guests_of(alloc, texts)?;
     let sources = lent(alloc, texts)?;
@@ -44,6 +64,7 @@ pub(crate) fn findings_of(
     let noted = policy_notes(alloc, policy, &guests.images)?;
     let mut notes = policy_notes_text(alloc, policy.pages(), &noted)?;
     notes.extend_from_slice(&guests.notes)?;
+    notes.extend_from_slice(input_notes)?;
     Ok(Findings { starts, notes })
 }
 

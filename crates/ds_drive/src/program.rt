@@ -5,6 +5,7 @@ ghost use Rattle.clap.specs.Words.{fault_of};
 ghost use Rattle.ds_drive.specs.Done.{IsCutShort, IsDone, IsStopped, WantsMemory, stream};
 ghost use Rattle.ds_drive.specs.Failures.{memory_failure};
 ghost use Rattle.ds_drive.specs.Listening.{Tells, listener};
+ghost use Rattle.ds_drive.specs.Reading.{ReadsFor};
 ghost use Rattle.ds_drive.specs.Told.{failure_line};
 ghost use Rattle.ds_words.specs.Words.{AsksForSomething, dsmon_app};
 
@@ -28,7 +29,7 @@ use std::io::{ErrorKind, Write};
 /// Does what the words ask for, the program's own name first, and answers the status: 0 done; 1 the
 /// words were refused for another cause than memory, or ask for help; 2 refused input; 3 a fault of
 /// the run. What was refused is told on `err`; that a write there fails changes no status.
-#[tactic(auto, using(crate::proofs::Heard::told_so, ds_words::proofs::WordLemmas::alone, crate::proofs::Cuts::nothing_written, crate::proofs::Cuts::demo_cut, crate::proofs::Cuts::run_cut, crate::proofs::Cuts::list_cut, crate::proofs::Cuts::check_cut, crate::proofs::BareLemmas::bare_cut, crate::proofs::BareLemmas::bare_stopped, crate::proofs::BareLemmas::bare_faulty, crate::proofs::Stops::demo_stopped, crate::proofs::Stops::run_stopped, crate::proofs::Stops::list_stopped, crate::proofs::Stops::list_faulty, crate::proofs::Stops::check_stopped, crate::proofs::Noting::check_noted, crate::proofs::Stops::wants_memory, crate::proofs::TraceLemmas::trace_cut, crate::proofs::TraceLemmas::trace_done, crate::proofs::TraceLemmas::trace_stopped))]
+#[tactic(auto, using(crate::proofs::Heard::told_so, ds_words::proofs::WordLemmas::alone, crate::proofs::Cuts::nothing_written, crate::proofs::Cuts::demo_cut, crate::proofs::Cuts::run_cut, crate::proofs::Cuts::list_cut, crate::proofs::Cuts::check_cut, crate::proofs::BareLemmas::bare_cut, crate::proofs::BareLemmas::bare_stopped, crate::proofs::BareLemmas::bare_faulty, crate::proofs::Stops::demo_stopped, crate::proofs::Stops::run_stopped, crate::proofs::Stops::list_stopped, crate::proofs::Stops::list_faulty, crate::proofs::Stops::check_stopped, crate::proofs::Noting::check_noted, crate::proofs::Stops::wants_memory, crate::proofs::TraceLemmas::trace_cut, crate::proofs::TraceLemmas::trace_done, crate::proofs::TraceLemmas::trace_stopped, crate::proofs::ReadingStatuses::no_file_asked, crate::proofs::ReadingStatuses::list_reads, crate::proofs::ReadingStatuses::bare_reads))]
 pub fn drive<F: Files, W: Write, E: Output>(
     alloc: Global,
     words: &[String],
@@ -66,6 +67,8 @@ pub fn drive<F: Files, W: Write, E: Output>(
         (listener (E.contents err.old) (E.contents err.new) (E.answers err.old)
         (E.answers err.new)) }
     ensures silent { result ≡ 0 → E.contents err.new ≡ E.contents err.old }
+    ensures reads { ReadsFor result (map string_bytes words.now) (F.holds files.old)
+        (F.asked files.old) (F.asked files.new) }
     ensures kept { (file bytes : List ℕ) → F.holds files.new file bytes
         → F.holds files.old file bytes }
     ensures lacked { (file : List ℕ) → F.lacks files.new file → F.lacks files.old file }

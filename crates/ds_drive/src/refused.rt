@@ -1,7 +1,7 @@
 //! What a check refuses, and what is at fault then.
 ghost use Rattle.std.specs.Prelude.{◌≡◌, ◌<◌, ◌≤◌, ℕ, List, length, None, IfOk, IfSome, position, bytes_eq};
 ghost use Rattle.ds_policy_reasons.specs.Policies.{policy_reason};
-ghost use Rattle.ds_drive.specs.AtFault.{IsCauseOf, IsInputAt, IsPlaceAt, IsReasonAt, IsSourceAt, place_told, plain, texts_seen};
+ghost use Rattle.ds_drive.specs.AtFault.{IsCauseOf, IsInputAt, IsPlaceAt, IsReasonAt, IsSourceAt, IsSourceOf, place_told, plain, texts_seen};
 ghost use Rattle.ds_drive.specs.Failures.{memory_failure};
 ghost use Rattle.ds_drive.specs.declared.failure.Failure.TheVariants as failure;
 
@@ -73,57 +73,58 @@ impl<'a> Refused<'a> {
         }
     }
 
-    /// A refusal of the policy that has this text, of which this is the reason.
+    /// A refusal of the policy that has this text, of which this is the reason, if there is memory to
+    /// find its place.
     pub(crate) fn of_policy(
         alloc: Global,
         fault: Fault,
         text: Vec<u8>,
         reason: Option<PolicyReason>,
-    ) -> Refused<'a>
+    ) -> Result<Refused<'a>, OutOfMemory>
         requires { length text.items ≤ 16777216 }
-        ensures failure { result.failure ≡ failure.Fault fault }
-        ensures policy { IfSome result.policy (λ p. p.text.items ≡ text.items) }
+        ensures failure { IfOk result (λ r. r.failure ≡ failure.Fault fault) }
+        ensures policy { IfOk result (λ r. IfSome r.policy (λ p. p.text.items ≡ text.items)) }
         ensures place { (reason ≡ policy_reason text.items)
-            → IsPlaceAt fault text.items (place_told result.policy) }
+            → IfOk result (λ r. IsPlaceAt fault text.items (place_told r.policy)) }
         ensures reason { (reason ≡ policy_reason text.items)
-            → IsReasonAt fault text.items result.reason }
-        ensures others { (result.source ≡ None) × (result.input ≡ None) }
+            → IfOk result (λ r. IsReasonAt fault text.items r.reason) }
+        ensures others { IfOk result (λ r. (r.source ≡ None) × (r.input ≡ None)) }
     {
-        let policy = faulty_policy(alloc, &fault, text, reason);
+        let policy = faulty_policy(alloc, &fault, text, reason)?;
         let reason = reason_for(&fault, reason);
-        Refused {
+        Ok(Refused {
             failure: Failure::Fault(fault),
             source: None,
             input: None,
             reason,
             policy,
-        }
+        })
     }
 
     /// A refusal of what is read after the policy: of one of these sources, or of the input, of
-    /// which this is what is wrong with the line.
+    /// which this is what is wrong with the line, if there is memory for all faults of the source.
     pub(crate) fn of_texts(
         alloc: Global,
         fault: Fault,
         texts: Vec<SourceText>,
         input: Vec<u8>,
         cause: Option<InputCause>,
-    ) -> Refused<'a>
-        ensures failure { result.failure ≡ failure.Fault fault }
-        ensures source { IsSourceAt fault (texts_seen texts.items) result.source }
-        ensures input { IsInputAt fault input.items result.input }
-        ensures cause { IfSome result.input (λ i. i.cause ≡ cause) }
-        ensures others { (result.reason ≡ None) × (result.policy ≡ None) }
+    ) -> Result<Refused<'a>, OutOfMemory>
+        ensures failure { IfOk result (λ r. r.failure ≡ failure.Fault fault) }
+        ensures source { IfOk result (λ r. IsSourceAt fault (texts_seen texts.items) r.source) }
+        ensures input { IfOk result (λ r. IsInputAt fault input.items r.input) }
+        ensures cause { IfOk result (λ r. IfSome r.input (λ i. i.cause ≡ cause)) }
+        ensures others { IfOk result (λ r. (r.reason ≡ None) × (r.policy ≡ None)) }
     {
-        let source = faulty_source(alloc, &fault, texts);
+        let source = faulty_source(alloc, &fault, texts)?;
         let input = faulty_input(&fault, input, cause);
-        Refused {
+        Ok(Refused {
             failure: Failure::Fault(fault),
             source,
             input,
             reason: None,
             policy: None,
-        }
+        })
     }
 }
 
@@ -133,15 +134,15 @@ fn faulty_policy(
     fault: &Fault,
     text: Vec<u8>,
     reason: Option<PolicyReason>,
-) -> Option<FaultyPolicy>
+) -> Result<Option<FaultyPolicy>, OutOfMemory>
     requires { length text.items ≤ 16777216 }
-    ensures text { IfSome result (λ p. p.text.items ≡ text.items) }
+    ensures text { IfOk result (λ told. IfSome told (λ p. p.text.items ≡ text.items)) }
     ensures place { (reason ≡ policy_reason text.items)
-        → IsPlaceAt fault.now text.items (place_told result) }
+        → IfOk result (λ told. IsPlaceAt fault.now text.items (place_told told)) }
 {
-    match place_in(alloc, fault, &text, reason) {
-        Some(place) => Some(FaultyPolicy { text, place }),
-        None => None,
+    match place_in(alloc, fault, &text, reason)? {
+        Some(place) => Ok(Some(FaultyPolicy { text, place })),
+        None => Ok(None),
     }
 }
 
@@ -151,20 +152,21 @@ fn place_in(
     fault: &Fault,
     text: &[u8],
     reason: Option<PolicyReason>,
-) -> Option<Place>
+) -> Result<Option<Place>, OutOfMemory>
     requires { length text.now ≤ 16777216 }
-    ensures { (reason ≡ policy_reason text.now) → IsPlaceAt fault.now text.now result }
+    ensures { (reason ≡ policy_reason text.now)
+        → IfOk result (λ place. IsPlaceAt fault.now text.now place) }
 {
     match fault {
-        Fault::BadToml => match toml_place(alloc, text) {
-            Ok(place) => place,
-            Err(OutOfMemory) => None,
-        },
+        Fault::BadToml => {
+            let place = toml_place(alloc, text)?;
+            Ok(place)
+        }
         Fault::BadRule(_) | Fault::Limit(_) => match reason {
-            Some(reason) => reason_place(text, reason),
-            None => None,
+            Some(reason) => Ok(reason_place(text, reason)),
+            None => Ok(None),
         },
-        _ => None,
+        _ => Ok(None),
     }
 }
 
@@ -211,17 +213,34 @@ fn faulty_input(fault: &Fault, text: Vec<u8>, cause: Option<InputCause>) -> Opti
     }
 }
 
-/// The source that is at fault with all its faults, if one is and there is memory for them.
-fn faulty_source(alloc: Global, fault: &Fault, mut texts: Vec<SourceText>) -> Option<FaultySource>
-    ensures { IsSourceAt fault.now (texts_seen texts.items) result }
+/// The source that is at fault with all its faults, if one is.
+fn faulty_source(
+    alloc: Global,
+    fault: &Fault,
+    texts: Vec<SourceText>,
+) -> Result<Option<FaultySource>, OutOfMemory>
+    ensures { IfOk result (λ told. IsSourceAt fault.now (texts_seen texts.items) told) }
 {
-    let Fault::InSource { name, .. } = fault else {
-        return None;
+    match fault {
+        Fault::InSource { name, .. } => source_named(alloc, name.as_str(), texts),
+        _ => Ok(None),
+    }
+}
+
+/// The first source of this name with all its faults, if there is one.
+fn source_named(
+    alloc: Global,
+    name: &str,
+    mut texts: Vec<SourceText>,
+) -> Result<Option<FaultySource>, OutOfMemory>
+    ensures { IfOk result (λ told. IsSourceOf name.now (texts_seen texts.items) told) }
+{
+    let Some(index) = place_of(&texts, name) else {
+        return Ok(None);
     };
-    let index = place_of(&texts, name.as_str())?;
     let text = texts.swap_remove(index).text;
-    let faults = all_faults(alloc, &text).ok()?;
-    Some(FaultySource { text, faults })
+    let faults = all_faults(alloc, &text)?;
+    Ok(Some(FaultySource { text, faults }))
 }
 
 /// The place of the first source of this name.

@@ -1,9 +1,10 @@
 //! A run of files: the policy, the input, and the sources that the policy names.
-ghost use Rattle.std.specs.Prelude.{◌≡◌, ◌≤◌, ℕ, List, IfErr, IfOk, OnOk, All, length, map};
+ghost use Rattle.std.specs.Prelude.{◌≡◌, ◌≤◌, ◌∷◌, ℕ, List, [], IfErr, IfOk, OnOk, All, length, map};
 ghost use Rattle.ds_station.specs.Headline.{Along, Followed, WritesReally, sources_seen};
 ghost use Rattle.ds_drive.specs.AtFault.{texts_seen};
 ghost use Rattle.ds_drive.specs.Failures.{AreUnread, HoldsInputs, IsUnread, IsUnreadRun, RunsFiles, StopsBy};
 ghost use Rattle.ds_drive.specs.Ran.{RunsAlone, RunsGuarded, RunsReally};
+ghost use Rattle.ds_drive.specs.Reading.{ReadsAll, ReadsRun, ReadsRunUntil, ReadsUntil, TellsOf};
 
 use crate::failure::Failure;
 use crate::files::{FileFault, Files};
@@ -30,7 +31,7 @@ pub(crate) struct Inputs {
 
 /// Reads the policy, then the input, then, where the policy is good, each source by its name, and
 /// runs them. Nothing is written before all of them are read.
-#[tactic(auto, using(crate::proofs::Stops::run_unread, crate::proofs::Stops::memory_stops))]
+#[tactic(auto, using(crate::proofs::Stops::run_unread, crate::proofs::Stops::memory_stops, crate::proofs::Readings::run_read_until))]
 pub fn run_request<'a, F: Files, W: Write>(
     alloc: Global,
     request: &Request<'a>,
@@ -52,6 +53,10 @@ pub fn run_request<'a, F: Files, W: Write>(
     ensures err { IfErr result
         (λ f. StopsBy f (F.holds files.old) (F.lacks files.old) request.now
         (W.contents out.old) (W.contents out.new)) }
+    ensures reads { OnOk result (ReadsRun (F.holds files.old) request.now.policy.now
+        (request.now.input.now ∷ []) (F.asked files.old) (F.asked files.new)) }
+    ensures reads_until { IfErr result (λ f. ReadsRunUntil (TellsOf f) (F.holds files.old)
+        request.now.policy.now (request.now.input.now ∷ []) (F.asked files.old) (F.asked files.new)) }
     ensures kept { (file bytes : List ℕ) → F.holds files.new file bytes
         → F.holds files.old file bytes }
     ensures lacked { (file : List ℕ) → F.lacks files.new file → F.lacks files.old file }
@@ -73,7 +78,7 @@ pub fn run_request<'a, F: Files, W: Write>(
 }
 
 /// Reads the policy, then the input, then, where the policy is good, each source by its name.
-#[tactic(auto, using(crate::proofs::Stops::policy_unread, crate::proofs::Stops::input_unread, crate::proofs::Stops::policy_unsound))]
+#[tactic(auto, using(crate::proofs::Stops::policy_unread, crate::proofs::Stops::input_unread, crate::proofs::Stops::policy_unsound, crate::proofs::Readings::policy_unread_until, crate::proofs::Readings::source_unread_until, crate::proofs::Readings::run_read))]
 pub(crate) fn read_inputs<'a, F: Files>(
     alloc: Global,
     request: &Request<'a>,
@@ -83,6 +88,10 @@ pub(crate) fn read_inputs<'a, F: Files>(
         inputs.policy (texts_seen inputs.texts.items) inputs.input.items) }
     ensures err { IfErr result
         (λ f. IsUnreadRun f (F.holds files.old) (F.lacks files.old) request.now) }
+    ensures reads { OnOk result (ReadsRun (F.holds files.old) request.now.policy.now
+        (request.now.input.now ∷ []) (F.asked files.old) (F.asked files.new)) }
+    ensures reads_until { IfErr result (λ f. ReadsRunUntil (TellsOf f) (F.holds files.old)
+        request.now.policy.now (request.now.input.now ∷ []) (F.asked files.old) (F.asked files.new)) }
     ensures kept { (file bytes : List ℕ) → F.holds files.new file bytes
         → F.holds files.old file bytes }
     ensures lacked { (file : List ℕ) → F.lacks files.new file → F.lacks files.old file }
@@ -102,6 +111,7 @@ pub(crate) fn read_inputs<'a, F: Files>(
 }
 
 /// The bytes of a file that the words name.
+#[tactic(auto, using(crate::proofs::Readings::one_read, crate::proofs::Readings::unread_next))]
 pub(crate) fn named_file<'a, F: Files>(
     alloc: Global,
     files: &mut F,
@@ -110,6 +120,10 @@ pub(crate) fn named_file<'a, F: Files>(
     ensures found { IfOk result (λ bytes. F.holds files.old name.entry.now bytes.items) }
     ensures limit { IfOk result (λ bytes. length bytes.items ≤ 16777216) }
     ensures unread { IfErr result (IsUnread (F.lacks files.old) name.entry.now) }
+    ensures reads { OnOk result (ReadsAll (name.entry.now ∷ [])
+        (F.asked files.old) (F.asked files.new)) }
+    ensures reads_until { IfErr result (λ f. ReadsUntil (TellsOf f) (name.entry.now ∷ [])
+        (F.asked files.old) (F.asked files.new)) }
     ensures kept { (file bytes : List ℕ) → F.holds files.new file bytes
         → F.holds files.old file bytes }
     ensures lacked { (file : List ℕ) → F.lacks files.new file → F.lacks files.old file }
@@ -122,6 +136,7 @@ pub(crate) fn named_file<'a, F: Files>(
 }
 
 /// The texts of the files of these sources, in order.
+#[tactic(auto, using(crate::proofs::Readings::none_read, crate::proofs::Readings::one_more_read, crate::proofs::Readings::read_as_far_as, crate::proofs::Readings::read_so_far, crate::proofs::Readings::unread_there))]
 pub(crate) fn source_texts<'a, F: Files>(
     alloc: Global,
     files: &mut F,
@@ -131,6 +146,9 @@ pub(crate) fn source_texts<'a, F: Files>(
     ensures found { IfOk result
         (λ texts. All (λ s. F.holds files.old s.name s.text.items) texts.items) }
     ensures unread { IfErr result (AreUnread (F.holds files.old) (F.lacks files.old) names.now) }
+    ensures reads { OnOk result (ReadsAll names.now (F.asked files.old) (F.asked files.new)) }
+    ensures reads_until { IfErr result (λ f. ReadsUntil (TellsOf f) names.now
+        (F.asked files.old) (F.asked files.new)) }
     ensures kept { (file bytes : List ℕ) → F.holds files.new file bytes
         → F.holds files.old file bytes }
     ensures lacked { (file : List ℕ) → F.lacks files.new file → F.lacks files.old file }

@@ -1,6 +1,7 @@
 //! The trace of a run of files.
-ghost use Rattle.std.specs.Prelude.{ℕ, List, IfErr, OnOk};
+ghost use Rattle.std.specs.Prelude.{◌∷◌, ℕ, List, [], IfErr, OnOk};
 ghost use Rattle.ds_drive.specs.Ran.{TracesReally};
+ghost use Rattle.ds_drive.specs.Reading.{ReadsRun, ReadsRunUntil, TellsOf};
 ghost use Rattle.ds_drive.specs.TraceRuns.{TracesFiles, TraceStopsBy};
 
 use crate::failure::Failure;
@@ -13,7 +14,7 @@ use std::io::Write;
 
 /// Reads the files of a run as `run_request` does, runs them, and writes before the text of the run
 /// the lines of its trace that are asked for. Nothing is written before all of them are read.
-#[tactic(auto, using(crate::proofs::TraceLemmas::trace_unread, crate::proofs::TraceLemmas::memory_stops))]
+#[tactic(auto, using(crate::proofs::TraceLemmas::trace_unread, crate::proofs::TraceLemmas::memory_stops, crate::proofs::Readings::run_read_until))]
 pub fn trace_request<'a, F: Files, W: Write>(
     alloc: Global,
     request: &TraceRequest<'a>,
@@ -27,6 +28,10 @@ pub fn trace_request<'a, F: Files, W: Write>(
     ensures err { IfErr result
         (λ f. TraceStopsBy f (F.holds files.old) (F.lacks files.old) request.now
         (W.contents out.old) (W.contents out.new)) }
+    ensures reads { OnOk result (ReadsRun (F.holds files.old) request.now.run.policy.now
+        (request.now.run.input.now ∷ []) (F.asked files.old) (F.asked files.new)) }
+    ensures reads_until { IfErr result (λ f. ReadsRunUntil (TellsOf f) (F.holds files.old)
+        request.now.run.policy.now (request.now.run.input.now ∷ []) (F.asked files.old) (F.asked files.new)) }
     ensures kept { (file bytes : List ℕ) → F.holds files.new file bytes
         → F.holds files.old file bytes }
     ensures lacked { (file : List ℕ) → F.lacks files.new file → F.lacks files.old file }

@@ -215,7 +215,7 @@ dsmon trace p.toml in 10 --only|--only
 dsmon trace p.toml in 10 --only keys|--only takes end, calls, denials, switches or units
 dsmon --help|Usage: dsmon
 dsmon help|Usage: dsmon
-dsmon --version|dsmon 0.1.0
+dsmon --version|dsmon 1.0.0
 dsmon run --help|[default: 63]
 dsmon run --help|from 0 to 1000000000
 dsmon trace --help|[default: 0]
@@ -251,7 +251,7 @@ fn words_that_run_nothing_are_told_why(rt: HostRuntime) -> Result<(), AllocError
         right = is_line_told(rt.alloc(), line)? && right;
     }
     let answer = answer_to(rt.alloc(), "dsmon --version", &[])?;
-    assert!(rt; right && answer.err.ends_with(b"dsmon 0.1.0\n"));
+    assert!(rt; right && answer.err.ends_with(b"dsmon 1.0.0\n"));
     Ok(())
 }
 

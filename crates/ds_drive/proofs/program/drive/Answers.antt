@@ -9,7 +9,8 @@ use Rattle.ds_drive.proofs.BareLemmas.{bare_cut, bare_faulty}
 use Rattle.ds_drive.proofs.Cuts.{check_cut, demo_cut, list_cut, run_cut, run_done}
 use Rattle.ds_drive.proofs.Noting.{check_noted}
 use Rattle.ds_drive.proofs.Stops.{list_faulty, no_fault_is_done}
-use Rattle.ds_drive.proofs.TraceLemmas.{trace_cut, trace_done}
+use Rattle.ds_drive.proofs.ReadingStatuses.{bare_reads_until, check_reads, check_reads_until, list_reads_until, no_file_asked, run_reads, run_reads_until, trace_reads, trace_reads_until}
+use Rattle.ds_drive.proofs.TraceLemmas.{trace_cut, trace_done, trace_stopped}
 use Rattle.ds_drive.proofs.Untaken.{taken_for_memory}
 use Rattle.ds_words.proofs.WordLemmas.{alone, fails_for_memory, only_memory_fails}
 use Rattle.ds_drive.proofs.program.drive.Goals as goal
@@ -97,3 +98,51 @@ returns-in-Err-check_files-clause-done g c zero = absurd (no_fault_is_done (fail
 
 pub returns-in-Ok-None-clause-taken : goal.returns-in-Ok-None-clause-taken
 returns-in-Ok-None-clause-taken g c asks = absurd (c.in-Ok-None.ensures-1.none c.in-Ok-None.field-0-is asks)
+
+pub returns-in-Ok-clause-reads : goal.returns-in-Ok-clause-reads
+returns-in-Ok-clause-reads g c = no_file_asked 0 (map string_bytes c.args.words.now) (g.F.Files.holds c.args.files.now) (g.F.Files.asked c.args.files.now)
+
+pub returns-in-Ok-run_request-clause-reads : goal.returns-in-Ok-run_request-clause-reads
+returns-in-Ok-run_request-clause-reads g c = run_reads 0 (map string_bytes c.args.words.now) (g.F.Files.holds c.args.files.now) (g.F.Files.asked c.args.files.now) (g.F.Files.asked c.run_request.new.files) c.in-Ok-Some-Run.request (search rules) c.in-Ok-run_request.ensures.reads
+
+pub returns-in-Err-run_request-clause-reads : goal.returns-in-Err-run_request-clause-reads
+returns-in-Err-run_request-clause-reads g c =
+    run_reads_until c.tell-in-Err-run_request.result (map string_bytes c.args.words.now) (g.F.Files.holds c.args.files.now) (g.F.Files.asked c.args.files.now) (g.F.Files.asked c.run_request.new.files) c.in-Ok-Some-Run.request c.in-Err-run_request.failure
+    c.tell-in-Err-run_request.ensures.status (search rules) c.in-Err-run_request.ensures.reads_until
+
+pub returns-in-Ok-trace_request-clause-reads : goal.returns-in-Ok-trace_request-clause-reads
+returns-in-Ok-trace_request-clause-reads g c = trace_reads 0 (map string_bytes c.args.words.now) (g.F.Files.holds c.args.files.now) (g.F.Files.asked c.args.files.now) (g.F.Files.asked c.trace_request.new.files) c.in-Ok-Some-Trace.request (search rules) c.in-Ok-trace_request.ensures.reads
+
+pub returns-in-Err-trace_request-clause-reads : goal.returns-in-Err-trace_request-clause-reads
+returns-in-Err-trace_request-clause-reads g c =
+    trace_reads_until c.tell-in-Err-trace_request.result (map string_bytes c.args.words.now) (g.F.Files.holds c.args.files.now) (g.F.Files.asked c.args.files.now) (g.F.Files.asked c.trace_request.new.files) c.in-Ok-Some-Trace.request c.in-Err-trace_request.failure
+    c.tell-in-Err-trace_request.ensures.status (search rules) c.in-Err-trace_request.ensures.reads_until
+
+pub returns-in-Err-list_file-clause-reads : goal.returns-in-Err-list_file-clause-reads
+returns-in-Err-list_file-clause-reads g c =
+    list_reads_until c.tell-in-Err-list_file.result (map string_bytes c.args.words.now) (g.F.Files.holds c.args.files.now) (g.F.Files.asked c.args.files.now) (g.F.Files.asked c.list_file.new.files) c.in-Ok-Some-List.request c.in-Err-list_file.unlisted
+    c.tell-in-Err-list_file.ensures.status (search rules) c.in-Err-list_file.ensures.reads_until
+
+pub returns-in-Ok-Explained-clause-reads : goal.returns-in-Ok-Explained-clause-reads
+returns-in-Ok-Explained-clause-reads g c = check_reads 0 (map string_bytes c.args.words.now) (g.F.Files.holds c.args.files.now) (g.F.Files.asked c.args.files.now) (g.F.Files.asked c.check_files.new.files) c.in-Ok-Some-Check.request (search rules) c.in-Ok-Explained.ensures.reads
+
+pub returns-in-Ok-Noted-clause-reads : goal.returns-in-Ok-Noted-clause-reads
+returns-in-Ok-Noted-clause-reads g c = check_reads c.tell_notes.result (map string_bytes c.args.words.now) (g.F.Files.holds c.args.files.now) (g.F.Files.asked c.args.files.now) (g.F.Files.asked c.check_files.new.files) c.in-Ok-Some-Check.request (search rules) c.in-Ok-Noted.ensures.reads
+
+pub returns-in-Err-check_files-clause-reads : goal.returns-in-Err-check_files-clause-reads
+returns-in-Err-check_files-clause-reads g c =
+    check_reads_until c.tell_refused.result (map string_bytes c.args.words.now) (g.F.Files.holds c.args.files.now) (g.F.Files.asked c.args.files.now) (g.F.Files.asked c.check_files.new.files) c.in-Ok-Some-Check.request c.in-Err-check_files.refused.failure
+    c.tell_refused.ensures.status (search rules) c.in-Err-check_files.ensures.reads_until
+
+pub returns-in-Err-bare_file-clause-reads : goal.returns-in-Err-bare_file-clause-reads
+returns-in-Err-bare_file-clause-reads g c =
+    bare_reads_until c.tell-in-Err-bare_file.result (map string_bytes c.args.words.now) (g.F.Files.holds c.args.files.now) (g.F.Files.asked c.args.files.now) (g.F.Files.asked c.bare_file.new.files) c.in-Ok-Some-Bare.request c.in-Err-bare_file.failure
+    c.tell-in-Err-bare_file.ensures.status (search rules) c.in-Err-bare_file.ensures.reads_until
+
+pub returns-in-Err-trace_request-clause-stopped : goal.returns-in-Err-trace_request-clause-stopped
+returns-in-Err-trace_request-clause-stopped g c two =
+    trace_stopped (map string_bytes c.args.words.now) (g.F.Files.holds c.args.files.now) (g.F.Files.lacks c.args.files.now) 2 (g.W.Write.contents c.args.out.now) (g.W.Write.contents c.trace_request.new.out) _ c.in-Ok-Some-Trace.request c.in-Err-trace_request.failure (sym c.tell-in-Err-trace_request.ensures.status ∙ two) (search rules) c.in-Err-trace_request.ensures.err (search rules)
+
+pub returns-in-Err-trace_request-clause-failed : goal.returns-in-Err-trace_request-clause-failed
+returns-in-Err-trace_request-clause-failed g c three =
+    inr (trace_stopped (map string_bytes c.args.words.now) (g.F.Files.holds c.args.files.now) (g.F.Files.lacks c.args.files.now) 3 (g.W.Write.contents c.args.out.now) (g.W.Write.contents c.trace_request.new.out) _ c.in-Ok-Some-Trace.request c.in-Err-trace_request.failure (sym c.tell-in-Err-trace_request.ensures.status ∙ three) (search rules) c.in-Err-trace_request.ensures.err (search rules))

@@ -1,8 +1,10 @@
-use Rattle.std.proofs.Common.{◌∙◌, ap, refl, rules, sym, subst}
+use Rattle.std.proofs.Common.{◌∙◌, ◌∷◌, [], ap, refl, rules, sym, subst}
 use Rattle.ds_drive.specs.declared.failure.Failure.{Failure}
 use Rattle.ds_drive.specs.declared.failure.Failure.TheVariants as failure
 use Rattle.ds_drive.specs.Failures.{IsUnreadRun}
 use Rattle.ds_drive.proofs.HeldFiles.{are_held}
+use Rattle.ds_drive.specs.Reading.{TellsOf}
+use Rattle.ds_drive.proofs.Readings.{both_read_until, input_unread_until}
 use Rattle.ds_drive.proofs.Stops.{if_err_is, policy_unsound, source_unread}
 use Rattle.ds_drive.proofs.run.read_inputs.Goals as goal
 
@@ -35,3 +37,14 @@ returns-in_err-texts-clause-err g c =
     c.args.request.now c.in_ok-policy_text.policy_text.items c.in_ok-input.input.items c.in-Ok.policy _ _
     (search rules) c.in_ok-policy_text.ensures.kept c.in_ok-input.ensures.kept c.in_ok-policy_text.ensures.found c.in_ok-input.ensures.found (search rules) c.sources.ensures.all
     c.in_err-texts.ensures.unread)
+
+pub returns-in_err-input-clause-reads_until : goal.returns-in_err-input-clause-reads_until
+returns-in_err-input-clause-reads_until g c =
+    if_err_is c.from_residual-in_err-input.result c.in_err-input.field-0.0 _ (search rules)
+    (input_unread_until (g.F.Files.holds c.args.files.now) c.args.request.now.policy.now (c.args.request.now.input.now ∷ []) c.in_err-input.field-0.0 c.in_ok-policy_text.policy_text.items _ _ _
+    c.in_ok-policy_text.ensures.found c.in_ok-policy_text.ensures.reads c.in_err-input.ensures.reads_until)
+
+pub returns-in-Err-clause-reads_until : goal.returns-in-Err-clause-reads_until
+returns-in-Err-clause-reads_until g c =
+    both_read_until (g.F.Files.holds c.args.files.now) c.args.request.now.policy.now (c.args.request.now.input.now ∷ []) (TellsOf (failure.Fault c.from.result)) c.in_ok-policy_text.policy_text.items _ _ _
+    c.in_ok-policy_text.ensures.found c.in_ok-policy_text.ensures.reads c.in_ok-input.ensures.reads tt
