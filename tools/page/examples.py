@@ -1,0 +1,103 @@
+"""The examples of the repository, as the page offers them: those that the rows of crates/rows run, each with what its document says of it."""
+import json
+import re
+from pathlib import Path
+
+FOLDERS = {"examples": "Examples", "examples/labs": "Labs", "examples/c": "Programs in C", "examples/bare": "The bare machine"}
+DATA = "crates/rows/data"
+ENTRIES = "--entries"
+SECTION = re.compile(r"^## (.*)\n+((?:.+\n)+)", re.M)
+COMMAND = re.compile(r"dsmon \w+ (\w+)\.toml")
+# A run that goes on until its guests have ended takes as many ticks as it may: the page offers the next power of ten.
+MOST_TICKS = 1_000_000
+
+
+def examples(top):
+    """All of them, in the order of the rows, by their names."""
+    found = {}
+    for line in Path(top, DATA, "rows").read_text("utf-8").splitlines():
+        folder, status, expected, command, *words = line.split(" ")
+        if folder in FOLDERS and status == "0" and command in ("run", "trace", "bare"):
+            made = bare(top, folder, words) if command == "bare" else run(top, folder, expected, words)
+            # A row of a trace has the flags that the example is about; `--entries` is the page's own.
+            if made["name"] not in found or (command == "trace" and ENTRIES not in words):
+                found[made["name"]] = made
+    return list(found.values())
+
+
+def run(top, folder, expected, words):
+    """An example that runs a policy, from the words of its row."""
+    place = Path(top, DATA, folder)
+    policy, given, ticks, *flags = words
+    text = (place / policy).read_text("utf-8")
+    sources = [it for it in dict.fromkeys(re.findall(r'source = "([^"]+)"', text)) if (place / it).is_file()]
+    stem = policy.removesuffix(".toml")
+    return named(folder, stem) | {
+        "about": told(place / "README.md").get(stem) or of_a_program(place / f"{stem}.c") or of_a_comment(text),
+        "command": "trace",
+        "policy": text,
+        "sources": {it: (place / it).read_text("utf-8") for it in sources},
+        "input": (place / given).read_text("utf-8"),
+        "ticks": ticks_of(place / expected, int(ticks)),
+        "flags": " ".join(it for it in flags if it != ENTRIES),
+    }
+
+
+def bare(top, folder, words):
+    """An example of the bare machine, from the words of its row."""
+    source, ticks = words[:2]
+    stem = source.removesuffix(".s")
+    text = Path(top, DATA, folder, source).read_text("utf-8")
+    return named(folder, stem) | {
+        "about": of_a_comment(text),
+        "command": "bare",
+        "policy": "",
+        "sources": {source: text},
+        "input": "",
+        "ticks": int(ticks),
+        "flags": "",
+    }
+
+
+def named(folder, stem):
+    return {"name": f"{folder}/{stem}".removeprefix("examples/"), "group": FOLDERS[folder]}
+
+
+def told(readme):
+    """The first paragraph of each section of a document, by the name of the section and by the policies that it runs."""
+    if not readme.is_file():
+        return {}
+    text, found = readme.read_text("utf-8"), {}
+    for it in SECTION.finditer(text):
+        end = text.find("\n## ", it.end())
+        title, about = it[1], plain(it[2])
+        for name in {title, *COMMAND.findall(text, it.end(), end if end >= 0 else len(text))}:
+            found[name] = about if " " not in title else f"{title.removesuffix('?')}{'?' if title.endswith('?') else '.'} {about}"
+    return found
+
+
+def plain(text):
+    """A paragraph as one line, without the marks of its language."""
+    return " ".join(text.replace("`", "").split())
+
+
+def of_a_program(path):
+    """The comment with which a program in C begins."""
+    return of_a_comment(path.read_text("utf-8"), "//") if path.is_file() else ""
+
+
+def of_a_comment(text, mark="#"):
+    """The comment with which a text begins."""
+    lines = re.match(rf"(?:{mark} .*\n)*", text)[0]
+    return plain(re.sub(rf"^{mark} ", "", lines, flags=re.M))
+
+
+def ticks_of(expected, ticks):
+    """So many ticks as the row has; where that is without an end, more than the run took."""
+    time = re.search(rb"^time (\d+)$", expected.read_bytes(), re.M)
+    return ticks if ticks < MOST_TICKS or not time else 10 ** len(time[1])
+
+
+def script(top):
+    """All examples as a script of the page."""
+    return f"(globalThis.dsmon ||= {{}}).examples = {json.dumps(examples(top), ensure_ascii=False, indent=0)};\n"
