@@ -1,0 +1,162 @@
+#!/usr/bin/env python3
+"""Tests of tools/port.py: what the programs are given and how their texts are compared, with no package and no compiler."""
+import contextlib
+import io
+import random
+import sys
+import tempfile
+import unittest
+import zlib
+from pathlib import Path
+from unittest import mock
+
+sys.dont_write_bytecode = True
+
+import port  # noqa: E402
+from port import ADDRESS, DAMAGED, END, EXAMPLES, PACKED, PORTS, TEXT, Refused, damaged, drawn_block, first_difference, item, items_in, parts, read_again  # noqa: E402
+
+RUN = b"console 0 6\nfirst\n\nconsole 1 0\n\nconsole 2 0\n\nconsole 3 0\n\nlog 1\n2 1 00400008 store 00410008 r2 1\ntime 10\n"
+
+
+def unpacked(block):
+    """What a block of lz4 holds."""
+    held, at = bytearray(), 0
+
+    def length(at, count):
+        while count >= 15:
+            count, at, more = count + block[at], at + 1, block[at]
+            if more < 255:
+                break
+        return at, count
+
+    while True:
+        token = block[at]
+        at, literals = length(at + 1, token >> 4)
+        held += block[at:at + literals]
+        at += literals
+        if at == len(block):
+            return bytes(held)
+        back = int.from_bytes(block[at:at + 2], "little")
+        at, more = length(at + 2, token & 15)
+        for _ in range(more + 4):
+            held.append(held[-back])
+
+
+def package(room):
+    """A source package with the files whose texts are packed."""
+    folder = Path(room, "package")
+    for it in ("debian", "lib"):
+        (folder / it).mkdir(parents=True)
+    for it in ("deflate.c", "LICENSE", "lib/lz4.c", "lib/LICENSE"):
+        (folder / it).write_text(f"{it}\n" * 500, "ascii")
+    (folder / "debian" / "changelog").write_text("zlib (1:1.2.13-1) unstable; urgency=low\n", "ascii")
+    return folder
+
+
+class Tests(unittest.TestCase):
+    def setUp(self):
+        folder = tempfile.TemporaryDirectory(prefix="port-test-")
+        self.addCleanup(folder.cleanup)
+        self.room = Path(folder.name)
+
+    def said(self, words, **stand_ins):
+        """The status of the script and its lines, with stand-ins for its functions."""
+        with contextlib.ExitStack() as stack:
+            for name, value in stand_ins.items():
+                stack.enter_context(mock.patch.object(port, name, value))
+            out, err = (stack.enter_context(it(io.StringIO())) for it in (contextlib.redirect_stdout, contextlib.redirect_stderr))
+            status = port.main(words)
+        return status, out.getvalue().splitlines(), err.getvalue().splitlines()
+
+    def compared(self, mine, theirs, name="zlib"):
+        """What is said of a port that puts one text in dsmon and another natively."""
+        program = self.room / "dsmon"
+        program.touch()
+        return self.said(["--dsmon", str(program), "--from", str(package(self.room)), name], check_tools=lambda needed: None,
+                         by_dsmon=lambda *given: mine, natively=lambda *given: theirs)
+
+    def test_items_are_read_as_they_were_written(self):
+        held = [(TEXT, 15, b"abcde"), (PACKED, -15, b""), (TEXT, 31, bytes(8))]
+        file = b"".join(item(*it) for it in [*held, (END, 0, b"")])
+        self.assertEqual((held, 0), (list(items_in(file)), len(file) % 4))
+
+    def test_kinds_and_address_are_those_of_the_header(self):
+        header = (EXAMPLES / "port" / "items.h").read_text("ascii")
+        self.assertIn(f"END = {END}, TEXT = {TEXT}, PACKED = {PACKED}", header)
+        self.assertIn(f"0x{ADDRESS:08X}", header)
+
+    def test_each_port_has_its_program(self):
+        for name in PORTS:
+            self.assertTrue((EXAMPLES / "port" / f"with_{name}.c").is_file(), name)
+
+    def test_streams_of_zlib_are_good_before_they_are_damaged(self):
+        items = list(items_in(b"".join(port.zlib_items(package(self.room), random.Random(1))) + item(END, 0, b"")))
+        packed = [(option, held) for kind, option, held in items if kind == PACKED]
+        self.assertEqual(DAMAGED, len(packed) - 7)
+        self.assertEqual(1, len({zlib.decompress(held, wbits=option) for option, held in packed[:7]}))
+
+    def test_drawn_blocks_are_blocks_of_lz4(self):
+        for seed in range(50):
+            self.assertGreater(len(unpacked(drawn_block(random.Random(seed)))), 12)
+
+    def test_damaged_streams_have_a_bit_turned_or_are_cut_off(self):
+        stream = bytes(range(200))
+        for held, option in damaged([(stream, 7)], random.Random(3)):
+            self.assertEqual(7, option)
+            self.assertEqual(len(held) == len(stream), not stream.startswith(held))
+
+    def test_a_run_is_told_in_parts(self):
+        self.assertEqual((b"first\n", ["2 1 00400008 store 00410008 r2 1"], 10), parts(RUN))
+
+    def test_the_first_difference_is_told_with_its_line(self):
+        self.assertIsNone(first_difference(b"a\nb\n", b"a\nb\n"))
+        self.assertEqual("line 2: 'b', natively 'c'", first_difference(b"a\nb\n", b"a\nc\n"))
+        self.assertEqual("line 2: 'b', natively 'nothing'", first_difference(b"a\nb\n", b"a\n"))
+
+    def test_streams_that_were_put_are_read_again(self):
+        held = random.Random(5).randbytes(100)
+        digits = zlib.compress(held).hex()
+        console = "\n".join(["zlib 1", *(digits[at:at + 64] for at in range(0, len(digits), 64)), "inflate"]).encode()
+        self.assertEqual((1, 1), read_again(console, [(TEXT, 15, held), (PACKED, 15, b"x")]))
+        for other in ((TEXT, 15, b"other"), (TEXT, 31, held)):
+            self.assertEqual((0, 1), read_again(console, [other]))
+
+    def test_the_same_text_is_told(self):
+        status, out, err = self.compared((b"a\nb\n", [], 12), b"a\nb\n", "lz4")
+        self.assertEqual((0, "lz4: 2 lines, 4 bytes, the same as natively", []), (status, out[-1], err))
+        self.assertRegex(out[0], r"^lz4 1:1\.2\.13-1: 2 files as they stand; [\d,]+ bytes of texts and streams; 12 ticks")
+
+    def test_another_text_and_a_process_that_was_stopped_are_told(self):
+        status, out, _ = self.compared((b"a\n", ["9 1 00400000 store 00000000 r0 3"], 12), b"b\n", "lz4")
+        self.assertEqual((1, "lz4: the log has 9 1 00400000 store 00000000 r0 3; line 1: 'a', natively 'b'"), (status, out[-1]))
+
+    def test_a_package_is_fetched_with_lists_of_its_own(self):
+        said = []
+
+        def ran(words, cwd=None):
+            said.append(words)
+            if cwd:
+                (cwd / "zlib-1").mkdir()
+        with mock.patch.object(port, "ran", ran), mock.patch.object(port, "release_name", lambda: "bookworm"):
+            self.assertEqual(self.room / "source" / "zlib-1", port.fetched("zlib", self.room))
+        self.assertEqual([["update"], ["source", "zlib"]], [it[it.index("APT::Sandbox::User=root") + 1:] for it in said])
+        self.assertTrue(all(f"Dir::State::lists={self.room / 'lists'}" in it for it in said))
+        self.assertIn("deb-src", (self.room / "sources.list").read_text("ascii"))
+
+    def test_what_is_missing_is_one_line_with_status_2(self):
+        self.assertEqual((2, [], ["port: no nothing-like-it: apt-get install a-package"]), self.said(["zlib"], NEEDED={"nothing-like-it": "a-package"}))
+        status, _, err = self.said(["--dsmon", "/no/dsmon", "zlib"], check_tools=lambda needed: None)
+        self.assertEqual((2, ["port: no program /no/dsmon: README.md says how it is built"]), (status, err))
+
+    def test_a_command_that_fails_is_told_with_its_last_lines(self):
+        with self.assertRaisesRegex(Refused, "(?s)` ended with status 3:\nwhy$"):
+            port.ran(["sh", "-c", "echo why >&2; exit 3"])
+
+    def test_wrong_words_are_refused(self):
+        for words in (["gzip"], ["--from", "."], ["--from", ".", "zlib", "lz4"]):
+            with self.assertRaises(SystemExit), contextlib.redirect_stderr(io.StringIO()):
+                port.options(words)
+
+
+if __name__ == "__main__":
+    unittest.main()

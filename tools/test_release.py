@@ -1,0 +1,343 @@
+#!/usr/bin/env python3
+"""Tests of tools/release.py, over a toy repository with a toy gate, a stand-in for the program, and a toy kit."""
+import contextlib
+import hashlib
+import importlib.util
+import io
+import os
+import shutil
+import subprocess
+import sys
+import tarfile
+import tempfile
+import unittest
+from pathlib import Path
+from unittest import mock
+
+sys.dont_write_bytecode = True
+
+from release import Refused, contents, licences  # noqa: E402
+from release.archive import File, archive  # noqa: E402
+from release.manual import SECTIONS, formatted, manual, section  # noqa: E402
+
+TOP = Path(__file__).resolve().parent.parent
+SCRIPT = importlib.util.spec_from_file_location("release_command", TOP / "tools" / "release.py")
+COMMAND = importlib.util.module_from_spec(SCRIPT)
+SCRIPT.loader.exec_module(COMMAND)
+
+HELPS = {
+    "": "Runs a station\n\nUsage: dsmon <COMMAND>\n\nCommands:\n  run   Runs processes\n  help  Print help\n\nOptions:\n  -h, --help  Print help\n\nThe status is 0.\n",
+    "run": "Runs processes\n\nUsage: dsmon run [OPTIONS] <POLICY>\n\nArguments:\n  <POLICY>  The policy's file\n\nOptions:\n      --random <R>  Where it starts\n\nExample:\n  dsmon run a.toml\n",
+}
+PROGRAM = """#!/bin/sh
+case "$*" in
+    demo) echo A; exit 0;;
+    --version) echo 'dsmon VERSION' >&2;;
+    --help) cat >&2 <<'END'
+WHOLEEND
+    ;;
+    *) cat >&2 <<'END'
+RUNEND
+esac
+exit 1
+""".replace("WHOLE", HELPS[""]).replace("RUN", HELPS["run"])
+GATE = """#!/bin/sh
+mkdir -p crates/dsmon/out && cp program crates/dsmon/out/dsmon && chmod +x crates/dsmon/out/dsmon
+printf '2 passed, 0 failed\\nrt: ok\\n7 refused, 0 not refused\\n0 refused, 0 not refused\\n3 passed, 0 failed\\n'
+"""
+README = "# dsmon\n\nIt simulates.\n\n## A denial\n\n    a = 1\n\n## A first look\n\nThere:\n\n    ./dsmon demo\n    (cd examples && cat hello.s)\n\nElsewhere:\n\n    false\n"
+FILES = {
+    "README.md": README,
+    "CHANGELOG.md": "# Changelog\n\n## 1.2.3\n\nAll.\n",
+    "LICENSE": "Any.\n",
+    "docs/policy.md": "# Policy\n\n## A policy\n\nIt is.\n\n## An input\n\n| Line | What |\n|---|---|\n| `T key` | a key |\n",
+    "docs/formats.md": "# Formats\n\n## What is written\n\n- one;\n- two\n  lines.\n\n## Statuses of the program\n\n| Status | When |\n|---|---|\n| 0 | done |\n",
+    "docs/refusals.md": "# Refusals\n\nThey are.\n\n| Number | Name | Status |\n|---|---|---|\n| 1 | `BadRandom` | 2 |\n",
+    "docs/gate.md": "# The gate\n",
+    "crates.txt": "# lines\nlow: memchr\nmiddle: low itoa\nother: regex\ndsmon may_abort=1: middle\n",
+    "crates/rows/data/examples/hello.s": "nop\n",
+    "crates/rows/data/examples/hello.expected": "time 1\n",
+    "crates/rows/data/examples/labs/README.md": "# Labs\n\n## One\n\nWhy?\n\n    dsmon run one.toml\n",
+    "crates/rows/data/examples/labs/answers.md": "Because.\n",
+    "crates/rows/data/examples/course/answers/one.s": "    nop\n",
+    "crates/rows/data/examples/labs/one.told": "answer\n",
+    **{f"tools/{it}": "#!/usr/bin/env python3\n" for it in contents.SCRIPTS},
+    ".gitignore": "out/\n",
+    ".ci/run": GATE,
+    "program": PROGRAM.replace("VERSION", "1.2.3"),
+}
+KIT = {
+    "rlibs/std.rlib/format": "crate std\ndep core\n", "rlibs/core.rlib/format": "crate core\n",
+    "rlibs/memchr.rlib/format": "crate memchr\ndep std\n", "rlibs/itoa.rlib/format": "crate itoa\n",
+    "rattle/memchr/LICENSE-MIT": "Permission of memchr\n", "rattle/itoa/LICENSE": "Permission of itoa\n", "rattle/itoa/README.md": "no licence\n",
+    "rattle/core/src/text/mod.rt": "// Reads.\n// Permission is hereby granted, free of charge.\nmod other;\n", "rattle/core/src/lib.rt": "// Plain.\n",
+}
+
+
+def placed(room, files):
+    """Files below a folder."""
+    for path, text in files.items():
+        (room / path).parent.mkdir(parents=True, exist_ok=True)
+        (room / path).write_text(text, "utf-8")
+
+
+class Tests(unittest.TestCase):
+    def setUp(self):
+        folder = tempfile.TemporaryDirectory(prefix="release-test-")
+        self.addCleanup(folder.cleanup)
+        self.room = Path(folder.name)
+        self.top, self.to = self.room / "top", self.room / "to"
+        placed(self.room / "kit", KIT)
+
+    def git(self, *words):
+        who = {f"GIT_{it}_{what}": value for it in ("AUTHOR", "COMMITTER") for what, value in [("NAME", "A"), ("EMAIL", "a@b.c"), ("DATE", "2026-11-29T12:00:00Z")]}
+        subprocess.run(["git", "-C", self.top, "-c", "commit.gpgsign=false", *words], env={**os.environ, **who}, check=True, capture_output=True)
+
+    def committed(self, **changed):
+        """A toy repository with a commit; a file may be another, or none."""
+        shutil.rmtree(self.top, ignore_errors=True)
+        placed(self.top, {path: text for path, text in {**FILES, **changed}.items() if text is not None})
+        if (self.top / ".ci/run").exists():
+            (self.top / ".ci/run").chmod(0o755)
+        (self.top / "examples").symlink_to("crates/rows/data/examples")
+        self.git("init", "--quiet")
+        self.git("add", "--all")
+        self.git("commit", "--quiet", "--message", "All.")
+
+    def said(self, *words, to=None, needs=("libc.so.6",)):
+        """The status of the script, what it said, and of what it complained."""
+        with contextlib.redirect_stdout(io.StringIO()) as out, contextlib.redirect_stderr(io.StringIO()) as err, \
+                mock.patch.object(COMMAND, "kit_here", lambda: (self.room / "kit", "toy kit")), mock.patch.object(COMMAND, "libraries", lambda program: [*needs]):
+            status = COMMAND.main([str(to or self.to), *words], self.top)
+        return status, out.getvalue(), err.getvalue()
+
+    def refused(self, *words, **how):
+        """What the script says where it refuses, in its first line; there is no archive then."""
+        status, _, err = self.said(*words, **how)
+        self.assertEqual((2, []), (status, [*self.to.glob("*.tar.gz")]))
+        return err.splitlines()[0].removeprefix("release: ")
+
+    def files(self, name="dsmon-1.2.3-x86_64-linux"):
+        """The members of the archive by their names in its folder."""
+        with tarfile.open(self.to / f"{name}.tar.gz") as it:
+            return {member.name.removeprefix(f"{name}/"): (member, it.extractfile(member).read()) for member in it if member.isfile()}
+
+    def test_a_release_has_what_a_user_wants(self):
+        self.committed()
+        status, out, err = self.said()
+        self.assertEqual((0, ""), (status, err))
+        files = self.files()
+        self.assertEqual({"README.md", "CHANGELOG.md", "LICENSE", "MADE", "dsmon", "dsmon.1", "docs/policy.md", "docs/formats.md", "docs/refusals.md", "examples/hello.s",
+                          "examples/labs/README.md", *(f"tools/{it}" for it in contents.SCRIPTS), "licences/README", "licences/memchr/LICENSE-MIT",
+                          "licences/itoa/LICENSE", "licences/core/LICENSE-of-text-mod"}, set(files))
+        self.assertEqual({"dsmon", "tools/elf_to_policy.py"}, {name for name, (it, _) in files.items() if it.mode & 0o111})
+        self.assertIn(hashlib.sha256((self.to / "dsmon-1.2.3-x86_64-linux.tar.gz").read_bytes()).hexdigest(), out)
+
+    def test_made_says_of_what_and_by_which_gate(self):
+        self.committed()
+        self.said()
+        files = self.files()
+        lines = files["MADE"][1].decode().splitlines()
+        head = [it[2:] for it in lines if it.startswith("# ")]
+        self.assertEqual("dsmon 1.2.3 for x86-64 Linux; it needs the C library", head[0])
+        self.assertRegex(head[1], r"^commit [0-9a-f]{40} of 2026-11-29$")
+        self.assertEqual(["kit toy kit", *(f"gate `.ci/run`: {it}" for it in ("2 passed, 0 failed", "7 refused, 0 not refused", "3 passed, 0 failed"))], head[2:6])
+        self.assertTrue(head[6].startswith("proved: the crates dsmon, low, middle;") and head[7] == "with the kit's crates core, itoa, memchr, std")
+        self.assertEqual({f"{hashlib.sha256(held).hexdigest()}  {name}" for name, (_, held) in files.items() if name != "MADE"}, set(lines[len(head):]))
+
+    def test_the_same_commit_gives_the_same_bytes(self):
+        self.committed()
+        self.said()
+        first = (self.to / "dsmon-1.2.3-x86_64-linux.tar.gz").read_bytes()
+        (self.top / "README.md").touch()
+        was = os.umask(0o077)
+        self.addCleanup(os.umask, was)
+        self.assertEqual(0, self.said(to=self.room / "elsewhere")[0])
+        self.assertEqual(first, (self.room / "elsewhere" / "dsmon-1.2.3-x86_64-linux.tar.gz").read_bytes())
+        self.assertEqual(0, self.said()[0])
+        with tarfile.open(self.to / "dsmon-1.2.3-x86_64-linux.tar.gz") as it:
+            self.assertEqual({(0, 0, "", 1795953600)}, {(one.uid, one.gid, one.uname, one.mtime) for one in it})
+            self.assertEqual(sorted(it.getnames()), it.getnames())
+
+    def test_a_release_with_other_bytes_stays(self):
+        self.committed()
+        self.to.mkdir()
+        path = self.to / "dsmon-1.2.3-x86_64-linux.tar.gz"
+        path.write_bytes(b"other")
+        self.assertEqual((2, f"release: {path} is there already, with other bytes\n"), self.said()[::2])
+        self.assertEqual(b"other", path.read_bytes())
+
+    def test_a_tree_that_is_not_clean_has_no_release(self):
+        self.committed()
+        (self.top / "README.md").write_text("other", "utf-8")
+        self.assertEqual("the tree isn't clean: README.md", self.refused())
+        (self.top / "more").touch()
+        self.assertEqual("the tree isn't clean: README.md and 1 more", self.refused())
+
+    def test_a_folder_without_a_commit_has_no_release(self):
+        placed(self.top, FILES)
+        self.assertRegex(self.refused(), "^git status: fatal: not a git repository")
+
+    def test_a_gate_that_did_not_pass_makes_no_release(self):
+        for gate, why in [
+            ("echo '1 passed, 1 failed'; exit 1", "status 1, and it said at last: 1 passed, 1 failed"),
+            ("echo '1 passed, 1 failed'", "status 0, and it said at last: 1 passed, 1 failed"),
+            ("echo '5 passed, 0 failed'; echo '4 refused, 1 not refused'", "status 0, and it said at last: 4 refused, 1 not refused"),
+            ("echo '5 passed, 0 failed'; exit 3", "status 3, and it said at last: 5 passed, 0 failed"),
+            ("true", "status 0, and it said at last: nothing"),
+            ("echo '0 passed, 0 failed'", "status 0, and it said at last: 0 passed, 0 failed"),
+            ("echo '2 passed, 0 failed (low alone: not the gate)'", "status 0, and it said at last: 2 passed, 0 failed (low alone: not the gate)"),
+        ]:
+            with self.subTest(gate):
+                self.committed(**{".ci/run": f"#!/bin/sh\n{gate}\n"})
+                self.assertEqual(f"the gate didn't pass: {why}", self.refused())
+                self.assertEqual(1, len([*self.to.glob("gate-*.log")]))
+                shutil.rmtree(self.to)
+
+    def test_a_gate_that_changes_files_makes_no_release(self):
+        self.committed(**{".ci/run": GATE + "echo more >> README.md\n"})
+        self.assertEqual("the gate changed files, so that its clone isn't clean: README.md", self.refused())
+
+    def test_a_tree_without_a_gate_or_a_program_has_no_release(self):
+        self.committed(**{".ci/run": None})
+        self.assertRegex(self.refused(), "^the gate can't be run: ")
+        self.committed(**{".ci/run": "#!/bin/sh\necho '5 passed, 0 failed'\n"})
+        self.assertEqual("the gate left no program in crates/dsmon/out", self.refused())
+
+    def test_a_candidate_is_called_so_and_names_its_gate(self):
+        self.committed()
+        with mock.patch.object(COMMAND, "PROOFS", ["sh", "-c", ".ci/run >&2 && echo '9 passed, 0 failed' && test -f crates/dsmon/out/dsmon"]):
+            self.assertEqual(0, self.said("--candidate")[0])
+        self.assertIn(b"9 passed, 0 failed\n", self.files("dsmon-1.2.3-candidate-x86_64-linux")["MADE"][1])
+
+    def test_versions_have_to_agree(self):
+        self.committed(program=PROGRAM.replace("VERSION", "0.1.0"))
+        self.assertEqual("the program calls itself 0.1.0, and CHANGELOG.md begins with 1.2.3", self.refused())
+        for changes in ("# Changelog\n", "# Changelog\n\n## Next\n\n## 1.2.3\n"):
+            self.committed(**{"CHANGELOG.md": changes})
+            self.assertEqual("CHANGELOG.md begins with no version, such as `## 1.0.0`", self.refused())
+
+    def test_the_program_may_need_the_c_library_alone(self):
+        self.committed()
+        self.assertEqual("the program needs libm.so.6, and the C library alone is promised", self.refused(needs=["linux-vdso.so.1", "libm.so.6", "libc.so.6"]))
+        self.committed(program=PROGRAM.replace("VERSION", "1.2.3") + "# GLIBC_2.9 GLIBC_2.34 GLIBC_2.4\n")
+        self.assertEqual(0, self.said(needs=["linux-vdso.so.1", "libc.so.6", "/lib64/ld-linux-x86-64.so.2"])[0])
+        self.assertIn(b"it needs the C library, glibc 2.34 or later", self.files()["MADE"][1])
+
+    def test_a_program_of_another_machine_is_refused(self):
+        with self.assertRaisesRegex(Refused, "^the program is none of this machine: "):
+            COMMAND.libraries(__file__)
+
+    def page_of(self, said, **more):
+        """A page's folder, whose `MADE` says this and the sum of its file."""
+        folder = self.room / "page"
+        shutil.rmtree(folder, ignore_errors=True)
+        placed(folder, {"index.html": "<p>", **more, "MADE": f"{said}\n{hashlib.sha256(b'<p>').hexdigest()}  index.html\n"})
+        return folder
+
+    def test_a_page_of_the_same_commit_comes_along(self):
+        self.committed()
+        commit = subprocess.run(["git", "-C", self.top, "rev-parse", "HEAD"], capture_output=True, text=True).stdout[:12]
+        self.assertEqual(0, self.said("--page", str(self.page_of(f"kit toy\ncommit 2d87c71a\ncommit {commit}\nproved yes")))[0])
+        self.assertEqual({"page/MADE", "page/index.html"}, {it for it in self.files() if it.startswith("page/")})
+
+    def test_another_page_is_refused(self):
+        self.committed()
+        commit = subprocess.run(["git", "-C", self.top, "rev-parse", "HEAD"], capture_output=True, text=True).stdout[:12]
+        good = f"commit {commit}\nproved yes"
+        for folder, why in [
+            (lambda: self.page_of("commit 012345678901\nproved yes"), "is of another commit: 012345678901"),
+            (lambda: self.page_of(f"commit {commit}-dirty\nproved yes"), f"is of another commit: {commit}-dirty"),
+            (lambda: self.page_of("proved yes"), "is of another commit: it names none"),
+            (lambda: self.page_of(f"commit {commit}\nproved no"), "is not of the proved program"),
+            (lambda: self.page_of(good, **{"more.js": ""}), "is not as it was made: more.js"),
+            (lambda: self.page_of(good, **{"index.html": "<b>"}), "is not as it was made: index.html"),
+        ]:
+            self.assertEqual(f"the page in {self.room / 'page'} {why}", self.refused("--page", str(folder())))
+        self.assertEqual(f"{self.room} has no page: there is no MADE, as tools/page.py writes it", self.refused("--page", str(self.room)))
+
+    def test_an_archive_that_does_not_run_the_first_examples_is_no_release(self):
+        self.committed(**{"README.md": README.replace("hello.s", "hello.t")})
+        self.assertRegex(self.refused(), r"^in the archive `cd dsmon-1.2.3-x86_64-linux && \(cd examples && cat hello.t\)` has status 1: cat: hello.t: ")
+        self.committed(program=PROGRAM.replace("VERSION", "1.2.3").replace("exit 0", "exit 4"))
+        self.assertEqual("in the archive `cd dsmon-1.2.3-x86_64-linux && ./dsmon demo` has status 4: A", self.refused())
+
+    def test_a_document_that_lacks_a_section_is_told(self):
+        self.committed(**{"docs/formats.md": "# Formats\n\n## What is written\n\nIt.\n"})
+        self.assertEqual("docs/formats.md has no section Statuses of the program, and the manual page has it", self.refused())
+
+
+class Parts(unittest.TestCase):
+    def test_no_answer_of_today_goes_along(self):
+        names = set(contents.examples(TOP))
+        self.assertLessEqual({"labs/README.md", "labs/stopped.s", "hello.s"}, names)
+        self.assertFalse([it for it in names if "answers" in it or it.endswith((".told", ".expected"))])
+
+    def test_the_scripts_need_no_others(self):
+        with tempfile.TemporaryDirectory(prefix="release-test-") as room:
+            for it in contents.SCRIPTS:
+                shutil.copy(TOP / "tools" / it, room)
+            done = subprocess.run([sys.executable, Path(room, "elf_to_policy.py"), "--help"], capture_output=True, text=True)
+        self.assertEqual((0, ""), (done.returncode, done.stderr))
+
+    def test_documents_of_today_have_the_sections_of_the_manual_page(self):
+        texts = contents.documents(TOP)
+        for _, path, heading in SECTIONS:
+            if path:
+                formatted(section(texts, path, heading))
+
+    def test_a_crate_that_the_kit_has_not_is_told(self):
+        with tempfile.TemporaryDirectory(prefix="release-test-") as room:
+            placed(Path(room), {"crates.txt": "dsmon: nothing_like_it\n", **{f"kit/{path}": text for path, text in KIT.items()}})
+            with self.assertRaisesRegex(Refused, "^the kit has no crate nothing_like_it$"):
+                licences.linked(Path(room), Path(room, "kit"), "dsmon")
+
+    def test_crates_without_a_licence_are_listed(self):
+        with tempfile.TemporaryDirectory(prefix="release-test-") as room:
+            placed(Path(room), KIT)
+            files = licences.licences(Path(room), "toy kit", ["core", "itoa", "std"])
+        said = files["README"].decode()
+        self.assertIn("- itoa: LICENSE\n", said)
+        self.assertIn("- core: LICENSE-of-text-mod\n", said)
+        self.assertIn("\n- core, std\n", said)
+        self.assertEqual(b"Reads.\nPermission is hereby granted, free of charge.\n", files["core/LICENSE-of-text-mod"])
+
+    def test_an_archive_has_its_folders_before_their_files(self):
+        with tarfile.open(fileobj=io.BytesIO(archive("it", {"b/c/d": File(b"1"), "a": File(b"2", True)}, 5))) as it:
+            self.assertEqual([("it", 0o755), ("it/a", 0o755), ("it/b", 0o755), ("it/b/c", 0o755), ("it/b/c/d", 0o644)], [(one.name, one.mode) for one in it])
+
+
+class Pages(unittest.TestCase):
+    def page(self, helps=HELPS):
+        texts = {path: text for path, text in FILES.items() if path.endswith(".md") and "labs" not in path}
+        return manual(helps, texts, "1.2.3", "2026-11-29")
+
+    def test_the_page_has_what_the_program_says_and_the_documents(self):
+        page = self.page()
+        self.assertTrue(page.startswith('.TH DSMON 1 "2026-11-29" "dsmon 1.2.3"\n.SH NAME\ndsmon \\- runs a station\n.SH SYNOPSIS\n.B dsmon run [OPTIONS] <POLICY>\n'))
+        for part in (".TP\n\\fB\\-\\-random <R>\\fP\nWhere it starts\n", ".TP\n0\ndone\n", ".TP\n1\nName: \\fBBadRandom\\fP; Status: 2\n", ".IP \\(bu 2\ntwo lines.\n",
+                     ".nf\na = 1\n.fi\n", ".TP\n\\fBT key\\fP\na key\n", ".nf\nExample:\n  dsmon run a.toml\n.fi\n", "\\fIdocs/policy.md\\fP"):
+            self.assertIn(part, page)
+
+    def test_another_help_is_another_page(self):
+        self.assertIn("\\fB\\-\\-quiet\\fP", self.page({**HELPS, "run": HELPS["run"].replace("--random <R>", "--quiet")}))
+
+    def test_signs_of_the_formatter_are_escaped(self):
+        self.assertEqual([".PP", "\\&.start \\fBa\\-b \\e \\(aq\\fP c\\ed, link"], formatted(".start `a-b \\ '` c\\d, [link](x.md)\n"))
+        self.assertEqual([".PP", ".RS 4", ".nf", "\\&.word 0x1", "", "b", ".fi", ".RE"], formatted("    .word 0x1\n\n    b\n"))
+
+    def test_a_bar_in_a_cell_stays(self):
+        self.assertEqual([".TP", "a|b", "c"], formatted("| A | B |\n|---|---|\n| a\\|b | c |\n"))
+
+    def test_formatters_have_nothing_to_say_of_it(self):
+        with tempfile.TemporaryDirectory(prefix="release-test-") as room:
+            page = Path(room, "dsmon.1")
+            page.write_text(self.page(), "utf-8")
+            for words in (["mandoc", "-Tlint", "-W", "warning", page], ["groff", "-k", "-man", "-ww", "-z", "-Tutf8", page]):
+                if shutil.which(words[0]):
+                    done = subprocess.run(words, capture_output=True, text=True)
+                    self.assertEqual("", done.stdout + done.stderr)
+
+
+if __name__ == "__main__":
+    unittest.main()
