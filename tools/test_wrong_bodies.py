@@ -3,26 +3,23 @@
 import subprocess
 import sys
 import tempfile
-import unittest
 from pathlib import Path
-from unittest import mock
+from unittest import TestCase, main, mock
 
 sys.dont_write_bytecode = True
 
-from wrong_bodies import census  # noqa: E402
-from wrong_bodies.crates import Edit, Repository  # noqa: E402
-from wrong_bodies.proving import batches_of  # noqa: E402
+from wrong_bodies import census, crates, proving  # noqa: E402
 
 CODE = """\
 #![tactic(auto)]
-ghost use Rattle.std.specs.Prelude.{◌≡◌, ◌≤◌, ◌<◌, ◌+◌};
-ghost use Rattle.toy.specs.Numbers.{order_of, after};
+ghost use Rattle.std.specs.Prelude.{◌≡◌, ◌≤◌, ◌<◌, ◌+◌}; ghost use Rattle.toy.specs.Numbers.{order_of, after};
 pub enum Lamp { Red, Green }
 pub fn twice(n: u32) -> u32 requires { n ≤ 1000 } ensures { result ≡ n + n } { sum(n, n) }
 fn sum(a: u32, b: u32) -> u32 requires left { a ≤ 1000 } requires right { b ≤ 1000 } ensures { result ≡ a + b } { a + b }
 pub fn next(n: u32) -> u32 requires { n ≤ 1000 } ensures up { n < result } ensures next { result ≡ n + 1 } { n + FIRST }
 pub fn order(lamp: Lamp) -> u32 ensures { result ≡ order_of lamp } { match lamp { Lamp::Red => 3, Lamp::Green => 4 } }
 const FIRST: u32 = 1;
+pub fn many() -> u32 ensures a { result ≡ 1 } ensures b { result ≡ 1 } ensures c { result ≡ 1 } ensures d { result ≡ 1 } ensures e { result ≡ 1 } { 1 }
 pub fn a_number_is_below_the_next(n: u32) ensures { n < after n } {}
 """
 NUMBERS = """\
@@ -48,7 +45,6 @@ double_2_is_4 = refl
 PROVED = "NOT REFUSED: the crate is still proved with this edit"
 # By its name what is told of an edit, its old and new text, and its other lines.
 EDITS = {
-    "next.a_constant": ("refused by next next", "const FIRST: u32 = 1;", "const FIRST: u32 = 2;"),
     "next.a_constant_named": ("refused by next next", "const FIRST: u32 = 1;", "const FIRST: u32 = 3;", "function: next", "clause: next"),
     "next.another_clause": ("NOT REFUSED: not by the clause up that it names; refused by next next", "n + FIRST", "n + FIRST + 3", "clause: up"),
     "twice.harmless": (PROVED, "sum(n, n)", "sum(n, n) + 0"),
@@ -57,71 +53,65 @@ EDITS = {
     "order.red_is_nothing": ("refused by order ensures", "Lamp::Red => 3", "Lamp::Red => 0"),
     "sum.one_too_many": ("NOT REFUSED: by no public clause, but by sum ensures", "} { a + b", "} { a + b + 1"),
     "sum.stands_for": ("refused by sum ensures, which stands for twice ensures", "} { a + b", "} { a + b + 2", "stands for: twice ensures"),
-    "twice.one_too_many": ("refused by twice ensures", "sum(n, n)", "sum(n, n) + 1"),
+    "many.one_of_five": ("refused by many b", "{ 1 }", "{ 2 }", "clause: b"),
     "after.the_same": ("refused by the law a_number_is_below_the_next", "after n = n + 1", "after n = n", "law: a_number_is_below_the_next"),
-    "double.another_row": ("NOT REFUSED: the row double_0_is_0 still holds; refused is double_2_is_4", "double n = n + n", "double n = n + n + n", "row: double_0_is_0"),
+    "double.another_row": (PROVED, "double n = n + n", "double n = n + n + n", "row: double_0_is_0"),
     "double.its_row": ("refused by the row double_2_is_4; the law a_number_is_below_the_next holds all the same", "double n = n + n", "double n = n + n + n", "row: double_2_is_4", "law: a_number_is_below_the_next"),
     "double.harmless": (PROVED, "double n = n + n", "double n = n + (n + 0)"),
 }
 BAD = {
     "next.unknown": ("BAD EDIT: it is no code: ", "n + FIRST", "n + missing"),
     "next.not_there": ("BAD EDIT: an 'old:' text is in src/lib.rt 0 times, and not once", "n + SECOND", "n"),
-    "next.no_clause": ("BAD EDIT: there is no clause down", "n + FIRST", "n", "clause: down"),
-    "sum.stands_for_nothing": ("BAD EDIT: there is no public clause sum ensures", "} { a + b", "} { a", "stands for: sum ensures"),
     "double.open": ("BAD EDIT: it is no definition: ", "double n = n + n", "double n = (n + n"),
 }
 
 
-class Test(unittest.TestCase):
+class Test(TestCase):
     def room(self, edits, **others):
         """Writes a crate with its edits, each over the file that has its old text, and returns the folder."""
         room = tempfile.TemporaryDirectory(prefix="wrong-bodies-test-")
         self.addCleanup(room.cleanup)
-        files = {"src/lib.rt": CODE, "specs/Lib.antt": "pub mod Numbers\npub mod Rows\n", "specs/Numbers.antt": NUMBERS, "specs/Rows.antt": ROWS}
+        files = {"../../crates.txt": "toy:\n", "src/lib.rt": CODE, "specs/Lib.antt": "pub mod Numbers\npub mod Rows\n", "specs/Numbers.antt": NUMBERS, "specs/Rows.antt": ROWS}
         for name, (_, old, new, *lines) in edits.items():
             file = "specs/Numbers.antt" if old in NUMBERS else "src/lib.rt"
             files[f"wrong/{name}.edit"] = "\n".join([f"file: {file}", *lines, f"old: {old}", f"new: {new}", ""])
         files.update({f"wrong/{name}": text for name, text in others.items()})
-        for path, text in {"../../crates.txt": "toy:\n", **files}.items():
+        for path, text in files.items():
             Path(room.name, "crates/toy", path).parent.mkdir(parents=True, exist_ok=True)
             Path(room.name, "crates/toy", path).resolve().write_text(text, "utf-8")
         return room.name
 
-    def ran(self, edits, *words):
+    def ran(self, edits):
         """Runs the command, and returns its status and what it printed."""
-        words = [sys.executable, Path(__file__).with_name("wrong_bodies.py"), *words, "--root", self.room(edits)]
-        done = subprocess.run(words, stdout=subprocess.PIPE, stderr=subprocess.STDOUT, text=True)
-        return done.returncode, done.stdout
+        words = [sys.executable, Path(__file__).with_name("wrong_bodies.py"), "--root", self.room(edits)]
+        return subprocess.run(words, stdout=subprocess.PIPE, stderr=subprocess.STDOUT, text=True)
 
     def lacks(self, edits, implied=""):
         with mock.patch.dict(census.EACH_CLAUSE, {"toy": ["next"]}):
-            return census.census(Repository(self.room(edits, implied=implied)))
+            return census.census(crates.Repository(self.room(edits, implied=implied)))
 
     def has_verdicts(self, edits, counts, said):
         for name, (verdict, *_) in edits.items():
-            self.assertIn(f"\ntoy/{name}.edit: {verdict}", f"\n{said[1]}")
-        self.assertEqual((1, counts), (said[0], said[1].splitlines()[-1]))
+            self.assertIn(f"\ntoy/{name}.edit: {verdict}", f"\n{said.stdout}")
+        self.assertEqual((1, counts), (said.returncode, said.stdout.splitlines()[-1]))
 
     def test_each_edit_has_its_verdict(self):
-        self.has_verdicts(EDITS, "9 refused, 5 not refused", self.ran(EDITS))
+        self.has_verdicts(EDITS, "8 refused, 5 not refused", self.ran(EDITS))
 
     def test_an_edit_that_is_no_code_is_told_and_nothing_is_proved(self):
         said = self.ran({**BAD, "twice.well": ("", "sum(n, n)", "sum(n, n) + 2")})
-        self.has_verdicts(BAD, "0 refused, 5 not refused", said)
-        self.assertNotIn("twice.well", said[1])
-
-    def test_a_name_of_nothing_is_told(self):
-        self.assertEqual((2, "there is no toy/none\n0 refused, 1 not refused\n"), self.ran({}, "toy/none"))
+        self.has_verdicts(BAD, "0 refused, 3 not refused", said)
+        self.assertNotIn("twice.well", said.stdout)
 
     def test_two_edits_of_one_arm_are_not_tried_together(self):
-        edits = Repository(self.room({name: it for name, it in EDITS.items() if name.startswith("order.")})).crates["toy"].edits
-        self.assertEqual([["order.green_is_red.edit", "order.red_is_green.edit"], ["order.red_is_nothing.edit"]], [[it.name for it in batch] for batch in batches_of(edits, Edit.clashes)])
+        batches = proving.batches_of(crates.Repository(self.room({name: it for name, it in EDITS.items() if name.startswith("order.")})).crates["toy"].edits, crates.Edit.clashes)
+        self.assertEqual([["order.green_is_red.edit", "order.red_is_green.edit"], ["order.red_is_nothing.edit"]], [[it.name for it in batch] for batch in batches])
 
     def test_what_lacks_its_edit_or_has_too_many_is_told(self):
         few = {it: EDITS[it] for it in ("next.a_constant_named", "order.red_is_green")}
-        lacking = ["toy: no edit of twice", "toy: no edit of the law a_number_is_below_the_next", "toy: no edit names next up"]
+        lacking = ["toy: no edit of twice", "toy: no edit of many", "toy: no edit of the law a_number_is_below_the_next", "toy: no edit names next up"]
         self.assertEqual(lacking, self.lacks(few))
-        few.update({it: EDITS[it] for it in ("sum.stands_for", "after.the_same")})
+        few.update({it: EDITS[it] for it in ("sum.stands_for", "many.one_of_five", "after.the_same")})
         self.assertEqual([], self.lacks(few, "# what follows\nimplied: next up by next\n"))
         self.assertIn("toy/wrong/implied: there is nothing of this line: implied: next down by next", self.lacks(few, "implied: next down by next"))
         many = {f"twice.{n}": ("", "sum(n, n)", f"sum(n, n) + {n}") for n in range(1, 5)}
@@ -129,4 +119,4 @@ class Test(unittest.TestCase):
 
 
 if __name__ == "__main__":
-    unittest.main()
+    main()

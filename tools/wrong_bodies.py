@@ -1,9 +1,8 @@
 #!/usr/bin/env python3
 """Tries the wrong bodies of the crates, crates/NAME/wrong/*.edit: the prover must refuse each of them.
 
-Without names all are tried, and what they have to name is counted; with names those of these crates, and by CRATE/EDIT one edit. First each
-edit is applied and read by the prover's front end; one that is no code is told, and nothing is proved then. docs/gate.md says more. The last
-line is 'N refused, M not refused'. The status is 0 where M is 0 and nothing lacks its edit.
+Without names all are tried, and what they have to name is counted; with names those of these crates, and by CRATE/EDIT one edit. Nothing is proved where one is
+no code. The last line is 'N refused, M not refused'. The status is 0 where M is 0 and nothing lacks its edit. docs/gate.md says more.
 """
 import argparse
 import os
@@ -15,17 +14,19 @@ from pathlib import Path
 
 sys.dont_write_bytecode = True
 
-from wrong_bodies.census import census  # noqa: E402
-from wrong_bodies.crates import Repository  # noqa: E402
-from wrong_bodies.proving import Prover, lacking_below, read_edits, try_edits  # noqa: E402
+from wrong_bodies import census, crates, proving  # noqa: E402
 
 
-def side_by_side(lanes, parts, work, took):
-    """Does work on lists of edits, each of one crate, side by side; gives each as it is done, and counts what it took."""
+def side_by_side(lanes, edits, work, took):
+    """Does work on edits, those of a crate in a few lists, side by side; gives each list as it is done, and counts what it took."""
+    parts = []
+    for crate in sorted({it.crate for it in edits}, key=lambda it: -it.size):
+        code, turned = ([it for it in edits if it.crate is crate and it.is_turned == is_turned] for is_turned in (False, True))
+        parts += filter(None, [*(turned[at : at + 8] for at in range(0, len(turned), 8)), code])
 
     def do(part):
         with tempfile.TemporaryDirectory(prefix="wrong-bodies-") as room:
-            prover = Prover(part[0].crate, room)
+            prover = proving.Prover(part[0].crate, room)
             work(prover, part)
         took[part[0].crate.name] += prover.seconds
         return part
@@ -35,13 +36,6 @@ def side_by_side(lanes, parts, work, took):
             yield it.result()
 
 
-def parts_of(edits):
-    """Returns the edits in lists for one lane each, those of the crates with the most text first, and at most 8 turned definitions in one."""
-    for crate in sorted({it.crate for it in edits}, key=lambda it: -it.size):
-        code, turned = ([it for it in edits if it.crate is crate and it.is_turned == is_turned] for is_turned in (False, True))
-        yield from filter(None, [*(turned[at : at + 8] for at in range(0, len(turned), 8)), code])
-
-
 def main(words):
     parser = argparse.ArgumentParser(prog="wrong_bodies.py", description=__doc__, formatter_class=argparse.RawDescriptionHelpFormatter)
     parser.add_argument("names", metavar="CRATE", nargs="*", help="try the wrong bodies of this crate, or with CRATE/EDIT one of them")
@@ -49,23 +43,23 @@ def main(words):
     parser.add_argument("--lanes", metavar="N", type=int, default=len(os.sched_getaffinity(0)), help="use so many processors (all)")
     parser.add_argument("--root", metavar="FOLDER", default=Path(__file__).resolve().parents[1], help="the top of the repository")
     given = parser.parse_args(words)
-    repository, took = Repository(given.root), Counter()
+    repository, took = crates.Repository(given.root), Counter()
     every = [it for crate in repository.crates.values() for it in crate.edits]
     edits = [it for it in every if not given.names or it.names & {*given.names}]
     unknown = [name for name in given.names if name not in repository.crates and not any(name in it.names for it in every)]
-    unknown += [] if given.count or unknown else lacking_below(repository, {it.crate for it in edits})
+    unknown += [] if given.count or unknown else proving.lacking_below(repository, {it.crate for it in edits})
     if unknown:
         print(f"there is no {unknown[0]}\n0 refused, 1 not refused")
         return 2
     if not given.count:
-        list(side_by_side(given.lanes, parts_of([it for it in edits if not it.verdict]), read_edits, took))
+        list(side_by_side(given.lanes, [it for it in edits if not it.verdict], proving.read_edits, took))
     bad = [it for it in edits if it.verdict]
-    for part in [] if bad or given.count else side_by_side(given.lanes, parts_of(edits), try_edits, took):
+    for part in [] if bad or given.count else side_by_side(given.lanes, edits, proving.try_edits, took):
         print("\n".join(map(str, part)), flush=True)
     for name in took:
         print(f"{name}: {sum(it.crate.name == name for it in edits)} wrong bodies, {took[name]:.0f} s of processor time")
     failed = [it for it in edits if it.verdict not in ("", "refused")]
-    lacks = [] if given.names or bad and not given.count else census(repository)
+    lacks = [] if given.names or bad and not given.count else census.census(repository)
     print("\n".join([*lacks, *map(str, failed), f"{sum(took.values()):.0f} s of processor time"]))
     print(f"{sum(it.verdict == 'refused' for it in edits)} refused, {len(failed)} not refused")
     return 1 if failed or lacks else 0

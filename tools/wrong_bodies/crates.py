@@ -1,20 +1,18 @@
 """The crates of a repository: their functions' bodies, with arms, clauses, and who may call them; and what their wrong bodies change and name."""
 import os
 import re
+from difflib import SequenceMatcher
 from pathlib import Path
 from types import SimpleNamespace as Part
 
 # Comments, strings and characters, in which no bracket and no `fn` counts.
 NO_CODE = re.compile(r"""//[^\n]*|/\*.*?\*/|r(#*)".*?"\1|"(?:[^"\\]|\\.)*"|'(?:[^'\\\n]|\\[^'\n]+|\\')'""", re.S)
 FUNCTION = re.compile(r"\b(?P<public>pub\s+)?(?:(?:pub\s*\([^()]*\)|const|unsafe|extern)\s+)*fn\s+(?P<name>\w+)")
-BEFORE_CLAUSE = re.compile(r"\b(?:(?:requires|ensures)\s*\*?(?:\s*\w+)?|ghost(?:\s+\w+\s*:)?)\s*\Z")
-CLAUSE = re.compile(r"\bensures\s*\*?\s*(\w*)\s*\{")
+BEFORE_CLAUSE, CLAUSE = re.compile(r"\b(?:(?:requires|ensures)\s*\*?(?:\s*\w+)?|ghost(?:\s+\w+\s*:)?)\s*\Z"), re.compile(r"\bensures\s*\*?\s*(\w*)\s*\{")
 # A constructor or a number, and what it binds, before the text of its arm.
 ARM = re.compile(r"\b([A-Z]\w*|\d+)\s*(?:\{[^{}]*\}|\([^()]*\))?\s*=>\s*")
-IMPL = re.compile(r"(?m)^\s*(?:unsafe\s+)?impl\b(?P<of>[^{;]*)\{")
-TRAIT = re.compile(r"(?m)^\s*(?:pub\s+)?trait\s+(\w+)[^{;]*\{")
-TYPE = re.compile(r"\b(?:struct|enum|trait)\s+(\w+)")
-PUBLIC_USE = re.compile(r"\bpub\s+use\s+([^;]*);")
+IMPL, TRAIT = re.compile(r"(?m)^\s*(?:unsafe\s+)?impl\b(?P<of>[^{;]*)\{"), re.compile(r"(?m)^\s*(?:pub\s+)?trait\s+(\w+)[^{;]*\{")
+TYPE, PUBLIC_USE = re.compile(r"\b(?:struct|enum|trait)\s+(\w+)"), re.compile(r"\bpub\s+use\s+([^;]*);")
 PAIR = re.compile(r"(?m)^old: (.+)\nnew:(?: (.*))?$")
 OTHER = re.compile(r"(?m)^(?!(?:file|old|new|row|law|clause|stands for|function|tried):|$).*")
 MODULE = re.compile(r"(?P<test>#\[cfg\(test\)\]\s*)?(?P<public>\bpub\s+)?\bmod\s+(?P<name>\w+)\s*;")
@@ -77,20 +75,20 @@ class Crate:
             # (to where its body begins, or to the semicolon of one that has none)
             while at < len(code) and code[at] != ";" and (code[at] != "{" or BEFORE_CLAUSE.search(code[head.end() : at])):
                 at = ends.get(at, at) + 1 if code[at] in "{([" else at + 1
-            clauses = tuple(name or "ensures" for name in CLAUSE.findall(code[head.end() : at]))
+            spans = {it[1] or "ensures": (it.start(), ends.get(it.end() - 1, at) + 1) for it in CLAUSE.finditer(code, head.end(), at)}
             names, of_type, trait, is_declared = next((it[2:] for it in blocks if it[0] < head.start() < it[1]), (modules, head["name"], "", False))
             if is_declared:
-                self.methods[f"{trait}::{head['name']}"] = clauses
+                self.methods[f"{trait}::{head['name']}"] = (*spans,)
             if code[at : at + 1] == "{":
                 end = ends.get(at, at) + 1
                 # (other crates can name it: each of its modules is public, or a `pub use` hands it out; of a program all can)
-                is_open = all("/".join(modules[: n + 1]) in self.open_modules for n in range(len(modules)))
-                is_public = bool(head["public"] or trait) and (self.is_program or of_type in self.handed_out or is_open)
+                is_open = self.is_program or of_type in self.handed_out or all("/".join(modules[: n + 1]) in self.open_modules for n in range(len(modules)))
+                is_public = is_open and bool(head["public"] or trait)
                 is_law = is_public and not trait and not code[at + 1 : end - 1].strip()
                 # (the name as a check prints it, without the crate's; `method` of a trait that it implements; no clauses where the trait has them; plain where its proof's place is its name)
                 yield Part(
-                    function="::".join([*names, head["name"]]), start=at, end=end, arms=[*arms_in(code, ends, at, end)], clauses=clauses, is_law=is_law,
-                    is_public=is_public, method=trait and f"{trait}::{head['name']}", is_default=is_declared,
+                    function="::".join([*names, head["name"]]), path=path, start=at, end=end, arms=[*arms_in(code, ends, at, end)], spans=spans,
+                    has_many=len(spans) > 4 and not trait, is_law=is_law, is_public=is_public, method=trait and f"{trait}::{head['name']}", is_default=is_declared,
                     is_plain=not is_law and not is_declared and (not trait or of_type in self.homes) and not Path(self.folder, "proofs", *names, f"+{head['name']}").is_dir(),
                 )  # fmt: skip
 
@@ -109,7 +107,7 @@ class Crate:
 
     def clauses_of(self, body):
         """Returns the names of what a function ensures, `invariant` among them, of which nothing is said here."""
-        return (*body.clauses, *self.repository.methods.get(body.method, ()), "invariant")
+        return (*body.spans, *self.repository.methods.get(body.method, ()), "invariant")
 
 
 class Edit:
@@ -121,29 +119,33 @@ class Edit:
         lines = lambda head: [it.split() for it in re.findall(rf"(?m)^{head}: *(.+)", self.words)]
         self.rows, self.laws, self.stands = sum(lines("row"), []), sum(lines("law"), []), lines("stands for")
         # (by function the arms that it changes, or none where it may change all; the first has to be refused)
-        self.functions = {name: frozenset(arms) for name, *arms in lines("function")}
-        files = sorted({it[0] for it in lines("file")})
+        self.functions, files = {name: frozenset(arms) for name, *arms in lines("function")}, sorted({it[0] for it in lines("file")})
         self.file, self.is_turned = "".join(files[:1]), "".join(files[:1]).startswith("specs/")
-        # (the first function, those of which a check is asked, and each clause that it names, with the functions, and methods of a trait, that it may be of)
-        self.function, self.asked, self.clauses, self.modules = "", [], [], []
+        # (the first function, those of which a check is asked, each clause that it names with the functions, and methods of a trait, that it may be of)
+        self.function, self.asked, self.clauses, self.modules, self.pieces = "", [], [], [], []
         self.why = self.apply(files) or self.find(lines("clause"))
+        # whether a goal of a function is of an arm that it changes; the clauses of a function that it names
+        self.owns = lambda goal, function: any(re.search(rf"(?:\A|-){re.escape(it)}(?!\w)", goal) for it in self.functions.get(function, ()))
+        self.named = lambda function: {clause for clause, pairs in self.clauses if (function, clause) in pairs}
         self.verdict = "BAD EDIT" if self.why else ""
 
     def apply(self, files):
         """Finds what it puts in place of what, and returns why it cannot be applied, if so."""
-        if OTHER.search(self.words):
-            return f"no line begins so: {OTHER.search(self.words)[0]}"
-        if len(files) != 1 or self.file not in self.crate.texts:
-            return f"it has to name one file of src/ or specs/, and no test's: {files}"
+        if OTHER.search(self.words) or len(files) != 1 or self.file not in self.crate.texts:
+            return f"it has to name one file of src/ or specs/, and no test's, and no line begins so: {files}, {OTHER.findall(self.words)}"
         was = text = self.crate.texts[self.file]
         for old, new in PAIR.findall(self.words):
             if text.count(old) != 1:
                 return f"an 'old:' text is in {self.file} {text.count(old)} times, and not once"
             text = text.replace(old, new)
-        self.start = len(os.path.commonprefix([was, text]))
-        same = len(os.path.commonprefix([was[self.start :][::-1], text[self.start :][::-1]]))
-        self.end, self.new = len(was) - same, text[self.start : len(text) - same]
-        return "it changes nothing" if text == was else ""
+        lines, others = was.splitlines(True), text.splitlines(True)
+        for kind, start, end, first, last in SequenceMatcher(None, lines, others, autojunk=False).get_opcodes():
+            old, new, at = "".join(lines[start:end]), "".join(others[first:last]), len("".join(lines[:start]))
+            front = len(os.path.commonprefix([old, new]))
+            back = len(os.path.commonprefix([old[front:][::-1], new[front:][::-1]]))
+            self.pieces += [] if kind == "equal" else [(at + front, at + len(old) - back, new[front : len(new) - back])]
+        self.start, self.end = (self.pieces or [(0, 0)])[0][0], (self.pieces or [(0, 0)])[-1][1]
+        return "" if self.pieces else "it changes nothing"
 
     def find(self, clauses):
         """Finds the function, with its arm, in whose body the edit lies, if it names none, and returns what it names that is not there."""
@@ -159,8 +161,7 @@ class Edit:
         self.asked += [body.function for law in self.laws for body in crate.named(law)] + ["rows_of_edits::read"] * bool(self.rows)
         at = {it: [path for path, text in crate.logic.items() if re.search(rf"(?m)^(?:\w+ )*{re.escape(it)} : ", text)] for it in self.rows}
         self.modules = sorted({f"Rattle.{crate.name}.{path[:-5].replace('/', '.')}" for paths in at.values() for path in paths})
-        lost = [f"row {it}" for it, paths in at.items() if not paths]
-        lost += [f"function {it}" for it in self.functions if it not in crate.by_name]
+        lost = [f"row {it}" for it, paths in at.items() if not paths] + [f"function {it}" for it in self.functions if it not in crate.by_name]
         lost += [f"law {it}" for it in self.laws if not any(body.is_law for body in crate.named(it))]
         lost += [f"public clause {' '.join(it)}" for it in self.stands if not crate.repository.has_public(*it)]
         for *function, clause in clauses:
@@ -171,16 +172,19 @@ class Edit:
 
     def overlaps(self, other):
         """Returns whether the two change one text."""
-        return self.file == other.file and self.start <= other.end and other.start <= self.end
+        return self.file == other.file and any(it[0] <= its[1] and its[0] <= it[1] for it in self.pieces for its in other.pieces)
 
     def clashes(self, other):
         """Returns whether one check could not tell the two apart: they change one text, one function, or one arm where both know theirs."""
         both = [(self.functions[it], other.functions[it]) for it in self.functions.keys() & other.functions.keys()]
-        return self.overlaps(other) or any(not mine or not others or mine & others for mine, others in both)
+        return self.overlaps(other) or any(not mine or not others or mine & others for mine, others in both) or self.calls(other) or other.calls(self)
 
-    def owns(self, goal, function):
-        """Returns whether a goal of a function is of an arm that the edit changes."""
-        return any(re.search(rf"(?:\A|-){re.escape(it)}(?!\w)", goal) for it in self.functions.get(function, ()))
+    def calls(self, other):
+        """Returns whether a body that it changes may call a function of which the other names clauses, so that its others are left out."""
+        named = [it.rpartition("::") for it in other.functions if self.crate.by_name[it].has_many and other.named(it)]
+        bodies = [self.crate.by_name[it] for it in self.functions]
+        by = lambda home, body: r"\bself\.|\bSelf::" if body.function.rpartition("::")[0] == home else rf"\.|\b{home.rpartition('::')[2]}::|(?<![.:\w])"
+        return any(re.search(rf"(?:{by(home, it)}){name}\(", self.crate.texts[it.path][it.start : it.end]) for it in bodies for home, _, name in named)
 
     def __str__(self):
         return f"{self.crate.name}/{self.name}: {'refused by' if self.verdict == 'refused' else f'{self.verdict}:'} {self.why}"

@@ -17,10 +17,11 @@ NOT_OWN = re.compile(r"is not in scope|has no |is no name|not admitted|not prove
 # What says of a text of src/ or specs/ that it cannot be read, and not that a statement is false.
 IN_SOURCE = re.compile(r"(?:\./)?(?:src|specs)/\S+?:\d+:\d+: error(?:\[[\w-]+\])?: (?:(`[^`]*`): )?(.*)")
 UNREADABLE = re.compile(r"is not in scope|has no field|is no name|operand is missing|expected the end|cannot continue")
+# A row; a goal's answer, of some clauses.
+ROW, ANSWER = re.compile(r"(?m)^pub (\S+) : .*\n(?:(?:\1 |unfolding |[] \t)}]).*\n|\n)*"), r"(?m)^pub (\S*-clause-(?:%s)) :.*\n(?:(?:\1 |unfolding |[] \t)}]).*\n|\n)*"
 # Goals of a loop's invariant, which stands in proofs/; the clause that a goal is of.
 LOOP_GOAL, CLAUSE_GOAL = re.compile(r"-(?:init|preserved|smaller)(?:-|\Z)"), re.compile(r"-clause-(\w+)")
-REFUSED = re.compile(r"(?:\./)?(?:specs|proofs)/(?P<file>\S+)\.antt:\d+:\d+: error: `(?P<name>[^`]*)`: (?P<why>.*)")
-NOT_PROVED = re.compile(r"fn \w+::(\S+): (?:not proved|no proof)")
+REFUSED, NOT_PROVED = re.compile(r"(?:\./)?(?:specs|proofs)/(\S+)\.antt:\d+:\d+: error: `([^`]*)`: (.*)"), re.compile(r"fn \w+::(\S+): (?:not proved|no proof)")
 ROWS = "ghost use Rattle.std.specs.Prelude.{◌≡◌};\nfn read() -> u8 ensures { result ≡ 0 } { 0 }\n"  # a function that has rows read
 unquoted = lambda words: re.sub(r"`[^`]*`", "", words)  # noqa: E731
 
@@ -34,8 +35,8 @@ class Said(NamedTuple):
 
     def could_read(self):
         """Returns whether the prover read every text, and came to an end."""
-        found = [it for it in map(IN_SOURCE.match, self.lines) if it and (not it[1] or UNREADABLE.search(unquoted(it[2])))]
-        return self.status in (0, 1) and not found and self.lines[-1].startswith(("only=", "logic="))
+        is_lost = any(it and (not it[1] or UNREADABLE.search(unquoted(it[2]))) for it in map(IN_SOURCE.match, self.lines))
+        return self.status in (0, 1) and not is_lost and self.lines[-1].startswith(("only=", "logic="))
 
     def is_proved(self):
         """Returns whether nothing was refused but what a copy has in place of proofs."""
@@ -60,6 +61,13 @@ def goals_in(lines, crate):
     return found
 
 
+def unasked(body, edits):
+    """Returns the clauses of a function of many that a check of edits need not be asked of, where each edit of it names some: the longest first."""
+    named = [it.named(body.function) for it in edits if body.function in it.functions]
+    left = {*body.spans} - {"ensures"}.union(*named) if body.has_many and all(named) else ()
+    return sorted(left, key=lambda it: body.spans[it][0] - body.spans[it][1])
+
+
 class Prover:
     """Checks a copy of one crate in a room, over what the checks of this prover keep."""
 
@@ -69,23 +77,39 @@ class Prover:
         self.root = "src/main.rt" if crate.is_program else "src/lib.rt"
         self.words = ["--crate-name", crate.name, self.root, "--incremental", f"{room}/incremental", "--jobs", "1"]
         self.words += [word for it in ("std", *crate.uses) for word in ("--extern", f"{it}={folder(it)}/{it}.rlib")]
-        below = sorted({folder("std"), *(folder(it.name) for it in crate.repository.below(crate))})
-        self.words += [word for it in below for word in ("-L", f"dependency={it}")]
+        self.words += [word for it in ("std", *(it.name for it in crate.repository.below(crate))) for word in ("-L", f"dependency={folder(it)}")]
         self.words += ["--antt-project", f"{KIT}/rattle/logic/antt-project.json", "--logic-built", f"{KIT}/logic_built"]
 
     def check(self, edits, functions):
-        """Checks a copy of the crate with these edits: these functions alone, or all where there is none. Where code is known to be of some functions, others have a proof
-        in the copy that is refused at once. A function of the copy's own has the rows read that turned definitions name."""
-        files, rows = {}, [f"use {it} as rows{at}\n" for edit in edits for at, it in enumerate(edit.modules)]
-        broken = {name for it in edits for name in it.functions}
-        for body in self.crate.by_name.values() if broken else ():
+        """Checks a copy of the crate with these edits: these functions alone, or all where there is none. In the copy others have an empty loop for a body, and a proof that is
+        refused at once. A function of the copy's own has the rows read that turned definitions name."""
+        files, broken = {}, {name for it in edits for name in it.functions}
+        text_of = lambda path: files.get(path, self.crate.texts[path])
+        for body in (self.crate.by_name[name] for name in broken):
+            left, place = unasked(body, edits), f"proofs/{body.function.replace('::', '/')}/Answers.antt"
+            for at, it in enumerate(left):
+                start, end = body.spans[it]
+                # (goals have clauses in their names where there are two, so one stays and says nothing)
+                says = f"ensures {it} {{ Unit {{0}} }}" if at == 0 and len(body.spans) == len(left) + 1 else ""
+                files[body.path] = text_of(body.path)[:start] + says.ljust(end - start) + text_of(body.path)[end:]
+            if left and place in self.crate.logic:
+                files[place] = re.sub(ANSWER % "|".join(left), "", self.crate.logic[place])
+        for body in self.crate.by_name.values() if functions and all(it.asked for it in edits) else ():
             if body.is_plain and body.function not in broken:
                 place, name = f"proofs/{body.function.replace('::', '/')}", body.function.rpartition("::")[2]
                 files.update({f"{place}/{it}.antt": "" for it in ("Answers", "Invariants")})
                 files[f"{place}/Proof.antt"] = f"pub {name}_spec : missing\n{name}_spec = missing\n"
-        if rows:
-            files = {self.root: self.crate.texts[self.root] + "mod rows_of_edits;\n", "src/rows_of_edits.rt": ROWS}
-            files["proofs/rows_of_edits/read/Answers.antt"] = "".join(rows)
+                is_edited = any(it.file == body.path and body.start < start < body.end for it in edits for start, *_ in it.pieces)
+                if body.end - body.start > 10 and not is_edited and not any(other.start < body.start < other.end for other in self.crate.bodies[body.path]):
+                    files[body.path] = text_of(body.path)[: body.start + 1] + " loop {} ".ljust(body.end - body.start - 2) + text_of(body.path)[body.end - 1 :]
+        rows, modules = {row for it in edits for row in it.rows}, sorted({it for edit in edits for it in edit.modules})
+        for path in [it for it in self.crate.logic if f"Rattle.{self.crate.name}.{it[:-5].replace('/', '.')}" in modules]:
+            # (of a module of rows those that are not named stay only where others speak of them)
+            is_left = lambda it: it[1] in rows or sum(text.count(it[1]) for text in self.crate.logic.values()) > it[0].count(it[1])
+            files[path] = ROW.sub(lambda it: it[0] if is_left(it) else re.sub(r"[^\n]", " ", it[0]), self.crate.logic[path])
+        if modules:
+            files.update({self.root: text_of(self.root) + "mod rows_of_edits;\n", "src/rows_of_edits.rt": ROWS})
+            files["proofs/rows_of_edits/read/Answers.antt"] = "".join(f"use {it} as rows{at}\n" for at, it in enumerate(modules))
         return self.ran(edits, files, "check", *self.words, *(word for it in sorted(set(functions)) for word in ("--only", it)))
 
     def ran(self, edits, files, *words):
@@ -96,9 +120,9 @@ class Prover:
         for it, text in files.items():
             Path(self.room, it).parent.mkdir(parents=True, exist_ok=True)
             Path(self.room, it).write_text(text, "utf-8") if text else Path(self.room, it).unlink(missing_ok=True)
-        for it in sorted(edits, key=lambda it: -it.start):
-            text = Path(self.room, it.file).read_text("utf-8")
-            Path(self.room, it.file).write_text(text[: it.start] + it.new + text[it.end :], "utf-8")
+        for start, end, new, file in sorted(((*piece, it.file) for it in edits for piece in it.pieces), reverse=True):
+            text = Path(self.room, file).read_text("utf-8")
+            Path(self.room, file).write_text(text[:start] + new + text[end:], "utf-8")
         with subprocess.Popen([f"{KIT}/bin/rattle", *words], cwd=self.room, stdin=subprocess.DEVNULL, stdout=subprocess.PIPE, stderr=subprocess.STDOUT) as ran:
             lines = ran.stdout.read().decode("utf-8", "replace").rstrip("\n").split("\n")
             _, status, used = os.wait4(ran.pid, 0)
@@ -108,8 +132,7 @@ class Prover:
 
 
 def lacking_below(repository, crates):
-    """Returns the libraries below crates that rt cannot build, with what it said. It is asked for those that are older than their texts. (What
-    rt ci kept from an earlier run has the time of that run, so the time counts at which it was put there.)"""
+    """Returns the libraries below crates that rt cannot build, of those that are older than their texts, by the time at which they were put there."""
     for it in repository.below(*crates):
         made = Path(it.folder, "out/rlib", f"{it.name}.rlib", "format")
         texts = [path for part in ("src", "specs", "proofs") for path in Path(it.folder, part).rglob("*.*") if path.is_file()]
@@ -138,8 +161,7 @@ def batches_of(edits, clash):
 
 
 def read_edits(prover, edits):
-    """Has the prover's front end read edits, as many together as there may be, and marks those that are no code over today's text. Of a turned
-    definition it is told here whether it parses, and when it is tried whether its names are known."""
+    """Has the prover's front end read edits, as many together as there may be, and marks those that are no code. Of a turned definition it is told whether it parses."""
     for it in (it for it in edits if it.is_turned):
         said = prover.ran([it], {}, "fmt", "--write", it.file)
         it.verdict, it.why = ("BAD EDIT", f"it is no definition: {said.complaint()}") if said.status else ("", "")
@@ -154,9 +176,8 @@ def read_edits(prover, edits):
 
 
 def try_edits(prover, edits):
-    """Tries edits of a crate, those of code in batches. A caller of a broken function says that a goal is not proved only of a goal of its own, so a
-    batch refuses an edit by goals of its own function, or arm, where no function without an edit has one; else it is halved. An edit that no batch
-    refuses is tried alone by its functions, a turned definition by the laws and rows that it names, and one that can be asked of none by the whole crate."""
+    """Tries edits of a crate, those of code in batches: a batch refuses an edit by goals of its own function, or arm, where no function without an edit has one, and is halved
+    else. One that no batch refuses is tried alone, a turned definition by the laws and rows that it names, and one that can be asked of none by the whole crate."""
     together = [it for it in edits if it.asked and not it.is_turned]
     left = [*([it] for it in edits if it not in together), *batches_of(together, Edit.clashes)]
     while left:
@@ -178,8 +199,7 @@ def try_edits(prover, edits):
 
 
 def goals_of(edit, said, batch):
-    """Returns the goals that were not proved, or those of an edit's functions, beside edits of other arms those of its arm. A goal of no edit's arm
-    says that an edit changes more than the arms that it names, so none that names arms is refused then."""
+    """Returns the goals that were not proved, or those of an edit's functions, beside edits of other arms those of its arm; of these none, where a goal is of no edit's arm."""
     for function in edit.functions if edit else said.goals:
         goals, beside = said.goals.get(function, []), [it for it in batch if edit and it is not edit and function in it.functions]
         is_told = all(any(it.owns(goal, function) for it in (edit, *beside)) for goal in goals) if beside else True
@@ -197,19 +217,15 @@ def judge(edit, goals):
     found, public = clauses_among(edit.crate, goals)
     owed = [" ".join(it) for it in found] or [" ".join(it) for it in goals if it[1] and not LOOP_GOAL.search(it[1])]
     other = [clause for clause, pairs in edit.clauses if not pairs & set(found)]
-    if other:
-        edit.verdict, edit.why = "NOT REFUSED", f"not by the clause {other[0]} that it names; refused by {', '.join(owed) or 'a step of its proof alone'}"
-    elif public:
-        edit.verdict, edit.why = "refused", ", ".join(map(" ".join, public))
-    elif edit.stands and owed:
-        edit.verdict, edit.why = "refused", f"{owed[0]}, which stands for {' '.join(edit.stands[0])}"
-    else:
-        edit.verdict, edit.why = "NOT REFUSED", f"by no public clause, but by {owed[0]}, and it names none that this stands for" if owed else "by a step of its proof alone"
+    why = f"not by the clause {other[0]} that it names; refused by {', '.join(owed) or 'a step of its proof alone'}" if other else ", ".join(map(" ".join, public))
+    why = why or (f"{owed[0]}, which stands for {' '.join(edit.stands[0])}" if edit.stands and owed else "")
+    why = why or (f"by no public clause, but by {owed[0]}, and it names none that this stands for" if owed else "by a step of its proof alone")
+    edit.verdict, edit.why = "NOT REFUSED" if other or not public and not (edit.stands and owed) else "refused", why
 
 
 def judge_turned(edit, said):
     """Gives a turned definition its verdict: each row that it names has to be refused, or else each law, or some row, law or public clause."""
-    crate, errors = edit.crate, {it["name"]: it["file"] for it in map(REFUSED.match, said.lines) if it and not NOT_OWN.search(unquoted(it["why"]))}
+    crate, errors = edit.crate, {it[2]: it[1] for it in map(REFUSED.match, said.lines) if it and not NOT_OWN.search(unquoted(it[3]))}
     rows = [name for name, file in errors.items() if file.endswith("Rows")]
     laws = [it[1] for it in map(NOT_PROVED.match, said.lines) if it and it[1] in crate.by_name and crate.by_name[it[1]].is_law]
     clauses = [" ".join(it) for it in clauses_among(crate, goals_of(None, said, []))[1] if it[0] not in laws]
@@ -217,9 +233,5 @@ def judge_turned(edit, said):
     left = [f"the row {it}" for it in edit.rows if it not in rows] if edit.rows else held
     told = [*(f"the row {it}" for it in edit.rows or rows[:1]), *(f"the law {it}" for it in laws[:3]), *clauses[:1]]
     edit.laws += laws
-    if left:
-        edit.verdict, edit.why = "NOT REFUSED", f"{left[0]} still holds; refused is {', '.join([*rows, *laws, *errors][:3])}"
-    elif told:
-        edit.verdict, edit.why = "refused", ", ".join(told) + "".join(f"; {it} holds all the same" for it in held)
-    else:
-        edit.verdict, edit.why = "NOT REFUSED", f"by no row, law or public clause, but by {said.complaint()}"
+    why = f"{left[0]} still holds; refused is {', '.join([*rows, *laws, *errors][:3])}" if left else ", ".join(told) + "".join(f"; {it} holds all the same" for it in held)
+    edit.verdict, edit.why = "NOT REFUSED" if left or not told else "refused", why if left or told else f"by no row, law or public clause, but by {said.complaint()}"
