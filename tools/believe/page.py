@@ -56,7 +56,7 @@ LISTS = [
           ["`tools/trace_model.py`, which writes the text of each row of `traces/`"]),
     Asked(BARE, "run_bare", [],
           "What is told of an image on the bare machine, instruction by instruction.",
-          ["the rows of `bare/`, worked out by hand"]),
+          ["`tools/bare_model.py`, which writes the text of each row of `bare/` and `examples/bare/`"]),
     Asked(DRIVE, "drive", [],
           "What the words of the program ask for, its statuses, listings and checks, and what is told of a fault.",
           ["`tools/reason_model.py`, what is told of a policy and an input that are refused",
