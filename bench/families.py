@@ -1,5 +1,5 @@
 #!/usr/bin/env python3
-"""How long a take, a revoke and the end of a process take where all of 25,600 entries are of one family.
+"""How long a take, a revoke, a drop and the end of a process take where all of 25,600 entries are of one family.
 
     bench/families.py [PROGRAM]      seconds of processor time of one call, for each family and call
     bench/families.py --count        host instructions in place of seconds, by callgrind (valgrind)
@@ -12,6 +12,8 @@ processes have 256 entries each:
     chain      each entry was shared from the one before it, process by process in the order of their numbers
     zigzag     each was shared from one of the next process, so that a walk over the processes meets the last one first
     fan        all were shared from one
+
+A leaf is a drop of the last entry, from which nothing was shared; what was shared from the one that `drop` drops is handed on.
 """
 import os
 import re
@@ -45,7 +47,9 @@ def shares(family):
 
 
 def calls(family):
-    first, second = places(family)[:2]
+    first, second, *_, last = places(family)
+    yield "leaf", "drop {} {:08x} own".format(*last)
+    yield "drop", "drop {} {:08x} own".format(*second)
     yield "take", "take {} {} {:08x}".format(first[0], *second)
     yield "revoke", "revoke {} {:08x} 2".format(*first)
     yield "end", f"end {second[0]}"

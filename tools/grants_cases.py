@@ -624,6 +624,42 @@ def families_within(file):
                 reach(file, f"end {places[-1][0]}")
 
 
+def handed_on_in_turn(file):
+    """A chain of 256 over 100 processes, each of whose entries is in one of its calls: handed on, narrowed, given anew and cut."""
+    places = [(k % 100 + 1, 0x1000 * (k // 100 + 1)) for k in range(256)]
+    file.ask("start 100 4 1")
+    share(file, places, fill=False)
+    for p, at in places[::8]:
+        file.ask(f"fill {p} {at:08x}")
+    for k in (255, 254, 120, 121, 122, 40):  # the last two, three after each other, and one above all of them
+        reach(file, f"drop {told(places[k])} own")
+    for asked in (f"give {told(places[119])} {told(places[120])} 2", f"narrow {told(places[119])}", f"give {told(places[120])} {told(places[121])} 1",
+                  f"drop {told(places[120])} command", f"end {places[10][0]}", f"take {places[119][0]} {told(places[121])}",
+                  f"take {places[29][0]} {told(places[30])}", f"revoke {told(places[1])} 9"):
+        reach(file, asked)
+
+
+def many_places_in_turn(file):
+    """A process shares from 600 of its addresses, one after the other, and each of these families is cut; those after them are found all the same."""
+    file.ask("start 4 4 1")
+    file.ask("grant 1 00001000 0 write give 1")
+    for k in range(600):
+        at = f"{0x1000 * (k + 1):08x}"
+        file.ask(f"give 1 00001000 2 {at} 2")
+        file.ask(f"give 2 {at} 3 00001000 2")
+        file.ask(f"take 1 2 {at}")
+    for at in ("00001000", "00258000", "00300000"):
+        for gone in ("drop 2 {} own", "take 1 2 {}", "revoke 2 {} 9"):
+            file.ask(f"give 1 00001000 2 {at} 2")
+            file.ask(f"give 2 {at} 3 00001000 2")
+            file.ask("give 3 00001000 4 00001000 2")
+            reach(file, gone.format(at))
+            reach(file, "drop 3 00001000 command")
+            reach(file, "drop 4 00001000 command")
+            if file.model.row(2):
+                file.ask(f"drop 2 {at} command")
+
+
 SHARING = {"grant": 8, "give": 50, "take": 8, "drop": 10, "revoke": 3, "narrow": 4, "fill": 14, "end": 1}
 
 
@@ -646,9 +682,11 @@ def random_families(file):
 def families():
     """Shares of shares, and what becomes of them where one of those above goes."""
     file = File(["Shares of shares: chains of 255, families over 100 processes, copies among them, places that are used again, entries of one",
-                 "process above each other, and random calls. After each change every entry is asked, and what the buffer has where it had any.",
+                 "process above each other, a chain whose entries go in turn, shares from 600 places in turn, and random calls.",
+                 "After each change every entry is asked, and what the buffer has where it had any.",
                  "entry answers the process and the address of the parent after from, where there is one."])
-    for made in (long_chains, families_of_a_hundred, families_with_copies, places_used_again, families_within, random_families):
+    for made in (long_chains, families_of_a_hundred, families_with_copies, places_used_again, families_within, handed_on_in_turn, many_places_in_turn,
+                 random_families):
         made(file)
     return file
 

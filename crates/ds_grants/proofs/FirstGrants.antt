@@ -29,7 +29,7 @@ record IsFirst (named : ℕ) (e : Entry) : Type 0 where
   pub place : IsAtPage e
 
 -- the entries of a process in such a table
-all_at : (P : Entry → Type 0) (t : Table) (p : ℕ) → All (All P) t → All P (entries_of t p)
+pub all_at : (P : Entry → Type 0) (t : Table) (p : ℕ) → All (All P) t → All P (entries_of t p)
 all_at P t p all = elim (cases_lt (p - 1) (length t)) [
   | inl inside ↦ All-get_or (All P) t (p - 1) [] inside all
   | inr past ↦ rw (get_or_past t (p - 1) [] past) (All-nil P)

@@ -15,6 +15,7 @@ pub mod Fills
 pub mod FirstGrants
 pub mod FirstPages
 pub mod FirstWhere
+pub mod FlatFamilies
 pub mod Forgets
 pub mod Handing
 pub mod HeldByAll
@@ -22,12 +23,15 @@ pub mod HolderCounts
 pub mod Images
 pub mod Kept
 pub mod Laying
+pub mod Known
+pub mod KnownShares
 pub mod Living
 pub mod Lying
 pub mod OwnFrames
 pub mod PageAnew
 pub mod Parents
 pub mod Puts
+pub mod Receivers
 pub mod RegionsSeen
 pub mod RuleWords
 pub mod Sizes

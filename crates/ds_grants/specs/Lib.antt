@@ -8,6 +8,7 @@ pub mod Buffer
 pub mod Changes
 pub mod Represented
 pub mod Order
+pub mod Origins
 pub mod First
 pub mod Copies
 pub mod Rows

@@ -15,12 +15,13 @@ use crate::first_tables::first_tables;
 use crate::grants::{Grants, PROCESSES};
 use crate::holders::hold_table;
 use crate::layout::{Layout, frame_in_memory};
+use crate::shared_table::SharedTable;
 use crate::tally::Tally;
 use arrayvec::ArrayVec;
 use ds_asid::Asids;
 use ds_asm::Image;
 use ds_mem::{Memory, OutOfMemory};
-use ds_policy::{Policy, PolicyPage, Source, Table, Text};
+use ds_policy::{Policy, PolicyPage, Source, Text};
 use ds_tables::Tables;
 use ds_tlb::Lookaside;
 use std::alloc::Global;
@@ -118,7 +119,7 @@ impl Grants {
     {
         let holders = zeros(alloc, frames as usize)?;
         let layout = Layout::first(alloc, frames)?;
-        match Table::empty(alloc, processes) {
+        match SharedTable::empty(alloc, processes) {
             Ok(table) => Ok(Grants {
                 table,
                 holders: Tally::of(holders),
@@ -140,9 +141,9 @@ impl Grants {
         let layout = Layout::first(alloc, policy.frames())?;
         let named = policy.pages().len() as u32;
         let ended = none_ended(policy.processes().len());
-        match Table::new(alloc, policy) {
+        match SharedTable::new(alloc, policy) {
             Ok(table) => {
-                hold_table(&mut holders, &table);
+                hold_table(&mut holders, table.as_table());
                 Ok(Grants {
                     table,
                     holders: Tally::of(holders),

@@ -117,6 +117,14 @@ impl Grants {
         };
         self.give_own_frame(page, memory);
         let place = self.place(page);
-        reword_page(&self.table, page, place, memory, tables, spaces, tlb);
+        reword_page(
+            self.table.as_table(),
+            page,
+            place,
+            memory,
+            tables,
+            spaces,
+            tlb,
+        );
     }
 }

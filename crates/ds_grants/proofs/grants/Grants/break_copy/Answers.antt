@@ -37,7 +37,7 @@ pub returns-clause-keeps : goal.returns-clause-keeps
 returns-clause-keeps g c = λ k.
     let frame = c.give_own_frame.ensures.frame in
     c.reword_page.ensures.keeps c.args.self.now c.give_own_frame.new.self
-    (sym (ap (λ (s : GrantsState). s.table) (c.self-2.view_is ∙ frame.1)))
+    (sym (c.as_table.ensures.value ∙ ap (λ (s : GrantsState). s.table) (c.self-2.view_is ∙ frame.1)))
     (subst (LiesOtherwise c.in-Some.page c.args.self.now) (sym frame.1) (lies_alone c.args.self.now c.in-Some.page frame.0))
     (sym c.place-place.ensures.frame)
     (sym c.place-place.ensures.shared)

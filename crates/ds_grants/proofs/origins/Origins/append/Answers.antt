@@ -1,0 +1,32 @@
+use Rattle.std.proofs.Common.{◌≡◌, ◌∙◌, true, false, None, position, sym, ap, subst}
+use Rattle.ds_grants.specs.declared.origins.Origin.{Origin}
+use Rattle.ds_grants.specs.Origins.{OriginsState, Has, everyone, receivers_of, receivers_in}
+use Rattle.ds_grants.proofs.Known.{is_at, in_everyone, unknown_at, appended_at, kept_appended, kept_overflowed}
+use Rattle.ds_grants.proofs.origins.Origins.append.Goals as goal
+
+pub returns-then-self-clause-added : goal.returns-then-self-clause-added
+returns-then-self-clause-added c = λ q h.
+    let unknown = subst (λ (o : OriginsState). position (is_at c.args.addr) o.known ≡ None) (sym c.self.view_is) c.requires.unknown in
+    subst (λ (o : OriginsState). Has (receivers_of o c.args.addr) q) c.self.view_is
+    (rw (c.if-self.true, unknown_at c.self.inside.known.items true c.args.addr unknown) (in_everyone c.args.receivers q c.ranges.receivers.fits h))
+
+pub returns-then-is_full-clause-added : goal.returns-then-is_full-clause-added
+returns-then-is_full-clause-added c = λ q h.
+    let unknown = subst (λ (o : OriginsState). position (is_at c.args.addr) o.known ≡ None) (sym c.self.view_is) c.requires.unknown in
+    rw (unknown_at c.self.inside.known.items true c.args.addr unknown) (in_everyone c.args.receivers q c.ranges.receivers.fits h)
+
+pub returns-then-is_full-clause-kept : goal.returns-then-is_full-clause-kept
+returns-then-is_full-clause-kept c = λ a q h.
+    let before = subst (λ (o : OriginsState). Has (receivers_of o a) q) (sym c.self.view_is) h in
+    kept_overflowed c.self.inside.known.items a q (rw c.if-self.false at before)
+
+pub returns-else-is_full-clause-added : goal.returns-else-is_full-clause-added
+returns-else-is_full-clause-added c = λ q h.
+    let unknown = subst (λ (o : OriginsState). position (is_at c.args.addr) o.known ≡ None) (sym c.self.view_is) c.requires.unknown in
+    rw (c.push.ensures.items, c.if-self.false, appended_at c.self.inside.known.items c.args.addr c.args.receivers unknown) h
+
+pub returns-else-is_full-clause-kept : goal.returns-else-is_full-clause-kept
+returns-else-is_full-clause-kept c = λ a q h.
+    let before = subst (λ (o : OriginsState). Has (receivers_of o a) q) (sym c.self.view_is) h in
+    rw (c.push.ensures.items, c.if-self.false)
+    (kept_appended c.self.inside.known.items (record { address = c.args.addr; receivers = c.args.receivers }) a q (rw c.if-self.false at before))

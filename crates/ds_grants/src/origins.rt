@@ -1,0 +1,132 @@
+//! From which addresses of a process something may have been shared, and which processes may have it.
+ghost use Rattle.std.specs.Prelude.{◌≡◌, ◌==◌, ℕ, false, not, [], filter, position, None};
+ghost use Rattle.ds_grants.specs.Origins.{Has, of_others, receivers_of};
+
+use arrayvec::ArrayVec;
+use std::marker::Model;
+
+/// How many addresses of a process are told apart: twice as many as it can have entries.
+const MOST: usize = 512;
+
+/// The set of all processes.
+pub(crate) const EVERYONE: u128 = u128::MAX;
+
+/// An address from which something may have been shared, and the processes that may have it, process
+/// q by bit q.
+#[derive(Clone, Copy)]
+pub(crate) struct Origin {
+    pub(crate) address: u32,
+    pub(crate) receivers: u128,
+}
+
+/// Nothing at address 0.
+impl Default for Origin {
+    ghost is_default = { λ o. o ≡ record { address = 0; receivers = 0 } };
+
+    fn default() -> Origin {
+        Origin {
+            address: 0,
+            receivers: 0,
+        }
+    }
+}
+
+/// The addresses of a process from which something may have been shared. Where there was no room for
+/// one, something may have been shared from any other.
+#[derive(Drop)]
+pub(crate) struct Origins {
+    known: ArrayVec<Origin, MOST>,
+    overflowed: bool,
+}
+
+impl Model for Origins {
+    ghost use Rattle.ds_grants.specs.Origins.{OriginsState};
+
+    ghost Value = { OriginsState };
+
+    ghost view = { λ o. record { known = o.known.items; overflowed = o.overflowed } };
+}
+
+impl Origins {
+    /// None.
+    pub(crate) fn none() -> Origins
+        ensures { result ≡ record { known = []; overflowed = false } }
+    {
+        Origins {
+            known: ArrayVec::new(),
+            overflowed: false,
+        }
+    }
+
+    /// The processes that may have what was shared from an address.
+    pub(crate) fn receivers(&self, addr: u32) -> u128
+        ensures { result ≡ receivers_of self.now addr }
+    {
+        match find(self.known.as_slice(), addr) {
+            Some(i) => self.known[i].receivers,
+            None => of_others(self.overflowed),
+        }
+    }
+
+    /// Whether there was no room for an address.
+    pub(crate) fn has_overflowed(&self) -> bool
+        ensures { result ≡ self.now.overflowed }
+    {
+        self.overflowed
+    }
+
+    /// From now on these processes may have what was shared from an address too.
+    pub(crate) fn add(&mut self, addr: u32, receivers: u128)
+        ensures added { (q : ℕ) → Has receivers q → Has (receivers_of self.new addr) q }
+        ensures kept { (a q : ℕ) → Has (receivers_of self.old a) q
+            → Has (receivers_of self.new a) q }
+    {
+        match find(self.known.as_slice(), addr) {
+            Some(i) => self.known[i].receivers |= receivers,
+            None => self.append(addr, receivers),
+        }
+    }
+
+    /// From now on nothing is known to have been shared from an address.
+    pub(crate) fn remove(&mut self, addr: u32)
+        ensures { self.new ≡ record self.old {
+          known = filter (λ o. not (o.address == addr)) self.old.known;
+        } }
+    {
+        self.known.retain(|origin| origin.address != addr);
+    }
+
+    /// Adds an address that isn't known yet.
+    fn append(&mut self, addr: u32, receivers: u128)
+        requires unknown { position (λ o. o.address == addr) self.old.known ≡ None }
+        ensures added { (q : ℕ) → Has receivers q → Has (receivers_of self.new addr) q }
+        ensures kept { (a q : ℕ) → Has (receivers_of self.old a) q
+            → Has (receivers_of self.new a) q }
+    {
+        if self.overflowed {
+            return;
+        }
+        if self.known.is_full() {
+            self.overflowed = true;
+        } else {
+            self.known.push(Origin {
+                address: addr,
+                receivers,
+            });
+        }
+    }
+}
+
+/// Where an address is known.
+fn find(known: &[Origin], addr: u32) -> Option<usize>
+    ensures { result ≡ position (λ o. o.address == addr) known.now }
+{
+    known.iter().position(|origin| origin.address == addr)
+}
+
+/// The processes that may have what was shared from an address that isn't known.
+fn of_others(overflowed: bool) -> u128
+    ensures { result ≡ of_others overflowed }
+{
+    if overflowed { EVERYONE } else { 0 }
+}
