@@ -8,7 +8,7 @@ ghost use Rattle.ds_ahead.specs.Ahead.{hardware_of, after_steps, AdvancesTo, owe
 ghost use Rattle.ds_refinement.specs.Blocks.{MayRunAhead, counts_behind};
 ghost use Rattle.ds_refinement.specs.Counts.{IsFresh, fresh, one_more, with_counts};
 ghost use Rattle.ds_refinement.specs.Services.{with_failure};
-ghost use Rattle.ds_monitor.specs.Room.{HasLogRoom, HasRoom};
+ghost use Rattle.ds_monitor.specs.Room.{HasLogRoom, HasRoom, has_turn_room};
 ghost use Rattle.ds_kernel.specs.Parts.{held, own_of, with_counts_of};
 ghost use Rattle.ds_kernel.specs.Good.{IsGood};
 ghost use Rattle.ds_kernel.specs.Going.{GoesOn};
@@ -102,6 +102,7 @@ impl<L: Lookaside> Parts<L> {
         requires ready { self.old.monitor.ready ≢ [] }
         ensures good { IsGood self.new }
         ensures room { OnOk result (HasRoom 1 self.new.monitor) }
+        ensures short { OnErr result (has_turn_room self.new.monitor ≡ false) }
         ensures until { self.new.monitor.quiet_until ≡ self.old.monitor.quiet_until }
         ensures still { OnOk result (held self.new ≡ held self.old) }
         ensures halts { IfErr result (λ halt. Halts halt (held self.old)) }

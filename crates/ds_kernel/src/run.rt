@@ -10,7 +10,7 @@ ghost use Rattle.ds_kernel.specs.Good.{IsBusy, IsGood};
 ghost use Rattle.ds_kernel.specs.Going.{GoesOn};
 ghost use Rattle.ds_kernel.specs.Halts.{Halts};
 ghost use Rattle.ds_kernel.specs.AtOnce.{IsCalled, MayGoOn};
-ghost use Rattle.ds_monitor.specs.Room.{HasLogRoom, HasRoom};
+ghost use Rattle.ds_monitor.specs.Room.{HasLogRoom, HasRoom, has_turn_room};
 ghost use Rattle.ds_refinement.specs.Blocks.{MayRunAhead};
 ghost use Rattle.ds_kernel.specs.Ran.{HasRun, WasCut};
 
@@ -190,6 +190,7 @@ impl<L: Lookaside> Parts<L> {
         requires going { held_goes_on n (held self.old) ≡ true }
         ensures good { IsGood self.new }
         ensures goes { OnOk result (GoesOn n (held self.old) (held self.new)) }
+        ensures short { OnErr result (has_turn_room self.new.monitor ≡ false) }
         ensures halts { IfErr result (λ halt. Halts halt (held self.old)) }
         ensures marked { OnErr result (held self.new ≡ with_failure (held self.old)) }
     {
@@ -210,7 +211,7 @@ impl<L: Lookaside> Parts<L> {
 
     /// Does the boundary that is owed, if one is, and then runs until the time is n or all
     /// processes have ended. Where that is so already, or after a failure, which it answers, nothing
-    /// changes.
+    /// changes. It is refused only where there is no room for a turn.
     // It stands apart, so that its loop is compiled alike wherever it is called from.
     #[inline(never)]
     pub fn run(&mut self, n: u64) -> Result<(), Halt>
@@ -227,6 +228,8 @@ impl<L: Lookaside> Parts<L> {
         ensures cut { IfErr result (λ halt. WasCut n halt (held self.old) (held self.new)) }
         ensures going { self.old.failed ≡ false
             → OnErr result (held_goes_on n (held self.new) ≡ true) }
+        ensures short { self.old.failed ≡ false
+            → OnErr result (has_turn_room self.new.monitor ≡ false) }
         ensures again { self.old.failed ≡ true
             → IsErrOf result Halt.Failed × (self.new ≡ self.old) }
         ensures rest { self.old.failed ≡ false → held_goes_on n (held self.old) ≡ false

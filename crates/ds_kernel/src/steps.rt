@@ -5,7 +5,7 @@ ghost use Rattle.ds_pagemap.specs.Run.{is_over};
 ghost use Rattle.ds_refinement.specs.Units.{is_served};
 ghost use Rattle.ds_refinement.specs.Services.{with_failure};
 ghost use Rattle.ds_monitor.specs.Kept.{kept_of};
-ghost use Rattle.ds_monitor.specs.Room.{HasRoom, HasTurnRoom};
+ghost use Rattle.ds_monitor.specs.Room.{HasRoom, HasTurnRoom, has_turn_room};
 ghost use Rattle.ds_kernel.specs.Parts.{held};
 ghost use Rattle.ds_kernel.specs.Good.{IsGood};
 ghost use Rattle.ds_kernel.specs.Ended.{Does};
@@ -22,7 +22,8 @@ impl<L: Lookaside> Parts<L> {
     pub(crate) fn reserve(&mut self) -> bool
         requires early { self.old.monitor.time < 2 ^ 62 }
         ensures room { result ≡ true → HasTurnRoom self.new.monitor }
-        ensures full { HasTurnRoom self.old.monitor → result ≡ true }
+        ensures full { has_turn_room self.old.monitor ≡ true → result ≡ true }
+        ensures short { result ≡ false → has_turn_room self.new.monitor ≡ false }
         ensures held { held self.new ≡ held self.old }
         ensures rest { self.new ≡ record self.old {
           monitor = record self.old.monitor {
@@ -40,6 +41,7 @@ impl<L: Lookaside> Parts<L> {
     pub(crate) fn make_unit_room(&mut self) -> bool
         requires early { self.old.monitor.time < 2 ^ 62 }
         ensures room { result ≡ true → HasRoom 1 self.new.monitor }
+        ensures short { result ≡ false → has_turn_room self.new.monitor ≡ false }
         ensures held { held self.new ≡ held self.old }
         ensures next { self.new.monitor.quiet_until ≡ self.old.monitor.quiet_until }
         ensures rest { self.new ≡ record self.old { monitor = self.new.monitor } }
@@ -53,7 +55,8 @@ impl<L: Lookaside> Parts<L> {
     pub(crate) fn make_room(&mut self) -> bool
         requires early { self.old.monitor.time < 2 ^ 62 }
         ensures room { result ≡ true → HasTurnRoom self.new.monitor }
-        ensures full { HasTurnRoom self.old.monitor → result ≡ true }
+        ensures full { has_turn_room self.old.monitor ≡ true → result ≡ true }
+        ensures short { result ≡ false → has_turn_room self.new.monitor ≡ false }
         ensures held { held self.new ≡ held self.old }
         ensures next { self.new.monitor.quiet_until ≡ self.old.monitor.quiet_until }
     {
@@ -74,7 +77,8 @@ impl<L: Lookaside> Parts<L> {
         requires ready { self.old.monitor.ready ≢ [] }
         ensures ok { OnOk result (held self.new ≡ held self.old) }
         ensures room { OnOk result (HasTurnRoom self.new.monitor) }
-        ensures full { HasTurnRoom self.old.monitor → IsOk result }
+        ensures full { has_turn_room self.old.monitor ≡ true → IsOk result }
+        ensures short { OnErr result (has_turn_room self.new.monitor ≡ false) }
         ensures still { OnErr result (0 < self.old.spent → HasTurnRoom self.new.monitor) }
         ensures halts { IfErr result (λ halt. Halts halt (held self.old)) }
         ensures marked { OnErr result (held self.new ≡ with_failure (held self.old)) }
@@ -108,7 +112,8 @@ impl<L: Lookaside> Parts<L> {
         requires unserved { is_served self.old.core ≡ false }
         requires early { self.old.monitor.time < 1000000000 }
         ensures good { IsGood self.new }
-        ensures full { HasTurnRoom self.old.monitor → IsOk result }
+        ensures full { has_turn_room self.old.monitor ≡ true → IsOk result }
+        ensures short { OnErr result (has_turn_room self.new.monitor ≡ false) }
         ensures does { IfOk result (λ step. Does step (held self.old) (held self.new)) }
         ensures halts { IfErr result (λ halt. Halts halt (held self.old)) }
         ensures marked { OnErr result (held self.new ≡ with_failure (held self.old)) }
@@ -151,7 +156,8 @@ impl<L: Lookaside> Parts<L> {
         requires going { is_over (kept_of self.old.monitor).state ≡ false }
         requires early { self.old.monitor.time < 1000000000 }
         ensures good { IsGood self.new }
-        ensures full { HasTurnRoom self.old.monitor → IsOk result }
+        ensures full { has_turn_room self.old.monitor ≡ true → IsOk result }
+        ensures short { OnErr result (has_turn_room self.new.monitor ≡ false) }
         ensures does { IfOk result (λ step. Does step (held self.old) (held self.new)) }
         ensures halts { IfErr result (λ halt. Halts halt (held self.old)) }
         ensures marked { OnErr result (held self.new ≡ with_failure (held self.old)) }
@@ -175,7 +181,8 @@ impl<L: Lookaside> Parts<L> {
         requires nobody { self.old.monitor.ready ≡ [] }
         requires early { self.old.monitor.time < 1000000000 }
         ensures good { IsGood self.new }
-        ensures full { HasTurnRoom self.old.monitor → IsOk result }
+        ensures full { has_turn_room self.old.monitor ≡ true → IsOk result }
+        ensures short { OnErr result (has_turn_room self.new.monitor ≡ false) }
         ensures does { IfOk result (λ step. Does step (held self.old) (held self.new)) }
         ensures halts { IfErr result (λ halt. Halts halt (held self.old)) }
         ensures marked { OnErr result (held self.new ≡ with_failure (held self.old)) }
@@ -187,8 +194,8 @@ impl<L: Lookaside> Parts<L> {
     }
 
     /// One instruction of the processor, one service, an idle turn with its boundary, or the boundary
-    /// that is owed. After a failure it answers that, and nothing changes. Where there is room for
-    /// a turn it is not refused.
+    /// that is owed. After a failure it answers that, and nothing changes. It is refused only where
+    /// there is no room for a turn.
     #[inline(always)]
     pub fn step(&mut self) -> Result<Step, Halt>
         requires slots { L.SLOTS ≡ 64 }
@@ -196,7 +203,10 @@ impl<L: Lookaside> Parts<L> {
         requires good { IsGood self.old }
         requires early { self.old.monitor.owed ≡ None → self.old.monitor.time < 1000000000 }
         ensures good { IsGood self.new }
-        ensures full { HasTurnRoom self.old.monitor → self.old.failed ≡ false → IsOk result }
+        ensures full { has_turn_room self.old.monitor ≡ true → self.old.failed ≡ false
+            → IsOk result }
+        ensures short { self.old.failed ≡ false
+            → OnErr result (has_turn_room self.new.monitor ≡ false) }
         ensures does { IfOk result (λ step. Does step (held self.old) (held self.new)) }
         ensures halts { IfErr result (λ halt. Halts halt (held self.old)) }
         ensures marked { OnErr result (held self.new ≡ with_failure (held self.old)) }

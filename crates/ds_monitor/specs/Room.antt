@@ -1,5 +1,5 @@
 -- The room that a monitor has for what is written.
-use Rattle.std.specs.Prelude.{ℕ, ◌+◌, ◌*◌, ◌≤◌, vec_len, vec_capacity}
+use Rattle.std.specs.Prelude.{ℕ, ◌+◌, ◌*◌, ◌≤◌, nat_lt, nat_le, Bool, ◌&&◌, vec_len, vec_capacity}
 use Rattle.ds_monitor.specs.Consoles as consoles
 use Rattle.ds_monitor.specs.Commands.{commands_by}
 use Rattle.ds_monitor.specs.declared.monitor.Monitor.{Monitor}
@@ -20,3 +20,7 @@ pub record HasRoom (lines : ℕ) (m : Monitor) : Type 0 where
 -- what a unit may write, and the commands that are due until it is over
 abbrev pub HasTurnRoom : Monitor → Type 0
 HasTurnRoom m = HasRoom (1 + commands_by (m.time + 2) m.due.commands) m
+
+-- whether there is that room
+abbrev pub has_turn_room : Monitor → Bool
+has_turn_room m = nat_lt 0 m.consoles.room && nat_le (vec_len m.log + 64 * (1 + commands_by (m.time + 2) m.due.commands)) (vec_capacity m.log)

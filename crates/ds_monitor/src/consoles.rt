@@ -1,5 +1,5 @@
 //! The four console texts.
-ghost use Rattle.std.specs.Prelude.{◌≡◌, ◌+◌, ◌<◌, ◌≤◌, ◌++◌, ◌∷◌, [], All, map, slice_set, slice_index_or, vec_len, vec_capacity, true};
+ghost use Rattle.std.specs.Prelude.{◌≡◌, ◌+◌, ◌<◌, ◌≤◌, ◌++◌, ◌∷◌, [], All, map, slice_set, slice_index_or, vec_len, vec_capacity, true, false};
 
 use std::alloc::Global;
 
@@ -53,6 +53,7 @@ impl Consoles {
     pub fn reserve(&mut self) -> bool
         ensures room { result ≡ true → HasRoom self.new }
         ensures full { HasRoom self.old → result ≡ true }
+        ensures short { result ≡ false → HasRoom self.new → ⊥ }
         ensures texts { texts_of self.new ≡ texts_of self.old }
     {
         if self.room > 0 {

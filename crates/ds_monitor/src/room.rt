@@ -1,5 +1,5 @@
 //! Room for what a unit and the boundary after it may write.
-ghost use Rattle.std.specs.Prelude.{◌≡◌, ◌≤◌, true};
+ghost use Rattle.std.specs.Prelude.{◌≡◌, ◌≤◌, true, false};
 ghost use Rattle.ds_monitor.specs.Kept.{kept_of};
 ghost use Rattle.ds_monitor.specs.Room.{HasRoom};
 
@@ -20,6 +20,7 @@ impl Monitor {
         requires few { lines ≤ 10000 }
         ensures room { result ≡ true → HasRoom lines self.new }
         ensures full { HasRoom lines self.old → result ≡ true }
+        ensures short { result ≡ false → HasRoom lines self.new → ⊥ }
         ensures kept { kept_of self.new ≡ kept_of self.old }
         ensures rest { self.new ≡ record self.old {
           consoles = self.new.consoles;
