@@ -49,7 +49,7 @@ pub report_of_consoles : (cs : List (List ℕ)) (a b d e : List ℕ) (lines line
 unfolding report_text
 report_of_consoles cs a b d e lines lines' log log' time time' p q r s t u v = rw (p, q, r, s, t, u, v) refl
 
-never_owed : (o : Option Turn) (rest : Bool) → (is_some o || rest) ≡ false → o ≡ None
+pub never_owed : (o : Option Turn) (rest : Bool) → (is_some o || rest) ≡ false → o ≡ None
 never_owed None rest e = refl
 never_owed (Some turn) rest e = absurd (cc)
 

@@ -8,3 +8,6 @@ pub mod Along
 mod Reading
 pub mod Showing
 pub mod Alone
+pub mod Standings
+pub mod InPieces
+pub mod Outcomes

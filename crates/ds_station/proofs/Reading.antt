@@ -7,7 +7,7 @@ use Rattle.ds_procs.specs.declared.process.Standing.TheVariants.{Ready}
 use Rattle.ds_pagemap.specs.Machine.{State, first, process_of}
 use Rattle.ds_pagemap_laws.specs.Lawful.{IsReady}
 use Rattle.ds_word.specs.Bytes.{word_at}
-use Rattle.ds_isa.specs.declared.instr.Kind.TheVariants.{Fetch}
+use Rattle.ds_isa.specs.declared.instr.Kind.{Kind}
 use Rattle.ds_isa.specs.declared.instr.Size.TheVariants.{Word}
 use Rattle.ds_policy.specs.declared.access.Verdict.TheVariants.{Allowed, Denied}
 use Rattle.ds_policy.specs.declared.access.Rule.{Rule}
@@ -19,21 +19,21 @@ use Rattle.ds_refinement.specs.Stands.{IsSound}
 use Rattle.ds_refinement.proofs.Frames.{word_of_page}
 use Rattle.ds_refinement.proofs.Tallied.{ranges_of}
 use Rattle.ds_kernel.proofs.Fetching.{allowed_page}
-use Rattle.ds_station.specs.Reads.{fetched, word_on}
+use Rattle.ds_station.specs.Reads.{word_for, word_on}
 
--- the word in a page that may be fetched
-pub word_found : (g : GrantsState) (memory : List ℕ) (p address page offset place : ℕ) → NamesPages g → length memory ≡ 2 ^ 23 → decide g.table p Fetch Word address ≡ Allowed page offset → place ≡ frame_of_page g page * 4096 + offset
-    → Some (word_at memory place) ≡ fetched (page_state g memory) p address
-word_found g memory p address page offset place names large is at =
-    let on = allowed_page g p Fetch Word address page offset names is in
+-- the word in a page that may be accessed so
+pub word_found : (g : GrantsState) (memory : List ℕ) (kind : Kind) (p address page offset place : ℕ) → NamesPages g → length memory ≡ 2 ^ 23 → decide g.table p kind Word address ≡ Allowed page offset → place ≡ frame_of_page g page * 4096 + offset
+    → Some (word_at memory place) ≡ word_for kind (page_state g memory) p address
+word_found g memory kind p address page offset place names large is at =
+    let on = allowed_page g p kind Word address page offset names is in
     let low = on.at in
     ap (λ (x : ℕ). Some (word_at memory x)) at
     ∙ (ap (λ (w : ℕ). Some w) (word_of_page g memory page offset on.lives on.low names large (omega (arith, low)))
     ∙ ap (word_on (pages_in g memory)) (sym is))
 
 -- or there is none
-pub word_denied : (g : GrantsState) (memory : List ℕ) (p address : ℕ) (rule : Rule) (code : ℕ) → decide g.table p Fetch Word address ≡ Denied rule code → None ≡ fetched (page_state g memory) p address
-word_denied g memory p address rule code is = ap (word_on (pages_in g memory)) (sym is)
+pub word_denied : (g : GrantsState) (memory : List ℕ) (kind : Kind) (p address : ℕ) (rule : Rule) (code : ℕ) → decide g.table p kind Word address ≡ Denied rule code → None ≡ word_for kind (page_state g memory) p address
+word_denied g memory kind p address rule code is = ap (word_on (pages_in g memory)) (sym is)
 
 -- the first of those that are ready has a seat
 pub first_seat : (m : State) (ready : List ℕ) (o : Option ℕ) → All (IsReady m) ready → o ≡ first ready → IfSome o (λ p. (0 < p) × (p ≤ length m.processes))

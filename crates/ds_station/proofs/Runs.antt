@@ -56,7 +56,7 @@ step_keeps Unit old new m = m.4
 step_keeps Boundary old new m = m.3
 step_keeps Over old new m = ap (λ (h : Held). h.own.failed) m
 
-path_keeps : (old new : Held) (path : List Held) → Through old path new → new.own.failed ≡ old.own.failed
+pub path_keeps : (old new : Held) (path : List Held) → Through old path new → new.own.failed ≡ old.own.failed
 path_keeps old new [] t = ap (λ (h : Held). h.own.failed) t
 path_keeps old new (last ∷ before) t = step_keeps t.0.0 last new t.0.2 ∙ path_keeps old last before t.1
 

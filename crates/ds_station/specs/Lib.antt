@@ -6,3 +6,5 @@ pub mod Headline
 pub mod Written
 pub mod Reads
 pub mod Alone
+pub mod Outcome
+pub mod Pieces

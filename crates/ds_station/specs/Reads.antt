@@ -3,7 +3,8 @@ use Rattle.std.specs.Prelude.{◌≡◌, ℕ, ◌+◌, ◌==◌, ◌&&◌, Bool,
 use Rattle.ds_word.specs.Word.{word}
 use Rattle.ds_word.specs.Bytes.{word_at}
 use Rattle.ds_isa.specs.declared.instr.Size.TheVariants.{Word}
-use Rattle.ds_isa.specs.declared.instr.Kind.TheVariants.{Fetch}
+use Rattle.ds_isa.specs.declared.instr.Kind.{Kind}
+use Rattle.ds_isa.specs.declared.instr.Kind.TheVariants.{Fetch, Load}
 use Rattle.ds_policy.specs.declared.access.Verdict.{Verdict}
 use Rattle.ds_policy.specs.declared.access.Verdict.TheVariants.{Allowed, Denied}
 use Rattle.ds_policy.specs.Pages.{Pages, decide, bytes_of}
@@ -25,9 +26,17 @@ abbrev pub word_on : Pages → Verdict → Option ℕ
 word_on pages (Allowed page offset) = Some (word_at (bytes_of pages page) offset)
 word_on pages (Denied rule code) = None
 
--- the word at an address, where the process may fetch it
+-- the word at an address, where the process may have it by an access of this kind
+abbrev pub word_for : Kind → PageState → ℕ → ℕ → Option ℕ
+word_for kind s p address = word_on s.pages (decide s.table p kind Word address)
+
+-- where it may fetch it
 abbrev pub fetched : PageState → ℕ → ℕ → Option ℕ
-fetched s p address = word_on s.pages (decide s.table p Fetch Word address)
+fetched s p address = word_for Fetch s p address
+
+-- where it may read it
+abbrev pub word_read : PageState → ℕ → ℕ → Option ℕ
+word_read s p address = word_for Load s p address
 
 -- the pages and the table that a station holds
 abbrev pub memory_held : Held → PageState

@@ -58,6 +58,7 @@ ghost use Rattle.ds_alone.specs.Tests.{is_alone, nobody_may_give};
 ghost use Rattle.ds_alone.specs.Touched.{IsQuietAlone};
 ghost use Rattle.ds_station.specs.Alone.{WritesAlone};
 ghost use Rattle.ds_station.specs.Faults.{is_unwritten};
+ghost use Rattle.ds_station.specs.Outcome.{WritesBy};
 ghost use Rattle.ds_station.specs.Written.{
   WritesUntouched,
   WritesGuarded,
@@ -129,14 +130,14 @@ pub fn prepare(
     random: u8,
 ) -> Result<Station<Indexed<64, 8>>, Fault>
     ensures ok { IfOk result (λ s. Begins
-        (inputs_under policy.now (sources_seen sources.now) input.now n random) (Stands s)) }
+        (inputs_under policy.now (sources_seen sources.now) input.now n random) (Stands s.held)) }
     ensures real { IfOk result (λ s. Begins
         (inputs_under_by loaded policy.now (sources_seen sources.now) input.now n random)
-        (BeginsWith random s)) }
-    ensures sound { IfOk result IsSound }
-    ensures working { IfOk result (λ s. s.own.failed ≡ false) }
-    ensures spent { IfOk result (λ s. s.own.spent ≡ 0) }
-    ensures unowed { IfOk result (λ s. s.kept.state.owed ≡ None) }
+        (BeginsWith random s.held)) }
+    ensures sound { IfOk result (λ s. IsSound s.held) }
+    ensures working { IfOk result (λ s. s.held.own.failed ≡ false) }
+    ensures spent { IfOk result (λ s. s.held.own.spent ≡ 0) }
+    ensures unowed { IfOk result (λ s. s.held.kept.state.owed ≡ None) }
     ensures few { OnOk result (n ≤ 1000000000) }
     ensures err { IfErr result (λ f. Refuses f
         (inputs_under policy.now (sources_seen sources.now) input.now n random)) }
@@ -165,9 +166,9 @@ pub fn deliver<L: Lookaside, O: Output>(
     out: &mut O,
 ) -> Result<(), WriteFailed>
     ensures ok { OnOk result
-        (Appends (O.contents out.old) (O.contents out.new) (held_text station.now)) }
+        (Appends (O.contents out.old) (O.contents out.new) (held_text station.now.held)) }
     ensures err { OnErr result
-        (AppendsPart (O.contents out.old) (O.contents out.new) (held_text station.now)) }
+        (AppendsPart (O.contents out.old) (O.contents out.new) (held_text station.now.held)) }
     ensures once { IsAskedOnce (O.answers out.old) (O.answers out.new) (is_err result) }
 {
     let consoles = [
@@ -296,13 +297,74 @@ pub fn run_policy<O: Output>(
         (O.contents out.old) (O.contents out.new) n random) }
     ensures once { IsAskedOnce (O.answers out.old) (O.answers out.new) (is_unwritten result) }
 {
+    match run_station(alloc, policy, sources, input, n, random, out) {
+        Ok(_) => {}
+        Err(fault) => return Err(fault),
+    }
+    Ok(())
+}
+
+/// As `run_policy`, and answers the station as it stands at the end, in the state whose text is
+/// written.
+pub fn run_station<O: Output>(
+    alloc: Global,
+    policy: &Policy,
+    sources: &[(&str, &[u8])],
+    input: &[u8],
+    n: u64,
+    random: u8,
+    out: &mut O,
+) -> Result<Station<Indexed<64, 8>>, Fault>
+    ensures ok { IfOk result (λ s. Begins
+        (inputs_under policy.now (sources_seen sources.now) input.now n random)
+        (WritesBy s.held (O.contents out.old) (O.contents out.new) n)) }
+    ensures real { OnOk result (Begins
+        (inputs_under_by loaded policy.now (sources_seen sources.now) input.now n random)
+        (WritesReally Along (O.contents out.old) (O.contents out.new) n random)) }
+    ensures err { IfErr result (λ f. EndsBy f
+        (inputs_under policy.now (sources_seen sources.now) input.now n random)
+        (O.contents out.old) (O.contents out.new) n) }
+    ensures cut { IfErr result (λ f. EndsReally Along f
+        (inputs_under_by loaded policy.now (sources_seen sources.now) input.now n random)
+        (O.contents out.old) (O.contents out.new) n random) }
+    ensures refused { (refusal : Refusal)
+        → inputs_under policy.now (sources_seen sources.now) input.now n random ≡ Err refusal
+        → IsRefused result refusal (O.contents out.old) (O.contents out.new) }
+    ensures guarded { OnOk result (Begins
+        (inputs_under policy.now (sources_seen sources.now) input.now n random)
+        (WritesGuarded (O.contents out.old) (O.contents out.new) n)) }
+    ensures guarded_so_far { IfErr result (λ f. EndsGuarded f
+        (inputs_under policy.now (sources_seen sources.now) input.now n random)
+        (O.contents out.old) (O.contents out.new) n) }
+    ensures quiet { (start : ℕ) (first : State)
+        → inputs_under policy.now (sources_seen sources.now) input.now n start ≡ Ok first
+        → IsQuiet n first
+        → OnOk result (WritesUntouched (O.contents out.old) (O.contents out.new) n first) }
+    ensures alone { (listens : Bool) (p start : ℕ) (first : State) → IsGoodPolicy policy.now
+        → inputs_under policy.now (sources_seen sources.now) input.now n start ≡ Ok first
+        → is_alone listens p first ≡ true → nobody_may_give first ≡ true
+        → AsksNothing listens p first → IsQuietAlone p first
+        → OnOk result (WritesAlone (O.contents out.old) (O.contents out.new) p first) }
+    ensures followed { OnOk result (Begins
+        (inputs_under_by loaded policy.now (sources_seen sources.now) input.now n random)
+        (WritesReally Followed (O.contents out.old) (O.contents out.new) n random)) }
+    ensures followed_so_far { IfErr result (λ f. EndsReally Followed f
+        (inputs_under_by loaded policy.now (sources_seen sources.now) input.now n random)
+        (O.contents out.old) (O.contents out.new) n random) }
+    ensures once { IsAskedOnce (O.answers out.old) (O.answers out.new) (is_unwritten result) }
+{
     let mut station = match prepare(alloc, policy, sources, input, n, random) {
         Ok(station) => station,
         Err(refused) => return Err(refused),
     };
     let ran = station.run(n);
     match deliver(&station, out) {
-        Ok(()) => ran,
-        Err(_) => Err(Fault::WriteFault),
+        Ok(()) => {}
+        Err(_) => return Err(Fault::WriteFault),
     }
+    match ran {
+        Ok(()) => {}
+        Err(fault) => return Err(fault),
+    }
+    Ok(station)
 }

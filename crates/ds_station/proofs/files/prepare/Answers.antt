@@ -46,8 +46,8 @@ returns-in-Ok-new-clause-ok c =
     let is =
     of_first_state c.args.policy.now s c.args.input.now c.args.n c.args.random
     ∙ under_all first_state c.args.policy.now c.in-Ok.images.items c.in-Ok-read.events s c.args.input.now c.args.n c.args.random images c.in-Ok-read.ensures.exact c.if-n-gt-MOST_TICKS.false in
-    prepared first_state (Stands c.in-Ok-new.station) _ c.args.policy.now c.in-Ok.images.items c.in-Ok-read.events c.args.random is
-    (subst (λ (xs : List (List ℕ)). Stands c.in-Ok-new.station (first_state c.args.policy.now xs c.in-Ok-read.events)) c.deref.ensures.value c.in-Ok-new.ensures.first)
+    prepared first_state (Stands c.in-Ok-new.station.held) _ c.args.policy.now c.in-Ok.images.items c.in-Ok-read.events c.args.random is
+    (subst (λ (xs : List (List ℕ)). Stands c.in-Ok-new.station.held (first_state c.args.policy.now xs c.in-Ok-read.events)) c.deref.ensures.value c.in-Ok-new.ensures.first)
     (λ b. ok_is_no_err c.in-Ok-new.station BadRandom (c.in-Ok-new.ensures.refused b))
 
 pub returns-in-Ok-new-clause-real : goal.returns-in-Ok-new-clause-real
@@ -55,8 +55,8 @@ returns-in-Ok-new-clause-real c =
     let s = sources_seen c.args.sources.now in
     let images = images_are s _ (sources_of c.args.policy.now.pages) c.in-Ok.images.items c.sources.ensures.all c.in-Ok.ensures.images in
     let is = under_all loaded c.args.policy.now c.in-Ok.images.items c.in-Ok-read.events s c.args.input.now c.args.n c.args.random images c.in-Ok-read.ensures.exact c.if-n-gt-MOST_TICKS.false in
-    prepared loaded (BeginsWith c.args.random c.in-Ok-new.station) _ c.args.policy.now c.in-Ok.images.items c.in-Ok-read.events c.args.random is
-    (subst (λ (xs : List (List ℕ)). IsFirst c.args.policy.now xs c.in-Ok-read.events c.args.random c.in-Ok-new.station) c.deref.ensures.value c.in-Ok-new.ensures.begins)
+    prepared loaded (BeginsWith c.args.random c.in-Ok-new.station.held) _ c.args.policy.now c.in-Ok.images.items c.in-Ok-read.events c.args.random is
+    (subst (λ (xs : List (List ℕ)). IsFirst c.args.policy.now xs c.in-Ok-read.events c.args.random c.in-Ok-new.station.held) c.deref.ensures.value c.in-Ok-new.ensures.begins)
     (λ b. ok_is_no_err c.in-Ok-new.station BadRandom (c.in-Ok-new.ensures.refused b))
 
 pub returns-clause-err : goal.returns-clause-err

@@ -1,7 +1,8 @@
 use Rattle.std.proofs.Common.{sym, subst}
 use Rattle.ds_refinement.specs.Stands.{IsSound}
+use Rattle.ds_station.specs.Station.{StationValue}
 use Rattle.ds_station.proofs.Reading.{all_slots}
 use Rattle.ds_station.proofs.station.Station.slots.Goals as goal
 
 pub returns-clause-all : goal.returns-clause-all
-returns-clause-all g c = sym (all_slots c.args.self.now (subst IsSound c.self.view_is c.self.invariant.good.sound))
+returns-clause-all g c = sym (all_slots c.args.self.now.held (subst (λ (s : StationValue). IsSound s.held) c.self.view_is c.self.invariant.good.sound))

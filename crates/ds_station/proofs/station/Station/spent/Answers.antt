@@ -1,7 +1,8 @@
 use Rattle.std.proofs.Common.{subst}
 use Rattle.ds_refinement.specs.Stands.{IsSound}
+use Rattle.ds_station.specs.Station.{StationValue}
 use Rattle.ds_station.proofs.Runs.{sound_few}
 use Rattle.ds_station.proofs.station.Station.spent.Goals as goal
 
 pub returns-clause-few : goal.returns-clause-few
-returns-clause-few g c = (sound_few c.args.self.now (subst IsSound c.self.view_is c.self.invariant.good.sound)).spent
+returns-clause-few g c = (sound_few c.args.self.now.held (subst (λ (s : StationValue). IsSound s.held) c.self.view_is c.self.invariant.good.sound)).spent

@@ -5,6 +5,7 @@ use Rattle.ds_refinement.specs.Held.{Held}
 use Rattle.ds_refinement.specs.Steps.{Stays}
 use Rattle.ds_refinement.specs.Written.{KeepsWritten}
 use Rattle.ds_kernel.specs.Parts.{held}
+use Rattle.ds_station.specs.Station.{StationValue}
 use Rattle.ds_station.proofs.Runs.{does_keep, sound_few, stands_still}
 use Rattle.ds_station.proofs.station.Station.step.Goals as goal
 
@@ -17,12 +18,12 @@ returns-in_err-step-clause-few g c = sound_few (held c.step.new.self) c.step.ens
 pub returns-in_err-step-clause-err : goal.returns-in_err-step-clause-err
 returns-in_err-step-clause-err g c =
     at_err c.from_residual.result
-    (subst (λ (o : Held). Stays o (held c.step.new.self)) c.self.view_is
+    (subst (λ (s : StationValue). Stays s.held (held c.step.new.self)) c.self.view_is
     (subst (λ (h : Held). Stays (held c.self.inside.parts) h) (sym c.in_err-step.ensures.marked) (stands_still (held c.self.inside.parts))))
 
 -- What a unit has written stays.
 
 pub returns-clause-keeps : goal.returns-clause-keeps
 returns-clause-keeps g c =
-    subst (λ (old : Held). c.in_ok-step.field-0 ≡ Inside → KeepsWritten old (held c.step.new.self)) c.self.view_is
+    subst (λ (s : StationValue). c.in_ok-step.field-0 ≡ Inside → KeepsWritten s.held (held c.step.new.self)) c.self.view_is
     (does_keep c.in_ok-step.field-0 (held c.self.inside.parts) (held c.step.new.self) c.self.invariant.good.sound c.in_ok-step.ensures.does)
