@@ -84,7 +84,8 @@ impl Parts {
     fn station<L: Lookaside>(&self, alloc: Global, random: u8) -> Option<Station<L>>
         requires slots { L.SLOTS ≡ 64 }
         requires wired { L.WIRED ≡ 8 }
-        ensures { IfSome result (λ s. BeginsRun self.now.policy self.now.images.items random s) }
+        ensures { IfSome result
+            (λ s. BeginsRun self.now.policy self.now.images.items random s.held) }
     {
         let events = Events::read(alloc, self.input.as_slice(), &self.policy).ok()?;
         if self.images.len() != self.policy.sources().len() {
@@ -204,7 +205,7 @@ fn step_to_end<L: Lookaside>(station: &mut Station<L>, n: u64) -> Option<()> {
 /// The text of a station's state.
 #[tactic(auto, unfolding(ds_log::specs::Report::report_text))]
 fn text_of<L: Lookaside>(alloc: Global, station: &Station<L>) -> Result<Vec<u8>, AllocError>
-    ensures { IfOk result (λ t. t.items ≡ shown_text station.now) }
+    ensures { IfOk result (λ t. t.items ≡ shown_text station.now.held) }
 {
     let mut text = Vec::new(alloc);
     push_console(&mut text, 0, station.console(0))?;

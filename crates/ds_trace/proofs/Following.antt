@@ -340,7 +340,7 @@ module _ (v : View) (n : ℕ) (from h : Held) (a d e : Option (List ℕ)) (text 
         inl (finished_so_far v n m h a d e text all.progress told from (processor_held v lines c h) (processor_told v n from h c lines m (touched told.early (after n told.choices m)) counted k told.stands) counts all.counts all.spent all.stopped.1 all.stopped.2 done);
   }
 
-  pub finished_traces : (counts : Counted) → TellsAll None v n from h a d text counts → IsFinished v counts d e (text ++ processor_held v lines c h) h → Traces v n from a e
+  pub finished_traces : (counts : Counted) → TellsAll None v n from h a d text counts → IsFinished v counts d e (text ++ processor_held v lines c h) h → Traces v n from h a e
   finished_traces counts all done = record {
     traces = λ m k.
         let told = all.tells.tells m k in

@@ -19,10 +19,10 @@ use Rattle.ds_station.specs.declared.fault.Fault.{Fault}
 use Rattle.ds_station.specs.declared.fault.Fault.TheVariants as fault
 use Rattle.ds_view.specs.declared.view.View.{View}
 use Rattle.ds_trace.specs.Ends.{end_text}
-use Rattle.ds_trace.specs.Traces.{counts_along, told_to, trace_along, TraceEndsBy, TraceEndsReally, WritesShort, WritesTold, WritesToldPart, WritesTrace, WritesTracePart, WritesTracePartReally, WritesTraceReally, WritesTraceShort, WritesTraceShortReally}
+use Rattle.ds_trace.specs.Traces.{counts_along, told_to, trace_along, TraceEndsBy, TraceEndsReally, WritesShort, WritesTold, WritesToldPart, WritesTrace, WritesTraceBy, WritesTracePart, WritesTracePartReally, WritesTraceReally, WritesTraceShort, WritesTraceShortReally}
 use Rattle.ds_trace.specs.Shows.{Traces, TracesPart, TracesShort}
 use Rattle.ds_trace.specs.Handed.{IsLate}
-use Rattle.ds_trace.specs.Processors.{TellsFrom}
+use Rattle.ds_trace.specs.Processors.{TellsFrom, TellsProcessor}
 use Rattle.ds_trace.proofs.Processing.{processor_of_some}
 
 -- refused inputs
@@ -38,17 +38,25 @@ late_by fault.Memory v read old new n late short b = inr (short refl)
 late_by fault.WriteFault v read old new n late short b = b
 late_by f v read old new n late short b = absurd late
 
--- what is told of a station's run is told of a run
-of_some : (v : View) (old new : Option (List ℕ)) (n : ℕ) (s : Held) (m : State) → WritesTold v old new n m (TellsFrom v n s m) → WritesTrace v old new n m
-of_some v old new n s m t = record {
+-- what is told of a run with more is told of it
+told_weaker : (v : View) (old new : Option (List ℕ)) (n : ℕ) (m : State) (P Q : State → List ℕ → Type 0) → ((last : State) (lines : List ℕ) → P last lines → Q last lines) → WritesTold v old new n m P → WritesTold v old new n m Q
+told_weaker v old new n m P Q gives t = record {
   last = t.last;
   ends = t.ends;
   processor = t.processor;
-  processed = processor_of_some v n s m t.last t.processor t.processed;
+  processed = gives t.last t.processor t.processed;
   between = t.between;
   trace = t.trace;
   written = t.written;
 }
+
+-- what is told of a station's run is told of a run, to a state that it stands for
+of_some : (v : View) (old new : Option (List ℕ)) (n : ℕ) (s h : Held) (m : State) → WritesTold v old new n m (λ last lines. TellsFrom v n s m last lines × Stands h last) → WritesTraceBy v h old new n m
+of_some v old new n s h m = told_weaker v old new n m (λ last lines. TellsFrom v n s m last lines × Stands h last) (λ last lines. TellsProcessor v n m last lines × Stands h last) (λ last lines t. (processor_of_some v n s m last lines t.0, t.1))
+
+-- wherever the station is then
+pub by_any : (v : View) (h : Held) (read : Result State Refusal) (old new : Option (List ℕ)) (n : ℕ) → Begins read (WritesTraceBy v h old new n) → Begins read (WritesTrace v old new n)
+by_any v h read old new n b = (b.0, b.1, told_weaker v old new n b.0 (λ last lines. TellsProcessor v n b.0 last lines × Stands h last) (TellsProcessor v n b.0) (λ last lines t. t.0) b.2)
 
 part_of_some : (v : View) (old new : Option (List ℕ)) (n : ℕ) (s : Held) (m : State) → WritesToldPart v old new n m (TellsFrom v n s m) → WritesTracePart v old new n m
 part_of_some v old new n s m t = record {
@@ -103,9 +111,8 @@ short_part v old new n m Tells (inr t) =
     }
 
 -- a run that was told to its end
-pub told_ok : {T : Type 0} (r : Result T Fault) (v : View) (read : Result State Refusal) (s : Held) (old new : Option (List ℕ)) (n : ℕ) → Begins read (Stands s) → OnOk r (Traces v n s old new) → OnOk r (Begins read (WritesTrace v old new n))
-told_ok (Ok x) v read s old new n b t = (b.0, b.1, of_some v old new n s b.0 (t.traces b.0 b.2))
-told_ok (Err f) v read s old new n b t = tt
+pub told_ok : (v : View) (read : Result State Refusal) (s h : Held) (old new : Option (List ℕ)) (n : ℕ) → Begins read (Stands s) → Traces v n s h old new → Begins read (WritesTraceBy v h old new n)
+told_ok v read s h old new n b t = (b.0, b.1, of_some v old new n s h b.0 (t.traces b.0 b.2))
 
 -- or not
 pub told_err : {T : Type 0} (r : Result T Fault) (v : View) (read : Result State Refusal) (s : Held) (old new : Option (List ℕ)) (n : ℕ) → Begins read (Stands s) → OnErr r (TracesPart v n s old new) → IfErr r IsLate → IfErr r (λ f. f ≡ fault.Memory → TracesShort v n s old new) → IfErr r (λ f. TraceEndsBy f v read old new n)
@@ -165,9 +172,10 @@ begins_at h policy sources input n random start b l =
     (l.0, l.1, (l.2, subst (Stands h) (ap (state_or b.0) same) b.2))
 
 -- a run that was told to its end
-pub told_really : {T : Type 0} (r : Result T Fault) (v : View) (read : Result Loaded Refusal) (s : Held) (old new : Option (List ℕ)) (n start : ℕ) → Begins read (BeginsAt start s) → OnOk r (Traces v n s old new) → OnOk r (Begins read (WritesTraceReally v old new n start))
-told_really (Ok x) v read s old new n start b t = (b.0, b.1, record { first = s; begins = b.2.0; written = t.traces (first_state b.0.policy b.0.images b.0.input) b.2.1 })
-told_really (Err f) v read s old new n start b t = tt
+pub told_really : (v : View) (read : Result Loaded Refusal) (s h : Held) (old new : Option (List ℕ)) (n start : ℕ) → Begins read (BeginsAt start s) → Traces v n s h old new → Begins read (WritesTraceReally v old new n start)
+told_really v read s h old new n start b t =
+    let m : State = first_state b.0.policy b.0.images b.0.input in
+    (b.0, b.1, record { first = s; begins = b.2.0; written = told_weaker v old new n m (λ last lines. TellsFrom v n s m last lines × Stands h last) (TellsFrom v n s m) (λ last lines told. told.0) (t.traces m b.2.1) })
 
 late_really : (f : Fault) (v : View) (read : Result Loaded Refusal) (old new : Option (List ℕ)) (n start : ℕ) → IsLate f → (f ≡ fault.Memory → Begins read (WritesTraceShortReally v old new n start)) → Begins read (WritesTracePartReally v old new n start) → TraceEndsReally f v read old new n start
 late_really fault.Memory v read old new n start late short b = inr (short refl)

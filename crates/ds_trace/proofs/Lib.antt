@@ -13,3 +13,5 @@ pub mod Standing
 pub mod Telling
 pub mod Following
 pub mod Inputs
+pub mod MemoryLines
+pub mod Accounting

@@ -413,12 +413,12 @@ module _ (v : View) (n : ℕ) (m : State) (h : Held) (a d e : Option (List ℕ))
       ∙ ap (λ (l : List ℕ). trace_along v n told.choices m ++ processor ++ l) (last_end k is none))
       (appends_both a d between told.sent (text ++ processor ++ end_held v k h) told.appends trace)
 
-  pub finished : (k : Counted) → b.counts ≡ k → h.own.spent ≡ 0 → held_goes_on n h ≡ false → IsFinished v k d e (text ++ processor) h → WritesTold v a e n m (TellsFrom v n start m)
+  pub finished : (k : Counted) → b.counts ≡ k → h.own.spent ≡ 0 → held_goes_on n h ≡ false → IsFinished v k d e (text ++ processor) h → WritesTold v a e n m (λ last lines. TellsFrom v n start m last lines × Stands h last)
   finished k is none over done = record {
     last = last_state;
     ends = record { reached = last_reached; over = goes_alike n h last_state told.stands ∙ over };
     processor = processor;
-    processed = processed;
+    processed = (processed, told.stands);
     between = done.between;
     trace = trace_written k is none done.between done.trace;
     written = subst (Appends done.between e) last_text done.written;

@@ -18,3 +18,5 @@ pub mod Shows
 pub mod Handed
 pub mod Advanced
 pub mod Counted
+pub mod Memory
+pub mod Accounts

@@ -20,6 +20,10 @@ after_word (b ∷ rest) = if b == 32 then rest else after_word rest
 abbrev pub second_word : List ℕ → List ℕ
 second_word line = first_word (after_word line)
 
+-- the fourth: of a denial what was denied
+abbrev pub fourth_word : List ℕ → List ℕ
+fourth_word line = second_word (after_word (after_word line))
+
 -- the sixth: of a denial its rule; the line of a refused command has five
 abbrev pub sixth_word : List ℕ → List ℕ
 sixth_word line = second_word (after_word (after_word (after_word (after_word line))))

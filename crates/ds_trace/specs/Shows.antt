@@ -116,9 +116,9 @@ pub record TellsAll (cut : Option Fault) (v : View) (n : ℕ) (from h : Held) (o
   pub stopped : IsStopped cut n h
   pub spent : h.own.spent ≡ 0
 
--- each run from there is traced to its end, with what the processor did in this one
-pub record Traces (v : View) (n : ℕ) (from : Held) (old new : Option (List ℕ)) : Type 0 where
-  pub traces : (m : State) → Stands from m → WritesTold v old new n m (TellsFrom v n from m)
+-- each run from there is traced to its end, a state that the station stands for, with what the processor did in this one
+pub record Traces (v : View) (n : ℕ) (from to : Held) (old new : Option (List ℕ)) : Type 0 where
+  pub traces : (m : State) → Stands from m → WritesTold v old new n m (λ last lines. TellsFrom v n from m last lines × Stands to last)
 
 -- or a prefix of what is told of it is written
 pub record TracesPart (v : View) (n : ℕ) (from : Held) (old new : Option (List ℕ)) : Type 0 where

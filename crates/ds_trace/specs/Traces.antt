@@ -8,6 +8,7 @@ use Rattle.ds_pagemap.specs.Run.{half_turn, goes_on, after, Reaches, Ends, IsPre
 use Rattle.ds_pagemap.specs.Text.{text_of}
 use Rattle.ds_pagemap.specs.Inputs.{Refusal}
 use Rattle.ds_refinement.specs.Held.{Held}
+use Rattle.ds_refinement.specs.Stands.{Stands}
 use Rattle.ds_station.specs.Headline.{Begins, BeginsWith, Loaded, Refuses}
 use Rattle.ds_station.specs.declared.fault.Fault.{Fault}
 use Rattle.ds_station.specs.declared.fault.Fault.TheVariants as fault
@@ -83,6 +84,10 @@ WritesShort v old new n first Tells = WritesToldSoFar v old new n first Tells �
 -- what is told of the processor is of a run of some station from the first state
 abbrev pub WritesTrace : View → Option (List ℕ) → Option (List ℕ) → ℕ → State → Type 0
 WritesTrace v old new n first = WritesTold v old new n first (TellsProcessor v n first)
+
+-- so of a run to a state that this station stands for
+abbrev pub WritesTraceBy : View → Held → Option (List ℕ) → Option (List ℕ) → ℕ → State → Type 0
+WritesTraceBy v h old new n first = WritesTold v old new n first (λ last lines. TellsProcessor v n first last lines × Stands h last)
 
 -- the same of a prefix
 abbrev pub WritesTracePart : View → Option (List ℕ) → Option (List ℕ) → ℕ → State → Type 0

@@ -98,7 +98,7 @@ fn push_standings<L: Lookaside>(
     station: &Station<L>,
 ) -> Result<(), AllocError>
     ensures { OnOk result (standings.new.items ≡ standings.old.items
-        ++ map (λ q. q.standing) station.now.kept.state.processes) }
+        ++ map (λ q. q.standing) station.now.held.kept.state.processes) }
 {
     for process in 1..station.processes() + 1 {
         standings.push(station.standing(process))?;
@@ -108,7 +108,7 @@ fn push_standings<L: Lookaside>(
 
 /// How many characters wait on each line.
 fn queued_on<L: Lookaside>(station: &Station<L>) -> [usize; LINES]
-    ensures { result ≡ map length station.now.kept.state.queues }
+    ensures { result ≡ map length station.now.held.kept.state.queues }
 {
     [
         station.queue(0).len(),
@@ -143,7 +143,7 @@ impl Before {
         station: &Station<L>,
         owed: bool,
     ) -> Result<(), AllocError>
-        ensures { OnOk result (self.new ≡ looked_held view.now owed station.now) }
+        ensures { OnOk result (self.new ≡ looked_held view.now owed station.now.held) }
     {
         self.owed = owed;
         self.began = station.turn_began();

@@ -127,7 +127,8 @@ pub(crate) fn push_keys<L: Lookaside>(
     queued: &[usize; LINES],
 ) -> Result<(), AllocError>
     ensures { OnOk result (string_bytes line.new ≡ string_bytes line.old
-        ++ keys_text station.now.kept.state.time 0 queued.now station.now.kept.state.queues) }
+        ++ keys_text station.now.held.kept.state.time 0 queued.now
+        station.now.held.kept.state.queues) }
 {
     let time = station.time();
     push_line(line, time, 0, after(station.queue(0), queued[0]))?;
@@ -145,7 +146,7 @@ fn came_to(queue: &[u8], queued: usize) -> usize
 
 /// How many of so many are left without the characters that came to queues of these lengths.
 fn without_keys<L: Lookaside>(station: &Station<L>, came: usize, queued: &[usize; LINES]) -> usize
-    ensures { result ≡ came - count_keys queued.now station.now.kept.state.queues }
+    ensures { result ≡ came - count_keys queued.now station.now.held.kept.state.queues }
 {
     came.saturating_sub(came_to(station.queue(0), queued[0]))
         .saturating_sub(came_to(station.queue(1), queued[1]))
@@ -174,8 +175,8 @@ pub(crate) fn lost_on<L: Lookaside>(
     characters: usize,
     queued: &[usize; LINES],
 ) -> usize
-    ensures { result ≡ characters - length station.now.kept.state.characters
-        - count_keys queued.now station.now.kept.state.queues }
+    ensures { result ≡ characters - length station.now.held.kept.state.characters
+        - count_keys queued.now station.now.held.kept.state.queues }
 {
     let came = characters.saturating_sub(station.characters_to_come());
     without_keys(station, came, queued)
@@ -190,9 +191,9 @@ pub(crate) fn push_lost<L: Lookaside>(
     queued: &[usize; LINES],
 ) -> Result<(), AllocError>
     ensures { OnOk result (string_bytes line.new ≡ string_bytes line.old
-        ++ lost_text station.now.kept.state.time
-        (characters - length station.now.kept.state.characters
-        - count_keys queued.now station.now.kept.state.queues)) }
+        ++ lost_text station.now.held.kept.state.time
+        (characters - length station.now.held.kept.state.characters
+        - count_keys queued.now station.now.held.kept.state.queues)) }
 {
     push_count(line, station.time(), lost_on(station, characters, queued))
 }

@@ -88,8 +88,8 @@ pub(crate) fn push_changes<L: Lookaside>(
     before: &[Standing],
 ) -> Result<(), AllocError>
     ensures { OnOk result (string_bytes line.new ≡ string_bytes line.old
-        ++ standings_text view.now station.now.kept.state.time before.now 1
-        (map (λ q. q.standing) station.now.kept.state.processes)) }
+        ++ standings_text view.now station.now.held.kept.state.time before.now 1
+        (map (λ q. q.standing) station.now.held.kept.state.processes)) }
 {
     for process in 1..station.processes() + 1 {
         let (old, standing) = (standing_in(before, process), station.standing(process));
@@ -113,7 +113,7 @@ fn stands_ready(standing: Standing) -> bool
 /// Whether a process stands ready, where there is such a process.
 fn is_ready<L: Lookaside>(station: &Station<L>, process: u32) -> bool
     ensures { result ≡ is_ready (slice_get
-        (map (λ q. q.standing) station.now.kept.state.processes) (process - 1)) }
+        (map (λ q. q.standing) station.now.held.kept.state.processes) (process - 1)) }
 {
     let index = process.saturating_sub(1);
     if index < station.processes() {
@@ -135,8 +135,8 @@ fn is_first(runner: Option<u32>, process: u32) -> bool
 
 /// Whether a process that ran is still ready while another is before it, and is told of.
 fn gives_way<L: Lookaside>(view: &View, station: &Station<L>, process: u32) -> bool
-    ensures { result ≡ (not (is_first (first station.now.kept.state.ready) process)
-        && (is_ready (slice_get (map (λ q. q.standing) station.now.kept.state.processes)
+    ensures { result ≡ (not (is_first (first station.now.held.kept.state.ready) process)
+        && (is_ready (slice_get (map (λ q. q.standing) station.now.held.kept.state.processes)
         (process - 1)) && shows_process view.now process)) }
 {
     !is_first(station.runner(), process)
@@ -163,7 +163,7 @@ pub(crate) fn push_way<L: Lookaside>(
     before: Option<u32>,
 ) -> Result<(), AllocError>
     ensures { (p : ℕ) → OnOk result (string_bytes line.new ≡ string_bytes line.old
-        ++ way_text view.now (found_held p station.now) before) }
+        ++ way_text view.now (found_held p station.now.held) before) }
 {
     match before {
         Some(process) => {

@@ -112,7 +112,7 @@ fn is_copy(call: Option<Call>, answer: u32) -> bool
 
 /// Register 2 of a process, which has the answer of its call.
 fn answer_of<L: Lookaside>(station: &Station<L>, process: u32) -> u32
-    ensures { result ≡ slice_index (general_held station.now process) 2 }
+    ensures { result ≡ slice_index (general_held station.now.held process) 2 }
 {
     held_in(&station.general(process), 2)
 }
@@ -156,7 +156,7 @@ impl Counts {
         station: &Station<L>,
     ) -> Result<(), AllocError>
         ensures { OnOk result (self.new ≡ unit_counted self.old start.now logged.now
-            (slice_index (general_held station.now start.now.process) 2)) }
+            (slice_index (general_held station.now.held start.now.process) 2)) }
     {
         self.units = plus(self.units, 1);
         if start.call.is_some() {
@@ -171,9 +171,9 @@ impl Counts {
 
     /// Counts a tick in which nobody runs, and what a boundary lost.
     fn count_rest<L: Lookaside>(&mut self, before: &Before, station: &Station<L>, owed: bool)
-        requires owed { owed ≡ is_some station.now.kept.state.owed }
+        requires owed { owed ≡ is_some station.now.held.kept.state.owed }
         ensures { self.new ≡ rest_counted self.old before.now
-            (found_held (process_in before.now.start) station.now) }
+            (found_held (process_in before.now.start) station.now.held) }
     {
         if !before.owed {
             self.idle = plus(self.idle, 1);
@@ -191,9 +191,9 @@ impl Counts {
         station: &Station<L>,
         owed: bool,
     ) -> Result<(), AllocError>
-        requires owed { owed ≡ is_some station.now.kept.state.owed }
+        requires owed { owed ≡ is_some station.now.held.kept.state.owed }
         ensures { OnOk result (self.new ≡ done_counted self.old before.now
-            (found_held (process_in before.now.start) station.now) before.now.start) }
+            (found_held (process_in before.now.start) station.now.held) before.now.start) }
     {
         match before.start {
             Some(start) => {
@@ -224,8 +224,9 @@ impl Counts {
         station: &Station<L>,
         owed: bool,
     ) -> Result<(), AllocError>
-        requires owed { owed ≡ is_some station.now.kept.state.owed }
-        ensures { OnOk result (self.new ≡ counts_held view.now self.old before.now station.now) }
+        requires owed { owed ≡ is_some station.now.held.kept.state.owed }
+        ensures { OnOk result
+            (self.new ≡ counts_held view.now self.old before.now station.now.held) }
     {
         if !is_counted(view, before.began) {
             return Ok(());

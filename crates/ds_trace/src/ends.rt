@@ -58,7 +58,7 @@ fn push_line(text: &mut Vec<u8>, found: Option<&[u8]>) -> Result<(), AllocError>
 }
 
 /// Adds a process's number, how it stands, and where it goes on.
-fn push_head(
+pub(crate) fn push_head(
     line: &mut String,
     process: u32,
     standing: Standing,
@@ -131,8 +131,8 @@ fn push_processes<L: Lookaside>(
     station: &Station<L>,
 ) -> Result<(), AllocError>
     ensures { OnOk result (text.new.items ≡ text.old.items
-        ++ processes_held (map (λ l. l.now) lines.now) station.now 1
-        (length station.now.kept.state.processes)) }
+        ++ processes_held (map (λ l. l.now) lines.now) station.now.held 1
+        (length station.now.held.kept.state.processes)) }
 {
     for process in 1..station.processes() + 1 {
         let (standing, address) = (station.standing(process), station.address(process));
@@ -152,7 +152,7 @@ pub(crate) fn push_end<L: Lookaside>(
     station: &Station<L>,
 ) -> Result<(), AllocError>
     ensures { OnOk result (text.new.items
-        ≡ text.old.items ++ end_held view.now counts.now station.now) }
+        ≡ text.old.items ++ end_held view.now counts.now station.now.held) }
 {
     let lines = lines_of(alloc, station.log())?;
     push_summary(

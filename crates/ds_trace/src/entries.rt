@@ -51,7 +51,7 @@ pub(crate) fn push_rows<L: Lookaside>(
     station: &Station<L>,
 ) -> Result<(), AllocError>
     ensures { OnOk result
-        (rows.new.items ≡ rows.old.items ++ station.now.kept.grants.table) }
+        (rows.new.items ≡ rows.old.items ++ station.now.held.kept.grants.table) }
 {
     for process in 1..station.processes() + 1 {
         rows.push(Row::of(alloc, station.entries(process))?)?;
@@ -344,7 +344,7 @@ pub(crate) fn push_tables<L: Lookaside>(
     station: &Station<L>,
 ) -> Result<(), AllocError>
     ensures { OnOk result (string_bytes line.new ≡ string_bytes line.old
-        ++ tables_text view.now time rows.now station.now.kept.grants.table) }
+        ++ tables_text view.now time rows.now station.now.held.kept.grants.table) }
 {
     for process in 1..MOST_PROCESSES + 1 {
         push_changed(

@@ -1,15 +1,16 @@
 //! The trace of a run, from texts to a text.
-ghost use Rattle.std.specs.Prelude.{◌≡◌, IfErr, OnOk, Err};
+ghost use Rattle.std.specs.Prelude.{◌≡◌, IfErr, IfOk, OnOk, Err};
 ghost use Rattle.ds_pagemap.specs.Inputs.{Refusal, inputs, inputs_by, inputs_under, inputs_under_by};
 ghost use Rattle.ds_log.specs.Sent.{IsAskedOnce};
 ghost use Rattle.ds_station.specs.Faults.{is_unwritten};
 ghost use Rattle.ds_station.specs.Headline.{Begins, IsRefused, loaded, sources_seen};
-ghost use Rattle.ds_trace.specs.Traces.{TraceEndsBy, TraceEndsReally, WritesTrace, WritesTraceReally};
+ghost use Rattle.ds_trace.specs.Traces.{TraceEndsBy, TraceEndsReally, WritesTrace, WritesTraceBy, WritesTraceReally};
 
 use crate::trace::tell;
 use ds_log::Output;
 use ds_policy::Policy;
-use ds_station::{Fault, prepare};
+use ds_station::{Fault, Station, prepare};
+use ds_tlb::Indexed;
 use ds_view::View;
 use std::alloc::Global;
 
@@ -81,9 +82,48 @@ pub fn trace_policy<O: Output>(
         → IsRefused result refusal (O.contents out.old) (O.contents out.new) }
     ensures once { IsAskedOnce (O.answers out.old) (O.answers out.new) (is_unwritten result) }
 {
+    match trace_station(alloc, policy, sources, input, n, random, view, out) {
+        Ok(_) => {}
+        Err(fault) => return Err(fault),
+    }
+    Ok(())
+}
+
+/// As `trace_policy`, and answers the station as it stands at the end.
+pub fn trace_station<O: Output>(
+    alloc: Global,
+    policy: &Policy,
+    sources: &[(&str, &[u8])],
+    input: &[u8],
+    n: u64,
+    random: u8,
+    view: &View,
+    out: &mut O,
+) -> Result<Station<Indexed<64, 8>>, Fault>
+    ensures ok { IfOk result (λ s. Begins
+        (inputs_under policy.now (sources_seen sources.now) input.now n random)
+        (WritesTraceBy view.now s.held (O.contents out.old) (O.contents out.new) n)) }
+    ensures real { OnOk result (Begins
+        (inputs_under_by loaded policy.now (sources_seen sources.now) input.now n random)
+        (WritesTraceReally view.now (O.contents out.old) (O.contents out.new) n random)) }
+    ensures err { IfErr result (λ f. TraceEndsBy f view.now
+        (inputs_under policy.now (sources_seen sources.now) input.now n random)
+        (O.contents out.old) (O.contents out.new) n) }
+    ensures cut { IfErr result (λ f. TraceEndsReally f view.now
+        (inputs_under_by loaded policy.now (sources_seen sources.now) input.now n random)
+        (O.contents out.old) (O.contents out.new) n random) }
+    ensures refused { (refusal : Refusal)
+        → inputs_under policy.now (sources_seen sources.now) input.now n random ≡ Err refusal
+        → IsRefused result refusal (O.contents out.old) (O.contents out.new) }
+    ensures once { IsAskedOnce (O.answers out.old) (O.answers out.new) (is_unwritten result) }
+{
     let mut station = match prepare(alloc, policy, sources, input, n, random) {
         Ok(station) => station,
         Err(refused) => return Err(refused),
     };
-    tell(alloc, view, &mut station, n, out)
+    match tell(alloc, view, &mut station, n, out) {
+        Ok(()) => {}
+        Err(fault) => return Err(fault),
+    }
+    Ok(station)
 }

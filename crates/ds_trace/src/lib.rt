@@ -1,6 +1,7 @@
 //! The trace of a run: what happened, unit by unit, and how each process stands at the end.
 #![tactic(auto)]
 
+mod accounts;
 mod before;
 mod boundaries;
 mod calls;
@@ -13,6 +14,7 @@ mod files;
 mod laws;
 mod lines;
 mod logs;
+mod memory;
 mod processor;
 mod progress;
 mod sheet;
@@ -22,5 +24,7 @@ mod summaries;
 mod trace;
 mod window;
 
-pub use files::{trace_files, trace_policy};
+pub use accounts::account;
+pub use files::{trace_files, trace_policy, trace_station};
 pub use laws::{a_boundary_leaves_registers, a_touch_changes_no_line};
+pub use memory::send_memory;

@@ -106,7 +106,7 @@ fn push_effect<L: Lookaside>(
 ) -> Result<(), AllocError>
     ensures { OnOk result (string_bytes line.new ≡ string_bytes line.old
         ++ (register_text general.now (register_of word)
-        ++ stored_text (memory_held station.now) (length station.now.kept.state.processes)
+        ++ stored_text (memory_held station.now.held) (length station.now.held.kept.state.processes)
         process (stored_at general.now (reach_of (instruction_of word))))) }
 {
     push_register(line, general, register_of(word))?;
@@ -123,9 +123,9 @@ fn push_result<L: Lookaside>(
     word: u32,
     done: bool,
 ) -> Result<(), AllocError>
-    requires general { general.now ≡ general_held station.now process }
+    requires general { general.now ≡ general_held station.now.held process }
     ensures { OnOk result (string_bytes line.new ≡ string_bytes line.old
-        ++ result_text done process (found_held process station.now) word) }
+        ++ result_text done process (found_held process station.now.held) word) }
 {
     if done {
         push_effect(line, station, process, general, word)
@@ -154,7 +154,7 @@ fn push_line<L: Lookaside>(
 ) -> Result<(), AllocError>
     ensures { OnOk result (string_bytes line.new ≡ string_bytes line.old
         ++ instruction_line [] told.time told.process told.address (Some told.word) told.call
-        told.done (found_held told.process station.now)) }
+        told.done (found_held told.process station.now.held)) }
 {
     let general = station.general(told.process);
     push_front(line, told.time, told.process, told.address, told.word)?;
@@ -173,7 +173,7 @@ fn push_first<L: Lookaside>(
 ) -> Result<(), AllocError>
     ensures { OnOk result (string_bytes line.new ≡ string_bytes line.old
         ++ instruction_line [] start.now.time start.now.process start.now.address
-        start.now.word start.now.call done (found_held start.now.process station.now)) }
+        start.now.word start.now.call done (found_held start.now.process station.now.held)) }
 {
     match start.word {
         Some(word) => {
@@ -201,7 +201,7 @@ fn push_slot<L: Lookaside>(
     ensures { OnOk result (string_bytes line.new ≡ string_bytes line.old
         ++ instruction_line (codes "  ") start.now.time start.now.process
         (word (start.now.address + 4)) start.now.slot None done
-        (found_held start.now.process station.now)) }
+        (found_held start.now.process station.now.held)) }
 {
     match start.slot {
         Some(word) => {
@@ -228,7 +228,7 @@ pub(crate) fn push_unit<L: Lookaside>(
     station: &Station<L>,
 ) -> Result<(), AllocError>
     ensures { OnOk result (string_bytes line.new ≡ string_bytes line.old
-        ++ unit_text start.now done (found_held start.now.process station.now)) }
+        ++ unit_text start.now done (found_held start.now.process station.now.held)) }
 {
     push_first(line, start, done, station)?;
     push_slot(line, start, done, station)

@@ -1,7 +1,7 @@
 //! What the lines of the log say of processes and rules.
 ghost use Rattle.std.specs.Prelude.{◌≡◌, ◌≤◌, ◌++◌, ◌∷◌, [], IfOk, OnOk, bytes_eq, codes, decimal, length, map, option_map, suc};
 ghost use Rattle.std.specs.List.{list_any};
-ghost use Rattle.ds_trace.specs.Logs.{after_word, first_word, is_among, last_of, lines_of, rule_text, rules_of, rules_text, second_word, sixth_word, times_among};
+ghost use Rattle.ds_trace.specs.Logs.{after_word, first_word, fourth_word, is_among, last_of, lines_of, rule_text, rules_of, rules_text, second_word, sixth_word, times_among};
 
 use itoa::Buffer;
 use std::alloc::{AllocError, Global};
@@ -46,8 +46,15 @@ fn second_word(line: &[u8]) -> &[u8]
     first_word(after_word(line))
 }
 
+/// The fourth word of a line.
+pub(crate) fn fourth_word(line: &[u8]) -> &[u8]
+    ensures { result.now ≡ fourth_word line.now }
+{
+    second_word(after_word(after_word(line)))
+}
+
 /// The sixth word of a line.
-fn sixth_word(line: &[u8]) -> &[u8]
+pub(crate) fn sixth_word(line: &[u8]) -> &[u8]
     ensures { result.now ≡ sixth_word line.now }
 {
     second_word(after_word(after_word(after_word(after_word(line)))))

@@ -122,7 +122,7 @@ pub(crate) fn push_entries<L: Lookaside>(
     station: &Station<L>,
 ) -> Result<(), AllocError>
     ensures { OnOk result (string_bytes line.new
-        ≡ string_bytes line.old ++ entries_text 0 station.now.core.entries) }
+        ≡ string_bytes line.old ++ entries_text 0 station.now.held.core.entries) }
 {
     for slot in 0..station.slots() {
         push_entry(line, slot, station.entry(slot))?;
@@ -137,7 +137,7 @@ pub(crate) fn push_processor<L: Lookaside>(
     station: &Station<L>,
 ) -> Result<(), AllocError>
     ensures { OnOk result (string_bytes line.new
-        ≡ string_bytes line.old ++ processor_text counts.now station.now.core.entries) }
+        ≡ string_bytes line.old ++ processor_text counts.now station.now.held.core.entries) }
 {
     push_counts(line, counts)?;
     push_entries(line, station)

@@ -35,8 +35,8 @@ impl Progress {
         station: &Station<L>,
         owed: bool,
     ) -> Result<(), AllocError>
-        requires owed { owed ≡ is_some station.now.kept.state.owed }
-        ensures { OnOk result (self.new ≡ progress_held owed view.now self.old station.now) }
+        requires owed { owed ≡ is_some station.now.held.kept.state.owed }
+        ensures { OnOk result (self.new ≡ progress_held owed view.now self.old station.now.held) }
     {
         self.counts.add(view, &self.before, station, owed)?;
         self.before.look(view, station, owed)

@@ -34,7 +34,7 @@ pub(crate) struct Sheet {
 
 /// What was logged since the log had so many bytes.
 pub(crate) fn logged_since<L: Lookaside>(station: &Station<L>, before: usize) -> &[u8]
-    ensures { result.now ≡ drop before station.now.kept.log }
+    ensures { result.now ≡ drop before station.now.held.kept.log }
 {
     match station.log().get(before..) {
         Some(logged) => logged,
@@ -75,7 +75,7 @@ impl Sheet {
     ) -> Result<(), AllocError>
         ensures { OnOk result (self.new.text.items ≡ self.old.text.items
             ++ unit_told view.now start.now logged.now
-            (found_held start.now.process station.now)) }
+            (found_held start.now.process station.now.held)) }
     {
         if view.shows_unit(start.process, start.call.is_some()) {
             self.line.clear();
@@ -97,7 +97,7 @@ impl Sheet {
     ) -> Result<(), AllocError>
         ensures { OnOk result (self.new.text.items ≡ self.old.text.items
             ++ boundary_text view.now before.now
-            (found_held (process_in before.now.start) station.now)) }
+            (found_held (process_in before.now.start) station.now.held)) }
     {
         if !view.shows_rest() {
             return Ok(());
@@ -122,7 +122,7 @@ impl Sheet {
     ) -> Result<(), AllocError>
         ensures { OnOk result (self.new.text.items ≡ self.old.text.items
             ++ entries_text view.now before.now
-            (found_held (process_in before.now.start) station.now)) }
+            (found_held (process_in before.now.start) station.now.held)) }
     {
         if !view.shows_entries() {
             return Ok(());
@@ -146,10 +146,10 @@ impl Sheet {
         station: &Station<L>,
         owed: bool,
     ) -> Result<(), AllocError>
-        requires owed { owed ≡ is_some station.now.kept.state.owed }
+        requires owed { owed ≡ is_some station.now.held.kept.state.owed }
         ensures { OnOk result (self.new.text.items ≡ self.old.text.items
             ++ done_text view.now before.now
-            (found_held (process_in before.now.start) station.now) before.now.start) }
+            (found_held (process_in before.now.start) station.now.held) before.now.start) }
     {
         match before.start {
             Some(start) => {
@@ -176,7 +176,7 @@ impl Sheet {
     ) -> Result<(), AllocError>
         ensures { OnOk result (self.new.text.items ≡ self.old.text.items
             ++ changes_text view.now before.now
-            (found_held (process_in before.now.start) station.now)) }
+            (found_held (process_in before.now.start) station.now.held)) }
     {
         if !view.shows_switches() {
             return Ok(());
@@ -217,9 +217,9 @@ impl Sheet {
         station: &Station<L>,
         owed: bool,
     ) -> Result<(), AllocError>
-        requires owed { owed ≡ is_some station.now.kept.state.owed }
+        requires owed { owed ≡ is_some station.now.held.kept.state.owed }
         ensures { OnOk result (self.new.text.items ≡ self.old.text.items
-            ++ half_held view.now counts.now before.now station.now) }
+            ++ half_held view.now counts.now before.now station.now.held) }
     {
         if !view.shows_turn(before.began) {
             return Ok(());
@@ -238,7 +238,7 @@ impl Sheet {
         station: &Station<L>,
     ) -> Result<(), AllocError>
         ensures { OnOk result (self.new.text.items ≡ self.old.text.items
-            ++ processor_held view.now (string_bytes window.now.lines) counts.now station.now) }
+            ++ processor_held view.now (string_bytes window.now.lines) counts.now station.now.held) }
     {
         if !view.processor {
             return Ok(());
@@ -258,7 +258,7 @@ impl Sheet {
         station: &Station<L>,
     ) -> Result<(), AllocError>
         ensures { OnOk result (self.new.text.items
-            ≡ self.old.text.items ++ end_held view.now counts.now station.now) }
+            ≡ self.old.text.items ++ end_held view.now counts.now station.now.held) }
     {
         push_end(alloc, &mut self.text, &mut self.line, view, counts, station)
     }

@@ -34,8 +34,8 @@ fn slot_of<L: Lookaside>(
     word: Option<u32>,
 ) -> Option<u32>
     requires above { 0 < process }
-    requires within { process ≤ length station.now.kept.state.processes }
-    ensures { result ≡ slot_of (memory_held station.now) process address word }
+    requires within { process ≤ length station.now.held.kept.state.processes }
+    ensures { result ≡ slot_of (memory_held station.now.held) process address word }
 {
     match word {
         Some(word) => {
@@ -85,9 +85,10 @@ impl Start {
     /// The unit of a process.
     fn of<L: Lookaside>(station: &Station<L>, process: u32) -> Start
         requires above { 0 < process }
-        requires within { process ≤ length station.now.kept.state.processes }
-        ensures { result ≡ start_at (memory_held station.now) (general_held station.now process)
-            station.now.kept.state.time process (address_held station.now process) }
+        requires within { process ≤ length station.now.held.kept.state.processes }
+        ensures { result ≡ start_at (memory_held station.now.held)
+            (general_held station.now.held process)
+            station.now.held.kept.state.time process (address_held station.now.held process) }
     {
         let address = station.address(process);
         let word = station.word_at(process, address);
@@ -103,7 +104,7 @@ impl Start {
 
     /// The unit of the process that runs, if one does.
     pub(crate) fn next<L: Lookaside>(station: &Station<L>) -> Option<Start>
-        ensures { result ≡ start_held station.now (first station.now.kept.state.ready) }
+        ensures { result ≡ start_held station.now.held (first station.now.held.kept.state.ready) }
     {
         match station.runner() {
             Some(process) => Some(Start::of(station, process)),

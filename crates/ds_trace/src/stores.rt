@@ -87,8 +87,8 @@ fn push_stored_word(line: &mut String, address: u32, word: Option<u32>) -> Resul
 
 /// The word at an address, where there is such a process, and it may fetch it.
 fn word_seen<L: Lookaside>(station: &Station<L>, process: u32, address: u32) -> Option<u32>
-    ensures { result ≡ word_seen (memory_held station.now)
-        (length station.now.kept.state.processes) process address }
+    ensures { result ≡ word_seen (memory_held station.now.held)
+        (length station.now.held.kept.state.processes) process address }
 {
     if process == 0 || process > station.processes() {
         None
@@ -105,7 +105,7 @@ pub(crate) fn push_stored<L: Lookaside>(
     address: Option<u32>,
 ) -> Result<(), AllocError>
     ensures { OnOk result (string_bytes line.new ≡ string_bytes line.old
-        ++ stored_text (memory_held station.now) (length station.now.kept.state.processes)
+        ++ stored_text (memory_held station.now.held) (length station.now.held.kept.state.processes)
         process address) }
 {
     match address {

@@ -38,11 +38,12 @@ fn tell_half<L: Lookaside>(
     sheet: &mut Sheet,
     progress: &mut Progress,
 ) -> Result<(), AllocError>
-    requires owed { owed ≡ is_some station.now.kept.state.owed }
+    requires owed { owed ≡ is_some station.now.held.kept.state.owed }
     ensures text { OnOk result (sheet.new.text.items
-        ≡ sheet.old.text.items ++ half_held view.now progress.old.counts progress.old.before station.now) }
+        ≡ sheet.old.text.items
+        ++ half_held view.now progress.old.counts progress.old.before station.now.held) }
     ensures next { OnOk result
-        (progress.new ≡ progress_held owed view.now progress.old station.now) }
+        (progress.new ≡ progress_held owed view.now progress.old station.now.held) }
 {
     sheet.push_half(view, &progress.counts, &progress.before, station, owed)?;
     progress.go_on(view, station, owed)
@@ -56,9 +57,9 @@ fn tell_step<L: Lookaside>(
     sheet: &mut Sheet,
     progress: &mut Progress,
 ) -> Result<(), AllocError>
-    requires unit { step ≡ Step.Unit → is_some station.now.kept.state.owed ≡ true }
-    requires boundary { step ≡ Step.Boundary → is_some station.now.kept.state.owed ≡ false }
-    ensures { OnOk result (Adds step view.now station.now sheet.old.text.items progress.old
+    requires unit { step ≡ Step.Unit → is_some station.now.held.kept.state.owed ≡ true }
+    requires boundary { step ≡ Step.Boundary → is_some station.now.held.kept.state.owed ≡ false }
+    ensures { OnOk result (Adds step view.now station.now.held sheet.old.text.items progress.old
         sheet.new.text.items progress.new) }
 {
     match step {
@@ -92,15 +93,15 @@ fn advance<L: Lookaside>(
     counts: &mut ProcessorCounts,
     window: &mut WindowEnd,
 ) -> Result<Result<bool, Fault>, AllocError>
-    requires early { station.old.kept.state.owed ≡ None
-        → station.old.kept.state.time < 1000000000 }
-    requires working { station.old.own.failed ≡ false }
+    requires early { station.old.held.kept.state.owed ≡ None
+        → station.old.held.kept.state.time < 1000000000 }
+    requires working { station.old.held.own.failed ≡ false }
     requires few { total counts.old < 2 ^ 62 }
-    ensures tells { IfOk result (λ r. Advances r view.now station.old station.new
+    ensures tells { IfOk result (λ r. Advances r view.now station.old.held station.new.held
         sheet.old.text.items progress.old sheet.new.text.items progress.new) }
     ensures counted { IfOk result
-        (λ r. CountsStep r station.old station.new counts.old counts.new) }
-    ensures watches { IfOk result (λ r. WatchesAfter r progress.new.before.owed station.new
+        (λ r. CountsStep r station.old.held station.new.held counts.old counts.new) }
+    ensures watches { IfOk result (λ r. WatchesAfter r progress.new.before.owed station.new.held
         window.old window.new) }
 {
     let stage = station.stage();
@@ -150,7 +151,7 @@ fn hand_on<O: Output>(sheet: &mut Sheet, out: &mut O) -> Result<(), Fault>
 
 /// Whether a boundary is owed, or the time of a run for n is not over.
 fn is_before<L: Lookaside>(station: &Station<L>, n: u64, before: &Before) -> bool
-    ensures { result ≡ (before.now.owed || nat_lt station.now.kept.state.time n) }
+    ensures { result ≡ (before.now.owed || nat_lt station.now.held.kept.state.time n) }
 {
     before.owed || station.time() < n
 }
@@ -182,25 +183,25 @@ fn follow<L: Lookaside, O: Output>(
     out: &mut O,
 ) -> Result<Option<Fault>, Fault>
     requires few { n ≤ 1000000000 }
-    requires sound { IsSound station.old }
-    requires working { station.old.own.failed ≡ false }
-    requires spent { station.old.own.spent ≡ 0 }
-    requires unowed { station.old.kept.state.owed ≡ None }
+    requires sound { IsSound station.old.held }
+    requires working { station.old.held.own.failed ≡ false }
+    requires spent { station.old.held.own.spent ≡ 0 }
+    requires unowed { station.old.held.kept.state.owed ≡ None }
     requires empty { sheet.old.text.items ≡ [] }
     requires none { progress.old.counts ≡ none_counted }
     requires uncounted { counts.old ≡ none_processed }
     requires awaited { window.old.awaited ≡ window_end view.now }
     requires unleft { string_bytes window.old.lines ≡ [] }
-    ensures ok { IfOk result (λ cut. TellsAll cut view.now n station.old station.new
+    ensures ok { IfOk result (λ cut. TellsAll cut view.now n station.old.held station.new.held
         (O.contents out.old) (O.contents out.new) sheet.new.text.items progress.new.counts) }
     ensures counted { OnOk result
-        (HasCounted (window_end view.now) (told_from view.now n) n station.old station.new
+        (HasCounted (window_end view.now) (told_from view.now n) n station.old.held station.new.held
         counts.new (string_bytes window.new.lines)) }
     ensures err { OnErr result
-        (TracesPart view.now n station.old (O.contents out.old) (O.contents out.new)) }
+        (TracesPart view.now n station.old.held (O.contents out.old) (O.contents out.new)) }
     ensures late { IfErr result IsLate }
     ensures short { IfErr result (λ f. f ≡ fault.Memory
-        → TracesLines view.now n station.old (O.contents out.old) (O.contents out.new)) }
+        → TracesLines view.now n station.old.held (O.contents out.old) (O.contents out.new)) }
     ensures once { IsAskedOnce (O.answers out.old) (O.answers out.new) (is_unwritten result) }
 {
     let ran = station.run(silent_until(view, n));
@@ -233,10 +234,10 @@ fn finish<L: Lookaside, O: Output>(
     out: &mut O,
 ) -> Result<(), Fault>
     ensures ok { OnOk result (IsFinished view.now counts.now (O.contents out.old)
-        (O.contents out.new) sheet.old.text.items station.now) }
+        (O.contents out.new) sheet.old.text.items station.now.held) }
     ensures err { OnErr result (AppendsPart (O.contents out.old) (O.contents out.new)
-        (sheet.old.text.items ++ end_held view.now counts.now station.now
-        ++ held_text station.now)) }
+        (sheet.old.text.items ++ end_held view.now counts.now station.now.held
+        ++ held_text station.now.held)) }
     ensures late { IfErr result IsLate }
     ensures short { IfErr result (λ f. f ≡ fault.Memory
         → Keeps (O.contents out.old) (O.contents out.new)) }
@@ -262,16 +263,17 @@ pub(crate) fn tell<L: Lookaside, O: Output>(
     out: &mut O,
 ) -> Result<(), Fault>
     requires few { n ≤ 1000000000 }
-    requires sound { IsSound station.old }
-    requires working { station.old.own.failed ≡ false }
-    requires spent { station.old.own.spent ≡ 0 }
-    requires unowed { station.old.kept.state.owed ≡ None }
-    ensures ok { OnOk result (Traces view.now n station.old (O.contents out.old) (O.contents out.new)) }
+    requires sound { IsSound station.old.held }
+    requires working { station.old.held.own.failed ≡ false }
+    requires spent { station.old.held.own.spent ≡ 0 }
+    requires unowed { station.old.held.kept.state.owed ≡ None }
+    ensures ok { OnOk result
+        (Traces view.now n station.old.held station.new.held (O.contents out.old) (O.contents out.new)) }
     ensures err { OnErr result
-        (TracesPart view.now n station.old (O.contents out.old) (O.contents out.new)) }
+        (TracesPart view.now n station.old.held (O.contents out.old) (O.contents out.new)) }
     ensures late { IfErr result IsLate }
     ensures short { IfErr result (λ f. f ≡ fault.Memory
-        → TracesShort view.now n station.old (O.contents out.old) (O.contents out.new)) }
+        → TracesShort view.now n station.old.held (O.contents out.old) (O.contents out.new)) }
     ensures once { IsAskedOnce (O.answers out.old) (O.answers out.new) (is_unwritten result) }
 {
     let mut sheet = Sheet::new(alloc);

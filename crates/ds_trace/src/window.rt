@@ -45,7 +45,7 @@ fn ends_later(end: Option<u64>, time: u64) -> bool
 /// Adds at which time a run left the window, and the entries of the buffer then.
 fn push_window<L: Lookaside>(line: &mut String, station: &Station<L>) -> Result<(), AllocError>
     ensures { OnOk result
-        (string_bytes line.new ≡ string_bytes line.old ++ left_text station.now) }
+        (string_bytes line.new ≡ string_bytes line.old ++ left_text station.now.held) }
 {
     line.push_str("entries at ")?;
     push_decimal(line, station.time())?;
@@ -72,7 +72,7 @@ impl WindowEnd {
         station: &Station<L>,
         owed: bool,
     ) -> Result<(), AllocError>
-        ensures { OnOk result (WatchesAt owed station.now self.old self.new) }
+        ensures { OnOk result (WatchesAt owed station.now.held self.old self.new) }
     {
         if owed || ends_later(self.awaited, station.time()) {
             return Ok(());

@@ -1,34 +1,16 @@
-use Rattle.std.proofs.Common.{subst}
-use Rattle.ds_station.specs.Headline.{Refuses, sources_seen}
-use Rattle.ds_station.proofs.Headlines.{keeps_same, refused_unasked}
-use Rattle.ds_trace.proofs.Inputs.{begins_at, cut_really, refused_really, refused_untold, refused_only, told_ok, told_err, told_really}
+use Rattle.std.proofs.Common.{Bool, Result, subst}
+use Rattle.ds_log.specs.Sent.{IsAskedOnce}
+use Rattle.ds_station.specs.Station.{StationValue}
+use Rattle.ds_station.specs.Faults.{is_unwritten}
+use Rattle.ds_station.specs.declared.fault.Fault.{Fault}
+use Rattle.ds_station.proofs.Outcomes.{unwritten_alike}
+use Rattle.ds_trace.proofs.Inputs.{by_any}
 use Rattle.ds_trace.proofs.files.trace_policy.Goals as goal
 
-pub returns-in-Err-clause-err : goal.returns-in-Err-clause-err
-returns-in-Err-clause-err g c = refused_untold c.in-Err.refused c.args.view.now _ _ _ c.args.n c.in-Err.ensures.err (keeps_same (g.O.Output.contents c.args.out.now))
-
-pub returns-in-Err-clause-cut : goal.returns-in-Err-clause-cut
-returns-in-Err-clause-cut g c = refused_really c.in-Err.refused c.args.view.now _ _ _ _ c.args.n c.args.random c.in-Err.ensures.err (keeps_same (g.O.Output.contents c.args.out.now))
-
-pub returns-in-Err-clause-refused : goal.returns-in-Err-clause-refused
-returns-in-Err-clause-refused g c = λ r e. (subst (Refuses c.in-Err.refused) e c.in-Err.ensures.err, keeps_same (g.O.Output.contents c.args.out.now))
-
 pub returns-clause-ok : goal.returns-clause-ok
-returns-clause-ok g c = told_ok c.tell.result c.args.view.now _ c.in-Ok.station _ _ c.args.n c.in-Ok.ensures.ok c.tell.ensures.ok
-
-pub returns-clause-err : goal.returns-clause-err
-returns-clause-err g c = told_err c.tell.result c.args.view.now _ c.in-Ok.station _ _ c.args.n c.in-Ok.ensures.ok c.tell.ensures.err c.tell.ensures.late c.tell.ensures.short
-
-pub returns-clause-real : goal.returns-clause-real
-returns-clause-real g c = told_really c.tell.result c.args.view.now _ c.in-Ok.station _ _ c.args.n c.args.random
-    (begins_at c.in-Ok.station c.args.policy.now (sources_seen c.args.sources.now) c.args.input.now c.args.n c.args.random c.args.random c.in-Ok.ensures.ok c.in-Ok.ensures.real) c.tell.ensures.ok
-
-pub returns-clause-cut : goal.returns-clause-cut
-returns-clause-cut g c = cut_really c.tell.result c.args.view.now _ c.in-Ok.station _ _ c.args.n c.args.random
-    (begins_at c.in-Ok.station c.args.policy.now (sources_seen c.args.sources.now) c.args.input.now c.args.n c.args.random c.args.random c.in-Ok.ensures.ok c.in-Ok.ensures.real) c.tell.ensures.err c.tell.ensures.late c.tell.ensures.short
-
-pub returns-clause-refused : goal.returns-clause-refused
-returns-clause-refused g c = refused_only c.tell.result c.args.view.now _ _ _ c.args.n (returns-clause-ok g c) (returns-clause-err g c)
+returns-clause-ok g c = by_any c.args.view.now _ _ _ _ c.args.n c.in-Ok.ensures.ok
 
 pub returns-in-Err-clause-once : goal.returns-in-Err-clause-once
-returns-in-Err-clause-once g c = refused_unasked c.in-Err.refused _ (g.O.Output.answers c.args.out.now) c.in-Err.ensures.err
+returns-in-Err-clause-once g c =
+    subst (λ (b : Bool). IsAskedOnce (g.O.Output.answers c.args.out.now) (g.O.Output.answers c.trace_station.new.out) b) (unwritten_alike StationValue (Unit {0}) c.in-Err.fault)
+    (subst (λ (r : Result StationValue Fault). IsAskedOnce (g.O.Output.answers c.args.out.now) (g.O.Output.answers c.trace_station.new.out) (is_unwritten r)) c.in-Err.is c.trace_station.ensures.once)

@@ -11,11 +11,11 @@ returns-in_err-push_end-clause-err g c = at_err c.from_residual.result (part_non
 
 pub returns-in_err-hand_all-clause-err : goal.returns-in_err-hand_all-clause-err
 returns-in_err-hand_all-clause-err g c = at_err c.from_residual-in_err-hand_all.result
-    (cut_trace _ _ c.args.sheet.now.text.items (end_held c.args.view.now c.args.counts.now c.args.station.now) _ (held_text c.args.station.now) c.in_ok-push_end.ensures c.in_err-hand_all.ensures.err)
+    (cut_trace _ _ c.args.sheet.now.text.items (end_held c.args.view.now c.args.counts.now c.args.station.now.held) _ (held_text c.args.station.now.held) c.in_ok-push_end.ensures c.in_err-hand_all.ensures.err)
 
 pub returns-in-Err-clause-err : goal.returns-in-Err-clause-err
 returns-in-Err-clause-err g c =
-    cut_text _ _ _ c.args.sheet.now.text.items (end_held c.args.view.now c.args.counts.now c.args.station.now) _ (held_text c.args.station.now) c.in_ok-push_end.ensures c.in_ok-hand_all.ensures.ok c.in-Err.ensures.err
+    cut_text _ _ _ c.args.sheet.now.text.items (end_held c.args.view.now c.args.counts.now c.args.station.now.held) _ (held_text c.args.station.now.held) c.in_ok-push_end.ensures c.in_ok-hand_all.ensures.ok c.in-Err.ensures.err
 
 pub returns-in_err-push_end-clause-short : goal.returns-in_err-push_end-clause-short
 returns-in_err-push_end-clause-short g c = short_err c.from_residual.result _ (keeps_same _)
