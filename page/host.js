@@ -1,10 +1,12 @@
-// The system that the program runs on in a page: words, files in memory, two streams and a heap, by ten functions.
+// The system that the program runs on in a page: words, files in memory, two streams and a heap, by eleven functions.
 // It stands where the C library and Linux stand for the native program, and like them it is trusted and not proved.
 "use strict";
 (function (dsmon) {
   // Numbers of errors, as Linux has them.
   const NO_SUCH_FILE = 2, BAD_DESCRIPTOR = 9, NOT_ALLOWED = 13, NO_SPACE = 28;
   const ACCESS_BITS = 3;
+  // What Linux says of a file by its name: where the mode stands, and the mode of a file that is to be read.
+  const MODE_AT = 28, FILE_MODE = 0o100444;
   const FIRST_FILE = 3;
   const MEBIBYTE = 1 << 20;
   // How far a run may go: bytes of memory, and bytes of text on standard output.
@@ -140,6 +142,13 @@
       return this.nextDescriptor++;
     }
 
+    // Each name is that of a file, and of no link, folder or device.
+    statx(path, found) {
+      if (!Object.hasOwn(this.files, this.nameAt(path))) return this.fail(NO_SUCH_FILE);
+      new DataView(this.memory.buffer).setUint16(Number(found) + MODE_AT, FILE_MODE, true);
+      return 0;
+    }
+
     read(descriptor, at, length) {
       const file = this.descriptors.get(descriptor);
       if (!file) return this.fail(BAD_DESCRIPTOR);
@@ -161,7 +170,7 @@
       return Number(length);
     }
 
-    // The ten functions by the names that the module imports. Where C has a long, the module has a big integer.
+    // The eleven functions by the names that the module imports. Where C has a long, the module has a big integer.
     imports() {
       return {
         rattle_alloc: (answer, length) => this.allocate(answer, length),
@@ -171,6 +180,7 @@
         rattle_errno: () => this.error,
         rattle_set_errno: (error) => { this.error = error; },
         open: (path, flags) => this.open(path, flags),
+        statx: (folder, path, flags, mask, found) => this.statx(path, found),
         close: (descriptor) => this.close(descriptor),
         read: (descriptor, at, length) => BigInt(this.read(descriptor, at, length)),
         write: (descriptor, at, length) => BigInt(this.write(descriptor, at, length)),

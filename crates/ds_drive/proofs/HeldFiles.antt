@@ -1,5 +1,5 @@
 -- What was read of the files is what they hold.
-use Rattle.std.proofs.Common.{◌≡◌, ◌∙◌, ℕ, List, [], ◌∷◌, map, refl, sym, ap, subst}
+use Rattle.std.proofs.Common.{◌≡◌, ◌∙◌, ℕ, Bool, List, [], ◌∷◌, map, refl, sym, ap, subst}
 use Rattle.std.specs.Prelude.{Result, Ok, Err, All}
 use Rattle.std.proofs.lemmas.List.Elements.{All-map, All-weaker}
 use Rattle.ds_policy.specs.PolicyText.{policy_of}
@@ -17,6 +17,7 @@ use Rattle.ds_station.specs.Headline.{Begins, Loaded, loaded}
 use Rattle.ds_drive.specs.Checked.{IsInput}
 use Rattle.ds_words.specs.declared.words.Request.{Request}
 use Rattle.ds_drive.specs.declared.run.SourceText.{SourceText}
+use Rattle.ds_drive.specs.Inside.{outside_of}
 use Rattle.ds_drive.specs.Failures.{AreHeld, HoldsInputs, OfHeld, RunsFiles}
 use Rattle.ds_drive.specs.Ran.{OfHeldLoaded, RunsAlone, RunsGuarded}
 
@@ -57,20 +58,27 @@ pub input_kept : (holds later : List ℕ → List ℕ → Type 0) (name : Option
 input_kept holds later None input kept none = none
 input_kept holds later (Some name) input kept found = kept name.now input found
 
+-- no source of the policy's value is outside the folder in which they have to be
+pub inside_held : (inside : Bool) (policy : List ℕ) (a b : PolicyValue) → policy_of policy ≡ Ok a → policy_of policy ≡ Ok b
+    → outside_of inside (sources_of a.pages) ≡ None → outside_of inside (sources_of b.pages) ≡ None
+inside_held inside policy a b x y none = subst (λ (v : PolicyValue). outside_of inside (sources_of v.pages) ≡ None) (same_value (policy_of policy) a b x y) none
+
 -- the policy, its sources and the input as they were read, one after the other
 pub are_held : (holds later : List ℕ → List ℕ → Type 0) (request : Request) (policy input : List ℕ) (texts : List SourceText) (sources : Sources) (value : PolicyValue)
     → holds request.policy.now policy → holds request.input.now input
     → ((file bytes : List ℕ) → later file bytes → holds file bytes)
     → All (λ s. later s.name s.text.items) texts
     → map (λ s. s.name) texts ≡ sources_of value.pages
+    → outside_of request.inside (sources_of value.pages) ≡ None
     → policy_of policy ≡ Ok value
     → sources ≡ map (λ s. (s.name, s.text.items)) texts
     → AreHeld holds request policy sources input
-are_held holds later request policy input texts sources value first second kept found names read lent = record {
+are_held holds later request policy input texts sources value first second kept found names inside read lent = record {
   policy_held = first;
   input_held = second;
   sources_held = all_held holds later texts sources kept found lent;
   sources_named = λ v is. names_held texts sources (sources_of v.pages) lent (names ∙ ap (λ (x : PolicyValue). sources_of x.pages) (same_value (policy_of policy) value v read is));
+  sources_inside = λ v is. inside_held request.inside policy value v read is inside;
 }
 
 -- what holds of the inputs under the policy's value holds of those of the texts

@@ -5,6 +5,7 @@ pub mod Faulty
 pub mod Heard
 pub mod HeldFiles
 pub mod Noting
+pub mod Outside
 pub mod ReadingStatuses
 pub mod Readings
 pub mod Stops

@@ -1,5 +1,5 @@
 -- How a command reads its files, and the status with which the program ends.
-use Rattle.std.proofs.Common.{◌≡◌, inl, inr, ℕ, List, [], ◌∷◌}
+use Rattle.std.proofs.Common.{◌≡◌, inl, inr, ℕ, Bool, List, [], ◌∷◌}
 use Rattle.std.specs.Prelude.{Option, Some, None}
 use Rattle.clap.specs.Words.{Text}
 use Rattle.ds_station.specs.declared.fault.Fault.TheVariants as fault
@@ -14,9 +14,9 @@ use Rattle.ds_drive.specs.declared.failure.Failure.TheVariants as failure
 use Rattle.ds_drive.specs.declared.files.FileFault.{FileFault}
 use Rattle.ds_drive.specs.declared.files.FileFault.TheVariants as file
 use Rattle.ds_drive.specs.Failures.{failure_number}
-use Rattle.ds_drive.specs.Reading.{AskedFile, HasStatus, AreInOrder, ReadsAll, ReadsFor, ReadsRun, ReadsRunUntil, ReadsUntil, TellsOf, bare_names, input_names}
+use Rattle.ds_drive.specs.Reading.{AskedFile, HasStatus, ReadsAll, ReadsFor, ReadsRun, ReadsRunUntil, ReadsUntil, TellsOf, TellsOfRun, bare_names, input_names}
 use Rattle.ds_drive.specs.Statuses.{fault_status}
-use Rattle.ds_drive.proofs.Readings.{none_read, read_all, run_read_until}
+use Rattle.ds_drive.proofs.Readings.{none_read, read_all, run_read_until, until_so}
 
 -- what is told of a file that was not read has its status
 has_status : (f : Failure) (status : ℕ) (unread : Option (List ℕ × FileFault)) → status ≡ fault_status (failure_number f) → TellsOf f unread → HasStatus status unread
@@ -26,19 +26,16 @@ has_status (failure.UnreadableFile told) status (Some (name, file.Unreadable)) i
 has_status (failure.UnreadableSource told) status (Some (name, file.Unreadable)) is tells = is
 has_status f status (Some (name, fault)) is none = absurd none
 
+-- so where a run is not read
+has_status_run : (inside : Bool) (f : Failure) (status : ℕ) (unread : Option (List ℕ × FileFault)) → status ≡ fault_status (failure_number f) → TellsOfRun inside f unread → HasStatus status unread
+has_status_run inside f status None is tells = tt
+has_status_run inside (failure.UnreadableSource told) status (Some u) is tells = has_status (failure.UnreadableSource told) status (Some u) is tells
+has_status_run inside (failure.UnreadableFile told) status (Some u) is tells = has_status (failure.UnreadableFile told) status (Some u) is tells
+has_status_run inside (failure.Fault x) status (Some u) is tells = has_status (failure.Fault x) status (Some u) is tells
+
 module _ (P Q : Option (List ℕ × FileFault) → Type 0) (so : (unread : Option (List ℕ × FileFault)) → P unread → Q unread) where
-  order_so : (names : List (List ℕ)) (asked : List AskedFile) → AreInOrder P names asked → AreInOrder Q names asked
-  order_so [] [] order = so None order
-  order_so (name ∷ names) [] order = so None order
-  order_so [] (a ∷ asked) order = absurd order
-  order_so (name ∷ names) ((n, None) ∷ asked) order = (order.0, order_so names asked order.1)
-  order_so (name ∷ names) ((n, Some fault) ∷ asked) order = (order.0, order.1, so (Some (name, fault)) order.2)
-
-  until_so : (names : List (List ℕ)) (old new : Option (List AskedFile)) → ReadsUntil P names old new → ReadsUntil Q names old new
-  until_so names old new r = record { asked = r.asked; has = r.has; in_order = order_so names r.asked r.in_order }
-
   run_until_so : (holds : List ℕ → List ℕ → Type 0) (policy : List ℕ) (input : List (List ℕ)) (old new : Option (List AskedFile)) → ReadsRunUntil P holds policy input old new → ReadsRunUntil Q holds policy input old new
-  run_until_so holds policy input old new r = record { names = r.names; named = r.named; until = until_so r.names old new r.until }
+  run_until_so holds policy input old new r = record { names = r.names; named = r.named; until = until_so P Q so r.names old new r.until }
 
 -- no file was asked for
 pub no_file_asked : (status : ℕ) (words : List Text) (holds : List ℕ → List ℕ → Type 0) (known : Option (List AskedFile)) → ReadsFor status words holds known known
@@ -56,8 +53,8 @@ module _ (status : ℕ) (words : List Text) (holds : List ℕ → List ℕ → T
   run_reads request asks r = inr (inl (request, asks, run_read_until holds request.policy.now (request.input.now ∷ []) (HasStatus status) old new r tt))
 
   -- or not all of them
-  pub run_reads_until : (request : Request) (f : Failure) → status ≡ fault_status (failure_number f) → AsksForRun words request → ReadsRunUntil (TellsOf f) holds request.policy.now (request.input.now ∷ []) old new → ReadsFor status words holds old new
-  run_reads_until request f has asks r = inr (inl (request, asks, run_until_so (TellsOf f) (HasStatus status) (λ u t. has_status f status u has t) holds request.policy.now (request.input.now ∷ []) old new r))
+  pub run_reads_until : (request : Request) (f : Failure) → status ≡ fault_status (failure_number f) → AsksForRun words request → ReadsRunUntil (TellsOfRun request.inside f) holds request.policy.now (request.input.now ∷ []) old new → ReadsFor status words holds old new
+  run_reads_until request f has asks r = inr (inl (request, asks, run_until_so (TellsOfRun request.inside f) (HasStatus status) (λ u t. has_status_run request.inside f status u has t) holds request.policy.now (request.input.now ∷ []) old new r))
 
   -- that of a listing
   pub list_reads : (request : ListRequest) → AsksForList words request → ReadsAll (request.file.now ∷ []) old new → ReadsFor status words holds old new
@@ -70,9 +67,9 @@ module _ (status : ℕ) (words : List Text) (holds : List ℕ → List ℕ → T
   pub check_reads : (request : CheckRequest) → AsksForCheck words request → ReadsRun holds request.policy.now (input_names request.input) old new → ReadsFor status words holds old new
   check_reads request asks r = inr (inr (inr (inl (request, asks, run_read_until holds request.policy.now (input_names request.input) (HasStatus status) old new r tt))))
 
-  pub check_reads_until : (request : CheckRequest) (f : Failure) → status ≡ fault_status (failure_number f) → AsksForCheck words request → ReadsRunUntil (TellsOf f) holds request.policy.now (input_names request.input) old new → ReadsFor status words holds old new
+  pub check_reads_until : (request : CheckRequest) (f : Failure) → status ≡ fault_status (failure_number f) → AsksForCheck words request → ReadsRunUntil (TellsOfRun request.inside f) holds request.policy.now (input_names request.input) old new → ReadsFor status words holds old new
   check_reads_until request f has asks r =
-      inr (inr (inr (inl (request, asks, run_until_so (TellsOf f) (HasStatus status) (λ u t. has_status f status u has t) holds request.policy.now (input_names request.input) old new r))))
+      inr (inr (inr (inl (request, asks, run_until_so (TellsOfRun request.inside f) (HasStatus status) (λ u t. has_status_run request.inside f status u has t) holds request.policy.now (input_names request.input) old new r))))
 
   -- those of a run on the bare machine
   pub bare_reads : (request : BareRequest) → AsksForBare words request → ReadsAll (bare_names request) old new → ReadsFor status words holds old new
@@ -85,6 +82,6 @@ module _ (status : ℕ) (words : List Text) (holds : List ℕ → List ℕ → T
   pub trace_reads : (request : TraceRequest) → AsksForTrace words request → ReadsRun holds request.run.policy.now (request.run.input.now ∷ []) old new → ReadsFor status words holds old new
   trace_reads request asks r = inr (inr (inr (inr (inr (request, asks, run_read_until holds request.run.policy.now (request.run.input.now ∷ []) (HasStatus status) old new r tt)))))
 
-  pub trace_reads_until : (request : TraceRequest) (f : Failure) → status ≡ fault_status (failure_number f) → AsksForTrace words request → ReadsRunUntil (TellsOf f) holds request.run.policy.now (request.run.input.now ∷ []) old new → ReadsFor status words holds old new
+  pub trace_reads_until : (request : TraceRequest) (f : Failure) → status ≡ fault_status (failure_number f) → AsksForTrace words request → ReadsRunUntil (TellsOfRun request.run.inside f) holds request.run.policy.now (request.run.input.now ∷ []) old new → ReadsFor status words holds old new
   trace_reads_until request f has asks r =
-      inr (inr (inr (inr (inr (request, asks, run_until_so (TellsOf f) (HasStatus status) (λ u t. has_status f status u has t) holds request.run.policy.now (request.run.input.now ∷ []) old new r)))))
+      inr (inr (inr (inr (inr (request, asks, run_until_so (TellsOfRun request.run.inside f) (HasStatus status) (λ u t. has_status_run request.run.inside f status u has t) holds request.run.policy.now (request.run.input.now ∷ []) old new r)))))

@@ -1,15 +1,16 @@
 -- Files that are read one after another.
-use Rattle.std.proofs.Common.{◌≡◌, ◌∙◌, ◌<◌, ℕ, suc, List, [], ◌∷◌, ◌++◌, refl, sym, ap, subst, append-nil, append_assoc, length, get_or, take, inl, inr}
+use Rattle.std.proofs.Common.{◌≡◌, ◌∙◌, ◌<◌, ℕ, Bool, suc, List, [], ◌∷◌, ◌++◌, refl, sym, ap, subst, append-nil, append_assoc, length, get_or, take, inl, inr}
 use Rattle.std.specs.Prelude.{Option, Some, None, Result, Ok, drop}
 use Rattle.std.proofs.Math.Seq.{take-suc}
 use Rattle.std.proofs.lemmas.List.{map-append, take-append-drop}
 use Rattle.ds_drive.specs.declared.failure.Failure.{Failure}
+use Rattle.ds_drive.specs.declared.failure.Failure.TheVariants as failure
 use Rattle.ds_drive.specs.declared.files.FileFault.{FileFault}
 use Rattle.ds_policy.specs.PolicyParts.{sources_of}
 use Rattle.ds_policy.specs.PolicyText.{policy_of}
 use Rattle.ds_policy.specs.Refusal.{PolicyRefusal}
 use Rattle.ds_policy.specs.Value.{PolicyValue}
-use Rattle.ds_drive.specs.Reading.{AskedFile, HasAsked, AreInOrder, ReadsAll, ReadsRun, ReadsRunUntil, ReadsUntil, TellsOf, all_read, run_names, sources_in}
+use Rattle.ds_drive.specs.Reading.{AskedFile, HasAsked, AreInOrder, ReadsAll, ReadsRun, ReadsRunUntil, ReadsUntil, TellsOf, TellsOfRun, all_read, run_names, sources_in}
 
 -- nothing more was asked for
 pub none_asked : (known : Option (List AskedFile)) → HasAsked known known []
@@ -125,6 +126,29 @@ module _ (P : Option (List ℕ × FileFault) → Type 0) where
       → ReadsAll (take k names) old mid → HasAsked mid new ((told, None) ∷ []) → P None → ReadsUntil P names old new
   read_as_far_as names k d told old mid new within is before has so = read_so_far names (suc k) old new (one_more_read names k d told old mid new within is before has) so
 
+module _ (P Q : Option (List ℕ × FileFault) → Type 0) (so : (unread : Option (List ℕ × FileFault)) → P unread → Q unread) where
+  order_so : (names : List (List ℕ)) (asked : List AskedFile) → AreInOrder P names asked → AreInOrder Q names asked
+  order_so [] [] order = so None order
+  order_so (name ∷ names) [] order = so None order
+  order_so [] (a ∷ asked) order = absurd order
+  order_so (name ∷ names) ((n, None) ∷ asked) order = (order.0, order_so names asked order.1)
+  order_so (name ∷ names) ((n, Some fault) ∷ asked) order = (order.0, order.1, so (Some (name, fault)) order.2)
+
+  -- what holds of the file that was not read holds of it in other words
+  pub until_so : (names : List (List ℕ)) (old new : Option (List AskedFile)) → ReadsUntil P names old new → ReadsUntil Q names old new
+  until_so names old new r = record { asked = r.asked; has = r.has; in_order = order_so names r.asked r.in_order }
+
+-- a failure that tells of a file tells of it where a run is read
+as_of_run : (inside : Bool) (f : Failure) (unread : Option (List ℕ × FileFault)) → TellsOf f unread → TellsOfRun inside f unread
+as_of_run inside (failure.UnreadableSource told) None none = absurd none
+as_of_run inside (failure.UnreadableSource told) (Some u) tells = tells
+as_of_run inside (failure.UnreadableFile told) unread tells = tells
+as_of_run inside (failure.Fault x) unread tells = tells
+
+-- so of files up to some place
+pub until_of_run : (inside : Bool) (f : Failure) (names : List (List ℕ)) (old new : Option (List AskedFile)) → ReadsUntil (TellsOf f) names old new → ReadsUntil (TellsOfRun inside f) names old new
+until_of_run inside f names old new r = until_so (TellsOf f) (TellsOfRun inside f) (as_of_run inside f) names old new r
+
 -- the sources of a good policy
 known_sources : (read : Result PolicyValue PolicyRefusal) (value : PolicyValue) (names : List (List ℕ)) → read ≡ Ok value → names ≡ sources_of value.pages → names ≡ sources_in read
 known_sources read value names good are = are ∙ ap sources_in (sym good)
@@ -139,14 +163,14 @@ module _ (holds : List ℕ → List ℕ → Type 0) (policy : List ℕ) (input :
   }
 
   -- the policy's file was not read
-  pub policy_unread_until : (f : Failure) (old new : Option (List AskedFile)) → ReadsUntil (TellsOf f) (policy ∷ []) old new → ReadsRunUntil (TellsOf f) holds policy input old new
-  policy_unread_until f old new r = record { names = policy ∷ []; named = inl refl; until = r }
+  pub policy_unread_until : (inside : Bool) (f : Failure) (old new : Option (List AskedFile)) → ReadsUntil (TellsOf f) (policy ∷ []) old new → ReadsRunUntil (TellsOfRun inside f) holds policy input old new
+  policy_unread_until inside f old new r = record { names = policy ∷ []; named = inl refl; until = until_of_run inside f (policy ∷ []) old new r }
 
   -- it was, and the input's was not
-  pub input_unread_until : (f : Failure) (text : List ℕ) (old mid new : Option (List AskedFile)) → holds policy text → ReadsAll (policy ∷ []) old mid → ReadsUntil (TellsOf f) input mid new
-      → ReadsRunUntil (TellsOf f) holds policy input old new
-  input_unread_until f text old mid new held a r =
-      until_names (TellsOf f) text old mid new held a (more_to_read (TellsOf f) input (sources_in (policy_of text)) mid new r)
+  pub input_unread_until : (inside : Bool) (f : Failure) (text : List ℕ) (old mid new : Option (List AskedFile)) → holds policy text → ReadsAll (policy ∷ []) old mid → ReadsUntil (TellsOf f) input mid new
+      → ReadsRunUntil (TellsOfRun inside f) holds policy input old new
+  input_unread_until inside f text old mid new held a r =
+      until_names (TellsOfRun inside f) text old mid new held a (more_to_read (TellsOfRun inside f) input (sources_in (policy_of text)) mid new (until_of_run inside f input mid new r))
 
   -- both were, and no more were asked for
   pub both_read_until : (P : Option (List ℕ × FileFault) → Type 0) (text : List ℕ) (old mid new : Option (List AskedFile)) → holds policy text → ReadsAll (policy ∷ []) old mid → ReadsAll input mid new → P None
@@ -155,11 +179,11 @@ module _ (holds : List ℕ → List ℕ → Type 0) (policy : List ℕ) (input :
       until_names P text old mid new held a (all_then_until P input (sources_in (policy_of text)) mid new new b (read_no_more P (sources_in (policy_of text)) new so))
 
   -- both were, and not each source
-  pub source_unread_until : (f : Failure) (text : List ℕ) (value : PolicyValue) (names : List (List ℕ)) (old mid late new : Option (List AskedFile)) → holds policy text → policy_of text ≡ Ok value → names ≡ sources_of value.pages
-      → ReadsAll (policy ∷ []) old mid → ReadsAll input mid late → ReadsUntil (TellsOf f) names late new → ReadsRunUntil (TellsOf f) holds policy input old new
-  source_unread_until f text value names old mid late new held good are a b r =
-      until_names (TellsOf f) text old mid new held a (all_then_until (TellsOf f) input (sources_in (policy_of text)) mid late new b
-      (subst (λ (x : List (List ℕ)). ReadsUntil (TellsOf f) x late new) (known_sources (policy_of text) value names good are) r))
+  pub source_unread_until : (inside : Bool) (f : Failure) (text : List ℕ) (value : PolicyValue) (names : List (List ℕ)) (old mid late new : Option (List AskedFile)) → holds policy text → policy_of text ≡ Ok value → names ≡ sources_of value.pages
+      → ReadsAll (policy ∷ []) old mid → ReadsAll input mid late → ReadsUntil (TellsOfRun inside f) names late new → ReadsRunUntil (TellsOfRun inside f) holds policy input old new
+  source_unread_until inside f text value names old mid late new held good are a b r =
+      until_names (TellsOfRun inside f) text old mid new held a (all_then_until (TellsOfRun inside f) input (sources_in (policy_of text)) mid late new b
+      (subst (λ (x : List (List ℕ)). ReadsUntil (TellsOfRun inside f) x late new) (known_sources (policy_of text) value names good are) r))
 
   -- all were read
   pub run_read : (text : List ℕ) (value : PolicyValue) (names : List (List ℕ)) (old mid late new : Option (List AskedFile)) → holds policy text → policy_of text ≡ Ok value → names ≡ sources_of value.pages

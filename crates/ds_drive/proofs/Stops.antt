@@ -29,7 +29,7 @@ use Rattle.ds_words.specs.declared.words.ListRequest.{ListRequest}
 use Rattle.ds_words.specs.declared.words.Request.{Request}
 use Rattle.ds_words.specs.Words.{AsksForDemo, AsksForRun, AsksForList, AsksForCheck}
 use Rattle.ds_drive.specs.declared.run.SourceText.{SourceText}
-use Rattle.ds_drive.proofs.HeldFiles.{all_held, names_held, of_texts, same_value}
+use Rattle.ds_drive.proofs.HeldFiles.{all_held, inside_held, names_held, of_texts, same_value}
 use Rattle.ds_drive.specs.Checked.{ChecksBy, IsInput, IsNotRead, IsUnreadInput, RefusesCheck}
 use Rattle.ds_drive.specs.Demo.{demo_inputs}
 use Rattle.ds_drive.specs.Done.{IsStopped, WantsMemory, stream}
@@ -39,7 +39,8 @@ use Rattle.ds_drive.specs.declared.refused.FaultyPolicy.{FaultyPolicy}
 use Rattle.ds_drive.specs.Told.{below_text, failure_line, listed_faults}
 use Rattle.ds_drive.specs.declared.refused.Refused.{Refused}
 use Rattle.ds_drive.proofs.Faulty.{nothing_mapped, plain_is, policy_at, texts_at}
-use Rattle.ds_drive.specs.Failures.{AreUnread, FilesStop, IsNext, IsUnread, IsUnreadRun, MayBeRead, StopsBy, failure_number}
+use Rattle.ds_drive.specs.Failures.{AreUnread, AreUntaken, FilesStop, IsNext, IsUnread, IsUnreadRun, MayBeRead, StopsBy, failure_number}
+use Rattle.ds_drive.specs.Inside.{outside_of}
 use Rattle.ds_drive.specs.Listed.{FailsBy, HasFaults}
 use Rattle.ds_drive.specs.Statuses.{fault_status, refuses_input}
 
@@ -92,18 +93,27 @@ input_unread holds lacks later request policy (failure.UnreadableFile told) lack
 input_unread holds lacks later request policy (failure.Fault fault.Memory) lacked held unread = inl refl
 input_unread holds lacks later request policy f lacked held none = absurd none
 
--- both were, and the file of a source was not
+-- why a source was not taken, of the policy's sources
+left_of : (inside : Bool) (holds after : List ℕ → List ℕ → Type 0) (lacks later : List ℕ → Type 0) (names sources : List (List ℕ)) (told : List ℕ)
+    → ((file : List ℕ) → later file → lacks file) → ((file bytes : List ℕ) → after file bytes → holds file bytes) → names ≡ sources
+    → AreUntaken inside after later names (failure.UnreadableSource told)
+    → (outside_of inside sources ≡ Some told) ⊎ ((outside_of inside sources ≡ None) × IsNext holds sources told × lacks told)
+left_of inside holds after lacks later names sources told lacked kept are (inl out) = inl (subst (λ (l : List (List ℕ)). outside_of inside l ≡ Some told) are out)
+left_of inside holds after lacks later names sources told lacked kept are (inr left) =
+    inr (subst (λ (l : List (List ℕ)). outside_of inside l ≡ None) are left.0, next_of holds after names sources told kept are left.1.0, lacked told left.1.1)
+
+-- both were, and a source was not taken
 pub source_unread : (holds between after : List ℕ → List ℕ → Type 0) (lacks later : List ℕ → Type 0) (request : Request) (policy input : List ℕ) (value : PolicyValue) (names : List (List ℕ)) (f : Failure)
     → ((file : List ℕ) → later file → lacks file) → ((file bytes : List ℕ) → between file bytes → holds file bytes) → ((file bytes : List ℕ) → after file bytes → between file bytes)
     → holds request.policy.now policy → between request.input.now input → policy_of policy ≡ Ok value → names ≡ sources_of value.pages
-    → AreUnread after later names f → IsUnreadRun f holds lacks request
+    → AreUntaken request.inside after later names f → IsUnreadRun f holds lacks request
 source_unread holds between after lacks later request policy input value names (failure.UnreadableSource told) lacked kept still held second read are unread = (
   (input, kept request.input.now input second),
-  record { policy = policy; value = value; held = held; read = read; next = next_of holds after names (sources_of value.pages) told (λ file bytes h. kept file bytes (still file bytes h)) are unread.0 },
-  lacked told unread.1,
+  record { policy = policy; value = value; held = held; read = read; why = left_of request.inside holds after lacks later names (sources_of value.pages) told lacked (λ file bytes h. kept file bytes (still file bytes h)) are unread },
 )
 source_unread holds between after lacks later request policy input value names (failure.Fault fault.Memory) lacked kept still held second read are unread = inl refl
-source_unread holds between after lacks later request policy input value names f lacked kept still held second read are none = absurd none
+source_unread holds between after lacks later request policy input value names f lacked kept still held second read are (inl none) = absurd none
+source_unread holds between after lacks later request policy input value names f lacked kept still held second read are (inr none) = absurd none.1
 
 -- where not all is read, nothing is written, and what refuses the inputs ends what was to be done with them
 pub unread_stops : (holds : List ℕ → List ℕ → Type 0) (lacks : List ℕ → Type 0) (ends : Fault → Result State Refusal → Type 0) (request : Request) (f : Failure) (known : Option (List ℕ))
@@ -156,7 +166,7 @@ module _ (holds : List ℕ → List ℕ → Type 0) (lacks : List ℕ → Type 0
     policy = policy;
     sources = [];
     input = input;
-    held = record { policy_held = first; input_held = second; sources_held = All-nil _; sources_named = λ value is. absurd (none value is) };
+    held = record { policy_held = first; input_held = second; sources_held = All-nil _; sources_named = λ value is. absurd (none value is); sources_inside = λ value is. absurd (none value is) };
     so = refused_by_policy e policy [] input request.most_time request.random r;
   })
 
@@ -195,6 +205,7 @@ module _ (holds : List ℕ → List ℕ → Type 0) (lacks : List ℕ → Type 0
       input_held = second;
       sources_held = All-nil _;
       sources_named = λ value is. absurd (none value is);
+      sources_inside = λ value is. absurd (none value is);
       so = (policy_ends e policy input None 0 63 fails, policy_at e policy input r own place why no_source no_input);
     };
   })
@@ -236,16 +247,14 @@ module _ (holds : List ℕ → List ℕ → Type 0) (lacks : List ℕ → Type 0
   -- nor a source's
   pub check_source_unread : (after : List ℕ → List ℕ → Type 0) (later : List ℕ → Type 0) (request : CheckRequest) (policy : List ℕ) (value : PolicyValue) (names : List (List ℕ)) (f : Failure)
       → ((file : List ℕ) → later file → lacks file) → ((file bytes : List ℕ) → after file bytes → holds file bytes) → holds request.policy.now policy → policy_of policy ≡ Ok value → names ≡ sources_of value.pages
-      → AreUnread after later names f → RefusesCheck (plain f) holds lacks request
+      → AreUntaken request.inside after later names f → RefusesCheck (plain f) holds lacks request
   check_source_unread after later request policy value names (failure.UnreadableSource told) lacked kept held read are unread = inl (
     refl,
-    (
-      record { policy = policy; value = value; held = held; read = read; next = next_of holds after names (sources_of value.pages) told kept are unread.0 },
-      lacked told unread.1,
-    ),
+    record { policy = policy; value = value; held = held; read = read; why = left_of request.inside holds after lacks later names (sources_of value.pages) told lacked kept are unread },
   )
   check_source_unread after later request policy value names (failure.Fault fault.Memory) lacked kept held read are unread = inl (refl, tt)
-  check_source_unread after later request policy value names f lacked kept held read are none = absurd none
+  check_source_unread after later request policy value names f lacked kept held read are (inl none) = absurd none
+  check_source_unread after later request policy value names f lacked kept held read are (inr none) = absurd none.1
 
   -- the run of what the files hold ended by that fault
   pub run_refuses : (later : List ℕ → List ℕ → Type 0) (r : Refused) (request : CheckRequest) (policy input : List ℕ) (texts : List SourceText) (s t : Sources) (i : List ℕ) (value : PolicyValue) (f : Fault) (cause : Option InputCause) (old new : Option (List ℕ))
@@ -253,6 +262,7 @@ module _ (holds : List ℕ → List ℕ → Type 0) (lacks : List ℕ → Type 0
       → ((file bytes : List ℕ) → later file bytes → holds file bytes)
       → All (λ s. later s.name s.text.items) texts
       → map (λ s. s.name) texts ≡ sources_of value.pages
+      → outside_of request.inside (sources_of value.pages) ≡ None
       → policy_of policy ≡ Ok value
       → t ≡ texts_seen texts
       → s ≡ t → i ≡ input
@@ -260,7 +270,7 @@ module _ (holds : List ℕ → List ℕ → Type 0) (lacks : List ℕ → Type 0
       → r.failure ≡ failure.Fault f → IsSourceAt f (texts_seen texts) r.source → IsInputAt f input r.input
       → IfSome r.input (λ i. i.cause ≡ cause) → IsCauseOf f value.pages input cause → r.reason ≡ None → r.policy ≡ None
       → RefusesCheck r holds lacks request
-  run_refuses later r request policy input texts s t i value f cause old new first second kept found names read lent e e2 ends is source_at input_at told so no_why no_policy = inr (record {
+  run_refuses later r request policy input texts s t i value f cause old new first second kept found names inside read lent e e2 ends is source_at input_at told so no_why no_policy = inr (record {
     fault = f;
     is = is;
     so = record {
@@ -271,6 +281,7 @@ module _ (holds : List ℕ → List ℕ → Type 0) (lacks : List ℕ → Type 0
       input_held = second;
       sources_held = all_held holds later texts t kept found lent;
       sources_named = λ v is. names_held texts t (sources_of v.pages) lent (names ∙ ap (λ (x : PolicyValue). sources_of x.pages) (same_value (policy_of policy) value v read is));
+      sources_inside = λ v is. inside_held request.inside policy value v read is inside;
       so = (
         ends_anyhow f (inputs policy t input 0 63) old new 0 (of_texts (λ made. EndsBy f made old new 0) value policy s t i input 0 63 read e e2 ends),
         texts_at f r policy input value t (texts_seen texts) cause read lent source_at input_at told so no_why no_policy,

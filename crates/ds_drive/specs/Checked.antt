@@ -17,7 +17,8 @@ use Rattle.ds_drive.specs.declared.failure.Failure.{Failure}
 use Rattle.ds_drive.specs.declared.failure.Failure.TheVariants as failure
 use Rattle.ds_drive.specs.declared.refused.Refused.{Refused}
 use Rattle.ds_drive.specs.AtFault.{IsAtFault, plain}
-use Rattle.ds_drive.specs.Failures.{IsUnread, NamesSource}
+use Rattle.ds_drive.specs.Failures.{IsUnread, LeavesSource}
+use Rattle.ds_drive.specs.Inside.{outside_of}
 use Rattle.ds_drive.specs.Noted.{notes_text, starts_of}
 use Rattle.ds_drive.specs.declared.check.Checking.{Checking}
 use Rattle.ds_drive.specs.declared.check.Checking.TheVariants as checking
@@ -37,6 +38,7 @@ pub record AreGood (holds : List ℕ → List ℕ → Type 0) (request : CheckRe
   pub input_held : IsInput holds request.input input
   pub sources_held : All (λ s. holds s.0 s.1) sources
   pub sources_named : map (λ s. s.0) sources ≡ sources_of value.pages
+  pub sources_inside : outside_of request.inside (sources_of value.pages) ≡ None
   pub policy_read : policy_of policy ≡ Ok value
   pub input_read : input_of value.pages input ≡ Ok events
   pub first : State
@@ -98,16 +100,17 @@ pub record OfChecked (holds : List ℕ → List ℕ → Type 0) (request : Check
   pub input_held : IsInput holds request.input input
   pub sources_held : All (λ s. holds s.0 s.1) sources
   pub sources_named : (value : PolicyValue) → policy_of policy ≡ Ok value → map (λ s. s.0) sources ≡ sources_of value.pages
+  pub sources_inside : (value : PolicyValue) → policy_of policy ≡ Ok value → outside_of request.inside (sources_of value.pages) ≡ None
   pub so : P policy sources input
 
 -- this name is that of the policy, or of the input where one is named
 abbrev pub IsNamed : CheckRequest → List ℕ → Type 0
 IsNamed request name = (name ≡ request.policy.now) ⊎ ((input : Bor (List ℕ)) × (request.input ≡ Some input) × (name ≡ input.now))
 
--- not all was read: a file is lacking, or memory ran out
+-- not all was read: a file is lacking, a source is outside the folder in which it has to be, or memory ran out
 abbrev pub IsNotRead : Failure → (List ℕ → List ℕ → Type 0) → (List ℕ → Type 0) → CheckRequest → Type 0
 IsNotRead (failure.UnreadableFile name) holds lacks request = IsNamed request name.now × lacks name.now
-IsNotRead (failure.UnreadableSource name) holds lacks request = NamesSource holds request.policy.now name × lacks name
+IsNotRead (failure.UnreadableSource name) holds lacks request = LeavesSource request.inside holds lacks request.policy.now name
 IsNotRead (failure.Fault fault.Memory) holds lacks request = ⊤
 IsNotRead (failure.Fault f) holds lacks request = ⊥
 

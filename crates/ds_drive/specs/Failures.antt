@@ -1,5 +1,5 @@
 -- Why the program could not do what its words ask for, and what was written then.
-use Rattle.std.specs.Prelude.{◌≡◌, ◌⊎◌, ℕ, List, map, Option, Result, Ok, All, Contains, take, ⊤}
+use Rattle.std.specs.Prelude.{◌≡◌, ◌⊎◌, ℕ, Bool, List, map, Option, None, Some, Result, Ok, All, Contains, take, ⊤}
 use Rattle.std.specs.Io.KnownBytes.{Keeps}
 use Rattle.ds_policy.specs.PolicyText.{policy_of}
 use Rattle.ds_policy.specs.PolicyParts.{sources_of}
@@ -13,6 +13,7 @@ use Rattle.ds_station.specs.declared.fault.Fault.TheVariants.{Memory}
 use Rattle.ds_words.specs.declared.words.Request.{Request}
 use Rattle.ds_drive.specs.declared.failure.Failure.{Failure}
 use Rattle.ds_drive.specs.declared.failure.Failure.TheVariants as failure
+use Rattle.ds_drive.specs.Inside.{outside_of}
 
 -- the number of a failure among the refusals
 abbrev pub failure_number : Failure → ℕ
@@ -44,20 +45,31 @@ AreUnread holds lacks names (failure.UnreadableSource told) = IsNext holds names
 AreUnread holds lacks names (failure.Fault Memory) = ⊤
 AreUnread holds lacks names f = ⊥
 
--- the policy that this file holds names this source, and those before it may be read
-pub record NamesSource (holds : List ℕ → List ℕ → Type 0) (file name : List ℕ) : Type 0 where
+-- the name of this source leads out of the folder in which these sources have to be
+abbrev pub IsOutside : Bool → List (List ℕ) → Failure → Type 0
+IsOutside inside names (failure.UnreadableSource told) = outside_of inside names ≡ Some told
+IsOutside inside names f = ⊥
+
+-- the name of one of these sources leads out of the folder in which they have to be; or none does, and the file of one was not read
+abbrev pub AreUntaken : Bool → (List ℕ → List ℕ → Type 0) → (List ℕ → Type 0) → List (List ℕ) → Failure → Type 0
+AreUntaken inside holds lacks names f = IsOutside inside names f ⊎ ((outside_of inside names ≡ None) × AreUnread holds lacks names f)
+
+-- the policy that this file holds names sources of which this one is not taken: its name leads out of the folder in which they have to be; or no name does, those before it may be read, and it is lacking
+pub record LeavesSource (inside : Bool) (holds : List ℕ → List ℕ → Type 0) (lacks : List ℕ → Type 0) (file name : List ℕ) : Type 0 where
   pub policy : List ℕ
   pub value : PolicyValue
   pub held : holds file policy
   pub read : policy_of policy ≡ Ok value
-  pub next : IsNext holds (sources_of value.pages) name
+  pub why : (outside_of inside (sources_of value.pages) ≡ Some name)
+      ⊎ ((outside_of inside (sources_of value.pages) ≡ None) × IsNext holds (sources_of value.pages) name × lacks name)
 
--- a policy, the sources that it names and an input, each as its file holds it
+-- a policy, the sources that it names and an input, each as its file holds it; no source is outside the folder in which they have to be
 pub record AreHeld (holds : List ℕ → List ℕ → Type 0) (request : Request) (policy : List ℕ) (sources : Sources) (input : List ℕ) : Type 0 where
   pub policy_held : holds request.policy.now policy
   pub input_held : holds request.input.now input
   pub sources_held : All (λ s. holds s.0 s.1) sources
   pub sources_named : (value : PolicyValue) → policy_of policy ≡ Ok value → map (λ s. s.0) sources ≡ sources_of value.pages
+  pub sources_inside : (value : PolicyValue) → policy_of policy ≡ Ok value → outside_of request.inside (sources_of value.pages) ≡ None
 
 -- of such texts, read as a run is asked for by the words, this holds
 pub record OfHeld (holds : List ℕ → List ℕ → Type 0) (request : Request) (P : Result State Refusal → Type 0) : Type 0 where
@@ -77,9 +89,9 @@ pub record HoldsInputs (holds : List ℕ → List ℕ → Type 0) (request : Req
 abbrev pub LacksFile : (List ℕ → List ℕ → Type 0) → (List ℕ → Type 0) → Request → List ℕ → Type 0
 LacksFile holds lacks request name = ((name ≡ request.policy.now) ⊎ ((name ≡ request.input.now) × MayBeRead holds request.policy.now)) × lacks name
 
--- the file of this source is lacking, where that of the input was read and the policy names it
+-- this source is not taken, where the file of the input was read
 abbrev pub LacksSource : (List ℕ → List ℕ → Type 0) → (List ℕ → Type 0) → Request → List ℕ → Type 0
-LacksSource holds lacks request name = MayBeRead holds request.input.now × NamesSource holds request.policy.now name × lacks name
+LacksSource holds lacks request name = MayBeRead holds request.input.now × LeavesSource request.inside holds lacks request.policy.now name
 
 -- why not all that a run is made of is read: a file is lacking, memory ran out, or what was read is refused
 abbrev pub IsUnreadRun : Failure → (List ℕ → List ℕ → Type 0) → (List ℕ → Type 0) → Request → Type 0

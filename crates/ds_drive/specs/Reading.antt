@@ -1,5 +1,5 @@
 -- Which files a command asks for, in which order, and what came of it.
-use Rattle.std.specs.Prelude.{◌≡◌, ◌⊎◌, ⊤, ℕ, List, [], ◌∷◌, ◌++◌, Option, None, Some, Result, Ok, Err, map}
+use Rattle.std.specs.Prelude.{◌≡◌, ◌⊎◌, ⊤, ℕ, Bool, true, List, [], ◌∷◌, ◌++◌, Option, None, Some, Result, Ok, Err, map}
 use Rattle.std.specs.Borrow.{Bor}
 use Rattle.clap.specs.Words.{Text}
 use Rattle.ds_policy.specs.PolicyParts.{sources_of}
@@ -17,6 +17,7 @@ use Rattle.ds_drive.specs.declared.failure.Failure.{Failure}
 use Rattle.ds_drive.specs.declared.failure.Failure.TheVariants as failure
 use Rattle.ds_drive.specs.declared.files.FileFault.{FileFault}
 use Rattle.ds_drive.specs.declared.files.FileFault.TheVariants as file
+use Rattle.ds_drive.specs.Inside.{is_outside}
 
 -- a file that was asked for: its name, and why it was not read, where it was not
 abbrev pub AskedFile : Type 0
@@ -60,6 +61,11 @@ TellsOf (failure.Fault fault.Memory) (Some (name, file.Memory)) = ⊤
 TellsOf (failure.UnreadableFile told) (Some (name, file.Unreadable)) = told.now ≡ name
 TellsOf (failure.UnreadableSource told) (Some (name, file.Unreadable)) = told ≡ name
 TellsOf f unread = ⊥
+
+-- so of a run; where it tells of a source that is outside the folder in which it has to be, each was read that was asked for
+abbrev pub TellsOfRun : Bool → Failure → Option (List ℕ × FileFault) → Type 0
+TellsOfRun inside (failure.UnreadableSource told) None = is_outside inside told ≡ true
+TellsOfRun inside f unread = TellsOf f unread
 
 -- the sources that a policy names; none where it is refused
 abbrev pub sources_in : Result PolicyValue PolicyRefusal → List (List ℕ)

@@ -4,7 +4,7 @@ ghost use Rattle.std.specs.Io.KnownBytes.{Keeps};
 ghost use Rattle.ds_drive.specs.AtFault.{texts_seen};
 ghost use Rattle.ds_drive.specs.Noted.{input_notes};
 ghost use Rattle.ds_drive.specs.Checked.{AreGood, Checks, ChecksBy, IsInput, RefusesCheck, IsUnreadInput, are_faults, with_notes, with_ties};
-ghost use Rattle.ds_drive.specs.Reading.{ReadsAll, ReadsRun, ReadsRunUntil, ReadsUntil, TellsOf, input_names};
+ghost use Rattle.ds_drive.specs.Reading.{ReadsAll, ReadsRun, ReadsRunUntil, ReadsUntil, TellsOf, TellsOfRun, input_names};
 
 use crate::failure::Failure;
 use crate::files::Files;
@@ -79,8 +79,8 @@ fn read_good<'a, F: Files>(
         (F.lacks files.old) request.now) }
     ensures reads { OnOk result (ReadsRun (F.holds files.old) request.now.policy.now
         (input_names request.now.input) (F.asked files.old) (F.asked files.new)) }
-    ensures reads_until { IfErr result (λ r. ReadsRunUntil (TellsOf r.failure)
-        (F.holds files.old) request.now.policy.now (input_names request.now.input)
+    ensures reads_until { IfErr result (λ r. ReadsRunUntil
+        (TellsOfRun request.now.inside r.failure) (F.holds files.old) request.now.policy.now (input_names request.now.input)
         (F.asked files.old) (F.asked files.new)) }
     ensures kept { (file bytes : List ℕ) → F.holds files.new file bytes
         → F.holds files.old file bytes }
@@ -96,7 +96,7 @@ fn read_good<'a, F: Files>(
             return Err(refused);
         }
     };
-    let texts = source_texts(alloc, files, policy.sources())?;
+    let texts = source_texts(alloc, files, policy.sources(), request.inside)?;
     let sources = lent(alloc, texts.as_slice())?;
     match run_policy(
         alloc,
@@ -166,8 +166,8 @@ pub fn check_files<'a, F: Files, W: Write>(
         request.now (W.contents out.old) (W.contents out.new)) }
     ensures reads { OnOk result (ReadsRun (F.holds files.old) request.now.policy.now
         (input_names request.now.input) (F.asked files.old) (F.asked files.new)) }
-    ensures reads_until { IfErr result (λ r. ReadsRunUntil (TellsOf r.failure)
-        (F.holds files.old) request.now.policy.now (input_names request.now.input)
+    ensures reads_until { IfErr result (λ r. ReadsRunUntil
+        (TellsOfRun request.now.inside r.failure) (F.holds files.old) request.now.policy.now (input_names request.now.input)
         (F.asked files.old) (F.asked files.new)) }
     ensures kept { (file bytes : List ℕ) → F.holds files.new file bytes
         → F.holds files.old file bytes }

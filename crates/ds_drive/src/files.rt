@@ -4,9 +4,9 @@ ghost use Rattle.std.specs.IoError.{error_kind};
 ghost use Rattle.ds_drive.specs.Reading.{AskedFile, HasAsked, why_unread};
 
 use std::alloc::Global;
-use std::fs::File;
+use std::fs::{File, Metadata};
 use std::io::{ErrorKind, Read};
-use std::{io, rt};
+use std::{fs, io, rt};
 
 /// The most bytes that a file may have.
 pub const MOST_BYTES: u64 = 16_777_216;
@@ -41,6 +41,27 @@ pub trait Files {
         ensures kept { (file bytes : List ℕ) → holds self.new file bytes
             → holds self.old file bytes }
         ensures lacked { (file : List ℕ) → lacks self.new file → lacks self.old file };
+
+    /// The bytes of the file of this name, which a policy names as a source. A place that has folders,
+    /// devices or pipes finds them unreadable before it opens them, and so symbolic links where the
+    /// source has to be inside the folder.
+    fn read_source(
+        &mut self,
+        alloc: Global,
+        name: &str,
+        _inside: bool,
+    ) -> Result<Vec<u8>, FileFault>
+        ensures limit { IfOk result (λ bytes. vec_len bytes ≤ 16777216) }
+        ensures found { IfOk result (λ bytes. holds self.old name.now bytes.items) }
+        ensures unread { result ≡ Err FileFault.Unreadable → lacks self.old name.now }
+        ensures counted { HasAsked (asked self.old) (asked self.new)
+            ((name.now, why_unread result) ∷ []) }
+        ensures kept { (file bytes : List ℕ) → holds self.new file bytes
+            → holds self.old file bytes }
+        ensures lacked { (file : List ℕ) → lacks self.new file → lacks self.old file }
+    {
+        self.read(alloc, name)
+    }
 }
 
 /// The files of the system.
@@ -62,11 +83,61 @@ impl<'a, R: rt::Files> SystemFiles<'a, R> {
         file.take(MOST_BYTES + 1).read_to_end(&mut bytes)?;
         Ok(bytes)
     }
+
+    // Whether the name is that of a file, and no link leads to it where it has to be inside.
+    fn is_source(&self, name: &str, inside: bool) -> bool {
+        if inside {
+            is_file(fs::symlink_metadata(self.rt, name)) && !self.is_linked(name)
+        } else {
+            is_file(fs::metadata(self.rt, name))
+        }
+    }
+
+    // Whether a folder on the way to the file is a symbolic link.
+    fn is_linked(&self, name: &str) -> bool {
+        for (place, byte) in name.bytes().enumerate() {
+            if byte == b'/' && self.is_link(name.get(..place)) {
+                return true;
+            }
+        }
+        false
+    }
+
+    // Whether the name is that of a symbolic link.
+    fn is_link(&self, name: Option<&str>) -> bool {
+        match name {
+            Some(name) => match fs::symlink_metadata(self.rt, name) {
+                Ok(found) => found.is_symlink(),
+                Err(_) => false,
+            },
+            None => false,
+        }
+    }
 }
 
 impl<'a, R: rt::Files> Files for SystemFiles<'a, R> {
     fn read(&mut self, alloc: Global, name: &str) -> Result<Vec<u8>, FileFault> {
         accept(self.bytes(alloc, name))
+    }
+
+    fn read_source(
+        &mut self,
+        alloc: Global,
+        name: &str,
+        inside: bool,
+    ) -> Result<Vec<u8>, FileFault> {
+        if !self.is_source(name, inside) {
+            return Err(FileFault::Unreadable);
+        }
+        accept(self.bytes(alloc, name))
+    }
+}
+
+// Whether what is known of a name says that it is a file, and no folder, link, device or pipe.
+fn is_file(found: io::Result<Metadata>) -> bool {
+    match found {
+        Ok(found) => found.is_file(),
+        Err(_) => false,
     }
 }
 

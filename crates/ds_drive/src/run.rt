@@ -1,13 +1,15 @@
 //! A run of files: the policy, the input, and the sources that the policy names.
-ghost use Rattle.std.specs.Prelude.{◌≡◌, ◌≤◌, ◌∷◌, ℕ, List, [], IfErr, IfOk, OnOk, All, length, map};
+ghost use Rattle.std.specs.Prelude.{◌≡◌, ◌≤◌, ◌∷◌, ℕ, List, [], IfErr, IfOk, None, OnOk, All, length, map};
 ghost use Rattle.ds_station.specs.Headline.{Along, Followed, WritesReally, sources_seen};
 ghost use Rattle.ds_drive.specs.AtFault.{texts_seen};
-ghost use Rattle.ds_drive.specs.Failures.{AreUnread, HoldsInputs, IsUnread, IsUnreadRun, RunsFiles, StopsBy};
+ghost use Rattle.ds_drive.specs.Failures.{AreUnread, AreUntaken, HoldsInputs, IsUnread, IsUnreadRun, RunsFiles, StopsBy};
+ghost use Rattle.ds_drive.specs.Inside.{outside_of};
 ghost use Rattle.ds_drive.specs.Ran.{RunsAlone, RunsGuarded, RunsReally};
-ghost use Rattle.ds_drive.specs.Reading.{ReadsAll, ReadsRun, ReadsRunUntil, ReadsUntil, TellsOf};
+ghost use Rattle.ds_drive.specs.Reading.{ReadsAll, ReadsRun, ReadsRunUntil, ReadsUntil, TellsOf, TellsOfRun};
 
 use crate::failure::Failure;
 use crate::files::{FileFault, Files};
+use crate::inside::outside_of;
 use ds_policy::{Policy, Text};
 use ds_station::{Fault, run_policy};
 use ds_words::Request;
@@ -55,8 +57,8 @@ pub fn run_request<'a, F: Files, W: Write>(
         (W.contents out.old) (W.contents out.new)) }
     ensures reads { OnOk result (ReadsRun (F.holds files.old) request.now.policy.now
         (request.now.input.now ∷ []) (F.asked files.old) (F.asked files.new)) }
-    ensures reads_until { IfErr result (λ f. ReadsRunUntil (TellsOf f) (F.holds files.old)
-        request.now.policy.now (request.now.input.now ∷ []) (F.asked files.old) (F.asked files.new)) }
+    ensures reads_until { IfErr result (λ f. ReadsRunUntil (TellsOfRun request.now.inside f)
+        (F.holds files.old) request.now.policy.now (request.now.input.now ∷ []) (F.asked files.old) (F.asked files.new)) }
     ensures kept { (file bytes : List ℕ) → F.holds files.new file bytes
         → F.holds files.old file bytes }
     ensures lacked { (file : List ℕ) → F.lacks files.new file → F.lacks files.old file }
@@ -90,8 +92,8 @@ pub(crate) fn read_inputs<'a, F: Files>(
         (λ f. IsUnreadRun f (F.holds files.old) (F.lacks files.old) request.now) }
     ensures reads { OnOk result (ReadsRun (F.holds files.old) request.now.policy.now
         (request.now.input.now ∷ []) (F.asked files.old) (F.asked files.new)) }
-    ensures reads_until { IfErr result (λ f. ReadsRunUntil (TellsOf f) (F.holds files.old)
-        request.now.policy.now (request.now.input.now ∷ []) (F.asked files.old) (F.asked files.new)) }
+    ensures reads_until { IfErr result (λ f. ReadsRunUntil (TellsOfRun request.now.inside f)
+        (F.holds files.old) request.now.policy.now (request.now.input.now ∷ []) (F.asked files.old) (F.asked files.new)) }
     ensures kept { (file bytes : List ℕ) → F.holds files.new file bytes
         → F.holds files.old file bytes }
     ensures lacked { (file : List ℕ) → F.lacks files.new file → F.lacks files.old file }
@@ -102,7 +104,7 @@ pub(crate) fn read_inputs<'a, F: Files>(
         Ok(policy) => policy,
         Err(fault) => return Err(Failure::Fault(Fault::from(fault))),
     };
-    let texts = source_texts(alloc, files, policy.sources())?;
+    let texts = source_texts(alloc, files, policy.sources(), request.inside)?;
     Ok(Inputs {
         policy,
         texts,
@@ -135,12 +137,41 @@ pub(crate) fn named_file<'a, F: Files>(
     }
 }
 
-/// The texts of the files of these sources, in order.
-#[tactic(auto, using(crate::proofs::Readings::none_read, crate::proofs::Readings::one_more_read, crate::proofs::Readings::read_as_far_as, crate::proofs::Readings::read_so_far, crate::proofs::Readings::unread_there))]
+/// The texts of the files of these sources, in order. Where they have to be inside the folder and the
+/// name of one leads out of it, none is asked for.
+#[tactic(auto, using(crate::proofs::Outside::outside_untaken, crate::proofs::Outside::untaken))]
 pub(crate) fn source_texts<'a, F: Files>(
     alloc: Global,
     files: &mut F,
     names: &[Text<64>],
+    inside: bool,
+) -> Result<Vec<SourceText>, Failure<'a>>
+    ensures names { IfOk result (λ texts. map (λ s. s.name) texts.items ≡ names.now) }
+    ensures found { IfOk result
+        (λ texts. All (λ s. F.holds files.old s.name s.text.items) texts.items) }
+    ensures inside { OnOk result (outside_of inside names.now ≡ None) }
+    ensures unread { IfErr result
+        (AreUntaken inside (F.holds files.old) (F.lacks files.old) names.now) }
+    ensures reads { OnOk result (ReadsAll names.now (F.asked files.old) (F.asked files.new)) }
+    ensures reads_until { IfErr result (λ f. ReadsUntil (TellsOfRun inside f) names.now
+        (F.asked files.old) (F.asked files.new)) }
+    ensures kept { (file bytes : List ℕ) → F.holds files.new file bytes
+        → F.holds files.old file bytes }
+    ensures lacked { (file : List ℕ) → F.lacks files.new file → F.lacks files.old file }
+{
+    match outside_of(names, inside) {
+        Some(name) => Err(Failure::UnreadableSource(name)),
+        None => texts_of(alloc, files, names, inside),
+    }
+}
+
+/// The texts of the files of these sources, in order.
+#[tactic(auto, using(crate::proofs::Readings::none_read, crate::proofs::Readings::one_more_read, crate::proofs::Readings::read_as_far_as, crate::proofs::Readings::read_so_far, crate::proofs::Readings::unread_there))]
+fn texts_of<'a, F: Files>(
+    alloc: Global,
+    files: &mut F,
+    names: &[Text<64>],
+    inside: bool,
 ) -> Result<Vec<SourceText>, Failure<'a>>
     ensures names { IfOk result (λ texts. map (λ s. s.name) texts.items ≡ names.now) }
     ensures found { IfOk result
@@ -156,7 +187,7 @@ pub(crate) fn source_texts<'a, F: Files>(
     let mut texts = Vec::new(alloc);
     for name in names {
         let name = Text::of(name.as_str());
-        match files.read(alloc, name.as_str()) {
+        match files.read_source(alloc, name.as_str(), inside) {
             Ok(text) => texts.push(SourceText { name, text })?,
             Err(FileFault::Unreadable) => return Err(Failure::UnreadableSource(name)),
             Err(FileFault::Memory) => return Err(Failure::Fault(Fault::Memory)),

@@ -1,7 +1,7 @@
 //! The trace of a run of files.
 ghost use Rattle.std.specs.Prelude.{◌∷◌, ℕ, List, [], IfErr, OnOk};
 ghost use Rattle.ds_drive.specs.Ran.{TracesReally};
-ghost use Rattle.ds_drive.specs.Reading.{ReadsRun, ReadsRunUntil, TellsOf};
+ghost use Rattle.ds_drive.specs.Reading.{ReadsRun, ReadsRunUntil, TellsOfRun};
 ghost use Rattle.ds_drive.specs.TraceRuns.{TracesFiles, TraceStopsBy};
 
 use crate::failure::Failure;
@@ -30,8 +30,8 @@ pub fn trace_request<'a, F: Files, W: Write>(
         (W.contents out.old) (W.contents out.new)) }
     ensures reads { OnOk result (ReadsRun (F.holds files.old) request.now.run.policy.now
         (request.now.run.input.now ∷ []) (F.asked files.old) (F.asked files.new)) }
-    ensures reads_until { IfErr result (λ f. ReadsRunUntil (TellsOf f) (F.holds files.old)
-        request.now.run.policy.now (request.now.run.input.now ∷ []) (F.asked files.old) (F.asked files.new)) }
+    ensures reads_until { IfErr result (λ f. ReadsRunUntil (TellsOfRun request.now.run.inside f)
+        (F.holds files.old) request.now.run.policy.now (request.now.run.input.now ∷ []) (F.asked files.old) (F.asked files.new)) }
     ensures kept { (file bytes : List ℕ) → F.holds files.new file bytes
         → F.holds files.old file bytes }
     ensures lacked { (file : List ℕ) → F.lacks files.new file → F.lacks files.old file }

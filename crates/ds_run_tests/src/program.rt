@@ -5,6 +5,7 @@ use ds_policy::Text;
 use ds_station::Fault;
 use std::alloc::{AllocError, Global};
 use std::io::Write;
+use std::os::unix::fs::symlink;
 use std::test::Fail;
 use std::{fs, io};
 
@@ -314,6 +315,48 @@ fn a_file_of_the_system_is_read_whole_and_one_that_is_not_there_is_not(
     };
     fs::remove_file(&rt, name.as_str())?;
     assert!(rt; none && whole);
+    Ok(())
+}
+
+/// Whether a source of this name is found, where it has to be inside its folder or may be anywhere.
+fn is_found<R: std::rt::Files>(rt: &R, alloc: Global, name: &str, inside: bool) -> bool {
+    SystemFiles::new(rt)
+        .read_source(alloc, name, inside)
+        .is_ok()
+}
+
+/// A folder with a source, a link to it, and a link to the folder itself.
+fn make_links(rt: &HostRuntime, folder: &str) -> Result<(), Fail> {
+    fs::create_dir(rt, folder)?;
+    let text = format!(in rt.alloc(); "{folder}/one.s")?;
+    fs::write(rt, text.as_str(), b"nop\n")?;
+    let link = format!(in rt.alloc(); "{folder}/two.s")?;
+    symlink(rt, "one.s", link.as_str())?;
+    let there = format!(in rt.alloc(); "{folder}/there")?;
+    symlink(rt, ".", there.as_str())?;
+    Ok(())
+}
+
+#[test]
+fn a_source_is_a_file_and_inside_its_folder_no_link_leads_to_it(
+    rt: HostRuntime,
+) -> Result<(), Fail> {
+    let alloc = rt.alloc();
+    let folder = format!(in alloc; "/tmp/dsmon-links-{}", std::process::id(rt.process()))?;
+    make_links(&rt, folder.as_str())?;
+    let text = format!(in alloc; "{folder}/one.s")?;
+    let link = format!(in alloc; "{folder}/two.s")?;
+    let through = format!(in alloc; "{folder}/there/one.s")?;
+    let file = is_found(&rt, alloc, text.as_str(), true)
+        && is_found(&rt, alloc, text.as_str(), false);
+    let linked = is_found(&rt, alloc, link.as_str(), false)
+        && is_found(&rt, alloc, through.as_str(), false);
+    let inside = is_found(&rt, alloc, link.as_str(), true)
+        || is_found(&rt, alloc, through.as_str(), true);
+    let other = is_found(&rt, alloc, folder.as_str(), true)
+        || is_found(&rt, alloc, folder.as_str(), false);
+    fs::remove_dir_all(&rt, folder.as_str())?;
+    assert!(rt; file && linked && !inside && !other);
     Ok(())
 }
 

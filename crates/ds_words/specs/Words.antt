@@ -1,5 +1,5 @@
 -- What the program's words ask for, over what clap reads of its command line.
-use Rattle.std.specs.Prelude.{◌≡◌, ◌⊎◌, ◌<◌, ◌^◌, ⊤, ℕ, List, [], ◌∷◌, Option, Some, None, true, false, codes, option_map}
+use Rattle.std.specs.Prelude.{◌≡◌, ◌⊎◌, ◌<◌, ◌^◌, ⊤, ℕ, Bool, List, [], ◌∷◌, Option, Some, None, true, false, codes, option_map}
 use Rattle.std.specs.Str.Parse.{IsNumeral, digits_value, without_leading_plus}
 use Rattle.clap.specs.Words.{App, Row, Rule, Text, fault_of, first_of, many_of, one_of, new_app, new_rule, subcommand_of, with_rule, with_subcommand}
 use Rattle.ds_words.specs.declared.words.BareRequest.{BareRequest}
@@ -35,11 +35,15 @@ random_rule = record (new_rule (codes "R")) {
 abbrev pub of_files : App → App
 of_files app = with_rule (with_rule app (required_rule (codes "POLICY"))) (required_rule (codes "INPUT"))
 
--- with `POLICY INPUT N [--random R]`
-abbrev pub of_run : App → App
-of_run app = with_rule (with_rule (of_files app) time_rule) random_rule
+-- `--inside`
+abbrev pub inside_rule : Rule
+inside_rule = record (new_rule (codes "inside")) { long = Some (codes "inside"); action = Some SetTrue }
 
--- `run POLICY INPUT N [--random R]`
+-- with `POLICY INPUT N [--random R] [--inside]`
+abbrev pub of_run : App → App
+of_run app = with_rule (with_rule (with_rule (of_files app) time_rule) random_rule) inside_rule
+
+-- `run POLICY INPUT N [--random R] [--inside]`
 abbrev pub run_app : App
 run_app = of_run (new_app (codes "run"))
 
@@ -80,7 +84,7 @@ of_turns app = with_rule (with_rule (with_rule app from_rule) to_rule) process_r
 abbrev pub of_lines : App → App
 of_lines app = with_rule (with_rule (with_rule app only_rule) processor_rule) entries_rule
 
--- `trace POLICY INPUT N [--random R] [--from T] [--to T] [--process P].. [--only KIND] [--processor] [--entries]`
+-- `trace POLICY INPUT N [--random R] [--inside] [--from T] [--to T] [--process P].. [--only KIND] [--processor] [--entries]`
 abbrev pub trace_app : App
 trace_app = of_lines (of_turns (of_run (new_app (codes "trace"))))
 
@@ -104,9 +108,10 @@ files_app = with_subcommand (with_subcommand (with_subcommand bare_app run_app.t
 abbrev pub notes_rule : Rule
 notes_rule = record (new_rule (codes "notes-as-faults")) { long = Some (codes "notes-as-faults"); action = Some SetTrue }
 
--- `check POLICY [INPUT] [--notes-as-faults]`
+-- `check POLICY [INPUT] [--notes-as-faults] [--inside]`
 abbrev pub check_app : App
-check_app = with_rule (with_rule (with_rule (new_app (codes "check")) (required_rule (codes "POLICY"))) (new_rule (codes "INPUT"))) notes_rule
+check_app = with_rule (with_rule (with_rule (with_rule (new_app (codes "check"))
+    (required_rule (codes "POLICY"))) (new_rule (codes "INPUT"))) notes_rule) inside_rule
 
 -- `--quiet`
 abbrev pub quiet_rule : Rule
@@ -139,12 +144,18 @@ abbrev pub IsNumber : ℕ → Option Text → ℕ → Type 0
 IsNumber bits None n = ⊥
 IsNumber bits (Some text) n = IsNumeral 10 (without_leading_plus text) × (digits_value 10 (without_leading_plus text) ≡ n) × (n < 2 ^ bits)
 
--- what stands after `run` or `trace` names the files and the numbers of a run
+-- a flag stands among the words where this is true, and does not where it is false
+pub record IsFlagged (flag : Text) (rows : List Row) (given : Bool) : Type 0 where
+  pub there : one_of flag rows ≡ Some (codes "true") → given ≡ true
+  pub absent : one_of flag rows ≡ Some (codes "false") → given ≡ false
+
+-- what stands after `run` or `trace` names the files and the numbers of a run, and says whether its sources have to be inside
 pub record NamesRun (rows : List Row) (request : Request) : Type 0 where
   pub policy : first_of (codes "POLICY") rows ≡ Some request.policy.now
   pub input : first_of (codes "INPUT") rows ≡ Some request.input.now
   pub time : IsNumber 64 (one_of (codes "N") rows) request.most_time
   pub random : IsNumber 8 (one_of (codes "R") rows) request.random
+  pub inside : IsFlagged (codes "inside") rows request.inside
 
 -- clap takes the words, and they name a run of these files and numbers
 pub record AsksForRun (words : List Text) (request : Request) : Type 0 where
@@ -223,12 +234,13 @@ pub record AsksForList (words : List Text) (request : ListRequest) : Type 0 wher
   pub names : NamesList rows request
 
 -- what stands after `check` names the policy, and the input where one is wanted, and says whether
--- notes are faults
+-- notes are faults and whether sources have to be inside
 pub record NamesCheck (rows : List Row) (request : CheckRequest) : Type 0 where
   pub policy : first_of (codes "POLICY") rows ≡ Some request.policy.now
   pub input : first_of (codes "INPUT") rows ≡ option_map (λ s. s.now) request.input
   pub faults : one_of (codes "notes-as-faults") rows ≡ Some (codes "true") → request.notes_as_faults ≡ true
   pub notes : one_of (codes "notes-as-faults") rows ≡ Some (codes "false") → request.notes_as_faults ≡ false
+  pub inside : IsFlagged (codes "inside") rows request.inside
 
 -- clap takes the words, and they ask what this policy and this input mean
 pub record AsksForCheck (words : List Text) (request : CheckRequest) : Type 0 where

@@ -2,7 +2,7 @@
 ghost use Rattle.std.specs.Prelude.{ℕ, Option, ◌≡◌, ◌↔◌, IfOk, IfSome, None, Some, codes, false, map, option_map, string_bytes};
 ghost use Rattle.clap.specs.Words.{FailsBy, app_of, fault_of, first_of, found_of, many_of, new_app, new_rule, one_of, rows_of, rule_of, subcommand_name_of, subcommand_of, subcommand_rows_of, values_left, with_rule, with_subcommand};
 ghost use Rattle.clap.specs.declared.builder.command.Command.TheViews.{out-Command as fields_of};
-ghost use Rattle.ds_words.specs.Words.{AsksForBare, AsksForCheck, AsksForList, AsksForRun, AsksForSomething, AsksForTrace, IsGiven, NamesBare, NamesCheck, NamesList, NamesProcesses, NamesRun, NamesTrace, NamesView, WriteProcesses, bare_app, check_app, command_named, dsmon_app, entries_rule, files_app, from_rule, keys_rule, kind_word, list_app, machine_app, notes_rule, of_files, of_lines, of_run, of_turns, only_rule, process_rule, processor_rule, quiet_rule, random_rule, required_rule, run_app, time_rule, to_rule, trace_app, words_rule};
+ghost use Rattle.ds_words.specs.Words.{AsksForBare, AsksForCheck, AsksForList, AsksForRun, AsksForSomething, AsksForTrace, IsGiven, NamesBare, NamesCheck, NamesList, NamesProcesses, NamesRun, NamesTrace, NamesView, WriteProcesses, bare_app, check_app, command_named, dsmon_app, entries_rule, files_app, from_rule, inside_rule, keys_rule, kind_word, list_app, machine_app, notes_rule, of_files, of_lines, of_run, of_turns, only_rule, process_rule, processor_rule, quiet_rule, random_rule, required_rule, run_app, time_rule, to_rule, trace_app, words_rule};
 
 use clap::builder::ValueParser;
 use clap::parser::ValuesRef;
@@ -23,6 +23,8 @@ pub struct Request<'a> {
     pub most_time: u64,
     /// Where the register Random starts.
     pub random: u8,
+    /// Whether the policy may name no source outside the folder of the command.
+    pub inside: bool,
 }
 
 /// A trace of a run of files that the words ask for.
@@ -52,6 +54,8 @@ pub struct CheckRequest<'a> {
     pub input: Option<&'a str>,
     /// Whether a note is taken for a fault.
     pub notes_as_faults: bool,
+    /// Whether the policy may name no source outside the folder of the command.
+    pub inside: bool,
 }
 
 /// A source that the words want run on the bare machine.
@@ -108,10 +112,12 @@ where a note is taken for a fault, the status is 2, and the notes are told there
 const RUN_HELP: &str =
     "Each source that POLICY names is read by its name as it is written there, from the folder
 in which the command is given. A file has at most 16777216 bytes. A file without a line is
-an input in which nothing happens.
+an input in which nothing happens. A source is a file, and no folder, device or pipe. With --inside its
+name may not begin with / or have a part .., and it may be no symbolic link.
 
 Example:
-  dsmon run policy.toml input.txt 1000 --random 40";
+  dsmon run policy.toml input.txt 1000 --random 40
+  dsmon run policy.toml input.txt 1000 --inside";
 
 /// What stands at the end of the help of `trace`.
 const TRACE_HELP: &str =
@@ -161,7 +167,7 @@ the notes: what is worth a look in the policy, in its sources and in INPUT, thou
 for it. Where something is refused, standard error tells the refusal as a run does, where it is as far
 as that is known, the reason with what to write, and the other faults of the source with their
 reasons. The status is 2 then. With --notes-as-faults it is 2 where there is a note, too: nothing is
-written then, and standard error has the notes.
+written then, and standard error has the notes. With --inside a source is as `run --inside` takes it.
 
 Examples:
   dsmon check policy.toml input.txt
@@ -252,6 +258,18 @@ fn random_argument<'a>(alloc: Global) -> Arg<'a>
         .help("Where the register Random starts, from 0 to 255; a run takes 8 to 63")
 }
 
+fn inside_argument<'a>(alloc: Global) -> Arg<'a>
+    ensures rule { rule_of result ≡ inside_rule }
+    ensures local { result.global ≡ false }
+{
+    Arg::new(alloc, "inside")
+        .long("inside")
+        .action(ArgAction::SetTrue)
+        .help(
+            "No source may have a name that begins with / or has a part .., or be a symbolic link",
+        )
+}
+
 fn run_described<'a>(alloc: Global) -> Command<'a>
     ensures app { app_of result ≡ new_app (codes "run") }
     ensures local { (fields_of result).has_globals ≡ false }
@@ -291,7 +309,8 @@ fn with_numbers<'a>(alloc: Global, described: Command<'a>) -> Result<Command<'a>
 {
     with_files(alloc, described)?
         .arg(time_argument(alloc))?
-        .arg(random_argument(alloc))
+        .arg(random_argument(alloc))?
+        .arg(inside_argument(alloc))
 }
 
 fn run_command<'a>(alloc: Global) -> Result<Command<'a>, AllocError>
@@ -413,16 +432,25 @@ fn notes_argument<'a>(alloc: Global) -> Arg<'a>
         .help("A note is a fault: the notes alone are told, on standard error")
 }
 
-fn check_command<'a>(alloc: Global) -> Result<Command<'a>, AllocError>
-    ensures app { IfOk result (λ c. app_of c ≡ check_app) }
+fn check_described<'a>(alloc: Global) -> Result<Command<'a>, AllocError>
+    ensures app { IfOk result (λ c. app_of c ≡ with_rule (with_rule (new_app (codes "check"))
+        (required_rule (codes "POLICY"))) (new_rule (codes "INPUT"))) }
     ensures local { IfOk result (λ c. (fields_of c).has_globals ≡ false) }
 {
     Command::new(alloc, "check")
         .about("Explains a policy and an input, or why they are refused")
         .after_help(CHECK_HELP)
         .arg(file_argument(alloc, "POLICY", "The file of the policy, in TOML"))?
-        .arg(input_argument(alloc))?
-        .arg(notes_argument(alloc))
+        .arg(input_argument(alloc))
+}
+
+fn check_command<'a>(alloc: Global) -> Result<Command<'a>, AllocError>
+    ensures app { IfOk result (λ c. app_of c ≡ check_app) }
+    ensures local { IfOk result (λ c. (fields_of c).has_globals ≡ false) }
+{
+    check_described(alloc)?
+        .arg(notes_argument(alloc))?
+        .arg(inside_argument(alloc))
 }
 
 fn words_argument<'a>(alloc: Global) -> Arg<'a>
@@ -578,6 +606,7 @@ fn request_of<'a>(found: &ArgMatches<'a>) -> Option<Request<'a>>
         input: found.get_str("INPUT")?,
         most_time: found.get_one("N")?,
         random: found.get_one("R")?,
+        inside: found.get_flag("inside"),
     })
 }
 
@@ -690,6 +719,7 @@ fn check_request_of<'a>(found: &ArgMatches<'a>) -> Option<CheckRequest<'a>>
         policy: found.get_str("POLICY")?,
         input: found.get_str("INPUT"),
         notes_as_faults: found.get_flag("notes-as-faults"),
+        inside: found.get_flag("inside"),
     })
 }
 

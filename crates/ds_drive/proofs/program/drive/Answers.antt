@@ -89,6 +89,9 @@ returns-in-Ok-run_request-clause-done g c zero =
 pub returns-in-Ok-trace_request-clause-asked : goal.returns-in-Ok-trace_request-clause-asked
 returns-in-Ok-trace_request-clause-asked g c done = inr (inr (inr (inr (inr (c.in-Ok-Some-Trace.request, search rules)))))
 
+pub returns-in-Err-trace_request-clause-asked : goal.returns-in-Err-trace_request-clause-asked
+returns-in-Err-trace_request-clause-asked g c done = inr (inr (inr (inr (inr (c.in-Ok-Some-Trace.request, search rules)))))
+
 pub returns-in-Ok-trace_request-clause-done : goal.returns-in-Ok-trace_request-clause-done
 returns-in-Ok-trace_request-clause-done g c zero =
     trace_done _ (g.F.Files.holds c.args.files.now) _ (g.W.Write.contents c.args.out.now) (g.W.Write.contents c.trace_request.new.out) (search rules) c.in-Ok-trace_request.ensures.ok c.in-Ok-trace_request.ensures.real

@@ -1,10 +1,12 @@
-use Rattle.std.proofs.Common.{◌∙◌, ◌∷◌, [], ap, refl, rules, sym, subst}
+use Rattle.std.proofs.Common.{◌≡◌, ◌∙◌, ℕ, List, ◌∷◌, [], ap, refl, rules, sym, subst}
+use Rattle.std.specs.Prelude.{None}
 use Rattle.ds_drive.specs.declared.failure.Failure.{Failure}
 use Rattle.ds_drive.specs.declared.failure.Failure.TheVariants as failure
 use Rattle.ds_drive.specs.Failures.{IsUnreadRun}
 use Rattle.ds_drive.proofs.HeldFiles.{are_held}
-use Rattle.ds_drive.specs.Reading.{TellsOf}
-use Rattle.ds_drive.proofs.Readings.{both_read_until, input_unread_until}
+use Rattle.ds_drive.specs.Inside.{outside_of}
+use Rattle.ds_drive.specs.Reading.{TellsOfRun}
+use Rattle.ds_drive.proofs.Readings.{both_read_until, input_unread_until, policy_unread_until, source_unread_until}
 use Rattle.ds_drive.proofs.Stops.{if_err_is, policy_unsound, source_unread}
 use Rattle.ds_drive.proofs.run.read_inputs.Goals as goal
 
@@ -18,6 +20,7 @@ returns-clause-ok g c = record {
       (λ file bytes h. c.in_ok-policy_text.ensures.kept file bytes (c.in_ok-input.ensures.kept file bytes h))
       c.in_ok-texts.ensures.found
       (c.in_ok-texts.ensures.names ∙ c.sources.ensures.all)
+      (subst (λ (names : List (List ℕ)). outside_of c.args.request.now.inside names ≡ None) c.sources.ensures.all c.in_ok-texts.ensures.inside)
       (search rules)
       refl;
 }
@@ -41,10 +44,21 @@ returns-in_err-texts-clause-err g c =
 pub returns-in_err-input-clause-reads_until : goal.returns-in_err-input-clause-reads_until
 returns-in_err-input-clause-reads_until g c =
     if_err_is c.from_residual-in_err-input.result c.in_err-input.field-0.0 _ (search rules)
-    (input_unread_until (g.F.Files.holds c.args.files.now) c.args.request.now.policy.now (c.args.request.now.input.now ∷ []) c.in_err-input.field-0.0 c.in_ok-policy_text.policy_text.items _ _ _
+    (input_unread_until (g.F.Files.holds c.args.files.now) c.args.request.now.policy.now (c.args.request.now.input.now ∷ []) c.args.request.now.inside c.in_err-input.field-0.0 c.in_ok-policy_text.policy_text.items _ _ _
     c.in_ok-policy_text.ensures.found c.in_ok-policy_text.ensures.reads c.in_err-input.ensures.reads_until)
 
 pub returns-in-Err-clause-reads_until : goal.returns-in-Err-clause-reads_until
 returns-in-Err-clause-reads_until g c =
-    both_read_until (g.F.Files.holds c.args.files.now) c.args.request.now.policy.now (c.args.request.now.input.now ∷ []) (TellsOf (failure.Fault c.from.result)) c.in_ok-policy_text.policy_text.items _ _ _
+    both_read_until (g.F.Files.holds c.args.files.now) c.args.request.now.policy.now (c.args.request.now.input.now ∷ []) (TellsOfRun c.args.request.now.inside (failure.Fault c.from.result)) c.in_ok-policy_text.policy_text.items _ _ _
     c.in_ok-policy_text.ensures.found c.in_ok-policy_text.ensures.reads c.in_ok-input.ensures.reads tt
+
+pub returns-in_err-policy_text-clause-reads_until : goal.returns-in_err-policy_text-clause-reads_until
+returns-in_err-policy_text-clause-reads_until g c =
+    if_err_is c.from_residual.result c.in_err-policy_text.field-0.0 _ (search rules)
+    (policy_unread_until (g.F.Files.holds c.args.files.now) c.args.request.now.policy.now (c.args.request.now.input.now ∷ []) c.args.request.now.inside c.in_err-policy_text.field-0.0 _ _ c.in_err-policy_text.ensures.reads_until)
+
+pub returns-in_err-texts-clause-reads_until : goal.returns-in_err-texts-clause-reads_until
+returns-in_err-texts-clause-reads_until g c =
+    if_err_is c.from_residual-in_err-texts.result c.in_err-texts.field-0.0 _ (search rules)
+    (source_unread_until (g.F.Files.holds c.args.files.now) c.args.request.now.policy.now (c.args.request.now.input.now ∷ []) c.args.request.now.inside c.in_err-texts.field-0.0 c.in_ok-policy_text.policy_text.items c.in-Ok.policy _ _ _ _ _
+    c.in_ok-policy_text.ensures.found (search rules) c.sources.ensures.all c.in_ok-policy_text.ensures.reads c.in_ok-input.ensures.reads c.in_err-texts.ensures.reads_until)

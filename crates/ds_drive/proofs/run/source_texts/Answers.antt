@@ -1,8 +1,10 @@
 use Rattle.std.proofs.Common.{rules}
-use Rattle.ds_drive.proofs.Stops.{next_lacking}
+use Rattle.ds_drive.proofs.Outside.{outside_unread, unread_so_far}
 use Rattle.ds_drive.proofs.run.source_texts.Goals as goal
 
-pub returns-in-Err-Unreadable-clause-unread : goal.returns-in-Err-Unreadable-clause-unread
-returns-in-Err-Unreadable-clause-unread g c =
-    next_lacking (g.F.Files.holds c.args.files.now) (g.F.Files.lacks c.args.files.now) c.args.names.now c.loop-name.name-index c.name-item.result c.of-name.result c.loop-name.texts.items c.loop-name-test.true
-    (search rules) c.loop-name.invariant.names c.loop-name.invariant.found (search rules)
+pub returns-in-Some-clause-reads_until : goal.returns-in-Some-clause-reads_until
+returns-in-Some-clause-reads_until g c = outside_unread c.args.inside c.args.names.now c.in-Some.name (g.F.Files.asked c.args.files.now) (search rules)
+
+pub returns-in-None-clause-reads_until : goal.returns-in-None-clause-reads_until
+returns-in-None-clause-reads_until g c =
+    unread_so_far c.args.inside c.texts_of.result c.args.names.now (g.F.Files.asked c.args.files.now) (g.F.Files.asked c.texts_of.new.files) c.texts_of.ensures.reads_until

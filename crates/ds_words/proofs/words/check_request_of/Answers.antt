@@ -12,6 +12,10 @@ returns-clause-some c =
       input = sym (first_value-rows found _) ∙ sym c.get_str-2.ensures;
       faults = λ is. c.get_flag.ensures.value (one_text-rows found _ ∙ is);
       notes = λ is. c.get_flag.ensures.other (one_text-rows found _ ∙ is);
+      inside = record {
+        there = λ is. c.get_flag-2.ensures.value (one_text-rows found _ ∙ is);
+        absent = λ is. c.get_flag-2.ensures.other (one_text-rows found _ ∙ is);
+      };
     }
 
 pub returns-in_err-get_str-clause-none : goal.returns-in_err-get_str-clause-none

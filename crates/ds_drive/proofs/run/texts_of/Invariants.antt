@@ -1,6 +1,6 @@
 use Rattle.std.proofs.Common.{◌≡◌, ℕ, List, map, take, All}
 use Rattle.ds_drive.specs.Reading.{ReadsAll}
-use Rattle.ds_drive.proofs.run.source_texts.Given as goal
+use Rattle.ds_drive.proofs.run.texts_of.Given as goal
 
 abbrev pub invariant-loop-name : goal.invariant-loop-name
 invariant-loop-name g l = record {
