@@ -1,0 +1,17 @@
+//! Packets of gdb's remote serial protocol: how they are framed, and what they say.
+#![tactic(auto)]
+
+mod data;
+mod frame;
+mod laws;
+mod packet;
+mod reading;
+mod scan;
+mod words;
+
+pub use data::{Data, MOST_DATA};
+pub use frame::push_frame;
+pub use laws::{what_a_stream_says, what_is_framed_comes};
+pub use packet::{Action, Packet, Refusal, Who};
+pub use reading::action_for;
+pub use scan::{PacketFault, Scanner};

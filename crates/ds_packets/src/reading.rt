@@ -1,0 +1,369 @@
+//! Packets, read by their names and forms.
+ghost use Rattle.std.specs.Prelude.{◌≡◌};
+ghost use Rattle.ds_packets.specs.Packets.{
+  action_for,
+  action_of,
+  after_semicolon,
+  alive,
+  alone,
+  back_of,
+  chosen,
+  described,
+  forward,
+  has_long_name,
+  is_feature,
+  is_multiple,
+  is_signal,
+  lettered,
+  looked,
+  named_packet,
+  names,
+  packet_of,
+  resumed,
+  seen,
+  step_of,
+  stopped_at,
+  told,
+  with_arguments,
+};
+
+use crate::packet::{Action, Packet, Refusal, Who};
+use crate::scan::pair_of;
+use crate::words::{cut_at, number_of, pair_at, part_at, who_of};
+
+/// A packet, where its words were read.
+fn told(packet: Option<Packet>) -> Result<Packet, Refusal>
+    ensures { result ≡ told packet }
+{
+    packet.ok_or(Refusal::Malformed)
+}
+
+/// A packet that has nothing after its name.
+fn alone(rest: &[u8], packet: Packet) -> Result<Packet, Refusal>
+    ensures { result ≡ alone rest.now packet }
+{
+    if rest.is_empty() {
+        Ok(packet)
+    } else {
+        Err(Refusal::Malformed)
+    }
+}
+
+/// A part of the description of the registers.
+fn described(rest: &[u8]) -> Result<Packet, Refusal>
+    ensures { result ≡ described rest.now }
+{
+    let (object, rest) = cut_at(rest, b':');
+    let (deed, rest) = cut_at(rest, b':');
+    let (annex, range) = cut_at(rest, b':');
+    if object != b"features".as_slice() {
+        Err(Refusal::Unknown)
+    } else if deed == b"read".as_slice() && annex == b"target.xml".as_slice() {
+        match pair_at(range) {
+            Some((offset, length)) => Ok(Packet::Description { offset, length }),
+            None => Err(Refusal::Malformed),
+        }
+    } else {
+        Err(Refusal::Malformed)
+    }
+}
+
+/// Whose registers and memory are looked at, or which processes go.
+fn looked(rest: &[u8]) -> Option<Packet>
+    ensures { result ≡ looked rest.now }
+{
+    match rest {
+        [purpose, word @ ..] => {
+            let who = who_of(word)?;
+            match *purpose {
+                b'g' => Some(Packet::Look(who)),
+                b'c' => Some(Packet::Go(who)),
+                _ => None,
+            }
+        }
+        [] => None,
+    }
+}
+
+/// A breakpoint that is set or taken away, of either kind.
+fn stopped_at(set: bool, rest: &[u8]) -> Result<Packet, Refusal>
+    ensures { result ≡ stopped_at set rest.now }
+{
+    let (kind, range) = cut_at(rest, b',');
+    if kind == b"0".as_slice() || kind == b"1".as_slice() {
+        match pair_at(range) {
+            Some((address, _)) => Ok(if set {
+                Packet::Break(address)
+            } else {
+                Packet::Unbreak(address)
+            }),
+            None => Err(Refusal::Malformed),
+        }
+    } else {
+        Err(Refusal::Unknown)
+    }
+}
+
+/// Backward, as far as something stops, or one unit.
+fn back_of(rest: &[u8]) -> Result<Packet, Refusal>
+    ensures { result ≡ back_of rest.now }
+{
+    if rest == b"c".as_slice() {
+        Ok(Packet::Backward(Action::Continue))
+    } else if rest == b"s".as_slice() {
+        Ok(Packet::Backward(Action::Step))
+    } else {
+        Err(Refusal::Unknown)
+    }
+}
+
+/// Whether a word is a signal's number.
+fn is_signal(word: &[u8]) -> bool
+    ensures { result ≡ is_signal word.now }
+{
+    match word {
+        [high, low] => pair_of(*high, *low).is_some(),
+        _ => false,
+    }
+}
+
+/// How far an action goes; a signal that comes with it is dropped.
+fn action_of(word: &[u8]) -> Option<Action>
+    ensures { result ≡ action_of word.now }
+{
+    match word {
+        [letter, rest @ ..] => match *letter {
+            b'c' if rest.is_empty() => Some(Action::Continue),
+            b's' if rest.is_empty() => Some(Action::Step),
+            b'C' if is_signal(rest) => Some(Action::Continue),
+            b'S' if is_signal(rest) => Some(Action::Step),
+            b'r' => {
+                let (from, to) = pair_at(rest)?;
+                Some(Action::Range { from, to })
+            }
+            _ => None,
+        },
+        [] => None,
+    }
+}
+
+/// An action with the processes that it is for; where none are named, all.
+fn step_of(word: &[u8]) -> Option<(Action, Who)>
+    ensures { result ≡ step_of word.now }
+{
+    let (deed, thread) = cut_at(word, b':');
+    let action = action_of(deed)?;
+    if thread.is_empty() {
+        Some((action, Who::All))
+    } else {
+        Some((action, who_of(thread)?))
+    }
+}
+
+/// Whether a process is among those that are named.
+fn names(who: Who, process: u32) -> bool
+    ensures { result ≡ names who process }
+{
+    match who {
+        Who::Any | Who::All => true,
+        Who::Process(number) => number == process,
+    }
+}
+
+/// The actions of `vCont`, each after a semicolon.
+#[tactic(auto, using(crate::proofs::Lists::steps_go_on, crate::proofs::Lists::steps_end))]
+fn resumed(rest: &[u8]) -> Result<Packet, Refusal>
+    ensures { result ≡ resumed rest.now }
+{
+    let mut left = Some(rest);
+    while let Some(words) = left {
+        let (word, more) = part_at(words);
+        if step_of(word).is_none() {
+            return Err(Refusal::Malformed);
+        }
+        left = more;
+    }
+    Ok(Packet::Resume)
+}
+
+/// The action of a word, if it is for the process.
+fn chosen(process: u32, word: &[u8]) -> Option<Action>
+    ensures { result ≡ chosen process word.now }
+{
+    let (action, who) = step_of(word)?;
+    if names(who, process) {
+        Some(action)
+    } else {
+        None
+    }
+}
+
+/// The action that a `vCont` has for a process: the first that names it.
+#[tactic(auto, using(crate::proofs::Lists::choice_goes_on, crate::proofs::Lists::choice_ends))]
+pub fn action_for(text: &[u8], process: u32) -> Option<Action>
+    ensures { result ≡ action_for text.now process }
+{
+    let (_, rest) = cut_at(text, b';');
+    let mut left = Some(rest);
+    while let Some(words) = left {
+        let (word, more) = part_at(words);
+        if let Some(action) = chosen(process, word) {
+            return Some(action);
+        }
+        left = more;
+    }
+    None
+}
+
+/// A packet of several letters, which ends at a colon, a semicolon or nowhere.
+fn named_packet(text: &[u8]) -> Result<Packet, Refusal>
+    ensures { result ≡ named_packet text.now }
+{
+    if text == b"qfThreadInfo".as_slice() {
+        Ok(Packet::FirstThreads)
+    } else if text == b"qsThreadInfo".as_slice() {
+        Ok(Packet::MoreThreads)
+    } else if text == b"qC".as_slice() {
+        Ok(Packet::Current)
+    } else if text == b"QStartNoAckMode".as_slice() {
+        Ok(Packet::NoAcknowledgements)
+    } else if text == b"vCont?".as_slice() {
+        Ok(Packet::Actions)
+    } else {
+        with_arguments(text)
+    }
+}
+
+/// Whether a feature is that of several processes.
+fn is_feature(word: &[u8]) -> bool
+    ensures { result ≡ is_feature word.now }
+{
+    word == b"multiprocess+".as_slice()
+}
+
+/// Whether gdb has several processes, as its list of features tells.
+#[tactic(auto, using(crate::proofs::Lists::feature_goes_on, crate::proofs::Lists::feature_ends))]
+fn is_multiple(features: &[u8]) -> bool
+    ensures { result ≡ is_multiple features.now }
+{
+    let mut left = Some(features);
+    while let Some(words) = left {
+        let (word, more) = part_at(words);
+        if is_feature(word) {
+            return true;
+        }
+        left = more;
+    }
+    false
+}
+
+/// A packet of several letters with arguments.
+fn with_arguments(text: &[u8]) -> Result<Packet, Refusal>
+    ensures { result ≡ with_arguments text.now }
+{
+    let (name, rest) = cut_at(text, b':');
+    if name == b"qSupported".as_slice() {
+        let multiprocess = is_multiple(rest);
+        Ok(Packet::Supported { multiprocess })
+    } else if name == b"qXfer".as_slice() {
+        described(rest)
+    } else if name == b"qAttached".as_slice() {
+        Ok(Packet::Attached)
+    } else {
+        after_semicolon(text)
+    }
+}
+
+/// A packet of several letters with arguments after a semicolon.
+fn after_semicolon(text: &[u8]) -> Result<Packet, Refusal>
+    ensures { result ≡ after_semicolon text.now }
+{
+    let (name, rest) = cut_at(text, b';');
+    if name == b"vCont".as_slice() {
+        resumed(rest)
+    } else if name == b"vKill".as_slice() {
+        Ok(Packet::Leave)
+    } else {
+        Err(Refusal::Unknown)
+    }
+}
+
+/// A step or more of all processes.
+fn forward(letter: u8, rest: &[u8]) -> Result<Packet, Refusal>
+    ensures { result ≡ forward letter rest.now }
+{
+    let plain = rest.is_empty();
+    let signalled = is_signal(rest);
+    match letter {
+        b'c' if plain => Ok(Packet::Forward(Action::Continue)),
+        b's' if plain => Ok(Packet::Forward(Action::Step)),
+        b'C' if signalled => Ok(Packet::Forward(Action::Continue)),
+        b'S' if signalled => Ok(Packet::Forward(Action::Step)),
+        _ => Err(Refusal::Malformed),
+    }
+}
+
+/// A register, or memory from an address on.
+fn seen(letter: u8, rest: &[u8]) -> Option<Packet>
+    ensures { result ≡ seen letter rest.now }
+{
+    if letter == b'p' {
+        Some(Packet::Register(number_of(rest)?))
+    } else {
+        let (address, length) = pair_at(rest)?;
+        Some(Packet::Memory { address, length })
+    }
+}
+
+/// A thread of which is asked whether it is there.
+fn alive(rest: &[u8]) -> Option<Packet>
+    ensures { result ≡ alive rest.now }
+{
+    Some(Packet::Alive(who_of(rest)?))
+}
+
+/// A packet of one letter, with what comes after it.
+fn lettered(letter: u8, rest: &[u8]) -> Result<Packet, Refusal>
+    ensures { result ≡ lettered letter rest.now }
+{
+    match letter {
+        b'?' => alone(rest, Packet::Why),
+        b'g' => alone(rest, Packet::Registers),
+        b'k' => alone(rest, Packet::End),
+        b'D' => Ok(Packet::Leave),
+        b'G' | b'M' | b'P' | b'X' => Ok(Packet::Write),
+        b'H' => told(looked(rest)),
+        b'T' => told(alive(rest)),
+        b'p' | b'm' => told(seen(letter, rest)),
+        b'Z' => stopped_at(true, rest),
+        b'z' => stopped_at(false, rest),
+        b'c' | b's' | b'C' | b'S' => forward(letter, rest),
+        b'b' => back_of(rest),
+        _ => Err(Refusal::Unknown),
+    }
+}
+
+/// Whether a packet that begins with this letter has a name of several letters.
+fn has_long_name(letter: u8) -> bool
+    ensures { result ≡ has_long_name letter }
+{
+    matches!(letter, b'q' | b'Q' | b'v')
+}
+
+impl Packet {
+    /// What the data of a packet say.
+    pub fn of(text: &[u8]) -> Result<Packet, Refusal>
+        ensures { result ≡ packet_of text.now }
+    {
+        match text {
+            [letter, rest @ ..] => {
+                if has_long_name(*letter) {
+                    named_packet(text)
+                } else {
+                    lettered(*letter, rest)
+                }
+            }
+            [] => Err(Refusal::Unknown),
+        }
+    }
+}
