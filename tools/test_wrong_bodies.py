@@ -46,7 +46,7 @@ PROVED = "NOT REFUSED: the crate is still proved with this edit"
 # By its name what is told of an edit, its old and new text, and its other lines.
 EDITS = {
     "next.a_constant_named": ("refused by next next", "const FIRST: u32 = 1;", "const FIRST: u32 = 3;", "function: next", "clause: next"),
-    "next.another_clause": ("NOT REFUSED: not by the clause up that it names; refused by next next", "n + FIRST", "n + FIRST + 3", "clause: up"),
+    "next.another_clause": ("NOT REFUSED: the clause up that it names is still proved with this edit", "n + FIRST", "n + FIRST + 3", "clause: up"),
     "twice.harmless": (PROVED, "sum(n, n)", "sum(n, n) + 0"),
     "order.green_is_red": ("refused by order ensures", "Lamp::Green => 4", "Lamp::Green => 3", "clause: ensures"),
     "order.red_is_green": ("refused by order ensures", "Lamp::Red => 3", "Lamp::Red => 4"),

@@ -4,10 +4,8 @@ from pathlib import Path
 
 MOST, MOST_OF_ONE = 600, 3
 # The functions of which each clause is named by an edit; Type::* are all that are public of a type or a trait.
-EACH_CLAUSE = {
-    "ds_station": ["run_files", "run_policy", "Station::new", "Station::step", "Station::run"],
-    **{"ds_trace": ["trace_files"], "ds_bare": ["run_bare"], "ds_drive": ["drive"], "ds_grants": ["Grants::*"], "ds_tlb": ["Lookaside::*"]},
-}
+EACH_CLAUSE = {"ds_trace": ["trace_files"], "ds_bare": ["run_bare"], "ds_drive": ["drive"], "ds_grants": ["Grants::*"], "ds_tlb": ["Lookaside::*"]}
+EACH_CLAUSE["ds_station"] = ["run_files", "run_policy", "Station::new", "Station::step", "Station::run"]
 LINE = re.compile(r"implied: (?P<function>\S+) (?P<clause>\S+) by (?P<by>\S.*)|none: (?P<none>\S+) \S.*|(?:#.*)?")
 
 
@@ -43,8 +41,7 @@ def lacks_of(repository, crate):
         if (not body.method or body.method in repository.methods) and key(body) not in tried:
             yield f"{crate.name}: no edit of {'the law ' if body.is_law else ''}{body.function}"
     named = implied | {pair for edit in crate.edits for _, pairs in edit.clauses for pair in pairs}
-    words = [f"::{it}" for it in EACH_CLAUSE.get(crate.name, ())]
-    fits = lambda name: any(f"::{name}".endswith(it) or it.endswith("*") and it[:-1] in f"::{name}" for it in words)
+    fits = lambda name: any(f"::{name}".endswith(f"::{it}") or it.endswith("*") and f"::{it[:-1]}" in f"::{name}" for it in EACH_CLAUSE.get(crate.name, ()))
     each = {key(it): it for it in public.values() if fits(it.function) or fits(it.method)}
     for body in each.values():
         yield from (f"{crate.name}: no edit names {key(body)} {it}" for it in crate.clauses_of(body)[:-1] if (key(body), it) not in named)

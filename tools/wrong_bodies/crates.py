@@ -16,8 +16,7 @@ TYPE, PUBLIC_USE = re.compile(r"\b(?:struct|enum|trait)\s+(\w+)"), re.compile(r"
 PAIR = re.compile(r"(?m)^old: (.+)\nnew:(?: (.*))?$")
 OTHER = re.compile(r"(?m)^(?!(?:file|old|new|row|law|clause|stands for|function|tried):|$).*")
 MODULE = re.compile(r"(?P<test>#\[cfg\(test\)\]\s*)?(?P<public>\bpub\s+)?\bmod\s+(?P<name>\w+)\s*;")
-# The modules that lead to a file of src/, outermost first.
-modules_of = lambda file: [it for it in re.sub(r"(/mod)?\.rt\Z", "", file).split("/")[1:] if it not in ("lib", "main")]  # noqa: E731
+modules_of = lambda file: [it for it in re.sub(r"(/mod)?\.rt\Z", "", file).split("/")[1:] if it not in ("lib", "main")]  # noqa: E731  (outermost first)
 
 
 def closed(code):
@@ -168,6 +167,8 @@ class Edit:
             bodies = [it for it in crate.named(" ".join(function) or self.function) if clause in crate.clauses_of(it)]
             self.clauses.append((clause, {(name, clause) for it in bodies for name in (it.function, it.method)}))
             lost += [] if bodies else [f"clause {' '.join([*function, clause])}"]
+        named = {name for _, pairs in self.clauses for name, _ in pairs}
+        self.asked = [it for it in self.asked if not named or it in named or it not in self.functions]
         return f"there is no {lost[0]}" if lost else ""
 
     def overlaps(self, other):
@@ -175,16 +176,18 @@ class Edit:
         return self.file == other.file and any(it[0] <= its[1] and its[0] <= it[1] for it in self.pieces for its in other.pieces)
 
     def clashes(self, other):
-        """Returns whether one check could not tell the two apart: they change one text, one function, or one arm where both know theirs."""
+        """Returns whether one check could not tell the two apart: they change one text, one function, or one arm where both know theirs; or it asks of one some of many clauses of
+        what the other may call, for which the others are left out."""
         both = [(self.functions[it], other.functions[it]) for it in self.functions.keys() & other.functions.keys()]
-        return self.overlaps(other) or any(not mine or not others or mine & others for mine, others in both) or self.calls(other) or other.calls(self)
+        calls = any(self.crate.by_name[name].has_many and its.named(name) and it.may_call(name) for it, its in ((self, other), (other, self)) for name in its.functions)
+        return self.overlaps(other) or any(not mine or not others or mine & others for mine, others in both) or calls
 
-    def calls(self, other):
-        """Returns whether a body that it changes may call a function of which the other names clauses, so that its others are left out."""
-        named = [it.rpartition("::") for it in other.functions if self.crate.by_name[it].has_many and other.named(it)]
-        bodies = [self.crate.by_name[it] for it in self.functions]
-        by = lambda home, body: r"\bself\.|\bSelf::" if body.function.rpartition("::")[0] == home else rf"\.|\b{home.rpartition('::')[2]}::|(?<![.:\w])"
-        return any(re.search(rf"(?:{by(home, it)}){name}\(", self.crate.texts[it.path][it.start : it.end]) for it in bodies for home, _, name in named)
+    def may_call(self, function):
+        """Returns whether a body that it changes may call a function: a method by a dot, a function of a module by its bare name."""
+        home, _, name = function.rpartition("::")
+        of_type, bodies = home.rpartition("::")[2], [self.crate.by_name[it] for it in self.functions]
+        by = lambda it: r"(?<![.\w])" if not of_type[:1].isupper() else rf"(?:\bself\.|\b(?:Self|{of_type})::)" if it.function.startswith(f"{home}::") else rf"(?:\.|\b{of_type}::)"
+        return any(re.search(rf"{by(it)}{name}\(", self.crate.texts[it.path][it.start : it.end]) for it in bodies)
 
     def __str__(self):
         return f"{self.crate.name}/{self.name}: {'refused by' if self.verdict == 'refused' else f'{self.verdict}:'} {self.why}"

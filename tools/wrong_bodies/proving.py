@@ -62,9 +62,9 @@ def goals_in(lines, crate):
 
 
 def unasked(body, edits):
-    """Returns the clauses of a function of many that a check of edits need not be asked of, where each edit of it names some: the longest first."""
+    """Returns the clauses of a function that a check of edits need not be asked of, where each edit of it names some and none may call it: the longest first."""
     named = [it.named(body.function) for it in edits if body.function in it.functions]
-    left = {*body.spans} - {"ensures"}.union(*named) if body.has_many and all(named) else ()
+    left = {*body.spans} - {"ensures"}.union(*named) if all(named) and not body.method and not any(it.may_call(body.function) for it in edits) else ()
     return sorted(left, key=lambda it: body.spans[it][0] - body.spans[it][1])
 
 
@@ -83,7 +83,7 @@ class Prover:
     def check(self, edits, functions):
         """Checks a copy of the crate with these edits: these functions alone, or all where there is none. In the copy others have an empty loop for a body, and a proof that is
         refused at once. A function of the copy's own has the rows read that turned definitions name."""
-        files, broken = {}, {name for it in edits for name in it.functions}
+        files, broken = {}, {name for it in edits for name in it.functions if name in it.asked or not it.asked}
         text_of = lambda path: files.get(path, self.crate.texts[path])
         for body in (self.crate.by_name[name] for name in broken):
             left, place = unasked(body, edits), f"proofs/{body.function.replace('::', '/')}/Answers.antt"
@@ -193,7 +193,7 @@ def try_edits(prover, edits):
         elif not said.could_read():
             edit.verdict, edit.why = "BAD EDIT" if edit.is_turned else "NOT TRIED", f"the prover cannot read it, or could not tell: {said.complaint()}"
         elif said.is_proved():
-            edit.verdict, edit.why = "NOT REFUSED", "the crate is still proved with this edit"
+            edit.verdict, edit.why = "NOT REFUSED", f"the {f'clause {edit.clauses[0][0]} that it names' if edit.clauses else 'crate'} is still proved with this edit"
         else:
             judge_turned(edit, said) if edit.is_turned else judge(edit, [*goals_of(None, said, batch)])
 
