@@ -1,4 +1,4 @@
-// Tests of page/host.js: each of the ten functions with its errors, the heap, and a whole run of a module made by hand.
+// Tests of page/host.js: each of the eleven functions with its errors, the heap, and a whole run of a module made by hand.
 "use strict";
 const { test } = require("node:test");
 const assert = require("node:assert");
@@ -20,8 +20,8 @@ function made({ words = ["dsmon", "run"], files = {}, limits = {}, pages = 1 } =
   return { host, memory, env: host.imports(), put, got, answered };
 }
 
-test("the host has the ten functions and no other", () => {
-  const names = "close open rattle_alloc rattle_arg rattle_dealloc rattle_errno rattle_realloc rattle_set_errno read write";
+test("the host has the eleven functions and no other", () => {
+  const names = "close open rattle_alloc rattle_arg rattle_dealloc rattle_errno rattle_realloc rattle_set_errno read statx write";
   assert.equal(Object.keys(made().env).sort().join(" "), names);
 });
 
@@ -132,6 +132,19 @@ test("open finds a file by its name; else the answer is -1, with the reason", ()
     put(PLACE, `${name}\0`);
     env.rattle_set_errno(0);
     assert.equal(env.open(BigInt(PLACE), 0), -1, name);
+    assert.equal(env.rattle_errno(), NO_SUCH_FILE);
+  }
+});
+
+test("statx says of the name of a file that it is one; else the answer is -1, with the reason", () => {
+  const { memory, env, put } = made({ files: { "one.s": "nop\n" } });
+  put(PLACE, "one.s\0");
+  assert.equal(env.statx(-100, BigInt(PLACE), 0, 0xFFF, 200n), 0);
+  assert.equal(new DataView(memory.buffer).getUint16(228, true) & 0o170000, 0o100000);
+  for (const name of ["two.s", "valueOf", ""]) {
+    put(PLACE, `${name}\0`);
+    env.rattle_set_errno(0);
+    assert.equal(env.statx(-100, BigInt(PLACE), 0x100, 0xFFF, 200n), -1, name);
     assert.equal(env.rattle_errno(), NO_SUCH_FILE);
   }
 });
