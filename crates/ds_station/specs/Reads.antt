@@ -54,7 +54,15 @@ address_held h p = if is_first (first h.kept.state.ready) p then unit_on h.core 
 abbrev pub general_held : Held → ℕ → List ℕ
 general_held h p = if is_first (first h.kept.state.ready) p then h.core.registers.general else (process_of h.kept.state p).registers.general
 
--- while no instruction of a unit is counted, they are those of the process in each machine state that the station stands for
+-- HI of a process, from the same places
+abbrev pub hi_held : Held → ℕ → ℕ
+hi_held h p = if is_first (first h.kept.state.ready) p then h.core.registers.hi else (process_of h.kept.state p).registers.hi
+
+-- LO of a process, from the same places
+abbrev pub lo_held : Held → ℕ → ℕ
+lo_held h p = if is_first (first h.kept.state.ready) p then h.core.registers.lo else (process_of h.kept.state p).registers.lo
+
+-- while no instruction of a unit is counted, its general registers are those of the process in each machine state that the station stands for
 abbrev pub ShowsGeneral : List ℕ → Held → ℕ → Type 0
 ShowsGeneral shown h p = h.own.spent ≡ 0 → (m : State) → Stands h m → shown ≡ (process_of m p).registers.general
 

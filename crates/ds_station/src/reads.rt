@@ -7,7 +7,7 @@ ghost use Rattle.ds_procs.specs.declared.process.Standing.TheVariants.{Ready};
 ghost use Rattle.ds_refinement.specs.Held.{last_boundary};
 ghost use Rattle.ds_refinement.specs.Units.{has_left_user};
 ghost use Rattle.ds_refinement.specs.Stands.{Stands};
-ghost use Rattle.ds_station.specs.Reads.{address_held, fetched, general_held, is_at, memory_held, stage_in_unit, stage_of, unit_on, word_for, word_read, ShowsGeneral};
+ghost use Rattle.ds_station.specs.Reads.{address_held, fetched, general_held, hi_held, is_at, lo_held, memory_held, stage_in_unit, stage_of, unit_on, word_for, word_read, ShowsGeneral};
 
 use crate::stage::Stage;
 use crate::station::Station;
@@ -112,6 +112,33 @@ impl<L: Lookaside> Station<L> {
             self.parts.core.registers
         } else {
             self.seated(process)
+        }
+    }
+
+    /// HI of a process. Of the one that runs it is the processor's, which is the process's own at the
+    /// beginning of its unit.
+    pub fn hi(&self, process: u32) -> u32
+        requires above { 0 < process }
+        requires within { process ≤ length self.now.held.kept.state.processes }
+        ensures { result ≡ hi_held self.now.held process }
+    {
+        if self.runs(process) {
+            self.parts.core.hi
+        } else {
+            self.parts.monitor.seats[process as usize - 1].hi()
+        }
+    }
+
+    /// LO of a process, from the same places.
+    pub fn lo(&self, process: u32) -> u32
+        requires above { 0 < process }
+        requires within { process ≤ length self.now.held.kept.state.processes }
+        ensures { result ≡ lo_held self.now.held process }
+    {
+        if self.runs(process) {
+            self.parts.core.lo
+        } else {
+            self.parts.monitor.seats[process as usize - 1].lo()
         }
     }
 
