@@ -32,6 +32,10 @@ hex_digit n = if nat_lt n 10 then 48 + n else 87 + n
 abbrev pub hex_pair : ℕ → List ℕ
 hex_pair n = hex_digit (n / 16) ∷ hex_digit (n % 16) ∷ []
 
+-- the digits of bytes, two each
+abbrev pub hex_text : List ℕ → List ℕ
+hex_text bytes = flat_map hex_pair bytes
+
 -- a text in its frame
 abbrev pub framed : List ℕ → List ℕ
 framed text = 36 ∷ (text ++ 35 ∷ hex_pair (sum text % 2 ^ 8))

@@ -6,11 +6,13 @@ use Rattle.ds_packets.specs.declared.packet.Who.{Who}
 use Rattle.ds_packets.specs.declared.packet.Who.TheVariants as who
 use Rattle.ds_packets.specs.declared.packet.Action.{Action}
 use Rattle.ds_packets.specs.declared.packet.Action.TheVariants.{Continue, Step, Range}
+use Rattle.ds_packets.specs.declared.packet.Report.{Report}
+use Rattle.ds_packets.specs.declared.packet.Report.TheVariants as report
 use Rattle.ds_packets.specs.declared.packet.Packet.{Packet}
-use Rattle.ds_packets.specs.declared.packet.Packet.TheVariants.{Supported, NoAcknowledgements, Description, Why, FirstThreads, MoreThreads, Attached, Current, Alive, Look, Go, Registers, Register, Memory, Write, Break, Unbreak, Actions, Resume, Forward, Backward, Leave, End}
+use Rattle.ds_packets.specs.declared.packet.Packet.TheVariants.{Supported, NoAcknowledgements, Description, Why, FirstThreads, MoreThreads, ThreadInfo, Monitor, Attached, Current, Alive, Look, Go, Registers, Register, Memory, Write, Break, Unbreak, Actions, Resume, Forward, Backward, Leave, End}
 use Rattle.ds_packets.specs.declared.packet.Refusal.{Refusal}
 use Rattle.ds_packets.specs.declared.packet.Refusal.TheVariants.{Unknown, Malformed}
-use Rattle.ds_packets.specs.Framing.{pair_of}
+use Rattle.ds_packets.specs.Framing.{hex_text, pair_of}
 use Rattle.ds_packets.specs.Words.{after, before, number_of, pair_at, parts, who_of}
 
 -- a packet, where its words were read
@@ -129,12 +131,40 @@ is_feature word = bytes_eq word (codes "multiprocess+")
 abbrev pub is_multiple : List ℕ → Bool
 is_multiple features = list_any is_feature (parts features)
 
+-- what monitor asks for, by its words in hexadecimal digits
+abbrev pub report_of : List ℕ → Option Report
+report_of digits =
+    if bytes_eq digits (hex_text (codes "time")) then Some report.Time
+    else if bytes_eq digits (hex_text (codes "processes")) then Some report.Processes
+    else if bytes_eq digits (hex_text (codes "log")) then Some report.Log
+    else if bytes_eq digits (hex_text (codes "console 0")) then Some (report.Console 0)
+    else if bytes_eq digits (hex_text (codes "console 1")) then Some (report.Console 1)
+    else if bytes_eq digits (hex_text (codes "console 2")) then Some (report.Console 2)
+    else if bytes_eq digits (hex_text (codes "console 3")) then Some (report.Console 3)
+    else None
+
+-- a report that is known
+abbrev pub monitored : Option Report → Result Packet Refusal
+monitored None = Err Unknown
+monitored (Some r) = Ok (Monitor r)
+
+-- a process of which is asked what it is in words
+abbrev pub thread_info : List ℕ → Option Packet
+thread_info thread = option_map (λ w. ThreadInfo w) (who_of thread)
+
+-- a packet of several letters with arguments after a comma
+abbrev pub after_comma : List ℕ → Result Packet Refusal
+after_comma text =
+    if bytes_eq (before 44 text) (codes "qThreadExtraInfo") then told (thread_info (after 44 text))
+    else if bytes_eq (before 44 text) (codes "qRcmd") then monitored (report_of (after 44 text))
+    else Err Unknown
+
 -- a packet of several letters with arguments after a semicolon
 abbrev pub after_semicolon : List ℕ → Result Packet Refusal
 after_semicolon text =
     if bytes_eq (before 59 text) (codes "vCont") then resumed (after 59 text)
     else if bytes_eq (before 59 text) (codes "vKill") then Ok Leave
-    else Err Unknown
+    else after_comma text
 
 -- a packet of several letters with arguments
 abbrev pub with_arguments : List ℕ → Result Packet Refusal

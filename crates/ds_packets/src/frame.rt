@@ -1,11 +1,11 @@
 //! Packets that go out.
 ghost use Rattle.std.specs.Prelude.{◌≡◌, ◌<◌, ◌+◌, ◌%◌, ◌^◌, ◌++◌, ◌∷◌, [], sum, OnOk, IfOk};
-ghost use Rattle.ds_packets.specs.Framing.{escape, frame, hex_digit};
+ghost use Rattle.ds_packets.specs.Framing.{escape, frame, hex_digit, hex_text};
 
 use std::alloc::AllocError;
 
 /// A lower-case hexadecimal digit.
-pub(crate) fn hex_digit(value: u8) -> u8
+pub fn hex_digit(value: u8) -> u8
     requires { value < 16 }
     ensures { result ≡ hex_digit value }
 {
@@ -14,6 +14,17 @@ pub(crate) fn hex_digit(value: u8) -> u8
     } else {
         b'a' - 10 + value
     }
+}
+
+/// Adds bytes in hexadecimal digits, two each.
+pub fn push_hex(out: &mut Vec<u8>, bytes: &[u8]) -> Result<(), AllocError>
+    ensures { OnOk result (out.new.items ≡ out.old.items ++ hex_text bytes.now) }
+{
+    for byte in bytes {
+        out.push(hex_digit(*byte / 16))?;
+        out.push(hex_digit(*byte % 16))?;
+    }
+    Ok(())
 }
 
 /// Adds a byte of a text, and answers the sum with it.

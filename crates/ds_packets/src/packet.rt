@@ -22,6 +22,19 @@ pub enum Action {
     Range { from: u32, to: u32 },
 }
 
+/// What `monitor` asks to be told.
+#[derive(Clone, Copy, Debug, PartialEq, Eq)]
+pub enum Report {
+    /// `time`: how far the run has come.
+    Time,
+    /// `processes`: how each process stands.
+    Processes,
+    /// `log`: the text of the log.
+    Log,
+    /// `console L`: the text of a console line, from 0 to 3.
+    Console(u8),
+}
+
 /// A packet that is known.
 #[derive(Clone, Copy, Debug, PartialEq, Eq)]
 pub enum Packet {
@@ -37,6 +50,10 @@ pub enum Packet {
     FirstThreads,
     /// `qsThreadInfo`: further processes.
     MoreThreads,
+    /// `qThreadExtraInfo`: a process in words.
+    ThreadInfo(Who),
+    /// `qRcmd`: what `monitor` asks for.
+    Monitor(Report),
     /// `qAttached`: whether the process was there before gdb.
     Attached,
     /// `qC`: the process that is looked at.

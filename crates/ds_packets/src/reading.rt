@@ -3,6 +3,7 @@ ghost use Rattle.std.specs.Prelude.{◌≡◌};
 ghost use Rattle.ds_packets.specs.Packets.{
   action_for,
   action_of,
+  after_comma,
   after_semicolon,
   alive,
   alone,
@@ -19,6 +20,8 @@ ghost use Rattle.ds_packets.specs.Packets.{
   named_packet,
   names,
   packet_of,
+  report_of,
+  thread_info,
   resumed,
   seen,
   step_of,
@@ -27,7 +30,7 @@ ghost use Rattle.ds_packets.specs.Packets.{
   with_arguments,
 };
 
-use crate::packet::{Action, Packet, Refusal, Who};
+use crate::packet::{Action, Packet, Refusal, Report, Who};
 use crate::scan::pair_of;
 use crate::words::{cut_at, number_of, pair_at, part_at, who_of};
 
@@ -161,7 +164,7 @@ fn step_of(word: &[u8]) -> Option<(Action, Who)>
 }
 
 /// Whether a process is among those that are named.
-fn names(who: Who, process: u32) -> bool
+pub fn names(who: Who, process: u32) -> bool
     ensures { result ≡ names who process }
 {
     match who {
@@ -274,6 +277,53 @@ fn with_arguments(text: &[u8]) -> Result<Packet, Refusal>
     }
 }
 
+/// What `monitor` asks for, by its words in lower-case hexadecimal digits.
+fn report_of(words: &[u8]) -> Option<Report>
+    ensures { result ≡ report_of words.now }
+{
+    if words == b"74696d65".as_slice() {
+        Some(Report::Time)
+    } else if words == b"70726f636573736573".as_slice() {
+        Some(Report::Processes)
+    } else if words == b"6c6f67".as_slice() {
+        Some(Report::Log)
+    } else if words == b"636f6e736f6c652030".as_slice() {
+        Some(Report::Console(0))
+    } else if words == b"636f6e736f6c652031".as_slice() {
+        Some(Report::Console(1))
+    } else if words == b"636f6e736f6c652032".as_slice() {
+        Some(Report::Console(2))
+    } else if words == b"636f6e736f6c652033".as_slice() {
+        Some(Report::Console(3))
+    } else {
+        None
+    }
+}
+
+/// A process of which is asked what it is in words.
+fn thread_info(thread: &[u8]) -> Option<Packet>
+    ensures { result ≡ thread_info thread.now }
+{
+    Some(Packet::ThreadInfo(who_of(thread)?))
+}
+
+/// A packet of several letters with arguments after a comma.
+fn after_comma(text: &[u8]) -> Result<Packet, Refusal>
+    ensures { result ≡ after_comma text.now }
+{
+    let (name, rest) = cut_at(text, b',');
+    if name == b"qThreadExtraInfo".as_slice() {
+        told(thread_info(rest))
+    } else if name == b"qRcmd".as_slice() {
+        match report_of(rest) {
+            Some(report) => Ok(Packet::Monitor(report)),
+            None => Err(Refusal::Unknown),
+        }
+    } else {
+        Err(Refusal::Unknown)
+    }
+}
+
 /// A packet of several letters with arguments after a semicolon.
 fn after_semicolon(text: &[u8]) -> Result<Packet, Refusal>
     ensures { result ≡ after_semicolon text.now }
@@ -284,7 +334,7 @@ fn after_semicolon(text: &[u8]) -> Result<Packet, Refusal>
     } else if name == b"vKill".as_slice() {
         Ok(Packet::Leave)
     } else {
-        Err(Refusal::Unknown)
+        after_comma(text)
     }
 }
 

@@ -15,7 +15,7 @@ fn place_of(text: &[u8], mark: u8) -> Option<usize>
 
 /// What stands before the first byte that is this one, or all where none is, and what stands after it.
 #[tactic(auto, using(crate::proofs::Cuts::cut_some, crate::proofs::Cuts::cut_none))]
-pub(crate) fn cut_at(text: &[u8], mark: u8) -> (&[u8], &[u8])
+pub fn cut_at(text: &[u8], mark: u8) -> (&[u8], &[u8])
     ensures front { result.0.now ≡ before mark text.now }
     ensures back { result.1.now ≡ after mark text.now }
 {

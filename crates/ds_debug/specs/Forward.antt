@@ -1,0 +1,48 @@
+-- How a run goes forward, turn by turn, to where something stops.
+use Rattle.std.specs.Prelude.{◌≡◌, ◌<◌, ◌≤◌, ℕ, ◌+◌, false, List, [], ◌∷◌, length, Option, Some, None}
+use Rattle.ds_pagemap.specs.Machine.{first}
+use Rattle.ds_refinement.specs.Held.{Held}
+use Rattle.ds_refinement.specs.Real.{RealPath}
+use Rattle.ds_refinement.specs.Runs.{RunsTo, held_goes_on}
+use Rattle.ds_debug.specs.Goals.{Goal, stop_after}
+use Rattle.ds_debug.specs.declared.goals.Stop.{Stop}
+
+-- a turn of a run for n
+pub record IsTurn (n : ℕ) (old new : Held) : Type 0 where
+  pub early : old.kept.state.time < n
+  pub runs : RunsTo (old.kept.state.time + 1) old new
+  pub path : RealPath old new
+  pub later : old.kept.state.time < new.kept.state.time
+
+-- what stops after it
+abbrev pub stop_between : Goal → Held → Held → Option Stop
+stop_between g old new = stop_after g (first old.kept.state.ready) (length old.kept.log) new
+
+-- by these turns, the newest first, after none of which something stops
+abbrev pub Passes : Goal → ℕ → Held → List Held → Held → Type 0
+Passes g n old [] new = new ≡ old
+Passes g n old (last ∷ before) new = IsTurn n last new × (stop_between g last new ≡ None) × Passes g n old before last
+
+-- it came so far without a stop
+pub record HasPassed (g : Goal) (n : ℕ) (old new : Held) : Type 0 where
+  pub path : List Held
+  pub passes : Passes g n old path new
+
+-- it came to the first stop
+pub record HasStopped (g : Goal) (n : ℕ) (stop : Stop) (old new : Held) : Type 0 where
+  pub last : Held
+  pub passed : HasPassed g n old last
+  pub turn : IsTurn n last new
+  pub stops : stop_between g last new ≡ Some stop
+
+-- or to the end of the run, with no stop before; no time has passed since the last turn
+pub record HasEnded (g : Goal) (n : ℕ) (old new : Held) : Type 0 where
+  pub last : Held
+  pub passed : HasPassed g n old last
+  pub still : new.kept.state.time ≤ last.kept.state.time
+  pub over : held_goes_on n new ≡ false
+
+-- one of the two
+abbrev pub Goes : Goal → ℕ → Option Stop → Held → Held → Type 0
+Goes g n None = HasEnded g n
+Goes g n (Some stop) = HasStopped g n stop

@@ -1,0 +1,17 @@
+pub mod Each
+pub mod Digits
+pub mod Threads
+pub mod Description
+pub mod Stops
+pub mod Outputs
+pub mod Registers
+pub mod Memory
+pub mod Sights
+pub mod Reports
+pub mod Answers
+pub mod Denials
+pub mod Goals
+pub mod Forward
+pub mod Sessions
+pub mod Resumes
+pub mod Answering

@@ -1,0 +1,39 @@
+-- The registers of a process as gdb is told of them.
+use Rattle.std.specs.Prelude.{codes, ℕ, ◌==◌, ◌||◌, nat_lt, if◌then◌else◌, List, slice_index, Option, Some, None}
+use Rattle.ds_pagemap.specs.Machine.{State, process_of}
+use Rattle.ds_refinement.specs.Held.{Held}
+use Rattle.ds_station.specs.Reads.{address_held, general_held, hi_held, lo_held}
+use Rattle.ds_debug.specs.Each.{each}
+use Rattle.ds_debug.specs.Digits.{word_text}
+use Rattle.ds_debug.specs.declared.registers.Registers.{Registers}
+
+-- those of a process in a machine state
+abbrev pub registers_in : State → ℕ → Registers
+registers_in m p = record { general = (process_of m p).registers.general; hi = (process_of m p).registers.hi; lo = (process_of m p).registers.lo; pc = (process_of m p).pc }
+
+-- those that a station shows
+abbrev pub registers_held : Held → ℕ → Registers
+registers_held h p = record { general = general_held h p; hi = hi_held h p; lo = lo_held h p; pc = address_held h p }
+
+-- a register by gdb's number; registers 26 and 27, and those of the coprocessors, are not told
+abbrev pub register_of : Registers → ℕ → Option ℕ
+register_of r n =
+    if (n == 26) || (n == 27) then None
+    else if nat_lt n 32 then Some (slice_index r.general n)
+    else if n == 33 then Some r.lo
+    else if n == 34 then Some r.hi
+    else if n == 37 then Some r.pc
+    else None
+
+-- a word, or a sign for one that is not told
+abbrev pub word_or_none : Option ℕ → List ℕ
+word_or_none None = codes "xxxxxxxx"
+word_or_none (Some w) = word_text w
+
+-- a register by its number
+abbrev pub register_text : Registers → ℕ → List ℕ
+register_text r n = word_or_none (register_of r n)
+
+-- the 38 of the processor and its system coprocessor
+abbrev pub registers_text : Registers → List ℕ
+registers_text r = each (register_text r) 0 38

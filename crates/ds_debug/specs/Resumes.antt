@@ -1,0 +1,73 @@
+-- Packets after which a run goes on.
+use Rattle.std.specs.Prelude.{◌≡◌, ℕ, zero, suc, ◌+◌, if◌then◌else◌, List, [], ◌∷◌, ◌++◌, length, drop, Option, Some, None}
+use Rattle.ds_packets.specs.Framing.{frame}
+use Rattle.ds_packets.specs.Packets.{action_for, names}
+use Rattle.ds_packets.specs.declared.packet.Action.{Action}
+use Rattle.ds_packets.specs.declared.packet.Who.{Who}
+use Rattle.ds_refinement.specs.Held.{Held}
+use Rattle.ds_debug.specs.Answers.{console_text}
+use Rattle.ds_debug.specs.Forward.{Goes}
+use Rattle.ds_debug.specs.Sights.{sight_held}
+use Rattle.ds_debug.specs.Goals.{Goal}
+use Rattle.ds_debug.specs.Outputs.{outputs_text}
+use Rattle.ds_debug.specs.Sessions.{SessionState}
+use Rattle.ds_debug.specs.Stops.{stop_text}
+use Rattle.ds_debug.specs.declared.goals.Stop.{Stop}
+use Rattle.ds_debug.specs.declared.grown.Lengths.{Lengths}
+use Rattle.ds_debug.specs.declared.stops.Reason.{Reason}
+use Rattle.ds_debug.specs.declared.stops.Reason.TheVariants.{End}
+
+-- how much the consoles and the log have
+abbrev pub lengths_of : Held → Lengths
+lengths_of h = record {
+  first = length (console_text (sight_held h) 0);
+  second = length (console_text (sight_held h) 1);
+  third = length (console_text (sight_held h) 2);
+  fourth = length (console_text (sight_held h) 3);
+  log = length h.kept.log;
+}
+
+-- what came to a text is shown
+abbrev pub more_text : ℕ → List ℕ → List ℕ
+more_text before text = outputs_text (drop before text)
+
+-- what came to the consoles and to the log since they had so much
+unfoldable pub grown_by : Lengths → Held → List ℕ
+grown_by b h =
+    more_text b.first (console_text (sight_held h) 0) ++ more_text b.second (console_text (sight_held h) 1) ++ more_text b.third (console_text (sight_held h) 2) ++ more_text b.fourth (console_text (sight_held h) 3)
+    ++ more_text b.log h.kept.log
+
+-- how far a process is to go: by the one action for those that go, or by the words of a vCont
+abbrev pub action_by : Option Action → Who → List ℕ → ℕ → Option Action
+action_by (Some action) going words p = if names going p then Some action else None
+action_by None going words p = action_for words p
+
+-- that of so many processes, the first of which has this number
+unfoldable pub actions_from : Option Action → Who → List ℕ → ℕ → ℕ → List (Option Action)
+actions_from action going words p zero = []
+actions_from action going words p (suc n) = action_by action going words p ∷ actions_from action going words (p + 1) n
+
+-- that of each process that may be
+abbrev pub actions_by : Option Action → Who → List ℕ → List (Option Action)
+actions_by action going words = actions_from action going words 0 101
+
+-- what stops a session's run
+abbrev pub goal_of : Option Action → List ℕ → SessionState → Goal
+goal_of action words s = record { actions = actions_by action s.going words; breakpoints = s.breakpoints }
+
+-- the process of which it is told where it came: where the run is over, the one that was looked at
+abbrev pub came_process : Option Stop → ℕ → ℕ
+came_process None p = p
+came_process (Some stop) p = stop.process
+
+-- and why it stands
+abbrev pub came_reason : Option Stop → Reason
+came_reason None = End
+came_reason (Some stop) = stop.reason
+
+-- the run goes on to a stop or to its end, and what came to the consoles and the log is shown before that is told
+pub record Resumes (action : Option Action) (words : List ℕ) (old new : SessionState) (before after : List ℕ) : Type 0 where
+  pub stop : Option Stop
+  pub goes : Goes (goal_of action words old) old.limit stop old.held new.held
+  pub rest : new ≡ record old { held = new.held; process = came_process stop old.process }
+  pub told : after ≡ before ++ (grown_by (lengths_of old.held) new.held ++ frame (stop_text (came_process stop old.process) (came_reason stop)))

@@ -1,0 +1,93 @@
+-- A session: what a debugger has asked for so far, and what each packet changes.
+use Rattle.std.specs.Prelude.{◌≡◌, ◌<◌, ◌≤◌, codes, ℕ, ◌==◌, ◌&&◌, ◌||◌, Bool, false, nat_lt, if◌then◌else◌, List, [], ◌∷◌, ◌++◌, length, position, remove, Option, Some, None}
+use Rattle.ds_packets.specs.declared.packet.Packet.{Packet}
+use Rattle.ds_packets.specs.declared.packet.Packet.TheVariants.{Look, Go, Break, Unbreak}
+use Rattle.ds_packets.specs.declared.packet.Who.{Who}
+use Rattle.ds_packets.specs.declared.packet.Who.TheVariants as who
+use Rattle.ds_refinement.specs.Held.{Held}
+use Rattle.ds_station.specs.declared.outcome.Unended.{Unended}
+use Rattle.ds_debug.specs.Answers.{are_there, there_text}
+use Rattle.ds_debug.specs.Goals.{is_break}
+use Rattle.ds_debug.specs.Sights.{Sight, sight_held}
+use Rattle.ds_debug.specs.declared.goals.Breakpoint.{Breakpoint}
+
+-- a station with its run: up to which time it goes, whose registers and memory are looked at, who goes where nobody is named, the breakpoints, and whether it was cut short
+pub record SessionState : Type 0 where
+  pub held : Held
+  pub limit : ℕ
+  pub process : ℕ
+  pub going : Who
+  pub breakpoints : List Breakpoint
+  pub cut : Bool
+
+-- what is seen
+abbrev pub sight_of : SessionState → Sight
+sight_of s = sight_held s.held
+
+-- it stands between two turns
+pub record IsSession (s : SessionState) : Type 0 where
+  pub limit : s.limit ≤ 1000000000
+  pub process : s.process < 256
+  pub whole : s.held.kept.state.owed ≡ None
+  pub spent : s.cut ≡ false → s.held.own.spent ≡ 0
+  pub working : s.cut ≡ false → s.held.own.failed ≡ false
+
+-- the run has not gone on, and its bound is the same
+pub record IsStill (old new : SessionState) : Type 0 where
+  pub held : new.held ≡ old.held
+  pub limit : new.limit ≡ old.limit
+
+-- at its beginning
+abbrev pub begun : Held → ℕ → SessionState
+begun h limit = record { held = h; limit = limit; process = 1; going = who.All; breakpoints = []; cut = false }
+
+-- the process that is named, or else this one
+abbrev pub named_or : Who → ℕ → ℕ
+named_or who.Any p = p
+named_or who.All p = p
+named_or (who.Process q) p = q
+
+-- there is room for one more breakpoint, or it is there
+abbrev pub may_break : List Breakpoint → ℕ → ℕ → Bool
+may_break bs p a = is_break bs p a || nat_lt (length bs) 64
+
+-- with a breakpoint, where it is not there and there is room
+abbrev pub with_break : List Breakpoint → ℕ → ℕ → List Breakpoint
+with_break bs p a = if is_break bs p a then bs else (if nat_lt (length bs) 64 then bs ++ (record { process = p; address = a }) ∷ [] else bs)
+
+-- without the one at a place
+abbrev pub without : Option ℕ → List Breakpoint → List Breakpoint
+without None bs = bs
+without (Some i) bs = remove bs i
+
+-- without a breakpoint, where it is there
+abbrev pub without_break : List Breakpoint → ℕ → ℕ → List Breakpoint
+without_break bs p a = without (position (λ b. (b.process == p) && (b.address == a)) bs) bs
+
+-- the session after a packet that changes what is looked at, or what stops
+abbrev pub after_setting : SessionState → Packet → SessionState
+after_setting s (Look w) = if are_there (sight_of s) w then record s { process = named_or w s.process } else s
+after_setting s (Go w) = if are_there (sight_of s) w then record s { going = w } else s
+after_setting s (Break a) = record s { breakpoints = with_break s.breakpoints s.process a }
+after_setting s (Unbreak a) = record s { breakpoints = without_break s.breakpoints s.process a }
+after_setting s other = s
+
+-- and what is answered, where this is seen
+abbrev pub setting_text : Sight → SessionState → Packet → List ℕ
+setting_text v s (Look w) = there_text v w
+setting_text v s (Go w) = there_text v w
+setting_text v s (Break a) = if may_break s.breakpoints s.process a then codes "OK" else codes "E1C"
+setting_text v s other = codes "OK"
+
+-- a process that has not ended, or else this one
+abbrev pub unended_or : Option Unended → ℕ → ℕ
+unended_or None p = p
+unended_or (Some u) p = u.process
+
+-- the process that is told of first: the one that runs, or the first that has not ended, or else this one
+abbrev pub standing_by : Option ℕ → Option Unended → ℕ → ℕ
+standing_by None u p = unended_or u p
+standing_by (Some q) u p = q
+
+abbrev pub told_first : Sight → ℕ → ℕ
+told_first v p = standing_by v.runner v.unended p

@@ -1,0 +1,24 @@
+-- What gdb is told of a process that stands.
+use Rattle.std.specs.Prelude.{codes, ℕ, List, [], ◌++◌}
+use Rattle.ds_packets.specs.Framing.{hex_pair}
+use Rattle.ds_debug.specs.Threads.{thread_text}
+use Rattle.ds_debug.specs.declared.stops.Reason.{Reason}
+use Rattle.ds_debug.specs.declared.stops.Reason.TheVariants.{Rest, Break, Signal, End}
+
+-- the signal: that of what was denied, or else SIGTRAP
+abbrev pub signal_of : Reason → ℕ
+signal_of (Signal s) = s
+signal_of Rest = 5
+signal_of Break = 5
+signal_of End = 5
+
+-- what else is told of the reason
+abbrev pub reason_text : Reason → List ℕ
+reason_text Rest = []
+reason_text Break = codes "swbreak:;"
+reason_text (Signal s) = []
+reason_text End = codes "replaylog:end;"
+
+-- the process, with why it stands
+unfoldable pub stop_text : ℕ → Reason → List ℕ
+stop_text p reason = codes "T" ++ hex_pair (signal_of reason) ++ codes "thread:" ++ thread_text p ++ codes ";" ++ reason_text reason

@@ -1,0 +1,172 @@
+//! What stops a run that goes forward.
+ghost use Rattle.std.specs.Prelude.{◌≡◌, ◌<◌, ◌≤◌, ◌==◌, ◌&&◌, drop, length, slice_index_or, IfSome, IsSome, None};
+ghost use Rattle.std.specs.List.{list_any};
+ghost use Rattle.ds_station.specs.Reads.{address_held};
+ghost use Rattle.ds_pagemap.specs.Machine.{first};
+ghost use Rattle.ds_debug.specs.Goals.{action_of, break_stop, is_break, is_done, is_within, stop_after, stop_by, unit_stop, unit_stop_by};
+
+use crate::denials::signal_told;
+use crate::look::is_there;
+use crate::stops::Reason;
+use ds_packets::Action;
+use ds_station::Station;
+use ds_tlb::Lookaside;
+use ds_word::wrapping_difference;
+
+/// A place at which a process stops.
+#[derive(Clone, Copy, Debug, Default, PartialEq, Eq)]
+pub struct Breakpoint {
+    pub process: u32,
+    pub address: u32,
+}
+
+/// A process that has stopped, and why.
+#[derive(Clone, Copy, Debug, PartialEq, Eq)]
+pub struct Stop {
+    pub process: u32,
+    pub reason: Reason,
+}
+
+/// How far a process is to go, if it is named and there.
+fn action_of<L: Lookaside>(
+    actions: &[Option<Action>],
+    station: &Station<L>,
+    process: u32,
+) -> Option<Action>
+    ensures value { result ≡ action_of actions.now station.now.held process }
+    ensures there { IsSome result → (0 < process)
+        × (process ≤ length station.now.held.kept.state.processes) × (process ≤ 100) }
+{
+    if is_there(station, process) {
+        actions.get(process as usize).copied().unwrap_or(None)
+    } else {
+        None
+    }
+}
+
+/// Whether an address lies from the first on, and before the second, in 32 bits.
+fn is_within(from: u32, to: u32, address: u32) -> bool
+    ensures { result ≡ is_within from to address }
+{
+    wrapping_difference(address, from) < wrapping_difference(to, from)
+}
+
+/// Whether a process has gone as far as it was to go, when its unit is done and it stands here.
+fn is_done(action: Action, address: u32) -> bool
+    ensures { result ≡ is_done action address }
+{
+    match action {
+        Action::Continue => false,
+        Action::Step => true,
+        Action::Range { from, to } => !is_within(from, to, address),
+    }
+}
+
+/// Whether a process stops by what it was denied, or where it has gone so far.
+fn stop_by(process: u32, signal: Option<u8>, done: bool) -> Option<Stop>
+    ensures value { result ≡ stop_by process signal done }
+    ensures same { IfSome result (λ stop. stop.process ≡ process) }
+{
+    let reason = match signal {
+        Some(signal) => Reason::Signal(signal),
+        None if done => Reason::Rest,
+        None => return None,
+    };
+    Some(Stop { process, reason })
+}
+
+/// What came to the log after so many bytes.
+pub(crate) fn grown(log: &[u8], logged: usize) -> &[u8]
+    ensures { result.now ≡ drop logged log.now }
+{
+    if logged <= log.len() {
+        &log[logged..]
+    } else {
+        &[]
+    }
+}
+
+/// What stops the process of a unit, if it is named and there.
+fn stop_of<L: Lookaside>(
+    station: &Station<L>,
+    process: u32,
+    action: Action,
+    logged: usize,
+) -> Option<Stop>
+    requires above { 0 < process }
+    requires within { process ≤ length station.now.held.kept.state.processes }
+    ensures same { IfSome result (λ stop. stop.process ≡ process) }
+    ensures value { result ≡ unit_stop_by (Some action) process
+        (address_held station.now.held process) (drop logged station.now.held.kept.log) }
+{
+    let signal = signal_told(grown(station.log(), logged));
+    stop_by(process, signal, is_done(action, station.address(process)))
+}
+
+/// What stops the process that ran, if one did.
+fn unit_stop<L: Lookaside>(
+    station: &Station<L>,
+    actions: &[Option<Action>],
+    breakpoints: &[Breakpoint],
+    runner: Option<u32>,
+    logged: usize,
+) -> Option<Stop>
+    ensures small { IfSome result (λ stop. stop.process ≤ 100) }
+    ensures value { result ≡ unit_stop
+        (record { actions = actions.now; breakpoints = breakpoints.now })
+        runner logged station.now.held }
+{
+    let process = runner?;
+    let action = action_of(actions, station, process)?;
+    stop_of(station, process, action, logged)
+}
+
+/// Whether a process has a breakpoint at an address.
+pub(crate) fn is_break(breakpoints: &[Breakpoint], process: u32, address: u32) -> bool
+    ensures { result ≡ is_break breakpoints.now process address }
+{
+    breakpoints
+        .iter()
+        .any(|b| b.process == process && b.address == address)
+}
+
+/// What stops the process that runs next, if one does.
+fn break_stop<L: Lookaside>(
+    station: &Station<L>,
+    actions: &[Option<Action>],
+    breakpoints: &[Breakpoint],
+) -> Option<Stop>
+    ensures small { IfSome result (λ stop. stop.process ≤ 100) }
+    ensures value { result ≡ break_stop
+        (record { actions = actions.now; breakpoints = breakpoints.now })
+        (first station.now.held.kept.state.ready) station.now.held }
+{
+    let process = station.runner()?;
+    if action_of(actions, station, process).is_some()
+        && is_break(breakpoints, process, station.address(process))
+    {
+        let reason = Reason::Break;
+        Some(Stop { process, reason })
+    } else {
+        None
+    }
+}
+
+/// What stops after a turn in which this process ran, and before which the log had so many bytes.
+pub(crate) fn stop_after<L: Lookaside>(
+    station: &Station<L>,
+    actions: &[Option<Action>],
+    breakpoints: &[Breakpoint],
+    runner: Option<u32>,
+    logged: usize,
+) -> Option<Stop>
+    ensures small { IfSome result (λ stop. stop.process ≤ 100) }
+    ensures value { result ≡ stop_after
+        (record { actions = actions.now; breakpoints = breakpoints.now })
+        runner logged station.now.held }
+{
+    match unit_stop(station, actions, breakpoints, runner, logged) {
+        Some(stop) => Some(stop),
+        None => break_stop(station, actions, breakpoints),
+    }
+}

@@ -1,0 +1,94 @@
+//! Memory as a process may load it.
+ghost use Rattle.std.specs.Prelude.{◌≡◌, ◌<◌, ◌≤◌, ◌++◌, IfOk, OnOk, length};
+ghost use Rattle.ds_pagemap.specs.Machine.{State};
+ghost use Rattle.ds_refinement.specs.Stands.{Stands};
+ghost use Rattle.ds_station.specs.Reads.{memory_held};
+ghost use Rattle.ds_debug.specs.Memory as memory;
+ghost use Rattle.ds_debug.specs.Memory.{byte_read, bytes_from, bytes_text, memory_text};
+
+use ds_packets::push_hex;
+use ds_station::Station;
+use ds_tlb::Lookaside;
+use ds_word::byte_unsigned;
+use std::alloc::{AllocError, Global};
+
+/// The most bytes that are told at once.
+const MOST_BYTES: u32 = 2048;
+
+/// The byte at an address, where the process may load it.
+#[tactic(auto, using(crate::proofs::Bytes::byte_by_word))]
+fn byte_read<L: Lookaside>(station: &Station<L>, process: u32, address: u32) -> Option<u8>
+    requires above { 0 < process }
+    requires within { process ≤ length station.now.held.kept.state.processes }
+    ensures { result ≡ byte_read (memory_held station.now.held) process address }
+{
+    let word = station.word_read(process, address - address % 4)?;
+    Some(byte_unsigned(word, address % 4) as u8)
+}
+
+/// The bytes from an address on, up to the first that the process may not load, and so many at most.
+fn bytes_from<L: Lookaside>(
+    alloc: Global,
+    station: &Station<L>,
+    process: u32,
+    address: u32,
+    count: u32,
+) -> Result<Vec<u8>, AllocError>
+    requires above { 0 < process }
+    requires within { process ≤ length station.now.held.kept.state.processes }
+    ensures { IfOk result (λ bytes. bytes.items
+        ≡ bytes_from (memory_held station.now.held) process address count) }
+{
+    let mut bytes = Vec::new(alloc);
+    for index in 0..count {
+        if u32::MAX - address < index {
+            return Ok(bytes);
+        }
+        let place = address + index;
+        match byte_read(station, process, place) {
+            Some(byte) => bytes.push(byte)?,
+            None => return Ok(bytes),
+        }
+    }
+    Ok(bytes)
+}
+
+/// So many bytes as are told at once.
+fn few(count: u32) -> u32
+    ensures { result ≡ memory.few count }
+{
+    if count < MOST_BYTES {
+        count
+    } else {
+        MOST_BYTES
+    }
+}
+
+/// Adds bytes, or the error where there is none.
+fn push_bytes(text: &mut Vec<u8>, bytes: &[u8]) -> Result<(), AllocError>
+    ensures { OnOk result (text.new.items ≡ text.old.items ++ bytes_text bytes.now) }
+{
+    match bytes {
+        [] => text.extend_from_slice(b"E14"),
+        _ => push_hex(text, bytes),
+    }
+}
+
+/// Adds the bytes from an address on, up to the first that the process may not load, so many at most,
+/// and 2,048 at most; and the error `E14` where there is none.
+pub(crate) fn push_memory<L: Lookaside>(
+    alloc: Global,
+    text: &mut Vec<u8>,
+    station: &Station<L>,
+    process: u32,
+    address: u32,
+    count: u32,
+) -> Result<(), AllocError>
+    requires above { 0 < process }
+    requires within { process ≤ length station.now.held.kept.state.processes }
+    ensures { OnOk result (text.new.items ≡ text.old.items
+        ++ memory_text (memory_held station.now.held) process address count) }
+{
+    let bytes = bytes_from(alloc, station, process, address, few(count))?;
+    push_bytes(text, bytes.as_slice())
+}
