@@ -16,6 +16,7 @@ use Rattle.ds_refinement.specs.declared.step.Step.TheVariants.{Inside, Unit, Bou
 use Rattle.ds_refinement.specs.Held.{Held}
 use Rattle.ds_refinement.specs.Counts.{IsFew, Counts}
 use Rattle.ds_refinement.specs.Stands.{Stands, IsSound, CountedBy}
+use Rattle.ds_refinement.specs.Real.{RealPath}
 use Rattle.ds_refinement.specs.Steps.{Moves}
 use Rattle.ds_refinement.specs.Services.{with_failure}
 use Rattle.ds_refinement.specs.Runs.{RunsTo, RunsWithin, held_goes_on}
@@ -248,6 +249,15 @@ module _ (v : View) (n : ℕ) (f : Fault) (h new : Held) (text more : List ℕ) 
     spent = s.spent;
   }
 
+-- memory refused it, where no unit is begun
+pub halted_cut : (f : Fault) (from h new : Held) (text more : List ℕ) (b c : Progress) → HasHalted f h new text b more c → h.own.failed ≡ false → RealPath from h → IsCut f from new
+halted_cut f from h new text more b c s working path = record {
+  last = h;
+  path = path;
+  refused = subst (λ (x : Fault). RefusesStep x h) (sym s.memory) (working, sym (ap (λ (x : Held). x.own.spent) s.still) ∙ s.spent, s.over);
+  marked = s.still;
+}
+
 -- Before the first step, and after the last.
 
 new_is : (f : Fault) → IsNewFault f → f ≡ fault.Memory
@@ -340,7 +350,7 @@ module _ (v : View) (n : ℕ) (from h : Held) (a d e : Option (List ℕ)) (text 
         inl (finished_so_far v n m h a d e text all.progress told from (processor_held v lines c h) (processor_told v n from h c lines m (touched told.early (after n told.choices m)) counted k told.stands) counts all.counts all.spent all.stopped.1 all.stopped.2 done);
   }
 
-  pub finished_traces : (counts : Counted) → TellsAll None v n from h a d text counts → IsFinished v counts d e (text ++ processor_held v lines c h) h → Traces v n from h a e
+  pub finished_traces : (counts : Counted) → TellsAll None v n from h a d text counts → IsFinished v counts d e (text ++ processor_held v lines c h) h → Traces v n from h a e counts
   finished_traces counts all done = record {
     traces = λ m k.
         let told = all.tells.tells m k in

@@ -19,7 +19,8 @@ use Rattle.ds_trace.specs.Starts.{start_of}
 use Rattle.ds_trace.specs.Boundaries.{due_by}
 use Rattle.ds_trace.specs.Changes.{same_first, same_standing, standing_line, standings_text, way_text, switch_text, changes_text}
 use Rattle.ds_trace.specs.Entries.{tables_text}
-use Rattle.ds_trace.specs.Counts.{Counted, plus, lost_of, is_counted, is_unbegun, rest_counted, switch_counted, counts_after}
+use Rattle.ds_trace.specs.declared.counts.Lossy.{Lossy}
+use Rattle.ds_trace.specs.Counts.{Counted, plus, loss_of, lost_of, is_counted, is_unbegun, rest_counted, switch_counted, counts_after}
 use Rattle.ds_trace.specs.Halves.{log_of, told_table, looked_of, found_of, process_in, done_text, opening_text, half_after, half_text, half_counts}
 
 untouched : (x : State) (d : Bool) → x.ready ≡ [] → touched d x ≡ x
@@ -149,19 +150,20 @@ idle_boundary v k x t owed none =
 
 -- The tick is counted once.
 
--- the counts after a half turn without a unit, by whether its turn is counted, whether a boundary was owed, who was first and is first, whether one is owed now, and how many characters were lost
-abbrev counts_by : Bool → Counted → Bool → Option ℕ → Option ℕ → Bool → ℕ → Counted
-counts_by counted k was before after is lost =
+-- the counts after a half turn without a unit, by whether its turn is counted, whether a boundary was owed, who was first and is first, whether one is owed now, how many characters were lost, and where
+abbrev counts_by : Bool → Counted → Bool → Option ℕ → Option ℕ → Bool → ℕ → List Lossy → Counted
+counts_by counted k was before after is lost lossy =
     cond counted
     (record k {
       idle = cond was k.idle (plus k.idle 1);
       lost = cond is k.lost (plus k.lost lost);
+      losses = cond is k.losses (k.losses ++ lossy);
       switches = cond (same_first before after) k.switches (plus k.switches 1);
     }) k
 
-counts_twice : (counted : Bool) (k : Counted) (after : Option ℕ) (is : Bool) (lost none : ℕ) → counts_by counted k false None after is lost ≡ counts_by counted (counts_by counted k false None None true none) true None after is lost
-counts_twice true k after is lost none = refl
-counts_twice false k after is lost none = refl
+counts_twice : (counted : Bool) (k : Counted) (after : Option ℕ) (is : Bool) (lost none : ℕ) (lossy any : List Lossy) → counts_by counted k false None after is lost lossy ≡ counts_by counted (counts_by counted k false None None true none any) true None after is lost lossy
+counts_twice true k after is lost none lossy any = refl
+counts_twice false k after is lost none lossy any = refl
 
 -- with its boundary
 pub idle_counts : (v : View) (k : Counted) (x t : State) → x.owed ≡ None → x.ready ≡ [] → counts_after v k (looked_of v x) (found_of (process_in (looked_of v x).start) t) ≡ half_counts v (half_counts v k x (idle_after x)) (idle_after x) t
@@ -170,9 +172,11 @@ idle_counts v k x t owed none =
     let counted : Bool = is_counted v x.time in
     let lost : ℕ = lost_of b (found_of 0 t) in
     let none_lost : ℕ = lost_of b (found_of 0 (idle_after x)) in
+    let lossy : List Lossy = loss_of b (found_of 0 t) in
+    let none_lossy : List Lossy = loss_of b (found_of 0 (idle_after x)) in
     let runs : first x.ready ≡ None = ap first none in
     ap (λ (l : Looked). counts_after v k l (found_of (process_in l.start) t)) (idle_looked v x owed none)
-    ∙ (ap (λ (o : Option ℕ). counts_by counted k false o (first t.ready) (is_some t.owed) lost) runs
-    ∙ (counts_twice counted k (first t.ready) (is_some t.owed) lost none_lost
-    ∙ (sym (ap (λ (o : Option ℕ). counts_by counted (counts_by counted k false o o true none_lost) true o (first t.ready) (is_some t.owed) lost) runs)
+    ∙ (ap (λ (o : Option ℕ). counts_by counted k false o (first t.ready) (is_some t.owed) lost lossy) runs
+    ∙ (counts_twice counted k (first t.ready) (is_some t.owed) lost none_lost lossy none_lossy
+    ∙ (sym (ap (λ (o : Option ℕ). counts_by counted (counts_by counted k false o o true none_lost none_lossy) true o (first t.ready) (is_some t.owed) lost lossy) runs)
     ∙ sym (ap (λ (l : Looked). counts_after v (counts_after v k l (found_of (process_in l.start) (idle_after x))) (looked_of v (idle_after x)) (found_of 0 t)) (idle_looked v x owed none)))))

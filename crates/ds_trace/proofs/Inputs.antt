@@ -18,6 +18,7 @@ use Rattle.ds_station.specs.Headline.{Begins, BeginsWith, IsRefused, Loaded, Ref
 use Rattle.ds_station.specs.declared.fault.Fault.{Fault}
 use Rattle.ds_station.specs.declared.fault.Fault.TheVariants as fault
 use Rattle.ds_view.specs.declared.view.View.{View}
+use Rattle.ds_trace.specs.Counts.{Counted}
 use Rattle.ds_trace.specs.Ends.{end_text}
 use Rattle.ds_trace.specs.Traces.{counts_along, told_to, trace_along, TraceEndsBy, TraceEndsReally, WritesShort, WritesTold, WritesToldPart, WritesTrace, WritesTraceBy, WritesTracePart, WritesTracePartReally, WritesTraceReally, WritesTraceShort, WritesTraceShortReally}
 use Rattle.ds_trace.specs.Shows.{Traces, TracesPart, TracesShort}
@@ -111,8 +112,8 @@ short_part v old new n m Tells (inr t) =
     }
 
 -- a run that was told to its end
-pub told_ok : (v : View) (read : Result State Refusal) (s h : Held) (old new : Option (List ℕ)) (n : ℕ) → Begins read (Stands s) → Traces v n s h old new → Begins read (WritesTraceBy v h old new n)
-told_ok v read s h old new n b t = (b.0, b.1, of_some v old new n s h b.0 (t.traces b.0 b.2))
+pub told_ok : (v : View) (read : Result State Refusal) (s h : Held) (old new : Option (List ℕ)) (n : ℕ) (k : Counted) → Begins read (Stands s) → Traces v n s h old new k → Begins read (WritesTraceBy v h old new n)
+told_ok v read s h old new n k b t = (b.0, b.1, of_some v old new n s h b.0 (t.traces b.0 b.2).told)
 
 -- or not
 pub told_err : {T : Type 0} (r : Result T Fault) (v : View) (read : Result State Refusal) (s : Held) (old new : Option (List ℕ)) (n : ℕ) → Begins read (Stands s) → OnErr r (TracesPart v n s old new) → IfErr r IsLate → IfErr r (λ f. f ≡ fault.Memory → TracesShort v n s old new) → IfErr r (λ f. TraceEndsBy f v read old new n)
@@ -172,10 +173,10 @@ begins_at h policy sources input n random start b l =
     (l.0, l.1, (l.2, subst (Stands h) (ap (state_or b.0) same) b.2))
 
 -- a run that was told to its end
-pub told_really : (v : View) (read : Result Loaded Refusal) (s h : Held) (old new : Option (List ℕ)) (n start : ℕ) → Begins read (BeginsAt start s) → Traces v n s h old new → Begins read (WritesTraceReally v old new n start)
-told_really v read s h old new n start b t =
+pub told_really : (v : View) (read : Result Loaded Refusal) (s h : Held) (old new : Option (List ℕ)) (n start : ℕ) (k : Counted) → Begins read (BeginsAt start s) → Traces v n s h old new k → Begins read (WritesTraceReally v old new n start)
+told_really v read s h old new n start k b t =
     let m : State = first_state b.0.policy b.0.images b.0.input in
-    (b.0, b.1, record { first = s; begins = b.2.0; written = told_weaker v old new n m (λ last lines. TellsFrom v n s m last lines × Stands h last) (TellsFrom v n s m) (λ last lines told. told.0) (t.traces m b.2.1) })
+    (b.0, b.1, record { first = s; begins = b.2.0; written = told_weaker v old new n m (λ last lines. TellsFrom v n s m last lines × Stands h last) (TellsFrom v n s m) (λ last lines told. told.0) (t.traces m b.2.1).told })
 
 late_really : (f : Fault) (v : View) (read : Result Loaded Refusal) (old new : Option (List ℕ)) (n start : ℕ) → IsLate f → (f ≡ fault.Memory → Begins read (WritesTraceShortReally v old new n start)) → Begins read (WritesTracePartReally v old new n start) → TraceEndsReally f v read old new n start
 late_really fault.Memory v read old new n start late short b = inr (short refl)

@@ -1,4 +1,5 @@
 pub mod Scanning
+pub mod Adding
 pub mod Results
 pub mod Asking
 pub mod Due
@@ -13,5 +14,7 @@ pub mod Standing
 pub mod Telling
 pub mod Following
 pub mod Inputs
+pub mod Summing
 pub mod MemoryLines
 pub mod Accounting
+pub mod Joining

@@ -307,6 +307,11 @@ told_if : (b : Bool) (Tells : List ℕ → Type 0) (text : List ℕ) → Tells t
 told_if true Tells text told = told
 told_if false Tells text told = refl
 
+-- by real steps so far
+pub counting_path : (window : Option ℕ) (k n : ℕ) (start h : Held) (c : ProcessorCounts) (e : WindowEnd) → IsCounting window k n start h c e → RealPath start h
+counting_path window k n start h c e counting =
+    record { path = counting.steps.path ++ counting.ran.path.path; through = through_both start counting.from h counting.ran.path.path counting.steps.path counting.ran.path.through counting.steps.through }
+
 -- what a view wants of it
 pub processor_told : (v : View) (n : ℕ) (start h : Held) (c : ProcessorCounts) (lines : List ℕ) (m last : State) → HasCounted (window_end v) (told_from v n) n start h c lines → Stands start m → Stands h last → TellsFrom v n start m last (processor_held v lines c h)
 processor_told v n start h c lines m last counted begin end = (

@@ -1,5 +1,5 @@
 -- What an instruction leaves, by what a station holds.
-use Rattle.std.proofs.Common.{◌≡◌, ◌∙◌, ℕ, true, List, ◌++◌, append_assoc, length, sym, ap}
+use Rattle.std.proofs.Common.{◌≡◌, ◌∙◌, ℕ, true, List, ◌++◌, length, sym, ap}
 use Rattle.std.proofs.lemmas.List.{length-map}
 use Rattle.ds_isa.specs.Instruction.{instruction_of}
 use Rattle.ds_pagemap.specs.Machine.{Process}
@@ -17,10 +17,3 @@ pub effect_is : (h : Held) (p w : ℕ) (general : List ℕ) → general ≡ gene
 effect_is h p w general has =
     ap (λ (l : List ℕ). effect h p w l (length h.kept.state.processes)) has
     ∙ ap (effect h p w (general_held h p)) (sym (length-map h.kept.state.processes (λ (q : Process). q.standing)))
-
--- what is added after what was added
-pub after_all : (old x s e : List ℕ) → s ≡ old ++ x → s ++ e ≡ old ++ (x ++ e)
-after_all old x s e is = ap (λ (l : List ℕ). l ++ e) is ∙ append_assoc old x e
-
-pub joined : (old x y s t : List ℕ) → s ≡ old ++ x → t ≡ s ++ y → t ≡ old ++ (x ++ y)
-joined old x y s t is adds = adds ∙ after_all old x s y is

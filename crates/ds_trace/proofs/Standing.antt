@@ -1,7 +1,6 @@
 -- What a trace shows of a station, it shows of each machine state that the station stands for.
-use Rattle.std.proofs.Common.{◌≡◌, ℕ, suc, ◌+◌, ◌-◌, ◌<◌, ◌^◌, Bool, true, false, cond, List, [], ◌∷◌, ◌++◌, length, Option, Some, None, refl, sym, ap, subst, ◌∙◌, arith, set, get_or}
+use Rattle.std.proofs.Common.{◌≡◌, ℕ, suc, ◌+◌, ◌-◌, ◌<◌, ◌^◌, Bool, true, false, cond, List, [], ◌∷◌, ◌++◌, length, Option, Some, None, refl, sym, ap, ◌∙◌, arith, get_or}
 use Rattle.std.specs.Prelude.{◌==◌, is_some, map}
-use Rattle.std.proofs.lemmas.List.{length-map, length-set}
 use Rattle.std.proofs.lemmas.Bool.Decides.{nat_tests}
 use Rattle.ds_word.specs.Word.{word, bits}
 use Rattle.ds_isa.specs.Registers.{Registers}
@@ -13,13 +12,14 @@ use Rattle.ds_procs.specs.declared.process.Standing.{Standing}
 use Rattle.ds_pagemap.specs.Machine.{State, Process, no_process, process_of, first}
 use Rattle.ds_pagemap.specs.Boundary.{is_first}
 use Rattle.ds_pagemap_laws.specs.Settled.{settled_process}
-use Rattle.ds_refinement.specs.Held.{Held, Kept, Own, bare, vacated, last_boundary}
-use Rattle.ds_refinement.specs.Stands.{Stands, CountedBy, RunningIs, RunningBy, OnProcessor}
+use Rattle.ds_refinement.specs.Held.{Held, Kept, Own, bare, last_boundary}
+use Rattle.ds_refinement.specs.Stands.{Stands, CountedBy, RunningBy, OnProcessor}
 use Rattle.ds_refinement.proofs.Boundaries.{beside}
 use Rattle.ds_refinement.proofs.Tallied.{unbegun_of}
 use Rattle.ds_station.specs.Reads.{address_held, general_held, memory_held, unit_on}
 use Rattle.ds_station.proofs.Headlines.{time_stands, owed_stands}
 use Rattle.ds_station.proofs.Showing.{first_is, seated_by}
+use Rattle.ds_station.proofs.Standings.{as_many, running_here, standing_stands}
 use Rattle.ds_view.specs.declared.view.View.{View}
 use Rattle.ds_view.specs.Views.{shows_turn}
 use Rattle.ds_trace.specs.declared.start.Start.{Start}
@@ -42,15 +42,6 @@ four_back x small = omega (arith, small)
 
 equal_itself : (p : ℕ) → (p == p) ≡ true
 equal_itself p = grind (arith, nat_tests)
-
--- as many processes are kept
-as_many : (queue : List ℕ) (m k : State) → bare (vacated queue m) ≡ vacated queue k → length m.processes ≡ length k.processes
-as_many [] m k e = sym (length-map m.processes settled_process) ∙ ap (λ (s : State). length s.processes) e
-as_many (p ∷ rest) m k e =
-    sym (length-set m.processes (p - 1) no_process)
-    ∙ (sym (length-map (set m.processes (p - 1) no_process) settled_process)
-    ∙ (ap (λ (s : State). length s.processes) e
-    ∙ length-set k.processes (p - 1) no_process))
 
 -- where nothing of a unit is counted, the processor is in user mode
 user_by : (queue : List ℕ) (c : CoreState) (own : Own) (k : Kept) (m : State) → CountedBy queue c own k m → RunningBy queue c k m → own.spent ≡ 0 → is_user c.system ≡ true
@@ -137,10 +128,6 @@ module _ (h : Held) (m : State) (k : Stands h m) where
   seated : (p : ℕ) → 0 < p → is_first (first h.kept.state.ready) p ≡ false → settled_process (process_of m p) ≡ process_of h.kept.state p
   seated p some other = seated_by h.kept.state.ready h.core h.kept m p k.agrees.running k.agrees.kept.state some other
 
-  -- on the processor
-  running : (p : ℕ) → is_first (first h.kept.state.ready) p ≡ true → RunningIs p h.core h.kept m
-  running p is = let r = first_is h.kept.state.ready p is in subst (λ (queue : List ℕ). RunningBy queue h.core h.kept m) r.1 k.agrees.running
-
   -- in user mode the processor tells the address of the unit
   address_on : (user slot : Bool) (c : CoreState) (p : ℕ) → user ≡ true → OnProcessor user slot c h.kept p m → cond slot (word (c.pc + 0xFFFFFFFC)) c.pc ≡ (process_of m p).pc
   address_on false slot c p is on = absurd (cc)
@@ -148,7 +135,7 @@ module _ (h : Held) (m : State) (k : Stands h m) where
   address_on true false c p is on = on.pc
 
   address_by : (b : Bool) (p : ℕ) → is_first (first h.kept.state.ready) p ≡ b → 0 < p → is_user h.core.system ≡ true → cond b (unit_on h.core) (process_of h.kept.state p).pc ≡ (process_of m p).pc
-  address_by true p is some user = address_on (is_user h.core.system) h.core.slot h.core p user (running p is).on
+  address_by true p is some user = address_on (is_user h.core.system) h.core.slot h.core p user (running_here h m k p is).on
   address_by false p is some user = ap (λ (q : Process). q.pc) (sym (seated p some is))
 
   address_stands : (p : ℕ) → 0 < p → h.own.spent ≡ 0 → address_held h p ≡ (process_of m p).pc
@@ -162,25 +149,18 @@ module _ (h : Held) (m : State) (k : Stands h m) where
   pub general_stands : (p : ℕ) → 0 < p → h.own.spent ≡ 0 → general_held h p ≡ general_of m p
   general_stands p some none = general_by (is_first (first h.kept.state.ready) p) p refl some none
 
-  standing_by : (b : Bool) (p : ℕ) → is_first (first h.kept.state.ready) p ≡ b → 0 < p → (process_of h.kept.state p).standing ≡ (process_of m p).standing
-  standing_by true p is some = let r = running p is in r.kept ∙ sym r.standing
-  standing_by false p is some = ap (λ (q : Process). q.standing) (sym (seated p some is))
-
-  standing_stands : (p : ℕ) → 0 < p → (process_of h.kept.state p).standing ≡ (process_of m p).standing
-  standing_stands p some = standing_by (is_first (first h.kept.state.ready) p) p refl some
-
   standings_stand : map (λ (q : Process). q.standing) h.kept.state.processes ≡ map (λ (q : Process). q.standing) m.processes
   standings_stand = standings_alike h.kept.state.processes m.processes (sym (as_many h.kept.state.ready m h.kept.state k.agrees.kept.state)) (λ i.
       let back : i + 1 - 1 ≡ i = omega arith in
       let some : 0 < i + 1 = omega arith in
       sym (ap (λ (j : ℕ). (get_or h.kept.state.processes j no_process).standing) back)
-      ∙ (standing_stands (i + 1) some ∙ ap (λ (j : ℕ). (get_or m.processes j no_process).standing) back))
+      ∙ (standing_stands h m k (i + 1) some ∙ ap (λ (j : ℕ). (get_or m.processes j no_process).standing) back))
 
   -- Before a half turn.
 
   -- who runs has a number
   pub some_first : (p : ℕ) → first h.kept.state.ready ≡ Some p → 0 < p
-  some_first p is = (running p (ap (λ (o : Option ℕ). is_first o p) is ∙ equal_itself p)).seat.0
+  some_first p is = (running_here h m k p (ap (λ (o : Option ℕ). is_first o p) is ∙ equal_itself p)).seat.0
 
   start_by : (o : Option ℕ) → first h.kept.state.ready ≡ o → h.own.spent ≡ 0 → start_held h o ≡ start_of m o
   start_by None is none = refl
@@ -246,7 +226,7 @@ module _ (h : Held) (m : State) (k : Stands h m) where
       let back : j - 1 ≡ i = omega (arith, is) in
       let some : 0 < j = omega (arith, is) in
       let at : process_of m j ≡ get_or m.processes i no_process = ap (λ (x : ℕ). get_or m.processes x no_process) back in
-      (standing_stands j some ∙ ap (λ (q : Process). q.standing) at, address_stands j some none ∙ ap (λ (q : Process). q.pc) at, general_stands j some none ∙ ap (λ (q : Process). q.registers.general) at))
+      (standing_stands h m k j some ∙ ap (λ (q : Process). q.standing) at, address_stands j some none ∙ ap (λ (q : Process). q.pc) at, general_stands j some none ∙ ap (λ (q : Process). q.registers.general) at))
 
   pub end_stands : (v : View) (c : Counted) → h.own.spent ≡ 0 → end_held v c h ≡ end_text v c m
   end_stands v c none =

@@ -31,7 +31,7 @@ use Rattle.ds_trace.specs.Halves.{looked_of, found_of, process_in, half_after, h
 use Rattle.ds_trace.specs.Ends.{end_text}
 use Rattle.ds_trace.specs.Processors.{TellsFrom}
 use Rattle.ds_trace.specs.declared.progress.Progress.{Progress}
-use Rattle.ds_trace.specs.Traces.{counts_along, trace_along, told_to, WritesLines, WritesTold, WritesToldPart, WritesToldSoFar}
+use Rattle.ds_trace.specs.Traces.{counts_along, trace_along, told_to, WritesLines, WritesToldBy, WritesToldPart, WritesToldSoFar}
 use Rattle.ds_trace.specs.Handed.{IsFinished, IsHandedOn}
 use Rattle.ds_trace.specs.Shows.{looked_held, half_held, counts_held, progress_held, end_held, IsTold}
 use Rattle.ds_trace.specs.Advanced.{is_last}
@@ -413,15 +413,18 @@ module _ (v : View) (n : ℕ) (m : State) (h : Held) (a d e : Option (List ℕ))
       ∙ ap (λ (l : List ℕ). trace_along v n told.choices m ++ processor ++ l) (last_end k is none))
       (appends_both a d between told.sent (text ++ processor ++ end_held v k h) told.appends trace)
 
-  pub finished : (k : Counted) → b.counts ≡ k → h.own.spent ≡ 0 → held_goes_on n h ≡ false → IsFinished v k d e (text ++ processor) h → WritesTold v a e n m (λ last lines. TellsFrom v n start m last lines × Stands h last)
+  pub finished : (k : Counted) → b.counts ≡ k → h.own.spent ≡ 0 → held_goes_on n h ≡ false → IsFinished v k d e (text ++ processor) h → WritesToldBy v a e n m (λ last lines. TellsFrom v n start m last lines × Stands h last) k
   finished k is none over done = record {
-    last = last_state;
-    ends = record { reached = last_reached; over = goes_alike n h last_state told.stands ∙ over };
-    processor = processor;
-    processed = (processed, told.stands);
-    between = done.between;
-    trace = trace_written k is none done.between done.trace;
-    written = subst (Appends done.between e) last_text done.written;
+    told = record {
+      last = last_state;
+      ends = record { reached = last_reached; over = goes_alike n h last_state told.stands ∙ over };
+      processor = processor;
+      processed = (processed, told.stands);
+      between = done.between;
+      trace = trace_written k is none done.between done.trace;
+      written = subst (Appends done.between e) last_text done.written;
+    };
+    counts = sym is ∙ told.counted;
   }
 
   -- so of a run that was cut short

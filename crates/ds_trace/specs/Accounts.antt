@@ -57,8 +57,16 @@ abbrev pub came_words : Option Unended → ℕ → ℕ → List ℕ
 came_words None n time = codes "ended at "
 came_words (Some u) n time = if nat_lt time n then codes "stopped at " else codes "out of ticks at "
 
+-- how a run for n came to its end, and how all processes stand there, by these lines of the log
+abbrev pub came_text : ℕ → List (List ℕ) → Held → List ℕ
+came_text n lines h =
+    (came_words (first_unended h.kept.state) n h.kept.state.time ++ decimal h.kept.state.time ++ codes "\n")
+    ++ all_stand lines h 1 (length h.kept.state.processes)
+
+-- what was denied by each rule
+abbrev pub denied_by : List (List ℕ) → List ℕ
+denied_by lines = rules_text [] (rules_of lines)
+
 -- the account of a run for n by what a station holds at its end
 abbrev pub account_text : ℕ → Held → List ℕ
-account_text n h =
-    came_words (first_unended h.kept.state) n h.kept.state.time ++ decimal h.kept.state.time ++ codes "\n"
-    ++ all_stand (lines_of h.kept.log) h 1 (length h.kept.state.processes) ++ rules_text [] (rules_of (lines_of h.kept.log))
+account_text n h = came_text n (lines_of h.kept.log) h ++ denied_by (lines_of h.kept.log)

@@ -56,6 +56,12 @@ count_keys [] queues = 0
 count_keys (n ∷ lengths) [] = 0
 count_keys (n ∷ lengths) (queue ∷ queues) = (length queue - n) + count_keys lengths queues
 
+-- and to each of the queues
+abbrev pub taken_by : List ℕ → List (List ℕ) → List ℕ
+taken_by [] queues = []
+taken_by (n ∷ lengths) [] = []
+taken_by (n ∷ lengths) (queue ∷ queues) = (length queue - n) ∷ taken_by lengths queues
+
 -- how many characters were lost
 abbrev pub lost_text : ℕ → ℕ → List ℕ
 lost_text time zero = []

@@ -4,9 +4,10 @@ use Rattle.ds_procs.specs.declared.call.Call.{Call}
 use Rattle.ds_procs.specs.declared.call.Call.TheVariants as call
 use Rattle.ds_view.specs.declared.view.View.{View}
 use Rattle.ds_view.specs.Views.{has_lines, shows_turn}
+use Rattle.ds_trace.specs.declared.counts.Lossy.{Lossy}
 use Rattle.ds_trace.specs.declared.start.Start.{Start}
 use Rattle.ds_trace.specs.Looks.{Looked, Found}
-use Rattle.ds_trace.specs.Boundaries.{count_keys}
+use Rattle.ds_trace.specs.Boundaries.{count_keys, taken_by}
 use Rattle.ds_trace.specs.Changes.{same_first}
 
 -- what is counted of the turns that a view wants
@@ -23,6 +24,8 @@ pub record Counted : Type 0 where
   pub copies : ℕ
   -- the characters that were lost
   pub lost : ℕ
+  -- the boundaries that lost some
+  pub losses : List Lossy
   -- what the units logged
   pub denied : List ℕ
 
@@ -36,6 +39,7 @@ none_counted = record {
   calls = 0 ∷ 0 ∷ 0 ∷ 0 ∷ 0 ∷ 0 ∷ 0 ∷ 0 ∷ 0 ∷ 0 ∷ 0 ∷ [];
   copies = 0;
   lost = 0;
+  losses = [];
   denied = [];
 }
 
@@ -85,11 +89,20 @@ unit_counted k s logged answer = record k {
 abbrev pub lost_of : Looked → Found → ℕ
 lost_of b f = b.characters - f.characters - count_keys b.queued f.queues
 
+-- a boundary and what came in there
+abbrev pub lossy_of : Looked → Found → Lossy
+lossy_of b f = record { time = f.time; before = b.characters; after = f.characters; taken = taken_by b.queued f.queues }
+
+-- that boundary, if it lost any
+abbrev pub loss_of : Looked → Found → List Lossy
+loss_of b f = if lost_of b f == 0 then [] else lossy_of b f ∷ []
+
 -- with a tick in which nobody runs, where no boundary was owed; and with a boundary, after which none is
 abbrev pub rest_counted : Counted → Looked → Found → Counted
 rest_counted k b f = record k {
   idle = if b.owed then k.idle else plus k.idle 1;
   lost = if f.owed then k.lost else plus k.lost (lost_of b f);
+  losses = if f.owed then k.losses else k.losses ++ loss_of b f;
 }
 
 -- with what was done

@@ -8,6 +8,7 @@ pub mod Changes
 pub mod Entries
 pub mod EntryRows
 pub mod Counts
+pub mod Losses
 pub mod Halves
 pub mod Logs
 pub mod Summaries
@@ -20,3 +21,5 @@ pub mod Advanced
 pub mod Counted
 pub mod Memory
 pub mod Accounts
+pub mod Summed
+pub mod MustEnd

@@ -1,5 +1,5 @@
 -- The lines and the end of a trace, by what a station holds.
-use Rattle.std.specs.Prelude.{◌≡◌, ℕ, zero, suc, ◌+◌, Bool, false, true, if◌then◌else◌, List, [], ◌++◌, length, map, is_some, Option, Some, None}
+use Rattle.std.specs.Prelude.{◌≡◌, ⊤, ℕ, zero, suc, ◌+◌, Bool, false, true, if◌then◌else◌, List, [], ◌++◌, length, map, is_some, Option, Some, None}
 use Rattle.std.specs.Io.KnownBytes.{Appends}
 use Rattle.ds_pagemap.specs.Machine.{State, process_of, first, touched}
 use Rattle.ds_pagemap.specs.Run.{after}
@@ -8,6 +8,7 @@ use Rattle.ds_refinement.specs.Stands.{Stands}
 use Rattle.ds_refinement.specs.Runs.{held_goes_on}
 use Rattle.ds_station.specs.declared.fault.Fault.{Fault}
 use Rattle.ds_station.specs.declared.fault.Fault.TheVariants as fault
+use Rattle.ds_station.specs.Runs.{IsCut}
 use Rattle.ds_station.specs.Reads.{address_held, general_held, memory_held}
 use Rattle.ds_view.specs.declared.view.View.{View}
 use Rattle.ds_trace.specs.declared.start.Start.{Start}
@@ -22,7 +23,7 @@ use Rattle.ds_trace.specs.Ends.{process_text}
 use Rattle.ds_trace.specs.declared.processor.ProcessorCounts.{ProcessorCounts}
 use Rattle.ds_trace.specs.declared.progress.Progress.{Progress}
 use Rattle.ds_trace.specs.Processors.{processor_text, TellsFrom}
-use Rattle.ds_trace.specs.Traces.{counts_along, trace_along, WritesLines, WritesShort, WritesTold, WritesToldPart}
+use Rattle.ds_trace.specs.Traces.{counts_along, trace_along, WritesLines, WritesShort, WritesToldBy, WritesToldPart}
 
 -- the unit of a process, if there is one
 abbrev pub start_held : Held → Option ℕ → Option Start
@@ -108,6 +109,11 @@ abbrev pub IsStopped : Option Fault → ℕ → Held → Type 0
 IsStopped None n h = held_goes_on n h ≡ false
 IsStopped (Some f) n h = (f ≡ fault.Memory) × (h.kept.state.owed ≡ None) × (held_goes_on n h ≡ true)
 
+-- where a fault cut it short, it refused the next step
+abbrev pub IsCutIf : Option Fault → Held → Held → Type 0
+IsCutIf None from h = ⊤
+IsCutIf (Some f) from h = IsCut f from h
+
 -- it was told so far, with these counts, and no instruction of a unit is counted there
 pub record TellsAll (cut : Option Fault) (v : View) (n : ℕ) (from h : Held) (old now : Option (List ℕ)) (rest : List ℕ) (k : Counted) : Type 0 where
   pub progress : Progress
@@ -116,9 +122,9 @@ pub record TellsAll (cut : Option Fault) (v : View) (n : ℕ) (from h : Held) (o
   pub stopped : IsStopped cut n h
   pub spent : h.own.spent ≡ 0
 
--- each run from there is traced to its end, a state that the station stands for, with what the processor did in this one
-pub record Traces (v : View) (n : ℕ) (from to : Held) (old new : Option (List ℕ)) : Type 0 where
-  pub traces : (m : State) → Stands from m → WritesTold v old new n m (λ last lines. TellsFrom v n from m last lines × Stands to last)
+-- each run from there is traced to its end, a state that the station stands for, with what the processor did in this one, and counted so
+pub record Traces (v : View) (n : ℕ) (from to : Held) (old new : Option (List ℕ)) (k : Counted) : Type 0 where
+  pub traces : (m : State) → Stands from m → WritesToldBy v old new n m (λ last lines. TellsFrom v n from m last lines × Stands to last) k
 
 -- or a prefix of what is told of it is written
 pub record TracesPart (v : View) (n : ℕ) (from : Held) (old new : Option (List ℕ)) : Type 0 where

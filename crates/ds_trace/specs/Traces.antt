@@ -50,6 +50,11 @@ pub record WritesTold (v : View) (old new : Option (List ℕ)) (n : ℕ) (first 
   pub trace : Appends old between (told_to v n first last ends.reached processor)
   pub written : Appends between new (text_of last)
 
+-- The same, and these are the counts of its way.
+pub record WritesToldBy (v : View) (old new : Option (List ℕ)) (n : ℕ) (first : State) (Tells : State → List ℕ → Type 0) (k : Counted) : Type 0 where
+  pub told : WritesTold v old new n first Tells
+  pub counts : k ≡ counts_along v n told.ends.reached.choices first
+
 -- A prefix of both is written, of a run that has come somewhere.
 pub record WritesToldPart (v : View) (old new : Option (List ℕ)) (n : ℕ) (first : State) (Tells : State → List ℕ → Type 0) : Type 0 where
   pub last : State

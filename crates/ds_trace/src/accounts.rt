@@ -1,7 +1,7 @@
 //! An account of a run in plain words, by the station and its log at the end.
 ghost use Rattle.std.specs.Prelude.{◌≡◌, ◌++◌, IfOk, OnOk, codes, decimal, length, map, option_map};
 ghost use Rattle.std.specs.String.{string_bytes};
-ghost use Rattle.ds_trace.specs.Accounts.{account_text, all_stand, came_words, denied_words, letter_words, number_words, rule_words, stands_text, why_by, why_text};
+ghost use Rattle.ds_trace.specs.Accounts.{account_text, all_stand, came_text, came_words, denied_words, letter_words, number_words, rule_words, stands_text, why_by, why_text};
 
 use crate::digits::push_decimal;
 use crate::ends::push_head;
@@ -79,7 +79,7 @@ fn push_why(text: &mut Vec<u8>, found: Option<&[u8]>) -> Result<(), AllocError>
 }
 
 /// Adds by which of these lines of the log a process is parked, and why, where it is.
-fn push_parked_why(
+pub(crate) fn push_parked_why(
     text: &mut Vec<u8>,
     lines: &[&[u8]],
     process: u32,
@@ -165,6 +165,22 @@ fn push_came(
     text.extend_from_slice(line.as_bytes())
 }
 
+/// Adds how a run for `n` came to where the station is, and the lines of all processes there, by
+/// these lines of the log.
+pub(crate) fn push_end_of_run<L: Lookaside>(
+    text: &mut Vec<u8>,
+    line: &mut String,
+    lines: &[&[u8]],
+    station: &Station<L>,
+    n: u64,
+) -> Result<(), AllocError>
+    ensures { OnOk result (text.new.items ≡ text.old.items
+        ++ came_text n (map (λ l. l.now) lines.now) station.now.held) }
+{
+    push_came(text, line, station.first_unended(), n, station.time())?;
+    push_all_stand(text, line, lines, station)
+}
+
 /// An account of a run for `n`, which has come to where the station is, a line for each thing: whether
 /// all processes ended, the ticks ran out, or it was stopped before, with the time; each process, with
 /// how it stands and where it goes on, and, where it is parked, the line of the log by which it is, and
@@ -180,14 +196,7 @@ pub fn account<L: Lookaside>(
     let rules = rules_of(alloc, lines.as_slice())?;
     let mut text = Vec::new(alloc);
     let mut line = String::new(alloc);
-    push_came(
-        &mut text,
-        &mut line,
-        station.first_unended(),
-        n,
-        station.time(),
-    )?;
-    push_all_stand(&mut text, &mut line, lines.as_slice(), station)?;
+    push_end_of_run(&mut text, &mut line, lines.as_slice(), station, n)?;
     push_rules(&mut text, rules.as_slice())?;
     Ok(text)
 }

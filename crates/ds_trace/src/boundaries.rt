@@ -1,7 +1,7 @@
 //! The lines of a boundary.
 ghost use Rattle.std.specs.Prelude.{◌≡◌, ◌+◌, ◌-◌, ◌++◌, OnOk, drop, length};
 ghost use Rattle.std.specs.String.{string_bytes};
-ghost use Rattle.ds_trace.specs.Boundaries.{command_line, commands_text, count_keys, key_line, keys_text, line_text, lost_text, place_text, words_of_command};
+ghost use Rattle.ds_trace.specs.Boundaries.{command_line, commands_text, count_keys, key_line, keys_text, line_text, lost_text, place_text, taken_by, words_of_command};
 
 use crate::before::LINES;
 use crate::digits::{push_byte, push_decimal, push_hex};
@@ -142,6 +142,21 @@ fn came_to(queue: &[u8], queued: usize) -> usize
     ensures { result ≡ length queue.now - queued }
 {
     queue.len().saturating_sub(queued)
+}
+
+/// How many characters came to each of the queues, which had these lengths.
+pub(crate) fn taken_from<L: Lookaside>(
+    station: &Station<L>,
+    queued: &[usize; LINES],
+) -> [usize; LINES]
+    ensures { result ≡ taken_by queued.now station.now.held.kept.state.queues }
+{
+    [
+        came_to(station.queue(0), queued[0]),
+        came_to(station.queue(1), queued[1]),
+        came_to(station.queue(2), queued[2]),
+        came_to(station.queue(3), queued[3]),
+    ]
 }
 
 /// How many of so many are left without the characters that came to queues of these lengths.

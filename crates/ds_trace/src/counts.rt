@@ -1,12 +1,12 @@
 //! What is counted of a run.
-ghost use Rattle.std.specs.Prelude.{◌≡◌, ◌<◌, OnOk, is_some, slice_index};
+ghost use Rattle.std.specs.Prelude.{◌≡◌, ◌<◌, ◌++◌, OnOk, is_some, slice_index};
 ghost use Rattle.ds_station.specs.Reads.{general_held};
-ghost use Rattle.ds_trace.specs.Counts.{done_counted, is_copy, is_counted, is_unbegun, none_counted, number_of, plus, rest_counted, switch_counted, unit_counted, with_call};
+ghost use Rattle.ds_trace.specs.Counts.{done_counted, is_copy, is_counted, is_unbegun, loss_of, lost_of, none_counted, number_of, plus, rest_counted, switch_counted, unit_counted, with_call};
 ghost use Rattle.ds_trace.specs.Halves.{process_in};
 ghost use Rattle.ds_trace.specs.Shows.{counts_held, found_held};
 
-use crate::before::Before;
-use crate::boundaries::lost_on;
+use crate::before::{Before, LINES};
+use crate::boundaries::{lost_on, taken_from};
 use crate::changes::same_first;
 use crate::sheet::logged_since;
 use crate::start::Start;
@@ -20,6 +20,19 @@ use std::marker::Model;
 
 /// How many numbers of calls there are, with that of all calls that are unknown.
 pub(crate) const CALLS: usize = 11;
+
+/// A boundary that lost characters.
+#[derive(Clone, Copy)]
+pub(crate) struct Lossy {
+    /// Its time, in ticks.
+    pub time: u64,
+    /// How many characters had not come in before it.
+    pub before: usize,
+    /// How many had not come in after it.
+    pub after: usize,
+    /// How many came to the queue of each line.
+    pub taken: [usize; LINES],
+}
 
 /// What is counted of the turns that a view wants.
 #[derive(Drop)]
@@ -37,6 +50,8 @@ pub(crate) struct Counts {
     pub copies: u64,
     /// The characters that were lost.
     pub lost: u64,
+    /// The boundaries that lost some.
+    pub losses: Vec<Lossy>,
     /// What the units logged.
     pub denied: Vec<u8>,
 }
@@ -54,12 +69,13 @@ impl Model for Counts {
       calls = c.calls;
       copies = c.copies;
       lost = c.lost;
+      losses = c.losses.items;
       denied = c.denied.items;
     } };
 }
 
 /// A count with so many more. It stops at the greatest number.
-fn plus(count: u64, more: u64) -> u64
+pub(crate) fn plus(count: u64, more: u64) -> u64
     ensures { result ≡ plus count more }
 {
     count.saturating_add(more)
@@ -144,6 +160,7 @@ impl Counts {
             calls: [0; CALLS],
             copies: 0,
             lost: 0,
+            losses: Vec::new(alloc),
             denied: Vec::new(alloc),
         }
     }
@@ -169,19 +186,52 @@ impl Counts {
         self.denied.extend_from_slice(logged)
     }
 
-    /// Counts a tick in which nobody runs, and what a boundary lost.
-    fn count_rest<L: Lookaside>(&mut self, before: &Before, station: &Station<L>, owed: bool)
-        requires owed { owed ≡ is_some station.now.held.kept.state.owed }
-        ensures { self.new ≡ rest_counted self.old before.now
+    /// Keeps a boundary that lost so many characters, if it lost any.
+    fn keep_loss<L: Lookaside>(
+        &mut self,
+        before: &Before,
+        station: &Station<L>,
+        lost: usize,
+    ) -> Result<(), AllocError>
+        requires { lost ≡ lost_of before.now
             (found_held (process_in before.now.start) station.now.held) }
+        ensures { OnOk result (self.new ≡ record self.old {
+          losses = self.old.losses
+              ++ loss_of before.now (found_held (process_in before.now.start) station.now.held);
+        }) }
+    {
+        if lost == 0 {
+            return Ok(());
+        }
+        self.losses.push(Lossy {
+            time: station.time(),
+            before: before.characters,
+            after: station.characters_to_come(),
+            taken: taken_from(station, &before.queued),
+        })?;
+        Ok(())
+    }
+
+    /// Counts a tick in which nobody runs, and what a boundary lost.
+    fn count_rest<L: Lookaside>(
+        &mut self,
+        before: &Before,
+        station: &Station<L>,
+        owed: bool,
+    ) -> Result<(), AllocError>
+        requires owed { owed ≡ is_some station.now.held.kept.state.owed }
+        ensures { OnOk result (self.new ≡ rest_counted self.old before.now
+            (found_held (process_in before.now.start) station.now.held)) }
     {
         if !before.owed {
             self.idle = plus(self.idle, 1);
         }
-        if !owed {
-            let lost = lost_on(station, before.characters, &before.queued);
-            self.lost = plus(self.lost, lost as u64);
+        if owed {
+            return Ok(());
         }
+        let lost = lost_on(station, before.characters, &before.queued);
+        self.lost = plus(self.lost, lost as u64);
+        self.keep_loss(before, station, lost)
     }
 
     /// Counts what was done: a unit, or what else a half turn is.
@@ -199,10 +249,7 @@ impl Counts {
             Some(start) => {
                 self.count_unit(&start, logged_since(station, before.logged), station)
             }
-            None => {
-                self.count_rest(before, station, owed);
-                Ok(())
-            }
+            None => self.count_rest(before, station, owed),
         }
     }
 

@@ -4,8 +4,10 @@ ghost use Rattle.ds_pagemap.specs.Inputs.{Refusal, inputs, inputs_by, inputs_und
 ghost use Rattle.ds_log.specs.Sent.{IsAskedOnce};
 ghost use Rattle.ds_station.specs.Faults.{is_unwritten};
 ghost use Rattle.ds_station.specs.Headline.{Begins, IsRefused, loaded, sources_seen};
+ghost use Rattle.ds_trace.specs.Summed.{WritesTraceSummed};
 ghost use Rattle.ds_trace.specs.Traces.{TraceEndsBy, TraceEndsReally, WritesTrace, WritesTraceBy, WritesTraceReally};
 
+use crate::summed::Summed;
 use crate::trace::tell;
 use ds_log::Output;
 use ds_policy::Policy;
@@ -121,9 +123,53 @@ pub fn trace_station<O: Output>(
         Ok(station) => station,
         Err(refused) => return Err(refused),
     };
-    match tell(alloc, view, &mut station, n, out) {
-        Ok(()) => {}
+    match tell(alloc, view, policy, input, &mut station, n, out) {
+        Ok(_) => {}
         Err(fault) => return Err(fault),
     }
     Ok(station)
+}
+
+/// As `trace_station`, and what is told of the run as `run_summed` tells it. What is counted is of the
+/// turns that the view wants; where it wants the end alone, nothing is.
+pub fn trace_summed<O: Output>(
+    alloc: Global,
+    policy: &Policy,
+    sources: &[(&str, &[u8])],
+    input: &[u8],
+    n: u64,
+    random: u8,
+    view: &View,
+    out: &mut O,
+) -> Result<Summed, Fault>
+    ensures ok { IfOk result (λ s. Begins
+        (inputs_under policy.now (sources_seen sources.now) input.now n random)
+        (WritesTraceSummed view.now s.text.items s.station.held (O.contents out.old)
+        (O.contents out.new) n)) }
+    ensures real { OnOk result (Begins
+        (inputs_under_by loaded policy.now (sources_seen sources.now) input.now n random)
+        (WritesTraceReally view.now (O.contents out.old) (O.contents out.new) n random)) }
+    ensures err { IfErr result (λ f. TraceEndsBy f view.now
+        (inputs_under policy.now (sources_seen sources.now) input.now n random)
+        (O.contents out.old) (O.contents out.new) n) }
+    ensures cut { IfErr result (λ f. TraceEndsReally f view.now
+        (inputs_under_by loaded policy.now (sources_seen sources.now) input.now n random)
+        (O.contents out.old) (O.contents out.new) n random) }
+    ensures refused { (refusal : Refusal)
+        → inputs_under policy.now (sources_seen sources.now) input.now n random ≡ Err refusal
+        → IsRefused result refusal (O.contents out.old) (O.contents out.new) }
+    ensures once { IsAskedOnce (O.answers out.old) (O.answers out.new) (is_unwritten result) }
+{
+    let mut traced = match prepare(alloc, policy, sources, input, n, random) {
+        Ok(station) => station,
+        Err(refused) => return Err(refused),
+    };
+    let text = match tell(alloc, view, policy, input, &mut traced, n, out) {
+        Ok(text) => text,
+        Err(fault) => return Err(fault),
+    };
+    Ok(Summed {
+        station: traced,
+        text,
+    })
 }

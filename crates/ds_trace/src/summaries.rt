@@ -56,7 +56,7 @@ fn push_calls(line: &mut String, calls: &[u64; CALLS]) -> Result<(), AllocError>
 }
 
 /// Adds a count after its word.
-fn push_total(line: &mut String, word: &str, count: u64) -> Result<(), AllocError>
+pub(crate) fn push_total(line: &mut String, word: &str, count: u64) -> Result<(), AllocError>
     ensures { OnOk result
         (string_bytes line.new ≡ string_bytes line.old ++ word.now ++ decimal count) }
 {

@@ -12,7 +12,8 @@ ghost use Rattle.ds_trace.specs.Counted.{CountsStep, HasCounted, WatchesAfter};
 ghost use Rattle.ds_trace.specs.Counts.{none_counted};
 ghost use Rattle.ds_trace.specs.Handed.{IsFinished, IsHandedOn, IsLate};
 ghost use Rattle.ds_trace.specs.Processors.{none_processed, told_from, total, window_end};
-ghost use Rattle.ds_trace.specs.Shows.{TellsAll, Traces, TracesLines, TracesPart, TracesShort, end_held, half_held, progress_held};
+ghost use Rattle.ds_trace.specs.Summed.{TracesSummed};
+ghost use Rattle.ds_trace.specs.Shows.{IsCutIf, TellsAll, TracesLines, TracesPart, TracesShort, end_held, half_held, progress_held};
 ghost use Rattle.ds_view.specs.Views.{has_lines};
 
 use crate::before::Before;
@@ -20,8 +21,10 @@ use crate::counts::Counts;
 use crate::processor::ProcessorCounts;
 use crate::progress::Progress;
 use crate::sheet::Sheet;
+use crate::summed::summary;
 use crate::window::WindowEnd;
 use ds_log::Output;
+use ds_policy::Policy;
 use ds_station::{Fault, Station, Step, deliver};
 use ds_tlb::Lookaside;
 use ds_view::View;
@@ -172,7 +175,7 @@ fn silent_until(view: &View, n: u64) -> u64
 /// short, if one did. What is left to be written is in the sheet, what was counted in the counts, and
 /// what the buffer held where the window ended in its lines.
 #[tactic(auto, using(ds_log::proofs::Sends::asked_both, crate::proofs::Asking::asked_none))]
-fn follow<L: Lookaside, O: Output>(
+pub(crate) fn follow<L: Lookaside, O: Output>(
     view: &View,
     station: &mut Station<L>,
     n: u64,
@@ -194,6 +197,7 @@ fn follow<L: Lookaside, O: Output>(
     requires unleft { string_bytes window.old.lines ≡ [] }
     ensures ok { IfOk result (λ cut. TellsAll cut view.now n station.old.held station.new.held
         (O.contents out.old) (O.contents out.new) sheet.new.text.items progress.new.counts) }
+    ensures cut { IfOk result (λ cut. IsCutIf cut station.old.held station.new.held) }
     ensures counted { OnOk result
         (HasCounted (window_end view.now) (told_from view.now n) n station.old.held station.new.held
         counts.new (string_bytes window.new.lines)) }
@@ -253,22 +257,25 @@ fn finish<L: Lookaside, O: Output>(
 
 /// Runs a station for n, and writes the trace of the run; where that is wanted what the buffer held
 /// where the window ended, and what the processor did; the end's text; and the text of the state in
-/// which it ended. Where memory runs out or a write fails, a prefix of that is written.
+/// which it ended. Where memory runs out or a write fails, a prefix of that is written. It answers what
+/// is told of the run, which is by this input under this policy.
 #[tactic(auto, using(ds_log::proofs::Sends::asked_both, crate::proofs::Asking::asked_none))]
 pub(crate) fn tell<L: Lookaside, O: Output>(
     alloc: Global,
     view: &View,
+    policy: &Policy,
+    input: &[u8],
     station: &mut Station<L>,
     n: u64,
     out: &mut O,
-) -> Result<(), Fault>
+) -> Result<Vec<u8>, Fault>
     requires few { n ≤ 1000000000 }
     requires sound { IsSound station.old.held }
     requires working { station.old.held.own.failed ≡ false }
     requires spent { station.old.held.own.spent ≡ 0 }
     requires unowed { station.old.held.kept.state.owed ≡ None }
-    ensures ok { OnOk result
-        (Traces view.now n station.old.held station.new.held (O.contents out.old) (O.contents out.new)) }
+    ensures ok { IfOk result (λ text. TracesSummed view.now policy.now.pages input.now text.items n
+        station.old.held station.new.held (O.contents out.old) (O.contents out.new)) }
     ensures err { OnErr result
         (TracesPart view.now n station.old.held (O.contents out.old) (O.contents out.new)) }
     ensures late { IfErr result IsLate }
@@ -291,9 +298,11 @@ pub(crate) fn tell<L: Lookaside, O: Output>(
         out,
     )?;
     sheet.push_processor(view, &window, &counts, station)?;
+    let text = summary(alloc, policy, input, n, &progress.counts, station)?;
     finish(alloc, view, &progress.counts, station, &mut sheet, out)?;
     match cut {
-        None => Ok(()),
-        Some(fault) => Err(fault),
+        None => {}
+        Some(fault) => return Err(fault),
     }
+    Ok(text)
 }

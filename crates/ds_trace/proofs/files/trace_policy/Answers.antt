@@ -1,9 +1,4 @@
-use Rattle.std.proofs.Common.{Bool, Result, subst}
-use Rattle.ds_log.specs.Sent.{IsAskedOnce}
-use Rattle.ds_station.specs.Station.{StationValue}
-use Rattle.ds_station.specs.Faults.{is_unwritten}
-use Rattle.ds_station.specs.declared.fault.Fault.{Fault}
-use Rattle.ds_station.proofs.Outcomes.{unwritten_alike}
+use Rattle.ds_trace.proofs.Asking.{asked_same}
 use Rattle.ds_trace.proofs.Inputs.{by_any}
 use Rattle.ds_trace.proofs.files.trace_policy.Goals as goal
 
@@ -11,6 +6,4 @@ pub returns-clause-ok : goal.returns-clause-ok
 returns-clause-ok g c = by_any c.args.view.now _ _ _ _ c.args.n c.in-Ok.ensures.ok
 
 pub returns-in-Err-clause-once : goal.returns-in-Err-clause-once
-returns-in-Err-clause-once g c =
-    subst (λ (b : Bool). IsAskedOnce (g.O.Output.answers c.args.out.now) (g.O.Output.answers c.trace_station.new.out) b) (unwritten_alike StationValue (Unit {0}) c.in-Err.fault)
-    (subst (λ (r : Result StationValue Fault). IsAskedOnce (g.O.Output.answers c.args.out.now) (g.O.Output.answers c.trace_station.new.out) (is_unwritten r)) c.in-Err.is c.trace_station.ensures.once)
+returns-in-Err-clause-once g c = asked_same (Unit {0}) c.trace_station.result c.in-Err.fault _ _ c.in-Err.is c.trace_station.ensures.once

@@ -1,11 +1,9 @@
-use Rattle.std.proofs.Common.{◌≡◌, Bool, Result, Ok, Err, subst, sym, ◌∙◌}
-use Rattle.ds_log.specs.Sent.{IsAskedOnce}
-use Rattle.ds_station.specs.Station.{StationValue}
-use Rattle.ds_station.specs.Faults.{is_unwritten}
-use Rattle.ds_station.specs.declared.fault.Fault.{Fault}
+use Rattle.std.proofs.Common.{◌≡◌, Ok, Err, subst, sym, ◌∙◌}
 use Rattle.ds_station.specs.Headline.{Refuses, sources_seen}
 use Rattle.ds_station.proofs.Headlines.{keeps_same, refused_unasked}
-use Rattle.ds_station.proofs.Outcomes.{if_err, unwritten_alike}
+use Rattle.ds_station.proofs.Outcomes.{if_err}
+use Rattle.ds_station.specs.Station.{StationValue}
+use Rattle.ds_trace.proofs.Asking.{asked_same}
 use Rattle.ds_trace.proofs.Inputs.{begins_at, cut_really, refused_really, refused_untold, refused_only, told_ok, told_err, told_really}
 use Rattle.ds_trace.proofs.files.trace_station.Goals as goal
 
@@ -19,11 +17,11 @@ pub returns-in-Err-clause-refused : goal.returns-in-Err-clause-refused
 returns-in-Err-clause-refused g c = λ r e. (subst (Refuses c.in-Err.refused) e c.in-Err.ensures.err, keeps_same (g.O.Output.contents c.args.out.now))
 
 pub returns-clause-ok : goal.returns-clause-ok
-returns-clause-ok g c = told_ok c.args.view.now _ c.in-Ok.station.held c.tell.new.station.held _ _ c.args.n c.in-Ok.ensures.ok c.in-Ok-tell.ensures.ok
+returns-clause-ok g c = told_ok c.args.view.now _ c.in-Ok.station.held c.tell.new.station.held _ _ c.args.n c.in-Ok-tell.ensures.ok.counts c.in-Ok.ensures.ok c.in-Ok-tell.ensures.ok.traces
 
 pub returns-clause-real : goal.returns-clause-real
-returns-clause-real g c = told_really c.args.view.now _ c.in-Ok.station.held c.tell.new.station.held _ _ c.args.n c.args.random
-    (begins_at c.in-Ok.station.held c.args.policy.now (sources_seen c.args.sources.now) c.args.input.now c.args.n c.args.random c.args.random c.in-Ok.ensures.ok c.in-Ok.ensures.real) c.in-Ok-tell.ensures.ok
+returns-clause-real g c = told_really c.args.view.now _ c.in-Ok.station.held c.tell.new.station.held _ _ c.args.n c.args.random c.in-Ok-tell.ensures.ok.counts
+    (begins_at c.in-Ok.station.held c.args.policy.now (sources_seen c.args.sources.now) c.args.input.now c.args.n c.args.random c.args.random c.in-Ok.ensures.ok c.in-Ok.ensures.real) c.in-Ok-tell.ensures.ok.traces
 
 pub returns-in-Err-tell-clause-err : goal.returns-in-Err-tell-clause-err
 returns-in-Err-tell-clause-err g c =
@@ -46,6 +44,4 @@ pub returns-in-Err-clause-once : goal.returns-in-Err-clause-once
 returns-in-Err-clause-once g c = refused_unasked c.in-Err.refused _ (g.O.Output.answers c.args.out.now) c.in-Err.ensures.err
 
 pub returns-in-Err-tell-clause-once : goal.returns-in-Err-tell-clause-once
-returns-in-Err-tell-clause-once g c =
-    subst (λ (b : Bool). IsAskedOnce (g.O.Output.answers c.args.out.now) (g.O.Output.answers c.tell.new.out) b) (unwritten_alike (Unit {0}) StationValue c.in-Err-tell.fault)
-    (subst (λ (r : Result (Unit {0}) Fault). IsAskedOnce (g.O.Output.answers c.args.out.now) (g.O.Output.answers c.tell.new.out) (is_unwritten r)) c.in-Err-tell.is c.tell.ensures.once)
+returns-in-Err-tell-clause-once g c = asked_same StationValue c.tell.result c.in-Err-tell.fault _ _ c.in-Err-tell.is c.tell.ensures.once

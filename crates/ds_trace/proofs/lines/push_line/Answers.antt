@@ -2,7 +2,7 @@ use Rattle.std.proofs.Common.{◌≡◌, ◌∙◌, List, ℕ, ◌++◌, ap, sub
 use Rattle.std.specs.Prelude.{slice_index}
 use Rattle.std.specs.String.{string_bytes}
 use Rattle.ds_trace.specs.Calls.{answer_text}
-use Rattle.ds_trace.proofs.Results.{after_all, joined}
+use Rattle.ds_trace.proofs.Adding.{after_all, joined}
 use Rattle.ds_trace.proofs.lines.push_line.Goals as goal
 
 pub returns : goal.returns

@@ -1,7 +1,7 @@
 use Rattle.std.proofs.Common.{◌≡◌, List, ℕ, ◌++◌, subst, OnOk, codes}
 use Rattle.std.specs.String.{string_bytes}
 use Rattle.ds_trace.specs.Processors.{named_text}
-use Rattle.ds_trace.proofs.Results.{after_all, joined}
+use Rattle.ds_trace.proofs.Adding.{after_all, joined}
 use Rattle.ds_trace.proofs.processor.push_counts.Goals as goal
 
 pub returns : goal.returns

@@ -8,10 +8,10 @@ use Rattle.ds_station.proofs.Headlines.{keeps_same}
 use Rattle.ds_station.specs.declared.fault.Fault.{Fault}
 use Rattle.ds_trace.specs.Looks.{Looked}
 use Rattle.ds_trace.specs.Advanced.{Advances, HasStepped, HasHalted}
-use Rattle.ds_trace.proofs.Following.{cut_counted, cut_early, cut_lines, cut_part, cut_spent, end_told, first_told, first_within, halted_told, handed_told, last_counting, last_told, never_short, nothing_lines, nothing_part, part_none, ran_whole, ran_within, short_err, short_is, step_counting, step_on, step_owed, step_told}
+use Rattle.ds_trace.proofs.Following.{cut_counted, cut_early, cut_lines, cut_part, cut_spent, end_told, first_told, first_within, halted_cut, halted_told, handed_told, last_counting, last_told, never_short, nothing_lines, nothing_part, part_none, ran_whole, ran_within, short_err, short_is, step_counting, step_on, step_owed, step_told}
 use Rattle.ds_trace.specs.Counted.{CountsStep, WatchesAfter}
 use Rattle.ds_trace.specs.Processors.{window_end}
-use Rattle.ds_trace.proofs.Processing.{counting_cut, counting_done, counting_few, counting_first, watched_first}
+use Rattle.ds_trace.proofs.Processing.{counting_cut, counting_done, counting_few, counting_first, counting_path, watched_first}
 use Rattle.ds_trace.proofs.Asking.{asked_none}
 use Rattle.ds_trace.proofs.trace.follow.Goals as goal
 
@@ -25,6 +25,15 @@ returns-in-Err-clause-ok g c =
     cut_early v c.args.n c.args.station.now.held new (g.O.Output.contents c.args.out.now) c.requires.unowed within
     c.in-Err.ensures.whole (cut_spent c.in-Err.fault c.args.station.now.held new c.in-Err.ensures.cut is) c.in-Err.fault c.args.sheet.now.text.items c.args.progress.now.counts c.requires.empty c.requires.none is
     (subst (λ (k : ℕ). held_goes_on k new ≡ true) c.silent_until.ensures (subst (λ (r : Result (Unit {0}) Fault). OnErr r (held_goes_on c.silent_until.result new ≡ true)) c.in-Err.is (c.run-ran.ensures.going c.requires.working)))
+
+pub returns-in-Err-2-clause-cut : goal.returns-in-Err-2-clause-cut
+returns-in-Err-2-clause-cut g c =
+    let v = c.args.view.now in
+    let b = c.loop-station in
+    let new = c.advance.new in
+    let s : HasHalted c.in-Err-2.fault b.station.held new.station.held b.sheet.text.items b.progress new.sheet.text.items new.progress = subst (λ (r : Result Bool Fault). Advances r v b.station.held new.station.held b.sheet.text.items b.progress new.sheet.text.items new.progress) c.in-Err-2.is c.in_ok-advance.ensures.tells in
+    halted_cut c.in-Err-2.fault c.args.station.now.held b.station.held new.station.held b.sheet.text.items new.sheet.text.items b.progress new.progress s b.invariant.working
+    (counting_path (window_end v) _ c.args.n c.args.station.now.held b.station.held b.counts b.window b.invariant.counting)
 
 pub returns-in_err-watch-clause-err : goal.returns-in_err-watch-clause-err
 returns-in_err-watch-clause-err g c = at_err c.from_residual.result (nothing_part c.args.view.now c.args.n c.args.station.now.held (g.O.Output.contents c.args.out.now) c.requires.spent)

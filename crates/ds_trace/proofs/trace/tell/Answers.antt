@@ -9,7 +9,7 @@ use Rattle.ds_station.specs.declared.fault.Fault.{Fault}
 use Rattle.ds_trace.specs.Handed.{IsFinished}
 use Rattle.ds_trace.specs.Shows.{TellsAll, end_held}
 use Rattle.ds_trace.proofs.Following.{all_part, cut_lines, cut_part, cut_traces, finished_traces, halted_traces, lines_short, part_none, short_err, short_is}
-use Rattle.ds_trace.proofs.Asking.{asked_short}
+use Rattle.ds_trace.proofs.Asking.{asked_short_of}
 use Rattle.ds_trace.proofs.trace.tell.Goals as goal
 
 pub returns-in_err-push_processor-clause-err : goal.returns-in_err-push_processor-clause-err
@@ -19,6 +19,13 @@ returns-in_err-push_processor-clause-err g c =
     at_err c.from_residual-in_err-push_processor.result
     (cut_part c.args.view.now c.args.n c.args.station.now.held came.station.held _ _ _ came.sheet.text.items came.counts (string_bytes came.window.lines) c.in_ok-cut.ensures.counted all.progress all.tells (part_none _ came.sheet.text.items))
 
+pub returns-in_err-text-clause-err : goal.returns-in_err-text-clause-err
+returns-in_err-text-clause-err g c =
+    let came = c.follow.new in
+    let all = c.in_ok-cut.ensures.ok in
+    at_err c.from_residual-in_err-text.result
+    (cut_part c.args.view.now c.args.n c.args.station.now.held came.station.held _ _ _ came.sheet.text.items came.counts (string_bytes came.window.lines) c.in_ok-cut.ensures.counted all.progress all.tells (part_none _ came.sheet.text.items))
+
 pub returns-in_err-finish-clause-err : goal.returns-in_err-finish-clause-err
 returns-in_err-finish-clause-err g c =
     let came = c.follow.new in
@@ -26,17 +33,20 @@ returns-in_err-finish-clause-err g c =
     (cut_traces c.args.view.now c.args.n c.args.station.now.held came.station.held _ _ _ came.sheet.text.items came.counts (string_bytes came.window.lines) c.in_ok-cut.ensures.counted c.in_ok-cut.cut came.progress.counts c.in_ok-cut.ensures.ok
     (subst (λ (text : List ℕ). AppendsPart (g.O.Output.contents came.out) (g.O.Output.contents c.finish.new.out) (text ++ end_held c.args.view.now came.progress.counts came.station.held ++ held_text came.station.held)) c.in_ok-push_processor.ensures c.in_err-finish.ensures.err))
 
-pub returns-in-None-clause-ok : goal.returns-in-None-clause-ok
-returns-in-None-clause-ok g c =
+pub returns-clause-ok : goal.returns-clause-ok
+returns-clause-ok g c =
     let v = c.args.view.now in
     let came = c.follow.new in
     let told : TellsAll None v c.args.n c.args.station.now.held came.station.held (g.O.Output.contents c.args.out.now) (g.O.Output.contents came.out) came.sheet.text.items came.progress.counts =
-    subst (λ (cut : Option Fault). TellsAll cut v c.args.n c.args.station.now.held came.station.held (g.O.Output.contents c.args.out.now) (g.O.Output.contents came.out) came.sheet.text.items came.progress.counts) c.in-None.is c.in_ok-cut.ensures.ok in
-    finished_traces v c.args.n c.args.station.now.held came.station.held _ _ _ came.sheet.text.items came.counts (string_bytes came.window.lines) c.in_ok-cut.ensures.counted came.progress.counts told
-    (subst (λ (text : List ℕ). IsFinished v came.progress.counts (g.O.Output.contents came.out) (g.O.Output.contents c.finish.new.out) text came.station.held) c.in_ok-push_processor.ensures c.in_ok-finish.ensures.ok)
+    subst (λ (cut : Option Fault). TellsAll cut v c.args.n c.args.station.now.held came.station.held (g.O.Output.contents c.args.out.now) (g.O.Output.contents came.out) came.sheet.text.items came.progress.counts) c.in-None.is c.in_ok-cut.ensures.ok in record {
+      counts = came.progress.counts;
+      traces = finished_traces v c.args.n c.args.station.now.held came.station.held _ _ _ came.sheet.text.items came.counts (string_bytes came.window.lines) c.in_ok-cut.ensures.counted came.progress.counts told
+          (subst (λ (text : List ℕ). IsFinished v came.progress.counts (g.O.Output.contents came.out) (g.O.Output.contents c.finish.new.out) text came.station.held) c.in_ok-push_processor.ensures c.in_ok-finish.ensures.ok);
+      told = c.in_ok-text.ensures;
+    }
 
-pub returns-clause-err : goal.returns-clause-err
-returns-clause-err g c =
+pub returns-in-Some-clause-err : goal.returns-in-Some-clause-err
+returns-in-Some-clause-err g c =
     let came = c.follow.new in
     cut_traces c.args.view.now c.args.n c.args.station.now.held came.station.held _ _ _ came.sheet.text.items came.counts (string_bytes came.window.lines) c.in_ok-cut.ensures.counted c.in_ok-cut.cut came.progress.counts c.in_ok-cut.ensures.ok
     (subst (λ (text : List ℕ). AppendsPart (g.O.Output.contents came.out) (g.O.Output.contents c.finish.new.out) (text ++ end_held c.args.view.now came.progress.counts came.station.held ++ held_text came.station.held)) c.in_ok-push_processor.ensures (all_part c.args.view.now came.progress.counts (g.O.Output.contents came.out) (g.O.Output.contents c.finish.new.out) _ came.station.held c.in_ok-finish.ensures.ok))
@@ -55,6 +65,14 @@ returns-in_err-push_processor-clause-short g c =
     (lines_short c.args.view.now c.args.n c.args.station.now.held _ _
     (cut_lines c.args.view.now c.args.n c.args.station.now.held came.station.held _ _ _ came.sheet.text.items came.counts (string_bytes came.window.lines) c.in_ok-cut.ensures.counted all.progress all.tells (keeps_same _)))
 
+pub returns-in_err-text-clause-short : goal.returns-in_err-text-clause-short
+returns-in_err-text-clause-short g c =
+    let came = c.follow.new in
+    let all = c.in_ok-cut.ensures.ok in
+    short_err c.from_residual-in_err-text.result _
+    (lines_short c.args.view.now c.args.n c.args.station.now.held _ _
+    (cut_lines c.args.view.now c.args.n c.args.station.now.held came.station.held _ _ _ came.sheet.text.items came.counts (string_bytes came.window.lines) c.in_ok-cut.ensures.counted all.progress all.tells (keeps_same _)))
+
 pub returns-in_err-finish-clause-short : goal.returns-in_err-finish-clause-short
 returns-in_err-finish-clause-short g c =
     let came = c.follow.new in
@@ -63,8 +81,8 @@ returns-in_err-finish-clause-short g c =
     (λ is. lines_short c.args.view.now c.args.n c.args.station.now.held _ _
     (cut_lines c.args.view.now c.args.n c.args.station.now.held came.station.held _ _ _ came.sheet.text.items came.counts (string_bytes came.window.lines) c.in_ok-cut.ensures.counted all.progress all.tells (c.in_err-finish.ensures.short is)))
 
-pub returns-clause-short : goal.returns-clause-short
-returns-clause-short g c =
+pub returns-in-Some-clause-short : goal.returns-in-Some-clause-short
+returns-in-Some-clause-short g c =
     let v = c.args.view.now in
     let came = c.follow.new in
     let told : TellsAll (Some c.in-Some.fault) v c.args.n c.args.station.now.held came.station.held (g.O.Output.contents c.args.out.now) (g.O.Output.contents came.out) came.sheet.text.items came.progress.counts =
@@ -72,10 +90,10 @@ returns-clause-short g c =
     λ is. halted_traces v c.args.n c.args.station.now.held came.station.held _ _ _ came.sheet.text.items came.counts (string_bytes came.window.lines) c.in_ok-cut.ensures.counted c.in-Some.fault came.progress.counts told
     (subst (λ (text : List ℕ). IsFinished v came.progress.counts (g.O.Output.contents came.out) (g.O.Output.contents c.finish.new.out) text came.station.held) c.in_ok-push_processor.ensures c.in_ok-finish.ensures.ok)
 
-pub returns-clause-once : goal.returns-clause-once
-returns-clause-once g c =
+pub returns-in-Some-clause-once : goal.returns-in-Some-clause-once
+returns-in-Some-clause-once g c =
     let v = c.args.view.now in
     let came = c.follow.new in
     let told : TellsAll (Some c.in-Some.fault) v c.args.n c.args.station.now.held came.station.held (g.O.Output.contents c.args.out.now) (g.O.Output.contents came.out) came.sheet.text.items came.progress.counts =
     subst (λ (cut : Option Fault). TellsAll cut v c.args.n c.args.station.now.held came.station.held (g.O.Output.contents c.args.out.now) (g.O.Output.contents came.out) came.sheet.text.items came.progress.counts) c.in-Some.is c.in_ok-cut.ensures.ok in
-    asked_short (Unit {0}) c.in-Some.fault _ _ told.stopped.0 (asked_both _ _ _ false c.in_ok-cut.ensures.once c.in_ok-finish.ensures.once)
+    asked_short_of c.in_ok-text.text c.in-Some.fault _ _ told.stopped.0 (asked_both _ _ _ false c.in_ok-cut.ensures.once c.in_ok-finish.ensures.once)
