@@ -5,7 +5,7 @@ from .texts import CLOSE, MEMBER, OPEN, Code, Unresolved, indent_of
 
 TOKEN = re.compile(r'"(?:\\.|[^"\\])*"|[(){}\[\];,]|[^\s(){}\[\];,"]+')
 KEYWORDS = set("Type record let in do elim as where Unit tt absurd omega cc".split())
-SIGNS = set("→ × : = ← ↦ | λ ∀ _ ∷ ⊤ ⊥ . .. ≡".split())
+SIGNS = set("→ × ¬ : = ← ↦ | λ ∀ _ ∷ ⊤ ⊥ . .. ≡".split())
 # constructors of the kit that begin with a small letter
 CONSTRUCTORS = set("true false zero suc pos neg string integer float boolean array table item no_items member no_members".split())
 RUST_WORDS = set("Self Option Some None Result Ok Err Vec String Box Copy Clone Drop Debug Iterator FnMut Fn FnOnce Sized Type List Write".split())
