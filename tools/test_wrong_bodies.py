@@ -11,16 +11,16 @@ sys.dont_write_bytecode = True
 from wrong_bodies import census, crates, proving  # noqa: E402
 
 CODE = """\
-#![tactic(auto)]
-ghost use Rattle.std.specs.Prelude.{◌≡◌, ◌≤◌, ◌<◌, ◌+◌}; ghost use Rattle.toy.specs.Numbers.{order_of, after};
-pub enum Lamp { Red, Green }
-pub fn twice(n: u32) -> u32 requires { n ≤ 1000 } ensures { result ≡ n + n } { sum(n, n) }
+#![tactic(auto)] ghost use Rattle.std.specs.Prelude.{◌≡◌, ◌≤◌, ◌<◌, ◌+◌}; ghost use Rattle.toy.specs.Numbers.{order_of, after};
+pub enum Lamp { Red, Green } const FIRST: u32 = 1; pub struct Digit { n: u32, ghost small: { n < 10 } }
+impl Digit { pub fn of(n: u32) -> Option<Digit> { if n < 10 { Some(Digit { n }) } else { None } } }
+pub fn a_number_is_below_the_next(n: u32) ensures { n < after n } {} pub fn twice(n: u32) -> u32 requires { n ≤ 1000 } ensures { result ≡ n + n } { sum(n, n) }
 fn sum(a: u32, b: u32) -> u32 requires left { a ≤ 1000 } requires right { b ≤ 1000 } ensures { result ≡ a + b } { a + b }
 pub fn next(n: u32) -> u32 requires { n ≤ 1000 } ensures up { n < result } ensures next { result ≡ n + 1 } { n + FIRST }
 pub fn order(lamp: Lamp) -> u32 ensures { result ≡ order_of lamp } { match lamp { Lamp::Red => 3, Lamp::Green => 4 } }
-const FIRST: u32 = 1;
+pub trait Rank { fn rank(&self) -> u32 ensures { result ≤ 4 }; }
+impl Rank for Lamp { fn rank(&self) -> u32 { match self { Self::Red => 3, Self::Green => 4 } } }
 pub fn many() -> u32 ensures a { result ≡ 1 } ensures b { result ≡ 1 } ensures c { result ≡ 1 } ensures d { result ≡ 1 } ensures e { result ≡ 1 } { 1 }
-pub fn a_number_is_below_the_next(n: u32) ensures { n < after n } {}
 """
 NUMBERS = """\
 use Rattle.std.specs.Prelude.{ℕ, ◌+◌}
@@ -45,12 +45,17 @@ double_2_is_4 = refl
 PROVED = "NOT REFUSED: the crate is still proved with this edit"
 # By its name what is told of an edit, its old and new text, and its other lines.
 EDITS = {
-    "next.a_constant_named": ("refused by next next", "const FIRST: u32 = 1;", "const FIRST: u32 = 3;", "function: next", "clause: next"),
+    "next.a_constant_named": ("refused by next next", "const FIRST: u32 = 1", "const FIRST: u32 = 3", "function: next", "clause: next"),
     "next.another_clause": ("NOT REFUSED: the clause up that it names is still proved with this edit", "n + FIRST", "n + FIRST + 3", "clause: up"),
+    "next.another_of_two": ("NOT REFUSED: not by the clause up that it names; refused by next next", "n + FIRST", "n + FIRST + 3", "clause: up", "clause: next"),
     "twice.harmless": (PROVED, "sum(n, n)", "sum(n, n) + 0"),
     "order.green_is_red": ("refused by order ensures", "Lamp::Green => 4", "Lamp::Green => 3", "clause: ensures"),
     "order.red_is_green": ("refused by order ensures", "Lamp::Red => 3", "Lamp::Red => 4"),
-    "order.red_is_nothing": ("refused by order ensures", "Lamp::Red => 3", "Lamp::Red => 0"),
+    "order.harmless": (PROVED, "Lamp::Red => 3", "Lamp::Red => 2 + 1"),
+    "of.ten_is_a_digit": ("refused by Digit::of invariant", "if n < 10 {", "if n < 11 {", "clause: invariant"),
+    "rank.green_is_fifth": ("refused by LampRank::rank ensures", "Self::Green => 4", "Self::Green => 5"),
+    "rank.red_is_sixth": ("refused by LampRank::rank ensures", "Self::Red => 3", "Self::Red => 6"),
+    "rank.harmless": (PROVED, "Self::Red => 3", "Self::Red => 2 + 1"),
     "sum.one_too_many": ("NOT REFUSED: by no public clause, but by sum ensures", "} { a + b", "} { a + b + 1"),
     "sum.stands_for": ("refused by sum ensures, which stands for twice ensures", "} { a + b", "} { a + b + 2", "stands for: twice ensures"),
     "many.one_of_five": ("refused by many b", "{ 1 }", "{ 2 }", "clause: b"),
@@ -83,8 +88,7 @@ class Test(TestCase):
 
     def ran(self, edits):
         """Runs the command, and returns its status and what it printed."""
-        words = [sys.executable, Path(__file__).with_name("wrong_bodies.py"), "--root", self.room(edits)]
-        return subprocess.run(words, stdout=subprocess.PIPE, stderr=subprocess.STDOUT, text=True)
+        return subprocess.run([sys.executable, Path(__file__).with_name("wrong_bodies.py"), "--root", self.room(edits)], capture_output=True, text=True)
 
     def lacks(self, edits, implied=""):
         with mock.patch.dict(census.EACH_CLAUSE, {"toy": ["next"]}):
@@ -96,26 +100,25 @@ class Test(TestCase):
         self.assertEqual((1, counts), (said.returncode, said.stdout.splitlines()[-1]))
 
     def test_each_edit_has_its_verdict(self):
-        self.has_verdicts(EDITS, "8 refused, 5 not refused", self.ran(EDITS))
+        self.has_verdicts(EDITS, "10 refused, 8 not refused", self.ran(EDITS))
 
     def test_an_edit_that_is_no_code_is_told_and_nothing_is_proved(self):
-        said = self.ran({**BAD, "twice.well": ("", "sum(n, n)", "sum(n, n) + 2")})
-        self.has_verdicts(BAD, "0 refused, 3 not refused", said)
+        self.has_verdicts(BAD, "0 refused, 3 not refused", said := self.ran({**BAD, "twice.well": ("", "sum(n, n)", "sum(n, n) + 2")}))
         self.assertNotIn("twice.well", said.stdout)
 
-    def test_two_edits_of_one_arm_are_not_tried_together(self):
-        batches = proving.batches_of(crates.Repository(self.room({name: it for name, it in EDITS.items() if name.startswith("order.")})).crates["toy"].edits, crates.Edit.clashes)
-        self.assertEqual([["order.green_is_red.edit", "order.red_is_green.edit"], ["order.red_is_nothing.edit"]], [[it.name for it in batch] for batch in batches])
+    def test_copies_of_a_function_are_tried_side_by_side_but_not_two_edits_of_one_arm_of_a_method(self):
+        edits = crates.Repository(self.room({name: it for name, it in EDITS.items() if name.startswith(("order.", "rank."))})).crates["toy"].edits
+        batches = [[it.name.removesuffix(".edit") for it in batch] for batch in proving.batches_of(edits, crates.Edit.clashes)]
+        self.assertEqual([["order.green_is_red", "order.harmless", "order.red_is_green", "rank.green_is_fifth", "rank.harmless"], ["rank.red_is_sixth"]], batches)
 
     def test_what_lacks_its_edit_or_has_too_many_is_told(self):
-        few = {it: EDITS[it] for it in ("next.a_constant_named", "order.red_is_green")}
-        lacking = ["toy: no edit of twice", "toy: no edit of many", "toy: no edit of the law a_number_is_below_the_next", "toy: no edit names next up"]
+        few = {it: EDITS[it] for it in ("next.a_constant_named", "of.ten_is_a_digit", "order.red_is_green", "rank.green_is_fifth")}
+        lacking = ["toy: no edit of the law a_number_is_below_the_next", "toy: no edit of twice", "toy: no edit of many", "toy: no edit names next up"]
         self.assertEqual(lacking, self.lacks(few))
         few.update({it: EDITS[it] for it in ("sum.stands_for", "many.one_of_five", "after.the_same")})
         self.assertEqual([], self.lacks(few, "# what follows\nimplied: next up by next\n"))
         self.assertIn("toy/wrong/implied: there is nothing of this line: implied: next down by next", self.lacks(few, "implied: next down by next"))
-        many = {f"twice.{n}": ("", "sum(n, n)", f"sum(n, n) + {n}") for n in range(1, 5)}
-        self.assertIn("toy: 4 edits of twice, more than 3", self.lacks(many))
+        self.assertIn("toy: 4 edits of twice, more than 3", self.lacks({f"twice.{n}": ("", "sum(n, n)", f"sum(n, n) + {n}") for n in range(1, 5)}))
 
 
 if __name__ == "__main__":

@@ -56,11 +56,10 @@ def main(words):
     bad = [it for it in edits if it.verdict]
     for part in [] if bad or given.count else side_by_side(given.lanes, edits, proving.try_edits, took):
         print("\n".join(map(str, part)), flush=True)
-    for name in took:
-        print(f"{name}: {sum(it.crate.name == name for it in edits)} wrong bodies, {took[name]:.0f} s of processor time")
     failed = [it for it in edits if it.verdict not in ("", "refused")]
     lacks = [] if given.names or bad and not given.count else census.census(repository)
-    print("\n".join([*lacks, *map(str, failed), f"{sum(took.values()):.0f} s of processor time"]))
+    times = [f"{name}: {sum(it.crate.name == name for it in edits)} wrong bodies, {took[name]:.0f} s of processor time" for name in took]
+    print("\n".join([*times, *lacks, *map(str, failed), f"{sum(took.values()):.0f} s of processor time"]))
     print(f"{sum(it.verdict == 'refused' for it in edits)} refused, {len(failed)} not refused")
     return 1 if failed or lacks else 0
 

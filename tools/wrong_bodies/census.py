@@ -3,8 +3,7 @@ import re
 from pathlib import Path
 
 MOST, MOST_OF_ONE = 600, 3
-# The functions of which each clause is named by an edit; Type::* are all that are public of a type or a trait.
-EACH_CLAUSE = {"ds_trace": ["trace_files"], "ds_bare": ["run_bare"], "ds_drive": ["drive"], "ds_grants": ["Grants::*"], "ds_tlb": ["Lookaside::*"]}
+EACH_CLAUSE = {"ds_trace": ["trace_files"], "ds_bare": ["run_bare"], "ds_drive": ["drive"], "ds_grants": ["Grants::*"], "ds_tlb": ["Lookaside::*"]}  # The functions of which each clause is named by an edit; Type::* are all that are public of a type or a trait.
 EACH_CLAUSE["ds_station"] = ["run_files", "run_policy", "Station::new", "Station::step", "Station::run"]
 LINE = re.compile(r"implied: (?P<function>\S+) (?P<clause>\S+) by (?P<by>\S.*)|none: (?P<none>\S+) \S.*|(?:#.*)?")
 

@@ -5,17 +5,16 @@ from difflib import SequenceMatcher
 from pathlib import Path
 from types import SimpleNamespace as Part
 
-# Comments, strings and characters, in which no bracket and no `fn` counts.
-NO_CODE = re.compile(r"""//[^\n]*|/\*.*?\*/|r(#*)".*?"\1|"(?:[^"\\]|\\.)*"|'(?:[^'\\\n]|\\[^'\n]+|\\')'""", re.S)
+NO_CODE = re.compile(r"""//[^\n]*|/\*.*?\*/|r(#*)".*?"\1|"(?:[^"\\]|\\.)*"|'(?:[^'\\\n]|\\[^'\n]+|\\')'""", re.S)  # Comments, strings and characters, in which no bracket and no `fn` counts.
 FUNCTION = re.compile(r"\b(?P<public>pub\s+)?(?:(?:pub\s*\([^()]*\)|const|unsafe|extern)\s+)*fn\s+(?P<name>\w+)")
 BEFORE_CLAUSE, CLAUSE = re.compile(r"\b(?:(?:requires|ensures)\s*\*?(?:\s*\w+)?|ghost(?:\s+\w+\s*:)?)\s*\Z"), re.compile(r"\bensures\s*\*?\s*(\w*)\s*\{")
-# A constructor or a number, and what it binds, before the text of its arm.
-ARM = re.compile(r"\b([A-Z]\w*|\d+)\s*(?:\{[^{}]*\}|\([^()]*\))?\s*=>\s*")
+ARM = re.compile(r"\b([A-Z]\w*|\d+)\s*(?:\{[^{}]*\}|\([^()]*\))?\s*=>\s*")  # A constructor or a number, and what it binds, before the text of its arm.
 IMPL, TRAIT = re.compile(r"(?m)^\s*(?:unsafe\s+)?impl\b(?P<of>[^{;]*)\{"), re.compile(r"(?m)^\s*(?:pub\s+)?trait\s+(\w+)[^{;]*\{")
 TYPE, PUBLIC_USE = re.compile(r"\b(?:struct|enum|trait)\s+(\w+)"), re.compile(r"\bpub\s+use\s+([^;]*);")
 PAIR = re.compile(r"(?m)^old: (.+)\nnew:(?: (.*))?$")
-OTHER = re.compile(r"(?m)^(?!(?:file|old|new|row|law|clause|stands for|function|tried):|$).*")
+OTHER = re.compile(r"(?m)^(?!(?:file|old|new|row|law|clause|stands for|function):|$).*")
 MODULE = re.compile(r"(?P<test>#\[cfg\(test\)\]\s*)?(?P<public>\bpub\s+)?\bmod\s+(?P<name>\w+)\s*;")
+code_of = lambda text: NO_CODE.sub(lambda it: re.sub(r"[^\n]", " ", it[0]), text)  # noqa: E731  (as long)
 modules_of = lambda file: [it for it in re.sub(r"(/mod)?\.rt\Z", "", file).split("/")[1:] if it not in ("lib", "main")]  # noqa: E731  (outermost first)
 
 
@@ -50,7 +49,7 @@ class Crate:
         texts, specs, proofs = read("src/**/*.rt"), read("specs/**/*.antt"), read("proofs/**/*.antt")
         self.logic, self.is_program, self.methods = {**specs, **proofs}, "src/main.rt" in texts, {}
         self.size = sum(map(len, [*self.logic.values(), *texts.values()]))
-        codes = {path: NO_CODE.sub(lambda it: re.sub(r"[^\n]", " ", it[0]), text) for path, text in texts.items()}
+        codes = {path: code_of(text) for path, text in texts.items()}
         modules = [("/".join([*modules_of(path), it["name"]]), it) for path, code in codes.items() for it in MODULE.finditer(code)]
         tests = tuple(f"src/{name}{end}" for name, it in modules if it["test"] for end in (".rt", "/"))
         codes = {path: code for path, code in codes.items() if not path.startswith(tests)}
@@ -65,14 +64,19 @@ class Crate:
         """Returns the functions whose name, or end of it, this is; a method of a trait stands for itself in each type."""
         return [it for it in self.by_name.values() if f"::{it.function}".endswith(f"::{words}") or it.method and f"::{it.method}".endswith(f"::{words}")]
 
+    def function_at(self, path, text, line):
+        """Returns the function, of a text that may be an edited one, in whose body or head a line is."""
+        bodies = [(text.count("\n", 0, it.start) + 1, text.count("\n", 0, it.end) + 1, it.function) for it in self.bodies_of(path, code_of(text))]
+        around = [(last - first, name) for first, last, name in bodies if first <= line <= last]
+        return min(around or [(first, name) for first, _, name in bodies if line < first], default=(0, ""))[1]
+
     def bodies_of(self, path, code):
         """Returns the bodies of a file's functions, and notes the methods of its traits."""
         ends, modules = closed(code), modules_of(path)
         blocks = list(self.blocks(path, code, ends))
         for head in FUNCTION.finditer(code):
             at = head.end()
-            # (to where its body begins, or to the semicolon of one that has none)
-            while at < len(code) and code[at] != ";" and (code[at] != "{" or BEFORE_CLAUSE.search(code[head.end() : at])):
+            while at < len(code) and code[at] != ";" and (code[at] != "{" or BEFORE_CLAUSE.search(code[head.end() : at])):  # (to where its body begins, or to the semicolon of one that has none)
                 at = ends.get(at, at) + 1 if code[at] in "{([" else at + 1
             spans = {it[1] or "ensures": (it.start(), ends.get(it.end() - 1, at) + 1) for it in CLAUSE.finditer(code, head.end(), at)}
             names, of_type, trait, is_declared = next((it[2:] for it in blocks if it[0] < head.start() < it[1]), (modules, head["name"], "", False))
@@ -80,14 +84,14 @@ class Crate:
                 self.methods[f"{trait}::{head['name']}"] = (*spans,)
             if code[at : at + 1] == "{":
                 end = ends.get(at, at) + 1
-                # (other crates can name it: each of its modules is public, or a `pub use` hands it out; of a program all can)
-                is_open = self.is_program or of_type in self.handed_out or all("/".join(modules[: n + 1]) in self.open_modules for n in range(len(modules)))
+                is_open = self.is_program or of_type in self.handed_out or all("/".join(modules[: n + 1]) in self.open_modules for n in range(len(modules)))  # (other crates can name it: each of its modules is public, or a `pub use` hands it out; of a program all can)
                 is_public = is_open and bool(head["public"] or trait)
                 is_law = is_public and not trait and not code[at + 1 : end - 1].strip()
+                top = re.search(r"(?m)(?:^[ \t]*#\[.*\n)*^[ \t]*\Z", code[: head.start()])
                 # (the name as a check prints it, without the crate's; `method` of a trait that it implements; no clauses where the trait has them; plain where its proof's place is its name)
                 yield Part(
-                    function="::".join([*names, head["name"]]), path=path, start=at, end=end, arms=[*arms_in(code, ends, at, end)], spans=spans,
-                    has_many=len(spans) > 4 and not trait, is_law=is_law, is_public=is_public, method=trait and f"{trait}::{head['name']}", is_default=is_declared,
+                    function="::".join([*names, head["name"]]), proofs="/".join(["proofs", *names, head["name"]]), path=path, top=top.start() if top else head.start(), start=at, end=end, arms=[*arms_in(code, ends, at, end)], spans=spans,
+                    is_law=is_law, is_public=is_public, method=trait and f"{trait}::{head['name']}", is_default=is_declared,
                     is_plain=not is_law and not is_declared and (not trait or of_type in self.homes) and not Path(self.folder, "proofs", *names, f"+{head['name']}").is_dir(),
                 )  # fmt: skip
 
@@ -117,14 +121,11 @@ class Edit:
         self.words = path.read_text("utf-8", "replace")
         lines = lambda head: [it.split() for it in re.findall(rf"(?m)^{head}: *(.+)", self.words)]
         self.rows, self.laws, self.stands = sum(lines("row"), []), sum(lines("law"), []), lines("stands for")
-        # (by function the arms that it changes, or none where it may change all; the first has to be refused)
-        self.functions, files = {name: frozenset(arms) for name, *arms in lines("function")}, sorted({it[0] for it in lines("file")})
+        self.functions, files = {name: frozenset(arms) for name, *arms in lines("function")}, sorted({it[0] for it in lines("file")})  # (by function the arms that it changes, or none where it may change all; the first has to be refused)
         self.file, self.is_turned = "".join(files[:1]), "".join(files[:1]).startswith("specs/")
-        # (the first function, those of which a check is asked, each clause that it names with the functions, and methods of a trait, that it may be of)
-        self.function, self.asked, self.clauses, self.modules, self.pieces = "", [], [], [], []
+        self.function, self.asked, self.clauses, self.modules, self.pieces, self.copy = "", [], [], [], [], ""  # (the first function, those of which a check is asked, each clause that it names with the functions, and methods of a trait, that it may be of)
         self.why = self.apply(files) or self.find(lines("clause"))
-        # whether a goal of a function is of an arm that it changes; the clauses of a function that it names
-        self.owns = lambda goal, function: any(re.search(rf"(?:\A|-){re.escape(it)}(?!\w)", goal) for it in self.functions.get(function, ()))
+        self.owns = lambda goal, function: any(re.search(rf"(?:\A|-){re.escape(it)}(?!\w)", goal) for it in self.functions.get(function, ()))  # whether a goal of a function is of an arm that it changes; the clauses of a function that it names
         self.named = lambda function: {clause for clause, pairs in self.clauses if (function, clause) in pairs}
         self.verdict = "BAD EDIT" if self.why else ""
 
@@ -152,11 +153,9 @@ class Edit:
         around = lambda parts: [it for it in parts if it.start <= self.start and self.end <= it.end]
         for body in [] if self.functions or self.is_turned else sorted(around(crate.bodies[self.file]), key=lambda it: it.end - it.start)[:1]:
             arms = [it.name for it in sorted(around(body.arms), key=lambda it: it.start - it.end)[:1]]
-            # (goals are named after the constructor, so one that stands in two arms tells nothing)
-            self.functions = {body.function: frozenset(f"in-{it}" for it in arms if [other.name for other in body.arms].count(it) == 1)}
+            self.functions = {body.function: frozenset(f"in-{it}" for it in arms if [other.name for other in body.arms].count(it) == 1)}  # (goals are named after the constructor, so one that stands in two arms tells nothing)
         self.function = next(iter(self.functions), "")
-        # (a check cannot be asked of a trait's own body of a method, so the whole crate is checked then)
-        self.asked = [] if any(it.function in self.functions and it.is_default for it in crate.by_name.values()) else [*self.functions]
+        self.asked = [] if any(it.function in self.functions and it.is_default for it in crate.by_name.values()) else [*self.functions]  # (a check cannot be asked of a trait's own body of a method, so the whole crate is checked then)
         self.asked += [body.function for law in self.laws for body in crate.named(law)] + ["rows_of_edits::read"] * bool(self.rows)
         at = {it: [path for path, text in crate.logic.items() if re.search(rf"(?m)^(?:\w+ )*{re.escape(it)} : ", text)] for it in self.rows}
         self.modules = sorted({f"Rattle.{crate.name}.{path[:-5].replace('/', '.')}" for paths in at.values() for path in paths})
@@ -169,25 +168,20 @@ class Edit:
             lost += [] if bodies else [f"clause {' '.join([*function, clause])}"]
         named = {name for _, pairs in self.clauses for name, _ in pairs}
         self.asked = [it for it in self.asked if not named or it in named or it not in self.functions]
+        body = crate.by_name.get(self.function)  # (it breaks a copy of its function, with a name of its own, so that others are tried beside it; not one of many arms, of which each takes long)
+        is_within = body and body.path == self.file and body.start < self.start and self.end < body.end and self.asked == [*self.functions]
+        if is_within and len(self.asked) == 1 and body.is_plain and not body.method and len(body.arms) < 20 and f"{body.proofs}/Proof.antt" not in crate.logic:
+            self.copy = "_" + re.sub(r"\W", "_", self.name.removesuffix(".edit").rpartition(".")[2])
         return f"there is no {lost[0]}" if lost else ""
 
     def overlaps(self, other):
         """Returns whether the two change one text."""
-        return self.file == other.file and any(it[0] <= its[1] and its[0] <= it[1] for it in self.pieces for its in other.pieces)
+        return not (self.copy or other.copy) and self.file == other.file and any(it[0] <= its[1] and its[0] <= it[1] for it in self.pieces for its in other.pieces)
 
     def clashes(self, other):
-        """Returns whether one check could not tell the two apart: they change one text, one function, or one arm where both know theirs; or it asks of one some of many clauses of
-        what the other may call, for which the others are left out."""
+        """Returns whether one check could not tell the two apart: they change one text, one function, or one arm where both know theirs."""
         both = [(self.functions[it], other.functions[it]) for it in self.functions.keys() & other.functions.keys()]
-        calls = any(self.crate.by_name[name].has_many and its.named(name) and it.may_call(name) for it, its in ((self, other), (other, self)) for name in its.functions)
-        return self.overlaps(other) or any(not mine or not others or mine & others for mine, others in both) or calls
-
-    def may_call(self, function):
-        """Returns whether a body that it changes may call a function: a method by a dot, a function of a module by its bare name."""
-        home, _, name = function.rpartition("::")
-        of_type, bodies = home.rpartition("::")[2], [self.crate.by_name[it] for it in self.functions]
-        by = lambda it: r"(?<![.\w])" if not of_type[:1].isupper() else rf"(?:\bself\.|\b(?:Self|{of_type})::)" if it.function.startswith(f"{home}::") else rf"(?:\.|\b{of_type}::)"
-        return any(re.search(rf"{by(it)}{name}\(", self.crate.texts[it.path][it.start : it.end]) for it in bodies)
+        return self.overlaps(other) or not (self.copy or other.copy) and any(not mine or not others or mine & others for mine, others in both)
 
     def __str__(self):
         return f"{self.crate.name}/{self.name}: {'refused by' if self.verdict == 'refused' else f'{self.verdict}:'} {self.why}"

@@ -9,20 +9,15 @@ from typing import NamedTuple
 from .crates import Edit
 
 KIT = Path(shutil.which("rt") or "rt").resolve().parent.parent
-# A function's line names the goals that no search proved and no answer is written for; an error at an answer names its goal first.
-NOT_SEARCHED = re.compile(r"`search` did not prove ([^;]*)")
-IN_PROOF = re.compile(r"(?:\./)?proofs/(\S+)/(Answers|Proof|Invariants)\.antt:\d+:\d+: error: (?:`([^`]*)`: )?(.*)")
-# What another function's failure, or a name that the edit took away, makes an error of a proof file.
-NOT_OWN = re.compile(r"is not in scope|has no |is no name|not admitted|not proved")
-# What says of a text of src/ or specs/ that it cannot be read, and not that a statement is false.
+NOT_SEARCHED, IN_PROOF = re.compile(r"`search` did not prove ([^;]*)"), re.compile(r"(?:\./)?proofs/(\S+)/(Answers|Proof|Invariants)\.antt:\d+:\d+: error: (?:`([^`]*)`: )?(.*)")  # what no search proved and no answer is written for; an error at an answer, which names its goal first.
+NOT_OWN = re.compile(r"is not in scope|has no |is no name|not admitted|not proved")  # What another function's failure, or a name that the edit took away, makes an error of a proof file.
 IN_SOURCE = re.compile(r"(?:\./)?(?:src|specs)/\S+?:\d+:\d+: error(?:\[[\w-]+\])?: (?:(`[^`]*`): )?(.*)")
-UNREADABLE = re.compile(r"is not in scope|has no field|is no name|operand is missing|expected the end|cannot continue")
-# A row; a goal's answer, of some clauses.
-ROW, ANSWER = re.compile(r"(?m)^pub (\S+) : .*\n(?:(?:\1 |unfolding |[] \t)}]).*\n|\n)*"), r"(?m)^pub (\S*-clause-(?:%s)) :.*\n(?:(?:\1 |unfolding |[] \t)}]).*\n|\n)*"
-# Goals of a loop's invariant, which stands in proofs/; the clause that a goal is of.
-LOOP_GOAL, CLAUSE_GOAL = re.compile(r"-(?:init|preserved|smaller)(?:-|\Z)"), re.compile(r"-clause-(\w+)")
+UNREADABLE = re.compile(r"is not in scope|has no field|is no name|operand is missing|expected the end|cannot continue")  # (of a text of src/ or specs/, and not that a statement is false)
+ROW = re.compile(r"(?m)^pub (\S+) : .*\n(?:(?:\1 |unfolding |[] \t)}]).*\n|\n)*")
+LOOP_GOAL, CLAUSE_GOAL = re.compile(r"-(?:init|preserved|smaller)(?:-|\Z)"), re.compile(r"-clause-(\w+)")  # Goals of a loop's invariant, which stands in proofs/; the clause that a goal is of.
 REFUSED, NOT_PROVED = re.compile(r"(?:\./)?(?:specs|proofs)/(\S+)\.antt:\d+:\d+: error: `([^`]*)`: (.*)"), re.compile(r"fn \w+::(\S+): (?:not proved|no proof)")
 ROWS = "ghost use Rattle.std.specs.Prelude.{◌≡◌};\nfn read() -> u8 ensures { result ≡ 0 } { 0 }\n"  # a function that has rows read
+REFUSED_ANSWER, OPEN_GOAL = "\npub unasked : missing\nunasked = missing\n", re.compile(r"note: (?:\./)?(src/\S+?):(\d+):\d+: (?:it is not proved|`\w+` found no proof) .*?\(`([^`]*)`\)(?:;|\Z)")  # In the answers of a function: nothing is offered for its open goals then, for which each would be searched once more. Where each goal that was not proved stands.
 unquoted = lambda words: re.sub(r"`[^`]*`", "", words)  # noqa: E731
 
 
@@ -40,32 +35,34 @@ class Said(NamedTuple):
 
     def is_proved(self):
         """Returns whether nothing was refused but what a copy has in place of proofs."""
-        return self.status == 0 or not self.goals and all("`missing`" in it for it in self.lines if ": error" in it)
+        return self.status == 0 or not self.goals and all(NOT_OWN.search(unquoted(it)) for it in self.lines if ": error" in it)
 
     def complaint(self):
-        """Returns the first error that it printed."""
         return next((it for it in self.lines if ": error" in it or it.startswith("error")), self.lines[-1])
 
 
-def goals_in(lines, crate):
+def goals_in(lines, crate, text_of):
     """Returns by function the names of the goals that were not proved, the crate's name taken from the functions'. A closure's are its function's."""
-    start, found = f"fn {crate}::", {}
+    start, found, texts = f"fn {crate.name}::", {}, {}
     said = dict(it[len(start) :].split(": ", 1) for it in lines if it.startswith(start) and ": " in it)
     goals = [(name, goal.strip("` ")) for name, words in said.items() for it in NOT_SEARCHED.findall(words) for goal in it.split(", ")]
     for it in filter(None, map(IN_PROOF.match, lines)):
         name = it[1].replace("/", "::")
         if "not proved" in said.get(name, "") and not NOT_OWN.search(unquoted(it[4])):
             goals.append((name, it[3] or ""))
-    for name, goal in goals:
+    for path, line, goal in (it.groups() for it in map(OPEN_GOAL.match, lines) if it):
+        texts[path] = texts.get(path) or text_of(path)
+        goals.append((crate.function_at(path, texts[path], int(line)), goal))
+    for name, goal in dict.fromkeys(goals):
         found.setdefault(re.sub(r"\bfn::(\w+)::.*", r"\1", name), []).append(goal)
     return found
 
 
-def unasked(body, edits):
-    """Returns the clauses of a function that a check of edits need not be asked of, where each edit of it names some and none may call it: the longest first."""
-    named = [it.named(body.function) for it in edits if body.function in it.functions]
-    left = {*body.spans} - {"ensures"}.union(*named) if all(named) and not body.method and not any(it.may_call(body.function) for it in edits) else ()
-    return sorted(left, key=lambda it: body.spans[it][0] - body.spans[it][1])
+def left_out(body, edit):
+    """Returns where the clauses of a function stand that an edit of it does not name, if it names some, with what takes their place."""
+    named = {"ensures", *edit.named(body.function)}
+    spans = sorted((span for clause, span in body.spans.items() if clause not in named and len(named) > 1), key=lambda it: it[0] - it[1])
+    return [(start, end, "ensures other { Unit {0} }" if at == 0 and len(body.spans) == len(spans) + 1 else "") for at, (start, end) in enumerate(spans)]  # (goals have clauses in their names where there are two, so one stays and says nothing)
 
 
 class Prover:
@@ -83,52 +80,58 @@ class Prover:
     def check(self, edits, functions):
         """Checks a copy of the crate with these edits: these functions alone, or all where there is none. In the copy others have an empty loop for a body, and a proof that is
         refused at once. A function of the copy's own has the rows read that turned definitions name."""
-        files, broken = {}, {name for it in edits for name in it.functions if name in it.asked or not it.asked}
+        files, placed, is_asked = {}, [it for it in edits if not it.copy], functions not in ([], [""])
+        broken, pieces = {name for it in placed for name in it.functions if name in it.asked or not it.asked}, [(*piece, it.file) for it in placed for piece in it.pieces]
         text_of = lambda path: files.get(path, self.crate.texts[path])
         for body in (self.crate.by_name[name] for name in broken):
-            left, place = unasked(body, edits), f"proofs/{body.function.replace('::', '/')}/Answers.antt"
-            for at, it in enumerate(left):
-                start, end = body.spans[it]
-                # (goals have clauses in their names where there are two, so one stays and says nothing)
-                says = f"ensures {it} {{ Unit {{0}} }}" if at == 0 and len(body.spans) == len(left) + 1 else ""
-                files[body.path] = text_of(body.path)[:start] + says.ljust(end - start) + text_of(body.path)[end:]
-            if left and place in self.crate.logic:
-                files[place] = re.sub(ANSWER % "|".join(left), "", self.crate.logic[place])
+            files.update(self.proofs(body, is_asked and not body.method) if body.is_plain else ())
+        for it in (it for it in edits if it.copy):
+            body, name, text, more = self.crate.by_name[it.function], it.function.rpartition("::")[2], self.crate.texts[it.file], 0
+            for start, end, new in sorted([*left_out(body, it), *it.pieces], reverse=True):
+                text, more = text[:start] + new + text[end:], more + len(new) - (end - start)
+            pieces.append((body.end, body.end, "\n" + re.sub(rf"\bfn {name}\b", f"fn {name}{it.copy}", text[body.top : body.end + more], count=1), it.file))
+            files.update(self.proofs(body, is_asked, it.copy))
         for body in self.crate.by_name.values() if functions and all(it.asked for it in edits) else ():
             if body.is_plain and body.function not in broken:
-                place, name = f"proofs/{body.function.replace('::', '/')}", body.function.rpartition("::")[2]
-                files.update({f"{place}/{it}.antt": "" for it in ("Answers", "Invariants")})
-                files[f"{place}/Proof.antt"] = f"pub {name}_spec : missing\n{name}_spec = missing\n"
-                is_edited = any(it.file == body.path and body.start < start < body.end for it in edits for start, *_ in it.pieces)
+                name = body.function.rpartition("::")[2]
+                files.update({f"{body.proofs}/{it}.antt": "" for it in ("Answers", "Invariants")})
+                files[f"{body.proofs}/Proof.antt"] = f"pub {name}_spec : missing\n{name}_spec = missing\n"
+                is_edited = any(it.file == body.path and body.start < start < body.end for it in placed for start, *_ in it.pieces)
                 if body.end - body.start > 10 and not is_edited and not any(other.start < body.start < other.end for other in self.crate.bodies[body.path]):
                     files[body.path] = text_of(body.path)[: body.start + 1] + " loop {} ".ljust(body.end - body.start - 2) + text_of(body.path)[body.end - 1 :]
         rows, modules = {row for it in edits for row in it.rows}, sorted({it for edit in edits for it in edit.modules})
         for path in [it for it in self.crate.logic if f"Rattle.{self.crate.name}.{it[:-5].replace('/', '.')}" in modules]:
-            # (of a module of rows those that are not named stay only where others speak of them)
-            is_left = lambda it: it[1] in rows or sum(text.count(it[1]) for text in self.crate.logic.values()) > it[0].count(it[1])
+            is_left = lambda it: it[1] in rows or sum(text.count(it[1]) for text in self.crate.logic.values()) > it[0].count(it[1])  # (of a module of rows those that are not named stay only where others speak of them)
             files[path] = ROW.sub(lambda it: it[0] if is_left(it) else re.sub(r"[^\n]", " ", it[0]), self.crate.logic[path])
         if modules:
             files.update({self.root: text_of(self.root) + "mod rows_of_edits;\n", "src/rows_of_edits.rt": ROWS})
             files["proofs/rows_of_edits/read/Answers.antt"] = "".join(f"use {it} as rows{at}\n" for at, it in enumerate(modules))
-        return self.ran(edits, files, "check", *self.words, *(word for it in sorted(set(functions)) for word in ("--only", it)))
+        return self.ran(pieces, files, "check", *self.words, *(word for it in sorted(set(functions)) for word in ("--only", it)))
 
-    def ran(self, edits, files, *words):
-        """Runs rattle in a copy of the crate with files of its own, of which those without text are left out, and with these edits, the last of a text first."""
+    def proofs(self, body, is_asked, copy=""):
+        """Returns the files of a function's proof, or of that of a copy of it, with an answer that is refused where the function is asked for."""
+        name, own = body.function.replace("::", "."), self.crate.logic
+        files = {it: own.get(f"{body.proofs}/{it}.antt", "").replace(f"{name}.", f"{name}{copy}.") for it in ("Answers", "Invariants", "Proof")}
+        files["Answers"] += REFUSED_ANSWER if is_asked and not files["Proof"] else ""
+        return {f"{body.proofs}{copy}/{it}.antt": text for it, text in files.items() if text}
+
+    def ran(self, pieces, files, *words):
+        """Runs rattle in a copy of the crate with files of its own, of which those without text are left out, and with these pieces of texts, the last of a text first."""
         for part in ("src", "specs", "proofs"):
             shutil.rmtree(Path(self.room, part), ignore_errors=True)
             shutil.copytree(Path(self.crate.folder, part), Path(self.room, part)) if Path(self.crate.folder, part).is_dir() else None
         for it, text in files.items():
             Path(self.room, it).parent.mkdir(parents=True, exist_ok=True)
             Path(self.room, it).write_text(text, "utf-8") if text else Path(self.room, it).unlink(missing_ok=True)
-        for start, end, new, file in sorted(((*piece, it.file) for it in edits for piece in it.pieces), reverse=True):
+        for start, end, new, file in sorted(pieces, reverse=True):
             text = Path(self.room, file).read_text("utf-8")
             Path(self.room, file).write_text(text[:start] + new + text[end:], "utf-8")
         with subprocess.Popen([f"{KIT}/bin/rattle", *words], cwd=self.room, stdin=subprocess.DEVNULL, stdout=subprocess.PIPE, stderr=subprocess.STDOUT) as ran:
-            lines = ran.stdout.read().decode("utf-8", "replace").rstrip("\n").split("\n")
+            lines = re.sub(r"\n +(?=\S)", " ", ran.stdout.read().decode("utf-8", "replace").rstrip("\n")).split("\n")  # (a long line is broken, and goes on behind blanks)
             _, status, used = os.wait4(ran.pid, 0)
             ran.returncode = os.waitstatus_to_exitcode(status)
         self.seconds += used.ru_utime + used.ru_stime
-        return Said(ran.returncode, lines, goals_in(lines, self.crate.name))
+        return Said(ran.returncode, lines, goals_in(lines, self.crate, lambda path: Path(self.room, path).read_text("utf-8")))
 
 
 def lacking_below(repository, crates):
@@ -163,7 +166,7 @@ def batches_of(edits, clash):
 def read_edits(prover, edits):
     """Has the prover's front end read edits, as many together as there may be, and marks those that are no code. Of a turned definition it is told whether it parses."""
     for it in (it for it in edits if it.is_turned):
-        said = prover.ran([it], {}, "fmt", "--write", it.file)
+        said = prover.ran([(*piece, it.file) for piece in it.pieces], {}, "fmt", "--write", it.file)
         it.verdict, it.why = ("BAD EDIT", f"it is no definition: {said.complaint()}") if said.status else ("", "")
     left = batches_of([it for it in edits if not it.is_turned], Edit.overlaps)
     while left:
@@ -182,7 +185,7 @@ def try_edits(prover, edits):
     left = [*([it] for it in edits if it not in together), *batches_of(together, Edit.clashes)]
     while left:
         batch = left.pop()
-        edit, functions = batch[0], [name for it in batch for name in it.asked]
+        edit, functions = batch[0], [f"{name}{it.copy}" for it in batch for name in it.asked]
         said = prover.check(batch, functions)
         if len(batch) > 1 and not (said.could_read() and set(said.goals) <= set(functions)):
             left += [batch[: len(batch) // 2], batch[len(batch) // 2 :]]
@@ -201,9 +204,11 @@ def try_edits(prover, edits):
 def goals_of(edit, said, batch):
     """Returns the goals that were not proved, or those of an edit's functions, beside edits of other arms those of its arm; of these none, where a goal is of no edit's arm."""
     for function in edit.functions if edit else said.goals:
-        goals, beside = said.goals.get(function, []), [it for it in batch if edit and it is not edit and function in it.functions]
+        goals = said.goals.get(f"{function}{edit.copy}" if edit else function, [])
+        beside = [it for it in batch if edit and not edit.copy and it is not edit and not it.copy and function in it.functions]
         is_told = all(any(it.owns(goal, function) for it in (edit, *beside)) for goal in goals) if beside else True
-        yield from ((function, it) for it in goals if not beside or edit.owns(it, function) and (is_told or not any(edit.functions.values())))
+        name = function if edit or not batch else function.removesuffix(batch[0].copy or "::")
+        yield from ((name, it) for it in goals if not beside or edit.owns(it, function) and (is_told or not any(edit.functions.values())))
 
 
 def clauses_among(crate, goals):
