@@ -28,6 +28,7 @@ PARTS = 16  # pages in a source
 MOST_RULES, MOST_PROCESSES = 999, 100
 LINES = 4
 PACE = 100_000  # ticks for 64 keys, which is far more than a program takes that reads them
+MOST_WRITTEN = 10_000_000  # bytes on consoles and log, so that a program that puts without end does not fill the memory
 HEAD = "# Written by tools/elf_to_policy.py"  # how each file begins that this script may write anew
 
 
@@ -168,9 +169,10 @@ def write_all(folder, texts):
 
 
 def told(folder, name):
-    """The lines to type next. A run is over where its processes have ended, so it is given as many ticks as there may be."""
+    """The lines to type next. A run is over where its processes have ended, so it is given as many ticks as there may be; its summary says where they have not."""
     policy, keys = f"{name}.toml", f"{name}.input"
-    return [*([f"cd {shlex.quote(str(folder))}"] if folder != Path(".") else []), f"dsmon check {policy}", f"dsmon run {policy} {keys} {MOST_TICKS}"]
+    there = [f"cd {shlex.quote(str(folder))}"] if folder != Path(".") else []
+    return [*there, f"dsmon check {policy}", f"dsmon run {policy} {keys} {MOST_TICKS} --summary --most {MOST_WRITTEN}"]
 
 
 def number_between(low, high):

@@ -57,8 +57,8 @@ class Judge {
 function rows(module, judge) {
   for (const line of index("rows")) {
     const [folder, status, text, ...words] = line.split(" "), it = ran(module, folder, words);
-    const wanted = fs.readFileSync(path.join(DATA, folder, text)), [got, other] = +status ? [it.err, it.out] : [it.out, it.err];
-    judge.take(it.status === +status && got.equals(wanted) && !other.length, line, it);
+    const wanted = fs.readFileSync(path.join(DATA, folder, text));
+    judge.take(it.status === +status && Buffer.concat([it.out, it.err]).equals(wanted), line, it);
   }
 }
 
@@ -87,7 +87,7 @@ function casesOf(file) {
 
 function isAsExpected(it, { verdict, after }) {
   if (verdict === "ok") return it.status === 0;
-  if (!verdict) return it.status === 0 && it.out.equals(bytesOf(after));
+  if (!verdict) return it.status === 0 && Buffer.concat([it.out, it.err]).equals(bytesOf(after));
   const told = after.filter((line) => line.startsWith("| ") || line === "|").map((line) => line.slice(2));
   return it.status === 2 && !it.out.length && it.err.equals(bytesOf([`dsmon: ${verdict}`, ...told]));
 }

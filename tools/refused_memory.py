@@ -19,7 +19,7 @@ from pathlib import Path
 from typing import NamedTuple, Optional
 
 PROGRAM = Path(__file__).resolve().parent.parent / "crates" / "dsmon"
-GROWTH = 215  # (the one before the last of the preparation is of a list that grows otherwise where it is refused, and refuses nothing)
+GROWTH = 224  # (the one before the last of the preparation is of a list that grows otherwise where it is refused, and refuses nothing)
 STEP = 3  # so far it is moved where it does not fit
 MOST_BUILDS = 8
 # (of the comments, each one growth more than the one before; a longer one takes as long to read as the whole run)

@@ -137,7 +137,7 @@ class Tests(unittest.TestCase):
 
     def test_the_lines_to_type_are_told(self):
         with self.folder(one=elf(SMALL)) as folder:
-            self.assertEqual([f"cd {folder.room}", "dsmon check one.toml", "dsmon run one.toml one.input 1000000000"], folder.run()[1])
+            self.assertEqual([f"cd {folder.room}", "dsmon check one.toml", "dsmon run one.toml one.input 1000000000 --summary --most 10000000"], folder.run()[1])
 
     def test_two_hundred_kilobytes_lie_in_four_sources(self):
         held = b"".join(struct.pack("<I", 0x3C000000 + k) for k in range(200 * 1024 // 4))
@@ -455,7 +455,7 @@ class Tests(unittest.TestCase):
         mine = {words for folder, _, _, words in rows if folder == "examples/c"}
         for *_, programs in POLICIES:
             name = programs[0]
-            self.assertIn(f"run {name}.toml {name}.input 1000000000", mine)
+            self.assertIn(f"run {name}.toml {name}.input 1000000000", mine)  # (what is told beside a text is in rows of `came`)
             self.assertTrue(all((EXAMPLES / f"{it}-1.s").is_file() for it in programs))
 
     def test_the_commands_of_the_document_are_rows(self):

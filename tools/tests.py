@@ -25,6 +25,7 @@ COMMANDS = [  # those that take longest first
     ["tools/test_turns_cases.py"],
     ["tools/test_late_cases.py"],
     ["tools/test_trace_model.py"],
+    ["tools/test_came_model.py"],
     ["tools/test_bare_model.py"],
     ["tools/test_bare_cases.py"],
     ["tools/test_processor_model.py"],

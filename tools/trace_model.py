@@ -66,8 +66,8 @@ def piece(at, name, rest, labels, start=0x40_0000):
     return (0 if name == "nop" else encode(name, *o)).to_bytes(4, "little")
 
 
-def begun(read, policy, given, view):
-    """The run of files at its beginning."""
+def begun(read, policy, given, view, kind=None):
+    """The run of files at its beginning, of this kind where it is to be more than one that is told."""
     said = tomllib.loads(read(policy))
     pages, names = [], [it["name"] for it in said["page"]]
     for it in said["page"]:
@@ -76,7 +76,7 @@ def begun(read, policy, given, view):
     frames = said.get("frames", len(pages))
     rules = [(it["process"], it["address"], it["right"], names.index(it["page"]) if "page" in it else None, it.get("give", False)) for it in said.get("rule", [])]
     processes = [(it["start"], it.get("line", 0)) for it in said["process"]]
-    run = Traced(processes, pages + [bytes(4096)] * (frames - len(pages)), len(names), frames, rules, said.get("rate", 0), events_of(read(given), names), view["random"], view)
+    run = (kind or Traced)(processes, pages + [bytes(4096)] * (frames - len(pages)), len(names), frames, rules, said.get("rate", 0), events_of(read(given), names), view["random"], view)
     for it in said.get("rule", []):
         place = it["process"], it["address"]
         run.table[place] = run.table[place]._replace(until=it.get("until"))
@@ -432,11 +432,16 @@ def files_in(folder, **given):
     return lambda name: given[name] if name in given else (folder / name).read_text()
 
 
+def is_of_a_trace(folder, status, words):
+    """Whether a row is that of a trace; what is told or written beside one, in the rows of `came`, tools/came_model.py knows."""
+    return words[:1] == ["trace"] and status == "0" and folder.split("/")[0] != "came"
+
+
 def rows():
     """The rows and cases of traces: the name of each, a function to its files, its words, and the text that is expected."""
     for line in (DATA / "rows").read_text().splitlines():
         folder, status, text, *words = line.split(" ")
-        if words[:1] == ["trace"] and status == "0":
+        if is_of_a_trace(folder, status, words):
             yield line, files_in(DATA / folder), words, (DATA / folder / text).read_bytes()
     for line in (DATA / "tables").read_text().splitlines():
         folder, file, name, *words = line.split(" ")
@@ -470,7 +475,7 @@ def write():
     """Writes the texts of all rows and cases anew."""
     for line in (DATA / "rows").read_text().splitlines():
         folder, status, text, *words = line.split(" ")
-        if words[:1] == ["trace"] and status == "0":
+        if is_of_a_trace(folder, status, words):
             (DATA / folder / text).write_bytes(traced(files_in(DATA / folder), words))
     for line in (DATA / "tables").read_text().splitlines():
         folder, file, name, *words = line.split(" ")

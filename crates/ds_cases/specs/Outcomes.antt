@@ -13,7 +13,6 @@ abbrev pub text_of : Outcome → List ℕ
 text_of outcome.AsExpected = codes "as expected"
 text_of (outcome.Differs n) = codes "the first " ++ (decimal n ++ codes " bytes are as expected, and no more")
 text_of (outcome.Ended status) = codes "the status is " ++ decimal status
-text_of outcome.Spills = codes "something is written to the other stream"
 text_of outcome.StepsDiffer = codes "stations come to another text"
 text_of outcome.NoFile = codes "a file can't be read"
 text_of outcome.NoForm = codes "words are missing, or the cases have no form"

@@ -13,8 +13,6 @@ pub enum Outcome {
     Differs(usize),
     /// Its command ended with this status, which is not the expected one.
     Ended(u8),
-    /// It wrote what is expected, and something to the other stream too.
-    Spills,
     /// Stations that are made of its files write another text, or can't be made.
     StepsDiffer,
     /// A file that its line names can't be read.
@@ -31,7 +29,6 @@ impl fmt::Display for Outcome {
             Outcome::AsExpected => write!(f, "as expected"),
             Outcome::Differs(n) => write!(f, "the first {n} bytes are as expected, and no more"),
             Outcome::Ended(status) => write!(f, "the status is {status}"),
-            Outcome::Spills => write!(f, "something is written to the other stream"),
             Outcome::StepsDiffer => write!(f, "stations come to another text"),
             Outcome::NoFile => write!(f, "a file can't be read"),
             Outcome::NoForm => write!(f, "words are missing, or the cases have no form"),

@@ -1,5 +1,5 @@
 -- What is told to a place that takes bytes.
-use Rattle.std.proofs.Common.{◌≡◌, ℕ, Bool, true, false, List, [], ◌++◌, append-nil, append_assoc, refl}
+use Rattle.std.proofs.Common.{◌≡◌, ℕ, Bool, true, false, List, [], ◌++◌, append-nil, append_assoc, refl, subst, sym}
 use Rattle.std.specs.Prelude.{Option, Some, None, Result, Ok, Err, OnOk, OnErr, is_err}
 use Rattle.std.specs.Io.KnownBytes.{Appends}
 use Rattle.ds_log.specs.Sent.{Answers, AppendsPart, IsAskedOnce}
@@ -72,3 +72,7 @@ told_nothing known answers text = record {
   all = refl;
   tells = tells_all known known answers answers [] (asked_none answers) (appends_none known);
 }
+
+-- nor where there is nothing to tell
+pub untold : (known : Option (List ℕ)) (answers : Option Answers) (text : List ℕ) → text ≡ [] → Tells (listener known known answers answers) text
+untold known answers text none = subst (Tells (listener known known answers answers)) (sym none) (tells_all known known answers answers [] (asked_none answers) (appends_none known))

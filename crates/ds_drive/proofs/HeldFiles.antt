@@ -1,5 +1,5 @@
 -- What was read of the files is what they hold.
-use Rattle.std.proofs.Common.{◌≡◌, ◌∙◌, ℕ, Bool, List, [], ◌∷◌, map, refl, sym, ap, subst}
+use Rattle.std.proofs.Common.{◌≡◌, ◌∙◌, ◌⊎◌, inl, inr, ℕ, Bool, List, [], ◌∷◌, map, refl, sym, ap, subst}
 use Rattle.std.specs.Prelude.{Result, Ok, Err, All}
 use Rattle.std.proofs.lemmas.List.Elements.{All-map, All-weaker}
 use Rattle.ds_policy.specs.PolicyText.{policy_of}
@@ -13,13 +13,15 @@ use Rattle.ds_station.proofs.Alone.{each_alone_if}
 use Rattle.ds_station.proofs.Guarded.{files_guarded_if}
 use Rattle.std.specs.Prelude.{Option, Some, None}
 use Rattle.std.specs.Borrow.{Bor}
-use Rattle.ds_station.specs.Headline.{Begins, Loaded, loaded}
+use Rattle.ds_station.specs.Headline.{Begins, Loaded, Writes, loaded}
 use Rattle.ds_drive.specs.Checked.{IsInput}
 use Rattle.ds_words.specs.declared.words.Request.{Request}
+use Rattle.ds_words.specs.declared.words.RunRequest.{RunRequest}
+use Rattle.ds_drive.specs.declared.outcome.Outcome.{Outcome}
 use Rattle.ds_drive.specs.declared.run.SourceText.{SourceText}
 use Rattle.ds_drive.specs.Inside.{outside_of}
-use Rattle.ds_drive.specs.Failures.{AreHeld, HoldsInputs, OfHeld, RunsFiles}
-use Rattle.ds_drive.specs.Ran.{OfHeldLoaded, RunsAlone, RunsGuarded}
+use Rattle.ds_drive.specs.Failures.{AreHeld, HoldsInputs, OfHeld}
+use Rattle.ds_drive.specs.Ran.{EndsThen, HasLeftFiles, HasRunFiles, IsEnded, IsLeft, OfHeldBoth, Writing, begun_by, first_by, writing}
 
 names_of : (texts : List SourceText) → map (λ (s : List ℕ × List ℕ). s.0) (map (λ s. (s.name, s.text.items)) texts) ≡ map (λ s. s.name) texts
 names_of [] = refl
@@ -105,35 +107,48 @@ of_held holds request P value s t i j inputs e f so = record {
   so = of_texts P value inputs.policy s t i j request.most_time request.random inputs.read e f so;
 }
 
--- so of what a run begins with
-pub of_held_loaded : (holds : List ℕ → List ℕ → Type 0) (request : Request) (P : Result Loaded Refusal → Type 0) (value : PolicyValue) (s t : Sources) (i j : List ℕ)
-    → HoldsInputs holds request value t j → s ≡ t → i ≡ j → P (inputs_under_by loaded value s i request.most_time request.random) → OfHeldLoaded holds request P
-of_held_loaded holds request P value s t i j inputs e f so = record {
-  policy = inputs.policy;
+-- so of what they are read as, as a first state and as what a run begins with
+pub of_held_both : (holds : List ℕ → List ℕ → Type 0) (request : Request) (P : Result State Refusal → Result Loaded Refusal → Type 0) (value : PolicyValue) (s t : Sources) (i j : List ℕ)
+    → HoldsInputs holds request value t j → s ≡ t → i ≡ j → P (first_by value s i request) (begun_by value s i request) → OfHeldBoth holds request P
+of_held_both holds request P value s t i j texts e f so = record {
+  policy = texts.policy;
   sources = t;
   input = j;
-  held = inputs.held;
-  so = subst P (sym (under_policy_by loaded value inputs.policy t j request.most_time request.random inputs.read))
-      (subst (λ (x : List ℕ). P (inputs_under_by loaded value t x request.most_time request.random)) f
-      (subst (λ (x : Sources). P (inputs_under_by loaded value x i request.most_time request.random)) e so));
+  held = texts.held;
+  so = subst (λ (begun : Result Loaded Refusal). P (inputs texts.policy t j request.most_time request.random) begun) (sym (under_policy_by loaded value texts.policy t j request.most_time request.random texts.read))
+      (subst (λ (read : Result State Refusal). P read (begun_by value t j request)) (sym (under_policy value texts.policy t j request.most_time request.random texts.read))
+      (subst (λ (x : List ℕ). P (first_by value t x request) (begun_by value t x request)) f
+      (subst (λ (x : Sources). P (first_by value x i request) (begun_by value x i request)) e so)));
 }
 
--- a run of files is guarded
-pub guarded_held : (holds : List ℕ → List ℕ → Type 0) (request : Request) (old new : Option (List ℕ)) → RunsFiles holds request old new → RunsGuarded holds request old new
-guarded_held holds request old new r = record {
-  policy = r.policy;
-  sources = r.sources;
-  input = r.input;
-  held = r.held;
-  so = files_guarded_if {T = Unit {0}} {E = Unit {0}} (Ok tt) r.policy r.sources r.input request.most_time request.random old new r.so;
-}
+-- what is written of a run that has ended is its text
+text_written : (request : RunRequest) (o : Outcome) (w : Writing) (read : Result State Refusal) → Begins read (EndsThen request o w) → Begins read (Writes w.old w.between request.run.most_time)
+text_written request o w read b = (b.0, b.1, record { last = b.2.last; ends = b.2.ends; written = b.2.written })
 
--- and shows of who is alone what it does alone
-pub alone_held : (holds : List ℕ → List ℕ → Type 0) (request : Request) (old new : Option (List ℕ)) → RunsFiles holds request old new → RunsAlone holds request old new
-alone_held holds request old new r = record {
-  policy = r.policy;
-  sources = r.sources;
-  input = r.input;
-  held = r.held;
-  so = each_alone_if {T = Unit {0}} {E = Unit {0}} (Ok tt) r.policy r.sources r.input request.most_time request.random old new r.so;
-}
+-- a run of files is guarded, and shows of who is alone what it does alone
+pub ended_files : (holds : List ℕ → List ℕ → Type 0) (request : RunRequest) (o : Outcome) (old new : Option (List ℕ)) → OfHeldBoth holds request.run (λ read begun. IsEnded request o old new read begun)
+    → HasRunFiles holds request o old new
+ended_files holds request o old new r =
+    let w = writing old r.so.0 new in
+    let read = inputs r.policy r.sources r.input request.run.most_time request.run.random in
+    let text = text_written request o w read r.so.1.ends in
+    record {
+      policy = r.policy;
+      sources = r.sources;
+      input = r.input;
+      held = r.held;
+      so = record {
+        between = r.so.0;
+        ended = r.so.1;
+        guarded = files_guarded_if {T = Unit {0}} {E = Unit {0}} (Ok tt) r.policy r.sources r.input request.run.most_time request.run.random old r.so.0 text;
+        alone = each_alone_if {T = Unit {0}} {E = Unit {0}} (Ok tt) r.policy r.sources r.input request.run.most_time request.run.random old r.so.0 text;
+      };
+    }
+
+module _ (holds : List ℕ → List ℕ → Type 0) (request : RunRequest) (o : Outcome) (old new : Option (List ℕ)) (value : PolicyValue) (s t : Sources) (i j : List ℕ)
+    (read : HoldsInputs holds request.run value t j) (e : s ≡ t) (f : i ≡ j) where
+  -- what a run of what was read came to, a run of the files did
+  pub come_files : IsEnded request o old new (first_by value s i request.run) (begun_by value s i request.run) ⊎ IsLeft request o old new (first_by value s i request.run) (begun_by value s i request.run)
+      → HasRunFiles holds request o old new ⊎ HasLeftFiles holds request o old new
+  come_files (inl ended) = inl (ended_files holds request o old new (of_held_both holds request.run (λ read begun. IsEnded request o old new read begun) value s t i j read e f ended))
+  come_files (inr left) = inr (of_held_both holds request.run (λ read begun. IsLeft request o old new read begun) value s t i j read e f left)

@@ -1,7 +1,10 @@
 pub mod BareLemmas
 pub mod BareOrders
+pub mod Coming
 pub mod Cuts
+pub mod Ending
 pub mod Faulty
+pub mod Following
 pub mod Heard
 pub mod HeldFiles
 pub mod Noting
@@ -12,3 +15,5 @@ pub mod Stops
 pub mod Tellings
 pub mod TraceLemmas
 pub mod Untaken
+pub mod Unmet
+pub mod Wishes

@@ -7,7 +7,7 @@ use Rattle.ds_words.specs.Words.{AsksForBare, AsksForCheck, AsksForList, AsksFor
 use Rattle.ds_words.specs.declared.words.BareRequest.{BareRequest}
 use Rattle.ds_words.specs.declared.words.CheckRequest.{CheckRequest}
 use Rattle.ds_words.specs.declared.words.ListRequest.{ListRequest}
-use Rattle.ds_words.specs.declared.words.Request.{Request}
+use Rattle.ds_words.specs.declared.words.RunRequest.{RunRequest}
 use Rattle.ds_words.specs.declared.words.TraceRequest.{TraceRequest}
 use Rattle.ds_drive.specs.declared.failure.Failure.{Failure}
 use Rattle.ds_drive.specs.declared.failure.Failure.TheVariants as failure
@@ -31,6 +31,7 @@ has_status_run : (inside : Bool) (f : Failure) (status : ℕ) (unread : Option (
 has_status_run inside f status None is tells = tt
 has_status_run inside (failure.UnreadableSource told) status (Some u) is tells = has_status (failure.UnreadableSource told) status (Some u) is tells
 has_status_run inside (failure.UnreadableFile told) status (Some u) is tells = has_status (failure.UnreadableFile told) status (Some u) is tells
+has_status_run inside (failure.NoProcess process) status (Some u) is tells = has_status (failure.NoProcess process) status (Some u) is tells
 has_status_run inside (failure.Fault x) status (Some u) is tells = has_status (failure.Fault x) status (Some u) is tells
 
 module _ (P Q : Option (List ℕ × FileFault) → Type 0) (so : (unread : Option (List ℕ × FileFault)) → P unread → Q unread) where
@@ -49,12 +50,13 @@ module _ (status : ℕ) (words : List Text) (holds : List ℕ → List ℕ → T
   bare_until request asks r = inr (inr (inr (inr (inl (request, asks, r)))))
 
   -- the files of a run were read
-  pub run_reads : (request : Request) → AsksForRun words request → ReadsRun holds request.policy.now (request.input.now ∷ []) old new → ReadsFor status words holds old new
-  run_reads request asks r = inr (inl (request, asks, run_read_until holds request.policy.now (request.input.now ∷ []) (HasStatus status) old new r tt))
+  pub run_reads : (request : RunRequest) → AsksForRun words request → ReadsRun holds request.run.policy.now (request.run.input.now ∷ []) old new → ReadsFor status words holds old new
+  run_reads request asks r = inr (inl (request, asks, run_read_until holds request.run.policy.now (request.run.input.now ∷ []) (HasStatus status) old new r tt))
 
   -- or not all of them
-  pub run_reads_until : (request : Request) (f : Failure) → status ≡ fault_status (failure_number f) → AsksForRun words request → ReadsRunUntil (TellsOfRun request.inside f) holds request.policy.now (request.input.now ∷ []) old new → ReadsFor status words holds old new
-  run_reads_until request f has asks r = inr (inl (request, asks, run_until_so (TellsOfRun request.inside f) (HasStatus status) (λ u t. has_status_run request.inside f status u has t) holds request.policy.now (request.input.now ∷ []) old new r))
+  pub run_reads_until : (request : RunRequest) (f : Failure) → status ≡ fault_status (failure_number f) → AsksForRun words request → ReadsRunUntil (TellsOfRun request.run.inside f) holds request.run.policy.now (request.run.input.now ∷ []) old new → ReadsFor status words holds old new
+  run_reads_until request f has asks r =
+      inr (inl (request, asks, run_until_so (TellsOfRun request.run.inside f) (HasStatus status) (λ u t. has_status_run request.run.inside f status u has t) holds request.run.policy.now (request.run.input.now ∷ []) old new r))
 
   -- that of a listing
   pub list_reads : (request : ListRequest) → AsksForList words request → ReadsAll (request.file.now ∷ []) old new → ReadsFor status words holds old new

@@ -143,6 +143,7 @@ as_of_run : (inside : Bool) (f : Failure) (unread : Option (List ℕ × FileFaul
 as_of_run inside (failure.UnreadableSource told) None none = absurd none
 as_of_run inside (failure.UnreadableSource told) (Some u) tells = tells
 as_of_run inside (failure.UnreadableFile told) unread tells = tells
+as_of_run inside (failure.NoProcess process) unread tells = tells
 as_of_run inside (failure.Fault x) unread tells = tells
 
 -- so of files up to some place

@@ -27,6 +27,8 @@ use Rattle.ds_drive.specs.declared.failure.Failure.TheVariants as failure
 use Rattle.ds_words.specs.declared.words.CheckRequest.{CheckRequest}
 use Rattle.ds_words.specs.declared.words.ListRequest.{ListRequest}
 use Rattle.ds_words.specs.declared.words.Request.{Request}
+use Rattle.ds_words.specs.declared.words.RunRequest.{RunRequest}
+use Rattle.ds_words.specs.Windows.{windows_in}
 use Rattle.ds_words.specs.Words.{AsksForDemo, AsksForRun, AsksForList, AsksForCheck}
 use Rattle.ds_drive.specs.declared.run.SourceText.{SourceText}
 use Rattle.ds_drive.proofs.HeldFiles.{all_held, inside_held, names_held, of_texts, same_value}
@@ -39,7 +41,9 @@ use Rattle.ds_drive.specs.declared.refused.FaultyPolicy.{FaultyPolicy}
 use Rattle.ds_drive.specs.Told.{below_text, failure_line, listed_faults}
 use Rattle.ds_drive.specs.declared.refused.Refused.{Refused}
 use Rattle.ds_drive.proofs.Faulty.{nothing_mapped, plain_is, policy_at, texts_at}
-use Rattle.ds_drive.specs.Failures.{AreUnread, AreUntaken, FilesStop, IsNext, IsUnread, IsUnreadRun, MayBeRead, StopsBy, failure_number}
+use Rattle.ds_drive.specs.Failures.{AreUnread, AreUntaken, EndsThenBy, FilesStop, HoldsInputs, IsNext, IsUnread, IsUnreadRun, LacksProcess, MayBeRead, StopsBy, failure_number}
+use Rattle.ds_drive.specs.Windows.{lacking_of}
+use Rattle.ds_drive.proofs.Ending.{ends_then_by}
 use Rattle.ds_drive.specs.Inside.{outside_of}
 use Rattle.ds_drive.specs.Listed.{FailsBy, HasFaults}
 use Rattle.ds_drive.specs.Statuses.{fault_status, refuses_input}
@@ -51,6 +55,14 @@ by_status false is = absurd cc
 -- what fails has another status than what is done
 pub no_fault_is_done : (number : ℕ) → fault_status number ≡ 0 → ⊥
 no_fault_is_done number is = by_status (refuses_input number) is
+
+by_four : (refuses : Bool) → ◌≡◌ {A = ℕ} (if refuses then 2 else 3) 4 → ⊥
+by_four true is = absurd cc
+by_four false is = absurd cc
+
+-- and than what has not ended
+pub no_fault_is_unended : (number : ℕ) → fault_status number ≡ 4 → ⊥
+no_fault_is_unended number is = by_four (refuses_input number) is
 
 -- what holds of an error
 pub if_err_is : {T E : Type 0} (r : Result T E) (e : E) (P : E → Type 0) → r ≡ Err e → P e → IfErr r P
@@ -116,21 +128,29 @@ source_unread holds between after lacks later request policy input value names f
 source_unread holds between after lacks later request policy input value names f lacked kept still held second read are (inr none) = absurd none.1
 
 -- where not all is read, nothing is written, and what refuses the inputs ends what was to be done with them
-pub unread_stops : (holds : List ℕ → List ℕ → Type 0) (lacks : List ℕ → Type 0) (ends : Fault → Result State Refusal → Type 0) (request : Request) (f : Failure) (known : Option (List ℕ))
-    → ((refused : Fault) (read : Result State Refusal) → Refuses refused read → ends refused read) → IsUnreadRun f holds lacks request → FilesStop ends f holds lacks request known known
-unread_stops holds lacks ends request (failure.UnreadableFile name) known so unread = (unread, keeps_same known)
-unread_stops holds lacks ends request (failure.UnreadableSource name) known so unread = (unread, keeps_same known)
-unread_stops holds lacks ends request (failure.Fault f) known so (inl memory) = inl (memory, keeps_same known)
-unread_stops holds lacks ends request (failure.Fault f) known so (inr o) = inr (record { policy = o.policy; sources = o.sources; input = o.input; held = o.held; so = so f _ o.so })
+pub unread_stops : (holds : List ℕ → List ℕ → Type 0) (lacks : List ℕ → Type 0) (ends : Fault → Result State Refusal → Type 0) (wanting : ℕ → Type 0) (request : Request) (f : Failure) (known : Option (List ℕ))
+    → ((refused : Fault) (read : Result State Refusal) → Refuses refused read → ends refused read) → IsUnreadRun f holds lacks request → FilesStop ends wanting f holds lacks request known known
+unread_stops holds lacks ends wanting request (failure.UnreadableFile name) known so unread = (unread, keeps_same known)
+unread_stops holds lacks ends wanting request (failure.UnreadableSource name) known so unread = (unread, keeps_same known)
+unread_stops holds lacks ends wanting request (failure.NoProcess process) known so none = absurd none
+unread_stops holds lacks ends wanting request (failure.Fault f) known so (inl memory) = inl (memory, keeps_same known)
+unread_stops holds lacks ends wanting request (failure.Fault f) known so (inr o) = inr (record { policy = o.policy; sources = o.sources; input = o.input; held = o.held; so = so f _ o.so })
 
--- so of a run
-pub run_unread : (holds : List ℕ → List ℕ → Type 0) (lacks : List ℕ → Type 0) (request : Request) (f : Failure) (known : Option (List ℕ)) → IsUnreadRun f holds lacks request → StopsBy f holds lacks request known known
-run_unread holds lacks request f known unread =
-    unread_stops holds lacks (λ refused read. EndsBy refused read known known request.most_time) request f known (λ refused read r. refused_unwritten refused read known known request.most_time r (keeps_same known)) unread
+module _ (holds : List ℕ → List ℕ → Type 0) (lacks : List ℕ → Type 0) (request : RunRequest) where
+  -- so of a run
+  pub run_unread : (f : Failure) (known : Option (List ℕ)) → IsUnreadRun f holds lacks request.run → StopsBy f holds lacks request known known
+  run_unread f known unread =
+      unread_stops holds lacks (λ refused read. EndsThenBy refused request read known known) (LacksProcess holds request.run (windows_in request.extras.memory)) request.run f known
+      (λ refused read r. ends_then_by request refused read known known (refused_unwritten refused read known known request.run.most_time r (keeps_same known))) unread
 
--- want of memory
-pub memory_stops : (holds : List ℕ → List ℕ → Type 0) (lacks : List ℕ → Type 0) (request : Request) (known : Option (List ℕ)) → StopsBy (failure.Fault fault.Memory) holds lacks request known known
-memory_stops holds lacks request known = inl (refl, keeps_same known)
+  -- want of memory
+  pub memory_stops : (known : Option (List ℕ)) → StopsBy (failure.Fault fault.Memory) holds lacks request known known
+  memory_stops known = inl (refl, keeps_same known)
+
+  -- a process that the policy lacks
+  pub process_stops : (process : ℕ) (value : PolicyValue) (sources : Sources) (input : List ℕ) (known : Option (List ℕ)) → HoldsInputs holds request.run value sources input
+      → lacking_of (length value.processes) (windows_in request.extras.memory) ≡ Some process → StopsBy (failure.NoProcess process) holds lacks request known known
+  process_stops process value sources input known read first = (record { value = value; sources = sources; input = input; read = read; first = first }, keeps_same known)
 
 -- a policy is not both good and refused
 not_both : (read : Result PolicyValue PolicyRefusal) (value : PolicyValue) (e : PolicyRefusal) → read ≡ Err e → read ≡ Ok value → ⊥
@@ -295,7 +315,7 @@ module _ (words : List Text) (holds : List ℕ → List ℕ → Type 0) (lacks :
       → Tells err (failure_line (failure.Fault f)) → IsStopped status words holds lacks (stream old new) err
   demo_stopped f has asks ends told = inl (asks, record { fault = f; has = has; stops = ends; told = told })
 
-  pub run_stopped : (request : Request) (f : Failure) → fault_status (failure_number f) ≡ status → AsksForRun words request → StopsBy f holds lacks request old new
+  pub run_stopped : (request : RunRequest) (f : Failure) → fault_status (failure_number f) ≡ status → AsksForRun words request → StopsBy f holds lacks request old new
       → Tells err (failure_line f) → IsStopped status words holds lacks (stream old new) err
   run_stopped request f has asks stops told = inr (inl (request, asks, record { failure = f; has = has; so = stops; told = told }))
 

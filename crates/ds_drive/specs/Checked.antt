@@ -111,6 +111,7 @@ IsNamed request name = (name ≡ request.policy.now) ⊎ ((input : Bor (List ℕ
 abbrev pub IsNotRead : Failure → (List ℕ → List ℕ → Type 0) → (List ℕ → Type 0) → CheckRequest → Type 0
 IsNotRead (failure.UnreadableFile name) holds lacks request = IsNamed request name.now × lacks name.now
 IsNotRead (failure.UnreadableSource name) holds lacks request = LeavesSource request.inside holds lacks request.policy.now name
+IsNotRead (failure.NoProcess process) holds lacks request = ⊥
 IsNotRead (failure.Fault fault.Memory) holds lacks request = ⊤
 IsNotRead (failure.Fault f) holds lacks request = ⊥
 

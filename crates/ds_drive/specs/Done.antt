@@ -1,5 +1,5 @@
 -- What the program has done.
-use Rattle.std.specs.Prelude.{◌≡◌, ◌⊎◌, ℕ, List, [], Option}
+use Rattle.std.specs.Prelude.{◌≡◌, ◌⊎◌, ℕ, false, List, [], Option}
 use Rattle.std.specs.Io.KnownBytes.{Keeps}
 use Rattle.clap.specs.Words.{Text}
 use Rattle.ds_asm.specs.declared.fault.SourceFault.{SourceFault}
@@ -10,10 +10,13 @@ use Rattle.ds_drive.specs.declared.failure.Failure.{Failure}
 use Rattle.ds_words.specs.declared.words.BareRequest.{BareRequest}
 use Rattle.ds_words.specs.declared.words.CheckRequest.{CheckRequest}
 use Rattle.ds_words.specs.declared.words.ListRequest.{ListRequest}
-use Rattle.ds_words.specs.declared.words.Request.{Request}
+use Rattle.ds_words.specs.declared.words.RunRequest.{RunRequest}
 use Rattle.ds_words.specs.declared.words.TraceRequest.{TraceRequest}
 use Rattle.ds_drive.specs.Demo.{demo_inputs}
 use Rattle.ds_drive.specs.declared.failure.Failure.TheVariants as failure
+use Rattle.ds_drive.specs.declared.outcome.Came.{Came}
+use Rattle.ds_drive.specs.declared.outcome.Came.TheVariants as came
+use Rattle.ds_drive.specs.declared.outcome.Outcome.{Outcome}
 use Rattle.ds_drive.specs.declared.refused.Refused.{Refused}
 use Rattle.ds_drive.specs.Failures.{CutsFiles, StopsBy, failure_number, memory_failure}
 use Rattle.ds_drive.specs.Told.{below_text, failure_line, listed_faults}
@@ -22,33 +25,9 @@ use Rattle.ds_drive.specs.Statuses.{fault_status}
 use Rattle.ds_drive.specs.BareRuns.{RunsBare, CutsBare, BareFailsBy, HasBareFaults}
 use Rattle.ds_drive.specs.Checked.{Explains, CutsExplanation, ChecksBy, HasNotes}
 use Rattle.ds_drive.specs.Listed.{ListsFile, CutsListing, FailsBy, HasFaults}
-use Rattle.ds_drive.specs.Ran.{HasRunDemo, HasRunFiles, HasTracedFiles}
+use Rattle.ds_drive.specs.Ran.{HasLeftFiles, HasRunDemo, HasRunFiles, HasTracedFiles}
 use Rattle.ds_drive.specs.TraceRuns.{CutsTrace, TraceStopsBy}
 use Rattle.ds_words.specs.Words.{AsksForBare, AsksForDemo, AsksForRun, AsksForList, AsksForCheck, AsksForTrace}
-
--- what the words ask for was run, listed or explained, and its text is written; a run is under a
--- policy, with its trace or without, or on the bare machine
-abbrev pub IsDone : List Text → (List ℕ → List ℕ → Type 0) → Option (List ℕ) → Option (List ℕ) → Type 0
-IsDone words holds old new =
-    (AsksForDemo words × HasRunDemo old new)
-    ⊎ (((request : Request) × AsksForRun words request × HasRunFiles holds request old new)
-    ⊎ (((request : ListRequest) × AsksForList words request × ListsFile holds request old new)
-    ⊎ (((request : CheckRequest) × AsksForCheck words request × Explains holds request old new)
-    ⊎ (((request : BareRequest) × AsksForBare words request × RunsBare holds request old new)
-    ⊎ ((request : TraceRequest) × AsksForTrace words request × HasTracedFiles holds request old new)))))
-
--- nothing is written; or what the words ask for was run, and a front of the text of a run that was
--- cut short between two turns, or has ended, is written and nothing else; or a front of
--- a listing, of what is explained, of a run on the bare machine, or of a trace
-abbrev pub IsCutShort : List Text → (List ℕ → List ℕ → Type 0) → Option (List ℕ) → Option (List ℕ) → Type 0
-IsCutShort words holds old new =
-    Keeps old new
-    ⊎ ((AsksForDemo words × Begins demo_inputs (WritesPart old new 100))
-    ⊎ (((request : Request) × AsksForRun words request × CutsFiles holds request old new)
-    ⊎ (((request : ListRequest) × AsksForList words request × CutsListing holds request old new)
-    ⊎ (((request : CheckRequest) × AsksForCheck words request × CutsExplanation holds request old new)
-    ⊎ (((request : BareRequest) × AsksForBare words request × CutsBare holds request old new)
-    ⊎ ((request : TraceRequest) × AsksForTrace words request × CutsTrace holds request old new))))))
 
 -- what a writer held before, and what it holds now, where that is known
 pub record Stream : Type 0 where
@@ -58,6 +37,52 @@ pub record Stream : Type 0 where
 -- these two
 abbrev pub stream : Option (List ℕ) → Option (List ℕ) → Stream
 stream old new = record { old = old; new = new }
+
+-- a run came to this, of which this holds, and what is told of it was told
+pub record ComesTo (which : Came) (err : Listener) (P : Outcome → Type 0) : Type 0 where
+  pub outcome : Outcome
+  pub is : outcome.came ≡ which
+  pub so : P outcome
+  pub told : Tells err outcome.told.items
+
+-- what the words ask for was run, listed or explained, and its text is written; a run is under a
+-- policy, with its trace or without, or on the bare machine
+abbrev pub IsDone : List Text → (List ℕ → List ℕ → Type 0) → Stream → Listener → Type 0
+IsDone words holds out err =
+    (AsksForDemo words × HasRunDemo out.old out.new)
+    ⊎ (((request : RunRequest) × AsksForRun words request × ComesTo came.Done err (λ o. HasRunFiles holds request o out.old out.new))
+    ⊎ (((request : ListRequest) × AsksForList words request × ListsFile holds request out.old out.new)
+    ⊎ (((request : CheckRequest) × AsksForCheck words request × Explains holds request out.old out.new)
+    ⊎ (((request : BareRequest) × AsksForBare words request × RunsBare holds request out.old out.new)
+    ⊎ ((request : TraceRequest) × AsksForTrace words request × ComesTo came.Done err (λ o. HasTracedFiles holds request o out.old out.new))))))
+
+-- what the words ask for was run, with its trace or without, and a process has not ended, though the words want that all end; which it is was told
+abbrev pub IsUnended : List Text → (List ℕ → List ℕ → Type 0) → Stream → Listener → Type 0
+IsUnended words holds out err =
+    ((request : RunRequest) × AsksForRun words request × ComesTo came.Unended err (λ o. HasRunFiles holds request o out.old out.new))
+    ⊎ ((request : TraceRequest) × AsksForTrace words request × ComesTo came.Unended err (λ o. HasTracedFiles holds request o out.old out.new))
+
+-- the run that the words ask for was left with more bytes than they allow, and that was told
+abbrev pub IsTooMuch : List Text → (List ℕ → List ℕ → Type 0) → Stream → Listener → Type 0
+IsTooMuch words holds out err = (request : RunRequest) × AsksForRun words request × ComesTo came.TooMuch err (λ o. HasLeftFiles holds request o out.old out.new)
+
+-- the words want no summary of what they ask for
+pub record AsksNoSummary (words : List Text) : Type 0 where
+  pub run : (request : RunRequest) → AsksForRun words request → request.extras.summary ≡ false
+  pub trace : (request : TraceRequest) → AsksForTrace words request → request.extras.summary ≡ false
+
+-- nothing is written; or what the words ask for was run, and a front of the text of a run that was
+-- cut short between two turns, was left or has ended, and of what is written after it, and nothing else;
+-- or a front of a listing, of what is explained, of a run on the bare machine, or of a trace
+abbrev pub IsCutShort : List Text → (List ℕ → List ℕ → Type 0) → Option (List ℕ) → Option (List ℕ) → Type 0
+IsCutShort words holds old new =
+    Keeps old new
+    ⊎ ((AsksForDemo words × Begins demo_inputs (WritesPart old new 100))
+    ⊎ (((request : RunRequest) × AsksForRun words request × CutsFiles holds request old new)
+    ⊎ (((request : ListRequest) × AsksForList words request × CutsListing holds request old new)
+    ⊎ (((request : CheckRequest) × AsksForCheck words request × CutsExplanation holds request old new)
+    ⊎ (((request : BareRequest) × AsksForBare words request × CutsBare holds request old new)
+    ⊎ ((request : TraceRequest) × AsksForTrace words request × CutsTrace holds request old new))))))
 
 -- the demonstration ended by a fault of this status, which was told
 pub record DemoStops (status : ℕ) (out : Stream) (err : Listener) : Type 0 where
@@ -110,7 +135,7 @@ pub record IsNoted (status : ℕ) (holds : List ℕ → List ℕ → Type 0) (re
 abbrev pub IsStopped : ℕ → List Text → (List ℕ → List ℕ → Type 0) → (List ℕ → Type 0) → Stream → Listener → Type 0
 IsStopped status words holds lacks out err =
     (AsksForDemo words × DemoStops status out err)
-    ⊎ (((request : Request) × AsksForRun words request × FailsWith status err (λ f. StopsBy f holds lacks request out.old out.new))
+    ⊎ (((request : RunRequest) × AsksForRun words request × FailsWith status err (λ f. StopsBy f holds lacks request out.old out.new))
     ⊎ (((request : ListRequest) × AsksForList words request × (FailsWith status err (λ f. FailsBy f holds lacks request out.old out.new) ⊎ IsFaulty status holds request out err))
     ⊎ (((request : CheckRequest) × AsksForCheck words request × (RefusesWith status err (λ r. ChecksBy r holds lacks request out.old out.new) ⊎ IsNoted status holds request out err))
     ⊎ (((request : BareRequest) × AsksForBare words request × (FailsWith status err (λ f. BareFailsBy f holds lacks request out.old out.new) ⊎ IsFaultyBare status holds request out err))

@@ -1,24 +1,34 @@
 -- Why the program could not do what its words ask for, and what was written then.
-use Rattle.std.specs.Prelude.{◌≡◌, ◌⊎◌, ℕ, Bool, List, map, Option, None, Some, Result, Ok, All, Contains, take, ⊤}
+use Rattle.std.specs.Prelude.{◌≡◌, ◌⊎◌, ◌||◌, ◌++◌, ℕ, Bool, true, List, length, map, Option, None, Some, Result, Ok, All, Contains, is_some, take, ⊤}
 use Rattle.std.specs.Io.KnownBytes.{Keeps}
 use Rattle.ds_policy.specs.PolicyText.{policy_of}
 use Rattle.ds_policy.specs.PolicyParts.{sources_of}
 use Rattle.ds_policy.specs.Value.{PolicyValue}
 use Rattle.ds_pagemap.specs.Machine.{State}
+use Rattle.ds_pagemap.specs.Run.{IsPrefix}
+use Rattle.ds_pagemap.specs.Text.{text_of}
 use Rattle.ds_pagemap.specs.Inputs.{Refusal, Sources, inputs}
+use Rattle.ds_log.specs.Sent.{AppendsPart}
 use Rattle.ds_station.specs.Faults.{number_of}
-use Rattle.ds_station.specs.Headline.{Begins, Writes, WritesPart, EndsBy, Refuses}
+use Rattle.ds_station.specs.Headline.{Begins, EndsBy, Refuses}
 use Rattle.ds_station.specs.declared.fault.Fault.{Fault}
 use Rattle.ds_station.specs.declared.fault.Fault.TheVariants.{Memory}
+use Rattle.ds_station.specs.declared.fault.Fault.TheVariants as fault
+use Rattle.ds_words.specs.Windows.{windows_in}
+use Rattle.ds_words.specs.declared.windows.Window.{Window}
 use Rattle.ds_words.specs.declared.words.Request.{Request}
+use Rattle.ds_words.specs.declared.words.RunRequest.{RunRequest}
 use Rattle.ds_drive.specs.declared.failure.Failure.{Failure}
 use Rattle.ds_drive.specs.declared.failure.Failure.TheVariants as failure
 use Rattle.ds_drive.specs.Inside.{outside_of}
+use Rattle.ds_drive.specs.Outcomes.{wants_more}
+use Rattle.ds_drive.specs.Windows.{lacking_of, windows_text}
 
 -- the number of a failure among the refusals
 abbrev pub failure_number : Failure → ℕ
 failure_number (failure.UnreadableFile name) = 26
 failure_number (failure.UnreadableSource name) = 26
+failure_number (failure.NoProcess process) = 12
 failure_number (failure.Fault fault) = number_of fault
 
 -- the failure for want of memory
@@ -93,26 +103,50 @@ LacksFile holds lacks request name = ((name ≡ request.policy.now) ⊎ ((name �
 abbrev pub LacksSource : (List ℕ → List ℕ → Type 0) → (List ℕ → Type 0) → Request → List ℕ → Type 0
 LacksSource holds lacks request name = MayBeRead holds request.input.now × LeavesSource request.inside holds lacks request.policy.now name
 
+-- what was read has a policy without a process of this number, which a window names, and no window before it names another such
+pub record LacksProcess (holds : List ℕ → List ℕ → Type 0) (request : Request) (windows : List Window) (process : ℕ) : Type 0 where
+  pub value : PolicyValue
+  pub sources : Sources
+  pub input : List ℕ
+  pub read : HoldsInputs holds request value sources input
+  pub first : lacking_of (length value.processes) windows ≡ Some process
+
 -- why not all that a run is made of is read: a file is lacking, memory ran out, or what was read is refused
 abbrev pub IsUnreadRun : Failure → (List ℕ → List ℕ → Type 0) → (List ℕ → Type 0) → Request → Type 0
 IsUnreadRun (failure.UnreadableFile name) holds lacks request = LacksFile holds lacks request name.now
 IsUnreadRun (failure.UnreadableSource name) holds lacks request = LacksSource holds lacks request name
+IsUnreadRun (failure.NoProcess process) holds lacks request = ⊥
 IsUnreadRun (failure.Fault fault) holds lacks request = (fault ≡ Memory) ⊎ OfHeld holds request (λ read. Refuses fault read)
 
--- why each failure comes of what is done with the files of a run, and what it leaves: nothing is written before all files are read, and without a run want of memory alone is told of as a fault; a run ends by a fault as `ends` has it
-abbrev pub FilesStop : (Fault → Result State Refusal → Type 0) → Failure → (List ℕ → List ℕ → Type 0) → (List ℕ → Type 0) → Request → Option (List ℕ) → Option (List ℕ) → Type 0
-FilesStop ends (failure.UnreadableFile name) holds lacks request old new = LacksFile holds lacks request name.now × Keeps old new
-FilesStop ends (failure.UnreadableSource name) holds lacks request old new = LacksSource holds lacks request name × Keeps old new
-FilesStop ends (failure.Fault fault) holds lacks request old new = ((fault ≡ Memory) × Keeps old new) ⊎ OfHeld holds request (λ read. ends fault read)
+-- why each failure comes of what is done with the files of a run, and what it leaves: nothing is written before all files are read, nor where a process is wanted that `wanting` says is lacking, and without a run want of memory alone is told of as a fault; a run ends by a fault as `ends` has it
+abbrev pub FilesStop : (Fault → Result State Refusal → Type 0) → (ℕ → Type 0) → Failure → (List ℕ → List ℕ → Type 0) → (List ℕ → Type 0) → Request → Option (List ℕ) → Option (List ℕ) → Type 0
+FilesStop ends wanting (failure.UnreadableFile name) holds lacks request old new = LacksFile holds lacks request name.now × Keeps old new
+FilesStop ends wanting (failure.UnreadableSource name) holds lacks request old new = LacksSource holds lacks request name × Keeps old new
+FilesStop ends wanting (failure.NoProcess process) holds lacks request old new = wanting process × Keeps old new
+FilesStop ends wanting (failure.Fault fault) holds lacks request old new = ((fault ≡ Memory) × Keeps old new) ⊎ OfHeld holds request (λ read. ends fault read)
 
--- they were run, and the text of that run is written
-abbrev pub RunsFiles : (List ℕ → List ℕ → Type 0) → Request → Option (List ℕ) → Option (List ℕ) → Type 0
-RunsFiles holds request old new = OfHeld holds request (λ read. Begins read (Writes old new request.most_time))
+-- a run was cut short between two turns, left, or ended, and a front of its text and of the lines of these windows is written
+pub record WritesPartThen (windows : List Window) (old new : Option (List ℕ)) (n : ℕ) (first : State) : Type 0 where
+  pub last : State
+  pub prefix : IsPrefix n first last
+  pub written : AppendsPart old new (text_of last ++ windows_text last windows)
 
--- their run was cut short between two turns or ended, and a front of its text is written
-abbrev pub CutsFiles : (List ℕ → List ℕ → Type 0) → Request → Option (List ℕ) → Option (List ℕ) → Type 0
-CutsFiles holds request old new = OfHeld holds request (λ read. Begins read (WritesPart old new request.most_time))
+-- this of the files
+abbrev pub CutsFiles : (List ℕ → List ℕ → Type 0) → RunRequest → Option (List ℕ) → Option (List ℕ) → Type 0
+CutsFiles holds request old new = OfHeld holds request.run (λ read. Begins read (WritesPartThen (windows_in request.extras.memory) old new request.run.most_time))
+
+-- the words want something beside the text of a run, or bound it
+abbrev pub asks_more : RunRequest → Bool
+asks_more request = wants_more request.extras || is_some request.most
+
+-- when each fault of a run comes, and what is written then; where the words want more than the text of the run, want of memory may come after it, too
+abbrev pub EndsThenBy : Fault → RunRequest → Result State Refusal → Option (List ℕ) → Option (List ℕ) → Type 0
+EndsThenBy fault.Memory request read old new =
+    EndsBy fault.Memory read old new request.run.most_time ⊎ ((asks_more request ≡ true) × Begins read (WritesPartThen (windows_in request.extras.memory) old new request.run.most_time))
+EndsThenBy fault.WriteFault request read old new = Begins read (WritesPartThen (windows_in request.extras.memory) old new request.run.most_time)
+EndsThenBy f request read old new = EndsBy f read old new request.run.most_time
 
 -- why each failure of a run comes, and what it leaves
-abbrev pub StopsBy : Failure → (List ℕ → List ℕ → Type 0) → (List ℕ → Type 0) → Request → Option (List ℕ) → Option (List ℕ) → Type 0
-StopsBy f holds lacks request old new = FilesStop (λ fault read. EndsBy fault read old new request.most_time) f holds lacks request old new
+abbrev pub StopsBy : Failure → (List ℕ → List ℕ → Type 0) → (List ℕ → Type 0) → RunRequest → Option (List ℕ) → Option (List ℕ) → Type 0
+StopsBy f holds lacks request old new =
+    FilesStop (λ fault read. EndsThenBy fault request read old new) (LacksProcess holds request.run (windows_in request.extras.memory)) f holds lacks request.run old new

@@ -10,10 +10,12 @@ pub mod Done
 pub mod Failures
 pub mod Inside
 pub mod Noted
+pub mod Outcomes
 pub mod PolicyPlaces
 pub mod Ran
 pub mod Reading
 pub mod Statuses
 pub mod Told
 pub mod TraceRuns
+pub mod Windows
 pub mod Worked

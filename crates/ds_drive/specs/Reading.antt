@@ -11,7 +11,7 @@ use Rattle.ds_words.specs.Words.{AsksForBare, AsksForCheck, AsksForList, AsksFor
 use Rattle.ds_words.specs.declared.words.BareRequest.{BareRequest}
 use Rattle.ds_words.specs.declared.words.CheckRequest.{CheckRequest}
 use Rattle.ds_words.specs.declared.words.ListRequest.{ListRequest}
-use Rattle.ds_words.specs.declared.words.Request.{Request}
+use Rattle.ds_words.specs.declared.words.RunRequest.{RunRequest}
 use Rattle.ds_words.specs.declared.words.TraceRequest.{TraceRequest}
 use Rattle.ds_drive.specs.declared.failure.Failure.{Failure}
 use Rattle.ds_drive.specs.declared.failure.Failure.TheVariants as failure
@@ -57,6 +57,7 @@ pub record ReadsUntil (P : Option (List ℕ × FileFault) → Type 0) (names : L
 -- the failure tells of the file that was not read; and where each was read, of none
 abbrev pub TellsOf : Failure → Option (List ℕ × FileFault) → Type 0
 TellsOf (failure.Fault fault) None = ⊤
+TellsOf (failure.NoProcess process) None = ⊤
 TellsOf (failure.Fault fault.Memory) (Some (name, file.Memory)) = ⊤
 TellsOf (failure.UnreadableFile told) (Some (name, file.Unreadable)) = told.now ≡ name
 TellsOf (failure.UnreadableSource told) (Some (name, file.Unreadable)) = told ≡ name
@@ -107,7 +108,7 @@ HasStatus status (Some (name, file.Memory)) = status ≡ 3
 abbrev pub ReadsFor : ℕ → List Text → (List ℕ → List ℕ → Type 0) → Option (List AskedFile) → Option (List AskedFile) → Type 0
 ReadsFor status words holds old new =
     ReadsAll [] old new
-    ⊎ (((request : Request) × AsksForRun words request × ReadsRunUntil (HasStatus status) holds request.policy.now (request.input.now ∷ []) old new)
+    ⊎ (((request : RunRequest) × AsksForRun words request × ReadsRunUntil (HasStatus status) holds request.run.policy.now (request.run.input.now ∷ []) old new)
     ⊎ (((request : ListRequest) × AsksForList words request × ReadsUntil (HasStatus status) (request.file.now ∷ []) old new)
     ⊎ (((request : CheckRequest) × AsksForCheck words request × ReadsRunUntil (HasStatus status) holds request.policy.now (input_names request.input) old new)
     ⊎ (((request : BareRequest) × AsksForBare words request × ReadsUntil (HasStatus status) (bare_names request) old new)

@@ -115,6 +115,7 @@ fault_words fault.Memory = codes "25 Memory"
 abbrev pub failure_words : Failure → List ℕ
 failure_words (failure.UnreadableFile name) = codes "26 Unreadable " ++ shown_name name.now
 failure_words (failure.UnreadableSource name) = codes "26 Unreadable " ++ name
+failure_words (failure.NoProcess process) = codes "12 NoProcess " ++ decimal process
 failure_words (failure.Fault f) = fault_words f
 
 -- the line that tells of a failure

@@ -18,6 +18,9 @@ pub enum Failure<'a> {
     /// The file of a source that the policy names can't be read, or has too many bytes.
     #[error("26 Unreadable {}", .0.as_str())]
     UnreadableSource(Text<64>),
+    /// The words want memory of a process of this number, and the policy has none such.
+    #[error("12 NoProcess {0}")]
+    NoProcess(u32),
     /// The inputs were refused, or the run ended early.
     #[error("{0}")]
     Fault(Fault),
@@ -36,6 +39,7 @@ impl<'a> Failure<'a> {
     {
         match self {
             Failure::UnreadableFile(_) | Failure::UnreadableSource(_) => 26,
+            Failure::NoProcess(_) => 12,
             Failure::Fault(fault) => fault.number(),
         }
     }

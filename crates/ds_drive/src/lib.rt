@@ -11,19 +11,23 @@ mod inside;
 mod list;
 mod names;
 mod notes;
+mod outcome;
 mod policy_place;
 mod program;
+mod ran;
 mod refused;
 mod run;
 mod status;
 mod told;
 mod trace;
 mod why;
+mod windows;
 
 pub use bare::bare_file;
 pub use check::{Checking, check_files};
 pub use ds_words::{
-    BareRequest, CheckRequest, ListRequest, Request, TraceRequest, Wish, program_words, wish_of,
+    BareRequest, CheckRequest, Extras, ListRequest, Request, RunRequest, TraceRequest, Window,
+    Windows, Wish, program_words, wish_of,
 };
 pub use failure::Failure;
 pub use files::{FileFault, Files, MOST_BYTES, SystemFiles};

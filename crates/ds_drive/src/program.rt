@@ -2,12 +2,12 @@
 ghost use Rattle.std.specs.Prelude.{◌≡◌, ◌≢◌, ◌≤◌, ◌⊎◌, ◌∷◌, List, [], ℕ, codes, map, string_bytes};
 ghost use Rattle.std.specs.Io.KnownBytes.{Keeps};
 ghost use Rattle.clap.specs.Words.{fault_of};
-ghost use Rattle.ds_drive.specs.Done.{IsCutShort, IsDone, IsStopped, WantsMemory, stream};
+ghost use Rattle.ds_drive.specs.Done.{AsksNoSummary, IsCutShort, IsDone, IsStopped, IsTooMuch, IsUnended, WantsMemory, stream};
 ghost use Rattle.ds_drive.specs.Failures.{memory_failure};
 ghost use Rattle.ds_drive.specs.Listening.{Tells, listener};
 ghost use Rattle.ds_drive.specs.Reading.{ReadsFor};
 ghost use Rattle.ds_drive.specs.Told.{failure_line};
-ghost use Rattle.ds_words.specs.Words.{AsksForSomething, dsmon_app};
+ghost use Rattle.ds_words.specs.Words.{AsksForSomething, MisnamesMemory, dsmon_app};
 
 use crate::bare::bare_file;
 use crate::check::{Checking, check_files};
@@ -16,20 +16,23 @@ use crate::failure::Failure;
 use crate::files::Files;
 use crate::list::{Listing, list_file, tell_faults};
 use crate::notes::tell_notes;
+use crate::outcome::tell_outcome;
 use crate::run::run_request;
 use crate::status::{DONE, WORDS_REFUSED};
 use crate::told::{tell, tell_refused};
 use crate::trace::trace_request;
 use ds_log::{Output, send};
 use ds_station::Fault;
-use ds_words::{Wish, wish_of};
+use ds_words::{Untaken, Wish, wish_of};
 use std::alloc::Global;
 use std::io::{ErrorKind, Write};
 
 /// Does what the words ask for, the program's own name first, and answers the status: 0 done; 1 the
 /// words were refused for another cause than memory, or ask for help; 2 refused input; 3 a fault of
-/// the run. What was refused is told on `err`; that a write there fails changes no status.
-#[tactic(auto, using(crate::proofs::Heard::told_so, ds_words::proofs::WordLemmas::alone, crate::proofs::Cuts::nothing_written, crate::proofs::Cuts::demo_cut, crate::proofs::Cuts::run_cut, crate::proofs::Cuts::list_cut, crate::proofs::Cuts::check_cut, crate::proofs::BareLemmas::bare_cut, crate::proofs::BareLemmas::bare_stopped, crate::proofs::BareLemmas::bare_faulty, crate::proofs::Stops::demo_stopped, crate::proofs::Stops::run_stopped, crate::proofs::Stops::list_stopped, crate::proofs::Stops::list_faulty, crate::proofs::Stops::check_stopped, crate::proofs::Noting::check_noted, crate::proofs::Stops::wants_memory, crate::proofs::TraceLemmas::trace_cut, crate::proofs::TraceLemmas::trace_done, crate::proofs::TraceLemmas::trace_stopped, crate::proofs::ReadingStatuses::no_file_asked, crate::proofs::ReadingStatuses::list_reads, crate::proofs::ReadingStatuses::bare_reads))]
+/// the run, or it was left with more text than the words allow; 4 the run is over, and a process has
+/// not ended, though the words want that all end. What was refused and what a run came to is told on
+/// `err`; that a write there fails changes no status.
+#[tactic(auto, using(crate::proofs::Heard::told_so, ds_words::proofs::WordLemmas::alone, crate::proofs::Cuts::nothing_written, crate::proofs::Cuts::demo_cut, crate::proofs::Cuts::run_cut, crate::proofs::Cuts::list_cut, crate::proofs::Cuts::check_cut, crate::proofs::BareLemmas::bare_cut, crate::proofs::BareLemmas::bare_stopped, crate::proofs::BareLemmas::bare_faulty, crate::proofs::Stops::demo_stopped, crate::proofs::Stops::run_stopped, crate::proofs::Stops::list_stopped, crate::proofs::Stops::list_faulty, crate::proofs::Stops::check_stopped, crate::proofs::Noting::check_noted, crate::proofs::Stops::wants_memory, crate::proofs::TraceLemmas::trace_cut, crate::proofs::TraceLemmas::trace_stopped, crate::proofs::ReadingStatuses::no_file_asked, crate::proofs::ReadingStatuses::list_reads, crate::proofs::ReadingStatuses::bare_reads))]
 pub fn drive<F: Files, W: Write, E: Output>(
     alloc: Global,
     words: &[String],
@@ -37,7 +40,7 @@ pub fn drive<F: Files, W: Write, E: Output>(
     out: &mut W,
     err: &mut E,
 ) -> u8
-    ensures range { result ≤ 3 }
+    ensures range { result ≤ 4 }
     ensures asked { (result ≡ 0) ⊎ (result ≡ 2) → AsksForSomething (map string_bytes words.now) }
     ensures taken { AsksForSomething (map string_bytes words.now) → result ≢ 1 }
     ensures alone { (program : List ℕ) → map string_bytes words.now ≡ program ∷ codes "demo" ∷ []
@@ -45,12 +48,25 @@ pub fn drive<F: Files, W: Write, E: Output>(
     ensures refused { result ≡ 1 → W.contents out.new ≡ W.contents out.old }
     ensures unasked { result ≡ 1 → files.new ≡ files.old }
     ensures kind { result ≡ 1 → fault_of dsmon_app (map string_bytes words.now) ≡ []
+        → ¬ MisnamesMemory (map string_bytes words.now)
         → Tells (listener (E.contents err.old) (E.contents err.new) (E.answers err.old)
         (E.answers err.new))
         (codes "dsmon: --only takes end, calls, denials, switches or units\n") }
+    ensures memory { result ≡ 1 → fault_of dsmon_app (map string_bytes words.now) ≡ []
+        → MisnamesMemory (map string_bytes words.now)
+        → Tells (listener (E.contents err.old) (E.contents err.new) (E.answers err.old)
+        (E.answers err.new))
+        (codes "dsmon: --memory takes P:ADDRESS:COUNT, as 1:00410000:8, at most eight times\n") }
     ensures done { result ≡ 0
-        → IsDone (map string_bytes words.now) (F.holds files.old) (W.contents out.old)
-        (W.contents out.new) }
+        → IsDone (map string_bytes words.now) (F.holds files.old)
+        (stream (W.contents out.old) (W.contents out.new))
+        (listener (E.contents err.old) (E.contents err.new) (E.answers err.old)
+        (E.answers err.new)) }
+    ensures unended { result ≡ 4
+        → IsUnended (map string_bytes words.now) (F.holds files.old)
+        (stream (W.contents out.old) (W.contents out.new))
+        (listener (E.contents err.old) (E.contents err.new) (E.answers err.old)
+        (E.answers err.new)) }
     ensures cut { result ≡ 3 → IsCutShort (map string_bytes words.now) (F.holds files.old)
         (W.contents out.old) (W.contents out.new) }
     ensures unread { result ≡ 2 → Keeps (W.contents out.old) (W.contents out.new) }
@@ -62,11 +78,16 @@ pub fn drive<F: Files, W: Write, E: Output>(
         → WantsMemory (stream (W.contents out.old) (W.contents out.new))
         (listener (E.contents err.old) (E.contents err.new) (E.answers err.old)
         (E.answers err.new))
-        ⊎ IsStopped 3 (map string_bytes words.now) (F.holds files.old) (F.lacks files.old)
+        ⊎ (IsStopped 3 (map string_bytes words.now) (F.holds files.old) (F.lacks files.old)
         (stream (W.contents out.old) (W.contents out.new))
         (listener (E.contents err.old) (E.contents err.new) (E.answers err.old)
-        (E.answers err.new)) }
-    ensures silent { result ≡ 0 → E.contents err.new ≡ E.contents err.old }
+        (E.answers err.new))
+        ⊎ IsTooMuch (map string_bytes words.now) (F.holds files.old)
+        (stream (W.contents out.old) (W.contents out.new))
+        (listener (E.contents err.old) (E.contents err.new) (E.answers err.old)
+        (E.answers err.new))) }
+    ensures silent { result ≡ 0 → AsksNoSummary (map string_bytes words.now)
+        → E.contents err.new ≡ E.contents err.old }
     ensures reads { ReadsFor result (map string_bytes words.now) (F.holds files.old)
         (F.asked files.old) (F.asked files.new) }
     ensures kept { (file bytes : List ℕ) → F.holds files.new file bytes
@@ -74,37 +95,44 @@ pub fn drive<F: Files, W: Write, E: Output>(
     ensures lacked { (file : List ℕ) → F.lacks files.new file → F.lacks files.old file }
 {
     match wish_of(alloc, words) {
-        Ok(Some(Wish::Demo)) => match run_demo(alloc, out) {
+        Ok(Ok(Wish::Demo)) => match run_demo(alloc, out) {
             Ok(()) => DONE,
             Err(fault) => tell(err, &Failure::Fault(fault)),
         },
-        Ok(Some(Wish::Run(request))) => match run_request(alloc, &request, files, out) {
-            Ok(()) => DONE,
+        Ok(Ok(Wish::Run(request))) => match run_request(alloc, &request, files, out) {
+            Ok(outcome) => tell_outcome(err, &outcome),
             Err(failure) => tell(err, &failure),
         },
-        Ok(Some(Wish::Trace(request))) => match trace_request(alloc, &request, files, out) {
-            Ok(()) => DONE,
+        Ok(Ok(Wish::Trace(request))) => match trace_request(alloc, &request, files, out) {
+            Ok(outcome) => tell_outcome(err, &outcome),
             Err(failure) => tell(err, &failure),
         },
-        Ok(Some(Wish::List(request))) => match list_file(alloc, &request, files, out) {
+        Ok(Ok(Wish::List(request))) => match list_file(alloc, &request, files, out) {
             Ok(Listing::Written) => DONE,
             Ok(Listing::Faults(source)) => tell_faults(alloc, err, request.file, &source),
             Err(unlisted) => tell(err, &unlisted),
         },
-        Ok(Some(Wish::Check(request))) => match check_files(alloc, &request, files, out) {
+        Ok(Ok(Wish::Check(request))) => match check_files(alloc, &request, files, out) {
             Ok(Checking::Explained) => DONE,
             Ok(Checking::Noted(notes)) => tell_notes(err, &notes),
             Err(refused) => tell_refused(alloc, err, &refused),
         },
-        Ok(Some(Wish::Bare(request))) => match bare_file(alloc, &request, files, out) {
+        Ok(Ok(Wish::Bare(request))) => match bare_file(alloc, &request, files, out) {
             Ok(Listing::Written) => DONE,
             Ok(Listing::Faults(source)) => tell_faults(alloc, err, request.source, &source),
             Err(failure) => tell(err, &failure),
         },
-        Ok(None) => {
+        Ok(Err(Untaken::Kind)) => {
             let _ = send(
                 err,
                 b"dsmon: --only takes end, calls, denials, switches or units\n",
+            );
+            WORDS_REFUSED
+        }
+        Ok(Err(Untaken::Memory)) => {
+            let _ = send(
+                err,
+                b"dsmon: --memory takes P:ADDRESS:COUNT, as 1:00410000:8, at most eight times\n",
             );
             WORDS_REFUSED
         }

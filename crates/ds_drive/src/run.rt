@@ -1,18 +1,22 @@
 //! A run of files: the policy, the input, and the sources that the policy names.
-ghost use Rattle.std.specs.Prelude.{◌≡◌, ◌≤◌, ◌∷◌, ℕ, List, [], IfErr, IfOk, None, OnOk, All, length, map};
-ghost use Rattle.ds_station.specs.Headline.{Along, Followed, WritesReally, sources_seen};
+ghost use Rattle.std.specs.Prelude.{◌≡◌, ◌⊎◌, ◌≤◌, ◌∷◌, ℕ, List, [], IfErr, IfOk, None, OnOk, All, length, map};
+ghost use Rattle.ds_station.specs.Headline.{sources_seen};
 ghost use Rattle.ds_drive.specs.AtFault.{texts_seen};
-ghost use Rattle.ds_drive.specs.Failures.{AreUnread, AreUntaken, HoldsInputs, IsUnread, IsUnreadRun, RunsFiles, StopsBy};
+ghost use Rattle.ds_drive.specs.Failures.{AreUnread, AreUntaken, HoldsInputs, IsUnread, IsUnreadRun, StopsBy};
 ghost use Rattle.ds_drive.specs.Inside.{outside_of};
-ghost use Rattle.ds_drive.specs.Ran.{RunsAlone, RunsGuarded, RunsReally};
+ghost use Rattle.ds_drive.specs.Ran.{HasLeftFiles, HasRunFiles};
 ghost use Rattle.ds_drive.specs.Reading.{ReadsAll, ReadsRun, ReadsRunUntil, ReadsUntil, TellsOf, TellsOfRun};
+ghost use Rattle.ds_words.specs.Windows.{IsWindow, windows_in};
 
 use crate::failure::Failure;
 use crate::files::{FileFault, Files};
 use crate::inside::outside_of;
+use crate::outcome::Outcome;
+use crate::ran::run_inputs;
+use crate::windows::lacking_of;
 use ds_policy::{Policy, Text};
-use ds_station::{Fault, run_policy};
-use ds_words::Request;
+use ds_station::Fault;
+use ds_words::{Request, RunRequest};
 use std::alloc::{AllocError, Global};
 use std::io::Write;
 
@@ -32,49 +36,48 @@ pub(crate) struct Inputs {
 }
 
 /// Reads the policy, then the input, then, where the policy is good, each source by its name, and
-/// runs them. Nothing is written before all of them are read.
-#[tactic(auto, using(crate::proofs::Stops::run_unread, crate::proofs::Stops::memory_stops, crate::proofs::Readings::run_read_until))]
+/// runs them; after the text of the run it writes the windows that the words want, and answers what the
+/// run came to. Nothing is written before all of them are read, nor where a window names a process that
+/// the policy lacks.
+#[tactic(auto, using(crate::proofs::Stops::run_unread, crate::proofs::Stops::memory_stops, crate::proofs::Stops::process_stops, crate::proofs::Readings::run_read_until))]
 pub fn run_request<'a, F: Files, W: Write>(
     alloc: Global,
-    request: &Request<'a>,
+    request: &RunRequest<'a>,
     files: &mut F,
     out: &mut W,
-) -> Result<(), Failure<'a>>
-    ensures ok { OnOk result
-        (RunsFiles (F.holds files.old) request.now (W.contents out.old) (W.contents out.new)) }
-    ensures real { OnOk result
-        (RunsReally (WritesReally Along) (F.holds files.old) request.now
+) -> Result<Outcome, Failure<'a>>
+    requires { All IsWindow (windows_in request.now.extras.memory) }
+    ensures ok { IfOk result (λ o. HasRunFiles (F.holds files.old) request.now o
+        (W.contents out.old) (W.contents out.new)
+        ⊎ HasLeftFiles (F.holds files.old) request.now o
         (W.contents out.old) (W.contents out.new)) }
-    ensures followed { OnOk result
-        (RunsReally (WritesReally Followed) (F.holds files.old) request.now
-        (W.contents out.old) (W.contents out.new)) }
-    ensures guarded { OnOk result
-        (RunsGuarded (F.holds files.old) request.now (W.contents out.old) (W.contents out.new)) }
-    ensures alone { OnOk result
-        (RunsAlone (F.holds files.old) request.now (W.contents out.old) (W.contents out.new)) }
     ensures err { IfErr result
         (λ f. StopsBy f (F.holds files.old) (F.lacks files.old) request.now
         (W.contents out.old) (W.contents out.new)) }
-    ensures reads { OnOk result (ReadsRun (F.holds files.old) request.now.policy.now
-        (request.now.input.now ∷ []) (F.asked files.old) (F.asked files.new)) }
-    ensures reads_until { IfErr result (λ f. ReadsRunUntil (TellsOfRun request.now.inside f)
-        (F.holds files.old) request.now.policy.now (request.now.input.now ∷ []) (F.asked files.old) (F.asked files.new)) }
+    ensures reads { OnOk result (ReadsRun (F.holds files.old) request.now.run.policy.now
+        (request.now.run.input.now ∷ []) (F.asked files.old) (F.asked files.new)) }
+    ensures reads_until { IfErr result (λ f. ReadsRunUntil (TellsOfRun request.now.run.inside f)
+        (F.holds files.old) request.now.run.policy.now (request.now.run.input.now ∷ [])
+        (F.asked files.old) (F.asked files.new)) }
     ensures kept { (file bytes : List ℕ) → F.holds files.new file bytes
         → F.holds files.old file bytes }
     ensures lacked { (file : List ℕ) → F.lacks files.new file → F.lacks files.old file }
 {
-    let inputs = read_inputs(alloc, request, files)?;
+    let inputs = read_inputs(alloc, &request.run, files)?;
+    let windows = request.extras.memory.as_slice();
+    if let Some(process) = lacking_of(windows, inputs.policy.processes()) {
+        return Err(Failure::NoProcess(process));
+    }
     let sources = lent(alloc, inputs.texts.as_slice())?;
-    match run_policy(
+    match run_inputs(
         alloc,
         &inputs.policy,
         sources.as_slice(),
         inputs.input.as_slice(),
-        request.most_time,
-        request.random,
+        request,
         out,
     ) {
-        Ok(()) => Ok(()),
+        Ok(outcome) => Ok(outcome),
         Err(fault) => Err(Failure::Fault(fault)),
     }
 }

@@ -99,6 +99,14 @@ fn send_failure<'a, E: Output>(err: &mut E, failure: &Failure<'a>) -> Result<(),
         Failure::UnreadableSource(name) => {
             send_line(err, &[b"26 Unreadable "], &[name.as_str().as_bytes()])
         }
+        Failure::NoProcess(process) => {
+            let mut digits = Buffer::new();
+            send_line(
+                err,
+                &[b"12 NoProcess "],
+                &[digits.format(*process).as_bytes()],
+            )
+        }
         Failure::Fault(fault) => send_fault(err, fault),
     }
 }

@@ -2,14 +2,13 @@
 use Rattle.std.proofs.Common.{◌≡◌, ◌<◌, ◌+◌, ◌^◌, ◌∙◌, ℕ, inl, inr, arith, slice_index_or, List, [], ◌∷◌, Option, Some, None, codes, decimal, refl, sym, subst, lit<}
 use Rattle.std.proofs.lemmas.Bool.{cases_lt}
 use Rattle.std.proofs.lemmas.Fmt.{decimal_injective, decimal_digit}
-use Rattle.ds_drive.specs.Done.{IsDone}
 use Rattle.ds_rows.specs.declared.came.Came.{Came}
 use Rattle.ds_cases.specs.declared.case.Case.{Case}
 use Rattle.ds_cases.specs.declared.case.Expected.{Expected}
 use Rattle.ds_cases.specs.declared.case.Expected.TheVariants as expected
 use Rattle.ds_rows.specs.declared.files.Put.{Put}
-use Rattle.ds_rows.specs.Expected.{IsExpected}
-use Rattle.ds_rows.specs.Rows.{Beside, HeldAt, Inside, RunsAsExpected, command_of}
+use Rattle.ds_rows.specs.Expected.{IsExpected, told_of}
+use Rattle.ds_rows.specs.Rows.{Beside, HasDone, HeldAt, Inside, RunsAsExpected, command_of}
 use Rattle.ds_rows.specs.Tables.{DoesAs, IsPut, Meets}
 
 -- a status that is written as 0 is 0
@@ -26,42 +25,42 @@ inside_held {X} holds files there folder place put file bytes f p n held =
     subst Files f (subst Folder p (subst At n held))
 
 -- what was done over them
-pub inside_done : {X : Type 0} (holds : X → List ℕ → List ℕ → Type 0) (files there : X) (folder place : List ℕ) (put : Option Put) (words told : List (List ℕ)) (old new : Option (List ℕ))
+pub inside_done : {X : Type 0} (holds : X → List ℕ → List ℕ → Type 0) (files there : X) (folder place : List ℕ) (put : Option Put) (words told : List (List ℕ)) (shown : List ℕ)
     → there ≡ files → place ≡ folder → put ≡ None → told ≡ words
-    → IsDone told (HeldAt (holds there) place put) old new → IsDone words (Inside (holds files) folder) old new
-inside_done {X} holds files there folder place put words told old new f p n w done =
-    let Files : X → Type 0 = λ x. IsDone words (Inside (holds x) folder) old new in
-    let Folder : List ℕ → Type 0 = λ x. IsDone words (Inside (holds there) x) old new in
-    let At : Option Put → Type 0 = λ x. IsDone words (HeldAt (holds there) place x) old new in
-    let Words : List (List ℕ) → Type 0 = λ x. IsDone x (HeldAt (holds there) place put) old new in
+    → HasDone told (HeldAt (holds there) place put) shown → HasDone words (Inside (holds files) folder) shown
+inside_done {X} holds files there folder place put words told shown f p n w done =
+    let Files : X → Type 0 = λ x. HasDone words (Inside (holds x) folder) shown in
+    let Folder : List ℕ → Type 0 = λ x. HasDone words (Inside (holds there) x) shown in
+    let At : Option Put → Type 0 = λ x. HasDone words (HeldAt (holds there) place x) shown in
+    let Words : List (List ℕ) → Type 0 = λ x. HasDone x (HeldAt (holds there) place put) shown in
     subst Files f (subst Folder p (subst At n (subst Words w done)))
 
 -- what was done over them with a text in place of one file
-pub put_done : (holds : List ℕ → List ℕ → Type 0) (folder : List ℕ) (put : Option Put) (file text : List ℕ) (words : List (List ℕ)) (old new : Option (List ℕ))
-    → IsPut put file text → IsDone words (HeldAt holds folder put) old new → IsDone words (Beside holds folder file text) old new
-put_done holds folder None file text words old new h done = absurd h
-put_done holds folder (Some p) file text words old new h done =
-    let Named : List ℕ → Type 0 = λ n. IsDone words (Beside holds folder n p.text.now) old new in
-    let Told : List ℕ → Type 0 = λ t. IsDone words (Beside holds folder file t) old new in
+pub put_done : (holds : List ℕ → List ℕ → Type 0) (folder : List ℕ) (put : Option Put) (file text : List ℕ) (words : List (List ℕ)) (shown : List ℕ)
+    → IsPut put file text → HasDone words (HeldAt holds folder put) shown → HasDone words (Beside holds folder file text) shown
+put_done holds folder None file text words shown h done = absurd h
+put_done holds folder (Some p) file text words shown h done =
+    let Named : List ℕ → Type 0 = λ n. HasDone words (Beside holds folder n p.text.now) shown in
+    let Told : List ℕ → Type 0 = λ t. HasDone words (Beside holds folder file t) shown in
     subst Told h.1 (subst Named h.0 done)
 
 -- the same, over files and a folder that are these
-pub beside_done : {X : Type 0} (holds : X → List ℕ → List ℕ → Type 0) (files there : X) (folder place : List ℕ) (put : Option Put) (file text : List ℕ) (words : List (List ℕ)) (old new : Option (List ℕ))
+pub beside_done : {X : Type 0} (holds : X → List ℕ → List ℕ → Type 0) (files there : X) (folder place : List ℕ) (put : Option Put) (file text : List ℕ) (words : List (List ℕ)) (shown : List ℕ)
     → there ≡ files → place ≡ folder → IsPut put file text
-    → IsDone words (HeldAt (holds there) place put) old new → IsDone words (Beside (holds files) folder file text) old new
-beside_done {X} holds files there folder place put file text words old new f p h done =
-    let Files : X → Type 0 = λ x. IsDone words (Beside (holds x) folder file text) old new in
-    let Folder : List ℕ → Type 0 = λ x. IsDone words (Beside (holds there) x file text) old new in
-    subst Files f (subst Folder p (put_done (holds there) place put file text words old new h done))
+    → HasDone words (HeldAt (holds there) place put) shown → HasDone words (Beside (holds files) folder file text) shown
+beside_done {X} holds files there folder place put file text words shown f p h done =
+    let Files : X → Type 0 = λ x. HasDone words (Beside (holds x) folder file text) shown in
+    let Folder : List ℕ → Type 0 = λ x. HasDone words (Beside (holds there) x file text) shown in
+    subst Files f (subst Folder p (put_done (holds there) place put file text words shown h done))
 
 -- a row that is as expected
 pub row_well : (holds : List ℕ → List ℕ → Type 0) (words rest : List (List ℕ)) (folder status file text seen : List ℕ) (came : Came)
     → words ≡ folder ∷ status ∷ file ∷ rest → came.status < 2 ^ 64
     → Inside holds folder file text → seen ≡ text → IsExpected came status seen
-    → (came.status ≡ 0 → IsDone (command_of rest) (Inside holds folder) (Some []) (Some came.told.items))
+    → (came.status ≡ 0 → HasDone (command_of rest) (Inside holds folder) (told_of came))
     → RunsAsExpected holds words
 row_well holds words rest folder status file text seen came e small held same as_expected done =
-    let Writes : List ℕ → Type 0 = λ t. IsDone (command_of rest) (Inside holds folder) (Some []) (Some t) in
+    let Writes : List ℕ → Type 0 = λ t. HasDone (command_of rest) (Inside holds folder) t in
     let Runs : List (List ℕ) → Type 0 = λ w. RunsAsExpected holds w in
     subst Runs (sym e) (record {
       text = text;
@@ -72,12 +71,12 @@ row_well holds words rest folder status file text seen came e small held same as
 -- a case that is as expected
 pub case_well : (holds : List ℕ → List ℕ → Type 0) (words : List (List ℕ)) (wanted : Option Expected) (came : Came)
     → came.status < 2 ^ 64 → Meets wanted came
-    → (came.status ≡ 0 → IsDone words holds (Some []) (Some came.told.items))
+    → (came.status ≡ 0 → HasDone words holds (told_of came))
     → DoesAs holds words wanted
 case_well holds words None came small meets done = absurd meets
-case_well holds words (Some expected.Done) came small meets done = (came.told.items, done (status_zero came.status (codes "0") small meets.ended refl))
+case_well holds words (Some expected.Done) came small meets done = (told_of came, done (status_zero came.status (codes "0") small meets.ended refl))
 case_well holds words (Some (expected.Writes text)) came small meets done =
-    let Writes : List ℕ → Type 0 = λ t. IsDone words holds (Some []) (Some t) in
+    let Writes : List ℕ → Type 0 = λ t. HasDone words holds t in
     subst Writes meets.told (done (status_zero came.status (codes "0") small meets.ended refl))
 case_well holds words (Some (expected.Refused refusal)) came small meets done = tt
 

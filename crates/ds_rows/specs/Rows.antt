@@ -2,7 +2,8 @@
 use Rattle.std.specs.Prelude.{◌≡◌, ◌≢◌, ◌⊎◌, ℕ, List, [], ◌∷◌, ◌++◌, All, Option, Some, None, codes}
 use Rattle.std.specs.Str.Lines.{lines}
 use Rattle.ds_cases.specs.Words.{words_of}
-use Rattle.ds_drive.specs.Done.{IsDone}
+use Rattle.ds_drive.specs.Done.{IsDone, stream}
+use Rattle.ds_drive.specs.Listening.{Listener}
 use Rattle.ds_rows.specs.declared.files.Put.{Put}
 
 -- the name of a file of a folder
@@ -27,11 +28,20 @@ HeldAt holds folder (Some put) file bytes = Beside holds folder put.name.now put
 abbrev pub command_of : List (List ℕ) → List (List ℕ)
 command_of words = codes "dsmon" ∷ words
 
--- the files hold the text that is expected of a row; at status 0 its command writes that text in a run of what its folder holds
+-- what these words ask for is done over such files, and this text is what is written and then what is told
+pub record HasDone (words : List (List ℕ)) (holds : List ℕ → List ℕ → Type 0) (text : List ℕ) : Type 0 where
+  pub out : List ℕ
+  pub told : List ℕ
+  pub all : out ++ told ≡ text
+  pub err : Listener
+  pub heard : err.new ≡ Some told
+  pub done : IsDone words holds (stream (Some []) (Some out)) err
+
+-- the files hold the text that is expected of a row; at status 0 its command does what it asks for over what its folder holds, and that text is what it writes and tells
 pub record RowRuns (holds : List ℕ → List ℕ → Type 0) (folder status file : List ℕ) (words : List (List ℕ)) : Type 0 where
   pub text : List ℕ
   pub held : Inside holds folder file text
-  pub done : status ≡ codes "0" → IsDone (command_of words) (Inside holds folder) (Some []) (Some text)
+  pub done : status ≡ codes "0" → HasDone (command_of words) (Inside holds folder) text
 
 -- the words of a line are a folder, a status, a file and a command, and such a row runs so
 abbrev pub RunsAsExpected : (List ℕ → List ℕ → Type 0) → List (List ℕ) → Type 0

@@ -2,14 +2,13 @@
 use Rattle.std.specs.Prelude.{◌≡◌, ◌≢◌, ℕ, List, [], ◌∷◌, ◌++◌, All, Option, Some, None, codes}
 use Rattle.std.specs.Str.Lines.{lines}
 use Rattle.ds_cases.specs.Words.{words_of}
-use Rattle.ds_drive.specs.Done.{IsDone}
 use Rattle.ds_rows.specs.declared.came.Came.{Came}
 use Rattle.ds_cases.specs.declared.case.Case.{Case}
 use Rattle.ds_cases.specs.declared.case.Expected.{Expected}
 use Rattle.ds_cases.specs.declared.case.Expected.TheVariants as expected
 use Rattle.ds_rows.specs.declared.files.Put.{Put}
-use Rattle.ds_rows.specs.Expected.{IsExpected}
-use Rattle.ds_rows.specs.Rows.{Beside, Inside, command_of}
+use Rattle.ds_rows.specs.Expected.{IsExpected, told_of}
+use Rattle.ds_rows.specs.Rows.{Beside, HasDone, Inside, command_of}
 
 -- a text is put in place of a file
 abbrev pub IsPut : Option Put → List ℕ → List ℕ → Type 0
@@ -23,7 +22,7 @@ refusal_told refusal = codes "dsmon: " ++ refusal
 -- a command is as expected
 abbrev pub Meets : Option Expected → Came → Type 0
 Meets None came = ⊥
-Meets (Some expected.Done) came = IsExpected came (codes "0") came.told.items
+Meets (Some expected.Done) came = IsExpected came (codes "0") (told_of came)
 Meets (Some (expected.Writes text)) came = IsExpected came (codes "0") text.items
 Meets (Some (expected.Refused refusal)) came = IsExpected came (codes "2") (refusal_told refusal.items)
 
@@ -34,8 +33,8 @@ CameAs case came = Meets case.expected came
 -- what a command does in a run of these files, where it is expected to end with status 0
 abbrev pub DoesAs : (List ℕ → List ℕ → Type 0) → List (List ℕ) → Option Expected → Type 0
 DoesAs holds words None = ⊥
-DoesAs holds words (Some expected.Done) = (text : List ℕ) × IsDone words holds (Some []) (Some text)
-DoesAs holds words (Some (expected.Writes text)) = IsDone words holds (Some []) (Some text.items)
+DoesAs holds words (Some expected.Done) = (text : List ℕ) × HasDone words holds text
+DoesAs holds words (Some (expected.Writes text)) = HasDone words holds text.items
 DoesAs holds words (Some (expected.Refused refusal)) = Unit {0}
 
 -- so does the command of a table with the text of a case in place of a file

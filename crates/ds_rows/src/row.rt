@@ -64,7 +64,7 @@ pub(crate) fn is_other(outcome: Outcome) -> bool
 }
 
 /// Runs the row of these words, and compares its outcome with what is expected. At status 0
-/// stations that are stepped and run by hand have to write its text too.
+/// stations that are stepped and run by hand have to write what it writes, too.
 fn run_row<F: Files + Copy + Drop, E: Write>(
     alloc: Global,
     words: &[&str],
@@ -84,12 +84,13 @@ fn run_row<F: Files + Copy + Drop, E: Write>(
     let came = Came::of(alloc, command.as_slice(), FolderFiles::of(files, folder));
     let outcome = came.compared(alloc, status, text.as_slice())?;
     if is_other(outcome) {
-        err.write_all(came.told.as_slice())?;
+        err.write_all(came.out.as_slice())?;
+        err.write_all(came.err.as_slice())?;
         return Ok(outcome);
     }
     if came.status == 0 {
         let place = FolderFiles::of(files, folder);
-        if !stations_write(alloc, command.as_slice(), place, text.as_slice()) {
+        if !stations_write(alloc, command.as_slice(), place, came.out.as_slice()) {
             return Ok(Outcome::StepsDiffer);
         }
     }

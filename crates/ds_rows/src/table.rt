@@ -182,12 +182,13 @@ fn run_case<'a, F: Files + Copy + Drop, E: Write>(
     let came = Came::of(alloc, table.command, table.place(files, case));
     let outcome = case_outcome(alloc, case, &came)?;
     if is_other(outcome) {
-        err.write_all(came.told.as_slice())?;
+        err.write_all(came.out.as_slice())?;
+        err.write_all(came.err.as_slice())?;
         return Ok(outcome);
     }
     if came.status == 0 {
         let place = table.place(files, case);
-        if !stations_write(alloc, table.command, place, came.told.as_slice()) {
+        if !stations_write(alloc, table.command, place, came.out.as_slice()) {
             return Ok(Outcome::StepsDiffer);
         }
     }
@@ -207,7 +208,10 @@ fn case_outcome(alloc: Global, case: &Case, came: &Came) -> Result<Outcome, Allo
             told.extend_from_slice(refusal)?;
             came.compared(alloc, "2", &told)
         }
-        Some(Expected::Done) => came.compared(alloc, "0", came.told.as_slice()),
+        Some(Expected::Done) => {
+            let told = came.told(alloc)?;
+            came.compared(alloc, "0", told.as_slice())
+        }
         Some(Expected::Writes(text)) => came.compared(alloc, "0", text.as_slice()),
     }
 }

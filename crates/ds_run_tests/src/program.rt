@@ -202,6 +202,17 @@ dsmon run p.toml in 10 --random|--random
 dsmon run p.toml in 10 --random last|'last'
 dsmon run p.toml in 10 --random 8 --random 9|cannot be used multiple times
 dsmon run p.toml in 10 --from 5|unexpected argument '--from'
+dsmon run p.toml in 10 --must-end --must-end|cannot be used multiple times
+dsmon run p.toml in 10 --summary --summary|cannot be used multiple times
+dsmon run p.toml in 10 --memory|--memory
+dsmon run p.toml in 10 --memory 1:00410002:1|--memory takes P:ADDRESS:COUNT
+dsmon run p.toml in 10 --most|--most
+dsmon run p.toml in 10 --most many|'many'
+dsmon run p.toml in 10 --most 18446744073709551616|'18446744073709551616'
+dsmon run p.toml in 10 --most -1|unexpected argument '-1'
+dsmon run p.toml in 10 --most 1 --most 2|cannot be used multiple times
+dsmon trace p.toml in 10 --most 5|unexpected argument '--most'
+dsmon check p.toml --must-end|unexpected argument '--must-end'
 dsmon trace p.toml in 10 --from ten|'ten'
 dsmon trace p.toml in 10 --from 1 --from 2|cannot be used multiple times
 dsmon trace p.toml in 10 --to 1000000001|1000000001 is not in 0..=1000000000
@@ -222,6 +233,9 @@ dsmon run --help|from 0 to 1000000000
 dsmon trace --help|[default: 0]
 dsmon trace --help|  2 1 00400008 syscall  put 41  $2=00000000
 dsmon trace --help|--process 2 --process 3
+dsmon run --help|--memory 1:00410000:8 --memory 2:00410000:1
+dsmon run --help|docs/grading.md
+dsmon trace --help|docs/trace.md
 dsmon demo -h|Usage: dsmon demo
 dsmon list --help|  1  00400000  24020000    end:  addiu $2,$0,0
 dsmon check --help|  00400000 read  code, part 0 of guest.s, rule 1
@@ -539,6 +553,7 @@ fn the_text_of_a_failure_is_what_is_told_of_it(rt: HostRuntime) -> Result<(), Al
     for failure in [
         Failure::UnreadableFile("a file.toml"),
         Failure::UnreadableSource(Text::of("one.s")),
+        Failure::NoProcess(7),
     ] {
         right = is_told_by_its_text(rt.alloc(), failure)? && right;
     }

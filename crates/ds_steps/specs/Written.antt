@@ -1,5 +1,5 @@
 -- What a station writes that was made of a command's files.
-use Rattle.std.specs.Prelude.{◌≡◌, ◌⊎◌, ℕ, ◌==◌, nat_le, if◌then◌else◌, List, Ok, count_by}
+use Rattle.std.specs.Prelude.{◌≡◌, ◌⊎◌, ◌<◌, ℕ, ◌==◌, nat_le, if◌then◌else◌, length, List, Ok, count_by}
 use Rattle.clap.specs.Words.{Text}
 use Rattle.ds_policy.specs.PolicyText.{policy_of}
 use Rattle.ds_policy.specs.Value.{PolicyValue, InputValue}
@@ -10,7 +10,9 @@ use Rattle.ds_refinement.specs.Runs.{RunsTo}
 use Rattle.ds_words.specs.declared.words.BareRequest.{BareRequest}
 use Rattle.ds_words.specs.declared.words.CheckRequest.{CheckRequest}
 use Rattle.ds_words.specs.declared.words.ListRequest.{ListRequest}
+use Rattle.ds_words.specs.Windows.{windows_in}
 use Rattle.ds_words.specs.declared.words.Request.{Request}
+use Rattle.ds_words.specs.declared.words.RunRequest.{RunRequest}
 use Rattle.ds_words.specs.declared.words.TraceRequest.{TraceRequest}
 use Rattle.ds_words.specs.Words.{AsksForBare, AsksForDemo, AsksForRun, AsksForList, AsksForCheck, AsksForTrace}
 
@@ -50,13 +52,14 @@ pub record WritesFiles (holds : List ℕ → List ℕ → Type 0) (request : Req
 
 -- the words ask for a run of files, and a station writes this text of one
 abbrev pub RunsSo : (List ℕ → List ℕ → Type 0) → List Text → List ℕ → Type 0
-RunsSo holds words text = (request : Request) × AsksForRun words request × WritesFiles holds request text
+RunsSo holds words text = (request : RunRequest) × AsksForRun words request × WritesFiles holds request.run text
 
--- the words ask for something else, of which there is no station
+-- the words ask for something else, of which there is no station, or want memory after the text of a run
 abbrev pub AsksForAnother : List Text → Type 0
 AsksForAnother words =
     AsksForDemo words
     ⊎ (((request : ListRequest) × AsksForList words request)
     ⊎ (((request : CheckRequest) × AsksForCheck words request)
     ⊎ (((request : BareRequest) × AsksForBare words request)
-    ⊎ ((request : TraceRequest) × AsksForTrace words request))))
+    ⊎ (((request : TraceRequest) × AsksForTrace words request)
+    ⊎ ((request : RunRequest) × AsksForRun words request × (0 < length (windows_in request.extras.memory)))))))

@@ -15,7 +15,8 @@ use std::alloc::{AllocError, Global};
 const MOST_STEPS: u32 = 1_000_000;
 
 /// Whether stations that are made as the words ask for it write this text: over either buffer, at
-/// once and by steps. Where the words ask for no run of files, there is none to compare.
+/// once and by steps. Where the words ask for no run of files, there is none to compare, nor where
+/// they want memory after its text.
 pub fn stations_write<F: Files + Drop>(
     alloc: Global,
     words: &[String],
@@ -26,15 +27,16 @@ pub fn stations_write<F: Files + Drop>(
         ⊎ RunsSo (F.holds files) (map string_bytes words.now) wanted.now }
 {
     match wish_of(alloc, words) {
-        Ok(Some(Wish::Run(request))) => match request_writes(alloc, &request, files, wanted) {
+        Ok(Ok(Wish::Run(request))) if !request.extras.memory.as_slice().is_empty() => true,
+        Ok(Ok(Wish::Run(request))) => match request_writes(alloc, &request.run, files, wanted) {
             Some(same) => same,
             None => false,
         },
-        Ok(Some(Wish::Demo)) => true,
-        Ok(Some(Wish::List(_))) => true,
-        Ok(Some(Wish::Check(_))) => true,
-        Ok(Some(Wish::Bare(_))) => true,
-        Ok(Some(Wish::Trace(_))) => true,
+        Ok(Ok(Wish::Demo)) => true,
+        Ok(Ok(Wish::List(_))) => true,
+        Ok(Ok(Wish::Check(_))) => true,
+        Ok(Ok(Wish::Bare(_))) => true,
+        Ok(Ok(Wish::Trace(_))) => true,
         _ => false,
     }
 }

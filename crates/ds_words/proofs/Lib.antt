@@ -1,3 +1,4 @@
 mod Numbers
 mod Requests
+mod WindowTexts
 pub mod WordLemmas

@@ -1,6 +1,6 @@
 -- What the words after `run` name.
 use Rattle.std.proofs.Common.{◌≡◌, ◌∙◌, ◌<◌, ◌^◌, ℕ, List, [], sym, ap, refl, subst, Bor}
-use Rattle.std.specs.Prelude.{Option, Some, None, Result, Ok, Err, IfSome, option_map, is_some, IsSomeAnd, MatchOption}
+use Rattle.std.specs.Prelude.{Option, Some, None, Result, Ok, Err, IfOk, IfSome, IsOkAnd, MatchResult, option_map, is_some, IsSomeAnd, MatchOption}
 use Rattle.std.specs.Result.{result_ok}
 use Rattle.std.specs.Str.Parse.{ParsesUnsigned}
 use Rattle.clap.specs.Words.{Text, first_of, first_value, one_of, one_text, rows_of, ReadsOne, TriesOne}
@@ -9,6 +9,7 @@ use Rattle.clap.proofs.WalkLemmas.{first_value-rows, one_text-rows}
 use Rattle.clap.specs.declared.parser.matches.Found.{Found}
 use Rattle.ds_view.specs.declared.view.Only.{Only}
 use Rattle.ds_words.specs.declared.words.TraceRequest.{TraceRequest}
+use Rattle.ds_words.specs.declared.words.Untaken.{Untaken}
 use Rattle.ds_words.specs.declared.words.Wish.{Wish}
 use Rattle.ds_words.specs.declared.words.Wish.TheVariants.{Trace}
 use Rattle.ds_words.specs.Words.{IsGiven, IsNumber, kind_word}
@@ -117,13 +118,14 @@ widened (Some x) None is = absurd is
 widened (Some x) (Some y) is = ap Some is
 
 -- a trace that is asked for, or this one
-trace_or : TraceRequest → Option Wish → TraceRequest
-trace_or t (Some (Trace x)) = x
+trace_or : TraceRequest → Result Wish Untaken → TraceRequest
+trace_or t (Ok (Trace x)) = x
 trace_or t other = t
 
 -- what holds of the trace that was read holds of that which is asked for
-pub mapped_trace : (P : TraceRequest → Type 0) (q : Option TraceRequest) (r : Option Wish) (request : TraceRequest) → MatchOption q (r ≡ None) (λ x. IsSomeAnd r (λ y. y ≡ Trace x)) → IfSome q P → r ≡ Some (Trace request) → P request
+pub mapped_trace : (P : TraceRequest → Type 0) (q : Result TraceRequest Untaken) (r : Result Wish Untaken) (request : TraceRequest)
+    → MatchResult q (λ x. IsOkAnd r (λ y. y ≡ Trace x)) (λ e. r ≡ Err e) → IfOk q P → r ≡ Ok (Trace request) → P request
 unfolding trace_or
-mapped_trace P None r request cases holds is = let no : None ≡ Some (Trace request) = sym cases ∙ is in absurd (cc)
-mapped_trace P (Some x) None request cases holds is = absurd cases
-mapped_trace P (Some x) (Some y) request cases holds is = subst P (ap (trace_or x) (sym (ap Some cases) ∙ is)) holds
+mapped_trace P (Err e) r request cases holds is = let no : Err e ≡ Ok (Trace request) = sym cases ∙ is in absurd (cc)
+mapped_trace P (Ok x) (Err e) request cases holds is = absurd cases
+mapped_trace P (Ok x) (Ok y) request cases holds is = subst P (ap (trace_or x) (sym (ap Ok cases) ∙ is)) holds

@@ -1,16 +1,20 @@
 -- What clap makes of the program's command line.
 use Rattle.std.proofs.Common.{◌≡◌, ◌∙◌, sym, ap, subst, inl, inr, refl, codes, ℕ, List, [], ◌∷◌, slice_index, arith}
-use Rattle.std.specs.Prelude.{Option, None, Some, option_map}
-use Rattle.clap.specs.Words.{HasKind, IsAmong, Row, Text, fault_of, kind_of, many_of, subcommand_of}
+use Rattle.std.specs.Prelude.{◌⊎◌, Err, IsOkAnd, MatchResult, Ok, Option, None, Result, Some, is_ok, option_map}
+use Rattle.std.proofs.lemmas.Bool.{true≢false}
+use Rattle.clap.specs.Words.{HasKind, IsAmong, Row, Text, all_of, fault_of, kind_of, many_of, subcommand_of}
 use Rattle.clap.specs.declared.error.Error.{Error}
 use Rattle.clap.specs.declared.error.kind.ErrorKind.TheVariants.{OutOfMemory}
 use Rattle.clap.proofs.OnLiterals.{clap_on_literals}
 use Rattle.ds_words.specs.declared.words.BareRequest.{BareRequest}
 use Rattle.ds_words.specs.declared.words.CheckRequest.{CheckRequest}
 use Rattle.ds_words.specs.declared.words.ListRequest.{ListRequest}
-use Rattle.ds_words.specs.declared.words.Request.{Request}
+use Rattle.ds_words.specs.declared.words.RunRequest.{RunRequest}
 use Rattle.ds_words.specs.declared.words.TraceRequest.{TraceRequest}
-use Rattle.ds_words.specs.Words.{AsksForDemo, AsksForSomething, NamesBare, NamesCheck, NamesList, NamesRun, NamesTrace, command_named, dsmon_app}
+use Rattle.ds_words.specs.declared.words.Untaken.{Untaken}
+use Rattle.ds_words.specs.declared.words.Wish.{Wish}
+use Rattle.ds_words.specs.declared.windows.Window.{Window}
+use Rattle.ds_words.specs.Words.{AsksForDemo, AsksForSomething, NamesAskedRun, NamesBare, NamesCheck, NamesList, NamesMemory, NamesTrace, MisnamesMemory, command_named, dsmon_app}
 
 -- the one word `demo` asks for the demonstration, whatever the program's own name is
 pub alone : (program : Text) (words : List Text) → words ≡ program ∷ codes "demo" ∷ []
@@ -24,6 +28,14 @@ pub each_process : (words : List Text)
     → option_map (λ p. many_of (codes "P") p.1) (subcommand_of dsmon_app words) ≡ Some (Some (codes "3" ∷ codes "1" ∷ []))
 unfolding clap_on_literals
 each_process words same = rw same refl
+
+-- what stands after each `--memory` is kept as it is written, in the order of the words
+pub each_memory : (words : List Text)
+    → words ≡ codes "dsmon" ∷ codes "run" ∷ codes "p" ∷ codes "i" ∷ codes "9" ∷ codes "--memory" ∷ codes "1:410000:2" ∷ codes "--memory=2:0x400000:1" ∷ []
+    → option_map (λ p. all_of (codes "P:ADDRESS:COUNT") p.1) (subcommand_of dsmon_app words)
+    ≡ Some (Some (codes "1:410000:2" ∷ codes "2:0x400000:1" ∷ []))
+unfolding clap_on_literals
+each_memory words same = rw same refl
 
 -- clap takes words that ask for something
 pub taken : (words : List Text) → AsksForSomething words → fault_of dsmon_app words ≡ []
@@ -46,6 +58,10 @@ pub fails_for_memory : (words : List Text) (e : Error) → AsksForDemo words
     → HasKind (fault_of dsmon_app words) e → kind_of e ≡ OutOfMemory
 fails_for_memory words e asked has = only_memory_fails words e (inl asked) has
 
+abbrev cause_or : Untaken → Result Wish Untaken → Untaken
+cause_or cause (Ok wish) = cause
+cause_or cause (Err other) = other
+
 abbrev first_letter : Option (Text × List Row) → ℕ
 first_letter None = 0
 first_letter (Some p) = slice_index p.0 0
@@ -63,9 +79,9 @@ name_in named = option_map (λ p. p.0) named
 
 -- words that name this command ask for what stands after it, and for nothing else
 pub asks_run : (words : List Text) (rows : List Row) → subcommand_of dsmon_app words ≡ Some (codes "run", rows)
-    → ((request : Request) → NamesRun rows request → ⊥) → AsksForSomething words → ⊥
+    → ((request : RunRequest) → NamesAskedRun rows request → ⊥) → AsksForSomething words → ⊥
 asks_run words rows named none (inl demo) = let e : 114 ≡ 100 = ap first_letter_of (sym (ap name_in named) ∙ demo.named) in omega (arith, e)
-asks_run words rows named none (inr (inl run)) = none run.0 (subst (λ (x : List Row). NamesRun x run.0) (sym (ap rows_in (sym named ∙ run.1.named))) run.1.names)
+asks_run words rows named none (inr (inl run)) = none run.0 (subst (λ (x : List Row). NamesAskedRun x run.0) (sym (ap rows_in (sym named ∙ run.1.named))) run.1.names)
 asks_run words rows named none (inr (inr (inl list))) = let e : 114 ≡ 108 = ap first_letter (sym named ∙ list.1.named) in omega (arith, e)
 asks_run words rows named none (inr (inr (inr (inl check)))) = let e : 114 ≡ 99 = ap first_letter (sym named ∙ check.1.named) in omega (arith, e)
 asks_run words rows named none (inr (inr (inr (inr (inl bare))))) = let e : 114 ≡ 98 = ap first_letter (sym named ∙ bare.1.named) in omega (arith, e)
@@ -117,3 +133,28 @@ asks_nothing words named is demo run check list bare trace (inr (inr (inl asked)
 asks_nothing words named is demo run check list bare trace (inr (inr (inr (inl asked)))) = check (sym is ∙ ap name_in asked.1.named)
 asks_nothing words named is demo run check list bare trace (inr (inr (inr (inr (inl asked))))) = bare (sym is ∙ ap name_in asked.1.named)
 asks_nothing words named is demo run check list bare trace (inr (inr (inr (inr (inr asked))))) = trace (sym is ∙ ap name_in asked.1.named)
+
+-- the cause that is told is that for which nothing was read
+pub same_cause : {A : Type 0} (of : A → Wish) (q : Result A Untaken) (r : Result Wish Untaken) (cause : Untaken)
+    → MatchResult q (λ x. IsOkAnd r (λ y. y ≡ of x)) (λ e. r ≡ Err e) → r ≡ Err cause → q ≡ Err cause
+same_cause of (Ok x) (Ok y) cause cases is = absurd (true≢false (ap is_ok is))
+same_cause of (Ok x) (Err e) cause cases is = absurd cases
+same_cause of (Err e) r cause cases is = ap (λ (x : Result Wish Untaken). Err (cause_or e x)) (sym cases ∙ is)
+
+-- what stands after the words' command wants memory by texts that write no windows
+pub misnamed : (words : List Text) (rows : List Row)
+    → (subcommand_of dsmon_app words ≡ Some (codes "run", rows)) ⊎ (subcommand_of dsmon_app words ≡ Some (codes "trace", rows))
+    → ((memory : List Window) → NamesMemory (all_of (codes "P:ADDRESS:COUNT") rows) memory → ⊥) → MisnamesMemory words
+misnamed words rows named none = record { rows = rows; named = named; none = none }
+
+same_rows : (words : List Text) (m : MisnamesMemory words) (name : Text) (rows : List Row) → subcommand_of dsmon_app words ≡ Some (name, rows) → rows ≡ m.rows
+same_rows words m name rows named = elim m.named as (λ n. rows ≡ m.rows) [
+  | inl run ↦ ap rows_in (sym named ∙ run)
+  | inr trace ↦ ap rows_in (sym named ∙ trace)
+]
+
+-- where the windows are written, none is misnamed
+pub well_named : (words : List Text) (name : Text) (rows : List Row) → subcommand_of dsmon_app words ≡ Some (name, rows)
+    → (memory : List Window) × NamesMemory (all_of (codes "P:ADDRESS:COUNT") rows) memory → MisnamesMemory words → ⊥
+well_named words name rows named memory m =
+    m.none memory.0 (subst (λ (x : List Row). NamesMemory (all_of (codes "P:ADDRESS:COUNT") x) memory.0) (same_rows words m name rows named) memory.1)

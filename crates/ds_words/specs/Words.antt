@@ -1,7 +1,8 @@
 -- What the program's words ask for, over what clap reads of its command line.
 use Rattle.std.specs.Prelude.{◌≡◌, ◌⊎◌, ◌<◌, ◌^◌, ⊤, ℕ, Bool, List, [], ◌∷◌, Option, Some, None, true, false, codes, option_map}
 use Rattle.std.specs.Str.Parse.{IsNumeral, digits_value, without_leading_plus}
-use Rattle.clap.specs.Words.{App, Row, Rule, Text, fault_of, first_of, many_of, one_of, new_app, new_rule, subcommand_of, with_rule, with_subcommand}
+use Rattle.std.specs.List.{All}
+use Rattle.clap.specs.Words.{App, Row, Rule, Text, all_of, fault_of, first_of, many_of, one_of, new_app, new_rule, subcommand_of, with_rule, with_subcommand}
 use Rattle.ds_words.specs.declared.words.BareRequest.{BareRequest}
 use Rattle.ds_words.specs.declared.words.CheckRequest.{CheckRequest}
 use Rattle.ds_words.specs.declared.words.ListRequest.{ListRequest}
@@ -10,7 +11,11 @@ use Rattle.ds_view.specs.declared.view.Only.TheVariants.{End, Calls, Denials, Sw
 use Rattle.ds_view.specs.declared.view.View.{View}
 use Rattle.ds_view.specs.declared.processes.Processes.{Processes}
 use Rattle.ds_view.specs.Sets.{processes_of}
+use Rattle.ds_words.specs.Windows.{IsWindow, WriteWindows, windows_in}
+use Rattle.ds_words.specs.declared.windows.Window.{Window}
+use Rattle.ds_words.specs.declared.words.Extras.{Extras}
 use Rattle.ds_words.specs.declared.words.Request.{Request}
+use Rattle.ds_words.specs.declared.words.RunRequest.{RunRequest}
 use Rattle.ds_words.specs.declared.words.TraceRequest.{TraceRequest}
 use Rattle.clap.specs.declared.builder.action.ArgAction.TheVariants.{Append, SetTrue}
 use Rattle.clap.specs.declared.builder.value_parser.ValueParser.TheVariants.{Unsigned}
@@ -43,9 +48,29 @@ inside_rule = record (new_rule (codes "inside")) { long = Some (codes "inside");
 abbrev pub of_run : App → App
 of_run app = with_rule (with_rule (with_rule (of_files app) time_rule) random_rule) inside_rule
 
--- `run POLICY INPUT N [--random R] [--inside]`
+-- `--must-end`
+abbrev pub must_end_rule : Rule
+must_end_rule = record (new_rule (codes "must-end")) { long = Some (codes "must-end"); action = Some SetTrue }
+
+-- `--memory P:ADDRESS:COUNT`, as often as is wanted
+abbrev pub memory_rule : Rule
+memory_rule = record (new_rule (codes "P:ADDRESS:COUNT")) { long = Some (codes "memory"); action = Some Append }
+
+-- `--summary`
+abbrev pub summary_rule : Rule
+summary_rule = record (new_rule (codes "summary")) { long = Some (codes "summary"); action = Some SetTrue }
+
+-- with `[--must-end] [--memory P:ADDRESS:COUNT].. [--summary]`
+abbrev pub of_end : App → App
+of_end app = with_rule (with_rule (with_rule app must_end_rule) memory_rule) summary_rule
+
+-- `--most BYTES`, from 0 to 18446744073709551615
+abbrev pub most_rule : Rule
+most_rule = record (new_rule (codes "BYTES")) { long = Some (codes "most"); parser = Some (Unsigned 0 18446744073709551615) }
+
+-- `run POLICY INPUT N [--random R] [--inside] [--must-end] [--memory P:ADDRESS:COUNT].. [--summary] [--most BYTES]`
 abbrev pub run_app : App
-run_app = of_run (new_app (codes "run"))
+run_app = with_rule (of_end (of_run (new_app (codes "run")))) most_rule
 
 -- `--from T`, a time from 0 to 1000000000, and 0 where it is left out
 abbrev pub from_rule : Rule
@@ -84,9 +109,9 @@ of_turns app = with_rule (with_rule (with_rule app from_rule) to_rule) process_r
 abbrev pub of_lines : App → App
 of_lines app = with_rule (with_rule (with_rule app only_rule) processor_rule) entries_rule
 
--- `trace POLICY INPUT N [--random R] [--inside] [--from T] [--to T] [--process P].. [--only KIND] [--processor] [--entries]`
+-- `trace POLICY INPUT N [--random R] [--inside] [--must-end] [--memory P:ADDRESS:COUNT].. [--summary] [--from T] [--to T] [--process P].. [--only KIND] [--processor] [--entries]`
 abbrev pub trace_app : App
-trace_app = of_lines (of_turns (of_run (new_app (codes "trace"))))
+trace_app = of_lines (of_turns (of_end (of_run (new_app (codes "trace")))))
 
 -- `--words`
 abbrev pub words_rule : Rule
@@ -157,18 +182,36 @@ pub record NamesRun (rows : List Row) (request : Request) : Type 0 where
   pub random : IsNumber 8 (one_of (codes "R") rows) request.random
   pub inside : IsFlagged (codes "inside") rows request.inside
 
--- clap takes the words, and they name a run of these files and numbers
-pub record AsksForRun (words : List Text) (request : Request) : Type 0 where
-  pub taken : fault_of dsmon_app words ≡ []
-  pub rows : List Row
-  pub named : subcommand_of dsmon_app words ≡ Some (codes "run", rows)
-  pub names : NamesRun rows request
-
 -- a number that may be left out: there is one where there is a word, which writes it
 abbrev pub IsGiven : ℕ → Option Text → Option ℕ → Type 0
 IsGiven bits None given = given ≡ None
 IsGiven bits (Some text) None = ⊥
 IsGiven bits (Some text) (Some n) = IsNumber bits (Some text) n
+
+-- the windows that texts write, where there are texts
+abbrev pub NamesMemory : Option (List Text) → List Window → Type 0
+NamesMemory None windows = windows ≡ []
+NamesMemory (Some texts) windows = WriteWindows texts windows
+
+-- what stands after `run` or `trace` says what is wanted of the run beside its text
+pub record NamesExtras (rows : List Row) (extras : Extras) : Type 0 where
+  pub must_end : IsFlagged (codes "must-end") rows extras.must_end
+  pub memory : NamesMemory (all_of (codes "P:ADDRESS:COUNT") rows) (windows_in extras.memory)
+  pub windows : All IsWindow (windows_in extras.memory)
+  pub summary : IsFlagged (codes "summary") rows extras.summary
+
+-- what stands after `run` names a run, what is wanted beside its text, and how many bytes that may have
+pub record NamesAskedRun (rows : List Row) (request : RunRequest) : Type 0 where
+  pub run : NamesRun rows request.run
+  pub extras : NamesExtras rows request.extras
+  pub most : IsGiven 64 (one_of (codes "BYTES") rows) request.most
+
+-- clap takes the words, and they ask for such a run
+pub record AsksForRun (words : List Text) (request : RunRequest) : Type 0 where
+  pub taken : fault_of dsmon_app words ≡ []
+  pub rows : List Row
+  pub named : subcommand_of dsmon_app words ≡ Some (codes "run", rows)
+  pub names : NamesAskedRun rows request
 
 -- texts write numbers of at most so many bits, each the number at its place
 abbrev pub AreNumbers : ℕ → List Text → List ℕ → Type 0
@@ -208,9 +251,10 @@ pub record NamesView (rows : List Row) (view : View) : Type 0 where
   pub entries : one_of (codes "entries") rows ≡ Some (codes "true") → view.entries ≡ true
   pub rest : one_of (codes "entries") rows ≡ Some (codes "false") → view.entries ≡ false
 
--- what stands after `trace` names the files and the numbers, and says which lines are told
+-- what stands after `trace` names a run and what is wanted beside its text, and says which lines are told
 pub record NamesTrace (rows : List Row) (request : TraceRequest) : Type 0 where
   pub run : NamesRun rows request.run
+  pub extras : NamesExtras rows request.extras
   pub view : NamesView rows request.view
 
 -- clap takes the words, and they ask for these lines of the trace of a run of these files and numbers
@@ -270,8 +314,14 @@ pub record AsksForBare (words : List Text) (request : BareRequest) : Type 0 wher
 -- on the bare machine or for the trace of a run of files
 abbrev pub AsksForSomething : List Text → Type 0
 AsksForSomething words =
-    AsksForDemo words ⊎ (((request : Request) × AsksForRun words request)
+    AsksForDemo words ⊎ (((request : RunRequest) × AsksForRun words request)
     ⊎ (((request : ListRequest) × AsksForList words request)
     ⊎ (((request : CheckRequest) × AsksForCheck words request)
     ⊎ (((request : BareRequest) × AsksForBare words request)
     ⊎ ((request : TraceRequest) × AsksForTrace words request)))))
+
+-- what stands after `run` or `trace` wants memory by texts that write no windows, or too many
+pub record MisnamesMemory (words : List Text) : Type 0 where
+  pub rows : List Row
+  pub named : (subcommand_of dsmon_app words ≡ Some (codes "run", rows)) ⊎ (subcommand_of dsmon_app words ≡ Some (codes "trace", rows))
+  pub none : (windows : List Window) → ¬ NamesMemory (all_of (codes "P:ADDRESS:COUNT") rows) windows

@@ -1,8 +1,12 @@
 //! What the words that the program was started with ask for.
 #![tactic(auto)]
 
+mod commands;
+mod windows;
 mod words;
 
+pub use windows::{Window, Windows};
 pub use words::{
-    BareRequest, CheckRequest, ListRequest, Request, TraceRequest, Wish, program_words, wish_of,
+    BareRequest, CheckRequest, Extras, ListRequest, Request, RunRequest, TraceRequest, Untaken,
+    Wish, program_words, wish_of,
 };

@@ -7,7 +7,6 @@ returns-clause-expected c = (
   λ _. record {
     ended = first_of (search rules, grind (arith, common_steps));
     told = first_of (search rules, grind (arith, common_steps));
-    alone = first_of (search rules, grind (arith, common_steps));
   },
   λ _. refl,
 )

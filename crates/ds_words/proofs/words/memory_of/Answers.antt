@@ -1,0 +1,19 @@
+use Rattle.clap.specs.Words.{found_of}
+use Rattle.ds_words.specs.Windows.{windows_in}
+use Rattle.ds_words.proofs.WindowTexts.{memory_absent, memory_read, memory_unread, strings_found, strings_wanting}
+use Rattle.ds_words.proofs.words.memory_of.Goals as goal
+
+pub returns-in-Some-clause-some : goal.returns-in-Some-clause-some
+returns-in-Some-clause-some c =
+    let found = found_of c.args.found.now in
+    memory_read found _ c.in-Some.texts.now c.windows_of.result (strings_found found _ c.get_strs.result c.in-Some.texts c.get_strs.ensures c.in-Some.is) c.windows_of.ensures.some
+
+pub returns-in-Some-clause-none : goal.returns-in-Some-clause-none
+returns-in-Some-clause-none c is memory names =
+    let found = found_of c.args.found.now in
+    memory_unread found _ c.in-Some.texts.now memory (strings_found found _ c.get_strs.result c.in-Some.texts c.get_strs.ensures c.in-Some.is) (c.windows_of.ensures.none is memory) names
+
+pub returns-in-None-clause-some : goal.returns-in-None-clause-some
+returns-in-None-clause-some c =
+    let found = found_of c.args.found.now in
+    memory_absent found _ (windows_in c.none.result) (strings_wanting found _ c.get_strs.result c.get_strs.ensures c.in-None.is) c.none.ensures

@@ -1,0 +1,2 @@
+# No instruction: this source is refused where it is assembled.
+        frob

@@ -1,0 +1,3 @@
+# Ends.
+        addiu $2,$0,0
+        syscall
