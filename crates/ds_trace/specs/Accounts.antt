@@ -13,9 +13,7 @@ use Rattle.ds_trace.specs.Logs.{fourth_word, last_of, lines_of, rules_of, rules_
 
 -- what a rule does not let a process do, by what was denied
 abbrev pub denied_words : List ℕ → List ℕ
-denied_words kind =
-    if bytes_eq kind (codes "store") then codes " does not grant writing here"
-    else (if bytes_eq kind (codes "give") then codes " does not let it be given on" else codes " grants nothing here")
+denied_words kind = if bytes_eq kind (codes "store") then codes " does not grant writing here" else codes " grants nothing here"
 
 -- by its number
 abbrev pub number_words : List ℕ → List ℕ → List ℕ

@@ -17,8 +17,6 @@ fn denied_words(kind: &[u8]) -> &'static [u8]
 {
     if kind == b"store".as_slice() {
         b" does not grant writing here"
-    } else if kind == b"give".as_slice() {
-        b" does not let it be given on"
     } else {
         b" grants nothing here"
     }
@@ -63,7 +61,7 @@ fn push_rule_words(text: &mut Vec<u8>, rule: &[u8], kind: &[u8]) -> Result<(), A
 }
 
 /// Adds a line of the log, where there is one, and its rule in words.
-fn push_why(text: &mut Vec<u8>, found: Option<&[u8]>) -> Result<(), AllocError>
+pub(crate) fn push_why(text: &mut Vec<u8>, found: Option<&[u8]>) -> Result<(), AllocError>
     ensures { OnOk result
         (text.new.items ≡ text.old.items ++ why_by (option_map (λ l. l.now) found.entry)) }
 {
