@@ -61,14 +61,16 @@ EDITS = {
     "many.one_of_five": ("refused by many b", "{ 1 }", "{ 2 }", "clause: b"),
     "after.the_same": ("refused by the law a_number_is_below_the_next", "after n = n + 1", "after n = n", "law: a_number_is_below_the_next"),
     "double.another_row": (PROVED, "double n = n + n", "double n = n + n + n", "row: double_0_is_0"),
-    "double.its_row": ("refused by the row double_2_is_4; the law a_number_is_below_the_next holds all the same", "double n = n + n", "double n = n + n + n", "row: double_2_is_4", "law: a_number_is_below_the_next"),
+    "double.its_row": ("refused by the row double_2_is_4\n", "double n = n + n", "double n = n + n + n", "row: double_2_is_4", "law: a_number_is_below_the_next"),
     "double.harmless": (PROVED, "double n = n + n", "double n = n + (n + 0)"),
 }
 BAD = {
-    "next.unknown": ("BAD EDIT: it is no code: ", "n + FIRST", "n + missing"),
-    "next.not_there": ("BAD EDIT: an 'old:' text is in src/lib.rt 0 times, and not once", "n + SECOND", "n"),
-    "double.open": ("BAD EDIT: it is no definition: ", "double n = n + n", "double n = (n + n"),
+    "next.unknown": ("BAD EDIT: the prover cannot read it: ", "n + FIRST", "n + missing"),
+    "double.open": ("BAD EDIT: the prover cannot read it: ", "double n = n + n", "double n = (n + n", "row: double_2_is_4"),
+    "double.unknown": ("BAD EDIT: the prover cannot read it: ", "double n = n + n", "double n = n + missing", "row: double_2_is_4"),
+    "twice.well": ("refused by twice ensures", "sum(n, n)", "sum(n, n) + 2"),
 }
+NOT_THERE = {"next.not_there": ("BAD EDIT: an 'old:' text is in src/lib.rt 0 times, and not once", "n + SECOND", "n")}
 
 
 class Test(TestCase):
@@ -102,8 +104,9 @@ class Test(TestCase):
     def test_each_edit_has_its_verdict(self):
         self.has_verdicts(EDITS, "10 refused, 8 not refused", self.ran(EDITS))
 
-    def test_an_edit_that_is_no_code_is_told_and_nothing_is_proved(self):
-        self.has_verdicts(BAD, "0 refused, 3 not refused", said := self.ran({**BAD, "twice.well": ("", "sum(n, n)", "sum(n, n) + 2")}))
+    def test_an_edit_that_is_no_code_is_told_and_nothing_is_proved_where_one_cannot_be_applied(self):
+        self.has_verdicts(BAD, "1 refused, 3 not refused", self.ran(BAD))
+        self.has_verdicts(NOT_THERE, "0 refused, 1 not refused", said := self.ran({**NOT_THERE, **BAD}))
         self.assertNotIn("twice.well", said.stdout)
 
     def test_copies_of_a_function_are_tried_side_by_side_but_not_two_edits_of_one_arm_of_a_method(self):

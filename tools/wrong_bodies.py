@@ -1,8 +1,8 @@
 #!/usr/bin/env python3
 """Tries the wrong bodies of the crates, crates/NAME/wrong/*.edit: the prover must refuse each of them.
 
-Without names all are tried, and what they have to name is counted; with names those of these crates, and by CRATE/EDIT one edit. Nothing is proved where one is
-no code. The last line is 'N refused, M not refused'. The status is 0 where M is 0 and nothing lacks its edit. docs/gate.md says more.
+Without names all are tried, and what they have to name is counted; with names those of these crates, and by CRATE/EDIT one edit. Nothing is proved where one
+cannot be applied. The last line is 'N refused, M not refused'. The status is 0 where M is 0 and nothing lacks its edit. docs/gate.md says more.
 """
 import argparse
 import os
@@ -17,22 +17,20 @@ sys.dont_write_bytecode = True
 from wrong_bodies import census, crates, proving  # noqa: E402
 
 
-def side_by_side(lanes, edits, work, took):
-    """Does work on edits, those of a crate in a few lists, side by side; gives each list as it is done, and counts what it took."""
-    parts = []
-    for crate in sorted({it.crate for it in edits}, key=lambda it: -it.size):
-        code, turned = ([it for it in edits if it.crate is crate and it.is_turned == is_turned] for is_turned in (False, True))
-        parts += filter(None, [*(turned[at : at + 8] for at in range(0, len(turned), 8)), code])
+def side_by_side(lanes, edits, took):
+    """Does work on edits, those of code and the turned definitions of a crate apart, side by side; gives each part as it is done, and counts what it took."""
+    crates_of_edits = sorted({it.crate for it in edits}, key=lambda it: -it.size)
+    parts = [[it for it in edits if it.crate is crate and it.is_turned == is_turned] for crate in crates_of_edits for is_turned in (False, True)]
 
     def do(part):
         with tempfile.TemporaryDirectory(prefix="wrong-bodies-") as room:
             prover = proving.Prover(part[0].crate, room)
-            work(prover, part)
+            proving.try_edits(prover, part)
         took[part[0].crate.name] += prover.seconds
         return part
 
     with ThreadPoolExecutor(max(lanes, 1)) as rooms:
-        for it in as_completed([rooms.submit(do, part) for part in parts]):
+        for it in as_completed([rooms.submit(do, part) for part in parts if part]):
             yield it.result()
 
 
@@ -51,10 +49,8 @@ def main(words):
     if unknown:
         print(f"there is no {unknown[0]}\n0 refused, 1 not refused")
         return 2
-    if not given.count:
-        list(side_by_side(given.lanes, [it for it in edits if not it.verdict], proving.read_edits, took))
     bad = [it for it in edits if it.verdict]
-    for part in [] if bad or given.count else side_by_side(given.lanes, edits, proving.try_edits, took):
+    for part in [] if bad or given.count else side_by_side(given.lanes, edits, took):
         print("\n".join(map(str, part)), flush=True)
     failed = [it for it in edits if it.verdict not in ("", "refused")]
     lacks = [] if given.names or bad and not given.count else census.census(repository)

@@ -11,8 +11,8 @@ BEFORE_CLAUSE, CLAUSE = re.compile(r"\b(?:(?:requires|ensures)\s*\*?(?:\s*\w+)?|
 ARM = re.compile(r"\b([A-Z]\w*|\d+)\s*(?:\{[^{}]*\}|\([^()]*\))?\s*=>\s*")  # A constructor or a number, and what it binds, before the text of its arm.
 IMPL, TRAIT = re.compile(r"(?m)^\s*(?:unsafe\s+)?impl\b(?P<of>[^{;]*)\{"), re.compile(r"(?m)^\s*(?:pub\s+)?trait\s+(\w+)[^{;]*\{")
 TYPE, PUBLIC_USE = re.compile(r"\b(?:struct|enum|trait)\s+(\w+)"), re.compile(r"\bpub\s+use\s+([^;]*);")
-PAIR = re.compile(r"(?m)^old: (.+)\nnew:(?: (.*))?$")
-OTHER = re.compile(r"(?m)^(?!(?:file|old|new|row|law|clause|stands for|function):|$).*")
+PAIR, OTHER = re.compile(r"(?m)^old: (.+)\nnew:(?: (.*))?$"), re.compile(r"(?m)^(?!(?:file|old|new|row|law|clause|stands for|function):|$).*")
+DECLARED, WORD = re.compile(r"(?m)^(?:(?:pub|abbrev|record|data|ruleset|mod) )*([^\s(){}]+) .*:(?: |$)"), re.compile(r"[^\s(){}.,;]+")  # A declaration of the logic begins a line, and its equations stand below it.
 MODULE = re.compile(r"(?P<test>#\[cfg\(test\)\]\s*)?(?P<public>\bpub\s+)?\bmod\s+(?P<name>\w+)\s*;")
 code_of = lambda text: NO_CODE.sub(lambda it: re.sub(r"[^\n]", " ", it[0]), text)  # noqa: E731  (as long)
 modules_of = lambda file: [it for it in re.sub(r"(/mod)?\.rt\Z", "", file).split("/")[1:] if it not in ("lib", "main")]  # noqa: E731  (outermost first)
@@ -40,6 +40,13 @@ def arms_in(code, ends, start, end):
         yield Part(name=head[1], start=head.end(), end=at)
 
 
+def declared_in(text):
+    """Returns what a text of the logic declares, with the words that stand in it."""
+    heads = [*DECLARED.finditer(text)]
+    for it, end in zip(heads, [*(it.start() for it in heads[1:]), len(text)]):
+        yield Part(name=it[1], start=it.start(), end=end, words={*WORD.findall(re.sub("--.*", "", text[it.start() : end]))})
+
+
 class Crate:
     """A crate, with its texts by their paths, the bodies in each, what the methods of its traits ensure, and its wrong bodies."""
 
@@ -57,12 +64,21 @@ class Crate:
         self.homes = {name: path for path, code in codes.items() for name in TYPE.findall(code)}
         self.handed_out = {name for code in codes.values() for use in PUBLIC_USE.findall(code) for name in re.findall(r"\w+", use)}
         self.open_modules = {name for name, it in modules if it["public"]}
+        self.declared = {path: list(declared_in(text)) for path, text in self.logic.items()}
         self.bodies = {path: list(self.bodies_of(path, code)) for path, code in codes.items()}
         self.by_name = {it.function: it for bodies in self.bodies.values() for it in bodies}
 
     def named(self, words):
         """Returns the functions whose name, or end of it, this is; a method of a trait stands for itself in each type."""
         return [it for it in self.by_name.values() if f"::{it.function}".endswith(f"::{words}") or it.method and f"::{it.method}".endswith(f"::{words}")]
+
+    def rests(self, row, turned):
+        """Returns whether a row rests on one of these definitions, by the names that stand in it, and in what they name."""
+        found = left = {row}
+        while left:
+            left = set().union(*(it.words for it in sum(self.declared.values(), []) if it.name in left)) - found
+            found = found | left
+        return bool(found & {*turned})
 
     def function_at(self, path, text, line):
         """Returns the function, of a text that may be an edited one, in whose body or head a line is."""
@@ -156,9 +172,10 @@ class Edit:
             self.functions = {body.function: frozenset(f"in-{it}" for it in arms if [other.name for other in body.arms].count(it) == 1)}  # (goals are named after the constructor, so one that stands in two arms tells nothing)
         self.function = next(iter(self.functions), "")
         self.asked = [] if any(it.function in self.functions and it.is_default for it in crate.by_name.values()) else [*self.functions]  # (a check cannot be asked of a trait's own body of a method, so the whole crate is checked then)
-        self.asked += [body.function for law in self.laws for body in crate.named(law)] + ["rows_of_edits::read"] * bool(self.rows)
+        self.asked += ["rows_of_edits::read"] if self.rows else [body.function for law in self.laws for body in crate.named(law)]
         at = {it: [path for path, text in crate.logic.items() if re.search(rf"(?m)^(?:\w+ )*{re.escape(it)} : ", text)] for it in self.rows}
         self.modules = sorted({f"Rattle.{crate.name}.{path[:-5].replace('/', '.')}" for paths in at.values() for path in paths})
+        self.turned = [it.name for it in crate.declared.get(self.file, ()) if any(start < it.end and it.start < end for start, end, _ in self.pieces)]
         lost = [f"row {it}" for it, paths in at.items() if not paths] + [f"function {it}" for it in self.functions if it not in crate.by_name]
         lost += [f"law {it}" for it in self.laws if not any(body.is_law for body in crate.named(it))]
         lost += [f"public clause {' '.join(it)}" for it in self.stands if not crate.repository.has_public(*it)]
@@ -180,6 +197,8 @@ class Edit:
 
     def clashes(self, other):
         """Returns whether one check could not tell the two apart: they change one text, one function, or one arm where both know theirs."""
+        if self.is_turned or other.is_turned:
+            return self.is_turned != other.is_turned or self.overlaps(other) or any(self.crate.rests(row, its.turned) for it, its in ((self, other), (other, self)) for row in it.rows)
         both = [(self.functions[it], other.functions[it]) for it in self.functions.keys() & other.functions.keys()]
         return self.overlaps(other) or not (self.copy or other.copy) and any(not mine or not others or mine & others for mine, others in both)
 

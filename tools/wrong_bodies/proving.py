@@ -11,8 +11,7 @@ from .crates import Edit
 KIT = Path(shutil.which("rt") or "rt").resolve().parent.parent
 NOT_SEARCHED, IN_PROOF = re.compile(r"`search` did not prove ([^;]*)"), re.compile(r"(?:\./)?proofs/(\S+)/(Answers|Proof|Invariants)\.antt:\d+:\d+: error: (?:`([^`]*)`: )?(.*)")  # what no search proved and no answer is written for; an error at an answer, which names its goal first.
 NOT_OWN = re.compile(r"is not in scope|has no |is no name|not admitted|not proved")  # What another function's failure, or a name that the edit took away, makes an error of a proof file.
-IN_SOURCE = re.compile(r"(?:\./)?(?:src|specs)/\S+?:\d+:\d+: error(?:\[[\w-]+\])?: (?:(`[^`]*`): )?(.*)")
-UNREADABLE = re.compile(r"is not in scope|has no field|is no name|operand is missing|expected the end|cannot continue")  # (of a text of src/ or specs/, and not that a statement is false)
+IN_SOURCE, UNREADABLE = re.compile(r"(?:\./)?(?:src|specs)/\S+?:\d+:\d+: error(?:\[[\w-]+\])?: (?:(`[^`]*`): )?(.*)"), re.compile(r"is not in scope|has no field|is no name|operand is missing|expected the end|cannot continue")  # (of a text of src/ or specs/, and not that a statement is false)
 ROW = re.compile(r"(?m)^pub (\S+) : .*\n(?:(?:\1 |unfolding |[] \t)}]).*\n|\n)*")
 LOOP_GOAL, CLAUSE_GOAL = re.compile(r"-(?:init|preserved|smaller)(?:-|\Z)"), re.compile(r"-clause-(\w+)")  # Goals of a loop's invariant, which stands in proofs/; the clause that a goal is of.
 REFUSED, NOT_PROVED = re.compile(r"(?:\./)?(?:specs|proofs)/(\S+)\.antt:\d+:\d+: error: `([^`]*)`: (.*)"), re.compile(r"fn \w+::(\S+): (?:not proved|no proof)")
@@ -46,10 +45,8 @@ def goals_in(lines, crate, text_of):
     start, found, texts = f"fn {crate.name}::", {}, {}
     said = dict(it[len(start) :].split(": ", 1) for it in lines if it.startswith(start) and ": " in it)
     goals = [(name, goal.strip("` ")) for name, words in said.items() for it in NOT_SEARCHED.findall(words) for goal in it.split(", ")]
-    for it in filter(None, map(IN_PROOF.match, lines)):
-        name = it[1].replace("/", "::")
-        if "not proved" in said.get(name, "") and not NOT_OWN.search(unquoted(it[4])):
-            goals.append((name, it[3] or ""))
+    named = [(it[1].replace("/", "::"), it) for it in map(IN_PROOF.match, lines) if it]
+    goals += [(name, it[3] or "") for name, it in named if "not proved" in said.get(name, "") and not NOT_OWN.search(unquoted(it[4]))]
     for path, line, goal in (it.groups() for it in map(OPEN_GOAL.match, lines) if it):
         texts[path] = texts.get(path) or text_of(path)
         goals.append((crate.function_at(path, texts[path], int(line)), goal))
@@ -105,7 +102,7 @@ class Prover:
             files[path] = ROW.sub(lambda it: it[0] if is_left(it) else re.sub(r"[^\n]", " ", it[0]), self.crate.logic[path])
         if modules:
             files.update({self.root: text_of(self.root) + "mod rows_of_edits;\n", "src/rows_of_edits.rt": ROWS})
-            files["proofs/rows_of_edits/read/Answers.antt"] = "".join(f"use {it} as rows{at}\n" for at, it in enumerate(modules))
+            files["proofs/rows_of_edits/read/Answers.antt"] = "".join(f"use {it} as rows{at}\n" for at, it in enumerate(modules)) + REFUSED_ANSWER
         return self.ran(pieces, files, "check", *self.words, *(word for it in sorted(set(functions)) for word in ("--only", it)))
 
     def proofs(self, body, is_asked, copy=""):
@@ -163,42 +160,27 @@ def batches_of(edits, clash):
     return batches
 
 
-def read_edits(prover, edits):
-    """Has the prover's front end read edits, as many together as there may be, and marks those that are no code. Of a turned definition it is told whether it parses."""
-    for it in (it for it in edits if it.is_turned):
-        said = prover.ran([(*piece, it.file) for piece in it.pieces], {}, "fmt", "--write", it.file)
-        it.verdict, it.why = ("BAD EDIT", f"it is no definition: {said.complaint()}") if said.status else ("", "")
-    left = batches_of([it for it in edits if not it.is_turned], Edit.overlaps)
-    while left:
-        batch = left.pop()
-        said = prover.check(batch, [""])
-        if said.status and len(batch) > 1:
-            left += [batch[: len(batch) // 2], batch[len(batch) // 2 :]]
-        elif said.status:
-            batch[0].verdict, batch[0].why = "BAD EDIT", f"it is no code: {said.complaint()}"
-
-
 def try_edits(prover, edits):
-    """Tries edits of a crate, those of code in batches: a batch refuses an edit by goals of its own function, or arm, where no function without an edit has one, and is halved
-    else. One that no batch refuses is tried alone, a turned definition by the laws and rows that it names, and one that can be asked of none by the whole crate."""
-    together = [it for it in edits if it.asked and not it.is_turned]
+    """Tries edits of a crate in batches. The front end reads a batch before anything is proved, and one that it can't read is halved. A batch refuses an edit of code by goals of its own
+    function, or arm, where no function without an edit has one, and is halved else; and a turned definition by its rows. One that no batch refuses is tried alone, and so is one without a
+    row, by its laws, and one that a check can be asked nothing of, by the whole crate."""
+    together = [it for it in edits if (it.rows if it.is_turned else it.asked)]
     left = [*([it] for it in edits if it not in together), *batches_of(together, Edit.clashes)]
     while left:
         batch = left.pop()
         edit, functions = batch[0], [f"{name}{it.copy}" for it in batch for name in it.asked]
         said = prover.check(batch, functions)
-        if len(batch) > 1 and not (said.could_read() and set(said.goals) <= set(functions)):
+        if len(batch) > 1 and not (said.could_read() and (edit.is_turned or set(said.goals) <= set(functions))):
             left += [batch[: len(batch) // 2], batch[len(batch) // 2 :]]
-        elif len(batch) > 1:
-            for it in batch:
-                judge(it, [*goals_of(it, said, batch)])
-            left += [[it] for it in batch if it.verdict != "refused"]
         elif not said.could_read():
-            edit.verdict, edit.why = "BAD EDIT" if edit.is_turned else "NOT TRIED", f"the prover cannot read it, or could not tell: {said.complaint()}"
-        elif said.is_proved():
+            edit.verdict, why = ("BAD EDIT", "cannot read it") if said.status == 1 else ("NOT TRIED", "could not tell")
+            edit.why = f"the prover {why}: {said.complaint()}"
+        elif len(batch) == 1 and said.is_proved():
             edit.verdict, edit.why = "NOT REFUSED", f"the {f'clause {edit.clauses[0][0]} that it names' if edit.clauses else 'crate'} is still proved with this edit"
         else:
-            judge_turned(edit, said) if edit.is_turned else judge(edit, [*goals_of(None, said, batch)])
+            for it in batch:
+                judge_turned(it, said) if it.is_turned else judge(it, [*goals_of(it if len(batch) > 1 else None, said, batch)])
+            left += [[it] for it in batch if len(batch) > 1 and it.verdict != "refused"]
 
 
 def goals_of(edit, said, batch):
@@ -234,9 +216,8 @@ def judge_turned(edit, said):
     rows = [name for name, file in errors.items() if file.endswith("Rows")]
     laws = [it[1] for it in map(NOT_PROVED.match, said.lines) if it and it[1] in crate.by_name and crate.by_name[it[1]].is_law]
     clauses = [" ".join(it) for it in clauses_among(crate, goals_of(None, said, []))[1] if it[0] not in laws]
-    held = [f"the law {it}" for it in edit.laws if not {body.function for body in crate.named(it)} & {*laws}]
-    left = [f"the row {it}" for it in edit.rows if it not in rows] if edit.rows else held
+    held = [f"the law {it}" for it in edit.laws if not edit.rows and not {body.function for body in crate.named(it)} & {*laws}]
+    left = [*(f"the row {it}" for it in edit.rows if it not in rows), *held][:1]
     told = [*(f"the row {it}" for it in edit.rows or rows[:1]), *(f"the law {it}" for it in laws[:3]), *clauses[:1]]
-    edit.laws += laws
-    why = f"{left[0]} still holds; refused is {', '.join([*rows, *laws, *errors][:3])}" if left else ", ".join(told) + "".join(f"; {it} holds all the same" for it in held)
-    edit.verdict, edit.why = "NOT REFUSED" if left or not told else "refused", why if left or told else f"by no row, law or public clause, but by {said.complaint()}"
+    why = f"{left[0]} still holds; refused is {', '.join([*rows, *laws, *errors][:3])}" if left else ", ".join(told) or f"by no row, law or public clause, but by {said.complaint()}"
+    edit.verdict, edit.why = "NOT REFUSED" if left or not told else "refused", why
