@@ -639,6 +639,35 @@ def handed_on_in_turn(file):
         reach(file, asked)
 
 
+def against_the_numbers(file):
+    """A chain of 256 from process 100 down to 1 and again, so that each share stands in a process that comes before: handed on and cut in turn."""
+    places = [(100 - k % 100, 0x1000 * (k // 100 + 1)) for k in range(256)]
+    file.ask("start 100 4 1")
+    share(file, places, fill=False)
+    for p, at in places[::8]:
+        file.ask(f"fill {p} {at:08x}")
+    for k in (1, 2, 255, 60):
+        reach(file, f"drop {told(places[k])} own")
+    for asked in (f"take {places[199][0]} {told(places[200])}", f"end {places[10][0]}", f"take {places[11][0]} {told(places[12])}", f"revoke {told(places[0])} 9"):
+        reach(file, asked)
+
+
+def whole_table(file):
+    """All 25,600 entries of 100 processes are one chain: some are handed on, and it is cut at one place after the other, from below."""
+    places = [(100 - k % 100, 0x1000 * (k // 100 + 1)) for k in range(25_600)]
+    asked = places[:4] + places[97:104] + places[12_798:12_803] + places[-3:]
+    file.ask("start 100 4 1")
+    share(file, places, fill=False)
+    for p, at in asked:
+        file.ask(f"fill {p} {at:08x}")
+    for line in (f"drop {told(places[1])} own", f"drop {told(places[100])} own", f"drop {told(places[-1])} own", f"end {places[101][0]}",
+                 f"take {places[-101][0]} {told(places[-100])}", f"take {places[12_799][0]} {told(places[12_800])}", f"revoke {told(places[0])} 9"):
+        file.ask(line)
+        for p, at in asked:
+            file.ask(f"entry {p} {at:08x}")
+            file.ask(f"translation {p} {at:08x}")
+
+
 def many_places_in_turn(file):
     """A process shares from 600 of its addresses, one after the other, and each of these families is cut; those after them are found all the same."""
     file.ask("start 4 4 1")
@@ -682,11 +711,12 @@ def random_families(file):
 def families():
     """Shares of shares, and what becomes of them where one of those above goes."""
     file = File(["Shares of shares: chains of 255, families over 100 processes, copies among them, places that are used again, entries of one",
-                 "process above each other, a chain whose entries go in turn, shares from 600 places in turn, and random calls.",
+                 "process above each other, a chain whose entries go in turn, shares from 600 places in turn, random calls, a chain against the",
+                 "numbers of processes, and a chain of all entries that a table has.",
                  "After each change every entry is asked, and what the buffer has where it had any.",
                  "entry answers the process and the address of the parent after from, where there is one."])
     for made in (long_chains, families_of_a_hundred, families_with_copies, places_used_again, families_within, handed_on_in_turn, many_places_in_turn,
-                 random_families):
+                 random_families, against_the_numbers, whole_table):
         made(file)
     return file
 

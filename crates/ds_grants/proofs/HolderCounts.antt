@@ -1,5 +1,5 @@
 -- How many entries name a page, when an entry is put or removed; the promise is that of `AreCounted`.
-use Rattle.std.proofs.Common.{zero, suc, ◌≡◌, ℕ, ◌+◌, ◌-◌, ◌*◌, ◌<◌, ◌≤◌, ◌==◌, ◌||◌, not, Bool, true, nat_lt, List, [], ◌∷◌, length, get_or, filter, Option, Some, None, refl, sym, ap, ap₂, ◌∙◌, inl, inr, arith, slice_index, slice_set, drop, IfSome, ◌^◌}
+use Rattle.std.proofs.Common.{zero, suc, ◌≡◌, ℕ, ◌+◌, ◌-◌, ◌*◌, ◌<◌, ◌≤◌, ◌==◌, ◌||◌, not, Bool, true, if◌then◌else◌, nat_lt, List, [], ◌∷◌, length, get_or, filter, Option, Some, None, refl, sym, ap, ap₂, ◌∙◌, inl, inr, arith, slice_index, slice_set, drop, IfSome, ◌^◌}
 use Rattle.std.proofs.lemmas.List.Elements.{All-head, All-tail}
 use Rattle.std.proofs.lemmas.List.{at_drop_more, drop_all}
 use Rattle.std.specs.List.{list_any, All}
@@ -9,7 +9,7 @@ use Rattle.ds_policy.specs.declared.grant.Entry.{Entry}
 use Rattle.ds_policy.specs.declared.grant.Grant.{Grant}
 use Rattle.ds_policy.specs.Pages.{Table, names, found, put, entries_of, entry_at, with_entry, erased_entry, is_named_by}
 use Rattle.ds_grants.specs.Sound.{AreCounted, IsGoodRow}
-use Rattle.ds_grants.specs.Counts.{one_if_named, page_of, page_at, holders_in, holders_of, holders_at, AreOneMore, AreOneFewer}
+use Rattle.ds_grants.specs.Counts.{one_if_named, page_of, holders_in, holders_of, AreOneMore, AreOneFewer}
 
 -- one at most
 one_at_most : (q : ℕ) (o : Option ℕ) → one_if_named q o ≤ 1
@@ -39,6 +39,11 @@ holders_with t p a g q within =
     let row = holders_put q (entries_of t p) a g in
     let all = holders_set t (p - 1) q (put (entries_of t p) a g) within in
     omega arith
+
+-- how many of a process's entries at an address name a page
+abbrev pub holders_at : ℕ → ℕ → List Entry → ℕ
+holders_at page address [] = 0
+holders_at page address (e ∷ rest) = (if e.address == address then one_if_named page e.grant.page else 0) + holders_at page address rest
 
 -- those that stay and those at the address are all
 holders_filter : (q : ℕ) (es : List Entry) (a : ℕ) → holders_in q (filter (λ (e : Entry). not (e.address == a)) es) + holders_at q a es ≡ holders_in q es
@@ -103,18 +108,6 @@ counted_within [] q h = absurd (omega arith)
 counted_within (n ∷ ns) zero h = omega arith
 counted_within (n ∷ ns) (suc q) h = let rest = counted_within ns q h in omega arith
 
--- those at the address are among all
-at_address : (q a : ℕ) (es : List Entry) → holders_at q a es ≤ holders_in q es
-at_address q a [] = omega arith
-at_address q a (e ∷ es) = elim (cases_Bool (e.address == a)) [
-  | inl here ↦ rw here (let rest = at_address q a es in omega arith)
-  | inr there ↦ rw there (let rest = at_address q a es in omega arith)
-]
-
--- of the entries that are left the first counts
-at_step : (q a : ℕ) (es : List Entry) (i : ℕ) (d : Entry) → i < length es → holders_at q a (drop i es) ≡ one_if_named q (page_at a (get_or es i d)) + holders_at q a (drop (i + 1) es)
-at_step q a es i d h = at_drop_more (holders_at q a) es i d h
-
 pub itself : (q : ℕ) → (q == q) ≡ true
 itself q = grind (arith, nat_tests)
 
@@ -122,33 +115,6 @@ itself q = grind (arith, nat_tests)
 pub some_held : (o : Option ℕ) (holders : List ℕ) → ((q : ℕ) → one_if_named q o ≤ slice_index holders q) → IfSome o (λ q. 0 < slice_index holders q)
 some_held None holders h = tt
 some_held (Some q) holders h = let one = h q in let same = itself q in let is : one_if_named q (Some q) ≡ 1 = rw same refl in omega arith
-
--- while the entries at an address are released, those that are left are still counted
-abbrev pub AreReleased : List ℕ → List ℕ → ℕ → List Entry → ℕ → Type 0
-AreReleased old new a es i = (q : ℕ) → slice_index new q + holders_at q a es ≡ slice_index old q + holders_at q a (drop i es)
-
-pub release_asks : (old new : List ℕ) (a : ℕ) (es : List Entry) (i : ℕ) (d : Entry) → i < length es → ((q : ℕ) → holders_in q es ≤ slice_index old q) → AreReleased old new a es i → IfSome (page_at a (get_or es i d)) (λ q. 0 < slice_index new q)
-release_asks old new a es i d h enough so =
-    some_held (page_at a (get_or es i d)) new (λ q.
-    let all = enough q in
-    let among = at_address q a es in
-    let left = so q in
-    let next = at_step q a es i d h in
-    omega arith)
-
-pub release_step : (old new newer : List ℕ) (a : ℕ) (es : List Entry) (i : ℕ) (d : Entry) → i < length es → AreReleased old new a es i → AreOneFewer (page_at a (get_or es i d)) new newer → AreReleased old newer a es (i + 1)
-release_step old new newer a es i d h so fewer q =
-    let left = so q in
-    let next = at_step q a es i d h in
-    let one = fewer.each q in
-    omega arith
-
--- all entries at the address are released
-pub release_end : (old new : List ℕ) (a : ℕ) (es : List Entry) (i : ℕ) → length es ≤ i → AreReleased old new a es i → (q : ℕ) → slice_index new q + holders_at q a es ≡ slice_index old q
-release_end old new a es i h so q =
-    let left = so q in
-    let none : holders_at q a (drop i es) ≡ 0 = ap (holders_at q a) (drop_all i es h) in
-    omega arith
 
 -- while all entries are released, those that are left are still counted
 abbrev pub AreAllReleased : List ℕ → List ℕ → List Entry → ℕ → Type 0

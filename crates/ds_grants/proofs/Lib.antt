@@ -1,3 +1,5 @@
+pub mod Among
+pub mod AtPlaces
 pub mod Bare
 pub mod Chains
 pub mod ChildRows
@@ -27,6 +29,8 @@ pub mod Known
 pub mod KnownShares
 pub mod Living
 pub mod Lying
+pub mod Members
+pub mod Nearer
 pub mod OwnFrames
 pub mod PageAnew
 pub mod Parents

@@ -92,7 +92,7 @@ other_address e [] i d all within = absurd (omega (arith, within))
 other_address e (f ∷ es) zero d all within = all.0
 other_address e (f ∷ es) (suc i) d all within = other_address e es i d all.1 (omega (arith, within))
 
-found_itself : (es : List granted.Entry) (i : ℕ) (d : granted.Entry) → IsDistinct has_same_address es → i < length es → found es (get_or es i d).address ≡ Some (get_or es i d).grant
+pub found_itself : (es : List granted.Entry) (i : ℕ) (d : granted.Entry) → IsDistinct has_same_address es → i < length es → found es (get_or es i d).address ≡ Some (get_or es i d).grant
 found_itself [] i d apart within = absurd (omega (arith, within))
 found_itself (e ∷ es) zero d apart within = let here : (e.address == e.address) ≡ true = grind (arith, nat_tests) in ap (λ (b : Bool). cond b (Some e.grant) (found es e.address)) here
 found_itself (e ∷ es) (suc i) d apart within =

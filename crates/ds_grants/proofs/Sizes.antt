@@ -9,19 +9,20 @@ use Rattle.std.proofs.lemmas.List.Sums.{length-filter, count_by-le-length}
 use Rattle.ds_policy.specs.declared.grant.Entry.{Entry}
 use Rattle.ds_policy.specs.declared.grant.Grant.{Grant}
 use Rattle.ds_policy.specs.Pages.{Table, names, found, put, entries_of, entry_at, with_entry, erased_entry}
-use Rattle.ds_policy.specs.Families.{without_entries}
+use Rattle.ds_policy.specs.Families.{parent_of, without_entry, without_entries}
 use Rattle.ds_policy.specs.Grants.{is_some_right, has_right}
 use Rattle.ds_grants.specs.State.{GrantsState, LayoutState, with_grant, erased_grant}
 use Rattle.ds_grants.specs.Sound.{AreCounted, IsWhole, IsAtPage, has_same_address, IsGoodRow, AreLaidOut, IsSound}
 use Rattle.ds_grants.specs.Parents.{AreAlike}
 use Rattle.ds_grants.specs.Copies.{IsMarked}
 use Rattle.ds_grants.specs.Order.{is_no_page}
-use Rattle.ds_grants.specs.Counts.{one_if_named, page_of, holders_in, holders_at, AreOneMore, AreOneFewer}
+use Rattle.ds_grants.specs.Counts.{one_if_named, page_of, holders_in, AreOneMore, AreOneFewer}
 use Rattle.ds_grants.proofs.FifthRegion.{either, same_number}
-use Rattle.ds_grants.proofs.HolderCounts.{put_counts, erase_counts, end_counts, holders_erased, holders_fewer, itself, found_holds, row_holders, counted_within}
+use Rattle.ds_grants.proofs.HolderCounts.{holders_at, put_counts, erase_counts, end_counts, holders_erased, holders_fewer, itself, found_holds, row_holders, counted_within}
 use Rattle.ds_grants.proofs.Living.{one_named, found_lives}
 use Rattle.ds_grants.proofs.Laying.{live_below, live_marked, laid_fewer, live_fewer, laid_put}
-use Rattle.ds_grants.proofs.Parents.{alike_counted, alike_sound, alike_laid}
+use Rattle.ds_grants.proofs.Bare.{handed_alike}
+use Rattle.ds_grants.proofs.Parents.{alike_counted, alike_sound, alike_laid, alike_rows}
 use Rattle.ds_grants.proofs.Emptying.{end_alike}
 use Rattle.ds_grants.specs.Free.{HasPage}
 
@@ -112,21 +113,30 @@ sound_put g p a grant low high room whole page sound =
       frames = sound.frames;
     }
 
+erased_rows : (t : Table) (p a : ℕ) → 0 < p → p ≤ length t → All IsGoodRow t → All IsGoodRow (erased_entry t p a)
+erased_rows t p a low high good =
+    let others : Entry → Bool = λ e. not (e.address == a) in
+    let row = good_row t p low high good in
+    let few = row.few in
+    let stay = length-filter others (entries_of t p) in
+    let fewer = count_by-le-length others (entries_of t p) in
+    All-set IsGoodRow t (p - 1) (filter others (entries_of t p)) (record {
+      few = omega arith;
+      whole = All-filter others IsWhole (entries_of t p) row.whole;
+      pages = All-filter others IsAtPage (entries_of t p) row.pages;
+      places = filter_places others (entries_of t p) row.places;
+    }) good
+
+-- rows stay good when an entry is removed
+pub without_rows : (t : Table) (p a : ℕ) → 0 < p → p ≤ length t → All IsGoodRow t → All IsGoodRow (without_entry t p a)
+without_rows t p a low high good =
+    alike_rows (erased_entry t p a) (without_entry t p a) (handed_alike (erased_entry t p a) p a (parent_of (entry_at t p a))) (erased_rows t p a low high good)
+
 pub sound_erased : (g : GrantsState) (p a : ℕ) → 0 < p → p ≤ length g.table → IsSound g → IsSound (erased_grant g p a)
 sound_erased g p a low high sound =
-    let others : Entry → Bool = λ e. not (e.address == a) in
-    let row = good_row g.table p low high sound.rows in
-    let size = length-set g.table (p - 1) (filter others (entries_of g.table p)) in
-    let few = row.few in
-    let stay = length-filter others (entries_of g.table p) in
-    let fewer = count_by-le-length others (entries_of g.table p) in
+    let size = length-set g.table (p - 1) (filter (λ (e : Entry). not (e.address == a)) (entries_of g.table p)) in
     record {
-      rows = All-set IsGoodRow g.table (p - 1) (filter others (entries_of g.table p)) (record {
-        few = omega arith;
-        whole = All-filter others IsWhole (entries_of g.table p) row.whole;
-        pages = All-filter others IsAtPage (entries_of g.table p) row.pages;
-        places = filter_places others (entries_of g.table p) row.places;
-      }) sound.rows;
+      rows = erased_rows g.table p a low high sound.rows;
       processes = let few = sound.processes in omega arith;
       ended = sound.ended ∙ sym size;
       named = sound.named;

@@ -1,5 +1,5 @@
 -- How many entries name a page, and what a change of the entries does to it.
-use Rattle.std.specs.Prelude.{◌≡◌, ℕ, ◌+◌, ◌==◌, List, [], ◌∷◌, length, slice_index, Option, Some, None, if◌then◌else◌}
+use Rattle.std.specs.Prelude.{◌≡◌, ℕ, ◌+◌, List, [], ◌∷◌, length, slice_index, Option, Some, None, if◌then◌else◌}
 use Rattle.ds_policy.specs.declared.grant.Entry.{Entry}
 use Rattle.ds_policy.specs.declared.grant.Grant.{Grant}
 use Rattle.ds_policy.specs.Pages.{Table, names}
@@ -13,10 +13,6 @@ abbrev pub page_of : Option Grant → Option ℕ
 page_of None = None
 page_of (Some g) = g.page
 
--- the page that an entry names, where it is one at the address
-abbrev pub page_at : ℕ → Entry → Option ℕ
-page_at address e = if e.address == address then e.grant.page else None
-
 -- how many entries of a process name a page
 abbrev pub holders_in : ℕ → List Entry → ℕ
 holders_in page [] = 0
@@ -26,12 +22,6 @@ holders_in page (e ∷ rest) = one_if_named page e.grant.page + holders_in page 
 abbrev pub holders_of : Table → ℕ → ℕ
 holders_of [] page = 0
 holders_of (entries ∷ rest) page = holders_in page entries + holders_of rest page
-
--- how many of a process's entries at an address name a page
-abbrev pub holders_at : ℕ → ℕ → List Entry → ℕ
-holders_at page address [] = 0
-holders_at page address (e ∷ rest) =
-    one_if_named page (page_at address e) + holders_at page address rest
 
 -- one more for the page that is named, if one is
 pub record AreOneMore (named : Option ℕ) (old new : List ℕ) : Type 0 where

@@ -2,7 +2,7 @@
 ghost use Rattle.std.specs.Prelude.{◌≡◌, ℕ, ◌+◌, ◌<◌, ◌≤◌, ◌^◌, length, slice_index, IfSome};
 ghost use Rattle.std.specs.List.{All};
 ghost use Rattle.ds_grants.specs.Sound.{IsGoodRow};
-ghost use Rattle.ds_grants.specs.Counts.{page_of, page_at, holders_in, holders_of, holders_at, AreOneMore, AreOneFewer};
+ghost use Rattle.ds_grants.specs.Counts.{page_of, holders_in, holders_of, AreOneMore, AreOneFewer};
 
 use ds_policy::{Entry, Grant, Table};
 
@@ -13,17 +13,6 @@ pub(crate) fn page_of(grant: Option<Grant>) -> Option<u32>
     match grant {
         Some(grant) => grant.page,
         None => None,
-    }
-}
-
-/// The page that an entry names, where it is one at the address.
-fn page_at(addr: u32, entry: &Entry) -> Option<u32>
-    ensures { result ≡ page_at addr entry.now }
-{
-    if entry.address == addr {
-        entry.grant.page
-    } else {
-        None
     }
 }
 
@@ -45,18 +34,6 @@ pub(crate) fn release(holders: &mut [u32], page: Option<u32>)
 {
     if let Some(page) = page {
         holders[page as usize] -= 1;
-    }
-}
-
-/// Subtracts the entries of a process at an address from the counts.
-pub(crate) fn release_at(holders: &mut [u32], entries: &[Entry], addr: u32)
-    requires { (page : ℕ) → holders_in page entries.now ≤ slice_index holders.old page }
-    ensures fewer { (page : ℕ) → slice_index holders.new page + holders_at page addr entries.now
-        ≡ slice_index holders.old page }
-    ensures size { length holders.new ≡ length holders.old }
-{
-    for entry in entries {
-        release(holders, page_at(addr, entry));
     }
 }
 

@@ -1,5 +1,5 @@
 //! From which addresses of a process something may have been shared, and which processes may have it.
-ghost use Rattle.std.specs.Prelude.{◌≡◌, ◌==◌, ℕ, false, not, [], filter, position, None};
+ghost use Rattle.std.specs.Prelude.{◌≡◌, ◌≢◌, ◌==◌, ℕ, false, [], position, None};
 ghost use Rattle.ds_grants.specs.Origins.{Has, of_others, receivers_of};
 
 use arrayvec::ArrayVec;
@@ -68,6 +68,16 @@ impl Origins {
         }
     }
 
+    /// Whether something may have been shared from any address.
+    pub(crate) fn are_any(&self) -> bool
+        ensures { result ≡ false → (a : ℕ) → receivers_of self.now a ≡ 0 }
+    {
+        if self.overflowed {
+            return true;
+        }
+        !self.known.is_empty()
+    }
+
     /// Whether there was no room for an address.
     pub(crate) fn has_overflowed(&self) -> bool
         ensures { result ≡ self.now.overflowed }
@@ -89,11 +99,15 @@ impl Origins {
 
     /// From now on nothing is known to have been shared from an address.
     pub(crate) fn remove(&mut self, addr: u32)
-        ensures { self.new ≡ record self.old {
-          known = filter (λ o. not (o.address == addr)) self.old.known;
-        } }
+        ensures { (a q : ℕ) → a ≢ addr → Has (receivers_of self.old a) q
+            → Has (receivers_of self.new a) q }
     {
-        self.known.retain(|origin| origin.address != addr);
+        match find(self.known.as_slice(), addr) {
+            Some(i) => {
+                self.known.remove(i);
+            }
+            None => {}
+        }
     }
 
     /// Adds an address that isn't known yet.

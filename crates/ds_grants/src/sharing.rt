@@ -1,5 +1,5 @@
 //! Which processes may have what was shared from the entries of each.
-ghost use Rattle.std.specs.Prelude.{◌≡◌, ◌==◌, ℕ, ◌+◌, ◌<◌, ◌≤◌, true, length, slice_set, IfOk};
+ghost use Rattle.std.specs.Prelude.{◌≡◌, ◌==◌, ℕ, ◌+◌, ◌<◌, ◌≤◌, true, false, length, slice_set, IfOk};
 ghost use Rattle.std.specs.Int.{bit_at};
 ghost use Rattle.ds_grants.specs.Origins.{Has, receivers_at, KeepsReceivers, KeepsOthers, MayHave};
 
@@ -44,6 +44,16 @@ impl Sharing {
         match self.origins.get(process as usize) {
             Some(origins) => origins.receivers(addr),
             None => EVERYONE,
+        }
+    }
+
+    /// Whether something may have been shared from any entry of a process.
+    pub(crate) fn has_shared(&self, process: u32) -> bool
+        ensures { result ≡ false → (a : ℕ) → receivers_at self.now process a ≡ 0 }
+    {
+        match self.origins.get(process as usize) {
+            Some(origins) => origins.are_any(),
+            None => true,
         }
     }
 

@@ -1,8 +1,8 @@
 //! How many entries name each page, as one value.
 ghost use Rattle.std.specs.Prelude.{◌≡◌, ℕ, ◌+◌, ◌<◌, ◌≤◌, ◌^◌, length, slice_index, IfSome};
-ghost use Rattle.ds_grants.specs.Counts.{holders_in, holders_at, AreOneMore, AreOneFewer};
+ghost use Rattle.ds_grants.specs.Counts.{holders_in, AreOneMore, AreOneFewer};
 
-use crate::holders::{hold, release, release_all, release_at};
+use crate::holders::{hold, release, release_all};
 use ds_policy::Entry;
 use std::marker::Model;
 
@@ -59,16 +59,6 @@ impl Tally {
         ensures { AreOneFewer page self.old self.new }
     {
         release(&mut self.counts, page);
-    }
-
-    /// Subtracts the entries of a process at an address from the counts.
-    pub(crate) fn release_at(&mut self, entries: &[Entry], addr: u32)
-        requires { (page : ℕ) → holders_in page entries.now ≤ slice_index self.old page }
-        ensures fewer { (page : ℕ) → slice_index self.new page + holders_at page addr entries.now
-            ≡ slice_index self.old page }
-        ensures size { length self.new ≡ length self.old }
-    {
-        release_at(&mut self.counts, entries, addr);
     }
 
     /// Subtracts the entries of a process from the counts.

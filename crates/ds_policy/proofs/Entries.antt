@@ -2,7 +2,7 @@
 use Rattle.std.proofs.Common.{◌≡◌, ap, sym, refl, ℕ, suc, ◌+◌, ◌<◌, ◌≤◌, Bool, ◌==◌, cond, nat_lt, List, [], ◌∷◌, ◌++◌, length, get_or, set, position, Option, Some, None, inl, inr, arith, append-nil, length-set}
 use Rattle.std.proofs.lemmas.List.{drop_all, take_all}
 use Rattle.std.specs.List.{refill, position_or_len}
-use Rattle.std.specs.Prelude.{MatchOption}
+use Rattle.std.specs.Prelude.{IsNone, MatchOption}
 use Rattle.std.proofs.lemmas.Bool.{cases_Bool}
 use Rattle.std.proofs.lemmas.Bool.Decides.{nat_tests}
 use Rattle.ds_policy.specs.declared.grant.Entry.{Entry}
@@ -58,6 +58,14 @@ placed es a i g d h =
 
 pub unplaced : (es : List Entry) (a : ℕ) (g : Grant) → position (is_at a) es ≡ None → (found es a ≡ None) × (put es a g ≡ es ++ entry a g ∷ [])
 unplaced es a g h = at_none es a g (place_none (position_or_len (is_at a) es) (length es) h)
+
+-- an entry is put at the end where none is found
+pub put_new : (es : List Entry) (a : ℕ) (g : Grant) → IsNone (found es a) → put es a g ≡ es ++ entry a g ∷ []
+put_new [] a g none = refl
+put_new (e ∷ es) a g none = elim (cases_Bool (e.address == a)) [
+  | inl here ↦ absurd (let some : IsNone (Some e.grant) = rw here at none in cc)
+  | inr other ↦ rw other (ap (λ xs. e ∷ xs) (put_new es a g (rw other at none)))
+]
 
 -- where the entry at an address stands
 pub found_place : (es : List Entry) (a : ℕ) (d : Entry) (o : Option ℕ) → length es ≤ 256 → o ≡ position (is_at a) es → MatchOption o (found es a ≡ None) (λ i. (found es a ≡ Some (get_or es i d).grant) × (i < length es) × (i < 256))

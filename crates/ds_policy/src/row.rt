@@ -1,5 +1,5 @@
 //! The entries of one process.
-ghost use Rattle.std.specs.Prelude.{◌≡◌, ◌==◌, ◌<◌, ◌≤◌, position, [], IsNone, length, filter, not, MatchOption, None, Some, slice_index_or};
+ghost use Rattle.std.specs.Prelude.{◌≡◌, ◌==◌, ◌<◌, ◌≤◌, position, [], IsNone, length, filter, not, remove, MatchOption, None, Some, slice_index_or};
 ghost use Rattle.ds_policy.specs.Pages.{found, put};
 ghost use Rattle.ds_policy.specs.Grants.{no_grant};
 ghost use Rattle.ds_policy.specs.Marks.{no_entry_there};
@@ -99,6 +99,23 @@ impl Row {
             }
             None => self.entries.push(Entry { address, grant }),
         }
+    }
+
+    /// Puts an entry at the end, where none is at its address.
+    pub(crate) fn append(&mut self, address: u32, grant: Grant)
+        requires new { IsNone (found self.old address) }
+        requires room { length self.old < 256 }
+        ensures { self.new ≡ put self.old address grant }
+    {
+        self.entries.push(Entry { address, grant });
+    }
+
+    /// Removes the entry at a place, the first at 0.
+    pub(crate) fn remove_at(&mut self, place: usize)
+        requires { place < length self.old }
+        ensures { self.new ≡ remove self.old place }
+    {
+        self.entries.remove(place);
     }
 
     /// Removes the entry at an address.

@@ -15,6 +15,9 @@ release_all-requires g c =
     let high : c.args.process ≤ length c.self.inside.table = subst (λ (s : GrantsState). c.args.process ≤ length s.table) (sym c.self.view_is) c.requires.high in
     rw c.entries-entries.ensures.all (row_counted c.self.inside.table c.args.process c.self.inside.holders c.requires.low high c.self.invariant.0)
 
+pub clear-requires-clause-rows : goal.clear-requires-clause-rows
+clear-requires-clause-rows g c = c.self.invariant.1.rows
+
 pub invariant_of-self : goal.invariant_of-self
 invariant_of-self g c =
     let high : c.args.process ≤ length c.self.inside.table = subst (λ (s : GrantsState). c.args.process ≤ length s.table) (sym c.self.view_is) c.requires.high in

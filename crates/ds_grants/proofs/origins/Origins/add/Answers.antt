@@ -1,8 +1,8 @@
-use Rattle.std.proofs.Common.{◌≡◌, ◌∙◌, ℕ, List, get_or, set, sym, ap, subst, refl}
+use Rattle.std.proofs.Common.{◌∙◌, get_or, sym, subst, refl}
 use Rattle.std.specs.Int.RustNames.{bit_or}
 use Rattle.std.proofs.lemmas.List.Quantifiers.{position-Some}
 use Rattle.ds_grants.specs.declared.origins.Origin.{Origin}
-use Rattle.ds_grants.specs.Origins.{OriginsState, Has, receivers_of, receivers_in}
+use Rattle.ds_grants.specs.Origins.{OriginsState, Has, receivers_of}
 use Rattle.ds_policy.proofs.Entries.{refill_set}
 use Rattle.ds_grants.proofs.Known.{is_at, in_either, in_other, set_at, kept_set}
 use Rattle.ds_grants.proofs.origins.Origins.add.Goals as goal

@@ -1,6 +1,5 @@
-use Rattle.std.proofs.Common.{◌≡◌, ◌∙◌, true, false, None, position, sym, ap, subst}
-use Rattle.ds_grants.specs.declared.origins.Origin.{Origin}
-use Rattle.ds_grants.specs.Origins.{OriginsState, Has, everyone, receivers_of, receivers_in}
+use Rattle.std.proofs.Common.{◌≡◌, true, None, position, sym, subst}
+use Rattle.ds_grants.specs.Origins.{OriginsState, Has, receivers_of}
 use Rattle.ds_grants.proofs.Known.{is_at, in_everyone, unknown_at, appended_at, kept_appended, kept_overflowed}
 use Rattle.ds_grants.proofs.origins.Origins.append.Goals as goal
 
