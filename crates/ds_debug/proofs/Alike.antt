@@ -4,7 +4,7 @@ use Rattle.std.specs.Prelude.{◌&&◌, codes, slice_index_or}
 use Rattle.std.proofs.lemmas.Bool.Decides.{nat_tests}
 use Rattle.ds_packets.specs.Framing.{frame, hex_text}
 use Rattle.ds_packets.specs.declared.packet.Packet.{Packet}
-use Rattle.ds_packets.specs.declared.packet.Packet.TheVariants.{Supported, NoAcknowledgements, Description, Why, FirstThreads, MoreThreads, ThreadInfo, Monitor, Attached, Current, Alive, Look, Go, Registers, Register, Memory, Write, Break, Unbreak, Actions, Resume, Forward, Backward, Leave, End}
+use Rattle.ds_packets.specs.declared.packet.Packet.TheVariants.{Supported, NoAcknowledgements, Description, Why, FirstThreads, MoreThreads, ThreadInfo, Monitor, StopAt, Attached, Current, Alive, Look, Go, Registers, Register, Memory, Write, Break, Unbreak, Actions, Resume, Forward, Backward, Leave, End}
 use Rattle.ds_packets.specs.declared.packet.Report.{Report}
 use Rattle.ds_packets.specs.declared.packet.Report.TheVariants as report
 use Rattle.ds_packets.specs.declared.packet.Who.{Who}
@@ -28,6 +28,7 @@ use Rattle.ds_debug.specs.Reports.{is_runner, listed_process, process_line, thre
 use Rattle.ds_debug.specs.Sessions.{SessionState, standing_by, told_first}
 use Rattle.ds_debug.specs.Sights.{Sight, sight_held, sight_in}
 use Rattle.ds_debug.specs.Stops.{stop_text}
+use Rattle.ds_debug.specs.Tables.{entries_text}
 use Rattle.ds_debug.specs.Threads.{threads_text}
 use Rattle.ds_debug.specs.declared.registers.Registers as declared
 use Rattle.ds_debug.specs.declared.stops.Reason.TheVariants.{Rest}
@@ -113,6 +114,7 @@ module _ (v w : Sight) (a : IsAlike v w) where
   answer_alike p NoAcknowledgements = refl
   answer_alike p Why = refl
   answer_alike p (Monitor asked) = refl
+  answer_alike p (StopAt t) = refl
   answer_alike p (Look processes) = refl
   answer_alike p (Go processes) = refl
   answer_alike p (Break address) = refl
@@ -135,6 +137,7 @@ module _ (v w : Sight) (a : IsAlike v w) where
       ap (λ (t : ℕ). time_text n (record v { time = t })) a.time ∙ ap (λ (u : Option Unended). time_text n (record v { time = w.time; unended = u })) a.unended
   report_alike n report.Processes = ap (each (listed_process v) 0) a.count ∙ each_alike (listed_process v) (listed_process w) listed_alike 0 w.count
   report_alike n report.Log = a.log
+  report_alike n report.Table = ap (λ (m : PageState). each (entries_text m.table) 0 v.count) a.memory ∙ ap (each (entries_text w.memory.table) 0) a.count
   report_alike n (report.Console l) = ap (λ (cs : List (List ℕ)). cond (nat_lt l 4) (slice_index_or cs l []) []) a.consoles
 
   told_alike : (p : ℕ) → told_first v p ≡ told_first w p
@@ -150,6 +153,7 @@ module _ (v w : Sight) (a : IsAlike v w) where
   pub plain_alike : (s : SessionState) (packet : Packet) → plain_text v s packet ≡ plain_text w s packet
   plain_alike s Why = ap (λ (p : ℕ). frame (stop_text p Rest)) (told_alike s.process)
   plain_alike s (Monitor asked) = ap (λ (text : List ℕ). outputs_text text ++ frame (codes "OK")) (report_alike s.limit asked)
+  plain_alike s (StopAt t) = refl
   plain_alike s NoAcknowledgements = refl
   plain_alike s (Look processes) = there_text_alike processes
   plain_alike s (Go processes) = there_text_alike processes

@@ -11,7 +11,11 @@ use Rattle.ds_refinement.proofs.RunSteps.{within_start}
 use Rattle.ds_station.proofs.InPieces.{no_steps}
 use Rattle.ds_debug.specs.Goals.{Goal, stop_after}
 use Rattle.ds_debug.specs.Forward.{HasPassed, IsTurn, stop_between}
+use Rattle.ds_debug.specs.Answering.{is_back}
 use Rattle.ds_debug.specs.declared.goals.Stop.{Stop}
+use Rattle.ds_debug.specs.declared.session.Course.{Course}
+use Rattle.ds_debug.specs.declared.session.Course.TheVariants as course
+use Rattle.ds_packets.specs.declared.packet.Action.{Action}
 
 -- at first no turn has passed
 pub none_passed : (g : Goal) (n : ℕ) (h : Held) → HasPassed g n h h
@@ -61,3 +65,7 @@ still_within n old new is = subst (λ (h : Held). RunsWithin n old h) (sym is) (
 -- takes no step
 pub still_real : (old new : Held) → new ≡ old → RealPath old new
 still_real old new is = subst (λ (h : Held). RealPath old h) (sym is) (no_steps old)
+
+-- where the way is back
+pub back_is_back : (by : Course) (action : Action) → by ≡ course.Backward action → is_back by ≡ false → ⊥
+back_is_back by action is onward = let no : true ≡ false = sym (ap is_back is) ∙ onward in cc

@@ -2,7 +2,9 @@ pub mod Pieces
 pub mod Bytes
 pub mod Shown
 pub mod Going
+pub mod Returning
 pub mod Acting
 pub mod Settings
 pub mod Alike
 pub mod Looking
+pub mod Hearing

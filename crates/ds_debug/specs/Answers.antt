@@ -12,11 +12,12 @@ use Rattle.ds_debug.specs.Memory.{memory_text}
 use Rattle.ds_debug.specs.Registers.{register_text, registers_text}
 use Rattle.ds_debug.specs.Reports.{is_runner, processes_text, thread_words, time_text}
 use Rattle.ds_debug.specs.Sights.{Sight}
+use Rattle.ds_debug.specs.Tables.{table_text}
 use Rattle.ds_debug.specs.Threads.{thread_text, threads_text}
 
 -- what can be asked
 unfoldable pub basic_features : List ℕ
-basic_features = codes "PacketSize=1000;vContSupported+;QStartNoAckMode+;swbreak+;qXfer:features:read+"
+basic_features = codes "PacketSize=1000;ReverseStep+;ReverseContinue+;vContSupported+;QStartNoAckMode+;swbreak+;qXfer:features:read+"
 
 -- several processes only where gdb has them
 abbrev pub features_text : Bool → List ℕ
@@ -82,3 +83,4 @@ report_text n s report.Time = time_text n s
 report_text n s report.Processes = processes_text s
 report_text n s report.Log = s.log
 report_text n s (report.Console l) = console_text s l
+report_text n s report.Table = table_text s

@@ -8,10 +8,17 @@ pub mod Registers
 pub mod Memory
 pub mod Sights
 pub mod Reports
+pub mod Tables
 pub mod Answers
 pub mod Denials
 pub mod Goals
 pub mod Forward
+pub mod Inputs
+pub mod Places
+pub mod Times
 pub mod Sessions
 pub mod Resumes
+pub mod Backward
 pub mod Answering
+pub mod Streams
+pub mod Rows

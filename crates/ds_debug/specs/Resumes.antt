@@ -1,5 +1,5 @@
 -- Packets after which a run goes on.
-use Rattle.std.specs.Prelude.{◌≡◌, ℕ, zero, suc, ◌+◌, if◌then◌else◌, List, [], ◌∷◌, ◌++◌, length, drop, Option, Some, None}
+use Rattle.std.specs.Prelude.{◌≡◌, ℕ, Bool, true, false, zero, suc, ◌+◌, if◌then◌else◌, List, [], ◌∷◌, ◌++◌, length, drop, Option, Some, None}
 use Rattle.ds_packets.specs.Framing.{frame}
 use Rattle.ds_packets.specs.Packets.{action_for, names}
 use Rattle.ds_packets.specs.declared.packet.Action.{Action}
@@ -7,15 +7,17 @@ use Rattle.ds_packets.specs.declared.packet.Who.{Who}
 use Rattle.ds_refinement.specs.Held.{Held}
 use Rattle.ds_debug.specs.Answers.{console_text}
 use Rattle.ds_debug.specs.Forward.{Goes}
+use Rattle.ds_debug.specs.Reports.{is_going}
 use Rattle.ds_debug.specs.Sights.{sight_held}
 use Rattle.ds_debug.specs.Goals.{Goal}
 use Rattle.ds_debug.specs.Outputs.{outputs_text}
 use Rattle.ds_debug.specs.Sessions.{SessionState}
 use Rattle.ds_debug.specs.Stops.{stop_text}
+use Rattle.ds_debug.specs.Times.{asked_after, bound_by}
 use Rattle.ds_debug.specs.declared.goals.Stop.{Stop}
 use Rattle.ds_debug.specs.declared.grown.Lengths.{Lengths}
 use Rattle.ds_debug.specs.declared.stops.Reason.{Reason}
-use Rattle.ds_debug.specs.declared.stops.Reason.TheVariants.{End}
+use Rattle.ds_debug.specs.declared.stops.Reason.TheVariants.{Rest, End}
 
 -- how much the consoles and the log have
 abbrev pub lengths_of : Held → Lengths
@@ -60,14 +62,23 @@ abbrev pub came_process : Option Stop → ℕ → ℕ
 came_process None p = p
 came_process (Some stop) p = stop.process
 
--- and why it stands
-abbrev pub came_reason : Option Stop → Reason
-came_reason None = End
-came_reason (Some stop) = stop.reason
+-- and why it stands: at the end of the run, or, where that goes on, at a time that was asked for
+abbrev pub came_reason : Bool → Option Stop → Reason
+came_reason true None = Rest
+came_reason false None = End
+came_reason going (Some stop) = stop.reason
 
--- the run goes on to a stop or to its end, and what came to the consoles and the log is shown before that is told
+-- up to when it goes
+abbrev pub bound_of : SessionState → ℕ
+bound_of s = bound_by s.stop_at s.held.kept.state.time s.limit
+
+-- what is still asked for, where it has come to this
+abbrev pub asked_of : SessionState → Held → Option ℕ
+asked_of s h = asked_after s.stop_at s.held.kept.state.time h.kept.state.time
+
+-- the run goes on to a stop, to a time that is asked for or to its end, and what came to the consoles and the log is shown before that is told
 pub record Resumes (action : Option Action) (words : List ℕ) (old new : SessionState) (before after : List ℕ) : Type 0 where
   pub stop : Option Stop
-  pub goes : Goes (goal_of action words old) old.limit stop old.held new.held
-  pub rest : new ≡ record old { held = new.held; process = came_process stop old.process }
-  pub told : after ≡ before ++ (grown_by (lengths_of old.held) new.held ++ frame (stop_text (came_process stop old.process) (came_reason stop)))
+  pub goes : Goes (goal_of action words old) (bound_of old) stop old.held new.held
+  pub rest : new ≡ record old { held = new.held; process = came_process stop old.process; stop_at = asked_of old new.held }
+  pub told : after ≡ before ++ (grown_by (lengths_of old.held) new.held ++ frame (stop_text (came_process stop old.process) (came_reason (is_going old.limit (sight_held new.held)) stop)))

@@ -1,51 +1,57 @@
 -- A session: what a debugger has asked for so far, and what each packet changes.
 use Rattle.std.specs.Prelude.{◌≡◌, ◌<◌, ◌≤◌, codes, ℕ, ◌==◌, ◌&&◌, ◌||◌, Bool, false, nat_lt, if◌then◌else◌, List, [], ◌∷◌, ◌++◌, length, position, remove, Option, Some, None}
 use Rattle.ds_packets.specs.declared.packet.Packet.{Packet}
-use Rattle.ds_packets.specs.declared.packet.Packet.TheVariants.{Look, Go, Break, Unbreak}
+use Rattle.ds_packets.specs.declared.packet.Packet.TheVariants.{StopAt, Look, Go, Break, Unbreak}
 use Rattle.ds_packets.specs.declared.packet.Who.{Who}
 use Rattle.ds_packets.specs.declared.packet.Who.TheVariants as who
 use Rattle.ds_refinement.specs.Held.{Held}
 use Rattle.ds_station.specs.declared.outcome.Unended.{Unended}
 use Rattle.ds_debug.specs.Answers.{are_there, there_text}
 use Rattle.ds_debug.specs.Goals.{is_break}
+use Rattle.ds_debug.specs.Inputs.{IsReached, RunInputs}
 use Rattle.ds_debug.specs.Sights.{Sight, sight_held}
 use Rattle.ds_debug.specs.declared.goals.Breakpoint.{Breakpoint}
 
--- a station with its run: up to which time it goes, whose registers and memory are looked at, who goes where nobody is named, the breakpoints, and whether it was cut short
+-- what the run begins with, a station with that run: up to which time it goes, whose registers and memory are looked at, who goes where nobody is named, the breakpoints, a time at which the run is to stop once, and whether it was cut short
 pub record SessionState : Type 0 where
+  pub inputs : RunInputs
   pub held : Held
   pub limit : ℕ
   pub process : ℕ
   pub going : Who
   pub breakpoints : List Breakpoint
+  pub stop_at : Option ℕ
   pub cut : Bool
 
 -- what is seen
 abbrev pub sight_of : SessionState → Sight
 sight_of s = sight_held s.held
 
--- it stands between two turns
-pub record IsSession (s : SessionState) : Type 0 where
-  pub limit : s.limit ≤ 1000000000
-  pub process : s.process < 256
-  pub whole : s.held.kept.state.owed ≡ None
-  pub spent : s.cut ≡ false → s.held.own.spent ≡ 0
-  pub working : s.cut ≡ false → s.held.own.failed ≡ false
-
--- the run has not gone on, and its bound is the same
-pub record IsStill (old new : SessionState) : Type 0 where
-  pub held : new.held ≡ old.held
-  pub limit : new.limit ≡ old.limit
-
--- at its beginning
-abbrev pub begun : Held → ℕ → SessionState
-begun h limit = record { held = h; limit = limit; process = 1; going = who.All; breakpoints = []; cut = false }
-
 -- the process that is named, or else this one
 abbrev pub named_or : Who → ℕ → ℕ
 named_or who.Any p = p
 named_or who.All p = p
 named_or (who.Process q) p = q
+
+-- it stands between two turns of a run of its inputs, as long as that was not cut short
+pub record IsSession (s : SessionState) : Type 0 where
+  pub limit : s.limit ≤ 1000000000
+  pub process : s.process < 256
+  pub going : named_or s.going 0 < 256
+  pub whole : s.held.kept.state.owed ≡ None
+  pub spent : s.cut ≡ false → s.held.own.spent ≡ 0
+  pub working : s.cut ≡ false → s.held.own.failed ≡ false
+  pub reached : s.cut ≡ false → IsReached s.inputs s.limit s.held
+
+-- the run has not gone on, and its inputs and its bound are the same
+pub record IsStill (old new : SessionState) : Type 0 where
+  pub inputs : new.inputs ≡ old.inputs
+  pub held : new.held ≡ old.held
+  pub limit : new.limit ≡ old.limit
+
+-- at its beginning
+abbrev pub begun : RunInputs → ℕ → Held → SessionState
+begun i limit h = record { inputs = i; held = h; limit = limit; process = 1; going = who.All; breakpoints = []; stop_at = None; cut = false }
 
 -- there is room for one more breakpoint, or it is there
 abbrev pub may_break : List Breakpoint → ℕ → ℕ → Bool
@@ -70,6 +76,7 @@ after_setting s (Look w) = if are_there (sight_of s) w then record s { process =
 after_setting s (Go w) = if are_there (sight_of s) w then record s { going = w } else s
 after_setting s (Break a) = record s { breakpoints = with_break s.breakpoints s.process a }
 after_setting s (Unbreak a) = record s { breakpoints = without_break s.breakpoints s.process a }
+after_setting s (StopAt t) = record s { stop_at = Some t }
 after_setting s other = s
 
 -- and what is answered, where this is seen

@@ -2,22 +2,32 @@
 #![tactic(auto)]
 
 mod actions;
+mod backward;
 mod denials;
 mod description;
 mod digits;
 mod forward;
 mod goals;
 mod grown;
+mod inputs;
+mod laws;
 mod look;
 mod memory;
 mod outputs;
+mod places;
 mod registers;
 mod reports;
 mod session;
 mod stops;
+mod stream;
+mod tables;
 mod threads;
+mod times;
 
 pub use goals::{Breakpoint, Stop};
+pub use inputs::Inputs;
+pub use laws::what_a_stream_is_answered;
 pub use registers::Registers;
 pub use session::Session;
 pub use stops::Reason;
+pub use stream::Stream;

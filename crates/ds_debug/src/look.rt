@@ -12,6 +12,7 @@ use crate::memory::push_memory;
 use crate::outputs::push_outputs;
 use crate::registers::{Registers, push_register, push_registers};
 use crate::reports::{push_processes, push_thread_words, push_time};
+use crate::tables::push_table;
 use crate::threads::{push_thread, push_threads};
 use ds_packets::{Packet, Report, Who, push_hex};
 use ds_station::Station;
@@ -43,7 +44,7 @@ fn push_basic(text: &mut Vec<u8>) -> Result<(), AllocError>
     ensures { OnOk result (text.new.items ≡ text.old.items ++ basic_features) }
 {
     text.extend_from_slice(
-        b"PacketSize=1000;vContSupported+;QStartNoAckMode+;swbreak+;qXfer:features:read+",
+        b"PacketSize=1000;ReverseStep+;ReverseContinue+;vContSupported+;QStartNoAckMode+;swbreak+;qXfer:features:read+",
     )
 }
 
@@ -229,6 +230,7 @@ pub(crate) fn push_report<L: Lookaside>(
         Report::Processes => push_processes(&mut text, station)?,
         Report::Log => text.extend_from_slice(station.log())?,
         Report::Console(line) => text.extend_from_slice(console_text(station, line))?,
+        Report::Table => push_table(&mut text, station)?,
     }
     push_outputs(alloc, out, text.as_slice())
 }

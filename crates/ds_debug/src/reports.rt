@@ -125,7 +125,7 @@ pub(crate) fn push_thread_words<L: Lookaside>(
 }
 
 /// Whether time is left of a run for `n`, and a process has not ended.
-fn is_going<L: Lookaside>(station: &Station<L>, n: u64) -> bool
+pub(crate) fn is_going<L: Lookaside>(station: &Station<L>, n: u64) -> bool
     ensures { result ≡ is_going n (sight_held station.now.held) }
 {
     station.time() < n && station.first_unended().is_some()

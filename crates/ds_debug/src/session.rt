@@ -1,39 +1,51 @@
 //! A debugger's session over a station.
-ghost use Rattle.std.specs.Prelude.{◌≡◌, ◌<◌, ◌≤◌, ◌==◌, ◌&&◌, ◌++◌, IfErr, IfOk, IfSome, None, Ok, OnErr, OnOk, codes, false, length, not, position, true};
+ghost use Rattle.std.specs.Prelude.{◌≡◌, ◌<◌, ◌≤◌, ◌==◌, ◌&&◌, ◌++◌, [], IfErr, IfOk, IfSome, None, Ok, OnErr, OnOk, Some, codes, false, length, not, position, true};
 ghost use Rattle.ds_packets.specs.Framing.{frame};
 ghost use Rattle.ds_refinement.specs.Real.{RealPath};
 ghost use Rattle.ds_refinement.specs.Runs.{RunsWithin};
+ghost use Rattle.ds_station.specs.Headline.{Refuses};
 ghost use Rattle.ds_station.specs.Runs.{IsCut};
 ghost use Rattle.ds_pagemap.specs.Machine.{State};
 ghost use Rattle.ds_refinement.specs.Stands.{Stands};
-ghost use Rattle.ds_debug.specs.Answering.{Answers, AnswersPacket, TellsOf, after_plain, plain_text, refusal_text, resumes_by};
+ghost use Rattle.ds_debug.specs.Answering.{Answers, AnswersPacket, TellsOf, after_plain, course_by, goes_back, is_back, plain_text, refusal_text};
 ghost use Rattle.ds_debug.specs.Answers.{answer_text, report_text};
+ghost use Rattle.ds_debug.specs.Backward.{ComesBack, FindsIn, Returns, ReturnsBy, back_of, until_of};
 ghost use Rattle.ds_debug.specs.Forward.{Goes};
+ghost use Rattle.ds_debug.specs.Inputs.{IsBeginning, IsReached, first_of, inputs_seen};
 ghost use Rattle.ds_debug.specs.Outputs.{outputs_text};
-ghost use Rattle.ds_debug.specs.Resumes.{Resumes, came_process, came_reason};
+ghost use Rattle.ds_debug.specs.Reports.{is_going};
+ghost use Rattle.ds_debug.specs.Resumes.{Resumes, bound_of, came_process, came_reason, goal_of};
 ghost use Rattle.ds_debug.specs.Sessions.{IsStill, after_setting, begun, named_or, setting_text, sight_of, told_first};
 ghost use Rattle.ds_debug.specs.Stops.{stop_text};
+ghost use Rattle.ds_debug.specs.Times.{asked_after};
 
 use crate::actions::actions_by;
+use crate::backward::{back_process, back_reason, back_time, earlier, find_last};
 use crate::forward::go;
 use crate::goals::{Breakpoint, Stop, is_break};
 use crate::grown::{lengths_of, push_grown};
+use crate::inputs::{Inputs, station_at, station_at_start};
 use crate::look::{are_there, push_answer, push_report};
+use crate::places::{Place, Sought, sought_by};
+use crate::reports::is_going;
 use crate::stops::{Reason, push_stop};
+use crate::times::{asked_after, asked_place, bound_by};
 use arrayvec::ArrayVec;
 use ds_packets::{Action, Packet, Refusal, Report, Who, push_frame};
 use ds_station::{Fault, Station};
-use ds_tlb::Lookaside;
+use ds_tlb::Indexed;
 use std::alloc::{AllocError, Global};
 use std::marker::Model;
 
 /// The most breakpoints.
 const MOST_BREAKPOINTS: usize = 64;
 
-/// A session of a debugger over a station, which stands between two turns of its run.
+/// A session of a debugger over a station, which stands between two turns of a run.
 #[derive(Drop)]
-pub struct Session<L: Lookaside> {
-    station: Station<L>,
+pub struct Session<'a> {
+    /// What the run begins with.
+    inputs: Inputs<'a>,
+    station: Station<Indexed<64, 8>>,
     /// The run goes up to this time, in ticks.
     limit: u64,
     /// The process whose registers and memory are looked at.
@@ -41,30 +53,37 @@ pub struct Session<L: Lookaside> {
     /// Who goes where nobody is named.
     going: Who,
     breakpoints: ArrayVec<Breakpoint, MOST_BREAKPOINTS>,
+    /// A time at which the run is to stop once, in ticks.
+    stop_at: Option<u64>,
     /// Whether the run was cut short.
     cut: bool,
 }
 
-impl<L: Lookaside> Model for Session<L> {
+impl<'a> Model for Session<'a> {
+    ghost use Rattle.ds_debug.specs.Inputs.{inputs_seen};
     ghost use Rattle.ds_debug.specs.Sessions.{IsSession, SessionState};
 
     ghost Value = { SessionState };
 
     ghost view = { λ s. record {
+      inputs = inputs_seen s.inputs;
       held = s.station.held;
       limit = s.limit;
       process = s.process;
       going = s.going;
       breakpoints = s.breakpoints.items;
+      stop_at = s.stop_at;
       cut = s.cut;
     } };
 
     ghost invariant = { λ s. IsSession (record {
+      inputs = inputs_seen s.inputs;
       held = s.station.held;
       limit = s.limit;
       process = s.process;
       going = s.going;
       breakpoints = s.breakpoints.items;
+      stop_at = s.stop_at;
       cut = s.cut;
     }) };
 }
@@ -100,34 +119,62 @@ fn push_refusal(out: &mut Vec<u8>, refusal: Refusal) -> Result<(), AllocError>
     }
 }
 
-/// Whether a packet lets the run go on: by the words of its data, or by one action.
-fn resumes_by(packet: Packet) -> Option<Option<Action>>
-    ensures { result ≡ resumes_by packet }
+/// Where a packet lets a session go.
+#[derive(Clone, Copy, Debug, PartialEq, Eq)]
+pub(crate) enum Course {
+    /// Nowhere.
+    Nowhere,
+    /// Forward, by one action, or by the words of the packet's data.
+    Forward(Option<Action>),
+    /// Backward, by an action.
+    Backward(Action),
+}
+
+/// Where a packet lets a session go.
+fn course_by(packet: Packet) -> Course
+    ensures { result ≡ course_by packet }
 {
     match packet {
-        Packet::Resume => Some(None),
-        Packet::Forward(action) => Some(Some(action)),
-        _ => None,
+        Packet::Resume => Course::Forward(None),
+        Packet::Forward(action) => Course::Forward(Some(action)),
+        Packet::Backward(action) => Course::Backward(action),
+        _ => Course::Nowhere,
     }
 }
 
-impl<L: Lookaside> Session<L> {
-    /// A session at the beginning of a run up to a time. It looks at process 1, and all processes go.
-    pub fn new(station: Station<L>, limit: u64) -> Session<L>
-        requires limit { limit ≤ 1000000000 }
-        requires whole { station.held.kept.state.owed ≡ None }
-        requires spent { station.held.own.spent ≡ 0 }
-        requires working { station.held.own.failed ≡ false }
-        ensures { result ≡ begun station.held limit }
+impl<'a> Session<'a> {
+    /// A session at the beginning of a run of these inputs for `limit` ticks. It looks at process 1, and
+    /// all processes go. What is refused is refused as by `prepare` of `ds_station`.
+    pub fn new(alloc: Global, inputs: Inputs<'a>, limit: u64) -> Result<Session<'a>, Fault>
+        ensures begun { IfOk result (λ s. s ≡ begun (inputs_seen inputs.entry) limit s.held) }
+        ensures begins { IfOk result
+            (λ s. IsBeginning (inputs_seen inputs.entry) limit s.held) }
+        ensures err { IfErr result (λ f. Refuses f (first_of (inputs_seen inputs.entry) limit)) }
     {
-        Session {
+        let station = match station_at_start(alloc, inputs, limit) {
+            Ok(station) => station,
+            Err(refused) => return Err(refused),
+        };
+        Ok(Session {
+            inputs,
             station,
             limit,
             process: 1,
             going: Who::All,
             breakpoints: ArrayVec::new(),
+            stop_at: None,
             cut: false,
-        }
+        })
+    }
+
+    /// Whether the session can go on: its run was not cut short. Then it stands where a run of its inputs
+    /// comes to, whatever it was asked before.
+    pub fn can_go_on(&self) -> bool
+        ensures value { result ≡ not self.now.cut }
+        ensures reached { result ≡ true
+            → IsReached self.now.inputs self.now.limit self.now.held }
+    {
+        !self.cut
     }
 
     /// Whose registers and memory are looked at from now on.
@@ -151,6 +198,7 @@ impl<L: Lookaside> Session<L> {
         ensures text { result.now ≡ setting_text (sight_of self.old) self.old (Packet.Go who) }
         ensures still { IsStill self.old self.new }
     {
+        let _few = self.station.processes();
         if are_there(&self.station, who) {
             self.going = who;
             b"OK"
@@ -203,6 +251,10 @@ impl<L: Lookaside> Session<L> {
             Packet::Break(address) => self.set_break(address),
             Packet::Unbreak(address) => {
                 self.drop_break(address);
+                b"OK"
+            }
+            Packet::StopAt(time) => {
+                self.stop_at = Some(time);
                 b"OK"
             }
             _ => b"OK",
@@ -273,7 +325,7 @@ impl<L: Lookaside> Session<L> {
         requires { self.old.cut ≡ false }
         ensures goes { IfOk result (λ stop. Goes
             (record { actions = actions.now; breakpoints = self.old.breakpoints })
-            self.old.limit stop self.old.held self.new.held) }
+            (bound_of self.old) stop self.old.held self.new.held) }
         ensures small { IfOk result (λ stop. IfSome stop (λ s. s.process ≤ 100)) }
         ensures rest { OnOk result (self.new ≡ record self.old { held = self.new.held }) }
         ensures err { OnErr result
@@ -282,9 +334,10 @@ impl<L: Lookaside> Session<L> {
         ensures real { OnOk result (RealPath self.old.held self.new.held) }
         ensures short { IfErr result (λ f. IsCut f self.old.held self.new.held) }
     {
+        let until = bound_by(self.stop_at, self.station.time(), self.limit);
         match go(
             &mut self.station,
-            self.limit,
+            until,
             actions,
             self.breakpoints.as_slice(),
         ) {
@@ -300,15 +353,27 @@ impl<L: Lookaside> Session<L> {
     fn come_to(&mut self, came: Option<Stop>) -> Reason
         requires { IfSome came (λ s. s.process ≤ 100) }
         ensures new { self.new ≡ record self.old { process = came_process came self.old.process } }
-        ensures reason { result ≡ came_reason came }
+        ensures reason { result
+            ≡ came_reason (is_going self.old.limit (sight_of self.old)) came }
     {
+        let going = is_going(&self.station, self.limit);
         match came {
             Some(stop) => {
                 self.process = stop.process;
                 stop.reason
             }
+            None if going => Reason::Rest,
             None => Reason::End,
         }
+    }
+
+    /// Asks no more for a time that was passed on the way from another time.
+    fn drop_time(&mut self, began: u64)
+        ensures { self.new ≡ record self.old {
+          stop_at = asked_after self.old.stop_at began self.old.held.kept.state.time;
+        } }
+    {
+        self.stop_at = asked_after(self.stop_at, began, self.station.time());
     }
 
     /// Tells that the process that is looked at stands, and why.
@@ -339,23 +404,136 @@ impl<L: Lookaside> Session<L> {
         ensures within { RunsWithin self.old.limit self.old.held self.new.held }
         ensures real { OnOk result (RealPath self.old.held self.new.held) }
         ensures limit { self.new.limit ≡ self.old.limit }
+        ensures inputs { self.new.inputs ≡ self.old.inputs }
     {
         if self.cut {
             return Err(Fault::Failed);
         }
         let before = lengths_of(&self.station);
+        let began = self.station.time();
         let actions = actions_by(alloc, action, self.going, words)?;
         let came = match self.go_on(actions.as_slice()) {
             Ok(came) => came,
             Err(fault) => return Err(fault),
         };
         let reason = self.come_to(came);
+        self.drop_time(began);
         push_grown(alloc, out, &self.station, before)?;
         self.push_stands(alloc, out, reason)?;
         Ok(())
     }
 
-    /// Answers a packet that does not let the run go on.
+    /// Looks through a run of the same inputs, up to now, for the last place of what is sought.
+    fn seek(&self, alloc: Global, sought: Sought) -> Result<Option<Place>, Fault>
+        ensures finds { IfOk result (λ place. FindsIn self.now.inputs self.now.limit sought
+            (goal_of (Some Action.Continue) [] self.now) (until_of self.now) place) }
+        ensures small { IfOk result (λ place. IfSome place (λ p. p.stop.process ≤ 100)) }
+        ensures early { IfOk result
+            (λ place. IfSome place (λ p. p.time < until_of self.now)) }
+    {
+        let until = earlier(self.station.time(), self.limit);
+        let actions = actions_by(alloc, Some(Action::Continue), self.going, &[])?;
+        let mut station = match station_at_start(alloc, self.inputs, self.limit) {
+            Ok(station) => station,
+            Err(refused) => return Err(refused),
+        };
+        match find_last(
+            &mut station,
+            until,
+            sought,
+            actions.as_slice(),
+            self.breakpoints.as_slice(),
+        ) {
+            Ok(place) => Ok(place),
+            Err(fault) => Err(fault),
+        }
+    }
+
+    /// Runs anew to a time; without one, the session stays where it is.
+    fn go_back_to(&mut self, alloc: Global, time: Option<u64>) -> Result<(), Fault>
+        requires going { self.old.cut ≡ false }
+        requires early { IfSome time (λ t. t ≤ self.old.limit) }
+        ensures comes { OnOk result (ComesBack self.old.inputs self.old.limit self.old.held time
+            self.new.held) }
+        ensures rest { OnOk result (self.new ≡ record self.old { held = self.new.held }) }
+        ensures err { OnErr result (self.new ≡ self.old) }
+    {
+        match time {
+            Some(time) => match station_at(alloc, self.inputs, self.limit, time) {
+                Ok(station) => {
+                    self.station = station;
+                    Ok(())
+                }
+                Err(fault) => Err(fault),
+            },
+            None => Ok(()),
+        }
+    }
+
+    /// Looks at a process from now on.
+    fn stand_at(&mut self, process: u32)
+        requires { process < 256 }
+        ensures { self.new ≡ record self.old { process = process } }
+    {
+        self.process = process;
+    }
+
+    /// The process that goes back: the one that is named to go, or else the one that is looked at.
+    fn back_of(&self) -> u32
+        ensures value { result ≡ back_of self.now }
+        ensures small { result < 256 }
+    {
+        named_or(self.going, self.process)
+    }
+
+    /// Goes back to the last place of what is sought, and tells of it; without a place, of the process.
+    fn return_by(
+        &mut self,
+        alloc: Global,
+        sought: Sought,
+        process: u32,
+        out: &mut Vec<u8>,
+    ) -> Result<(), Fault>
+        requires going { self.old.cut ≡ false }
+        requires small { process < 256 }
+        ensures returns { OnOk result (ReturnsBy sought process self.old self.new
+            out.old.items out.new.items) }
+        ensures limit { self.new.limit ≡ self.old.limit }
+        ensures inputs { self.new.inputs ≡ self.old.inputs }
+    {
+        let time = self.station.time();
+        let until = earlier(time, self.limit);
+        let found = match self.seek(alloc, sought) {
+            Ok(found) => found,
+            Err(fault) => return Err(fault),
+        };
+        let place = asked_place(sought, self.stop_at, until, process, found);
+        match self.go_back_to(alloc, back_time(sought, place)) {
+            Ok(()) => {}
+            Err(fault) => return Err(fault),
+        }
+        self.stand_at(back_process(process, place));
+        self.drop_time(time);
+        self.push_stands(alloc, out, back_reason(sought, time, place))?;
+        Ok(())
+    }
+
+    /// Goes back, for the processes that go: a step to the last turn of one, and else to the last place
+    /// at which something stops.
+    fn go_back(&mut self, alloc: Global, action: Action, out: &mut Vec<u8>) -> Result<(), Fault>
+        ensures returns { OnOk result (Returns action self.old self.new
+            out.old.items out.new.items) }
+        ensures limit { self.new.limit ≡ self.old.limit }
+        ensures inputs { self.new.inputs ≡ self.old.inputs }
+    {
+        if self.cut {
+            return Err(Fault::Failed);
+        }
+        let process = self.back_of();
+        self.return_by(alloc, sought_by(action, process), process, out)
+    }
+
+    /// Answers a packet that lets the session go nowhere.
     fn answer_plain(
         &mut self,
         alloc: Global,
@@ -371,16 +549,17 @@ impl<L: Lookaside> Session<L> {
             Packet::Why => self.answer_why(alloc, out),
             Packet::Monitor(report) => self.answer_monitor(alloc, report, out),
             Packet::NoAcknowledgements => push_frame(out, b"OK"),
-            Packet::Look(_) | Packet::Go(_) | Packet::Break(_) | Packet::Unbreak(_) => {
-                push_frame(out, self.set(packet))
-            }
+            Packet::Look(_)
+            | Packet::Go(_)
+            | Packet::Break(_)
+            | Packet::Unbreak(_)
+            | Packet::StopAt(_) => push_frame(out, self.set(packet)),
             Packet::End => Ok(()),
             _ => self.answer_look(alloc, packet, out),
         }
     }
 
     /// Answers a packet, whose data has these words, and whether the session goes on.
-    #[tactic(auto, using(crate::proofs::Going::still_within, crate::proofs::Going::still_real))]
     fn answer_packet(
         &mut self,
         alloc: Global,
@@ -390,31 +569,37 @@ impl<L: Lookaside> Session<L> {
     ) -> Result<(), Fault>
         ensures answers { OnOk result (AnswersPacket words.now packet self.old self.new
             out.old.items out.new.items) }
-        ensures within { RunsWithin self.old.limit self.old.held self.new.held }
-        ensures real { OnOk result (RealPath self.old.held self.new.held) }
+        ensures within { is_back (course_by packet) ≡ false
+            → RunsWithin self.old.limit self.old.held self.new.held }
+        ensures real { is_back (course_by packet) ≡ false
+            → OnOk result (RealPath self.old.held self.new.held) }
         ensures limit { self.new.limit ≡ self.old.limit }
+        ensures inputs { self.new.inputs ≡ self.old.inputs }
     {
-        match resumes_by(packet) {
-            Some(action) => self.resume(alloc, action, words, out),
-            None => {
+        match course_by(packet) {
+            Course::Forward(action) => self.resume(alloc, action, words, out),
+            Course::Backward(action) => self.go_back(alloc, action, out),
+            Course::Nowhere => {
                 self.answer_plain(alloc, packet, out)?;
                 Ok(())
             }
         }
     }
 
-    /// Answers the data of a packet. It goes on with the run where the packet asks for that, and what
-    /// is answered is always of a state to which a run of its inputs comes. Where memory runs out the
-    /// answer is not whole; a run that was cut short answers `Failed` from then on.
-    #[tactic(auto, using(crate::proofs::Going::still_within, crate::proofs::Going::still_real))]
+    /// Answers the data of a packet. It goes on with the run where the packet asks for that, or back by a
+    /// run anew, and what is answered is always of a state to which a run of its inputs comes. Where
+    /// memory runs out the answer is not whole; a run that was cut short answers `Failed` from then on.
     pub fn answer(&mut self, alloc: Global, words: &[u8], out: &mut Vec<u8>) -> Result<(), Fault>
         ensures answers { OnOk result (Answers words.now self.old self.new
             out.old.items out.new.items) }
         ensures looks { self.old.cut ≡ false → (m : State) → Stands self.old.held m
             → OnOk result (TellsOf words.now m self.old out.old.items out.new.items) }
-        ensures within { RunsWithin self.old.limit self.old.held self.new.held }
-        ensures real { OnOk result (RealPath self.old.held self.new.held) }
+        ensures within { goes_back words.now ≡ false
+            → RunsWithin self.old.limit self.old.held self.new.held }
+        ensures real { goes_back words.now ≡ false
+            → OnOk result (RealPath self.old.held self.new.held) }
         ensures limit { self.new.limit ≡ self.old.limit }
+        ensures inputs { self.new.inputs ≡ self.old.inputs }
     {
         let _cut = self.cut;
         match Packet::of(words) {

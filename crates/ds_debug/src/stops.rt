@@ -13,8 +13,11 @@ pub enum Reason {
     Rest,
     /// It stands at a breakpoint.
     Break,
-    /// It was denied something: this signal tells what.
+    /// It was denied something: this signal tells what. Or it had no turn yet to which it could go back:
+    /// SIGINT.
     Signal(u8),
+    /// It stands at the beginning of the run, before which there is nothing.
+    Begin,
     /// The run is over.
     End,
 }
@@ -25,7 +28,7 @@ fn signal_of(reason: Reason) -> u8
 {
     match reason {
         Reason::Signal(signal) => signal,
-        Reason::Rest | Reason::Break | Reason::End => 5,
+        Reason::Rest | Reason::Break | Reason::Begin | Reason::End => 5,
     }
 }
 
@@ -35,6 +38,7 @@ fn reason_text(reason: Reason) -> &'static [u8]
 {
     match reason {
         Reason::Break => b"swbreak:;",
+        Reason::Begin => b"replaylog:begin;",
         Reason::End => b"replaylog:end;",
         Reason::Rest | Reason::Signal(_) => &[],
     }

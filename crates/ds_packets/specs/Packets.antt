@@ -1,6 +1,7 @@
 -- What the data of a packet say.
-use Rattle.std.specs.Prelude.{ℕ, Bool, true, false, ◌==◌, ◌&&◌, ◌||◌, bytes_eq, codes, is_some, List, [], ◌∷◌, length, Option, Some, None, option_map, Result, Ok, Err, if◌then◌else◌}
+use Rattle.std.specs.Prelude.{ℕ, ◌+◌, ◌*◌, Bool, true, false, ◌==◌, ◌&&◌, ◌||◌, nat_le, nat_lt, bytes_eq, codes, is_some, List, [], ◌∷◌, length, take, drop, Option, Some, None, option_and_then, option_map, Result, Ok, Err, if◌then◌else◌}
 use Rattle.std.specs.List.{list_all, list_any}
+use Rattle.ds_word.specs.Digits.{digit_of}
 use Rattle.ds_word.specs.OptionBinding.{◌>>=◌}
 use Rattle.ds_packets.specs.declared.packet.Who.{Who}
 use Rattle.ds_packets.specs.declared.packet.Who.TheVariants as who
@@ -9,7 +10,7 @@ use Rattle.ds_packets.specs.declared.packet.Action.TheVariants.{Continue, Step, 
 use Rattle.ds_packets.specs.declared.packet.Report.{Report}
 use Rattle.ds_packets.specs.declared.packet.Report.TheVariants as report
 use Rattle.ds_packets.specs.declared.packet.Packet.{Packet}
-use Rattle.ds_packets.specs.declared.packet.Packet.TheVariants.{Supported, NoAcknowledgements, Description, Why, FirstThreads, MoreThreads, ThreadInfo, Monitor, Attached, Current, Alive, Look, Go, Registers, Register, Memory, Write, Break, Unbreak, Actions, Resume, Forward, Backward, Leave, End}
+use Rattle.ds_packets.specs.declared.packet.Packet.TheVariants.{Supported, NoAcknowledgements, Description, Why, FirstThreads, MoreThreads, ThreadInfo, Monitor, StopAt, Attached, Current, Alive, Look, Go, Registers, Register, Memory, Write, Break, Unbreak, Actions, Resume, Forward, Backward, Leave, End}
 use Rattle.ds_packets.specs.declared.packet.Refusal.{Refusal}
 use Rattle.ds_packets.specs.declared.packet.Refusal.TheVariants.{Unknown, Malformed}
 use Rattle.ds_packets.specs.Framing.{hex_text, pair_of}
@@ -141,12 +142,40 @@ report_of digits =
     else if bytes_eq digits (hex_text (codes "console 1")) then Some (report.Console 1)
     else if bytes_eq digits (hex_text (codes "console 2")) then Some (report.Console 2)
     else if bytes_eq digits (hex_text (codes "console 3")) then Some (report.Console 3)
+    else if bytes_eq digits (hex_text (codes "table")) then Some report.Table
     else None
 
--- a report that is known
-abbrev pub monitored : Option Report → Result Packet Refusal
-monitored None = Err Unknown
-monitored (Some r) = Ok (Monitor r)
+-- the decimal digit that two hexadecimal digits write
+abbrev pub digit_at : ℕ → ℕ → Option ℕ
+digit_at high low = option_and_then (digit_of 10) (pair_of high low)
+
+-- a number of ticks with one digit more
+abbrev pub more_ticks : ℕ → Option ℕ → Option ℕ
+more_ticks n None = None
+more_ticks n (Some d) = if nat_le (10 * n + d) 1000000000 then Some (10 * n + d) else None
+
+-- the number of ticks that goes on with these decimal digits, each of which two hexadecimal digits write
+unfoldable pub ticks_from : ℕ → List ℕ → Option ℕ
+ticks_from n [] = Some n
+ticks_from n (high ∷ []) = None
+ticks_from n (high ∷ low ∷ rest) = option_and_then (λ t. ticks_from t rest) (more_ticks n (digit_at high low))
+
+-- that of one digit at least
+abbrev pub ticks_of : List ℕ → Option ℕ
+ticks_of [] = None
+ticks_of (high ∷ rest) = ticks_from 0 (high ∷ rest)
+
+-- a time at which a run is to stop
+abbrev pub stop_asked : List ℕ → Result Packet Refusal
+stop_asked digits =
+    if nat_lt (length digits) 10 then Err Unknown
+    else if bytes_eq (take 10 digits) (hex_text (codes "stop ")) then told (option_map (λ t. StopAt t) (ticks_of (drop 10 digits)))
+    else Err Unknown
+
+-- a report that is known, or a time at which a run is to stop
+abbrev pub monitored : Option Report → List ℕ → Result Packet Refusal
+monitored None digits = stop_asked digits
+monitored (Some r) digits = Ok (Monitor r)
 
 -- a process of which is asked what it is in words
 abbrev pub thread_info : List ℕ → Option Packet
@@ -156,7 +185,7 @@ thread_info thread = option_map (λ w. ThreadInfo w) (who_of thread)
 abbrev pub after_comma : List ℕ → Result Packet Refusal
 after_comma text =
     if bytes_eq (before 44 text) (codes "qThreadExtraInfo") then told (thread_info (after 44 text))
-    else if bytes_eq (before 44 text) (codes "qRcmd") then monitored (report_of (after 44 text))
+    else if bytes_eq (before 44 text) (codes "qRcmd") then monitored (report_of (after 44 text)) (after 44 text)
     else Err Unknown
 
 -- a packet of several letters with arguments after a semicolon

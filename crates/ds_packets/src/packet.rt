@@ -33,6 +33,8 @@ pub enum Report {
     Log,
     /// `console L`: the text of a console line, from 0 to 3.
     Console(u8),
+    /// `table`: the entries of the permission table.
+    Table,
 }
 
 /// A packet that is known.
@@ -54,6 +56,8 @@ pub enum Packet {
     ThreadInfo(Who),
     /// `qRcmd`: what `monitor` asks for.
     Monitor(Report),
+    /// `qRcmd`, `stop T`: the time in ticks at which a run is to stop, up to 1,000,000,000.
+    StopAt(u64),
     /// `qAttached`: whether the process was there before gdb.
     Attached,
     /// `qC`: the process that is looked at.

@@ -1,5 +1,5 @@
 //! Packets, read by their names and forms.
-ghost use Rattle.std.specs.Prelude.{◌≡◌};
+ghost use Rattle.std.specs.Prelude.{◌≡◌, ◌<◌, ◌≤◌, IfSome};
 ghost use Rattle.ds_packets.specs.Packets.{
   action_for,
   action_of,
@@ -10,6 +10,7 @@ ghost use Rattle.ds_packets.specs.Packets.{
   back_of,
   chosen,
   described,
+  digit_at,
   forward,
   has_long_name,
   is_feature,
@@ -17,6 +18,7 @@ ghost use Rattle.ds_packets.specs.Packets.{
   is_signal,
   lettered,
   looked,
+  more_ticks,
   named_packet,
   names,
   packet_of,
@@ -25,7 +27,10 @@ ghost use Rattle.ds_packets.specs.Packets.{
   resumed,
   seen,
   step_of,
+  stop_asked,
   stopped_at,
+  ticks_from,
+  ticks_of,
   told,
   with_arguments,
 };
@@ -33,6 +38,10 @@ ghost use Rattle.ds_packets.specs.Packets.{
 use crate::packet::{Action, Packet, Refusal, Report, Who};
 use crate::scan::pair_of;
 use crate::words::{cut_at, number_of, pair_at, part_at, who_of};
+use ds_word::digit_of;
+
+/// The most ticks of a run.
+const MOST_TICKS: u64 = 1_000_000_000;
 
 /// A packet, where its words were read.
 fn told(packet: Option<Packet>) -> Result<Packet, Refusal>
@@ -295,8 +304,77 @@ fn report_of(words: &[u8]) -> Option<Report>
         Some(Report::Console(2))
     } else if words == b"636f6e736f6c652033".as_slice() {
         Some(Report::Console(3))
+    } else if words == b"7461626c65".as_slice() {
+        Some(Report::Table)
     } else {
         None
+    }
+}
+
+/// The decimal digit that two hexadecimal digits write.
+fn digit_at(high: u8, low: u8) -> Option<u64>
+    ensures value { result ≡ digit_at high low }
+    ensures small { IfSome result (λ d. d < 16) }
+{
+    digit_of(10, pair_of(high, low)?)
+}
+
+/// A number of ticks with one digit more.
+fn more_ticks(ticks: u64, digit: Option<u64>) -> Option<u64>
+    requires few { ticks ≤ 1000000000 }
+    requires small { IfSome digit (λ d. d < 16) }
+    ensures value { result ≡ more_ticks ticks digit }
+    ensures few { IfSome result (λ t. t ≤ 1000000000) }
+{
+    match digit {
+        Some(digit) => {
+            let more = 10 * ticks + digit;
+            if more <= MOST_TICKS { Some(more) } else { None }
+        }
+        None => None,
+    }
+}
+
+/// A number of ticks in decimal digits, two hexadecimal digits each.
+#[tactic(auto, unfolding(crate::specs::Packets::ticks_from))]
+fn ticks_from(digits: &[u8]) -> Option<u64>
+    ensures { result ≡ ticks_from 0 digits.now }
+{
+    let mut ticks = 0;
+    let mut left = digits;
+    while let [high, low, rest @ ..] = left {
+        match more_ticks(ticks, digit_at(*high, *low)) {
+            Some(more) => ticks = more,
+            None => return None,
+        }
+        left = rest;
+    }
+    if left.is_empty() { Some(ticks) } else { None }
+}
+
+/// That of one digit at least.
+fn ticks_of(digits: &[u8]) -> Option<u64>
+    ensures { result ≡ ticks_of digits.now }
+{
+    match digits {
+        [] => None,
+        _ => ticks_from(digits),
+    }
+}
+
+/// A time at which a run is to stop.
+fn stop_asked(digits: &[u8]) -> Result<Packet, Refusal>
+    ensures { result ≡ stop_asked digits.now }
+{
+    if digits.len() < 10 {
+        Err(Refusal::Unknown)
+    } else if &digits[..10] == b"73746f7020".as_slice() {
+        match ticks_of(&digits[10..]) {
+            Some(ticks) => Ok(Packet::StopAt(ticks)),
+            None => Err(Refusal::Malformed),
+        }
+    } else {
+        Err(Refusal::Unknown)
     }
 }
 
@@ -317,7 +395,7 @@ fn after_comma(text: &[u8]) -> Result<Packet, Refusal>
     } else if name == b"qRcmd".as_slice() {
         match report_of(rest) {
             Some(report) => Ok(Packet::Monitor(report)),
-            None => Err(Refusal::Unknown),
+            None => stop_asked(rest),
         }
     } else {
         Err(Refusal::Unknown)

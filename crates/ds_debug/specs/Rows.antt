@@ -1,0 +1,149 @@
+-- Worked rows of what a debugger is answered.
+use Rattle.std.specs.Prelude.{codes, ◌≡◌, ℕ, true, false, [], ◌∷◌, Some, None, Ok, Err, refl}
+use Rattle.std.specs.Fmt.{digits}
+use Rattle.ds_isa.specs.Registers.{zero_registers}
+use Rattle.ds_listing.specs.Texts.{hex4, hex8}
+use Rattle.ds_packets.specs.Framing.{hex_text}
+use Rattle.ds_packets.specs.Scanning.{start}
+use Rattle.ds_packets.specs.Scans.{Between, Half}
+use Rattle.ds_packets.specs.Streams.{all_came}
+use Rattle.ds_packets.specs.declared.packet.Packet.TheVariants.{Supported, NoAcknowledgements, FirstThreads, ThreadInfo, Current, Alive, Registers, Register, Memory, Break, End}
+use Rattle.ds_packets.specs.declared.packet.Report.TheVariants.{Time, Processes}
+use Rattle.ds_packets.specs.declared.packet.Who.TheVariants as who
+use Rattle.ds_packets.specs.declared.scan.PacketFault.TheVariants.{Sum}
+use Rattle.ds_procs.specs.declared.process.Standing.TheVariants.{Ready}
+use Rattle.ds_refinement.specs.Held.{Held, no_memory}
+use Rattle.ds_debug.specs.Answers.{answer_text, basic_features, report_text}
+use Rattle.ds_debug.specs.Backward.{back_reason, back_time}
+use Rattle.ds_debug.specs.Each.{each}
+use Rattle.ds_debug.specs.Goals.{Goal}
+use Rattle.ds_debug.specs.Memory.{bytes_from}
+use Rattle.ds_debug.specs.Places.{place_after}
+use Rattle.ds_debug.specs.Sights.{Sight}
+use Rattle.ds_debug.specs.Stops.{stop_text}
+use Rattle.ds_debug.specs.Streams.{acknowledges_after, is_end, mark_text, scan_through}
+use Rattle.ds_debug.specs.declared.places.Sought.TheVariants.{LastTurn, LastStop}
+use Rattle.ds_debug.specs.declared.stops.Reason.TheVariants as reason
+
+-- two processes at 00400000, of which the second runs, at time 7
+abbrev shown : Sight
+shown = record {
+  time = 7;
+  count = 2;
+  runner = Some 2;
+  unended = Some (record { process = 1; standing = Ready });
+  standing = λ p. Ready;
+  registers = λ p. record { general = zero_registers.general; hi = 1; lo = 2; pc = 0x400000 };
+  memory = no_memory;
+  consoles = [];
+  log = [];
+}
+
+-- a process by its name, and all of them
+pub the_process_that_is_looked_at : answer_text shown 1 Current ≡ codes "QCp1.1"
+the_process_that_is_looked_at = refl
+
+pub all_processes_are_listed : answer_text shown 1 FirstThreads ≡ codes "mp1.1,p2.1"
+unfolding each
+all_processes_are_listed = refl
+
+-- there is no process 3
+pub a_process_that_is_not_there : answer_text shown 1 (Alive (who.Process 3)) ≡ codes "E03"
+a_process_that_is_not_there = refl
+
+pub a_process_in_words : answer_text shown 1 (ThreadInfo (who.Process 2)) ≡ hex_text (codes "process 2 ready, runs")
+unfolding digits
+a_process_in_words = refl
+
+-- pc has its lowest byte first; register 26 is not told
+pub a_register_is_told : answer_text shown 1 (Register 37) ≡ codes "00004000"
+a_register_is_told = refl
+
+pub register_26_is_not_told : answer_text shown 1 (Register 26) ≡ codes "xxxxxxxx"
+register_26_is_not_told = refl
+
+-- nothing is granted
+pub memory_that_may_not_be_loaded : answer_text shown 1 (Memory 0x400000 4) ≡ codes "E14"
+unfolding bytes_from
+memory_that_may_not_be_loaded = refl
+
+-- how far a run has come
+pub the_time_of_a_run : report_text 9 shown Time ≡ codes "time 7 of 9, goes on\n"
+unfolding digits
+the_time_of_a_run = refl
+
+pub the_end_of_a_run : report_text 7 shown Time ≡ codes "time 7 of 7, is over\n"
+unfolding digits
+the_end_of_a_run = refl
+
+pub each_process_has_a_line : report_text 9 shown Processes ≡ codes "1 ready 00400000\n2 ready 00400000 runs\n"
+unfolding each digits hex4 hex8
+each_process_has_a_line = refl
+
+-- gdb may go back
+pub what_gdb_may_ask : answer_text shown 1 (Supported false) ≡ codes "PacketSize=1000;ReverseStep+;ReverseContinue+;vContSupported+;QStartNoAckMode+;swbreak+;qXfer:features:read+"
+unfolding basic_features
+what_gdb_may_ask = refl
+
+-- a denial, a breakpoint, and both ends of a run
+pub a_denial_is_a_signal : stop_text 2 (reason.Signal 11) ≡ codes "T0bthread:p2.1;"
+unfolding stop_text
+a_denial_is_a_signal = refl
+
+pub a_breakpoint_is_told : stop_text 100 reason.Break ≡ codes "T05thread:p64.1;swbreak:;"
+unfolding stop_text
+a_breakpoint_is_told = refl
+
+pub the_beginning_is_told : stop_text 1 reason.Begin ≡ codes "T05thread:p1.1;replaylog:begin;"
+unfolding stop_text
+the_beginning_is_told = refl
+
+pub the_end_is_told : stop_text 1 reason.End ≡ codes "T05thread:p1.1;replaylog:end;"
+unfolding stop_text
+the_end_is_told = refl
+
+-- a step back comes to where the last turn of the process began
+pub a_turn_of_the_process : (g : Goal) (h : Held) → place_after (LastTurn 1) g 9 (record { time = 4; runner = Some 1; logged = 0 }) h ≡ Some (record { time = 4; stop = record { process = 1; reason = reason.Rest } })
+a_turn_of_the_process g h = refl
+
+pub a_turn_of_another_process : (g : Goal) (h : Held) → place_after (LastTurn 1) g 9 (record { time = 4; runner = Some 2; logged = 0 }) h ≡ None
+a_turn_of_another_process g h = refl
+
+-- a process without a turn stays, and the last stop is sought to the beginning
+pub a_process_without_a_turn_stays : back_time (LastTurn 2) None ≡ None
+a_process_without_a_turn_stays = refl
+
+pub without_a_stop_it_is_the_beginning : back_time LastStop None ≡ Some 0
+without_a_stop_it_is_the_beginning = refl
+
+pub a_process_without_a_turn_is_interrupted : back_reason (LastTurn 2) 5 None ≡ reason.Signal 2
+a_process_without_a_turn_is_interrupted = refl
+
+pub nothing_is_before_the_beginning : back_reason (LastTurn 2) 0 None ≡ reason.Begin
+nothing_is_before_the_beginning = refl
+
+-- an acknowledgement and an interrupt of gdb's are passed over, with what else stands between packets
+pub what_stands_between_packets : all_came start (43 ∷ 3 ∷ codes "$?#3f") ≡ Ok (codes "?") ∷ []
+what_stands_between_packets = refl
+
+-- the sum is 3f
+pub a_wrong_sum : all_came start (codes "$?#3e") ≡ Err Sum ∷ []
+a_wrong_sum = refl
+
+-- of a packet that is not whole nothing is said
+pub a_packet_that_is_cut : scan_through start (codes "$?#3") ≡ Half (codes "?") 51
+a_packet_that_is_cut = refl
+
+pub a_packet_in_two_chunks : all_came (scan_through start (codes "$?#3")) (codes "f$g#67") ≡ Ok (codes "?") ∷ Ok (codes "g") ∷ []
+a_packet_in_two_chunks = refl
+
+-- marks, until gdb asks for silence
+pub a_packet_is_acknowledged : mark_text true 43 ≡ codes "+"
+a_packet_is_acknowledged = refl
+
+pub silence_is_kept : mark_text (acknowledges_after NoAcknowledgements true) 43 ≡ []
+silence_is_kept = refl
+
+-- k ends the session
+pub the_session_ends : is_end End ≡ true
+the_session_ends = refl

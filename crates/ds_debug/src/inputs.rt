@@ -1,0 +1,67 @@
+//! What a run begins with, and stations of its runs.
+ghost use Rattle.std.specs.Prelude.{◌≡◌, ◌≤◌, IfErr, IfOk, None, OnOk, false};
+ghost use Rattle.ds_station.specs.Headline.{Refuses};
+ghost use Rattle.ds_debug.specs.Inputs.{IsAt, IsBeginning, first_of, inputs_seen};
+
+use ds_policy::Policy;
+use ds_station::{Fault, Station, prepare};
+use ds_tlb::Indexed;
+use std::alloc::Global;
+
+/// What a run begins with.
+#[derive(Clone, Copy)]
+pub struct Inputs<'a> {
+    pub policy: &'a Policy,
+    /// The sources by their names and texts.
+    pub sources: &'a [(&'a str, &'a [u8])],
+    /// The text of the input.
+    pub input: &'a [u8],
+    /// Where Random begins, from 8 to 63.
+    pub random: u8,
+}
+
+/// A station at the beginning of a run of these for `limit` ticks. They are refused as by `prepare`.
+pub(crate) fn station_at_start<'a>(
+    alloc: Global,
+    inputs: Inputs<'a>,
+    limit: u64,
+) -> Result<Station<Indexed<64, 8>>, Fault>
+    ensures begins { IfOk result (λ s. IsBeginning (inputs_seen inputs.entry) limit s.held) }
+    ensures limit { OnOk result (limit ≤ 1000000000) }
+    ensures whole { IfOk result (λ s. s.held.kept.state.owed ≡ None) }
+    ensures spent { IfOk result (λ s. s.held.own.spent ≡ 0) }
+    ensures working { IfOk result (λ s. s.held.own.failed ≡ false) }
+    ensures err { IfErr result (λ f. Refuses f (first_of (inputs_seen inputs.entry) limit)) }
+{
+    prepare(
+        alloc,
+        inputs.policy,
+        inputs.sources,
+        inputs.input,
+        limit,
+        inputs.random,
+    )
+}
+
+/// A station of a run of these for `limit` ticks, at the time at which a run to `time` ends.
+pub(crate) fn station_at<'a>(
+    alloc: Global,
+    inputs: Inputs<'a>,
+    limit: u64,
+    time: u64,
+) -> Result<Station<Indexed<64, 8>>, Fault>
+    requires { time ≤ 1000000000 }
+    ensures at { IfOk result (λ s. IsAt (inputs_seen inputs.entry) limit time s.held) }
+    ensures whole { IfOk result (λ s. s.held.kept.state.owed ≡ None) }
+    ensures spent { IfOk result (λ s. s.held.own.spent ≡ 0) }
+    ensures working { IfOk result (λ s. s.held.own.failed ≡ false) }
+{
+    let mut station = match station_at_start(alloc, inputs, limit) {
+        Ok(station) => station,
+        Err(refused) => return Err(refused),
+    };
+    match station.run(time) {
+        Ok(()) => Ok(station),
+        Err(fault) => Err(fault),
+    }
+}

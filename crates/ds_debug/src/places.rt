@@ -1,0 +1,131 @@
+//! Places of a run, of which the last one is sought on the way back.
+ghost use Rattle.std.specs.Prelude.{◌≡◌, ◌<◌, ◌≤◌, IfSome};
+ghost use Rattle.ds_debug.specs.Places.{began_at, or_else, place_after, sought_by, stop_place, turn_place};
+
+use crate::goals::{Breakpoint, Stop, stop_after};
+use crate::stops::Reason;
+use ds_packets::Action;
+use ds_station::Station;
+use ds_tlb::Lookaside;
+
+/// What is sought on the way back.
+#[derive(Clone, Copy, Debug, PartialEq, Eq)]
+pub enum Sought {
+    /// The last turn of a process.
+    LastTurn(u32),
+    /// The last place at which something stops.
+    LastStop,
+}
+
+/// A place of a run: its time in ticks, and what stops there.
+#[derive(Clone, Copy, Debug, PartialEq, Eq)]
+pub struct Place {
+    pub time: u64,
+    pub stop: Stop,
+}
+
+/// How a turn begins.
+#[derive(Clone, Copy, Debug, PartialEq, Eq)]
+pub struct Began {
+    /// When, in ticks.
+    pub time: u64,
+    /// The process that has the turn, if one is ready.
+    pub runner: Option<u32>,
+    /// How many bytes the log has.
+    pub logged: usize,
+}
+
+/// What is sought for an action that goes back.
+pub(crate) fn sought_by(action: Action, process: u32) -> Sought
+    ensures { result ≡ sought_by action process }
+{
+    match action {
+        Action::Step => Sought::LastTurn(process),
+        Action::Continue | Action::Range { .. } => Sought::LastStop,
+    }
+}
+
+/// How the next turn of a station begins.
+pub(crate) fn began_at<L: Lookaside>(station: &Station<L>) -> Began
+    ensures value { result ≡ began_at station.now.held }
+    ensures small { IfSome result.runner (λ p. p ≤ 100) }
+{
+    let _few = station.processes();
+    Began {
+        time: station.time(),
+        runner: station.runner(),
+        logged: station.log().len(),
+    }
+}
+
+/// Where a turn of this process began, if it is the one that has the turn.
+fn turn_place(process: u32, runner: Option<u32>, time: u64) -> Option<Place>
+    requires { IfSome runner (λ p. p ≤ 100) }
+    ensures value { result ≡ turn_place process runner time }
+    ensures small { IfSome result (λ place. place.stop.process ≤ 100) }
+    ensures same { IfSome result (λ place. place.time ≡ time) }
+{
+    match runner {
+        Some(runner) if runner == process => {
+            let reason = Reason::Rest;
+            let stop = Stop { process, reason };
+            Some(Place { time, stop })
+        }
+        _ => None,
+    }
+}
+
+/// Where something stops, if something does.
+fn stop_place(time: u64, stop: Option<Stop>) -> Option<Place>
+    requires { IfSome stop (λ stop. stop.process ≤ 100) }
+    ensures value { result ≡ stop_place time stop }
+    ensures small { IfSome result (λ place. place.stop.process ≤ 100) }
+    ensures same { IfSome result (λ place. place.time ≡ time) }
+{
+    match stop {
+        Some(stop) => Some(Place { time, stop }),
+        None => None,
+    }
+}
+
+/// What is found of a turn that began so, in a run to a time: where it began, or where it came to
+/// before that time.
+pub(crate) fn place_after<L: Lookaside>(
+    station: &Station<L>,
+    sought: Sought,
+    until: u64,
+    began: Began,
+    actions: &[Option<Action>],
+    breakpoints: &[Breakpoint],
+) -> Option<Place>
+    requires small { IfSome began.runner (λ p. p ≤ 100) }
+    requires early { began.time < until }
+    ensures value { result ≡ place_after sought
+        (record { actions = actions.now; breakpoints = breakpoints.now })
+        until began station.now.held }
+    ensures small { IfSome result (λ place. place.stop.process ≤ 100) }
+    ensures early { IfSome result (λ place. place.time < until) }
+{
+    match sought {
+        Sought::LastTurn(process) => turn_place(process, began.runner, began.time),
+        Sought::LastStop => {
+            let time = station.time();
+            if time < until {
+                let stop = stop_after(station, actions, breakpoints, began.runner, began.logged);
+                stop_place(time, stop)
+            } else {
+                None
+            }
+        }
+    }
+}
+
+/// The first, or else the second.
+pub(crate) fn or_else(first: Option<Place>, second: Option<Place>) -> Option<Place>
+    ensures { result ≡ or_else first second }
+{
+    match first {
+        Some(place) => Some(place),
+        None => second,
+    }
+}

@@ -1,0 +1,98 @@
+//! The entries of the permission table as text.
+ghost use Rattle.std.specs.Prelude.{◌≡◌, ◌<◌, ◌+◌, ◌++◌, OnOk, flat_map, length};
+ghost use Rattle.ds_station.specs.Reads.{memory_held};
+ghost use Rattle.ds_debug.specs.Sights.{sight_held};
+ghost use Rattle.ds_debug.specs.Tables.{entries_text, entry_line, grant_words, page_text, right_text, table_text};
+
+use crate::digits::{push_address, push_decimal};
+use ds_policy::{Entry, Grant, Right};
+use ds_station::Station;
+use ds_tlb::Lookaside;
+use std::alloc::AllocError;
+
+/// A right by its name.
+fn right_text(right: Right) -> &'static [u8]
+    ensures { result.now ≡ right_text right }
+{
+    match right {
+        Right::Nothing => b"none",
+        Right::Read => b"read",
+        Right::Write => b"write",
+    }
+}
+
+/// Adds a page by its number, where there is one.
+fn push_page(text: &mut Vec<u8>, page: Option<u32>) -> Result<(), AllocError>
+    ensures { OnOk result (text.new.items ≡ text.old.items ++ page_text page) }
+{
+    match page {
+        Some(number) => {
+            text.extend_from_slice(b" page ")?;
+            push_decimal(text, u64::from(number))
+        }
+        None => Ok(()),
+    }
+}
+
+/// Adds what was granted: what may be done, with which page, by which rule, and who gave it.
+fn push_grant(text: &mut Vec<u8>, grant: Grant) -> Result<(), AllocError>
+    ensures { OnOk result (text.new.items ≡ text.old.items ++ grant_words grant) }
+{
+    text.extend_from_slice(right_text(grant.right))?;
+    push_page(text, grant.page)?;
+    text.extend_from_slice(b" r")?;
+    push_decimal(text, u64::from(grant.rule))?;
+    text.extend_from_slice(b" by ")?;
+    push_decimal(text, u64::from(grant.giver))
+}
+
+/// Adds an entry of a process: where it is, and what was granted there.
+fn push_entry(text: &mut Vec<u8>, process: u32, entry: Entry) -> Result<(), AllocError>
+    ensures { OnOk result (text.new.items ≡ text.old.items ++ entry_line process entry) }
+{
+    push_decimal(text, u64::from(process))?;
+    text.extend_from_slice(b" ")?;
+    push_address(text, entry.address)?;
+    text.extend_from_slice(b" ")?;
+    push_grant(text, entry.grant)?;
+    text.extend_from_slice(b"\n")
+}
+
+/// Adds the entries of a process.
+fn push_entries(text: &mut Vec<u8>, process: u32, entries: &[Entry]) -> Result<(), AllocError>
+    ensures { OnOk result (text.new.items ≡ text.old.items
+        ++ flat_map (entry_line process) entries.now) }
+{
+    for entry in entries {
+        push_entry(text, process, *entry)?;
+    }
+    Ok(())
+}
+
+/// Adds the entries of the process after so many others.
+fn push_listed<L: Lookaside>(
+    text: &mut Vec<u8>,
+    station: &Station<L>,
+    index: u32,
+) -> Result<(), AllocError>
+    requires { index < length station.now.held.kept.state.processes }
+    ensures { OnOk result (text.new.items ≡ text.old.items
+        ++ entries_text (memory_held station.now.held).table index) }
+{
+    let _few = station.processes();
+    push_entries(text, index + 1, station.entries(index + 1))
+}
+
+/// Adds those of all processes, a line each.
+pub(crate) fn push_table<L: Lookaside>(
+    text: &mut Vec<u8>,
+    station: &Station<L>,
+) -> Result<(), AllocError>
+    ensures { OnOk result (text.new.items ≡ text.old.items
+        ++ table_text (sight_held station.now.held)) }
+{
+    for index in 0..station.processes() {
+        push_listed(text, station, index)?;
+    }
+    Ok(())
+}

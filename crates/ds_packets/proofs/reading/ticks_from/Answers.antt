@@ -1,0 +1,19 @@
+use Rattle.std.proofs.Common.{rules, ◌≡◌, ℕ, ◌-◌, ◌≤◌, length, take, drop, get_or, List, [], ◌∷◌, Option, Some, refl, sym, ap, ◌∙◌, arith}
+use Rattle.std.specs.Prelude.{option_and_then}
+use Rattle.std.proofs.lemmas.List.{take_all}
+use Rattle.ds_packets.specs.Packets.{digit_at, more_ticks, ticks_from}
+use Rattle.ds_packets.proofs.reading.ticks_from.Goals as goal
+
+-- two digits more
+two_more : (n m : ℕ) (xs : List ℕ) → 2 ≤ length xs → Some m ≡ more_ticks n (digit_at (get_or xs 0 0) (get_or xs 1 0)) → ticks_from m (take (length xs - 2) (drop 2 xs)) ≡ ticks_from n xs
+unfolding ticks_from
+two_more n m [] long is = absurd (omega arith)
+two_more n m (high ∷ []) long is = absurd (omega arith)
+two_more n m (high ∷ low ∷ rest) long is =
+    ap (ticks_from m) (take_all (length (high ∷ low ∷ rest) - 2) rest (omega arith)) ∙ ap (option_and_then (λ (t : ℕ). ticks_from t rest)) is
+
+pub loop-left-preserved : goal.loop-left-preserved
+loop-left-preserved c = record {
+  goes = two_more c.loop-left.ticks c.in-Some.more c.loop-left.left.now c.in-len2-up.len_at_least (sym c.in-Some.is ∙ (c.more_ticks.ensures.value ∙ ap (more_ticks c.loop-left.ticks) c.digit_at.ensures.value)) ∙ c.loop-left.invariant.goes;
+  few = c.in-Some.ensures.few;
+}

@@ -1,0 +1,13 @@
+use Rattle.std.proofs.Common.{◌≡◌, ◌≤◌, length}
+use Rattle.ds_packets.specs.Packets.{ticks_from}
+use Rattle.ds_packets.proofs.reading.ticks_from.Given as goal
+
+-- what is left goes on to what all digits say
+abbrev pub invariant-loop-left : goal.invariant-loop-left
+invariant-loop-left l = record {
+  goes : ticks_from l.ticks l.left ≡ ticks_from 0 l.digits;
+  few : l.ticks ≤ 1000000000;
+}
+
+abbrev pub decreases-loop-left : goal.decreases-loop-left
+decreases-loop-left l = length l.left
