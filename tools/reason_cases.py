@@ -9,11 +9,12 @@ tools/test_reason_cases.py holds the rules against the tables that were written 
 import re
 import sys
 from pathlib import Path
+from typing import NamedTuple
 
 sys.dont_write_bytecode = True
 
 from reading_cases import INPUT, PAGES  # noqa: E402
-from reason_model import input_told, policy_told  # noqa: E402
+from reason_model import input_told, policy_told, shown  # noqa: E402
 
 DATA = Path(__file__).resolve().parent.parent / "crates" / "rows" / "data" / "mistakes"
 HEAD = "Written by tools/reason_cases.py, from the rules of docs/mistakes.md."
@@ -44,24 +45,51 @@ KINDS = {
 FORMS = {
     "a register": rb"\$(zero|at|v[01]|a[0-3]|t[0-9]|s[0-7]|k[01]|gp|sp|fp|ra)", "a number": rb"-?[0-9]{1,10}|0x[0-9A-Fa-f]{1,8}",
     "a label": rb"[A-Za-z_][A-Za-z0-9_]{0,31}", "an address": rb"-?[0-9]{1,10}\(\$sp\)", "a number or a label": rb"-?[0-9]{1,10}|0x[0-9A-Fa-f]{1,8}"}
+# What is said of a byte that no line holds.
+SIGNS = {
+    b";/!@": "A comment begins with `#`, and a line has one statement.", b"\"'": "Characters are written as numbers: `.byte 72`.",
+    b"+*%=<>&|~^": "Numbers are written out, and an address is built by `lui` and `ori`."}
+OTHER_SIGN = "They hold letters, digits, `_`, blanks and `$ ( ) , - . :`."
+# The words of these tables that other processors have.
+OTHER_WORDS = {}
+REGISTERS = ("Registers are `$0` to `$31`, or `$zero`, `$at`, `$v0`, `$v1`, `$a0` to `$a3`,", "`$t0` to `$t9`, `$s0` to `$s7`, `$k0`, `$k1`, `$gp`, `$sp`, `$fp` and `$ra`.")
+WANTED = {
+    "a register": "A register is `$` and a number or a name: `$8` or `$t0`.", "a number": "A number is decimal, with or without `-`, or hexadecimal after `0x`.",
+    "a label": "A label is a name that a line has before its colon.", "an address": "An address is a number, and a register in parentheses: `0($t0)`.",
+    "a number or a label": "A number is decimal, with or without `-`, or hexadecimal after `0x`."}
 
 
-def shown(text):
+class Told(NamedTuple):
+    """What is told of a line: the line of its fault, what it quotes, and how it is mended. A byte is quoted where it first stands, a text where it stands once."""
+
+    first: str
+    quote: bytes = b""
+    mending: tuple[str, ...] = ()
+    is_byte: bool = False
+
+
+def quoted(text):
     """As much of a text as is told, with `?` for what can't be seen."""
     return "".join(chr(c) if 32 <= c <= 126 else "?" for c in text[:40])
 
 
 def no_byte(c):
-    return f"No label and no statement may hold `{shown(bytes([c]))}`."
+    return Told(f"No label and no statement may hold `{quoted(bytes([c]))}`.", bytes([c]), (next((it for signs, it in SIGNS.items() if c in signs), OTHER_SIGN),), True)
 
 
 def no_mnemonic(word):
     """What is told of a first word that is no mnemonic, no macro and no directive."""
     if word.startswith(b"."):
-        return f"There is no directive `{shown(word)}`."
+        return Told(f"There is no directive `{quoted(word)}`.", word, ("There are `.word x`, `.byte n` and `.space n`.",))
     if any(c in UPPER for c in word):
-        return f"`{shown(word)}` has letters in upper case. Mnemonics and directives are in lower case."
-    return f"There is no mnemonic `{shown(word)}`."
+        return Told(f"`{quoted(word)}` has letters in upper case. Mnemonics and directives are in lower case.", word)
+    return Told(f"There is no mnemonic `{quoted(word)}`.", word, OTHER_WORDS.get(word, ("A label has a colon directly after it, and a mnemonic a blank.",)))
+
+
+def operands(least, most, found):
+    """What is told where a statement has another number of operands."""
+    wanted = most if least == most else f"{least} to {most}"
+    return Told(f"The statement wants {wanted} operands, and has {found}.", b"", ("Each operand is written, with commas between them: `addiu $v0, $zero, 1`.",))
 
 
 def alone(c):
@@ -71,9 +99,9 @@ def alone(c):
     if c not in WRITTEN:
         return no_byte(c)
     one = {
-        ord("b"): "This assembler has no macros. Instead of `b` write `beq $zero, $zero, x`, and `nop` after it.",
-        ord("j"): "The statement wants 1 operands, and has 0.",
-        ord(":"): "`` is no label.",
+        ord("b"): Told("This assembler has no macros. Instead of `b` write `beq $zero, $zero, x`, and `nop` after it.", b"b"),
+        ord("j"): operands(1, 1, 0),
+        ord(":"): Told("`` is no label.", b"", ("A label is a letter or `_`, and then at most 31 letters, digits and `_`.",)),
     }
     return one.get(c, no_mnemonic(bytes([c])))
 
@@ -90,31 +118,50 @@ def after_a_blank(c):
     if c in BLANKS + b"\n#":
         return None
     if c == ord(":"):
-        return "A blank stands before the colon. Write `nop:`."
-    return f"`{shown(bytes([c]))}` stands after the statement." if c in WRITTEN else no_byte(c)
+        return Told("A blank stands before the colon. Write `nop:`.", b"nop")
+    text = bytes([c])
+    return Told(f"`{quoted(text)}` stands after the statement.", text, ("A line has one statement, and a comment begins with `#`.",)) if c in WRITTEN else no_byte(c)
 
 
 def cut_off(line, count):
     """What is told of so many bytes of a line."""
     front = re.sub(rb"^[a-z_]+:", b"", line[:count].split(b"#")[0]).strip()
-    word, _, operands = front.partition(b" ")
+    word, _, rest = front.partition(b" ")
     if not front:
         return None
     if word == b"b":
         return alone(ord("b"))
     if word not in KINDS:
         return no_mnemonic(word)
-    kinds, found = KINDS[word], operands.count(b",") + 1 if operands else 0
+    kinds, found = KINDS[word], rest.count(b",") + 1 if rest else 0
     if word == b"jalr" and found == 1:
         kinds = kinds[1:]
     if found != len(kinds):
-        return f"The statement wants {'1 to 2' if word == b'jalr' else len(kinds)} operands, and has {found}."
-    for number, (kind, operand) in enumerate(zip(kinds, operands.split(b",")), 1):
+        return one_number(found) if word == b".word" else operands(1 if word == b"jalr" else len(kinds), len(kinds), found)
+    for number, (kind, operand) in enumerate(zip(kinds, rest.split(b",")), 1):
         text = operand.strip()
         if not re.fullmatch(FORMS[kind], text):
             is_named = kind == "a register" and text.startswith(b"$")
-            return f"There is no register `{shown(text)}`." if is_named else f"Operand {number}, `{shown(text)}`, is to be {kind}."
+            return Told(f"There is no register `{quoted(text)}`.", text, REGISTERS) if is_named else Told(f"Operand {number}, `{quoted(text)}`, is to be {kind}.", text, (WANTED[kind],))
     return None
+
+
+def one_number(found):
+    """What is told where a directive has another number of operands."""
+    return Told(f"The statement wants 1 operands, and has {found}.", b"", ("Write each number in a line of its own: `.word 1`, and `.word 2` below it.",))
+
+
+def caret_place(line, told):
+    """Where what is quoted stands in the line before its comment, if it has a place."""
+    said = line.split(b"#")[0]
+    place = said.find(told.quote) if 1 <= len(told.quote) <= 40 else -1
+    return None if place < 0 or not told.is_byte and said.find(told.quote, place + 1) >= 0 else place
+
+
+def listed(line, told):
+    """All lines that `dsmon list` tells of a line that is a source by itself."""
+    place = caret_place(line, told)
+    return [f"3 Syntax one.s 1: {told.first}".encode(), *shown(line, 1, None if place is None else line[:place]), *map(str.encode, told.mending)]
 
 
 def escaped(text):
@@ -123,8 +170,8 @@ def escaped(text):
 
 
 def case(title, text, told):
-    answer = f"3 Syntax one.s 1: {told}" if told else "ok"
-    return f"== {title}\n{escaped(text)}\n-- {escaped(answer.encode())}\n"
+    lines = listed(text, told) if told else [b"ok"]
+    return f"== {title}\n{escaped(text)}\n-- {escaped(lines[0])}\n" + "".join(f"| {escaped(it)}\n" for it in lines[1:])
 
 
 # Policies and inputs.

@@ -15,6 +15,9 @@ WORDS = {
     "key": ("BadLine", "BadBytes"), "grant": ("BadProcess", "BadAddress", "UnknownPage", "BadRight", "BadGive"),
     "narrow": ("BadProcess", "BadAddress"), "revoke": ("BadProcess", "BadAddress"), "drop": ("BadProcess", "BadAddress"),
     "resume": ("BadProcess",), "stop": ("BadProcess",)}
+# The keys of a policy, of a process, of a page and of a rule.
+POLICY_KEYS = ["version", "frames", "rate", "process", "page", "rule", "start", "line", "name", "source", "part", "address", "right", "give", "until"]
+SOURCE_GIVEN = ["The text reads as a source and not as a policy. `dsmon list` takes a source,", 'and a policy names it: `source = "one.s"` in a `[[page]]`.']
 # The key of a policy that a cause is about.
 KEYS = {
     "BAD_START": "start", "PROCESS_BAD_LINE": "line", "BAD_NAME": "name", "SAME_NAME": "name", "BAD_SOURCE": "source", "BAD_PART": "part",
@@ -124,12 +127,51 @@ def policy_told(text, toml_place):
         array, number, cause = policy_reason(tomllib.loads(text.decode()), refusal)
         which = f"in {array} {number} of the policy" if array in ("process", "page") else None
         place = reason_place(text, array, number, cause)
+    if cause == "OTHER_KEY":
+        found = odd_key(text)
+        place = found and found[1:]
     rows = [refusal.encode()]
     if place:
         line, column = place
         front = text.split(b"\n")[line - 1].decode("utf-8", "surrogateescape")[: column - 1].encode("utf-8", "surrogateescape")
         rows += [f"in line {line}, column {column} of the policy".encode(), *shown(text, line, front)]
-    return rows + [it.encode() for it in ([which] if which else []) + words(cause)]
+    return rows + [it.encode() for it in ([which] if which else []) + words(cause) + hint(text, cause)]
+
+
+def hint(text, cause):
+    """What is told besides: the first key that no policy has, with the one that may be meant by it, or that the text is a source."""
+    if cause == "NOT_TOML":
+        return SOURCE_GIVEN if reads_as_source(text) else []
+    found = odd_key(text) if cause.endswith("OTHER_KEY") else None
+    if not found:
+        return []
+    meant = next((it for it in POLICY_KEYS if is_meant(found[0], it)), None)
+    return [f"`{found[0][:40]}` in line {found[1]} is no key of a policy. {f'Write `{meant}` in its place.' if meant else 'Leave it out.'}"]
+
+
+def odd_key(text):
+    """The first key at the beginning of a line that no policy has, its line and its column, or None."""
+    for number, line in enumerate(text.split(b"\n"), 1):
+        found = re.match(rb"[ \t\r]*\[*([A-Za-z0-9_-]+)[ \t\r]*[=\]]", line)
+        if found and found[1].decode() not in POLICY_KEYS:
+            return found[1].decode(), number, found.start(1) + 1
+    return None
+
+
+def is_meant(name, key):
+    """Whether two words differ by case alone, by one letter, or by an `es` at the end of the first."""
+    if name.lower() == key.lower() or name == key + "es":
+        return True
+    cut = {it[:at] + it[at + 1 :] for it in (name, key) for at in range(len(it))}
+    swapped = len(name) == len(key) and sum(a != b for a, b in zip(name, key)) == 1
+    return swapped or len(name) != len(key) and (name in cut or key in cut)
+
+
+def reads_as_source(text):
+    """Whether the first line that says something before its comment is a label, a statement of these tables, or both."""
+    said = [line.split(b"#")[0].strip() for line in text.split(b"\n")]
+    first = next((it for it in said if it), b"")
+    return re.fullmatch(rb"[A-Za-z_][A-Za-z0-9_]{0,31}:|([A-Za-z_][A-Za-z0-9_]{0,31}:\s*)?(nop|syscall|addiu \$\d,\s*\$\d,\s*\d+)", first) is not None
 
 
 def policy_reason(root, refusal):

@@ -55,7 +55,7 @@ sent_all old now new text held more whole before same none last =
     subst (Appends old new) (ap (λ (xs : List ℕ). before.sent ++ xs) (sym (append-nil text) ∙ ap (λ (xs : List ℕ). text ++ xs) (sym none)) ∙ before.all)
     (appends_both old now new before.sent text before.appends (subst (Appends now new) same last))
 
-module _ (front place : List ℕ) (source : Option (List ℕ)) where
+module _ (front place source : List ℕ) where
   -- the lines of the faults from a place on: that of the fault there, and those after it
   pub told_from : (p : Passed) (faults : List SourceFault) (i : ℕ) (d : SourceFault) → i < length faults
       → told_lines front place source p (drop i faults)
@@ -73,25 +73,19 @@ module _ (front place : List ℕ) (source : Option (List ℕ)) where
   none_left p (f ∷ faults) zero h = absurd (omega (arith, h))
   none_left p (f ∷ faults) (suc i) h = none_left p faults i (omega (arith, h))
 
-  -- the line of a fault as it was put on the sheet
-  line_told : (heads : List ℕ × List ℕ) (shown : Option (List ℕ)) (p : Passed) (fault : SourceFault) (text sheet : List ℕ) → heads ≡ (front, place) → shown ≡ source
-      → text ≡ sheet ++ told_line heads.0 heads.1 shown (reason_after p fault) fault → text ≡ sheet ++ told_line front place source (reason_after p fault) fault
-  line_told heads shown p fault text sheet is same told =
-      subst (λ (s : Option (List ℕ)). text ≡ sheet ++ told_line front place s (reason_after p fault) fault) same
-      (subst (λ (h : List ℕ × List ℕ). text ≡ sheet ++ told_line h.0 h.1 shown (reason_after p fault) fault) is told)
-
   -- one fault more stands on the sheet
-  pub one_told : (old new : Option (List ℕ)) (faults : List SourceFault) (i : ℕ) (d : SourceFault) (heads : List ℕ × List ℕ) (shown : Option (List ℕ)) (p later : Passed) (text sheet whole : List ℕ)
-      → i < length faults → heads ≡ (front, place) → shown ≡ source
-      → text ≡ sheet ++ told_line heads.0 heads.1 shown (reason_after p (get_or faults i d)) (get_or faults i d)
+  pub one_told : (old new : Option (List ℕ)) (faults : List SourceFault) (i : ℕ) (d : SourceFault) (heads : List ℕ × List ℕ × List ℕ) (p later : Passed) (text sheet whole : List ℕ)
+      → i < length faults → heads ≡ (front, place, source)
+      → text ≡ sheet ++ told_line heads.0 heads.1 heads.2 (reason_after p (get_or faults i d)) (get_or faults i d)
       → later ≡ pass p (get_or faults i d)
       → SentOf old new (sheet ++ told_lines front place source p (drop i faults)) whole
       → SentOf old new (text ++ told_lines front place source later (drop (i + 1) faults)) whole
-  one_told old new faults i d heads shown p later text sheet whole within is same told passed before =
+  one_told old new faults i d heads p later text sheet whole within is told passed before =
       let next : suc i ≡ i + 1 = omega arith in
+      let line = subst (λ (h : List ℕ × List ℕ × List ℕ). text ≡ sheet ++ told_line h.0 h.1 h.2 (reason_after p (get_or faults i d)) (get_or faults i d)) is told in
       subst (λ (n : ℕ). SentOf old new (text ++ told_lines front place source later (drop n faults)) whole) next
       (subst (λ (q : Passed). SentOf old new (text ++ told_lines front place source q (drop (suc i) faults)) whole) (sym passed)
-      (line_added old new sheet text _ _ _ whole (told_from p faults i d within) (line_told heads shown p (get_or faults i d) text sheet is same told) before))
+      (line_added old new sheet text _ _ _ whole (told_from p faults i d within) line before))
 
 -- all that stand after the first
 others_whole : (faults : List SourceFault) → take (length faults - 1) (drop 1 faults) ≡ drop 1 faults
@@ -116,13 +110,18 @@ first_shown source s text faults first is same all found =
     ∙ (ap (λ (t : List ℕ). fault_shown t (slice_get s.faults.items 0)) same ∙ ap source_shown (sym is))
 
 -- the lines of all that stand after the first
-pub others_same : (text held : List ℕ) (p : Passed) (faults : List SourceFault) (d : SourceFault) → 1 ≤ length faults → held ≡ text → p ≡ pass (none_passed text) (slice_index_or faults 0 d)
-    → told_lines (codes "and ") (codes "in line") (Some held) p (take (length faults - 1) (drop 1 faults)) ≡ others_told text faults
-others_same text held p [] d some same is = absurd (omega (arith, some))
-others_same text held p (first ∷ others) d some same is =
-    ap (λ (l : List SourceFault). told_lines (codes "and ") (codes "in line") (Some held) p l) (others_whole (first ∷ others))
-    ∙ (ap (λ (t : List ℕ). told_lines (codes "and ") (codes "in line") (Some t) p others) same
-    ∙ ap (λ (q : Passed). told_lines (codes "and ") (codes "in line") (Some text) q others) is)
+pub others_same : (text : List ℕ) (p : Passed) (faults : List SourceFault) (d : SourceFault) → 1 ≤ length faults → p ≡ pass (none_passed text) (slice_index_or faults 0 d)
+    → told_lines (codes "and ") (codes "in line") text p (take (length faults - 1) (drop 1 faults)) ≡ others_told text faults
+others_same text p [] d some is = absurd (omega (arith, some))
+others_same text p (first ∷ others) d some is =
+    ap (λ (l : List SourceFault). told_lines (codes "and ") (codes "in line") text p l) (others_whole (first ∷ others))
+    ∙ ap (λ (q : Passed). told_lines (codes "and ") (codes "in line") text q others) is
+
+-- no line of a source was passed yet
+pub passed_none : (l : FaultyLines) (text : List ℕ) → l.rest.now ≡ text → l.passed ≡ 0 → passed_in l ≡ none_passed text
+passed_none l text rest none =
+    ap (λ (n : ℕ). record { lines = n; rest = l.rest.now }) none
+    ∙ ap (λ (r : List ℕ). record { lines = 0; rest = r }) rest
 
 -- the line of words that carry a name
 pub line_carries : {T E : Type 0} (r : Result T E) (old new : Option (List ℕ)) (words name given : List ℕ) → given ≡ name

@@ -8,6 +8,7 @@ pub mod Checked
 pub mod Listening
 pub mod Done
 pub mod Failures
+pub mod Hints
 pub mod Inside
 pub mod Noted
 pub mod Outcomes

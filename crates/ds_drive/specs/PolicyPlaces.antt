@@ -12,6 +12,7 @@ use Rattle.ds_policy_reasons.specs.declared.policy_cause.RuleCause.{RuleCause}
 use Rattle.ds_policy_reasons.specs.declared.policy_cause.RuleCause.TheVariants as rule
 use Rattle.ds_policy_reasons.specs.declared.reason.PolicyReason.{PolicyReason}
 use Rattle.ds_policy_reasons.specs.declared.reason.PolicyReason.TheVariants as reason
+use Rattle.ds_policy_reasons.specs.Keys.{OddKey, odd_key}
 use Rattle.ds_source_reasons.specs.Reasons.{or_next}
 
 -- the key of a process that a cause is of
@@ -66,10 +67,15 @@ abbrev pub rule_place : List ℕ → ℕ → RuleCause → Option Place
 rule_place text number rule.NotTable = root_key_place text (codes "rule")
 rule_place text number cause = item_place text Rules number (rule_key cause)
 
+-- where a key stands that no policy has
+abbrev pub odd_place : Option OddKey → Option Place
+odd_place None = None
+odd_place (Some key) = Some (record { line = key.line; column = key.column })
+
 -- where the key or the item stands that a reason is of; of too many pages it is the key `frames`
 abbrev pub reason_place : List ℕ → PolicyReason → Option Place
 reason_place text reason.NotToml = None
-reason_place text reason.OtherKey = None
+reason_place text reason.OtherKey = odd_place (odd_key text)
 reason_place text reason.BadVersion = root_key_place text (codes "version")
 reason_place text reason.BadFrames = root_key_place text (codes "frames")
 reason_place text reason.BadRate = root_key_place text (codes "rate")

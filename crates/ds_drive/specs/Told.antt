@@ -1,6 +1,7 @@
 -- What standard error is told: of a failure, of a fault of a source, and of a check that is refused.
 use Rattle.std.specs.Prelude.{ℕ, ◌-◌, List, [], ◌∷◌, ◌++◌, Option, None, Some, codes, decimal, option_map, slice_get, take}
 use Rattle.ds_asm.specs.declared.fault.SourceFault.{SourceFault}
+use Rattle.ds_asm.specs.declared.fault.SourceFault.TheVariants.{Syntax, UnknownLabel, DoubleLabel, Range, TooLong}
 use Rattle.ds_asm.specs.Assembling.{source_fault_line, source_fault_name, source_fault_number}
 use Rattle.ds_check.specs.declared.places.Place.{Place}
 use Rattle.ds_check.specs.Carets.{caret_line, place_shown}
@@ -13,6 +14,7 @@ use Rattle.ds_policy_reasons.specs.Texts.{input_cause_text, policy_reason_text}
 use Rattle.ds_policy_reasons.specs.declared.reason.PolicyReason.{PolicyReason}
 use Rattle.ds_policy_reasons.specs.declared.reason.PolicyReason.TheVariants as reason
 use Rattle.ds_source_reasons.specs.Carets.{caret_place}
+use Rattle.ds_source_reasons.specs.Missing.{last_word, last_word_place, like_label, missing_text}
 use Rattle.ds_source_reasons.specs.Reasons.{or_next}
 use Rattle.ds_source_reasons.specs.Told.{FaultReason, after_line, after_lines, fault_text, line_in, reason_at}
 use Rattle.ds_station.specs.declared.fault.Fault.{Fault}
@@ -24,6 +26,7 @@ use Rattle.ds_drive.specs.declared.refused.FaultyPolicy.{FaultyPolicy}
 use Rattle.ds_drive.specs.declared.refused.FaultySource.{FaultySource}
 use Rattle.ds_drive.specs.declared.refused.Refused.{Refused}
 use Rattle.ds_drive.specs.Failures.{failure_number}
+use Rattle.ds_drive.specs.Hints.{policy_hint, source_hint}
 use Rattle.ds_drive.specs.Names.{shown_name}
 
 -- a source fault's number and name
@@ -69,29 +72,62 @@ abbrev pub caret_below : List ℕ → Option ℕ → List ℕ
 caret_below line None = []
 caret_below line (Some place) = caret_line (take place line)
 
--- a caret below what a reason quotes of its line, where that has a place
-abbrev pub reason_below : List ℕ → Option FaultReason → List ℕ
-reason_below line None = []
-reason_below line (Some why) = caret_below line (caret_place why line)
+-- where what is wrong with a line stands though its fault has no reason: the label that no line has
+abbrev pub plain_place : List ℕ → SourceFault → Option ℕ
+plain_place line (Syntax n) = None
+plain_place line (UnknownLabel n) = Some (last_word_place line)
+plain_place line (DoubleLabel n) = None
+plain_place line (Range n) = None
+plain_place line (TooLong n) = None
 
--- the line of a source with this number and the caret below it, where the source is shown
-abbrev pub shown_in : Option (List ℕ) → Option FaultReason → ℕ → List ℕ
-shown_in None why number = []
-shown_in (Some text) why number = shown_line text number ++ reason_below (line_at text number) why
+-- where what is wrong with a line stands: what its reason quotes, or the label that no line has
+abbrev pub wrong_place : List ℕ → Option FaultReason → SourceFault → Option ℕ
+wrong_place line None fault = plain_place line fault
+wrong_place line (Some why) fault = caret_place why line
 
--- the line that tells of a fault: what it begins with, the number of the source's line, and the reason; and below it the source's line with a caret, where the source is shown
-abbrev pub told_line : List ℕ → List ℕ → Option (List ℕ) → Option FaultReason → SourceFault → List ℕ
-told_line front place source why fault =
-    fault_head front place fault ++ (decimal (source_fault_line fault) ++ (at_end why ++ (codes "\n" ++ shown_in source why (source_fault_line fault))))
+-- what is said of a label that no line has, which is the last word of this line
+abbrev pub missing_in : List ℕ → List ℕ → List ℕ
+missing_in text line = missing_text (last_word line) (like_label text (last_word line))
 
--- the lines that tell of faults after some lines, each with its reason
-unfoldable pub told_lines : List ℕ → List ℕ → Option (List ℕ) → Passed → List SourceFault → List ℕ
-told_lines front place source p [] = []
-told_lines front place source p (fault ∷ faults) = told_line front place source (reason_after p fault) fault ++ told_lines front place source (pass p fault) faults
+-- what is said of the label that a line names and no line has, where that is the fault
+abbrev pub label_told : List ℕ → List ℕ → SourceFault → List ℕ
+label_told text line (Syntax n) = []
+label_told text line (UnknownLabel n) = missing_in text line
+label_told text line (DoubleLabel n) = []
+label_told text line (Range n) = []
+label_told text line (TooLong n) = []
 
--- the faults of a file with this source, as a listing tells them
+-- a text, where there is one
+abbrev pub text_or_none : Option (List ℕ) → List ℕ
+text_or_none None = []
+text_or_none (Some text) = text
+
+-- how a fault is mended: the words of its reason after their first line, or those of its number
+abbrev pub mending_of : Option FaultReason → SourceFault → List ℕ
+mending_of None fault = text_or_none (mended (source_fault_number fault))
+mending_of (Some why) fault = after_line (fault_text why)
+
+-- a caret below what is wrong with a line, where that has a place, and what is said of the label that no line has
+abbrev pub told_below : List ℕ → List ℕ → Option FaultReason → SourceFault → List ℕ
+told_below text line why fault = caret_below line (wrong_place line why fault) ++ label_told text line fault
+
+-- the line of a source that is at fault, and what is told below it
+abbrev pub fault_shown_in : List ℕ → Option FaultReason → SourceFault → List ℕ
+fault_shown_in text why fault = shown_line text (source_fault_line fault) ++ told_below text (line_at text (source_fault_line fault)) why fault
+
+-- the line that tells of a fault: what it begins with, the number of the source's line, and the reason; and below it the source's line with a caret, and how the fault is mended
+abbrev pub told_line : List ℕ → List ℕ → List ℕ → Option FaultReason → SourceFault → List ℕ
+told_line front place text why fault =
+    fault_head front place fault ++ (decimal (source_fault_line fault) ++ (at_end why ++ (codes "\n" ++ (fault_shown_in text why fault ++ mending_of why fault))))
+
+-- the lines that tell of faults of a source after some lines, each with its reason
+unfoldable pub told_lines : List ℕ → List ℕ → List ℕ → Passed → List SourceFault → List ℕ
+told_lines front place text p [] = []
+told_lines front place text p (fault ∷ faults) = told_line front place text (reason_after p fault) fault ++ told_lines front place text (pass p fault) faults
+
+-- the faults of a file with this source, as a listing tells them, and that it is a policy where it reads as one
 abbrev pub listed_faults : List ℕ → List ℕ → List SourceFault → List ℕ
-listed_faults file text faults = told_lines (codes "dsmon: ") (shown_name file) None (none_passed text) faults
+listed_faults file text faults = told_lines (codes "dsmon: ") (shown_name file) text (none_passed text) faults ++ source_hint text
 
 -- the number and name of a source's fault, the source's name, and the line
 abbrev pub source_fault_words : List ℕ → SourceFault → List ℕ
@@ -134,7 +170,7 @@ policy_shown (Some policy) = place_line policy.place ++ place_shown policy.text.
 -- the source's line of a first fault with the caret below it, where there is one
 abbrev pub fault_shown : List ℕ → Option SourceFault → List ℕ
 fault_shown text None = []
-fault_shown text (Some fault) = shown_in (Some text) (reason_after (none_passed text) fault) (source_fault_line fault)
+fault_shown text (Some fault) = fault_shown_in text (reason_after (none_passed text) fault) fault
 
 -- the line of the first fault of a source that is at fault, where one is
 abbrev pub source_shown : Option FaultySource → List ℕ
@@ -144,7 +180,7 @@ source_shown (Some source) = fault_shown source.text.items (slice_get source.fau
 -- the faults after the first, each with its reason and its line
 abbrev pub others_told : List ℕ → List SourceFault → List ℕ
 others_told text [] = []
-others_told text (first ∷ others) = told_lines (codes "and ") (codes "in line") (Some text) (pass (none_passed text) first) others
+others_told text (first ∷ others) = told_lines (codes "and ") (codes "in line") text (pass (none_passed text) first) others
 
 -- of a source that is at fault, where one is
 abbrev pub others_shown : Option FaultySource → List ℕ
@@ -194,14 +230,13 @@ why_input (Some input) = option_map input_cause_text input.cause
 abbrev pub reason_told : Refused → Option (List ℕ)
 reason_told r = or_next (why_source r.source) (or_next (option_map why_policy r.reason) (why_input r.input))
 
--- a text, where there is one
-abbrev pub text_or_none : Option (List ℕ) → List ℕ
-text_or_none None = []
-text_or_none (Some text) = text
-
 -- that reason with what to write; or how a refusal of this number is mended, where no reason is known
+abbrev pub reason_or_mending : Refused → List ℕ
+reason_or_mending r = text_or_none (or_next (reason_told r) (mended (failure_number r.failure)))
+
+-- the same, and what is told of the policy besides
 abbrev pub why_told : Refused → List ℕ
-why_told r = text_or_none (or_next (reason_told r) (mended (failure_number r.failure)))
+why_told r = reason_or_mending r ++ policy_hint r.policy r.reason
 
 -- what is told of a check that is refused below the failure's line: the place in the policy, and the line of the policy, of the source or of the input with a caret; the reason and how it is mended; and the other faults of the source
 abbrev pub below_text : Refused → List ℕ

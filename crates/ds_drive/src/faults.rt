@@ -1,17 +1,20 @@
 //! The faults of a source, told a line each.
 ghost use Rattle.std.specs.Prelude.{◌≡◌, ◌++◌, IfOk, OnOk, OnErr, option_map, take};
 ghost use Rattle.std.specs.Io.KnownBytes.{Appends};
-ghost use Rattle.ds_asm.specs.Assembling.{source_fault_line};
-ghost use Rattle.ds_drive.specs.Told.{at_end, caret_below, fault_head, fault_name, pass, passed_in, reason_after, reason_below, shown_in, told_line, told_lines};
+ghost use Rattle.ds_drive.specs.Told.{at_end, caret_below, fault_head, fault_name, fault_shown_in, label_told, mending_of, pass, passed_in, plain_place, reason_after, told_below, told_line, told_lines, wrong_place};
 ghost use Rattle.ds_drive.specs.Listening.{is_unwritten};
 ghost use Rattle.ds_drive.specs.declared.faults.Untold.TheVariants as variants;
 ghost use Rattle.ds_log.specs.Sent.{AppendsPart, IsAskedOnce};
 ghost use Rattle.ds_source_reasons.specs.Told.{plain_fault};
 
+use crate::why::push_mending;
 use ds_asm::{SourceFault, first_line};
 use ds_check::{Lines, push_caret};
 use ds_log::{Output, WriteFailed, send};
-use ds_source_reasons::{FaultReason, FaultyLines, caret_place, push_reason};
+use ds_source_reasons::{
+    FaultReason, FaultyLines, caret_place, last_word, last_word_place, like_label, push_missing,
+    push_reason,
+};
 use itoa::Buffer;
 use std::alloc::{AllocError, Global};
 
@@ -19,11 +22,12 @@ use std::alloc::{AllocError, Global};
 const BYTES_AT_ONCE: usize = 32_768;
 
 /// The words of a line that tells of a fault: what it begins with, and what stands before the number
-/// of the source's line.
+/// of the source's line; and the text of the source.
 #[derive(Clone, Copy)]
 pub(crate) struct Wording<'a> {
     pub(crate) front: &'a str,
     pub(crate) place: &'a [u8],
+    pub(crate) text: &'a [u8],
 }
 
 /// What kept a text from being told.
@@ -66,31 +70,38 @@ fn push_head<'a>(
     text.extend_from_slice(b" ")
 }
 
-/// Tells of faults, a line each with the reason at its end, and shows the source's line with a caret
-/// below it where the source's lines are lent. Where the writer fails, or memory runs out, the rest is not
+/// Tells of faults: a line each with the reason at its end, and below it the source's line with a
+/// caret, and how the fault is mended. Where the writer fails, or memory runs out, the rest is not
 /// told.
 #[tactic(auto, using(ds_log::proofs::Sends::asked_both, ds_bare::proofs::CutBetween::asked_none))]
 pub(crate) fn tell_lines<'a, 's, E: Output>(
     alloc: Global,
     err: &mut E,
     wording: Wording<'a>,
-    lines: &mut Option<Lines<'s>>,
     reasons: FaultyLines<'s>,
     faults: &[SourceFault],
 ) -> Result<(), Untold>
     ensures all { OnOk result (Appends (E.contents err.old) (E.contents err.new)
-        (told_lines wording.entry.front.now wording.entry.place.now lines.old
+        (told_lines wording.entry.front.now wording.entry.place.now wording.entry.text.now
         (passed_in reasons.entry) faults.now)) }
     ensures front { OnErr result (AppendsPart (E.contents err.old) (E.contents err.new)
-        (told_lines wording.entry.front.now wording.entry.place.now lines.old
+        (told_lines wording.entry.front.now wording.entry.place.now wording.entry.text.now
         (passed_in reasons.entry) faults.now)) }
     ensures once { IsAskedOnce (E.answers err.old) (E.answers err.new) (is_unwritten result) }
 {
     let mut sheet = Vec::new(alloc);
     let mut words = Vec::new(alloc);
+    let mut lines = Lines::of(wording.text);
     let mut reasons = reasons;
     for fault in faults {
-        push_told(&mut sheet, &mut words, wording, lines, &mut reasons, fault)?;
+        push_told(
+            &mut sheet,
+            &mut words,
+            wording,
+            &mut lines,
+            &mut reasons,
+            fault,
+        )?;
         if sheet.len() >= BYTES_AT_ONCE {
             send(err, &sheet)?;
             sheet.clear();
@@ -100,19 +111,20 @@ pub(crate) fn tell_lines<'a, 's, E: Output>(
     Ok(())
 }
 
-/// Adds all that is told of a fault: its line with the reason, and the source's line with a caret
-/// where the source's lines are lent.
+/// Adds all that is told of a fault: its line with the reason, the source's line with a caret, and
+/// how it is mended.
 #[inline(never)]
 fn push_told<'a, 's>(
     sheet: &mut Vec<u8>,
     words: &mut Vec<u8>,
     wording: Wording<'a>,
-    lines: &mut Option<Lines<'s>>,
+    lines: &mut Lines<'a>,
     reasons: &mut FaultyLines<'s>,
     fault: &SourceFault,
 ) -> Result<(), AllocError>
+    requires { lines.old ≡ wording.text.now }
     ensures text { OnOk result (sheet.new.items ≡ sheet.old.items
-        ++ told_line wording.entry.front.now wording.entry.place.now lines.old
+        ++ told_line wording.entry.front.now wording.entry.place.now wording.entry.text.now
         (reason_after (passed_in reasons.old) fault.now) fault.now) }
     ensures same { lines.new ≡ lines.old }
     ensures passed { passed_in reasons.new ≡ pass (passed_in reasons.old) fault.now }
@@ -122,7 +134,8 @@ fn push_told<'a, 's>(
     sheet.extend_from_slice(Buffer::new().format(fault.line()).as_bytes())?;
     push_reason_line(sheet, words, reason)?;
     sheet.push(b'\n')?;
-    push_shown(sheet, lines, reason, fault)
+    push_fault_shown(sheet, wording.text, lines, reason, fault)?;
+    push_mending_of(sheet, words, reason, fault)
 }
 
 /// Adds what stands at the end of a fault's line: the first line of its reason, where it has one.
@@ -145,39 +158,108 @@ fn push_reason_line<'s>(
     }
 }
 
-/// Adds the line of the source that is at fault and the caret, where the source's lines are lent.
-pub(crate) fn push_shown<'s>(
+/// Adds how a fault is mended: what its reason says after the first line, or the words of its
+/// number.
+fn push_mending_of<'s>(
     sheet: &mut Vec<u8>,
-    lines: &mut Option<Lines<'s>>,
+    words: &mut Vec<u8>,
     reason: Option<FaultReason<'s>>,
     fault: &SourceFault,
 ) -> Result<(), AllocError>
-    ensures text { OnOk result (sheet.new.items ≡ sheet.old.items ++ shown_in lines.old
-        (option_map plain_fault reason.entry) (source_fault_line fault.now)) }
-    ensures same { lines.new ≡ lines.old }
+    ensures { OnOk result (sheet.new.items ≡ sheet.old.items
+        ++ mending_of (option_map plain_fault reason.entry) fault.now) }
 {
-    match lines {
-        Some(lines) => {
-            lines.push(sheet, fault.line())?;
-            let line = lines.line(fault.line());
-            push_below(sheet, line, reason)
+    match reason {
+        Some(reason) => {
+            words.clear();
+            push_reason(words, reason)?;
+            sheet.extend_from_slice(first_line(words).1)
         }
-        None => Ok(()),
+        None => push_mending(sheet, fault.number()),
     }
 }
 
-/// Adds a caret below what a reason quotes of its line, where that has a place.
-fn push_below<'s>(
+/// Adds the line of the source that is at fault with a caret, and what is said of the label that no
+/// line has, where that is the fault.
+pub(crate) fn push_fault_shown<'a, 's>(
     sheet: &mut Vec<u8>,
+    text: &'a [u8],
+    lines: &mut Lines<'a>,
+    reason: Option<FaultReason<'s>>,
+    fault: &SourceFault,
+) -> Result<(), AllocError>
+    requires { lines.old ≡ text.now }
+    ensures text { OnOk result (sheet.new.items ≡ sheet.old.items
+        ++ fault_shown_in text.now (option_map plain_fault reason.entry) fault.now) }
+    ensures same { lines.new ≡ lines.old }
+{
+    lines.push(sheet, fault.line())?;
+    push_told_below(sheet, text, lines.line(fault.line()), reason, fault)
+}
+
+/// Adds a caret below what is wrong with a line, where that has a place, and what is said of the
+/// label that no line has.
+fn push_told_below<'s>(
+    sheet: &mut Vec<u8>,
+    text: &[u8],
     line: &[u8],
     reason: Option<FaultReason<'s>>,
+    fault: &SourceFault,
 ) -> Result<(), AllocError>
-    ensures { OnOk result (sheet.new.items
-        ≡ sheet.old.items ++ reason_below line.now (option_map plain_fault reason.entry)) }
+    ensures { OnOk result (sheet.new.items ≡ sheet.old.items
+        ++ told_below text.now line.now (option_map plain_fault reason.entry) fault.now) }
+{
+    push_caret_at(sheet, line, wrong_place(line, reason, fault))?;
+    push_label_told(sheet, text, line, fault)
+}
+
+/// Where what is wrong with a line stands: what its reason quotes, or the label that no line has.
+fn wrong_place<'s>(
+    line: &[u8],
+    reason: Option<FaultReason<'s>>,
+    fault: &SourceFault,
+) -> Option<usize>
+    ensures { result ≡ wrong_place line.now (option_map plain_fault reason.entry) fault.now }
 {
     match reason {
-        Some(reason) => push_caret_at(sheet, line, caret_place(reason, line)),
-        None => Ok(()),
+        Some(reason) => caret_place(reason, line),
+        None => plain_place(line, fault),
+    }
+}
+
+/// Where what is wrong with a line stands though its fault has no reason: the label that no line
+/// has.
+fn plain_place(line: &[u8], fault: &SourceFault) -> Option<usize>
+    ensures { result ≡ plain_place line.now fault.now }
+{
+    match fault {
+        SourceFault::UnknownLabel(_) => Some(last_word_place(line)),
+        SourceFault::Syntax(_)
+        | SourceFault::DoubleLabel(_)
+        | SourceFault::Range(_)
+        | SourceFault::TooLong(_) => None,
+    }
+}
+
+/// Adds what is said of the label that a line names and no line has, where that is the fault.
+fn push_label_told(
+    sheet: &mut Vec<u8>,
+    text: &[u8],
+    line: &[u8],
+    fault: &SourceFault,
+) -> Result<(), AllocError>
+    ensures { OnOk result (sheet.new.items
+        ≡ sheet.old.items ++ label_told text.now line.now fault.now) }
+{
+    match fault {
+        SourceFault::UnknownLabel(_) => {
+            let name = last_word(line);
+            push_missing(sheet, name, like_label(text, name))
+        }
+        SourceFault::Syntax(_)
+        | SourceFault::DoubleLabel(_)
+        | SourceFault::Range(_)
+        | SourceFault::TooLong(_) => Ok(()),
     }
 }
 

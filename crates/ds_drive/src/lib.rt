@@ -7,6 +7,7 @@ mod demo;
 mod failure;
 mod faults;
 mod files;
+mod hints;
 mod inside;
 mod list;
 mod names;

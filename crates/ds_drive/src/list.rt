@@ -1,17 +1,22 @@
 //! A file listed: a source with its bytes, or the words of a file as a source.
-ghost use Rattle.std.specs.Prelude.{◌≡◌, ◌∷◌, ℕ, List, [], IfErr, IfOk, OnOk};
+ghost use Rattle.std.specs.Io.KnownBytes.{Appends};
+ghost use Rattle.std.specs.Prelude.{◌≡◌, ◌∷◌, ◌++◌, ℕ, List, [], IfErr, IfOk, OnErr, OnOk};
 ghost use Rattle.ds_drive.specs.Listed.{IsListed, Lists, FailsBy};
-ghost use Rattle.ds_drive.specs.Listening.{TellsSome, listener};
+ghost use Rattle.ds_drive.specs.Hints.{source_hint};
+ghost use Rattle.ds_drive.specs.Listening.{TellsSome, is_unwritten, listener};
 ghost use Rattle.ds_drive.specs.Reading.{ReadsAll, ReadsUntil, TellsOf};
-ghost use Rattle.ds_drive.specs.Told.{listed_faults};
+ghost use Rattle.ds_drive.specs.Told.{listed_faults, none_passed, passed_in, told_lines};
+ghost use Rattle.ds_log.specs.Sent.{AppendsPart, IsAskedOnce};
 
 use crate::failure::Failure;
-use crate::faults::{Wording, tell_lines};
+use crate::faults::{Untold, Wording, tell_lines};
 use crate::files::Files;
+use crate::hints::push_source_hint;
 use crate::names::send_name;
 use crate::refused::FaultySource;
 use crate::run::named_file;
 use crate::status::INPUT_REFUSED;
+use ds_asm::SourceFault;
 use ds_listing::{Listed, listing_or_faults, source_of_file};
 use ds_log::{Output, send};
 use ds_source_reasons::FaultyLines;
@@ -74,8 +79,9 @@ pub fn list_file<'a, F: Files, W: Write>(
     }
 }
 
-/// Tells of the faults of a source, a line for each with the reason at its end, and answers the
-/// status. Where the writer fails, or memory runs out, the rest is not told.
+/// Tells of the faults of a source, a line for each with the reason at its end, and below it the
+/// source's line with a caret and how the fault is mended. Answers the status. Where the writer fails,
+/// or memory runs out, the rest is not told.
 #[tactic(auto, using(crate::proofs::Heard::told_some, crate::proofs::Heard::told_nothing))]
 pub fn tell_faults<E: Output>(alloc: Global, err: &mut E, file: &str, source: &FaultySource) -> u8
     ensures status { result ≡ 2 }
@@ -90,8 +96,51 @@ pub fn tell_faults<E: Output>(alloc: Global, err: &mut E, file: &str, source: &F
     let wording = Wording {
         front: "dsmon: ",
         place: &place,
+        text: &source.text,
     };
-    let reasons = FaultyLines::of(&source.text);
-    let _ = tell_lines(alloc, err, wording, &mut None, reasons, &source.faults);
+    let _ = send_listed(alloc, err, wording, &source.faults);
     INPUT_REFUSED
+}
+
+/// Hands the lines of all faults of a source to the writer, and that it is a policy where it reads as
+/// one.
+#[tactic(auto, using(ds_log::proofs::Sends::asked_both))]
+fn send_listed<'a, E: Output>(
+    alloc: Global,
+    err: &mut E,
+    wording: Wording<'a>,
+    faults: &[SourceFault],
+) -> Result<(), Untold>
+    ensures all { OnOk result (Appends (E.contents err.old) (E.contents err.new)
+        (told_lines wording.entry.front.now wording.entry.place.now wording.entry.text.now
+        (none_passed wording.entry.text.now) faults.now ++ source_hint wording.entry.text.now)) }
+    ensures front { OnErr result (AppendsPart (E.contents err.old) (E.contents err.new)
+        (told_lines wording.entry.front.now wording.entry.place.now wording.entry.text.now
+        (none_passed wording.entry.text.now) faults.now ++ source_hint wording.entry.text.now)) }
+    ensures once { IsAskedOnce (E.answers err.old) (E.answers err.new) (is_unwritten result) }
+{
+    tell_lines(alloc, err, wording, no_line_passed(wording.text), faults)?;
+    send_source_hint(alloc, err, wording.text)
+}
+
+/// The lines of a source, of which none was passed.
+#[tactic(auto, using(crate::proofs::Tellings::passed_none))]
+fn no_line_passed(text: &[u8]) -> FaultyLines<'_>
+    ensures { passed_in result ≡ none_passed text.now }
+{
+    FaultyLines::of(text)
+}
+
+/// Tells that a source is a policy, where it reads as one.
+fn send_source_hint<E: Output>(alloc: Global, err: &mut E, text: &[u8]) -> Result<(), Untold>
+    ensures all { OnOk result (Appends (E.contents err.old) (E.contents err.new)
+        (source_hint text.now)) }
+    ensures front { OnErr result (AppendsPart (E.contents err.old) (E.contents err.new)
+        (source_hint text.now)) }
+    ensures once { IsAskedOnce (E.answers err.old) (E.answers err.new) (is_unwritten result) }
+{
+    let mut hint = Vec::new(alloc);
+    push_source_hint(&mut hint, text)?;
+    send(err, &hint)?;
+    Ok(())
 }

@@ -1,9 +1,10 @@
 //! Where in its text the key or the item stands for which a policy is refused.
 ghost use Rattle.std.specs.Prelude.{◌≡◌, ◌≤◌, length, option_map};
-ghost use Rattle.ds_drive.specs.PolicyPlaces.{array_place, page_key, page_place, process_key, process_place, reason_place, rule_key, rule_place};
+ghost use Rattle.ds_policy_reasons.specs.Keys.{plain_odd};
+ghost use Rattle.ds_drive.specs.PolicyPlaces.{array_place, odd_place, page_key, page_place, process_key, process_place, reason_place, rule_key, rule_place};
 
 use ds_check::{Items, Place, item_place, root_key_place};
-use ds_policy_reasons::{PageCause, PolicyReason, ProcessCause, RuleCause};
+use ds_policy_reasons::{OddKey, PageCause, PolicyReason, ProcessCause, RuleCause, odd_key};
 
 /// Where the key or the item stands that a reason is of, where it is found: of a key that a process,
 /// a page or a rule has not, the item itself.
@@ -12,7 +13,8 @@ pub(crate) fn reason_place(text: &[u8], reason: PolicyReason) -> Option<Place>
     ensures { result ≡ reason_place text.now reason }
 {
     match reason {
-        PolicyReason::NotToml | PolicyReason::OtherKey => None,
+        PolicyReason::NotToml => None,
+        PolicyReason::OtherKey => odd_place(odd_key(text)),
         PolicyReason::BadVersion => root_key_place(text, "version"),
         PolicyReason::BadFrames => root_key_place(text, "frames"),
         PolicyReason::BadRate => root_key_place(text, "rate"),
@@ -25,6 +27,19 @@ pub(crate) fn reason_place(text: &[u8], reason: PolicyReason) -> Option<Place>
         PolicyReason::Page { number, cause } => page_place(text, number, cause),
         PolicyReason::RuleCount => array_place(text, "rule", Items::Rules, 1000),
         PolicyReason::Rule { number, cause } => rule_place(text, number, cause),
+    }
+}
+
+/// Where a key stands that no policy has.
+fn odd_place(key: Option<OddKey<'_>>) -> Option<Place>
+    ensures { result ≡ odd_place (option_map plain_odd key.entry) }
+{
+    match key {
+        Some(key) => Some(Place {
+            line: key.line,
+            column: key.column,
+        }),
+        None => None,
     }
 }
 

@@ -1,17 +1,17 @@
 //! What standard error is told of a failure, and of a check that is refused.
-ghost use Rattle.std.specs.Prelude.{◌≡◌, ◌++◌, OnErr, OnOk, Some, codes, flat_map, is_err};
-ghost use Rattle.ds_asm.specs.Assembling.{source_fault_line};
+ghost use Rattle.std.specs.Prelude.{◌≡◌, ◌++◌, OnErr, OnOk, codes, flat_map, is_err};
 ghost use Rattle.std.specs.Io.KnownBytes.{Appends};
 ghost use Rattle.ds_check.specs.Carets.{place_shown};
 ghost use Rattle.ds_drive.specs.Failures.{failure_number};
 ghost use Rattle.ds_drive.specs.Listening.{Tells, TellsSome, is_unwritten, listener};
 ghost use Rattle.ds_drive.specs.Names.{shown_name};
 ghost use Rattle.ds_drive.specs.Statuses.{fault_status};
-ghost use Rattle.ds_drive.specs.Told.{below_text, cause_below, cause_shown, failure_line, fault_words, input_shown, none_passed, others_shown, others_told, pass, passed_in, place_line, policy_shown, reason_after, shown_in, source_fault_words, source_shown, why_told};
+ghost use Rattle.ds_drive.specs.Told.{below_text, cause_below, cause_shown, failure_line, fault_shown_in, fault_words, input_shown, none_passed, others_shown, others_told, pass, passed_in, place_line, policy_shown, reason_after, reason_or_mending, source_fault_words, source_shown, why_told};
 ghost use Rattle.ds_log.specs.Sent.{AppendsPart, IsAskedOnce};
 
 use crate::failure::Failure;
-use crate::faults::{Untold, Wording, push_caret_at, push_shown, tell_lines};
+use crate::faults::{Untold, Wording, push_caret_at, push_fault_shown, tell_lines};
+use crate::hints::push_policy_hint;
 use crate::names::send_name;
 use crate::refused::{FaultyInput, FaultyPolicy, FaultySource, Refused};
 use crate::status::status_of;
@@ -283,17 +283,15 @@ fn show_fault<E: Output>(
     first: &SourceFault,
 ) -> Result<(), Untold>
     ensures all { OnOk result (Appends (E.contents err.old) (E.contents err.new)
-        (shown_in (Some text.now) (reason_after (none_passed text.now) first.now)
-        (source_fault_line first.now))) }
+        (fault_shown_in text.now (reason_after (none_passed text.now) first.now) first.now)) }
     ensures front { OnErr result (AppendsPart (E.contents err.old) (E.contents err.new)
-        (shown_in (Some text.now) (reason_after (none_passed text.now) first.now)
-        (source_fault_line first.now))) }
+        (fault_shown_in text.now (reason_after (none_passed text.now) first.now) first.now)) }
     ensures once { IsAskedOnce (E.answers err.old) (E.answers err.new) (is_unwritten result) }
 {
-    let mut lines = Some(Lines::of(text));
+    let mut lines = Lines::of(text);
     let mut shown = Vec::new(alloc);
     let reason = first_reason(text, first);
-    push_shown(&mut shown, &mut lines, reason, first)?;
+    push_fault_shown(&mut shown, text, &mut lines, reason, first)?;
     send(err, &shown)?;
     Ok(())
 }
@@ -316,7 +314,7 @@ fn send_others<E: Output>(
     }
 }
 
-/// Tells of the faults after the first, each with its reason and its line.
+/// Tells of the faults after the first, each with its reason, its line and how it is mended.
 fn send_faults<E: Output>(
     alloc: Global,
     err: &mut E,
@@ -332,12 +330,12 @@ fn send_faults<E: Output>(
     let wording = Wording {
         front: "and ",
         place: b"in line",
+        text,
     };
     match faults {
         [first, others @ ..] => {
             let reasons = after_first(text, first);
-            let mut lines = Some(Lines::of(text));
-            tell_lines(alloc, err, wording, &mut lines, reasons, others)
+            tell_lines(alloc, err, wording, reasons, others)
         }
         [] => Ok(()),
     }
@@ -407,7 +405,8 @@ fn push_cause_below(
     }
 }
 
-/// Tells why a check is refused with what to write; where no reason is known, how it is mended.
+/// Tells why a check is refused with what to write, or how it is mended, where no reason is known;
+/// and what is told of the policy besides.
 fn send_why<'a, E: Output>(alloc: Global, err: &mut E, refused: &Refused<'a>) -> Result<(), Untold>
     ensures all { OnOk result (Appends (E.contents err.old) (E.contents err.new)
         (why_told refused.now)) }
@@ -416,9 +415,26 @@ fn send_why<'a, E: Output>(alloc: Global, err: &mut E, refused: &Refused<'a>) ->
     ensures once { IsAskedOnce (E.answers err.old) (E.answers err.new) (is_unwritten result) }
 {
     let mut sheet = Vec::new(alloc);
-    if !push_reason_told(&mut sheet, refused)? {
-        push_mending(&mut sheet, refused.failure.number())?;
-    }
+    push_why(&mut sheet, refused)?;
     send(err, &sheet)?;
     Ok(())
+}
+
+/// Adds why a check is refused, and what is told of the policy besides.
+fn push_why<'a>(sheet: &mut Vec<u8>, refused: &Refused<'a>) -> Result<(), AllocError>
+    ensures { OnOk result (sheet.new.items ≡ sheet.old.items ++ why_told refused.now) }
+{
+    push_reason_or_mending(sheet, refused)?;
+    push_policy_hint(sheet, &refused.policy, refused.reason)
+}
+
+/// Adds why a check is refused with what to write; where no reason is known, how it is mended.
+fn push_reason_or_mending<'a>(sheet: &mut Vec<u8>, refused: &Refused<'a>) -> Result<(), AllocError>
+    ensures { OnOk result (sheet.new.items ≡ sheet.old.items ++ reason_or_mending refused.now) }
+{
+    if push_reason_told(sheet, refused)? {
+        Ok(())
+    } else {
+        push_mending(sheet, refused.failure.number())
+    }
 }

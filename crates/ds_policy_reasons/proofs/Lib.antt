@@ -7,3 +7,5 @@ pub mod PolicyLaws
 pub mod Exactness
 pub mod WordsExact
 pub mod RulesExact
+pub mod OddKeys
+pub mod FirstSaid

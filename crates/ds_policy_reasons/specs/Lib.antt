@@ -10,4 +10,7 @@ pub mod PolicyPages
 pub mod Rules
 pub mod Policies
 pub mod Texts
+pub mod Keys
+pub mod Kinds
+pub mod KeyRows
 pub mod PolicyRows

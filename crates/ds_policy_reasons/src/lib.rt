@@ -7,6 +7,8 @@ mod document;
 mod input;
 mod input_cause;
 mod input_texts;
+mod keys;
+mod kinds;
 mod laws;
 mod layout;
 mod pages;
@@ -23,6 +25,8 @@ mod words;
 pub use cause_places::cause_place;
 pub use input::{InputReason, input_reason};
 pub use input_cause::InputCause;
+pub use keys::{OddKey, meant_key, odd_key, push_odd_key};
+pub use kinds::{reads_as_policy, reads_as_source};
 pub use laws::{
     a_page_has_a_cause_where_it_is_refused, a_policy_has_a_reason_where_it_is_refused,
     a_process_has_a_cause_where_it_is_refused, a_rule_has_a_cause_where_it_is_refused_by_itself,

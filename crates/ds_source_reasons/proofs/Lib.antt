@@ -4,3 +4,5 @@ pub mod FirstLetters
 pub mod Passed
 pub mod Reach
 pub mod Carets
+pub mod Labels
+pub mod Fronts

@@ -2,7 +2,7 @@
 use Rattle.std.specs.Prelude.{ℕ, suc, ◌+◌, ◌&&◌, ◌==◌, nat_le, if◌then◌else◌, List, [], ◌∷◌, length, drop, Option, None, Some, option_map, is_some}
 use Rattle.std.specs.List.{starts_with}
 use Rattle.ds_asm.specs.Characters.{until}
-use Rattle.ds_source_reasons.specs.Reasons.{ByteOrderMark, NoSuchDirective, Macro, NoSuchByte, CarriageReturn, SpacedColon, NotALabel, SecondColon, UpperCase, NoSuchMnemonic, Operands, TextAfter, NoSuchRegister, WrongOperand}
+use Rattle.ds_source_reasons.specs.Reasons.{ByteOrderMark, NoSuchDirective, Macro, NoSuchByte, CarriageReturn, SpacedColon, NotALabel, SecondColon, UpperCase, NoSuchMnemonic, Operands, OneNumber, TextAfter, NoSuchRegister, WrongOperand}
 use Rattle.ds_source_reasons.specs.Ranges.{OutOfRange, NotAligned, Reserved, Target}
 use Rattle.ds_source_reasons.specs.Told.{FaultReason, Unread, OutOf}
 
@@ -19,6 +19,7 @@ quote_of (Unread SecondColon) = []
 quote_of (Unread (UpperCase name)) = name
 quote_of (Unread (NoSuchMnemonic name)) = name
 quote_of (Unread (Operands least most found)) = []
+quote_of (Unread (OneNumber found)) = []
 quote_of (Unread (TextAfter text)) = text
 quote_of (Unread (NoSuchRegister name)) = name
 quote_of (Unread (WrongOperand number wanted found)) = found

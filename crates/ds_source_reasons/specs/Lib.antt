@@ -4,6 +4,8 @@ pub mod Plain
 pub mod Ranges
 pub mod PlainRanges
 pub mod Texts
+pub mod Likeness
+pub mod Missing
 pub mod Told
 pub mod Carets
 pub mod CaretRows
@@ -11,3 +13,4 @@ pub mod OnLines
 pub mod SyntaxRows
 pub mod RangeRows
 pub mod TextRows
+pub mod MissingRows

@@ -1,7 +1,7 @@
 -- The reasons as the code holds them, with what stands in the line as lists of bytes.
 use Rattle.ds_source_reasons.specs.declared.reason.SyntaxReason.{SyntaxReason}
 use Rattle.ds_source_reasons.specs.declared.reason.SyntaxReason.TheVariants as code
-use Rattle.ds_source_reasons.specs.Reasons.{Reason, ByteOrderMark, NoSuchDirective, Macro, NoSuchByte, CarriageReturn, SpacedColon, NotALabel, SecondColon, UpperCase, NoSuchMnemonic, Operands, TextAfter, NoSuchRegister, WrongOperand}
+use Rattle.ds_source_reasons.specs.Reasons.{Reason, ByteOrderMark, NoSuchDirective, Macro, NoSuchByte, CarriageReturn, SpacedColon, NotALabel, SecondColon, UpperCase, NoSuchMnemonic, Operands, OneNumber, TextAfter, NoSuchRegister, WrongOperand}
 
 -- a reason, with its texts as lists
 abbrev pub plain_reason : SyntaxReason → Reason
@@ -16,6 +16,7 @@ plain_reason code.SecondColon = SecondColon
 plain_reason (code.UpperCase name) = UpperCase name.now
 plain_reason (code.NoSuchMnemonic name) = NoSuchMnemonic name.now
 plain_reason (code.Operands least most found) = Operands least most found
+plain_reason (code.OneNumber found) = OneNumber found
 plain_reason (code.TextAfter text) = TextAfter text.now
 plain_reason (code.NoSuchRegister name) = NoSuchRegister name.now
 plain_reason (code.Operand number wanted found) = WrongOperand number wanted found.now

@@ -25,6 +25,7 @@ pub data Reason : Type 0 where
   UpperCase : (name : List ℕ) → Reason
   NoSuchMnemonic : (name : List ℕ) → Reason
   Operands : (least most found : ℕ) → Reason
+  OneNumber : (found : ℕ) → Reason
   TextAfter : (text : List ℕ) → Reason
   NoSuchRegister : (name : List ℕ) → Reason
   WrongOperand : (number : ℕ) (wanted : Wanted) (found : List ℕ) → Reason
@@ -107,10 +108,14 @@ abbrev pub instruction_reason : List ℕ → Option (List ℕ) → Option Writte
 instruction_reason name left None = Some (no_mnemonic name)
 instruction_reason name left (Some f) = option_map (counted_by f.operands left) (operands_reason 1 f.operands left)
 
+-- the reason, unless a directive has another number of operands than one
+abbrev pub one_number : ℕ → Reason → Reason
+one_number found why = if found == 1 then why else OneNumber found
+
 -- the reason of a directive, which has one operand
 abbrev pub directive_reason : Wanted → Option (List ℕ) → Option Reason
-directive_reason w None = Some (Operands 1 1 0)
-directive_reason w (Some text) = if fits w text then None else Some (counted 1 1 (operand_count (Some text)) (misfit 1 w text))
+directive_reason w None = Some (OneNumber 0)
+directive_reason w (Some text) = if fits w text then None else Some (one_number (operand_count (Some text)) (misfit 1 w text))
 
 -- the reason of a statement by its first word and what stands after it
 unfoldable pub statement_reason : List ℕ → Option (List ℕ) → Option Reason

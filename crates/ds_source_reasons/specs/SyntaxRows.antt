@@ -2,7 +2,7 @@
 use Rattle.std.specs.Prelude.{codes, refl, ◌≡◌, ℕ, List, [], ◌∷◌, ◌++◌, map, Option, Some, None}
 use Rattle.ds_source_reasons.specs.declared.reason.Wanted.TheVariants as wanted
 use Rattle.ds_source_reasons.specs.OnLines.{reasons_on_literals}
-use Rattle.ds_source_reasons.specs.Reasons.{Reason, ByteOrderMark, NoSuchDirective, Macro, NoSuchByte, CarriageReturn, SpacedColon, NotALabel, SecondColon, UpperCase, NoSuchMnemonic, Operands, TextAfter, NoSuchRegister, WrongOperand, reason_of}
+use Rattle.ds_source_reasons.specs.Reasons.{Reason, ByteOrderMark, NoSuchDirective, Macro, NoSuchByte, CarriageReturn, SpacedColon, NotALabel, SecondColon, UpperCase, NoSuchMnemonic, Operands, OneNumber, TextAfter, NoSuchRegister, WrongOperand, reason_of}
 
 -- a line, and its reason if it has one
 abbrev LineRow : Type 0
@@ -84,8 +84,9 @@ operand_lines =
     ∷ (codes "jr", Some (Operands 1 1 0))
     ∷ (codes "syscall 1, 2", Some (Operands 0 1 2))
     ∷ (codes "jalr $1, $2, $3", Some (Operands 1 2 3))
-    ∷ (codes ".byte 1, 2", Some (Operands 1 1 2))
-    ∷ (codes ".space", Some (Operands 1 1 0))
+    ∷ (codes ".byte 1, 2", Some (OneNumber 2))
+    ∷ (codes ".word 1, 2, 3", Some (OneNumber 3))
+    ∷ (codes ".space", Some (OneNumber 0))
     ∷ (codes "nop nop", Some (TextAfter (codes "nop")))
     ∷ (codes "j loop nop", Some (TextAfter (codes "nop")))
     ∷ (codes "addu $1, $2, $3 $4", Some (TextAfter (codes "$4")))

@@ -1,11 +1,12 @@
 -- The words in which a reason is told.
 use Rattle.std.specs.Prelude.{codes, decimal, ℕ, ◌-◌, ◌%◌, Bool, ◌&&◌, ◌||◌, ◌==◌, nat_le, nat_lt, bytes_eq, position, if◌then◌else◌, List, [], ◌∷◌, ◌++◌, map, take, Option, Some, None}
-use Rattle.std.specs.List.{list_any, slice_get}
+use Rattle.std.specs.List.{ends_with, list_any, slice_get}
 use Rattle.ds_source_reasons.specs.declared.reason.Wanted.{Wanted}
 use Rattle.ds_source_reasons.specs.declared.reason.Wanted.TheVariants as wanted
+use Rattle.ds_source_reasons.specs.declared.elsewhere.TheConstants.{MIPS_II, MIPS_III, MIPS_IV, MIPS_32, FLOATING_POINT, COPROCESSORS, OTHERS, OTHERS_INSTEAD}
 use Rattle.ds_source_reasons.specs.declared.macros.TheConstants.{MACROS, MACROS_INSTEAD, DIRECTIVES, DIRECTIVES_INSTEAD, OTHER_DIRECTIVE}
 use Rattle.ds_source_reasons.specs.declared.texts.TheConstants as texts
-use Rattle.ds_source_reasons.specs.Reasons.{Reason, ByteOrderMark, NoSuchDirective, Macro, NoSuchByte, CarriageReturn, SpacedColon, NotALabel, SecondColon, UpperCase, NoSuchMnemonic, Operands, TextAfter, NoSuchRegister, WrongOperand}
+use Rattle.ds_source_reasons.specs.Reasons.{Reason, ByteOrderMark, NoSuchDirective, Macro, NoSuchByte, CarriageReturn, SpacedColon, NotALabel, SecondColon, UpperCase, NoSuchMnemonic, Operands, OneNumber, TextAfter, NoSuchRegister, WrongOperand}
 use Rattle.ds_source_reasons.specs.Ranges.{RangeReason, OutOfRange, NotAligned, Reserved, Target}
 
 -- a character as it is shown
@@ -38,6 +39,45 @@ macro_instead name = at_place (position (λ m. bytes_eq m.now name) MACROS) (map
 unfoldable pub directive_instead : List ℕ → List ℕ
 directive_instead name = at_place (position (λ m. bytes_eq m.now name) DIRECTIVES) (map (λ t. t.now) DIRECTIVES_INSTEAD) OTHER_DIRECTIVE.now
 
+-- whether an instruction came with MIPS II
+abbrev pub is_of_mips_ii : List ℕ → Bool
+is_of_mips_ii name = list_any (λ m. bytes_eq m.now name) MIPS_II
+
+-- with MIPS III
+abbrev pub is_of_mips_iii : List ℕ → Bool
+is_of_mips_iii name = list_any (λ m. bytes_eq m.now name) MIPS_III
+
+-- with MIPS IV
+abbrev pub is_of_mips_iv : List ℕ → Bool
+is_of_mips_iv name = list_any (λ m. bytes_eq m.now name) MIPS_IV
+
+-- with MIPS32
+abbrev pub is_of_mips_32 : List ℕ → Bool
+is_of_mips_32 name = list_any (λ m. bytes_eq m.now name) MIPS_32
+
+-- whether a word ends as the instructions do that compute with single, double or fixed numbers of a floating-point unit
+abbrev pub has_float_end : List ℕ → Bool
+has_float_end name = ends_with (λ a b. a == b) name (codes ".s") || ends_with (λ a b. a == b) name (codes ".d") || ends_with (λ a b. a == b) name (codes ".w")
+
+-- whether an instruction is of a floating-point unit
+abbrev pub is_of_floating_point : List ℕ → Bool
+is_of_floating_point name = list_any (λ m. bytes_eq m.now name) FLOATING_POINT || has_float_end name
+
+-- whether it is of coprocessor 2 or 3
+abbrev pub is_of_coprocessor : List ℕ → Bool
+is_of_coprocessor name = list_any (λ m. bytes_eq m.now name) COPROCESSORS
+
+-- what is said after a word that is no mnemonic: which processors have it, or what is written in its place
+unfoldable pub mnemonic_instead : List ℕ → List ℕ
+mnemonic_instead name =
+    if is_of_mips_ii name then texts.OF_MIPS_II.now
+    else if is_of_mips_iii name then texts.OF_MIPS_III.now
+    else if is_of_mips_iv name then texts.OF_MIPS_IV.now
+    else if is_of_mips_32 name then texts.OF_MIPS_32.now
+    else if is_of_floating_point name then texts.OF_FLOATING_POINT.now
+    else if is_of_coprocessor name then texts.OF_COPROCESSOR.now
+    else at_place (position (λ m. bytes_eq m.now name) OTHERS) (map (λ t. t.now) OTHERS_INSTEAD) texts.AFTER_NO_MNEMONIC.now
+
 -- whether a byte is one of these
 abbrev pub is_one_of : List ℕ → ℕ → Bool
 is_one_of bytes c = list_any (λ b. b == c) bytes
@@ -67,6 +107,10 @@ counts_text least most = if least == most then decimal most else decimal least +
 abbrev pub operands_text : ℕ → ℕ → ℕ → List ℕ
 operands_text least most found = texts.OPERANDS.now ++ counts_text least most ++ texts.OPERANDS_FOUND.now ++ decimal found ++ texts.AFTER_OPERANDS.now
 
+-- a directive with another number of operands than one
+abbrev pub one_number_text : ℕ → List ℕ
+one_number_text found = texts.ONE_NUMBER.now ++ decimal found ++ texts.AFTER_ONE_NUMBER.now
+
 -- an operand that is to be something else
 abbrev pub operand_text : ℕ → Wanted → List ℕ → List ℕ
 operand_text number w found = texts.OPERAND.now ++ decimal number ++ quoted texts.OPERAND_FOUND.now found (after_wanted w)
@@ -82,8 +126,9 @@ reason_text (SpacedColon name) = quoted texts.SPACED_COLON.now name texts.AFTER_
 reason_text (NotALabel name) = quoted texts.QUOTE.now name texts.AFTER_NOT_A_LABEL.now
 reason_text SecondColon = texts.SECOND_COLON.now
 reason_text (UpperCase name) = quoted texts.QUOTE.now name texts.AFTER_UPPER_CASE.now
-reason_text (NoSuchMnemonic name) = quoted texts.NO_MNEMONIC.now name texts.AFTER_NO_MNEMONIC.now
+reason_text (NoSuchMnemonic name) = quoted texts.NO_MNEMONIC.now name (mnemonic_instead name)
 reason_text (Operands least most found) = operands_text least most found
+reason_text (OneNumber found) = one_number_text found
 reason_text (TextAfter text) = quoted texts.QUOTE.now text texts.AFTER_TEXT.now
 reason_text (NoSuchRegister name) = quoted texts.NO_REGISTER.now name texts.AFTER_NO_REGISTER.now
 reason_text (WrongOperand number w found) = operand_text number w found

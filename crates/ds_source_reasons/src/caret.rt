@@ -40,7 +40,8 @@ fn quote_of(reason: FaultReason<'_>) -> &[u8]
             | SyntaxReason::NoSuchByte(_)
             | SyntaxReason::CarriageReturn
             | SyntaxReason::SecondColon
-            | SyntaxReason::Operands { .. } => &[],
+            | SyntaxReason::Operands { .. }
+            | SyntaxReason::OneNumber(_) => &[],
         },
         FaultReason::Range(reason) => match reason {
             RangeReason::OutOfRange { found: text, .. }

@@ -1,5 +1,5 @@
 //! Characters of a source, and the parts of a line.
-ghost use Rattle.std.specs.Prelude.{◌≡◌, ◌≤◌, ◌==◌, length, count_by};
+ghost use Rattle.std.specs.Prelude.{◌≡◌, ◌≤◌, ◌==◌, length, count_by, take};
 ghost use Rattle.std.specs.List.{position_or_len};
 ghost use Rattle.ds_asm.specs.Characters.{is_blank};
 ghost use Rattle.ds_asm.specs.Lines.{mnemonic_of};
@@ -36,4 +36,15 @@ fn word_len(text: &[u8]) -> usize
     ensures within { result ≤ length text.now }
 {
     text.iter().take_while(|c| !is_blank(**c)).count()
+}
+
+/// So many characters of a text, or all where they are fewer.
+pub(crate) fn front_of(most: usize, text: &[u8]) -> &[u8]
+    ensures { result.now ≡ take most text.now }
+{
+    if most < text.len() {
+        &text[..most]
+    } else {
+        text
+    }
 }

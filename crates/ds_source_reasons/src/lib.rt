@@ -3,11 +3,14 @@
 
 mod caret;
 mod characters;
+mod elsewhere;
 mod fault;
 mod form;
 mod law;
+mod likeness;
 mod line;
 mod macros;
+mod missing;
 mod operand;
 mod range;
 mod reason;
@@ -23,7 +26,9 @@ pub use law::{
     a_range_reason_is_a_range_fault, a_reason_is_a_syntax_fault,
     a_target_is_reached_at_multiples_of_four,
 };
+pub use likeness::is_like;
 pub use line::syntax_reason;
+pub use missing::{Labelled, last_word, last_word_place, like_label, push_missing};
 pub use range::range_reason;
 pub use reason::{RangeReason, SyntaxReason, Wanted};
 pub use target::target_reason;

@@ -109,10 +109,11 @@ fn macros_with(first: u8) -> &'static [&'static str]
     }
 }
 
-fn is_among(macros: &[&str], name: &[u8]) -> bool
-    ensures { result ≡ list_any (λ m. bytes_eq m.now name.now) macros.now }
+/// Whether a word is one of these names.
+pub(crate) fn is_among(names: &[&str], name: &[u8]) -> bool
+    ensures { result ≡ list_any (λ m. bytes_eq m.now name.now) names.now }
 {
-    macros.iter().any(|m| m.as_bytes() == name)
+    names.iter().any(|m| m.as_bytes() == name)
 }
 
 /// What is said after the name of a macro.
@@ -142,7 +143,7 @@ pub(crate) fn directive_instead(name: &[u8]) -> &'static str
 }
 
 /// The text at the place of a name, or another where the name has none.
-fn instead_of(
+pub(crate) fn instead_of(
     names: &[&str],
     texts: &[&'static str],
     other: &'static str,

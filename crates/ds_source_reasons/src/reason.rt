@@ -50,6 +50,8 @@ pub enum SyntaxReason<'a> {
         /// How many stand there.
         found: u64,
     },
+    /// A directive has no number, or more than one: how many stand there.
+    OneNumber(u64),
     /// More text stands after what is a whole statement.
     TextAfter(&'a [u8]),
     /// An operand begins as a register does, and there is no such register.

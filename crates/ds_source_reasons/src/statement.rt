@@ -2,10 +2,10 @@
 ghost use Rattle.std.specs.Prelude.{◌≡◌, option_map};
 ghost use Rattle.ds_asm.specs.Forms.{written_of};
 ghost use Rattle.ds_source_reasons.specs.Plain.{plain_reason};
-ghost use Rattle.ds_source_reasons.specs.Reasons.{directive_reason, has_upper_case, instruction_reason, no_mnemonic, statement_reason, text_reason};
+ghost use Rattle.ds_source_reasons.specs.Reasons.{directive_reason, has_upper_case, instruction_reason, no_mnemonic, one_number, statement_reason, text_reason};
 
 use crate::characters::split_word;
-use crate::operand::{counted, counted_by, fits, misfit, operand_count, operands_reason};
+use crate::operand::{counted_by, fits, misfit, operand_count, operands_reason};
 use crate::reason::{SyntaxReason, Wanted};
 use ds_asm::{Form, form_named};
 
@@ -40,18 +40,25 @@ fn directive_reason(wanted: Wanted, left: Option<&[u8]>) -> Option<SyntaxReason<
         ≡ directive_reason wanted (option_map (λ t. t.now) left.entry) }
 {
     match left {
-        None => Some(SyntaxReason::Operands {
-            least: 1,
-            most: 1,
-            found: 0,
-        }),
+        None => Some(SyntaxReason::OneNumber(0)),
         Some(text) => {
             if fits(wanted, text) {
                 None
             } else {
-                Some(counted(1, 1, operand_count(left), misfit(1, wanted, text)))
+                Some(one_number(operand_count(left), misfit(1, wanted, text)))
             }
         }
+    }
+}
+
+/// The reason, unless it is that a directive has another number of operands than one.
+fn one_number(found: u64, reason: SyntaxReason<'_>) -> SyntaxReason<'_>
+    ensures { plain_reason result ≡ one_number found (plain_reason reason.entry) }
+{
+    if found == 1 {
+        reason
+    } else {
+        SyntaxReason::OneNumber(found)
     }
 }
 

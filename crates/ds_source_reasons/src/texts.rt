@@ -40,6 +40,41 @@ pub(crate) const AFTER_NO_MNEMONIC: &str = "\
 A label has a colon directly after it, and a mnemonic a blank.
 ";
 
+pub(crate) const OF_MIPS_II: &str = "\
+`.
+It came with MIPS II, and the R3000 has the instructions of MIPS I alone. Write
+it with these; a compiler does so with `-march=r3000`.
+";
+
+pub(crate) const OF_MIPS_III: &str = "\
+`.
+It came with MIPS III, and the R3000 has the instructions of MIPS I alone.
+Write it with these; a compiler does so with `-march=r3000`.
+";
+
+pub(crate) const OF_MIPS_IV: &str = "\
+`.
+It came with MIPS IV, and the R3000 has the instructions of MIPS I alone. Write
+it with these; a compiler does so with `-march=r3000`.
+";
+
+pub(crate) const OF_MIPS_32: &str = "\
+`.
+It came with MIPS32, and the R3000 has the instructions of MIPS I alone. Write
+it with these; a compiler does so with `-march=r3000`.
+";
+
+pub(crate) const OF_FLOATING_POINT: &str = "\
+`.
+It is of the floating-point unit, and there is none here. Compute with integers;
+a compiler does so with `-msoft-float`.
+";
+
+pub(crate) const OF_COPROCESSOR: &str = "\
+`.
+It is of coprocessor 2 or 3, and there is none here but the system coprocessor.
+";
+
 pub(crate) const OPERANDS: &str = "The statement wants ";
 
 pub(crate) const OPERANDS_FOUND: &str = " operands, and has ";
@@ -47,6 +82,13 @@ pub(crate) const OPERANDS_FOUND: &str = " operands, and has ";
 pub(crate) const AFTER_OPERANDS: &str = "\
 .
 Each operand is written, with commas between them: `addiu $v0, $zero, 1`.
+";
+
+pub(crate) const ONE_NUMBER: &str = "The statement wants 1 operands, and has ";
+
+pub(crate) const AFTER_ONE_NUMBER: &str = "\
+.
+Write each number in a line of its own: `.word 1`, and `.word 2` below it.
 ";
 
 pub(crate) const AFTER_TEXT: &str = "\
@@ -95,6 +137,14 @@ pub(crate) const WANTED_NUMBER_OR_LABEL: &str = "\
 `, is to be a number or a label.
 A number is decimal, with or without `-`, or hexadecimal after `0x`.
 ";
+
+pub(crate) const NO_LABEL: &str = "There is no label `";
+
+pub(crate) const AFTER_NO_LABEL: &str = "`.\n";
+
+pub(crate) const LIKE_LABEL: &str = "There is `";
+
+pub(crate) const IN_LINE: &str = "` in line ";
 
 pub(crate) const QUOTE: &str = "`";
 

@@ -1,19 +1,21 @@
 //! The words in which a reason is told.
-ghost use Rattle.std.specs.Prelude.{◌≡◌, ◌++◌, OnOk, decimal, take};
+ghost use Rattle.std.specs.Prelude.{◌≡◌, ◌++◌, OnOk, decimal};
 ghost use Rattle.ds_source_reasons.specs.Plain.{plain_reason};
 ghost use Rattle.ds_source_reasons.specs.PlainRanges.{plain_range};
-ghost use Rattle.ds_source_reasons.specs.Texts.{after_byte, after_wanted, bound_text, counts_text, least_text, operand_text, operands_text, place_text, is_half, quoted, range_text, reason_text, shown, visible};
+ghost use Rattle.ds_source_reasons.specs.Texts.{after_byte, after_wanted, bound_text, counts_text, least_text, one_number_text, operand_text, operands_text, place_text, is_half, quoted, range_text, reason_text, shown, visible};
 
+use crate::characters::front_of;
+use crate::elsewhere::mnemonic_instead;
 use crate::macros::{directive_instead, macro_instead};
 use crate::reason::{RangeReason, SyntaxReason, Wanted};
 use crate::texts::{
-    AFTER_NO_MNEMONIC, AFTER_NO_REGISTER, AFTER_NOT_A_LABEL, AFTER_NOT_ALIGNED, AFTER_OPERANDS,
+    AFTER_NO_REGISTER, AFTER_NOT_A_LABEL, AFTER_NOT_ALIGNED, AFTER_ONE_NUMBER, AFTER_OPERANDS,
     AFTER_RESERVED, AFTER_SPACED_COLON, AFTER_TARGET, AFTER_TEXT, AFTER_UPPER_CASE,
     BYTE_ORDER_MARK, CARRIAGE_RETURN, CHARACTER, COMMENT, EXPRESSION, IN_TWO_STEPS, MACRO, NO_BYTE,
-    NO_DIRECTIVE, NO_MNEMONIC, NO_REGISTER, NOT_ALIGNED, OPERAND, OPERAND_FOUND, OPERANDS,
-    OPERANDS_FOUND, OTHER_BYTE, OUT_OF_RANGE, QUOTE, SECOND_COLON, SPACED_COLON, STOP, TARGET, TO,
-    WANTED_ADDRESS, WANTED_LABEL, WANTED_NUMBER, WANTED_NUMBER_OR_LABEL, WANTED_REGISTER,
-    WANTED_SYSTEM_REGISTER,
+    NO_DIRECTIVE, NO_MNEMONIC, NO_REGISTER, NOT_ALIGNED, ONE_NUMBER, OPERAND, OPERAND_FOUND,
+    OPERANDS, OPERANDS_FOUND, OTHER_BYTE, OUT_OF_RANGE, QUOTE, SECOND_COLON, SPACED_COLON, STOP,
+    TARGET, TO, WANTED_ADDRESS, WANTED_LABEL, WANTED_NUMBER, WANTED_NUMBER_OR_LABEL,
+    WANTED_REGISTER, WANTED_SYSTEM_REGISTER,
 };
 use itoa::Buffer;
 use std::alloc::AllocError;
@@ -42,9 +44,10 @@ pub fn push_syntax_reason(sheet: &mut Vec<u8>, reason: SyntaxReason<'_>) -> Resu
         SyntaxReason::SecondColon => push_text(sheet, SECOND_COLON),
         SyntaxReason::UpperCase(name) => push_quoted(sheet, QUOTE, name, AFTER_UPPER_CASE),
         SyntaxReason::NoSuchMnemonic(name) => {
-            push_quoted(sheet, NO_MNEMONIC, name, AFTER_NO_MNEMONIC)
+            push_quoted(sheet, NO_MNEMONIC, name, mnemonic_instead(name))
         }
         SyntaxReason::Operands { least, most, found } => push_operands(sheet, least, most, found),
+        SyntaxReason::OneNumber(found) => push_one_number(sheet, found),
         SyntaxReason::TextAfter(text) => push_quoted(sheet, QUOTE, text, AFTER_TEXT),
         SyntaxReason::NoSuchRegister(name) => {
             push_quoted(sheet, NO_REGISTER, name, AFTER_NO_REGISTER)
@@ -70,6 +73,14 @@ pub fn push_range_reason(sheet: &mut Vec<u8>, reason: RangeReason<'_>) -> Result
         RangeReason::Reserved(name) => push_quoted(sheet, QUOTE, name, AFTER_RESERVED),
         RangeReason::Target(label) => push_quoted(sheet, TARGET, label, AFTER_TARGET),
     }
+}
+
+fn push_one_number(sheet: &mut Vec<u8>, found: u64) -> Result<(), AllocError>
+    ensures { OnOk result (sheet.new.items ≡ sheet.old.items ++ one_number_text found) }
+{
+    push_text(sheet, ONE_NUMBER)?;
+    push_decimal(sheet, found)?;
+    push_text(sheet, AFTER_ONE_NUMBER)
 }
 
 fn push_operands(sheet: &mut Vec<u8>, least: u64, most: u64, found: u64) -> Result<(), AllocError>
@@ -136,7 +147,12 @@ fn push_place(sheet: &mut Vec<u8>, place: u64) -> Result<(), AllocError>
 }
 
 /// Adds a text between two others, as far as it is shown.
-fn push_quoted(sheet: &mut Vec<u8>, front: &str, text: &[u8], back: &str) -> Result<(), AllocError>
+pub(crate) fn push_quoted(
+    sheet: &mut Vec<u8>,
+    front: &str,
+    text: &[u8],
+    back: &str,
+) -> Result<(), AllocError>
     ensures { OnOk result (sheet.new.items
         ≡ sheet.old.items ++ quoted front.now text.now back.now) }
 {
@@ -156,30 +172,19 @@ fn push_shown(sheet: &mut Vec<u8>, text: &[u8]) -> Result<(), AllocError>
     Ok(())
 }
 
-/// So many characters of a text, or all where they are fewer.
-fn front_of(most: usize, text: &[u8]) -> &[u8]
-    ensures { result.now ≡ take most text.now }
-{
-    if most < text.len() {
-        &text[..most]
-    } else {
-        text
-    }
-}
-
 fn visible(c: u8) -> u8
     ensures { result ≡ visible c }
 {
     if 32 <= c && c <= 126 { c } else { b'?' }
 }
 
-fn push_text(sheet: &mut Vec<u8>, text: &str) -> Result<(), AllocError>
+pub(crate) fn push_text(sheet: &mut Vec<u8>, text: &str) -> Result<(), AllocError>
     ensures { OnOk result (sheet.new.items ≡ sheet.old.items ++ text.now) }
 {
     sheet.extend_from_slice(text.as_bytes())
 }
 
-fn push_decimal(sheet: &mut Vec<u8>, number: u64) -> Result<(), AllocError>
+pub(crate) fn push_decimal(sheet: &mut Vec<u8>, number: u64) -> Result<(), AllocError>
     ensures { OnOk result (sheet.new.items ≡ sheet.old.items ++ decimal number) }
 {
     sheet.extend_from_slice(Buffer::new().format(number).as_bytes())

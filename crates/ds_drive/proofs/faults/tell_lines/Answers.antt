@@ -7,12 +7,12 @@ use Rattle.ds_drive.proofs.faults.tell_lines.Goals.{then-len-ge-BYTES_AT_ONCE+in
 pub returns-in_err-send-clause-front : goal.returns-in_err-send-clause-front
 returns-in_err-send-clause-front g c = at_err c.from_residual-in_err-send.result
     (sent_part _ _ _ _ _ _ _
-    (one_told c.args.wording.front.now c.args.wording.place.now c.args.lines.now _ _ c.args.faults.now c.loop-fault.fault-index _ _ _ _ _ _ _ _ c.loop-fault-test.true refl c.loop-fault.invariant.same c.in_ok-push_told.ensures.text c.push_told.ensures.passed c.loop-fault.invariant.told)
+    (one_told c.args.wording.front.now c.args.wording.place.now c.args.wording.text.now _ _ c.args.faults.now c.loop-fault.fault-index _ _ _ _ _ _ _ c.loop-fault-test.true refl c.in_ok-push_told.ensures.text c.push_told.ensures.passed c.loop-fault.invariant.told)
     c.deref.ensures.value c.in_err-send.ensures.err)
 
 pub loop-fault-preserved : goal.loop-fault-preserved
 loop-fault-preserved g c =
-    let told = one_told c.args.wording.front.now c.args.wording.place.now c.args.lines.now _ _ c.args.faults.now c.loop-fault.fault-index _ _ _ _ _ _ _ _ c.loop-fault-test.true refl c.loop-fault.invariant.same c.in_ok-push_told.ensures.text c.push_told.ensures.passed c.loop-fault.invariant.told in
+    let told = one_told c.args.wording.front.now c.args.wording.place.now c.args.wording.text.now _ _ c.args.faults.now c.loop-fault.fault-index _ _ _ _ _ _ _ c.loop-fault-test.true refl c.in_ok-push_told.ensures.text c.push_told.ensures.passed c.loop-fault.invariant.told in
     record {
       same = c.push_told.ensures.same ∙ c.loop-fault.invariant.same;
       told = elim c.if-len-ge-BYTES_AT_ONCE.branch [
@@ -32,5 +32,5 @@ returns-in_err-send-2-clause-front g c = at_err c.from_residual-in_err-send-2.re
 pub returns-clause-all : goal.returns-clause-all
 returns-clause-all g c =
     sent_all _ _ _ _ _ _ _ c.loop-fault.invariant.told c.deref-2.ensures.value
-    (none_left c.args.wording.front.now c.args.wording.place.now c.args.lines.now _ c.args.faults.now c.loop-fault.fault-index (omega (arith, c.loop-fault-test.false)))
+    (none_left c.args.wording.front.now c.args.wording.place.now c.args.wording.text.now _ c.args.faults.now c.loop-fault.fault-index (omega (arith, c.loop-fault-test.false)))
     c.in_ok-send-2.ensures.ok

@@ -6,9 +6,9 @@ use Rattle.ds_drive.proofs.faults.tell_lines.Given as goal
 
 abbrev pub invariant-loop-fault : goal.invariant-loop-fault
 invariant-loop-fault g l = record {
-  same : l.lines ≡ l.fn.lines;
+  same : l.lines ≡ l.wording.text.now;
   told : SentOf (g.E.Output.contents l.fn.err) (g.E.Output.contents l.err)
-      (l.sheet.items ++ told_lines l.wording.front.now l.wording.place.now l.fn.lines (passed_in l.reasons) (drop l.fault-index l.faults))
-      (told_lines l.wording.front.now l.wording.place.now l.fn.lines (passed_in l.fn.reasons) l.faults);
+      (l.sheet.items ++ told_lines l.wording.front.now l.wording.place.now l.wording.text.now (passed_in l.reasons) (drop l.fault-index l.faults))
+      (told_lines l.wording.front.now l.wording.place.now l.wording.text.now (passed_in l.fn.reasons) l.faults);
   asked : IsAskedOnce (g.E.Output.answers l.fn.err) (g.E.Output.answers l.err) false;
 }
