@@ -97,16 +97,16 @@ impl Origins {
         }
     }
 
-    /// From now on nothing is known to have been shared from an address.
-    pub(crate) fn remove(&mut self, addr: u32)
-        ensures { (a q : ℕ) → a ≢ addr → Has (receivers_of self.old a) q
+    /// The processes that may have what was shared from an address. From now on nothing is known to have
+    /// been shared from it.
+    pub(crate) fn take(&mut self, addr: u32) -> u128
+        ensures receivers { result ≡ receivers_of self.old addr }
+        ensures others { (a q : ℕ) → a ≢ addr → Has (receivers_of self.old a) q
             → Has (receivers_of self.new a) q }
     {
         match find(self.known.as_slice(), addr) {
-            Some(i) => {
-                self.known.remove(i);
-            }
-            None => {}
+            Some(i) => self.known.remove(i).receivers,
+            None => of_others(self.overflowed),
         }
     }
 

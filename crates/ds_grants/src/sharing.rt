@@ -67,14 +67,17 @@ impl Sharing {
         }
     }
 
-    /// From now on nothing is known to have been shared from the entry of a process at an address.
-    pub(crate) fn remove(&mut self, process: u32, addr: u32)
-        ensures { KeepsOthers process addr self.old self.new }
+    /// The processes that may have what was shared from the entry of a process at an address. From now on
+    /// nothing is known to have been shared from there.
+    pub(crate) fn take(&mut self, process: u32, addr: u32) -> u128
+        ensures receivers { result ≡ receivers_at self.old process addr }
+        ensures others { KeepsOthers process addr self.old self.new }
     {
         let place = process as usize;
         if place < self.origins.len() {
-            self.origins[place].remove(addr);
+            return self.origins[place].take(addr);
         }
+        EVERYONE
     }
 
     /// Whether there was no room to know another address of a process.
