@@ -1,15 +1,16 @@
 -- The entry that stands at an address goes alone where no two are at one address.
-use Rattle.std.proofs.Common.{◌≡◌, ℕ, suc, ◌+◌, ◌<◌, ◌≤◌, ◌==◌, not, true, false, List, [], ◌∷◌, length, filter, position, slice_index, Some, None, refl, sym, ap, subst, inl, inr, arith}
+use Rattle.std.proofs.Common.{◌≡◌, ℕ, zero, suc, ◌+◌, ◌<◌, ◌≤◌, ◌==◌, not, true, false, List, [], ◌∷◌, length, filter, position, slice_index, get_or, nat_lt, Some, None, refl, sym, ap, subst, inl, inr, arith}
 use Rattle.std.specs.List.{AllByRecursion, IsDistinct, position_or_len, remove}
 use Rattle.std.proofs.lemmas.Bool.{cases_Bool}
+use Rattle.std.proofs.lemmas.List.Sums.{position_or_len_is}
 use Rattle.std.proofs.lemmas.Bool.Decides.{nat_tests}
 use Rattle.std.proofs.lemmas.Map.Keys.{IsDistinct-head, IsDistinct-tail}
 use Rattle.ds_policy.specs.declared.grant.Entry.{Entry}
 use Rattle.ds_policy.specs.Pages.{found}
-use Rattle.ds_policy.proofs.Entries.{is_at, place_some, place_none}
+use Rattle.ds_policy.proofs.Entries.{is_at, placed, place_some, place_none}
 use Rattle.ds_grants.specs.Sound.{has_same_address}
 use Rattle.ds_grants.specs.Counts.{one_if_named, page_of, AreOneFewer}
-use Rattle.ds_grants.proofs.FifthRegion.{same_number}
+use Rattle.ds_grants.proofs.FifthRegion.{same_number, itself}
 use Rattle.ds_grants.proofs.HolderCounts.{holders_at}
 
 -- the entries that aren't at an address
@@ -18,6 +19,36 @@ elsewhere a es = filter (λ (e : Entry). not (e.address == a)) es
 
 abbrev AreApart : ℕ → List Entry → Type 0
 AreApart a es = AllByRecursion (λ (y : Entry). (a == y.address) ≡ false) es
+
+apart_at : (a : ℕ) (es : List Entry) (i : ℕ) (d : Entry) → AreApart a es → i < length es → (a == (get_or es i d).address) ≡ false
+apart_at a [] i d apart h = absurd (omega (arith, h))
+apart_at a (e ∷ es) zero d apart h = apart.0
+apart_at a (e ∷ es) (suc i) d apart h = apart_at a es i d apart.1 (omega (arith, h))
+
+before_apart : (es : List Entry) (k i : ℕ) (d : Entry) → IsDistinct has_same_address es → k < i → i < length es → ((get_or es k d).address == (get_or es i d).address) ≡ false
+before_apart [] k i d distinct less h = absurd (omega (arith, h))
+before_apart (e ∷ es) zero zero d distinct less h = absurd (omega (arith, less))
+before_apart (e ∷ es) zero (suc i) d distinct less h = apart_at e.address es i d (IsDistinct-head has_same_address e es distinct) (omega (arith, h))
+before_apart (e ∷ es) (suc k) zero d distinct less h = absurd (omega (arith, less))
+before_apart (e ∷ es) (suc k) (suc i) d distinct less h = before_apart es k i d (IsDistinct-tail has_same_address e es distinct) (omega (arith, less)) (omega (arith, h))
+
+-- the entry at a place is the first at its address, as no two are at one
+pub first_at_place : (es : List Entry) (a i : ℕ) (d : Entry) → IsDistinct has_same_address es → i < length es → (get_or es i d).address ≡ a → position (is_at a) es ≡ Some i
+first_at_place es a i d distinct inside at =
+    let first : position_or_len (is_at a) es ≡ i = position_or_len_is (is_at a) es i d (omega (arith, inside))
+    (λ k before. elsewhere_before k before)
+    (λ h. subst (λ (n : ℕ). (n == a) ≡ true) (sym at) (itself a)) in
+    let less : nat_lt i (length es) ≡ true = grind (arith, nat_tests) in
+    rw (first, less) refl
+  where
+    elsewhere_before : (k : ℕ) → k < i → ((get_or es k d).address == a) ≡ false
+    elsewhere_before k before =
+        let apart = before_apart es k i d distinct before inside in
+        subst (λ (n : ℕ). ((get_or es k d).address == n) ≡ false) at apart
+
+-- so its grant is what is found there
+pub found_at_place : (es : List Entry) (a i : ℕ) (d : Entry) → IsDistinct has_same_address es → i < length es → (get_or es i d).address ≡ a → found es a ≡ Some (get_or es i d).grant
+found_at_place es a i d distinct inside at = (placed es a i d.grant d (first_at_place es a i d distinct inside at)).0
 
 step : (n : ℕ) → 1 + n ≡ suc n
 step n = omega arith

@@ -19,6 +19,7 @@ pub mod FirstPages
 pub mod FirstWhere
 pub mod FlatFamilies
 pub mod Forgets
+pub mod Gone
 pub mod Handing
 pub mod HeldByAll
 pub mod HolderCounts

@@ -46,9 +46,14 @@ fn may_not_give(grant: Grant, mode: u32) -> bool
 }
 
 impl Grants {
-    /// What a process is granted at a page's address, with some right; whether it has ended isn't
-    /// asked.
-    pub(crate) fn granted_page(&self, process: u32, addr: u32) -> Result<Grant, GrantFault>
+    /// What a process is granted at a page's address, with some right, which is looked for at a place
+    /// first; whether it has ended isn't asked.
+    pub(crate) fn granted_page(
+        &self,
+        process: u32,
+        addr: u32,
+        place: usize,
+    ) -> Result<Grant, GrantFault>
         requires low { 0 < process }
         requires high { process ≤ length self.now.table }
         ensures err { IfErr result (λ r. (memory : List ℕ) (next : Result PageState ℕ)
@@ -65,14 +70,20 @@ impl Grants {
         if is_no_page(addr) {
             return Err(GrantFault::NotPage);
         }
-        match self.table.entry(process, addr) {
+        match self.table.entry_near(process, addr, place) {
             Some(grant) if grant.right != Right::Nothing => Ok(grant),
             _ => Err(GrantFault::NoGrant),
         }
     }
 
-    /// What a process that lives is granted at a page's address, with some right.
-    pub(crate) fn granted_to(&self, process: u32, addr: u32) -> Result<Grant, GrantFault>
+    /// What a process that lives is granted at a page's address, with some right, which is looked for at
+    /// a place first.
+    pub(crate) fn granted_to(
+        &self,
+        process: u32,
+        addr: u32,
+        place: usize,
+    ) -> Result<Grant, GrantFault>
         ensures err { IfErr result (λ r. (memory : List ℕ) (next : Result PageState ℕ)
             → (refused 12 (not (lives_in self.now process)) or_else not_page addr
             or_else no_right (page_state self.now memory) process addr or_else next)
@@ -89,11 +100,17 @@ impl Grants {
         if !self.lives(process) {
             return Err(GrantFault::NoProcess);
         }
-        self.granted_page(process, addr)
+        self.granted_page(process, addr, place)
     }
 
-    /// Whether an operator may drop the entry of a process at an address, be its right none.
-    pub(crate) fn may_be_dropped(&self, process: u32, addr: u32) -> Result<(), GrantFault>
+    /// Whether an operator may drop the entry of a process at an address, be its right none. It is looked
+    /// for at a place first.
+    pub(crate) fn may_be_dropped(
+        &self,
+        process: u32,
+        addr: u32,
+        place: usize,
+    ) -> Result<(), GrantFault>
         ensures err { IfErr result (λ r. (memory : List ℕ)
             → drop_by_command (lives_in self.now) (page_state self.now memory) process addr
             ≡ Err (number_of r)) }
@@ -110,18 +127,19 @@ impl Grants {
         if is_no_page(addr) {
             return Err(GrantFault::NotPage);
         }
-        match self.table.entry(process, addr) {
+        match self.table.entry_near(process, addr, place) {
             Some(_) => Ok(()),
             None => Err(GrantFault::NoGrant),
         }
     }
 
     /// Whether an operator, or else the process itself, may drop the entry of a process at an
-    /// address.
+    /// address, which is looked for at a place first.
     pub(crate) fn may_drop(
         &self,
         process: u32,
         addr: u32,
+        place: usize,
         by_command: bool,
     ) -> Result<(), GrantFault>
         requires process { by_command ≡ false → (0 < process) × (process ≤ length self.now.table) }
@@ -139,9 +157,9 @@ impl Grants {
         ensures within { OnOk result ((0 < process) × (process ≤ length self.now.table)) }
     {
         if by_command {
-            return self.may_be_dropped(process, addr);
+            return self.may_be_dropped(process, addr, place);
         }
-        self.granted_page(process, addr)?;
+        self.granted_page(process, addr, place)?;
         Ok(())
     }
 
@@ -258,7 +276,8 @@ impl Grants {
         if is_no_page(addr) || is_no_page(to) {
             return Err(GrantFault::NotPage);
         }
-        let grant = self.granted_page(caller, addr)?;
+        let place = self.table.likely_place(caller, addr);
+        let grant = self.granted_page(caller, addr, place)?;
         if may_not_give(grant, mode) {
             return Err(GrantFault::NotAllowed);
         }

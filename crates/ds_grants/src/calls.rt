@@ -225,11 +225,12 @@ impl Grants {
             (L.entries tlb.new) memory.new tables.new spaces.new self.new }
         ensures random { L.random_place tlb.new ≡ L.random_place tlb.old }
     {
-        let grant = self.granted_to(process, addr)?;
+        let place = self.table.likely_place(process, addr);
+        let grant = self.granted_to(process, addr, place)?;
         if grant.giver != caller {
             return Err(GrantFault::NotGiven);
         }
-        self.cut(process, addr, memory, tables, spaces, tlb);
+        self.cut(process, addr, place, memory, tables, spaces, tlb);
         Ok(())
     }
 
@@ -265,8 +266,9 @@ impl Grants {
             (L.entries tlb.new) memory.new tables.new spaces.new self.new }
         ensures random { L.random_place tlb.new ≡ L.random_place tlb.old }
     {
-        self.may_drop(process, addr, by_command)?;
-        self.remove(process, addr, memory, tables, spaces, tlb);
+        let place = self.table.likely_place(process, addr);
+        self.may_drop(process, addr, place, by_command)?;
+        self.remove(process, addr, place, memory, tables, spaces, tlb);
         Ok(())
     }
 }

@@ -91,7 +91,8 @@ impl Grants {
             (L.entries tlb.new) memory.new tables.new spaces.new self.new }
         ensures random { L.random_place tlb.new ≡ L.random_place tlb.old }
     {
-        let grant = self.granted_to(process, addr)?;
+        let place = self.table.likely_place(process, addr);
+        let grant = self.granted_to(process, addr, place)?;
         let narrowed = Grant {
             right: Right::Read,
             ..grant
@@ -128,7 +129,8 @@ impl Grants {
             (L.entries tlb.new) memory.new tables.new spaces.new self.new }
         ensures random { L.random_place tlb.new ≡ L.random_place tlb.old }
     {
-        self.granted_to(process, addr)?;
+        let place = self.table.likely_place(process, addr);
+        self.granted_to(process, addr, place)?;
         self.forbid(process, addr, rule, memory, tables, spaces, tlb);
         Ok(())
     }

@@ -1,6 +1,5 @@
 //! Which processes may have what was shared from the entries of each.
-ghost use Rattle.std.specs.Prelude.{◌≡◌, ◌==◌, ℕ, ◌+◌, ◌<◌, ◌≤◌, true, false, length, slice_set, IfOk};
-ghost use Rattle.std.specs.Int.{bit_at};
+ghost use Rattle.std.specs.Prelude.{◌≡◌, ℕ, ◌+◌, ◌<◌, ◌≤◌, true, false, length, slice_set, IfOk};
 ghost use Rattle.ds_grants.specs.Origins.{Has, receivers_at, KeepsReceivers, KeepsOthers, MayHave};
 
 use crate::origins::{EVERYONE, Origins};
@@ -126,12 +125,4 @@ pub(crate) fn only(process: u32) -> u128
     ensures { Has result process }
 {
     1 << process
-}
-
-/// Whether a process is in a set.
-pub(crate) fn contains(set: u128, process: u32) -> bool
-    requires { process < 128 }
-    ensures { result ≡ (bit_at set process == 1) }
-{
-    (set >> process) & 1 == 1
 }

@@ -4,8 +4,13 @@ use Rattle.ds_policy.specs.Pages.{entry_at}
 use Rattle.ds_grants.specs.State.{GrantsState}
 use Rattle.ds_grants.specs.Free.{HasPage}
 use Rattle.ds_grants.specs.contracts.grants.Grants.{the_view}
-use Rattle.ds_grants.proofs.Sizes.{has_page}
+use Rattle.ds_grants.proofs.Sizes.{good_row, has_page}
 use Rattle.ds_grants.proofs.grants.Grants.granted_page.Goals as goal
+
+pub entry_near-requires-clause-row : goal.entry_near-requires-clause-row
+entry_near-requires-clause-row c =
+    let high : c.args.process ≤ length c.self.inside.table = subst (λ (s : GrantsState). c.args.process ≤ length s.table) (sym c.self.view_is) c.requires.high in
+    good_row c.self.inside.table c.args.process c.requires.low high c.self.invariant.1.rows
 
 pub returns-in-Some-clause-names : goal.returns-in-Some-clause-names
 returns-in-Some-clause-names c =
