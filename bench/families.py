@@ -1,8 +1,9 @@
 #!/usr/bin/env python3
 """How long a take, a revoke, a drop and the end of a process take where all of 25,600 entries are of one family.
 
-    bench/families.py [PROGRAM]      seconds of processor time of one call, for each family and call
-    bench/families.py --count        host instructions in place of seconds, by callgrind (valgrind)
+    bench/families.py [PROGRAM]            seconds of processor time of one call, for each family and call
+    bench/families.py --count [PROGRAM]    host instructions in place of seconds, by callgrind (valgrind)
+    bench/families.py --alone [PROGRAM]    host instructions of one call alone, where nearly nothing is shared
 
 PROGRAM is part_cases, as `(cd crates/part_cases && rt run)` proves and builds it. It replays two files over both buffers: the
 shares, and the shares with a call after them; a call is half of the difference, of the least of nine runs each, which may be wrong by
@@ -14,6 +15,10 @@ processes have 256 entries each:
     fan        all were shared from one
 
 A leaf is a drop of the last entry, from which nothing was shared; what was shared from the one that `drop` drops is handed on.
+
+With `--alone` each process has 255 entries that an operator granted, and one place free, the last. What is given there is dropped, taken
+and revoked, with so many shares of it in as many processes. Each call is counted against the same call of an address that is no page's,
+which is refused at once: so the comparison is no part of it.
 """
 import os
 import re
@@ -27,6 +32,7 @@ TOP = Path(__file__).resolve().parent.parent
 PROGRAM = TOP / "crates" / "part_cases" / "out" / "part_cases"
 DATA = TOP / "crates" / "part_cases" / "data"
 PROCESSES, ENTRIES, RUNS = 100, 256, 9
+CALLGRIND = ["valgrind", "--tool=callgrind", "--callgrind-out-file=/dev/null"]
 
 
 def places(family):
@@ -55,6 +61,33 @@ def calls(family):
     yield "end", f"end {second[0]}"
 
 
+def grants():
+    """The lines that grant all but one entry of each process."""
+    yield f"start {PROCESSES} 4 1"
+    for process in range(1, PROCESSES + 1):
+        for k in range(1, ENTRIES):
+            yield f"grant {process} {0x1000 * k:08x} 0 write give 1"
+
+
+def calls_alone():
+    """Calls, each with its name, the lines before it, and the same call of an address that is no page's."""
+    last = 0x1000 * ENTRIES
+    gift = f"give 1 00001000 2 {last:08x} 2"
+    yield "give", [], gift, f"give 1 00001000 2 {last + 1:08x} 2 = 13"
+    yield "drop", [gift], f"drop 2 {last:08x} own", f"drop 2 {last + 1:08x} own = 13"
+    for n in (0, 1, 10, 50):
+        family = [gift, *(f"give 2 {last:08x} {process} {last:08x} 2" for process in range(3, n + 3))]
+        yield f"take {n}", family, f"take 1 2 {last:08x}", f"take 1 2 {last + 1:08x} = 13"
+        yield f"revoke {n}", family, f"revoke 2 {last:08x} 2", f"revoke 2 {last + 1:08x} 2 = 13"
+
+
+def count_alone(program):
+    made = list(grants())
+    for name, before, call, refused in calls_alone():
+        took = [replayed(program, [*made, *before, line], CALLGRIND) for line in (call, refused)]
+        print(f"{name:12}{(took[0] - took[1]) / 2:,.0f} instructions", flush=True)
+
+
 def replayed(program, lines, words=()):
     """Replays a file, with all others empty; what it took, by the system's count or by callgrind's."""
     with tempfile.TemporaryDirectory() as folder:
@@ -76,8 +109,10 @@ def replayed(program, lines, words=()):
 
 def main(arguments):
     is_counted = "--count" in arguments
-    program = os.path.abspath(next((it for it in arguments if it != "--count"), PROGRAM))
-    words = ["valgrind", "--tool=callgrind", "--callgrind-out-file=/dev/null"] if is_counted else []
+    program = os.path.abspath(next((it for it in arguments if not it.startswith("--")), PROGRAM))
+    if "--alone" in arguments:
+        return count_alone(program)
+    words = CALLGRIND if is_counted else []
     for family in ("chain", "zigzag", "fan"):
         made, took = list(shares(family)), {}
         for _ in range(1 if is_counted else RUNS):  # by turns, so that what else goes on slows all of them alike
