@@ -31,7 +31,7 @@ use Rattle.ds_trace.specs.Counted.{HasCounted}
 use Rattle.ds_trace.specs.Counts.{Counted}
 use Rattle.ds_trace.specs.Processors.{told_from, window_end}
 use Rattle.ds_trace.specs.Shows.{IsCutIf, IsStopped, TellsAll}
-use Rattle.ds_trace.specs.Summed.{CountsAll, TellsOf, TracesSummed, WritesSummed, WritesTraceSummed, counting, summed_text}
+use Rattle.ds_trace.specs.Summed.{CountsAll, SumsUpShort, TellsOf, TracesSummed, WritesSummed, WritesTraceSummed, counting, summed_text}
 use Rattle.ds_trace.specs.Traces.{counts_along, next_counts}
 use Rattle.ds_trace.proofs.Following.{ran_whole}
 use Rattle.ds_trace.proofs.Inputs.{BeginsAt}
@@ -209,6 +209,26 @@ summed_cut f n read from h k old new b all a = subst (λ (x : Fault). EndsBy x r
 pub summed_part : (cut : Option Fault) (n : ℕ) (read : Result State Refusal) (from h : Held) (k : Counted) (old new : Option (List ℕ)) → Begins read (Stands from) → CountsAll cut n from h k → AppendsPart old new (held_text h)
     → EndsBy fault.WriteFault read old new n
 summed_part cut n read from h k old new b all a = (b.0, b.1, part_prefix old new n b.0 from h b.2 (counted_within cut n from h k all) (stopped_whole cut n h all.stopped) a)
+
+-- of one whose text is not all written
+pub sums_up_short : (f : Fault) (n : ℕ) (read : Result State Refusal) (from h : Held) (old new : Option (List ℕ)) → Begins read (Stands from) → SumsUpShort f n from h old new → EndsBy f read old new n
+sums_up_short fault.Memory n read from h old new b (inl kept) = inl kept
+sums_up_short fault.Memory n read from h old new b (inr s) = summed_cut fault.Memory n read from h s.counts old new b s.all s.written
+sums_up_short fault.WriteFault n read from h old new b s = summed_part s.cut n read from h s.counts old new b s.all s.written
+sums_up_short f n read from h old new b s = absurd s
+
+-- by real steps
+module _ (Path : Loaded → Held → Held → Type 0) (n start : ℕ) (read : Result Loaded Refusal) (from h : Held) (old new : Option (List ℕ)) (b : Begins read (BeginsAt start from)) (leads : (x : Held) → RealPath from x → Path b.0 from x) where
+  pub sums_up_really : (f : Fault) → SumsUpShort f n from h old new → EndsReally Path f read old new n start
+  sums_up_really fault.Memory (inl kept) = inl kept
+  sums_up_really fault.Memory (inr s) = summed_short Path n start read from h s.counts old new b leads fault.Memory s.all s.written
+  sums_up_really fault.WriteFault s = summed_some Path n start read from h s.counts old new b leads s.cut s.all s.written
+  sums_up_really f s = absurd s
+
+-- a run that a fault cut short falls short by it
+pub falls_short : (f : Fault) (n : ℕ) (from h : Held) (k : Counted) (old new : Option (List ℕ)) → CountsAll (Some f) n from h k → Appends old new (held_text h) → SumsUpShort f n from h old new
+falls_short f n from h k old new all a = subst (λ (x : Fault). SumsUpShort x n from h old new) (sym all.stopped.0)
+    (inr (record { counts = k; all = subst (λ (x : Fault). CountsAll (Some x) n from h k) all.stopped.0 all; written = a }))
 
 -- of a trace
 pub traced_ok : (v : View) (policy : PolicyValue) (s : Sources) (input : List ℕ) (n random : ℕ) (from h : Held) (text : List ℕ) (old new : Option (List ℕ)) → Begins (inputs_under policy s input n random) (Stands from)

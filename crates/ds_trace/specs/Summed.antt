@@ -1,6 +1,7 @@
 -- What is told of a run in plain words, with what was counted of it.
-use Rattle.std.specs.Prelude.{◌≡◌, false, codes, decimal, ℕ, ◌==◌, if◌then◌else◌, List, [], ◌++◌, slice_index, Option, Some, None, Ok}
-use Rattle.std.specs.Io.KnownBytes.{Appends}
+use Rattle.std.specs.Prelude.{◌≡◌, ◌⊎◌, false, codes, decimal, ℕ, ◌==◌, if◌then◌else◌, List, [], ◌++◌, slice_index, Option, Some, None, Ok}
+use Rattle.std.specs.Io.KnownBytes.{Appends, Keeps}
+use Rattle.ds_log.specs.Sent.{AppendsPart}
 use Rattle.ds_policy.specs.Value.{InputValue}
 use Rattle.ds_policy.specs.InputText.{input_of}
 use Rattle.ds_policy.specs.declared.command.Character.{Character}
@@ -10,7 +11,9 @@ use Rattle.ds_pagemap.specs.Run.{Ends, Reaches}
 use Rattle.ds_pagemap.specs.Text.{text_of}
 use Rattle.ds_refinement.specs.Held.{Held}
 use Rattle.ds_refinement.specs.Stands.{Stands}
+use Rattle.ds_station.specs.Headline.{held_text}
 use Rattle.ds_station.specs.declared.fault.Fault.{Fault}
+use Rattle.ds_station.specs.declared.fault.Fault.TheVariants as fault
 use Rattle.ds_view.specs.declared.view.View.{View}
 use Rattle.ds_view.specs.declared.view.Only.TheVariants.{Calls}
 use Rattle.ds_view.specs.Sets.{no_processes}
@@ -58,6 +61,32 @@ pub record CountsAll (cut : Option Fault) (n : ℕ) (from h : Held) (k : Counted
   pub runs : (m : State) → Stands from m → IsCountedTo n from m h k
   pub stopped : IsStopped cut n h
   pub refused : IsCutIf cut from h
+
+-- each run from there is counted to its end, a text tells of it, by an input under a policy's pages, and its own text is written
+pub record SumsUp (pages : List PolicyPage) (input text : List ℕ) (n : ℕ) (from to : Held) (old new : Option (List ℕ)) : Type 0 where
+  pub counts : Counted
+  pub all : CountsAll None n from to counts
+  pub told : TellsOf pages input n counts to text
+  pub written : Appends old new (held_text to)
+
+-- memory ran out for it, and its text so far is written
+pub record CountsShort (n : ℕ) (from to : Held) (old new : Option (List ℕ)) : Type 0 where
+  pub counts : Counted
+  pub all : CountsAll (Some fault.Memory) n from to counts
+  pub written : Appends old new (held_text to)
+
+-- it ended or was cut short, and a part of its text is written
+pub record CountsPart (n : ℕ) (from to : Held) (old new : Option (List ℕ)) : Type 0 where
+  pub cut : Option Fault
+  pub counts : Counted
+  pub all : CountsAll cut n from to counts
+  pub written : AppendsPart old new (held_text to)
+
+-- what is written of a run that is counted where each fault comes
+abbrev pub SumsUpShort : Fault → ℕ → Held → Held → Option (List ℕ) → Option (List ℕ) → Type 0
+SumsUpShort fault.Memory n from to old new = Keeps old new ⊎ CountsShort n from to old new
+SumsUpShort fault.WriteFault n from to old new = CountsPart n from to old new
+SumsUpShort f n from to old new = ⊥
 
 -- A run for n from the first state has ended in a state for which the station stands, its text is written, and this is told of it,
 -- with the counts of all its turns.

@@ -17,7 +17,7 @@ ghost use Rattle.ds_station.specs.Faults.{is_unwritten};
 ghost use Rattle.ds_station.specs.Headline.{Along, Begins, EndsBy, EndsReally, Followed, IsRefused, WritesReally, loaded, sources_seen};
 ghost use Rattle.ds_station.specs.Written.{EndsGuarded, WritesGuarded, WritesUntouched};
 ghost use Rattle.ds_trace.specs.Counts.{none_counted};
-ghost use Rattle.ds_trace.specs.Summed.{CountsAll, TellsOf, WritesSummed, counted_text, counting, unknown_text};
+ghost use Rattle.ds_trace.specs.Summed.{CountsAll, SumsUp, SumsUpShort, TellsOf, WritesSummed, counted_text, counting, unknown_text};
 
 use crate::accounts::push_end_of_run;
 use crate::counts::Counts;
@@ -154,6 +154,48 @@ fn count_all<L: Lookaside>(
     }
 }
 
+/// Runs a station for n, turn by turn, and writes the text of the state in which it ended. It answers
+/// what is told of the run, which is by this input under this policy. Where memory runs out for that,
+/// nothing is written.
+#[tactic(auto, using(crate::proofs::Asking::asked_none))]
+fn sum_up<L: Lookaside, O: Output>(
+    alloc: Global,
+    policy: &Policy,
+    input: &[u8],
+    station: &mut Station<L>,
+    n: u64,
+    out: &mut O,
+) -> Result<Vec<u8>, Fault>
+    requires few { n ≤ 1000000000 }
+    requires sound { IsSound station.old.held }
+    requires working { station.old.held.own.failed ≡ false }
+    requires spent { station.old.held.own.spent ≡ 0 }
+    requires unowed { station.old.held.kept.state.owed ≡ None }
+    ensures ok { IfOk result (λ text. SumsUp policy.now.pages input.now text.items n
+        station.old.held station.new.held (O.contents out.old) (O.contents out.new)) }
+    ensures err { IfErr result (λ f. SumsUpShort f n station.old.held station.new.held
+        (O.contents out.old) (O.contents out.new)) }
+    ensures once { IsAskedOnce (O.answers out.old) (O.answers out.new) (is_unwritten result) }
+{
+    let mut progress = Progress::new(alloc);
+    let cut = match count_all(alloc, station, n, &mut progress) {
+        Ok(cut) => cut,
+        Err(_) => return Err(Fault::Memory),
+    };
+    let text = match summary(alloc, policy, input, n, &progress.counts, station) {
+        Ok(text) => text,
+        Err(_) => return Err(Fault::Memory),
+    };
+    match deliver(station, out) {
+        Ok(()) => {}
+        Err(_) => return Err(Fault::WriteFault),
+    }
+    match cut {
+        None => Ok(text),
+        Some(fault) => Err(fault),
+    }
+}
+
 /// As `run_station` of `ds_station`, turn by turn, and what is told of the run: whether all processes
 /// ended or the ticks ran out, with the time; each process, with how it stands and why; how many calls
 /// there were of numbers that are no call; how many characters were lost, by console line; and each
@@ -209,22 +251,8 @@ pub fn run_summed<O: Output>(
         Ok(station) => station,
         Err(refused) => return Err(refused),
     };
-    let mut progress = Progress::new(alloc);
-    let cut = match count_all(alloc, &mut station, n, &mut progress) {
-        Ok(cut) => cut,
-        Err(_) => return Err(Fault::Memory),
-    };
-    let text = match summary(alloc, policy, input, n, &progress.counts, &station) {
-        Ok(text) => text,
-        Err(_) => return Err(Fault::Memory),
-    };
-    match deliver(&station, out) {
-        Ok(()) => {}
-        Err(_) => return Err(Fault::WriteFault),
+    match sum_up(alloc, policy, input, &mut station, n, out) {
+        Ok(text) => Ok(Summed { station, text }),
+        Err(fault) => Err(fault),
     }
-    match cut {
-        None => {}
-        Some(fault) => return Err(fault),
-    }
-    Ok(Summed { station, text })
 }
