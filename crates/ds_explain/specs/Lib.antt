@@ -1,0 +1,4 @@
+pub mod Chosen
+pub mod ChosenRows
+pub mod Moments
+pub mod Explained

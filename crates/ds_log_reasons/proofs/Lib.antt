@@ -1,0 +1,4 @@
+pub mod Adding
+pub mod Slots
+pub mod Sources
+pub mod SpotSteps

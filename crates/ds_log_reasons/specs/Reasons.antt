@@ -1,0 +1,83 @@
+-- Why something was denied.
+use Rattle.std.specs.Prelude.{ℕ, ◌==◌, nat_lt, Bool, true, false, if◌then◌else◌, Option, Some, None}
+use Rattle.ds_policy.specs.declared.access.Rule.{Rule}
+use Rattle.ds_policy.specs.declared.access.Rule.TheVariants.{Number, K, A, I}
+use Rattle.ds_policy.specs.declared.grant.Grant.{Grant}
+use Rattle.ds_policy.specs.declared.grant.Right.{Right}
+use Rattle.ds_policy.specs.declared.grant.Right.TheVariants.{Nothing, Read, Write}
+use Rattle.ds_policy.specs.declared.policy.PolicyRule.{PolicyRule}
+use Rattle.ds_log.specs.declared.line.Denied.{Denied}
+use Rattle.ds_log.specs.declared.line.Denied.TheVariants as denied
+use Rattle.ds_log_reasons.specs.declared.reason.Reason.{Reason}
+use Rattle.ds_log_reasons.specs.declared.reason.Reason.TheVariants as reason
+
+-- a right is one to read or to write
+abbrev pub is_some_right : Right → Bool
+is_some_right Nothing = false
+is_some_right Read = true
+is_some_right Write = true
+
+-- a right is one to write
+abbrev pub is_write : Right → Bool
+is_write Nothing = false
+is_write Read = false
+is_write Write = true
+
+-- a rule of the policy grants something
+abbrev pub grants : Option PolicyRule → Bool
+grants None = false
+grants (Some rule) = is_some_right rule.right
+
+-- it grants writing
+abbrev pub is_written : Option PolicyRule → Bool
+is_written None = false
+is_written (Some rule) = is_write rule.right
+
+-- why an entry by this rule has no right, where the policy's rule of that number is this one: numbers above 1,000 are those of commands
+abbrev pub taken_reason : ℕ → Option PolicyRule → Reason
+taken_reason rule said = if nat_lt 1000 rule then reason.Revoked else (if grants said then reason.Ended else reason.Forbidden)
+
+-- why one may be read alone, by who gave it
+abbrev pub read_reason : ℕ → Option PolicyRule → Reason
+read_reason giver said = if giver == 0 then (if is_written said then reason.Narrowed else reason.ReadAlone) else reason.Shared
+
+-- why an access was denied by an entry with this right
+abbrev pub right_reason : Right → Grant → Option PolicyRule → Reason
+right_reason Nothing g said = taken_reason g.rule said
+right_reason Read g said = read_reason g.giver said
+right_reason Write g said = reason.Unknown
+
+-- by the entry there, if there is one
+abbrev pub access_reason : Option Grant → Option PolicyRule → Reason
+access_reason None said = reason.NoEntry
+access_reason (Some g) said = right_reason g.right g said
+
+-- why a give was denied, by the giver's entry
+abbrev pub give_reason : Option Grant → Reason
+give_reason None = reason.NothingToGive
+give_reason (Some g) = if is_some_right g.right then (if g.give then reason.GiveRefused else reason.MayNotGive) else reason.NothingToGive
+
+-- why something was denied by a numbered rule, or by none
+abbrev pub number_reason : Denied → Option Grant → Option PolicyRule → Reason
+number_reason denied.Give g said = give_reason g
+number_reason denied.Fetch g said = access_reason g said
+number_reason denied.Load g said = access_reason g said
+number_reason denied.Store g said = access_reason g said
+number_reason denied.Exec g said = access_reason g said
+
+-- why an instruction faulted, by the code, and by whether it is a branch
+abbrev pub fault_reason : ℕ → Bool → Reason
+fault_reason code branch =
+    if code == 8 then reason.CallInSlot
+    else if code == 9 then reason.Breakpoint
+    else if code == 10 then (if branch then reason.BranchInSlot else reason.NoInstruction)
+    else if code == 11 then reason.Coprocessor
+    else if code == 12 then reason.Overflow
+    else reason.Unknown
+
+-- why something was denied: by the rule and the code of its line, the entry there, what the policy's rule of its number says, and whether the instruction is a branch
+abbrev pub reason_of : Denied → Rule → ℕ → Option Grant → Option PolicyRule → Bool → Reason
+reason_of kind (Number n) code g said branch = number_reason kind g said
+reason_of kind K code g said branch = reason.Kernel
+reason_of kind A code g said branch = reason.Unaligned
+reason_of kind I code g said branch = fault_reason code branch

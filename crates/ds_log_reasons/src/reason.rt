@@ -1,0 +1,191 @@
+//! Why something was denied: the reason, by the rule and the code of a line of the log, and by the
+//! entry that was there.
+ghost use Rattle.std.specs.Prelude.{◌≡◌, ◌==◌};
+ghost use Rattle.ds_log_reasons.specs.Reasons.{access_reason, fault_reason, give_reason, grants, is_written, number_reason, read_reason, reason_of, right_reason, taken_reason};
+
+use ds_log::Denied;
+use ds_policy::{Grant, PolicyRule, Right, Rule};
+
+/// Why an access, an instruction or a give was denied.
+#[derive(Clone, Copy, Debug, PartialEq, Eq)]
+pub enum Reason {
+    /// The process has no entry there.
+    NoEntry,
+    /// The rule of the policy grants nothing.
+    Forbidden,
+    /// The right has ended by itself.
+    Ended,
+    /// A command took the right away.
+    Revoked,
+    /// The page may be read alone.
+    ReadAlone,
+    /// A command narrowed the right to reading.
+    Narrowed,
+    /// The page was shared for reading.
+    Shared,
+    /// The address is not a multiple of the size.
+    Unaligned,
+    /// No process may use the upper half of the addresses.
+    Kernel,
+    /// A call in the slot of a branch.
+    CallInSlot,
+    /// `break`.
+    Breakpoint,
+    /// The word is no instruction.
+    NoInstruction,
+    /// A branch in the slot of a branch.
+    BranchInSlot,
+    /// An instruction of a coprocessor.
+    Coprocessor,
+    /// A sum or a difference that does not fit.
+    Overflow,
+    /// The giver has nothing there that it could give.
+    NothingToGive,
+    /// What the giver has may not be given on.
+    MayNotGive,
+    /// The give is refused by its other arguments, or by the receiver's entries.
+    GiveRefused,
+    /// No line of a log has this.
+    Unknown,
+}
+
+/// Whether a rule of the policy grants something.
+fn grants(said: Option<PolicyRule>) -> bool
+    ensures { result ≡ grants said }
+{
+    match said {
+        Some(rule) => match rule.right {
+            Right::Nothing => false,
+            Right::Read | Right::Write => true,
+        },
+        None => false,
+    }
+}
+
+/// Whether a rule of the policy grants writing.
+fn is_written(said: Option<PolicyRule>) -> bool
+    ensures { result ≡ is_written said }
+{
+    match said {
+        Some(rule) => match rule.right {
+            Right::Write => true,
+            Right::Nothing | Right::Read => false,
+        },
+        None => false,
+    }
+}
+
+/// Why an entry without a right has none.
+fn taken_reason(rule: u32, said: Option<PolicyRule>) -> Reason
+    ensures { result ≡ taken_reason rule said }
+{
+    if rule > 1000 {
+        Reason::Revoked
+    } else if grants(said) {
+        Reason::Ended
+    } else {
+        Reason::Forbidden
+    }
+}
+
+/// Why an entry may be read alone.
+fn read_reason(giver: u32, said: Option<PolicyRule>) -> Reason
+    ensures { result ≡ read_reason giver said }
+{
+    if giver != 0 {
+        Reason::Shared
+    } else if is_written(said) {
+        Reason::Narrowed
+    } else {
+        Reason::ReadAlone
+    }
+}
+
+/// Why an access was denied, by the entry there and what the policy's rule of its number says.
+fn access_reason(granted: Option<Grant>, said: Option<PolicyRule>) -> Reason
+    ensures { result ≡ access_reason granted said }
+{
+    match granted {
+        None => Reason::NoEntry,
+        Some(grant) => match grant.right {
+            Right::Nothing => taken_reason(grant.rule, said),
+            Right::Read => read_reason(grant.giver, said),
+            Right::Write => Reason::Unknown,
+        },
+    }
+}
+
+/// Why a give was denied, by the giver's entry.
+fn give_reason(granted: Option<Grant>) -> Reason
+    ensures { result ≡ give_reason granted }
+{
+    match granted {
+        None => Reason::NothingToGive,
+        Some(grant) => match grant.right {
+            Right::Nothing => Reason::NothingToGive,
+            Right::Read | Right::Write => {
+                if grant.give {
+                    Reason::GiveRefused
+                } else {
+                    Reason::MayNotGive
+                }
+            }
+        },
+    }
+}
+
+/// Why something was denied by a numbered rule, or by none.
+fn number_reason(kind: Denied, granted: Option<Grant>, said: Option<PolicyRule>) -> Reason
+    ensures { result ≡ number_reason kind granted said }
+{
+    match kind {
+        Denied::Give => give_reason(granted),
+        Denied::Fetch | Denied::Load | Denied::Store | Denied::Exec => {
+            access_reason(granted, said)
+        }
+    }
+}
+
+/// Why an instruction faulted, by the code, and by whether it is a branch.
+fn fault_reason(code: u32, branch: bool) -> Reason
+    ensures { result ≡ fault_reason code branch }
+{
+    if code == 8 {
+        Reason::CallInSlot
+    } else if code == 9 {
+        Reason::Breakpoint
+    } else if code == 10 {
+        if branch {
+            Reason::BranchInSlot
+        } else {
+            Reason::NoInstruction
+        }
+    } else if code == 11 {
+        Reason::Coprocessor
+    } else if code == 12 {
+        Reason::Overflow
+    } else {
+        Reason::Unknown
+    }
+}
+
+/// Why something was denied: by what was denied, the rule and the code of its line, the entry that
+/// the process had there, what the policy's rule of that entry's number says, and whether the
+/// instruction is a branch.
+pub fn reason_of(
+    kind: Denied,
+    rule: Rule,
+    code: u32,
+    granted: Option<Grant>,
+    said: Option<PolicyRule>,
+    branch: bool,
+) -> Reason
+    ensures { result ≡ reason_of kind rule code granted said branch }
+{
+    match rule {
+        Rule::Number(_) => number_reason(kind, granted, said),
+        Rule::K => Reason::Kernel,
+        Rule::A => Reason::Unaligned,
+        Rule::I => fault_reason(code, branch),
+    }
+}
