@@ -17,6 +17,8 @@ from bare_model import told  # noqa: E402
 FOLDER = Path(__file__).resolve().parent.parent / "crates" / "rows" / "data" / "bare"
 CASES, MOST, START = 16, 500, 40
 WORDS = f"bare one.s {MOST} --random {START} --keys drawn.input".split()
+KINDS = ("exceptions", "tlb", "devices")
+SEEDS = {"exceptions": range(17, 21), "tlb": range(21, 25), "devices": range(25, 29)}  # the programs of which one kind of instruction is told
 
 FRONT = """\
 j setup
@@ -145,16 +147,26 @@ def keys():
     return "\n".join(["# For drawn.cases.", "20 key 0 41", *lines, f"{MOST - 20} key 1 {drawn.randbytes(70).hex().upper()}"]) + "\n"
 
 
-def cases():
+def chosen(kind):
+    """The words by which one kind of instruction is told, from the 100th on, with all else that may be."""
+    return [*WORDS, *f"--from 100 --only {kind} --matches --counts --memory 00000080:12 --memory 0x601040:4".split()]
+
+
+def cases(seeds=range(1, CASES + 1), words=WORDS):
     """Each program, with its text."""
-    for k in range(1, CASES + 1):
+    for k in seeds:
         text = source(random.Random(k))
-        yield k, text, told({"one.s": text, "drawn.input": keys()}.get, WORDS).decode()
+        yield k, text, told({"one.s": text, "drawn.input": keys()}.get, words).decode()
+
+
+def table(seeds, words):
+    cases_text = "".join(f"== program {k}\n{text}--\n{wanted}" for k, text, wanted in cases(seeds, words))
+    return "# Programs that were drawn. Written by tools/bare_cases.py.\n\n" + cases_text
 
 
 def files():
-    table = "".join(f"== program {k}\n{text}--\n{wanted}" for k, text, wanted in cases())
-    return {FOLDER / "drawn.input": keys(), FOLDER / "drawn.cases": "# Programs that were drawn. Written by tools/bare_cases.py.\n\n" + table}
+    by_kind = {FOLDER / f"drawn_{kind}.cases": table(SEEDS[kind], chosen(kind)) for kind in KINDS}
+    return {FOLDER / "drawn.input": keys(), FOLDER / "drawn.cases": table(range(1, CASES + 1), WORDS), **by_kind}
 
 
 def main():

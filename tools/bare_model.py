@@ -106,6 +106,22 @@ def text_of(word):
     return name if name in SYSTEM.values() else trace_model.text_of(word)
 
 
+class View(NamedTuple):
+    """What is told, by the flags of the command."""
+
+    is_quiet: bool = False
+    first: int = 0
+    past: int | None = None
+    only: str | None = None
+    matches: bool = False
+    counts: bool = False
+    memory: tuple = ()  # the address and the count of each span
+
+    def reaches(self, number):
+        """Whether the instruction with this number may be told."""
+        return not self.is_quiet and self.only != "end" and self.first <= number and (self.past is None or number < self.past)
+
+
 class Machine:
     """The processor in kernel mode, with its bus, an image, and the characters that are to come: each with its time, its line and its byte."""
 
@@ -115,6 +131,7 @@ class Machine:
         self.system = dict.fromkeys(NAMES, 0)
         self.slots, self.random = [Entry((2**19 + k) << 12, 0) for k in range(SLOTS)], random
         self.bus, self.keys, self.sent = Bus(held), list(keys), []
+        self.counts, self.entered = dict.fromkeys(["refills", "writes of the buffer", "interrupts of the lines", "interrupts of the clock", "characters in"], 0), [0] * len(EXCEPTIONS)
 
     # Registers.
 
@@ -311,19 +328,64 @@ class Machine:
                 pass
         return slot, stored
 
+    def is_about_to_reach_a_device(self, word):
+        """Whether an instruction loads from a device or stores to one, if it is done."""
+        name, *o = decoded(word) if word is not None else (None,)
+        if name not in (*LOADS, *STORES):
+            return False
+        try:
+            return not self.bus.is_memory(self.place(self.seen()[o[2]] + signed(o[1], 16) & MASK, 1, name in STORES))
+        except Raised:
+            return False
+
+    def count(self, code, is_jump, word, came):
+        """What is counted of a step that has just been done."""
+        self.counts["characters in"] += came
+        if code is None:
+            self.counts["writes of the buffer"] += not is_jump and SYSTEM.get(word) in ("tlbwi", "tlbwr")
+            return
+        self.entered[code] += 1
+        self.counts["refills"] += self.pc == REFILL
+        for bit, device in (10, "lines"), (11, "clock"):
+            self.counts[f"interrupts of the {device}"] += code == 0 and self.bus.requests() & self.system[12] & 1 << bit != 0
+
     def turn(self, done, is_quiet):
         """One instruction when so many are done: its line, and why the run ends with it, if it does."""
-        others = self.others()
+        return self.told_turn(done, View(is_quiet=is_quiet))
+
+    def told_turn(self, done, view):
+        """The same, with what is told of it."""
+        others, asked, came = self.others(), self.bus.requests(), 0
         while self.keys and self.keys[0][0] <= done:
             self.bus.receive(*self.keys.pop(0)[1:])
-        pc, word, r = self.pc, self.word_at_pc(), self.seen()
+            came += 1
+        pc, word, r, slots = self.pc, self.word_at_pc(), self.seen(), list(self.slots)
         slot, stored = self.about_to(word)
+        is_device = self.is_about_to_reach_a_device(word)
         code, is_jump = self.step()
         ending = self.ending(code, word)
+        self.count(code, is_jump, word, came)
         self.bus.tick()
         self.sent += self.bus.leaving()
-        if is_quiet:
+        if not view.reaches(done + 1):
             return "", ending
+        is_done = code is None and not is_jump
+        is_told = {
+            None: True,
+            "exceptions": code is not None,
+            "tlb": is_done and SYSTEM.get(word, "rfe") != "rfe" or code in (1, 2, 3),
+            "devices": is_done and is_device or code == 0 or asked != self.bus.requests(),
+        }[view.only]
+        line = self.line(done, pc, word, r, others, slot, stored, code, is_jump) if is_told else ""
+        return line + (self.begun(slots) if view.matches else ""), ending
+
+    def begun(self, before):
+        """The slots that match each other, and did not before."""
+        pairs = [(a, b) for a in range(SLOTS) for b in range(a + 1, SLOTS) if self.slots[a].meets(self.slots[b]) and not before[a].meets(before[b])]
+        return "".join(f"slots {a} and {b} match each other, which the architecture forbids\n" for a, b in pairs) if before != self.slots else ""
+
+    def line(self, done, pc, word, r, others, slot, stored, code, is_jump):
+        """The line of an instruction."""
         told = [f"{done + 1} {pc:08X} {'not fetched' if word is None else text_of(word)}"]
         if code is None and not is_jump:
             told += [f"slot {slot} {self.slots[slot]}"] if slot is not None else []
@@ -332,7 +394,7 @@ class Machine:
         told += [f"${n} {new:08X}" for n, (old, new) in enumerate(zip(r, self.seen())) if old != new]
         told += [f"{name} {new:08X}" for (name, new), old in zip(self.others().items(), others.values()) if old != new]
         told += [f"exception {exception_text(code)} at {self.pc:08X}"] if code is not None else []
-        return "; ".join(told) + "\n", ending
+        return "; ".join(told) + "\n"
 
     def ending(self, code, word):
         """Why the run ends after an instruction, if it does."""
@@ -344,18 +406,18 @@ class Machine:
                 return told
         return None
 
-    def run(self, most, is_quiet):
+    def run(self, most, view):
         """The whole text, piece by piece."""
         for done in range(most):
-            line, ending = self.turn(done, is_quiet)
+            line, ending = self.told_turn(done, view)
             yield line
             if ending:
                 cause = exception_text(self.system[13] >> 2 & 31)
-                yield from self.end(done + 1, f"{ending}exception {cause}, EPC {self.system[14]:08X}, BadVAddr {self.system[8]:08X}")
+                yield from self.end(view, done + 1, f"{ending}exception {cause}, EPC {self.system[14]:08X}, BadVAddr {self.system[8]:08X}")
                 return
-        yield from self.end(most, "all instructions that were asked for")
+        yield from self.end(view, most, "all instructions that were asked for")
 
-    def end(self, done, why):
+    def end(self, view, done, why):
         yield f"end after {done}: {why}\n"
         for n, value in enumerate(self.seen()):
             yield f"${n} {value:08X}\n"
@@ -369,6 +431,23 @@ class Machine:
             yield "" if other is None else f"slots {k} and {other} match each other, which the architecture forbids\n"
         for line in range(4):
             yield f"sent {line} {''.join(f'{byte:02X}' for it, byte in self.sent if it == line)}\n"
+        if view.counts:
+            yield from self.counted(done)
+        for address, count in view.memory:
+            yield from self.words_text(address, count)
+
+    def counted(self, done):
+        yield f"instructions {done}\n"
+        for name, count in {**self.counts, "characters out": len(self.sent)}.items():
+            yield f"{name} {count}\n"
+        for code, count in enumerate(self.entered):
+            yield f"exception {exception_text(code)}: {count}\n" if count else ""
+
+    def words_text(self, address, count):
+        """Words of memory, eight in a line."""
+        for first in range(0, count, 8):
+            places = [address + 4 * k for k in range(first, min(first + 8, count))]
+            yield f"memory {places[0]:08X}: {' '.join(f'{self.bus.word(it):08X}' for it in places)}\n"
 
 
 def fields_text(name, w):
@@ -388,12 +467,15 @@ def fields_text(name, w):
 def told(read, words):
     """What `dsmon` writes for these words, the first of which is `bare`, with a function from a file's name to its text."""
     _, source, most, *flags = [part for word in words for part in word.split("=")]
-    is_quiet = "--quiet" in flags
-    flags = [it for it in flags if it != "--quiet"]
+    plain = ("--quiet", "--matches", "--counts")
+    is_quiet, matches, counts = (it in flags for it in plain)
+    flags = [it for it in flags if it not in plain]
     given = dict(zip(flags[::2], flags[1::2]))
+    memory = [it.split(":") for name, it in zip(flags[::2], flags[1::2]) if name == "--memory"]
+    view = View(is_quiet, int(given.get("--from", 0)), int(given["--to"]) if "--to" in given else None, given.get("--only"), matches, counts, tuple((int(address, 16), int(count)) for address, count in memory))
     lines = [line.split(" ") for line in read(given["--keys"]).splitlines()] if "--keys" in given else []
     keys = [(int(o[0]), int(o[2]), byte) for o in lines if o[1:2] == ["key"] for byte in bytes.fromhex(o[3])]
-    return "".join(Machine(words_of(read(source)), int(given.get("--random", 63)), keys).run(int(most), is_quiet)).encode()
+    return "".join(Machine(words_of(read(source)), int(given.get("--random", 63)), keys).run(int(most), view)).encode()
 
 
 def rows():

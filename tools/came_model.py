@@ -256,7 +256,7 @@ def rows():
     """The rows that this model can tell: the line of each, its folder, its status, its words, and the file of its text."""
     for line in (DATA / "rows").read_text().splitlines():
         folder, status, name, *words = line.split(" ")
-        if folder != BY_HAND and any(word.split("=")[0] in FLAGS for word in words):
+        if folder != BY_HAND and words[0] != "bare" and any(word.split("=")[0] in FLAGS for word in words):
             yield line, folder, int(status), words, DATA / folder / name
 
 

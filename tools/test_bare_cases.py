@@ -6,7 +6,7 @@ import unittest
 
 sys.dont_write_bytecode = True
 
-from bare_cases import CASES, FOLDER, WORDS, cases, files  # noqa: E402
+from bare_cases import CASES, FOLDER, KINDS, SEEDS, WORDS, cases, chosen, files  # noqa: E402
 from bare_model import EXCEPTIONS  # noqa: E402
 
 MET = set(EXCEPTIONS) - {"IBE"}  # no drawn program leaves its pages
@@ -21,6 +21,15 @@ class Tests(unittest.TestCase):
     def test_the_table_is_run(self):
         self.assertIn(LINE, (FOLDER.parent / "tables").read_text().splitlines())
         self.assertIn(f"{LINE}: {CASES} as expected", (FOLDER.parent.parent / "stdout").read_text().splitlines())
+
+    def test_so_is_that_of_each_kind(self):
+        for kind in KINDS:
+            line = f"bare one.s drawn_{kind}.cases {' '.join(chosen(kind))}"
+            self.assertIn(line, (FOLDER.parent / "tables").read_text().splitlines())
+            self.assertIn(f"{line}: {len(SEEDS[kind])} as expected", (FOLDER.parent.parent / "stdout").read_text().splitlines())
+
+    def test_slots_begin_to_match_each_other_among_them(self):
+        self.assertTrue(any("match each other" in text.split("end after")[0] for kind in KINDS for _, _, text in cases(SEEDS[kind], chosen(kind))))
 
     def test_each_exception_is_met_in_either_mode(self):
         texts = [text for _, _, text in cases()]

@@ -143,5 +143,23 @@ class Lines(unittest.TestCase):
         self.assertEqual((it.r[10], it.sent), (0x8242, [(3, 0x42)]))
 
 
+class Flags(unittest.TestCase):
+    def test_a_window_goes_by_the_numbers_of_lines(self):
+        told = lines("nop\nnop\nnop\nnop", 4, "--from", "2", "--to", "4")
+        self.assertEqual([it.split()[0] for it in told[:3]], ["2", "3", "end"])
+
+    def test_kinds_leave_lines_out(self):
+        source = "lui $8, 0xBFE8\nlw $9, 0x28($8)\ntlbwr\nsyscall"
+        for kind, numbers in [("exceptions", ["4"]), ("tlb", ["3"]), ("devices", ["2"]), ("end", [])]:
+            told = lines(source, 10, "--only", kind)
+            self.assertEqual([it.split()[0] for it in told[:len(numbers) + 1]], [*numbers, "end"], kind)
+
+    def test_counts_and_memory_stand_at_the_end(self):
+        told = lines("tlbwr\nlw $9, 0x1000($0)", 10, "--quiet", "--counts", "--memory", "00400000:2")
+        self.assertEqual(told[-9:], [
+            "instructions 2", "refills 1", "writes of the buffer 1", "interrupts of the lines 0", "interrupts of the clock 0", "characters in 0", "characters out 0",
+            "exception 2 TLBL: 1", "memory 00400000: 42000006 8C091000"])
+
+
 if __name__ == "__main__":
     unittest.main()

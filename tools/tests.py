@@ -33,6 +33,8 @@ COMMANDS = [  # those that take longest first
     ["tools/test_refused_memory.py"],
     ["tools/test_refused_growths.py"],
     ["tools/refused_growths.py"],
+    ["tools/debug_sessions.py"],
+    ["tools/test_debug_sessions.py"],
     ["tools/test_unit_course.py"],
     ["tools/unit_course.py"],
     ["tools/test_gate_times.py"],

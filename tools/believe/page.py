@@ -8,7 +8,7 @@ from .texts import Unresolved
 from .words import Names
 
 PAGE = "docs/believe.md"
-KIT_FIELDS = {"now", "old", "new", "items", "top", "contents"}  # of the kit's types
+KIT_FIELDS = {"now", "old", "new", "items", "top", "contents", "remaining"}  # of the kit's types
 RUN, TRACE, BARE, DRIVE = (f"crates/{it}.rt" for it in ("ds_station/src/files", "ds_trace/src/files", "ds_bare/src/run", "ds_drive/src/program"))
 
 
@@ -57,7 +57,7 @@ LISTS = [
     Asked(BARE, "run_bare", [],
           "What is told of an image on the bare machine, instruction by instruction.",
           ["`tools/bare_model.py`, which writes the text of each row of `bare/` and `examples/bare/`"]),
-    Asked(DRIVE, "drive", [],
+    Asked(DRIVE, "drive_with_input", [],
           "What the words of the program ask for, its statuses, listings and checks, what a run came to, and what is told of a fault.",
           ["`tools/came_model.py`, which writes the text of each row of `came/`: statuses, words of memory, summaries and bounds",
            "`tools/reason_model.py`, what is told of a policy and an input that are refused",

@@ -1,9 +1,10 @@
 -- A run that is cut between two instructions.
-use Rattle.std.proofs.Common.{◌≡◌, ◌≢◌, ◌∙◌, ap, refl, sym, subst, ℕ, zero, suc, add-one, ◌+◌, ◌-◌, ◌<◌, ◌≤◌, Bool, false, List, [], ◌∷◌, ◌++◌, append_assoc, arith}
+use Rattle.std.proofs.Common.{◌≡◌, ◌≢◌, ◌∙◌, ap, refl, sym, subst, ℕ, zero, suc, add-one, ◌+◌, ◌-◌, ◌<◌, ◌≤◌, false, List, [], ◌∷◌, ◌++◌, append_assoc, arith}
 use Rattle.std.specs.Prelude.{Option, Some, None, Result, Err, IfErr}
 use Rattle.std.specs.Io.KnownBytes.{Appends, Keeps}
 use Rattle.ds_log.specs.Sent.{Answers, IsAskedOnce}
 use Rattle.ds_log.proofs.Sends.{appends_both, appends_kept, appends_none}
+use Rattle.ds_bare_view.specs.declared.view.BareView.{BareView}
 use Rattle.ds_bare.specs.declared.ending.Ending.{Ending}
 use Rattle.ds_bare.specs.declared.fault.BareFault.{BareFault}
 use Rattle.ds_bare.specs.declared.fault.BareFault.TheVariants as fault
@@ -13,40 +14,40 @@ use Rattle.ds_bare.specs.Runs.{IsCutBetween, end_or, ended, machine_after, run_f
 use Rattle.ds_bare.proofs.UnderWay.{run_first}
 
 -- what the first k instructions tell is written, they have come to this machine, and its text is the rest
-pub record HasTold (old now : Option (List ℕ)) (quiet : Bool) (n k : ℕ) (first m : Machine) : Type 0 where
+pub record HasTold (old now : Option (List ℕ)) (q : BareView) (n k : ℕ) (first m : Machine) : Type 0 where
   pub machine : m ≡ machine_after k first
-  pub written : Appends old now (told_by quiet k first)
-  pub goes_on : told_by quiet k first ++ run_from quiet (n - k) k m ≡ run_from quiet n 0 first
+  pub written : Appends old now (told_by q k first)
+  pub goes_on : told_by q k first ++ run_from q (n - k) k m ≡ run_from q n 0 first
 
 -- nothing is told yet
-pub told_first : (a : Option (List ℕ)) (q : Bool) (n : ℕ) (m : Machine) → HasTold a a q n 0 m m
+pub told_first : (a : Option (List ℕ)) (q : BareView) (n : ℕ) (m : Machine) → HasTold a a q n 0 m m
 told_first a q n m =
     let all : n - 0 ≡ n = omega arith in
     record { machine = refl; written = appends_none a; goes_on = ap (λ (left : ℕ). run_from q left 0 m) all }
 
 -- what one instruction more tells
-told_next : (q : Bool) (k : ℕ) (first m : Machine) → m ≡ machine_after k first → told_by q (k + 1) first ≡ told_by q k first ++ told q k m
+told_next : (q : BareView) (k : ℕ) (first m : Machine) → m ≡ machine_after k first → told_by q (k + 1) first ≡ told_by q k first ++ told q k m
 told_next q k first m same = ap (λ (j : ℕ). told_by q j first) (add-one k) ∙ ap (λ (x : Machine). told_by q k first ++ told q k x) (sym same)
 
 -- with it the text is the same
-goes_further : (a b : Option (List ℕ)) (q : Bool) (n k : ℕ) (first m : Machine) → k < n → HasTold a b q n k first m → told_by q (k + 1) first ++ end_or (ended k m) (k + 1) (turned k m) (run_from q (n - (k + 1)) (k + 1) (turned k m)) ≡ run_from q n 0 first
+goes_further : (a b : Option (List ℕ)) (q : BareView) (n k : ℕ) (first m : Machine) → k < n → HasTold a b q n k first m → told_by q (k + 1) first ++ end_or q (ended k m) (k + 1) (turned k m) (run_from q (n - (k + 1)) (k + 1) (turned k m)) ≡ run_from q n 0 first
 goes_further a b q n k first m l h =
-    ap (λ (text : List ℕ). text ++ end_or (ended k m) (k + 1) (turned k m) (run_from q (n - (k + 1)) (k + 1) (turned k m))) (told_next q k first m h.machine)
+    ap (λ (text : List ℕ). text ++ end_or q (ended k m) (k + 1) (turned k m) (run_from q (n - (k + 1)) (k + 1) (turned k m))) (told_next q k first m h.machine)
     ∙ (append_assoc (told_by q k first) (told q k m) _
     ∙ (ap (λ (text : List ℕ). told_by q k first ++ text) (sym (run_first q n k m l))
     ∙ h.goes_on))
 
 -- an instruction more is written
-written_more : (a b d : Option (List ℕ)) (q : Bool) (n k : ℕ) (first m : Machine) → HasTold a b q n k first m → Appends b d (told q k m) → Appends a d (told_by q (k + 1) first)
+written_more : (a b d : Option (List ℕ)) (q : BareView) (n k : ℕ) (first m : Machine) → HasTold a b q n k first m → Appends b d (told q k m) → Appends a d (told_by q (k + 1) first)
 written_more a b d q n k first m h p = subst (Appends a d) (sym (told_next q k first m h.machine)) (appends_both a b d (told_by q k first) (told q k m) h.written p)
 
 -- after which it goes on
-pub told_more : (a b d : Option (List ℕ)) (q : Bool) (n k : ℕ) (first m m2 : Machine) (e : Option Ending) → k < n → HasTold a b q n k first m → Appends b d (told q k m) → e ≡ ended k m → m2 ≡ turned k m → e ≡ None → HasTold a d q n (k + 1) first m2
+pub told_more : (a b d : Option (List ℕ)) (q : BareView) (n k : ℕ) (first m m2 : Machine) (e : Option Ending) → k < n → HasTold a b q n k first m → Appends b d (told q k m) → e ≡ ended k m → m2 ≡ turned k m → e ≡ None → HasTold a d q n (k + 1) first m2
 told_more a b d q n k first m m2 e l h p ends same none = record {
   machine = same ∙ (ap (turned k) h.machine ∙ ap (λ (j : ℕ). machine_after j first) (sym (add-one k)));
   written = written_more a b d q n k first m h p;
   goes_on = ap (λ (x : Machine). told_by q (k + 1) first ++ run_from q (n - (k + 1)) (k + 1) x) same
-      ∙ (ap (λ (x : Option Ending). told_by q (k + 1) first ++ end_or x (k + 1) (turned k m) (run_from q (n - (k + 1)) (k + 1) (turned k m))) (sym none ∙ ends)
+      ∙ (ap (λ (x : Option Ending). told_by q (k + 1) first ++ end_or q x (k + 1) (turned k m) (run_from q (n - (k + 1)) (k + 1) (turned k m))) (sym none ∙ ends)
       ∙ goes_further a b q n k first m l h);
 }
 
@@ -58,22 +59,22 @@ some_behind [] ys some = some
 some_behind (x ∷ xs) ys some = some_front x (xs ++ ys)
 
 -- the end is told
-end_some : (e : Ending) (k : ℕ) (m : Machine) → end_text e k m ≢ []
+end_some : (q : BareView) (e : Ending) (k : ℕ) (m : Machine) → end_text q e k m ≢ []
 unfolding end_text headline
-end_some e k m = some_front 101 _
+end_some q e k m = some_front 101 _
 
 -- so is what comes after an instruction
-later_some : (e : Option Ending) (k : ℕ) (m : Machine) (rest : List ℕ) → rest ≢ [] → end_or e k m rest ≢ []
-later_some None k m rest some = some
-later_some (Some e) k m rest some = end_some e k m
+later_some : (q : BareView) (e : Option Ending) (k : ℕ) (m : Machine) (rest : List ℕ) → rest ≢ [] → end_or q e k m rest ≢ []
+later_some q None k m rest some = some
+later_some q (Some e) k m rest some = end_some q e k m
 
 -- a run is told
-run_some : (q : Bool) (n k : ℕ) (m : Machine) → run_from q n k m ≢ []
-run_some q zero k m = end_some _ k m
-run_some q (suc n) k m = some_behind (told q k m) _ (later_some (ended k m) (k + 1) (turned k m) _ (run_some q n (k + 1) (turned k m)))
+run_some : (q : BareView) (n k : ℕ) (m : Machine) → run_from q n k m ≢ []
+run_some q zero k m = end_some q _ k m
+run_some q (suc n) k m = some_behind (told q k m) _ (later_some q (ended k m) (k + 1) (turned k m) _ (run_some q n (k + 1) (turned k m)))
 
 -- it is cut before an instruction, or before the end that comes when all are done
-pub cut_before : (a b d : Option (List ℕ)) (q : Bool) (n k : ℕ) (first m : Machine) → k ≤ n → HasTold a b q n k first m → Keeps b d → IsCutBetween a d q n first
+pub cut_before : (a b d : Option (List ℕ)) (q : BareView) (n k : ℕ) (first m : Machine) → k ≤ n → HasTold a b q n k first m → Keeps b d → IsCutBetween a d q n first
 cut_before a b d q n k first m l h p = record {
   done = k;
   within = l;
@@ -84,19 +85,19 @@ cut_before a b d q n k first m l h p = record {
 }
 
 -- it is cut before the end that comes by an instruction
-pub cut_at_end : (a b d f : Option (List ℕ)) (q : Bool) (n k : ℕ) (first m m2 : Machine) (o : Option Ending) (e : Ending) → k < n → HasTold a b q n k first m → Appends b d (told q k m) → o ≡ ended k m → m2 ≡ turned k m → o ≡ Some e → Keeps d f → IsCutBetween a f q n first
+pub cut_at_end : (a b d f : Option (List ℕ)) (q : BareView) (n k : ℕ) (first m m2 : Machine) (o : Option Ending) (e : Ending) → k < n → HasTold a b q n k first m → Appends b d (told q k m) → o ≡ ended k m → m2 ≡ turned k m → o ≡ Some e → Keeps d f → IsCutBetween a f q n first
 cut_at_end a b d f q n k first m m2 o e l h p ends same some r = record {
   done = k + 1;
   within = omega (arith, l);
   written = appends_kept a d f _ (written_more a b d q n k first m h p) r;
-  rest = end_text e (k + 1) (turned k m);
-  goes_on = ap (λ (x : Option Ending). told_by q (k + 1) first ++ end_or x (k + 1) (turned k m) (run_from q (n - (k + 1)) (k + 1) (turned k m))) (sym some ∙ ends)
+  rest = end_text q e (k + 1) (turned k m);
+  goes_on = ap (λ (x : Option Ending). told_by q (k + 1) first ++ end_or q x (k + 1) (turned k m) (run_from q (n - (k + 1)) (k + 1) (turned k m))) (sym some ∙ ends)
       ∙ goes_further a b q n k first m l h;
-  unwritten = end_some e (k + 1) (turned k m);
+  unwritten = end_some q e (k + 1) (turned k m);
 }
 
 -- nothing at all was written
-pub cut_first : (a : Option (List ℕ)) (q : Bool) (n : ℕ) (m : Machine) → IsCutBetween a a q n m
+pub cut_first : (a : Option (List ℕ)) (q : BareView) (n : ℕ) (m : Machine) → IsCutBetween a a q n m
 cut_first a q n m = cut_before a a a q n 0 m m (omega arith) (told_first a q n m) (keeps_same a)
   where
     keeps_same : (x : Option (List ℕ)) → Keeps x x

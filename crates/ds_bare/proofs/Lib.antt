@@ -4,3 +4,5 @@ pub mod Pieces
 pub mod UnderWay
 pub mod CutBetween
 pub mod Zeros
+pub mod Words
+pub mod Coming

@@ -11,7 +11,9 @@ use Rattle.ds_dev.specs.Bus.{BusState}
 use Rattle.ds_core.specs.Core.{CoreState}
 use Rattle.ds_bare.specs.declared.ending.Ending.{Ending}
 use Rattle.ds_bare.specs.declared.ending.Ending.TheVariants.{Counted, Finished, AtGeneralVector, NoHandler}
+use Rattle.ds_bare_view.specs.declared.view.BareView.{BareView}
 use Rattle.ds_bare.specs.Machine.{Machine}
+use Rattle.ds_bare.specs.Looks.{looks_text}
 use Rattle.ds_bare.specs.Steps.{name_of, seen, others, flags_text, entry_text, code_text}
 
 -- the exception that Cause, EPC and BadVAddr tell
@@ -98,5 +100,5 @@ unfoldable pub core_text : CoreState → BusState → List ℕ
 core_text c b = registers_text 0 (seen c.registers) ++ registers_text 32 (others c b) ++ random_text c.random ++ entries_text 0 c.entries ++ matches_text 0 c.entries
 
 -- the text of the end, after so many instructions
-unfoldable pub end_text : Ending → ℕ → Machine → List ℕ
-end_text e k m = headline e k m.core.system ++ core_text m.core m.bus ++ lines_text m.sent
+unfoldable pub end_text : BareView → Ending → ℕ → Machine → List ℕ
+end_text v e k m = headline e k m.core.system ++ core_text m.core m.bus ++ lines_text m.sent ++ looks_text v k m

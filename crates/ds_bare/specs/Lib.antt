@@ -1,8 +1,13 @@
 pub mod Faults
 pub mod Keys
+pub mod Counts
 pub mod Machine
 pub mod Endings
 pub mod EndingRows
 pub mod Steps
+pub mod Begun
+pub mod BegunRows
+pub mod Shows
+pub mod Looks
 pub mod Ends
 pub mod Runs

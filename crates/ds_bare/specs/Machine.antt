@@ -1,5 +1,5 @@
--- The bare machine: a processor in kernel mode, its bus, and the characters that come in and go out.
-use Rattle.std.specs.Prelude.{ℕ, zero, suc, ◌+◌, ◌^◌, false, nat_le, if◌then◌else◌, List, [], ◌∷◌, ◌++◌, Option, Some, None}
+-- The bare machine: a processor in kernel mode, its bus, the characters that come in and go out, and what is counted.
+use Rattle.std.specs.Prelude.{ℕ, zero, suc, ◌+◌, ◌-◌, ◌^◌, false, nat_le, if◌then◌else◌, List, [], ◌∷◌, ◌++◌, length, Option, Some, None}
 use Rattle.ds_isa.specs.Registers.{zero_registers}
 use Rattle.ds_tlb.specs.Entries.{empty_entries}
 use Rattle.ds_mem.specs.Memory.{zeros, with_frame}
@@ -8,11 +8,14 @@ use Rattle.ds_cp0.specs.System as system
 use Rattle.ds_dev.specs.Serial.{received, sent}
 use Rattle.ds_dev.specs.Bus.{BusState, with_serial, after_ticks}
 use Rattle.ds_dev.specs.Bus as bus
+use Rattle.ds_core.specs.declared.event.Event.{Event}
 use Rattle.ds_core.specs.Core.{CoreState, Step}
 use Rattle.ds_core.specs.Effect.{step}
 use Rattle.ds_policy.specs.declared.command.Character.{Character}
+use Rattle.ds_bare.specs.declared.counts.Counts.{Counts}
+use Rattle.ds_bare.specs.Counts.{came_counted, none_counted, step_counted}
 
--- the processor, its bus, and the characters
+-- the processor, its bus, the characters, and what is counted
 pub record Machine : Type 0 where
   pub core : CoreState
   pub bus : BusState
@@ -20,6 +23,7 @@ pub record Machine : Type 0 where
   pub coming : List Character
   -- those that were sent, each with its line, the oldest first
   pub sent : List (ℕ × ℕ)
+  pub counts : Counts
 
 -- a new processor at the image's first word, in kernel mode, with Random at its start
 abbrev pub core_at_start : ℕ → CoreState
@@ -40,7 +44,7 @@ memory_with image (suc k) = with_frame (memory_with image k) (1024 + k) (part_of
 
 -- a processor with an image in its memory, and nothing sent
 abbrev pub machine_with : CoreState → List ℕ → List Character → Machine
-machine_with c image keys = record { core = c; bus = bus.at_start (memory_with image 16); coming = keys; sent = [] }
+machine_with c image keys = record { core = c; bus = bus.at_start (memory_with image 16); coming = keys; sent = []; counts = none_counted }
 
 -- the machine before its first instruction
 abbrev pub machine_at_start : List ℕ → ℕ → List Character → Machine
@@ -62,7 +66,11 @@ still_coming time (c ∷ cs) = if nat_le c.time time then still_coming time cs e
 
 -- the machine when so many instructions are done, and the characters of that time have come in
 unfoldable pub fed : ℕ → Machine → Machine
-fed time m = record m { bus = bus_fed time m.coming m.bus; coming = still_coming time m.coming }
+fed time m = record m {
+  bus = bus_fed time m.coming m.bus;
+  coming = still_coming time m.coming;
+  counts = came_counted m.counts (length m.coming - length (still_coming time m.coming));
+}
 
 -- the step of its processor
 unfoldable pub next_step : Machine → Step
@@ -76,6 +84,10 @@ with_sent before (Some c) = before ++ c ∷ []
 -- the machine after the step
 unfoldable pub stepped : Machine → Machine
 stepped m = record m { core = (next_step m).core; bus = (next_step m).bus }
+
+-- the machine with its last step counted, by the instruction's word and what became of it
+unfoldable pub counted : Option ℕ → Event → Machine → Machine
+counted w event m = record m { counts = step_counted m.counts w event m.core m.bus }
 
 -- the bus a tick later
 abbrev pub ticked : BusState → BusState

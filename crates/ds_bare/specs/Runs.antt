@@ -1,39 +1,42 @@
 -- A run of the bare machine, and its text.
-use Rattle.std.specs.Prelude.{◌≡◌, ◌≢◌, ◌≤◌, ℕ, zero, suc, ◌+◌, Bool, if◌then◌else◌, List, [], ◌++◌, Option, Some, None}
+use Rattle.std.specs.Prelude.{◌≡◌, ◌≢◌, ◌≤◌, ℕ, zero, suc, ◌+◌, if◌then◌else◌, List, [], ◌++◌, Option, Some, None}
 use Rattle.std.specs.Io.KnownBytes.{Appends}
 use Rattle.ds_policy.specs.declared.command.Character.{Character}
+use Rattle.ds_bare_view.specs.declared.view.BareView.{BareView}
+use Rattle.ds_bare_view.specs.Views.{reaches}
 use Rattle.ds_bare.specs.declared.ending.Ending.{Ending}
 use Rattle.ds_bare.specs.declared.ending.Ending.TheVariants.{Counted}
-use Rattle.ds_bare.specs.Machine.{Machine, machine_at_start, fed, next_step, stepped, settled}
+use Rattle.ds_bare.specs.Machine.{Machine, counted, machine_at_start, fed, next_step, stepped, settled}
 use Rattle.ds_bare.specs.Endings.{ending_of, word_at_pc}
-use Rattle.ds_bare.specs.Steps.{before_word, line_text, others}
+use Rattle.ds_bare.specs.Steps.{before_word, others}
+use Rattle.ds_bare.specs.Shows.{lines_shown}
 use Rattle.ds_bare.specs.Ends.{end_text}
 
 -- the machine after one more instruction, when so many are done
 unfoldable pub turned : ℕ → Machine → Machine
-turned k m = settled (stepped (fed k m))
+turned k m = settled (counted (word_at_pc (fed k m).core (fed k m).bus) (next_step (fed k m)).event (stepped (fed k m)))
 
--- the line of that instruction: with it, the characters before it and the tick after it
-unfoldable pub turn_text : ℕ → Machine → List ℕ
-turn_text k m = line_text (k + 1) (before_word (fed k m).core (others m.core m.bus) (word_at_pc (fed k m).core (fed k m).bus)) (next_step (fed k m)).event (turned k m).core (turned k m).bus
+-- the lines of that instruction: with it, the characters before it and the tick after it
+unfoldable pub turn_text : BareView → ℕ → Machine → List ℕ
+turn_text v k m = lines_shown v (k + 1) (before_word (fed k m).core (others m.core m.bus) (word_at_pc (fed k m).core (fed k m).bus)) (next_step (fed k m)).event (turned k m).core (turned k m).bus
 
 -- what is told of it
-unfoldable pub told : Bool → ℕ → Machine → List ℕ
-told quiet k m = if quiet then [] else turn_text k m
+unfoldable pub told : BareView → ℕ → Machine → List ℕ
+told v k m = if reaches v (k + 1) then turn_text v k m else []
 
 -- why the run ends with it, if it does
 unfoldable pub ended : ℕ → Machine → Option Ending
 ended k m = ending_of (fed k m)
 
 -- the end, where there is one, else what comes after
-abbrev pub end_or : Option Ending → ℕ → Machine → List ℕ → List ℕ
-end_or None k m rest = rest
-end_or (Some e) k m rest = end_text e k m
+abbrev pub end_or : BareView → Option Ending → ℕ → Machine → List ℕ → List ℕ
+end_or v None k m rest = rest
+end_or v (Some e) k m rest = end_text v e k m
 
 -- the text of at most so many instructions more, when so many are done
-abbrev pub run_from : Bool → ℕ → ℕ → Machine → List ℕ
-run_from quiet zero k m = end_text Counted k m
-run_from quiet (suc n) k m = told quiet k m ++ end_or (ended k m) (k + 1) (turned k m) (run_from quiet n (k + 1) (turned k m))
+abbrev pub run_from : BareView → ℕ → ℕ → Machine → List ℕ
+run_from v zero k m = end_text v Counted k m
+run_from v (suc n) k m = told v k m ++ end_or v (ended k m) (k + 1) (turned k m) (run_from v n (k + 1) (turned k m))
 
 -- why the same instructions end
 abbrev pub end_or_later : Option Ending → Ending → Ending
@@ -45,8 +48,8 @@ ending_from zero k m = Counted
 ending_from (suc n) k m = end_or_later (ended k m) (ending_from n (k + 1) (turned k m))
 
 -- the text of a run of an image
-unfoldable pub bare_text : Bool → List ℕ → ℕ → ℕ → List Character → List ℕ
-bare_text quiet image random n keys = run_from quiet n 0 (machine_at_start image random keys)
+unfoldable pub bare_text : BareView → List ℕ → ℕ → ℕ → List Character → List ℕ
+bare_text v image random n keys = run_from v n 0 (machine_at_start image random keys)
 
 -- the machine after the first so many instructions
 abbrev pub machine_after : ℕ → Machine → Machine
@@ -54,17 +57,17 @@ machine_after zero m = m
 machine_after (suc k) m = turned k (machine_after k m)
 
 -- what is told of the first so many instructions
-abbrev pub told_by : Bool → ℕ → Machine → List ℕ
-told_by quiet zero m = []
-told_by quiet (suc k) m = told_by quiet k m ++ told quiet k (machine_after k m)
+abbrev pub told_by : BareView → ℕ → Machine → List ℕ
+told_by v zero m = []
+told_by v (suc k) m = told_by v k m ++ told v k (machine_after k m)
 
 -- a run of at most n instructions was cut between two of them: what is told of the first ones is written, and the rest of its text is not
-pub record IsCutBetween (old new : Option (List ℕ)) (quiet : Bool) (n : ℕ) (m : Machine) : Type 0 where
+pub record IsCutBetween (old new : Option (List ℕ)) (v : BareView) (n : ℕ) (m : Machine) : Type 0 where
   pub done : ℕ
   pub within : done ≤ n
-  pub written : Appends old new (told_by quiet done m)
+  pub written : Appends old new (told_by v done m)
   pub rest : List ℕ
-  pub goes_on : told_by quiet done m ++ rest ≡ run_from quiet n 0 m
+  pub goes_on : told_by v done m ++ rest ≡ run_from v n 0 m
   pub unwritten : rest ≢ []
 
 -- a part of a text is written, and the rest of it is to come

@@ -1,10 +1,10 @@
 -- The line of a step: its number, its address, its instruction, and what it changed.
-use Rattle.std.specs.Prelude.{codes, decimal, ℕ, ◌+◌, ◌*◌, ◌/◌, ◌%◌, ◌^◌, Bool, true, false, ◌==◌, if◌then◌else◌, List, [], ◌∷◌, ◌++◌, slice_get, slice_set, Option, Some, None, Result, Ok, Err}
+use Rattle.std.specs.Prelude.{codes, decimal, ℕ, ◌+◌, ◌*◌, ◌/◌, ◌%◌, ◌^◌, Bool, true, false, ◌==◌, ◌||◌, not, if◌then◌else◌, List, [], ◌∷◌, ◌++◌, slice_get, slice_set, Option, Some, None, Result, Ok, Err}
 use Rattle.ds_word.specs.Bytes.{word_at}
 use Rattle.ds_isa.specs.declared.instr.Late.{Late}
 use Rattle.ds_isa.specs.declared.instr.Instr.{Instr}
 use Rattle.ds_isa.specs.declared.instr.Instr.TheVariants as instr
-use Rattle.ds_isa.specs.declared.instr.Kind.TheVariants.{Store}
+use Rattle.ds_isa.specs.declared.instr.Kind.TheVariants.{Load, Store}
 use Rattle.ds_isa.specs.Instruction.{instruction_of}
 use Rattle.ds_isa.specs.Registers.{Registers, read}
 use Rattle.ds_isa.specs.Meaning.{address_of}
@@ -79,16 +79,49 @@ abbrev pub stored_by : CoreState → Option (ℕ × ℕ) → Option Stored
 stored_by c None = None
 stored_by c (Some s) = stored_at s.1 (translate c.entries (asid_of c.system) (mode_of c.system) Store s.0)
 
+-- the address of a load, if the instruction is one
+abbrev pub load_of : Registers → Instr → Option ℕ
+load_of r (instr.Lb rt rs i) = Some (address_of r rs i)
+load_of r (instr.Lh rt rs i) = Some (address_of r rs i)
+load_of r (instr.Lwl rt rs i) = Some (address_of r rs i)
+load_of r (instr.Lw rt rs i) = Some (address_of r rs i)
+load_of r (instr.Lbu rt rs i) = Some (address_of r rs i)
+load_of r (instr.Lhu rt rs i) = Some (address_of r rs i)
+load_of r (instr.Lwr rt rs i) = Some (address_of r rs i)
+load_of r i = None
+
+-- whether an access reaches a device, by its physical place
+abbrev pub is_device : Result Physical Fault → Bool
+is_device (Err fault) = false
+is_device (Ok place) = not (is_memory place.0)
+
+-- whether a load does
+abbrev pub loads_device : CoreState → Option ℕ → Bool
+loads_device c None = false
+loads_device c (Some address) = is_device (translate c.entries (asid_of c.system) (mode_of c.system) Load address)
+
+-- whether a store does
+abbrev pub stores_device : Option Stored → Bool
+stores_device None = false
+stores_device (Some s) = not (is_memory s.place)
+
+-- what a slot of the buffer holds, where one is named
+abbrev pub held_at : CoreState → Option ℕ → Option Entry
+held_at c None = None
+held_at c (Some slot) = slice_get c.entries slot
+
 -- what of the machine before an instruction its line tells, with its registers but the general ones
 abbrev pub before_word : CoreState → List ℕ → Option ℕ → Before
-before_word c others None = record { pc = c.pc; word = None; registers = seen c.registers; others = others; slot = None; stored = None }
+before_word c others None = record { pc = c.pc; word = None; registers = seen c.registers; others = others; slot = None; held = None; stored = None; device = false }
 before_word c others (Some w) = record {
   pc = c.pc;
   word = Some w;
   registers = seen c.registers;
   others = others;
   slot = slot_of c (instruction_of w);
+  held = held_at c (slot_of c (instruction_of w));
   stored = stored_by c (store_of c.registers (instruction_of w));
+  device = loads_device c (load_of c.registers (instruction_of w)) || stores_device (stored_by c (store_of c.registers (instruction_of w)));
 }
 
 -- the instruction, or that there is none in memory

@@ -2,14 +2,15 @@
 ghost use Rattle.std.specs.Prelude.{◌≡◌, ◌<◌, IfSome, Some};
 ghost use Rattle.ds_isa.specs.Instruction.{instruction_of};
 ghost use Rattle.ds_isa.specs.Meaning.{address_of};
-ghost use Rattle.ds_bare.specs.Steps.{before_word, slot_of, store_of, stored_by};
+ghost use Rattle.ds_bare.specs.Steps.{before_word, held_at, load_of, loads_device, slot_of, store_of, stored_by, stores_device};
 
 use crate::ending::{Processor, mode_of};
 use crate::registers::{read, seen};
 use ds_amap::{Access, Physical, translate};
 use ds_cp0::register;
 use ds_isa::{Instr, decode};
-use ds_tlb::Lookaside;
+use ds_mem::SIZE;
+use ds_tlb::{Entry, Lookaside};
 use ds_word::{sign16, wrapping_sum};
 
 /// A store: its physical place, and the register that is stored.
@@ -31,8 +32,12 @@ pub(crate) struct Before {
     pub others: [u32; 10],
     /// The slot of the buffer that it writes if it is done.
     pub slot: Option<usize>,
+    /// What that slot holds.
+    pub held: Option<Entry>,
     /// Where it stores if it is done.
     pub stored: Option<Stored>,
+    /// Whether it reaches a device if it is done.
+    pub device: bool,
 }
 
 impl Before {
@@ -40,20 +45,32 @@ impl Before {
     pub fn of(core: &Processor, others: [u32; 10], word: Option<u32>) -> Before
         ensures { result ≡ before_word core.now others word }
     {
-        let (slot, stored) = match word {
-            Some(word) => {
-                let instr = decode(word);
-                (slot_of(core, instr), stored_by(core, store_of(core, instr)))
+        match word {
+            Some(read) => {
+                let instr = decode(read);
+                let slot = slot_of(core, instr);
+                let stored = stored_by(core, store_of(core, instr));
+                Before {
+                    pc: core.pc,
+                    word,
+                    registers: seen(core),
+                    others,
+                    slot,
+                    held: held_at(core, slot),
+                    stored,
+                    device: loads_device(core, load_of(core, instr)) || stores_device(stored),
+                }
             }
-            None => (None, None),
-        };
-        Before {
-            pc: core.pc,
-            word,
-            registers: seen(core),
-            others,
-            slot,
-            stored,
+            None => Before {
+                pc: core.pc,
+                word,
+                registers: seen(core),
+                others,
+                slot: None,
+                held: None,
+                stored: None,
+                device: false,
+            },
         }
     }
 }
@@ -66,6 +83,61 @@ fn slot_of(core: &Processor, instr: Instr) -> Option<usize>
         Instr::Tlbwi => Some(((core.cp0.read(register::INDEX) >> 8) & 0x3f) as usize),
         Instr::Tlbwr => Some(core.tlb.random()),
         _ => None,
+    }
+}
+
+/// What a slot of the buffer holds, where one is named.
+fn held_at(core: &Processor, slot: Option<usize>) -> Option<Entry>
+    ensures { result ≡ held_at core.now slot }
+{
+    match slot {
+        Some(slot) if slot < 64 => Some(core.tlb.read(slot)),
+        _ => None,
+    }
+}
+
+/// The address of a load, if the instruction is one.
+fn load_of(core: &Processor, instr: Instr) -> Option<u32>
+    ensures { result ≡ load_of core.now.registers instr }
+{
+    match instr {
+        Instr::Lb { rs, immediate, .. } => Some(address_of(core, rs, immediate)),
+        Instr::Lh { rs, immediate, .. } => Some(address_of(core, rs, immediate)),
+        Instr::Lwl { rs, immediate, .. } => Some(address_of(core, rs, immediate)),
+        Instr::Lw { rs, immediate, .. } => Some(address_of(core, rs, immediate)),
+        Instr::Lbu { rs, immediate, .. } => Some(address_of(core, rs, immediate)),
+        Instr::Lhu { rs, immediate, .. } => Some(address_of(core, rs, immediate)),
+        Instr::Lwr { rs, immediate, .. } => Some(address_of(core, rs, immediate)),
+        _ => None,
+    }
+}
+
+/// Whether a load from this address reaches a device, where there is a load.
+fn loads_device(core: &Processor, address: Option<u32>) -> bool
+    ensures { result ≡ loads_device core.now address }
+{
+    let Some(address) = address else {
+        return false;
+    };
+    match translate(
+        address,
+        Access::Load,
+        mode_of(core),
+        &core.tlb,
+        core.cp0.asid(),
+    ) {
+        Ok(Physical(place)) => place as usize >= SIZE,
+        Err(_) => false,
+    }
+}
+
+/// Whether a store reaches a device, where there is one.
+fn stores_device(stored: Option<Stored>) -> bool
+    ensures { result ≡ stores_device stored }
+{
+    match stored {
+        Some(stored) => stored.place as usize >= SIZE,
+        None => false,
     }
 }
 

@@ -7,10 +7,12 @@ ghost use Rattle.ds_bare.specs.Ends.{bit_text, cause_text, character_text, core_
 use crate::digits::{push_byte, push_decimal, push_hex};
 use crate::ending::{Ending, Processor};
 use crate::entries::push_flags;
+use crate::looks::push_looks;
 use crate::machine::Machine;
 use crate::matches::{entries_of, push_entries, push_matches};
 use crate::names::{push_code, push_name};
 use crate::registers::{others, seen};
+use ds_bare_view::BareView;
 use ds_cp0::{Cp0, register};
 use ds_dev::Bus;
 use ds_tlb::{Entry, Lookaside};
@@ -21,16 +23,18 @@ use std::alloc::{AllocError, Global};
 pub(crate) fn push_end<'a>(
     alloc: Global,
     text: &mut String,
+    view: &BareView,
     ending: Ending,
     done: u64,
     machine: &Machine<'a>,
 ) -> Result<(), AllocError>
     ensures { OnOk result
-        (string_bytes text.new ≡ string_bytes text.old ++ end_text ending done machine.now) }
+        (string_bytes text.new ≡ string_bytes text.old ++ end_text view.now ending done machine.now) }
 {
     push_headline(text, ending, done, &machine.core.cp0)?;
     push_core(alloc, text, &machine.core, &machine.bus)?;
-    push_lines(text, &machine.sent)
+    push_lines(text, &machine.sent)?;
+    push_looks(text, view, done, machine)
 }
 
 #[tactic(auto, unfolding(crate::specs::Ends::headline))]

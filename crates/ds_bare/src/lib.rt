@@ -3,19 +3,24 @@
 #![tactic(auto)]
 
 mod before;
+mod begun;
+mod counts;
 mod digits;
 mod end;
 mod ending;
 mod entries;
 mod fault;
 mod keys;
+mod looks;
 mod machine;
 mod matches;
 mod names;
 mod registers;
 mod run;
+mod shows;
 mod step;
 
+pub use ds_bare_view::{BareOnly, BareView, Span, Spans};
 pub use ds_policy::Character;
 pub use ending::Ending;
 pub use fault::BareFault;

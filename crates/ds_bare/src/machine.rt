@@ -3,6 +3,7 @@ ghost use Rattle.std.specs.Prelude.{◌≡◌, ◌≤◌, IfOk, OnOk, OnErr, tru
 ghost use Rattle.ds_bare.specs.Faults.{may_start};
 ghost use Rattle.ds_bare.specs.Machine.{bus_fed, core_at_start, memory_with, still_coming, with_sent};
 
+use crate::counts::Counts;
 use crate::ending::Processor;
 use ds_asm::Image;
 use ds_core::{Core, Event};
@@ -30,6 +31,7 @@ pub(crate) struct Machine<'a> {
     pub bus: Bus,
     coming: &'a [Character],
     pub sent: Vec<(u8, u8)>,
+    pub counts: Counts,
 }
 
 impl<'a> Model for Machine<'a> {
@@ -42,6 +44,7 @@ impl<'a> Model for Machine<'a> {
       bus = m.bus;
       coming = m.coming.now;
       sent = m.sent.items;
+      counts = m.counts;
     } };
 }
 
@@ -108,7 +111,7 @@ fn add_sent(sent: &mut Vec<(u8, u8)>, character: Option<(u8, u8)>) -> Result<(),
 
 impl<'a> Machine<'a> {
     ghost use Rattle.std.specs.Prelude.{◌≡◌, ◌↔◌, ◌<◌, ◌≤◌, IfOk, OnOk, OnErr, IfErr};
-    ghost use Rattle.ds_bare.specs.Machine.{fed, machine_with, next_step, settled, stepped};
+    ghost use Rattle.ds_bare.specs.Machine.{counted, fed, machine_with, next_step, settled, stepped};
 
     /// A processor with an image in its memory.
     pub fn new(
@@ -125,16 +128,20 @@ impl<'a> Machine<'a> {
             bus: Bus::new(memory),
             coming: keys,
             sent: Vec::new(alloc),
+            counts: Counts::none(),
         })
     }
 
     /// Lets the characters come in that are due when so many instructions are done.
     #[inline(always)]
-    #[tactic(auto, unfolding(crate::specs::Machine::fed))]
+    #[tactic(auto, unfolding(crate::specs::Machine::fed), using(crate::proofs::Coming::fewer_come))]
     pub fn feed(&mut self, time: u64)
         ensures { self.new ≡ fed time self.old }
     {
-        self.coming = feed(&mut self.bus, time, self.coming);
+        let coming = feed(&mut self.bus, time, self.coming);
+        let came = self.coming.len() - coming.len();
+        self.counts = self.counts.with_characters(came);
+        self.coming = coming;
     }
 
     /// Does the next step.
@@ -145,6 +152,15 @@ impl<'a> Machine<'a> {
         ensures event { result ≡ (next_step self.old).event }
     {
         self.core.step(&mut self.bus)
+    }
+
+    /// Counts the last step, by the instruction's word and what became of it.
+    #[inline(always)]
+    #[tactic(auto, unfolding(crate::specs::Machine::counted))]
+    pub fn count(&mut self, word: Option<u32>, event: Event)
+        ensures { self.new ≡ counted word event self.old }
+    {
+        self.counts = self.counts.with_step(word, event, &self.core, &self.bus);
     }
 
     /// Lets a tick pass, and the character leave that a line has sent.

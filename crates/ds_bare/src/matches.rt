@@ -13,7 +13,8 @@ use std::alloc::{AllocError, Global};
 /// The entries of the buffer, slot by slot.
 #[tactic(auto, using(crate::proofs::Taken::taken_more))]
 pub(crate) fn entries_of(alloc: Global, core: &Processor) -> Result<Vec<Entry>, AllocError>
-    ensures { IfOk result (λ entries. entries.items ≡ core.now.entries) }
+    ensures value { IfOk result (λ entries. entries.items ≡ core.now.entries) }
+    ensures few { IfOk result (λ entries. length entries.items ≤ 64) }
 {
     let mut entries = Vec::new(alloc);
     for slot in 0..64 {
@@ -23,7 +24,7 @@ pub(crate) fn entries_of(alloc: Global, core: &Processor) -> Result<Vec<Entry>, 
 }
 
 /// Whether some page of some address space has both entries.
-fn match_each_other(one: &Entry, other: &Entry) -> bool
+pub(crate) fn match_each_other(one: &Entry, other: &Entry) -> bool
     ensures { result ≡ match_each_other one.now other.now }
 {
     one.vpn == other.vpn && (one.g || other.g || one.asid == other.asid)

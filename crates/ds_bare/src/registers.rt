@@ -32,7 +32,7 @@ pub(crate) fn read(core: &Processor, register: u8) -> u32
 }
 
 /// Cause with the requests of the devices: IP2 in bit 10, IP3 in bit 11.
-fn cause(core: &Processor, bus: &Bus) -> u32
+pub(crate) fn cause(core: &Processor, bus: &Bus) -> u32
     ensures { result ≡ system_reads core.now bus.now 13 }
 {
     let (system, clock) = bus.lines();

@@ -8,3 +8,4 @@ pub mod Settings
 pub mod Alike
 pub mod Looking
 pub mod Hearing
+pub mod Served

@@ -21,4 +21,5 @@ pub mod Resumes
 pub mod Backward
 pub mod Answering
 pub mod Streams
+pub mod Serving
 pub mod Rows

@@ -42,10 +42,14 @@ abbrev pub after_words : Result Packet Refusal → ExchangeState → ExchangeSta
 after_words (Err refusal) e = e
 after_words (Ok packet) e = record e { acknowledges = acknowledges_after packet e.acknowledges; ended = is_end packet }
 
--- a packet of these words is acknowledged, and then answered
-pub record HearsWords (words : List ℕ) (old new : ExchangeState) (before after : List ℕ) : Type 0 where
-  pub answers : Answers words old.session new.session (before ++ mark_text old.acknowledges 43) after
+-- a packet of these words is answered
+pub record AnswersWords (words : List ℕ) (old new : ExchangeState) (before after : List ℕ) : Type 0 where
+  pub answers : Answers words old.session new.session before after
   pub rest : new ≡ after_words (packet_of words) (record old { session = new.session })
+
+-- it is acknowledged, and then answered
+abbrev pub HearsWords : List ℕ → ExchangeState → ExchangeState → List ℕ → List ℕ → Type 0
+HearsWords words old new before = AnswersWords words old new (before ++ mark_text old.acknowledges 43)
 
 -- this was written, and nothing has changed
 pub record Marks (text : List ℕ) (old new : ExchangeState) (before after : List ℕ) : Type 0 where

@@ -2,7 +2,7 @@
 ghost use Rattle.std.specs.Prelude.{◌≡◌, ◌++◌, Ok, OnErr, OnOk, false, true};
 ghost use Rattle.ds_packets.specs.Scanning.{start};
 ghost use Rattle.ds_packets.specs.Streams.{listed};
-ghost use Rattle.ds_debug.specs.Streams.{Hears, HearsAll, HearsOne, HearsWords, acknowledges_after, is_end, mark_text};
+ghost use Rattle.ds_debug.specs.Streams.{AnswersWords, Hears, HearsAll, HearsOne, HearsWords, acknowledges_after, is_end, mark_text};
 
 use crate::session::Session;
 use ds_packets::{Data, Packet, PacketFault, Scanner};
@@ -46,7 +46,7 @@ fn is_end(packet: Packet) -> bool
 pub(crate) struct Exchange<'a> {
     pub(crate) session: Session<'a>,
     /// Whether packets are acknowledged.
-    acknowledges: bool,
+    pub(crate) acknowledges: bool,
     /// Whether gdb has ended the session.
     pub(crate) ended: bool,
 }
@@ -71,12 +71,16 @@ impl<'a> Exchange<'a> {
         self.ended = true;
     }
 
-    /// Acknowledges and answers a packet of these words.
-    fn hear_words(&mut self, alloc: Global, words: &[u8], out: &mut Vec<u8>) -> Result<(), Fault>
-        ensures { OnOk result (HearsWords words.now self.old self.new
+    /// Answers a packet of these words.
+    pub(crate) fn answer_words(
+        &mut self,
+        alloc: Global,
+        words: &[u8],
+        out: &mut Vec<u8>,
+    ) -> Result<(), Fault>
+        ensures { OnOk result (AnswersWords words.now self.old self.new
             out.old.items out.new.items) }
     {
-        push_mark(out, self.acknowledges, b'+')?;
         match self.session.answer(alloc, words, out) {
             Ok(()) => {}
             Err(fault) => return Err(fault),
@@ -89,6 +93,15 @@ impl<'a> Exchange<'a> {
             }
             Err(_) => Ok(()),
         }
+    }
+
+    /// Acknowledges and answers a packet of these words.
+    fn hear_words(&mut self, alloc: Global, words: &[u8], out: &mut Vec<u8>) -> Result<(), Fault>
+        ensures { OnOk result (HearsWords words.now self.old self.new
+            out.old.items out.new.items) }
+    {
+        push_mark(out, self.acknowledges, b'+')?;
+        self.answer_words(alloc, words, out)
     }
 
     /// Answers a packet that came, or refuses what came and is none. Where the session has ended
@@ -133,8 +146,8 @@ impl<'a> Exchange<'a> {
 /// gdb's stream of bytes, with the session that answers what they say.
 #[derive(Drop)]
 pub struct Stream<'a> {
-    scanner: Scanner,
-    exchange: Exchange<'a>,
+    pub(crate) scanner: Scanner,
+    pub(crate) exchange: Exchange<'a>,
 }
 
 impl<'a> Model for Stream<'a> {

@@ -1,5 +1,5 @@
 -- Why there is no run on the bare machine, and what it leaves.
-use Rattle.std.proofs.Common.{◌≡◌, inl, inr, ℕ, Bool, List, [], refl, sym, subst, Bor}
+use Rattle.std.proofs.Common.{◌≡◌, inl, inr, ℕ, List, [], refl, sym, subst, Bor}
 use Rattle.std.specs.Prelude.{Option, Some, None, Ok, false}
 use Rattle.std.specs.Io.KnownBytes.{Keeps}
 use Rattle.clap.specs.Words.{Text}
@@ -10,6 +10,7 @@ use Rattle.ds_policy.specs.declared.command.Character.{Character}
 use Rattle.ds_policy.specs.declared.events.fault.EventsFault.{EventsFault}
 use Rattle.ds_policy.specs.declared.events.fault.EventsFault.TheVariants as events
 use Rattle.ds_log.specs.Sent.{AppendsPart}
+use Rattle.ds_bare_view.specs.declared.view.BareView.{BareView}
 use Rattle.ds_bare.specs.Faults.{is_cut, may_start}
 use Rattle.ds_bare.specs.Keys.{IsFaultOf, keys_in}
 use Rattle.ds_bare.specs.Machine.{machine_at_start}
@@ -65,8 +66,8 @@ module _ (holds : List ℕ → List ℕ → Type 0) (lacks : List ℕ → Type 0
   pub run_fails : (e : BareFault) (source input image : List ℕ) (keys : List Character) (old new : Option (List ℕ))
       → holds request.source.now source → IsInput holds request.keys input → assembled source ≡ Ok image → keys_in (input_of [] input) ≡ Ok keys
       → is_cut e ≡ may_start request.random → (is_cut e ≡ false → Keeps old new)
-      → AppendsPart old new (bare_text request.quiet image request.random request.most keys)
-      → (e ≡ bare.Memory → IsCutBetween old new request.quiet request.most (machine_at_start image request.random keys))
+      → AppendsPart old new (bare_text request.view image request.random request.most keys)
+      → (e ≡ bare.Memory → IsCutBetween old new request.view request.most (machine_at_start image request.random keys))
       → BareFailsBy (failure.Fault (of_bare e)) holds lacks request old new
   run_fails bare.BadRandom source input image keys old new source_held input_held assembles says starts kept part short = (sym starts, kept refl)
   run_fails bare.WriteFault source input image keys old new source_held input_held assembles says starts kept part short =
@@ -75,10 +76,10 @@ module _ (holds : List ℕ → List ℕ → Type 0) (lacks : List ℕ → Type 0
       inr (record { source = source; input = input; image = image; keys = keys; source_held = source_held; input_held = input_held; assembles = assembles; says = says; starts = sym starts; so = short refl })
 
 -- a run that was cut between two instructions has told a front of its text
-short_part : (image : List ℕ) (random : ℕ) (quiet : Bool) (most : ℕ) (keys : List Character) (old new : Option (List ℕ)) → IsCutBetween old new quiet most (machine_at_start image random keys) → AppendsPart old new (bare_text quiet image random most keys)
+short_part : (image : List ℕ) (random : ℕ) (view : BareView) (most : ℕ) (keys : List Character) (old new : Option (List ℕ)) → IsCutBetween old new view most (machine_at_start image random keys) → AppendsPart old new (bare_text view image random most keys)
 unfolding bare_text
-short_part image random quiet most keys old new cut =
-    record { part = told_by quiet cut.done (machine_at_start image random keys); rest = cut.rest; whole = cut.goes_on; appends = cut.written }
+short_part image random view most keys old new cut =
+    record { part = told_by view cut.done (machine_at_start image random keys); rest = cut.rest; whole = cut.goes_on; appends = cut.written }
 
 short_cuts : (holds : List ℕ → List ℕ → Type 0) (request : BareRequest) (old new : Option (List ℕ)) → ShortBare holds request old new → CutsBare holds request old new
 short_cuts holds request old new s = record {
@@ -91,7 +92,7 @@ short_cuts holds request old new s = record {
   assembles = s.assembles;
   says = s.says;
   starts = s.starts;
-  so = short_part s.image request.random request.quiet request.most s.keys old new s.so;
+  so = short_part s.image request.random request.view request.most s.keys old new s.so;
 }
 
 -- whatever the failure, nothing is written, or a front of the text of the run

@@ -14,7 +14,7 @@ use Rattle.ds_words.specs.declared.words.TraceRequest.{TraceRequest}
 use Rattle.ds_drive.specs.declared.outcome.Came.{Came}
 use Rattle.ds_drive.specs.declared.outcome.Came.TheVariants as came
 use Rattle.ds_drive.specs.declared.outcome.Outcome.{Outcome}
-use Rattle.ds_drive.specs.Done.{IsCutShort, IsDone, IsTooMuch, IsUnended, stream}
+use Rattle.ds_drive.specs.Done.{IsCutShort, IsDone, IsTooMuch, IsUnended, Stream, stream}
 use Rattle.ds_drive.specs.Failures.{CutsFiles}
 use Rattle.ds_drive.specs.Listening.{Listener, Tells}
 use Rattle.ds_drive.specs.Outcomes.{came_of, came_status, end_told, unmet, where_asked}
@@ -112,8 +112,8 @@ module _ (words : List Text) (holds : List ℕ → List ℕ → Type 0) (o : Out
       ]
 
       module _ (err : Listener) (told : Tells err o.told.items) where
-        pub run_done : came_status o.came ≡ 0 → IsDone words holds (stream old new) err
-        run_done zero = elim came_to [
+        pub run_done : (input : Stream) → came_status o.came ≡ 0 → IsDone words holds input (stream old new) err
+        run_done input zero = elim came_to [
           | inl r ↦ inr (inl (request, asks, record { outcome = o; is = done_by o.came zero; so = r; told = told }))
           | inr r ↦ absurd (let no : came.Done ≡ came.TooMuch = sym (done_by o.came zero) ∙ left_is_much r in cc)
         ]
@@ -141,8 +141,8 @@ module _ (words : List Text) (holds : List ℕ → List ℕ → Type 0) (o : Out
         e.followed.told ∙ (ap (λ (s : List ℕ). s ++ end_told Whole e.station (unmet request.extras e.by.last)) (no_summary request.extras.summary _ none) ∙ nothing_unmet (unmet request.extras e.by.last) e.station (sym (done_by o.came zero) ∙ e.followed.came))
 
     module _ (err : Listener) (told : Tells err o.told.items) where
-      pub trace_done : came_status o.came ≡ 0 → IsDone words holds (stream old new) err
-      trace_done zero = inr (inr (inr (inr (inr (request, asks, record { outcome = o; is = done_by o.came zero; so = r; told = told })))))
+      pub trace_done : (input : Stream) → came_status o.came ≡ 0 → IsDone words holds input (stream old new) err
+      trace_done input zero = inr (inr (inr (inr (inr (inl (request, asks, record { outcome = o; is = done_by o.came zero; so = r; told = told }))))))
 
       pub trace_unended : came_status o.came ≡ 4 → IsUnended words holds (stream old new) err
       trace_unended four = inr (request, asks, record { outcome = o; is = unended_by o.came four; so = r; told = told })

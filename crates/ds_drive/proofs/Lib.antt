@@ -2,6 +2,7 @@ pub mod BareLemmas
 pub mod BareOrders
 pub mod Coming
 pub mod Cuts
+pub mod Debugging
 pub mod Ending
 pub mod Faulty
 pub mod Following

@@ -148,7 +148,7 @@ trace_leaves f holds lacks request old new stops =
 pub trace_cut : (words : List Text) (holds : List ℕ → List ℕ → Type 0) (lacks : List ℕ → Type 0) (request : TraceRequest) (f : Failure) (old new : Option (List ℕ)) → AsksForTrace words request → TraceStopsBy f holds lacks request old new → IsCutShort words holds old new
 trace_cut words holds lacks request f old new asks stops = elim (trace_leaves f holds lacks request old new stops) [
   | inl kept ↦ inl kept
-  | inr cut ↦ inr (inr (inr (inr (inr (inr (request, asks, cut))))))
+  | inr cut ↦ inr (inr (inr (inr (inr (inr (inl (request, asks, cut)))))))
 ]
 
 -- What the program says of it.
@@ -156,4 +156,4 @@ pub trace_stopped : (words : List Text) (holds : List ℕ → List ℕ → Type 
     → fault_status (failure_number f) ≡ status → AsksForTrace words request → TraceStopsBy f holds lacks request old new
     → Tells err (failure_line f) → IsStopped status words holds lacks (stream old new) err
 trace_stopped words holds lacks status old new err request f has asks stops told =
-    inr (inr (inr (inr (inr (request, asks, record { failure = f; has = has; so = stops; told = told })))))
+    inr (inr (inr (inr (inr (inl (request, asks, record { failure = f; has = has; so = stops; told = told }))))))

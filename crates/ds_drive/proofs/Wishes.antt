@@ -2,7 +2,8 @@
 use Rattle.std.proofs.Common.{◌≡◌, ◌∙◌, List, ap, subst}
 use Rattle.std.specs.Prelude.{Result, Ok, Err, IfOk}
 use Rattle.clap.specs.Words.{Text}
-use Rattle.ds_words.specs.Words.{AsksForRun, AsksForSomething, AsksForTrace}
+use Rattle.ds_words.specs.Words.{AsksForDebug, AsksForRun, AsksForSomething, AsksForTrace}
+use Rattle.ds_words.specs.declared.words.Request.{Request}
 use Rattle.ds_words.specs.declared.words.RunRequest.{RunRequest}
 use Rattle.ds_words.specs.declared.words.TraceRequest.{TraceRequest}
 use Rattle.ds_words.specs.declared.words.Untaken.{Untaken}
@@ -23,6 +24,11 @@ module _ {E : Type 0} (words : List Text) (r : Result (Result Wish Untaken) E) (
   pub asks_trace : (v : Wish) (request : TraceRequest) → w ≡ Ok v → v ≡ wish.Trace request → IfOk r (λ x. (q : TraceRequest) → x ≡ Ok (wish.Trace q) → AsksForTrace words q) → AsksForTrace words request
   asks_trace v request some which so =
       if_ok_is (λ (x : Result Wish Untaken). (q : TraceRequest) → x ≡ Ok (wish.Trace q) → AsksForTrace words q) r w is so request (some ∙ ap (λ (y : Wish). Ok y) which)
+
+  -- for a session with a debugger
+  pub asks_debug : (v : Wish) (request : Request) → w ≡ Ok v → v ≡ wish.Debug request → IfOk r (λ x. (q : Request) → x ≡ Ok (wish.Debug q) → AsksForDebug words q) → AsksForDebug words request
+  asks_debug v request some which so =
+      if_ok_is (λ (x : Result Wish Untaken). (q : Request) → x ≡ Ok (wish.Debug q) → AsksForDebug words q) r w is so request (some ∙ ap (λ (y : Wish). Ok y) which)
 
   -- for nothing
   pub asks_nothing : (cause : Untaken) → w ≡ Err cause → IfOk r (λ x. (e : Untaken) → x ≡ Err e → AsksForSomething words → ⊥) → AsksForSomething words → ⊥

@@ -46,15 +46,15 @@ pub record OfBareRun (holds : List ℕ → List ℕ → Type 0) (request : BareR
 
 -- the text of their run is written
 abbrev pub RunsBare : (List ℕ → List ℕ → Type 0) → BareRequest → Option (List ℕ) → Option (List ℕ) → Type 0
-RunsBare holds request old new = OfBareRun holds request (λ image keys. Appends old new (bare_text request.quiet image request.random request.most keys))
+RunsBare holds request old new = OfBareRun holds request (λ image keys. Appends old new (bare_text request.view image request.random request.most keys))
 
 -- a front of it is written
 abbrev pub CutsBare : (List ℕ → List ℕ → Type 0) → BareRequest → Option (List ℕ) → Option (List ℕ) → Type 0
-CutsBare holds request old new = OfBareRun holds request (λ image keys. AppendsPart old new (bare_text request.quiet image request.random request.most keys))
+CutsBare holds request old new = OfBareRun holds request (λ image keys. AppendsPart old new (bare_text request.view image request.random request.most keys))
 
 -- it was cut between two instructions
 abbrev pub ShortBare : (List ℕ → List ℕ → Type 0) → BareRequest → Option (List ℕ) → Option (List ℕ) → Type 0
-ShortBare holds request old new = OfBareRun holds request (λ image keys. IsCutBetween old new request.quiet request.most (machine_at_start image request.random keys))
+ShortBare holds request old new = OfBareRun holds request (λ image keys. IsCutBetween old new request.view request.most (machine_at_start image request.random keys))
 
 -- the source's file holds this source, and these are its faults
 pub record HasBareFaults (holds : List ℕ → List ℕ → Type 0) (request : BareRequest) (text : List ℕ) (faults : List SourceFault) : Type 0 where

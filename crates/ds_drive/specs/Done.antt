@@ -1,5 +1,5 @@
 -- What the program has done.
-use Rattle.std.specs.Prelude.{◌≡◌, ◌⊎◌, ℕ, false, List, [], Option}
+use Rattle.std.specs.Prelude.{◌≡◌, ◌⊎◌, ℕ, false, List, [], Option, Some}
 use Rattle.std.specs.Io.KnownBytes.{Keeps}
 use Rattle.clap.specs.Words.{Text}
 use Rattle.ds_asm.specs.declared.fault.SourceFault.{SourceFault}
@@ -10,6 +10,7 @@ use Rattle.ds_drive.specs.declared.failure.Failure.{Failure}
 use Rattle.ds_words.specs.declared.words.BareRequest.{BareRequest}
 use Rattle.ds_words.specs.declared.words.CheckRequest.{CheckRequest}
 use Rattle.ds_words.specs.declared.words.ListRequest.{ListRequest}
+use Rattle.ds_words.specs.declared.words.Request.{Request}
 use Rattle.ds_words.specs.declared.words.RunRequest.{RunRequest}
 use Rattle.ds_words.specs.declared.words.TraceRequest.{TraceRequest}
 use Rattle.ds_drive.specs.Demo.{demo_inputs}
@@ -23,11 +24,14 @@ use Rattle.ds_drive.specs.Told.{below_text, failure_line, listed_faults}
 use Rattle.ds_drive.specs.Listening.{Listener, Tells, TellsSome}
 use Rattle.ds_drive.specs.Statuses.{fault_status}
 use Rattle.ds_drive.specs.BareRuns.{RunsBare, CutsBare, BareFailsBy, HasBareFaults}
+use Rattle.ds_debug.specs.Serving.{pipes}
+use Rattle.ds_debug.specs.declared.serving.Ending.TheVariants.{Over}
+use Rattle.ds_drive.specs.Debugged.{CutsDebug, DebugStopsBy, HasDebugged, IsUnheard}
 use Rattle.ds_drive.specs.Checked.{Explains, CutsExplanation, ChecksBy, HasNotes}
 use Rattle.ds_drive.specs.Listed.{ListsFile, CutsListing, FailsBy, HasFaults}
 use Rattle.ds_drive.specs.Ran.{HasLeftFiles, HasRunDemo, HasRunFiles, HasTracedFiles}
 use Rattle.ds_drive.specs.TraceRuns.{CutsTrace, TraceStopsBy}
-use Rattle.ds_words.specs.Words.{AsksForBare, AsksForDemo, AsksForRun, AsksForList, AsksForCheck, AsksForTrace}
+use Rattle.ds_words.specs.Words.{AsksForBare, AsksForDemo, AsksForRun, AsksForList, AsksForCheck, AsksForDebug, AsksForTrace}
 
 -- what a writer held before, and what it holds now, where that is known
 pub record Stream : Type 0 where
@@ -46,15 +50,20 @@ pub record ComesTo (which : Came) (err : Listener) (P : Outcome → Type 0) : Ty
   pub told : Tells err outcome.told.items
 
 -- what the words ask for was run, listed or explained, and its text is written; a run is under a
--- policy, with its trace or without, or on the bare machine
-abbrev pub IsDone : List Text → (List ℕ → List ℕ → Type 0) → Stream → Listener → Type 0
-IsDone words holds out err =
+-- policy, with its trace or without, or on the bare machine; or a session with a debugger was held to its end, where this was to be read and is left
+abbrev pub IsDone : List Text → (List ℕ → List ℕ → Type 0) → Stream → Stream → Listener → Type 0
+IsDone words holds input out err =
     (AsksForDemo words × HasRunDemo out.old out.new)
     ⊎ (((request : RunRequest) × AsksForRun words request × ComesTo came.Done err (λ o. HasRunFiles holds request o out.old out.new))
     ⊎ (((request : ListRequest) × AsksForList words request × ListsFile holds request out.old out.new)
     ⊎ (((request : CheckRequest) × AsksForCheck words request × Explains holds request out.old out.new)
     ⊎ (((request : BareRequest) × AsksForBare words request × RunsBare holds request out.old out.new)
-    ⊎ ((request : TraceRequest) × AsksForTrace words request × ComesTo came.Done err (λ o. HasTracedFiles holds request o out.old out.new))))))
+    ⊎ (((request : TraceRequest) × AsksForTrace words request × ComesTo came.Done err (λ o. HasTracedFiles holds request o out.old out.new))
+    ⊎ ((request : Request) × AsksForDebug words request × HasDebugged Over holds request (pipes input.old input.new out.old out.new)))))))
+
+-- nothing was to be read
+abbrev pub no_input : Stream
+no_input = stream (Some []) (Some [])
 
 -- what the words ask for was run, with its trace or without, and a process has not ended, though the words want that all end; which it is was told
 abbrev pub IsUnended : List Text → (List ℕ → List ℕ → Type 0) → Stream → Listener → Type 0
@@ -73,7 +82,7 @@ pub record AsksNoSummary (words : List Text) : Type 0 where
 
 -- nothing is written; or what the words ask for was run, and a front of the text of a run that was
 -- cut short between two turns, was left or has ended, and of what is written after it, and nothing else;
--- or a front of a listing, of what is explained, of a run on the bare machine, or of a trace
+-- or a front of a listing, of what is explained, of a run on the bare machine, of a trace, or of a session
 abbrev pub IsCutShort : List Text → (List ℕ → List ℕ → Type 0) → Option (List ℕ) → Option (List ℕ) → Type 0
 IsCutShort words holds old new =
     Keeps old new
@@ -82,7 +91,8 @@ IsCutShort words holds old new =
     ⊎ (((request : ListRequest) × AsksForList words request × CutsListing holds request old new)
     ⊎ (((request : CheckRequest) × AsksForCheck words request × CutsExplanation holds request old new)
     ⊎ (((request : BareRequest) × AsksForBare words request × CutsBare holds request old new)
-    ⊎ ((request : TraceRequest) × AsksForTrace words request × CutsTrace holds request old new))))))
+    ⊎ (((request : TraceRequest) × AsksForTrace words request × CutsTrace holds request old new)
+    ⊎ ((request : Request) × AsksForDebug words request × CutsDebug holds request old new)))))))
 
 -- the demonstration ended by a fault of this status, which was told
 pub record DemoStops (status : ℕ) (out : Stream) (err : Listener) : Type 0 where
@@ -139,7 +149,8 @@ IsStopped status words holds lacks out err =
     ⊎ (((request : ListRequest) × AsksForList words request × (FailsWith status err (λ f. FailsBy f holds lacks request out.old out.new) ⊎ IsFaulty status holds request out err))
     ⊎ (((request : CheckRequest) × AsksForCheck words request × (RefusesWith status err (λ r. ChecksBy r holds lacks request out.old out.new) ⊎ IsNoted status holds request out err))
     ⊎ (((request : BareRequest) × AsksForBare words request × (FailsWith status err (λ f. BareFailsBy f holds lacks request out.old out.new) ⊎ IsFaultyBare status holds request out err))
-    ⊎ ((request : TraceRequest) × AsksForTrace words request × FailsWith status err (λ f. TraceStopsBy f holds lacks request out.old out.new))))))
+    ⊎ (((request : TraceRequest) × AsksForTrace words request × FailsWith status err (λ f. TraceStopsBy f holds lacks request out.old out.new))
+    ⊎ ((request : Request) × AsksForDebug words request × (FailsWith status err (λ f. DebugStopsBy f holds lacks request out.old out.new) ⊎ IsUnheard status holds request out.old out.new err)))))))
 
 -- nothing is written, and want of memory was told
 abbrev pub WantsMemory : Stream → Listener → Type 0

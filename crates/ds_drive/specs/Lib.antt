@@ -5,6 +5,7 @@ pub mod Demo
 pub mod Listed
 pub mod Names
 pub mod Checked
+pub mod Debugged
 pub mod Listening
 pub mod Done
 pub mod Failures

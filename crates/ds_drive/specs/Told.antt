@@ -241,3 +241,7 @@ why_told r = reason_or_mending r ++ policy_hint r.policy r.reason
 -- what is told of a check that is refused below the failure's line: the place in the policy, and the line of the policy, of the source or of the input with a caret; the reason and how it is mended; and the other faults of the source
 abbrev pub below_text : Refused → List ℕ
 below_text r = policy_shown r.policy ++ (source_shown r.source ++ (input_shown r.input ++ (why_told r ++ others_shown r.source)))
+
+-- what is told of words after `bare` that clap takes, though they ask for nothing
+abbrev pub bare_words_line : List ℕ
+bare_words_line = codes "dsmon: bare: --only takes exceptions, tlb, devices or end; --to is not below --from; --memory takes ADDRESS:COUNT, as 00500000:8, at most eight times\n"

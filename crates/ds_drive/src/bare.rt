@@ -71,7 +71,7 @@ pub fn bare_file<'a, F: Files, W: Write>(
         request.most,
         request.random,
         &keys,
-        request.quiet,
+        &request.view,
         out,
     ) {
         Ok(_) => Ok(Listing::Written),

@@ -3,6 +3,7 @@
 
 mod bare;
 mod check;
+mod debug;
 mod demo;
 mod failure;
 mod faults;
@@ -23,17 +24,20 @@ mod told;
 mod trace;
 mod why;
 mod windows;
+mod without_input;
 
 pub use bare::bare_file;
 pub use check::{Checking, check_files};
+pub use debug::debug_files;
 pub use ds_words::{
-    BareRequest, CheckRequest, Extras, ListRequest, Request, RunRequest, TraceRequest, Window,
-    Windows, Wish, program_words, wish_of,
+    BareOnly, BareRequest, BareView, CheckRequest, Extras, ListRequest, Request, RunRequest, Span,
+    Spans, TraceRequest, Window, Windows, Wish, program_words, wish_of,
 };
 pub use failure::Failure;
 pub use files::{FileFault, Files, MOST_BYTES, SystemFiles};
 pub use list::{Listing, list_file, tell_faults};
 pub use notes::tell_notes;
-pub use program::{drive, refuse_words};
+pub use program::{drive_with_input, refuse_words};
 pub use refused::{FaultyInput, FaultyPolicy, FaultySource, Refused};
 pub use told::{tell, tell_refused};
+pub use without_input::drive;

@@ -1,16 +1,17 @@
 //! The whole program, which takes its words, files and streams from its caller.
-ghost use Rattle.std.specs.Prelude.{◌≡◌, ◌≢◌, ◌≤◌, ◌⊎◌, ◌∷◌, List, [], ℕ, codes, map, string_bytes};
+ghost use Rattle.std.specs.Prelude.{◌≡◌, ◌≢◌, ◌≤◌, ◌⊎◌, ◌∷◌, List, [], ℕ, Some, codes, map, string_bytes};
 ghost use Rattle.std.specs.Io.KnownBytes.{Keeps};
 ghost use Rattle.clap.specs.Words.{fault_of};
 ghost use Rattle.ds_drive.specs.Done.{AsksNoSummary, IsCutShort, IsDone, IsStopped, IsTooMuch, IsUnended, WantsMemory, stream};
 ghost use Rattle.ds_drive.specs.Failures.{memory_failure};
 ghost use Rattle.ds_drive.specs.Listening.{Tells, listener};
 ghost use Rattle.ds_drive.specs.Reading.{ReadsFor};
-ghost use Rattle.ds_drive.specs.Told.{failure_line};
-ghost use Rattle.ds_words.specs.Words.{AsksForSomething, MisnamesMemory, dsmon_app};
+ghost use Rattle.ds_drive.specs.Told.{bare_words_line, failure_line};
+ghost use Rattle.ds_words.specs.Words.{AsksForSomething, MisnamesMemory, command_named, dsmon_app};
 
 use crate::bare::bare_file;
 use crate::check::{Checking, check_files};
+use crate::debug::{debug_files, tell_unread};
 use crate::demo::run_demo;
 use crate::failure::Failure;
 use crate::files::Files;
@@ -21,22 +22,24 @@ use crate::run::run_request;
 use crate::status::{DONE, WORDS_REFUSED};
 use crate::told::{tell, tell_refused};
 use crate::trace::trace_request;
+use ds_debug::Ending;
 use ds_log::{Output, send};
 use ds_station::Fault;
 use ds_words::{Untaken, Wish, wish_of};
 use std::alloc::Global;
-use std::io::{ErrorKind, Write};
+use std::io::{ErrorKind, Read, Write};
 
 /// Does what the words ask for, the program's own name first, and answers the status: 0 done; 1 the
 /// words were refused for another cause than memory, or ask for help; 2 refused input; 3 a fault of
 /// the run, or it was left with more text than the words allow; 4 the run is over, and a process has
 /// not ended, though the words want that all end. What was refused and what a run came to is told on
-/// `err`; that a write there fails changes no status.
-#[tactic(auto, using(crate::proofs::Heard::told_so, ds_words::proofs::WordLemmas::alone, crate::proofs::Cuts::nothing_written, crate::proofs::Cuts::demo_cut, crate::proofs::Cuts::run_cut, crate::proofs::Cuts::list_cut, crate::proofs::Cuts::check_cut, crate::proofs::BareLemmas::bare_cut, crate::proofs::BareLemmas::bare_stopped, crate::proofs::BareLemmas::bare_faulty, crate::proofs::Stops::demo_stopped, crate::proofs::Stops::run_stopped, crate::proofs::Stops::list_stopped, crate::proofs::Stops::list_faulty, crate::proofs::Stops::check_stopped, crate::proofs::Noting::check_noted, crate::proofs::Stops::wants_memory, crate::proofs::TraceLemmas::trace_cut, crate::proofs::TraceLemmas::trace_stopped, crate::proofs::ReadingStatuses::no_file_asked, crate::proofs::ReadingStatuses::list_reads, crate::proofs::ReadingStatuses::bare_reads))]
-pub fn drive<F: Files, W: Write, E: Output>(
+/// `err`; that a write there fails changes no status. What a debugger sends is read from `input`.
+#[tactic(auto, using(crate::proofs::Heard::told_so, ds_words::proofs::WordLemmas::alone, crate::proofs::Cuts::nothing_written, crate::proofs::Cuts::demo_cut, crate::proofs::Cuts::run_cut, crate::proofs::Cuts::list_cut, crate::proofs::Cuts::check_cut, crate::proofs::BareLemmas::bare_cut, crate::proofs::BareLemmas::bare_stopped, crate::proofs::BareLemmas::bare_faulty, crate::proofs::Stops::demo_stopped, crate::proofs::Stops::run_stopped, crate::proofs::Stops::list_stopped, crate::proofs::Stops::list_faulty, crate::proofs::Stops::check_stopped, crate::proofs::Noting::check_noted, crate::proofs::Stops::wants_memory, crate::proofs::TraceLemmas::trace_cut, crate::proofs::TraceLemmas::trace_stopped, crate::proofs::Debugging::debug_unwritten, crate::proofs::ReadingStatuses::no_file_asked, crate::proofs::ReadingStatuses::list_reads, crate::proofs::ReadingStatuses::bare_reads))]
+pub fn drive_with_input<F: Files, R: Read, W: Write, E: Output>(
     alloc: Global,
     words: &[String],
     files: &mut F,
+    input: &mut R,
     out: &mut W,
     err: &mut E,
 ) -> u8
@@ -49,6 +52,7 @@ pub fn drive<F: Files, W: Write, E: Output>(
     ensures unasked { result ≡ 1 → files.new ≡ files.old }
     ensures kind { result ≡ 1 → fault_of dsmon_app (map string_bytes words.now) ≡ []
         → ¬ MisnamesMemory (map string_bytes words.now)
+        → command_named (map string_bytes words.now) ≢ Some (codes "bare")
         → Tells (listener (E.contents err.old) (E.contents err.new) (E.answers err.old)
         (E.answers err.new))
         (codes "dsmon: --only takes end, calls, denials, switches or units\n") }
@@ -57,8 +61,13 @@ pub fn drive<F: Files, W: Write, E: Output>(
         → Tells (listener (E.contents err.old) (E.contents err.new) (E.answers err.old)
         (E.answers err.new))
         (codes "dsmon: --memory takes P:ADDRESS:COUNT, as 1:00410000:8, at most eight times\n") }
+    ensures bare { result ≡ 1 → fault_of dsmon_app (map string_bytes words.now) ≡ []
+        → command_named (map string_bytes words.now) ≡ Some (codes "bare")
+        → Tells (listener (E.contents err.old) (E.contents err.new) (E.answers err.old)
+        (E.answers err.new)) bare_words_line }
     ensures done { result ≡ 0
         → IsDone (map string_bytes words.now) (F.holds files.old)
+        (stream (R.remaining input.old) (R.remaining input.new))
         (stream (W.contents out.old) (W.contents out.new))
         (listener (E.contents err.old) (E.contents err.new) (E.answers err.old)
         (E.answers err.new)) }
@@ -122,6 +131,11 @@ pub fn drive<F: Files, W: Write, E: Output>(
             Ok(Listing::Faults(source)) => tell_faults(alloc, err, request.source, &source),
             Err(failure) => tell(err, &failure),
         },
+        Ok(Ok(Wish::Debug(request))) => match debug_files(alloc, &request, files, input, out) {
+            Ok(Ending::Over) => DONE,
+            Ok(Ending::Unread) => tell_unread(err),
+            Err(failure) => tell(err, &failure),
+        },
         Ok(Err(Untaken::Kind)) => {
             let _ = send(
                 err,
@@ -133,6 +147,13 @@ pub fn drive<F: Files, W: Write, E: Output>(
             let _ = send(
                 err,
                 b"dsmon: --memory takes P:ADDRESS:COUNT, as 1:00410000:8, at most eight times\n",
+            );
+            WORDS_REFUSED
+        }
+        Ok(Err(Untaken::Bare)) => {
+            let _ = send(
+                err,
+                b"dsmon: bare: --only takes exceptions, tlb, devices or end; --to is not below --from; --memory takes ADDRESS:COUNT, as 00500000:8, at most eight times\n",
             );
             WORDS_REFUSED
         }

@@ -2,7 +2,7 @@
 use Rattle.std.specs.Prelude.{◌≡◌, ◌≢◌, ◌⊎◌, ℕ, List, [], ◌∷◌, ◌++◌, All, Option, Some, None, codes}
 use Rattle.std.specs.Str.Lines.{lines}
 use Rattle.ds_cases.specs.Words.{words_of}
-use Rattle.ds_drive.specs.Done.{IsDone, stream}
+use Rattle.ds_drive.specs.Done.{IsDone, no_input, stream}
 use Rattle.ds_drive.specs.Listening.{Listener}
 use Rattle.ds_rows.specs.declared.files.Put.{Put}
 
@@ -35,7 +35,7 @@ pub record HasDone (words : List (List ℕ)) (holds : List ℕ → List ℕ → 
   pub all : out ++ told ≡ text
   pub err : Listener
   pub heard : err.new ≡ Some told
-  pub done : IsDone words holds (stream (Some []) (Some out)) err
+  pub done : IsDone words holds no_input (stream (Some []) (Some out)) err
 
 -- the files hold the text that is expected of a row; at status 0 its command does what it asks for over what its folder holds, and that text is what it writes and tells
 pub record RowRuns (holds : List ℕ → List ℕ → Type 0) (folder status file : List ℕ) (words : List (List ℕ)) : Type 0 where

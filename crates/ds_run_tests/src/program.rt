@@ -1,6 +1,7 @@
 //! The program over files and streams in memory, where no row of a table can make them.
 use ds_asm::SourceFault;
 use ds_drive::{Failure, FileFault, Files, MOST_BYTES, SystemFiles, drive, refuse_words, tell};
+use ds_log::Output;
 use ds_policy::Text;
 use ds_station::Fault;
 use std::alloc::{AllocError, Global};
@@ -154,6 +155,18 @@ struct Answer {
     asked: String,
 }
 
+/// The status of the program for these words. Nothing is known of it here, so that each test is
+/// proved without the contract of `drive`.
+fn status_of<F: Files, W: Write, E: Output>(
+    alloc: Global,
+    words: &[String],
+    files: &mut F,
+    out: &mut W,
+    err: &mut E,
+) -> u8 {
+    drive(alloc, words, files, out, err)
+}
+
 fn answer_to(alloc: Global, line: &str, files: &[(&str, &[u8])]) -> Result<Answer, AllocError> {
     let words = words_of(alloc, line)?;
     answer_to_words(alloc, words.as_slice(), files)
@@ -170,7 +183,7 @@ fn answer_to_words(
     };
     let mut out = Vec::new(alloc);
     let mut err = Vec::new(alloc);
-    let status = drive(alloc, words, &mut held, &mut out, &mut err);
+    let status = status_of(alloc, words, &mut held, &mut out, &mut err);
     Ok(Answer {
         status,
         out,
@@ -409,7 +422,7 @@ fn is_write_fault(alloc: Global, line: &str, is_all: bool) -> Result<bool, Alloc
         asked: String::new(alloc),
     };
     let mut err: Vec<u8> = Vec::new(alloc);
-    let status = drive(alloc, words.as_slice(), &mut held, &mut Closed, &mut err);
+    let status = status_of(alloc, words.as_slice(), &mut held, &mut Closed, &mut err);
     Ok(status == 3 && is_line(&err, WRITE_FAULT, is_all))
 }
 
@@ -446,7 +459,7 @@ fn is_untold(alloc: Global, line: &str, source: &str, wanted: u8) -> Result<bool
         asked: String::new(alloc),
     };
     let mut out: Vec<u8> = Vec::new(alloc);
-    let status = drive(alloc, words.as_slice(), &mut held, &mut out, &mut Closed);
+    let status = status_of(alloc, words.as_slice(), &mut held, &mut out, &mut Closed);
     Ok(status == wanted && out.is_empty() == (wanted != 0))
 }
 
@@ -475,7 +488,7 @@ fn a_demonstration_whose_streams_are_closed_is_a_write_fault(
 ) -> Result<(), AllocError> {
     let words = words_of(rt.alloc(), DEMO)?;
     let mut files = Exhausted { before: 0 };
-    let status = drive(
+    let status = status_of(
         rt.alloc(),
         words.as_slice(),
         &mut files,
@@ -493,7 +506,7 @@ fn is_exhausted(alloc: Global, line: &str, before: u32, is_all: bool) -> Result<
     let mut files = Exhausted { before };
     let mut out: Vec<u8> = Vec::new(alloc);
     let mut err: Vec<u8> = Vec::new(alloc);
-    let status = drive(alloc, words.as_slice(), &mut files, &mut out, &mut err);
+    let status = status_of(alloc, words.as_slice(), &mut files, &mut out, &mut err);
     Ok(status == 3 && out.is_empty() && is_line(&err, NO_MEMORY, is_all))
 }
 

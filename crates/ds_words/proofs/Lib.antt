@@ -1,4 +1,5 @@
 mod Numbers
 mod Requests
 mod WindowTexts
+mod SpanTexts
 pub mod WordLemmas

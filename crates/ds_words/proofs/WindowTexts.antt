@@ -23,40 +23,40 @@ written_good (t ∷ texts) [] each k d below = absurd each
 written_good (t ∷ texts) (w ∷ rest) each zero d below = each.0.good
 written_good (t ∷ texts) (w ∷ rest) each (suc k) d below = written_good texts rest each.1 k d (omega (arith, below))
 
--- of texts that write windows, the one at a place does
-text_writes : (texts : List Text) (windows : List Window) (i : ℕ) (d : Text) → AllZip WritesWindow texts windows → i < length texts
-    → (w : Window) × WritesWindow (slice_index_or texts i d) w
-text_writes [] [] i d each below = absurd (omega (arith, below))
-text_writes [] (w ∷ rest) i d each below = absurd each
-text_writes (t ∷ texts) [] i d each below = absurd each
-text_writes (t ∷ texts) (w ∷ rest) zero d each below = (w, each.0)
-text_writes (t ∷ texts) (w ∷ rest) (suc i) d each below = text_writes texts rest i d each.1 (omega (arith, below))
-
 long : (texts : List (Bor Text)) → length (texts_in texts) ≡ length texts
 long [] = refl
 long (t ∷ texts) = let rest = long texts in omega (arith, rest)
 
--- one more text is read
-pub read_on : (texts : List (Bor Text)) (windows more : List Window) (i : ℕ) (d : Bor Text) (w : Window) → i < length texts
-    → AllZip WritesWindow (map (λ t. t.now) (take i texts)) windows → WritesWindow (slice_index_or texts i d).now w → more ≡ windows ++ w ∷ []
-    → AllZip WritesWindow (map (λ t. t.now) (take (i + 1) texts)) more
-read_on texts windows more i d w below each one is =
-    rw (is, map_more (λ (t : Bor Text). t.now) texts i d below) (all_zipped_more WritesWindow (map (λ t. t.now) (take i texts)) windows (slice_index_or texts i d).now w each one)
+module _ {W : Type 0} (Writes : Text → W → Type 0) where
+  -- of texts that write values, the one at a place does
+  text_writes : (texts : List Text) (values : List W) (i : ℕ) (d : Text) → AllZip Writes texts values → i < length texts
+      → (w : W) × Writes (slice_index_or texts i d) w
+  text_writes [] [] i d each below = absurd (omega (arith, below))
+  text_writes [] (w ∷ rest) i d each below = absurd each
+  text_writes (t ∷ texts) [] i d each below = absurd each
+  text_writes (t ∷ texts) (w ∷ rest) zero d each below = (w, each.0)
+  text_writes (t ∷ texts) (w ∷ rest) (suc i) d each below = text_writes texts rest i d each.1 (omega (arith, below))
 
--- a text that writes no window is none of those that do
-pub not_read : (texts : List (Bor Text)) (windows : List Window) (i : ℕ) (d : Bor Text) → i < length texts → WriteWindows (map (λ t. t.now) texts) windows
-    → ((w : Window) → WritesWindow (slice_index_or texts i d).now w → ⊥) → ⊥
-not_read texts windows i d below write none =
-    let found = text_writes (texts_in texts) windows i d.now write.each (let same = long texts in omega (arith, same, below)) in
-    none found.0 (subst (λ (t : Text). WritesWindow t found.0) (get_or-map (λ (t : Bor Text). t.now) texts i d d.now below) found.1)
+  -- one more text is read
+  pub read_on : (texts : List (Bor Text)) (values more : List W) (i : ℕ) (d : Bor Text) (w : W) → i < length texts
+      → AllZip Writes (map (λ t. t.now) (take i texts)) values → Writes (slice_index_or texts i d).now w → more ≡ values ++ w ∷ []
+      → AllZip Writes (map (λ t. t.now) (take (i + 1) texts)) more
+  read_on texts values more i d w below each one is =
+      rw (is, map_more (λ (t : Bor Text). t.now) texts i d below) (all_zipped_more Writes (map (λ t. t.now) (take i texts)) values (slice_index_or texts i d).now w each one)
 
--- more than eight texts write no windows
-pub no_room : (texts : List (Bor Text)) (windows : List Window) (i : ℕ) → i < length texts → 8 ≤ i → WriteWindows (map (λ t. t.now) texts) windows → ⊥
-no_room texts windows i below full write =
-    let same = AllZip-long WritesWindow (texts_in texts) windows write.each in
-    let as_many = long texts in
-    let few = write.few in
-    absurd (omega (arith, same, as_many, few, below, full))
+  -- a text that writes no value is none of those that do
+  pub not_read : (texts : List (Bor Text)) (values : List W) (i : ℕ) (d : Bor Text) → i < length texts → AllZip Writes (map (λ t. t.now) texts) values
+      → ((w : W) → Writes (slice_index_or texts i d).now w → ⊥) → ⊥
+  not_read texts values i d below each none =
+      let found = text_writes (texts_in texts) values i d.now each (let same = long texts in omega (arith, same, below)) in
+      none found.0 (subst (λ (t : Text). Writes t found.0) (get_or-map (λ (t : Bor Text). t.now) texts i d d.now below) found.1)
+
+  -- more than eight texts write no eight values
+  pub no_room : (texts : List (Bor Text)) (values : List W) (i : ℕ) → i < length texts → 8 ≤ i → AllZip Writes (map (λ t. t.now) texts) values → length values ≤ 8 → ⊥
+  no_room texts values i below full each few =
+      let same = AllZip-long Writes (texts_in texts) values each in
+      let as_many = long texts in
+      absurd (omega (arith, same, as_many, few, below, full))
 
 -- texts that were found are those of the rows
 pub strings_found : (f : Found) (id : Text) (r : Option (Bor (List (Bor Text)))) (texts : Bor (List (Bor Text)))

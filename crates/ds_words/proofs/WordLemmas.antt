@@ -9,12 +9,13 @@ use Rattle.clap.proofs.OnLiterals.{clap_on_literals}
 use Rattle.ds_words.specs.declared.words.BareRequest.{BareRequest}
 use Rattle.ds_words.specs.declared.words.CheckRequest.{CheckRequest}
 use Rattle.ds_words.specs.declared.words.ListRequest.{ListRequest}
+use Rattle.ds_words.specs.declared.words.Request.{Request}
 use Rattle.ds_words.specs.declared.words.RunRequest.{RunRequest}
 use Rattle.ds_words.specs.declared.words.TraceRequest.{TraceRequest}
 use Rattle.ds_words.specs.declared.words.Untaken.{Untaken}
 use Rattle.ds_words.specs.declared.words.Wish.{Wish}
 use Rattle.ds_words.specs.declared.windows.Window.{Window}
-use Rattle.ds_words.specs.Words.{AsksForDemo, AsksForSomething, NamesAskedRun, NamesBare, NamesCheck, NamesList, NamesMemory, NamesTrace, MisnamesMemory, command_named, dsmon_app}
+use Rattle.ds_words.specs.Words.{AsksForDemo, AsksForSomething, NamesAskedRun, NamesBare, NamesCheck, NamesList, NamesMemory, NamesRun, NamesTrace, MisnamesMemory, command_named, dsmon_app}
 
 -- the one word `demo` asks for the demonstration, whatever the program's own name is
 pub alone : (program : Text) (words : List Text) → words ≡ program ∷ codes "demo" ∷ []
@@ -44,7 +45,8 @@ taken words (inr (inl run)) = run.1.taken
 taken words (inr (inr (inl list))) = list.1.taken
 taken words (inr (inr (inr (inl check)))) = check.1.taken
 taken words (inr (inr (inr (inr (inl bare))))) = bare.1.taken
-taken words (inr (inr (inr (inr (inr trace))))) = trace.1.taken
+taken words (inr (inr (inr (inr (inr (inl trace)))))) = trace.1.taken
+taken words (inr (inr (inr (inr (inr (inr debug)))))) = debug.1.taken
 
 -- where the words ask for something, clap fails for memory alone
 pub only_memory_fails : (words : List Text) (e : Error) → AsksForSomething words
@@ -70,6 +72,10 @@ abbrev rows_in : Option (Text × List Row) → List Row
 rows_in None = []
 rows_in (Some p) = p.1
 
+abbrev third_letter_of : Option Text → ℕ
+third_letter_of None = 0
+third_letter_of (Some t) = slice_index t 2
+
 abbrev first_letter_of : Option Text → ℕ
 first_letter_of None = 0
 first_letter_of (Some t) = slice_index t 0
@@ -85,7 +91,8 @@ asks_run words rows named none (inr (inl run)) = none run.0 (subst (λ (x : List
 asks_run words rows named none (inr (inr (inl list))) = let e : 114 ≡ 108 = ap first_letter (sym named ∙ list.1.named) in omega (arith, e)
 asks_run words rows named none (inr (inr (inr (inl check)))) = let e : 114 ≡ 99 = ap first_letter (sym named ∙ check.1.named) in omega (arith, e)
 asks_run words rows named none (inr (inr (inr (inr (inl bare))))) = let e : 114 ≡ 98 = ap first_letter (sym named ∙ bare.1.named) in omega (arith, e)
-asks_run words rows named none (inr (inr (inr (inr (inr trace))))) = let e : 114 ≡ 116 = ap first_letter (sym named ∙ trace.1.named) in omega (arith, e)
+asks_run words rows named none (inr (inr (inr (inr (inr (inl trace)))))) = let e : 114 ≡ 116 = ap first_letter (sym named ∙ trace.1.named) in omega (arith, e)
+asks_run words rows named none (inr (inr (inr (inr (inr (inr debug)))))) = let e : 114 ≡ 100 = ap first_letter (sym named ∙ debug.1.named) in omega (arith, e)
 
 pub asks_list : (words : List Text) (rows : List Row) → subcommand_of dsmon_app words ≡ Some (codes "list", rows)
     → ((request : ListRequest) → NamesList rows request → ⊥) → AsksForSomething words → ⊥
@@ -94,7 +101,8 @@ asks_list words rows named none (inr (inl run)) = let e : 108 ≡ 114 = ap first
 asks_list words rows named none (inr (inr (inl list))) = none list.0 (subst (λ (x : List Row). NamesList x list.0) (sym (ap rows_in (sym named ∙ list.1.named))) list.1.names)
 asks_list words rows named none (inr (inr (inr (inl check)))) = let e : 108 ≡ 99 = ap first_letter (sym named ∙ check.1.named) in omega (arith, e)
 asks_list words rows named none (inr (inr (inr (inr (inl bare))))) = let e : 108 ≡ 98 = ap first_letter (sym named ∙ bare.1.named) in omega (arith, e)
-asks_list words rows named none (inr (inr (inr (inr (inr trace))))) = let e : 108 ≡ 116 = ap first_letter (sym named ∙ trace.1.named) in omega (arith, e)
+asks_list words rows named none (inr (inr (inr (inr (inr (inl trace)))))) = let e : 108 ≡ 116 = ap first_letter (sym named ∙ trace.1.named) in omega (arith, e)
+asks_list words rows named none (inr (inr (inr (inr (inr (inr debug)))))) = let e : 108 ≡ 100 = ap first_letter (sym named ∙ debug.1.named) in omega (arith, e)
 
 pub asks_check : (words : List Text) (rows : List Row) → subcommand_of dsmon_app words ≡ Some (codes "check", rows)
     → ((request : CheckRequest) → NamesCheck rows request → ⊥) → AsksForSomething words → ⊥
@@ -103,7 +111,8 @@ asks_check words rows named none (inr (inl run)) = let e : 99 ≡ 114 = ap first
 asks_check words rows named none (inr (inr (inl list))) = let e : 99 ≡ 108 = ap first_letter (sym named ∙ list.1.named) in omega (arith, e)
 asks_check words rows named none (inr (inr (inr (inl check)))) = none check.0 (subst (λ (x : List Row). NamesCheck x check.0) (sym (ap rows_in (sym named ∙ check.1.named))) check.1.names)
 asks_check words rows named none (inr (inr (inr (inr (inl bare))))) = let e : 99 ≡ 98 = ap first_letter (sym named ∙ bare.1.named) in omega (arith, e)
-asks_check words rows named none (inr (inr (inr (inr (inr trace))))) = let e : 99 ≡ 116 = ap first_letter (sym named ∙ trace.1.named) in omega (arith, e)
+asks_check words rows named none (inr (inr (inr (inr (inr (inl trace)))))) = let e : 99 ≡ 116 = ap first_letter (sym named ∙ trace.1.named) in omega (arith, e)
+asks_check words rows named none (inr (inr (inr (inr (inr (inr debug)))))) = let e : 99 ≡ 100 = ap first_letter (sym named ∙ debug.1.named) in omega (arith, e)
 
 pub asks_bare : (words : List Text) (rows : List Row) → subcommand_of dsmon_app words ≡ Some (codes "bare", rows)
     → ((request : BareRequest) → NamesBare rows request → ⊥) → AsksForSomething words → ⊥
@@ -112,7 +121,8 @@ asks_bare words rows named none (inr (inl run)) = let e : 98 ≡ 114 = ap first_
 asks_bare words rows named none (inr (inr (inl list))) = let e : 98 ≡ 108 = ap first_letter (sym named ∙ list.1.named) in omega (arith, e)
 asks_bare words rows named none (inr (inr (inr (inl check)))) = let e : 98 ≡ 99 = ap first_letter (sym named ∙ check.1.named) in omega (arith, e)
 asks_bare words rows named none (inr (inr (inr (inr (inl bare))))) = none bare.0 (subst (λ (x : List Row). NamesBare x bare.0) (sym (ap rows_in (sym named ∙ bare.1.named))) bare.1.names)
-asks_bare words rows named none (inr (inr (inr (inr (inr trace))))) = let e : 98 ≡ 116 = ap first_letter (sym named ∙ trace.1.named) in omega (arith, e)
+asks_bare words rows named none (inr (inr (inr (inr (inr (inl trace)))))) = let e : 98 ≡ 116 = ap first_letter (sym named ∙ trace.1.named) in omega (arith, e)
+asks_bare words rows named none (inr (inr (inr (inr (inr (inr debug)))))) = let e : 98 ≡ 100 = ap first_letter (sym named ∙ debug.1.named) in omega (arith, e)
 
 pub asks_trace : (words : List Text) (rows : List Row) → subcommand_of dsmon_app words ≡ Some (codes "trace", rows)
     → ((request : TraceRequest) → NamesTrace rows request → ⊥) → AsksForSomething words → ⊥
@@ -121,18 +131,43 @@ asks_trace words rows named none (inr (inl run)) = let e : 116 ≡ 114 = ap firs
 asks_trace words rows named none (inr (inr (inl list))) = let e : 116 ≡ 108 = ap first_letter (sym named ∙ list.1.named) in omega (arith, e)
 asks_trace words rows named none (inr (inr (inr (inl check)))) = let e : 116 ≡ 99 = ap first_letter (sym named ∙ check.1.named) in omega (arith, e)
 asks_trace words rows named none (inr (inr (inr (inr (inl bare))))) = let e : 116 ≡ 98 = ap first_letter (sym named ∙ bare.1.named) in omega (arith, e)
-asks_trace words rows named none (inr (inr (inr (inr (inr trace))))) = none trace.0 (subst (λ (x : List Row). NamesTrace x trace.0) (sym (ap rows_in (sym named ∙ trace.1.named))) trace.1.names)
+asks_trace words rows named none (inr (inr (inr (inr (inr (inl trace)))))) = none trace.0 (subst (λ (x : List Row). NamesTrace x trace.0) (sym (ap rows_in (sym named ∙ trace.1.named))) trace.1.names)
+asks_trace words rows named none (inr (inr (inr (inr (inr (inr debug)))))) = let e : 116 ≡ 100 = ap first_letter (sym named ∙ debug.1.named) in omega (arith, e)
 
--- words that name no command of the six ask for nothing
+pub asks_debug : (words : List Text) (rows : List Row) → subcommand_of dsmon_app words ≡ Some (codes "debug", rows)
+    → ((request : Request) → NamesRun rows request → ⊥) → AsksForSomething words → ⊥
+asks_debug words rows named none (inl demo) = let e : 98 ≡ 109 = ap third_letter_of (sym (ap name_in named) ∙ demo.named) in omega (arith, e)
+asks_debug words rows named none (inr (inl run)) = let e : 100 ≡ 114 = ap first_letter (sym named ∙ run.1.named) in omega (arith, e)
+asks_debug words rows named none (inr (inr (inl list))) = let e : 100 ≡ 108 = ap first_letter (sym named ∙ list.1.named) in omega (arith, e)
+asks_debug words rows named none (inr (inr (inr (inl check)))) = let e : 100 ≡ 99 = ap first_letter (sym named ∙ check.1.named) in omega (arith, e)
+asks_debug words rows named none (inr (inr (inr (inr (inl bare))))) = let e : 100 ≡ 98 = ap first_letter (sym named ∙ bare.1.named) in omega (arith, e)
+asks_debug words rows named none (inr (inr (inr (inr (inr (inl trace)))))) = let e : 100 ≡ 116 = ap first_letter (sym named ∙ trace.1.named) in omega (arith, e)
+asks_debug words rows named none (inr (inr (inr (inr (inr (inr debug)))))) = none debug.0 (subst (λ (x : List Row). NamesRun x debug.0) (sym (ap rows_in (sym named ∙ debug.1.named))) debug.1.names)
+
+-- words that name no command of the seven ask for nothing
 pub asks_nothing : (words : List Text) (named : Option Text) → command_named words ≡ named
-    → (named ≡ Some (codes "demo") → ⊥) → (named ≡ Some (codes "run") → ⊥) → (named ≡ Some (codes "check") → ⊥) → (named ≡ Some (codes "list") → ⊥) → (named ≡ Some (codes "bare") → ⊥) → (named ≡ Some (codes "trace") → ⊥)
+    → (named ≡ Some (codes "demo") → ⊥) → (named ≡ Some (codes "run") → ⊥) → (named ≡ Some (codes "check") → ⊥) → (named ≡ Some (codes "list") → ⊥) → (named ≡ Some (codes "bare") → ⊥) → (named ≡ Some (codes "trace") → ⊥) → (named ≡ Some (codes "debug") → ⊥)
     → AsksForSomething words → ⊥
-asks_nothing words named is demo run check list bare trace (inl asked) = demo (sym is ∙ asked.named)
-asks_nothing words named is demo run check list bare trace (inr (inl asked)) = run (sym is ∙ ap name_in asked.1.named)
-asks_nothing words named is demo run check list bare trace (inr (inr (inl asked))) = list (sym is ∙ ap name_in asked.1.named)
-asks_nothing words named is demo run check list bare trace (inr (inr (inr (inl asked)))) = check (sym is ∙ ap name_in asked.1.named)
-asks_nothing words named is demo run check list bare trace (inr (inr (inr (inr (inl asked))))) = bare (sym is ∙ ap name_in asked.1.named)
-asks_nothing words named is demo run check list bare trace (inr (inr (inr (inr (inr asked))))) = trace (sym is ∙ ap name_in asked.1.named)
+asks_nothing words named is demo run check list bare trace debug (inl asked) = demo (sym is ∙ asked.named)
+asks_nothing words named is demo run check list bare trace debug (inr (inl asked)) = run (sym is ∙ ap name_in asked.1.named)
+asks_nothing words named is demo run check list bare trace debug (inr (inr (inl asked))) = list (sym is ∙ ap name_in asked.1.named)
+asks_nothing words named is demo run check list bare trace debug (inr (inr (inr (inl asked)))) = check (sym is ∙ ap name_in asked.1.named)
+asks_nothing words named is demo run check list bare trace debug (inr (inr (inr (inr (inl asked))))) = bare (sym is ∙ ap name_in asked.1.named)
+asks_nothing words named is demo run check list bare trace debug (inr (inr (inr (inr (inr (inl asked)))))) = trace (sym is ∙ ap name_in asked.1.named)
+asks_nothing words named is demo run check list bare trace debug (inr (inr (inr (inr (inr (inr asked)))))) = debug (sym is ∙ ap name_in asked.1.named)
+
+-- words that name another command don't name the bare machine
+pub no_machine : (words : List Text) (name : Text) (rows : List Row) → subcommand_of dsmon_app words ≡ Some (name, rows) → (slice_index name 0 ≡ 98 → ⊥)
+    → command_named words ≡ Some (codes "bare") → ⊥
+no_machine words name rows named other is = other (ap first_letter_of (sym (ap name_in named) ∙ is))
+
+-- those that want no words of memory that there may be name a run or a trace
+pub misnamed_no_machine : (words : List Text) → MisnamesMemory words → command_named words ≡ Some (codes "bare") → ⊥
+misnamed_no_machine words m is = by_name m.named
+  where
+    by_name : (subcommand_of dsmon_app words ≡ Some (codes "run", m.rows)) ⊎ (subcommand_of dsmon_app words ≡ Some (codes "trace", m.rows)) → ⊥
+    by_name (inl run) = no_machine words (codes "run") m.rows run (λ e. let no : 114 ≡ 98 = e in absurd (omega (arith, no))) is
+    by_name (inr trace) = no_machine words (codes "trace") m.rows trace (λ e. let no : 116 ≡ 98 = e in absurd (omega (arith, no))) is
 
 -- the cause that is told is that for which nothing was read
 pub same_cause : {A : Type 0} (of : A → Wish) (q : Result A Untaken) (r : Result Wish Untaken) (cause : Untaken)

@@ -1,5 +1,5 @@
 -- What the program's words ask for, over what clap reads of its command line.
-use Rattle.std.specs.Prelude.{◌≡◌, ◌⊎◌, ◌<◌, ◌^◌, ⊤, ℕ, Bool, List, [], ◌∷◌, Option, Some, None, true, false, codes, option_map}
+use Rattle.std.specs.Prelude.{◌≡◌, ◌⊎◌, ◌<◌, ◌≤◌, ◌^◌, ⊤, ℕ, Bool, List, [], ◌∷◌, Option, Some, None, true, false, codes, option_map}
 use Rattle.std.specs.Str.Parse.{IsNumeral, digits_value, without_leading_plus}
 use Rattle.std.specs.List.{All}
 use Rattle.clap.specs.Words.{App, Row, Rule, Text, all_of, fault_of, first_of, many_of, one_of, new_app, new_rule, subcommand_of, with_rule, with_subcommand}
@@ -11,6 +11,12 @@ use Rattle.ds_view.specs.declared.view.Only.TheVariants.{End, Calls, Denials, Sw
 use Rattle.ds_view.specs.declared.view.View.{View}
 use Rattle.ds_view.specs.declared.processes.Processes.{Processes}
 use Rattle.ds_view.specs.Sets.{processes_of}
+use Rattle.ds_bare_view.specs.declared.spans.Span.{Span}
+use Rattle.ds_bare_view.specs.declared.view.BareOnly.{BareOnly}
+use Rattle.ds_bare_view.specs.declared.view.BareOnly.TheVariants as bare_only
+use Rattle.ds_bare_view.specs.declared.view.BareView.{BareView}
+use Rattle.ds_bare_view.specs.Spans.{spans_in}
+use Rattle.ds_words.specs.Spans.{IsSpan, WriteSpans}
 use Rattle.ds_words.specs.Windows.{IsWindow, WriteWindows, windows_in}
 use Rattle.ds_words.specs.declared.windows.Window.{Window}
 use Rattle.ds_words.specs.declared.words.Extras.{Extras}
@@ -146,14 +152,38 @@ quiet_rule = record (new_rule (codes "quiet")) { long = Some (codes "quiet"); ac
 abbrev pub keys_rule : Rule
 keys_rule = record (new_rule (codes "INPUT")) { long = Some (codes "keys") }
 
--- `bare SOURCE N [--random R] [--quiet] [--keys INPUT]`
+-- `--matches`
+abbrev pub matches_rule : Rule
+matches_rule = record (new_rule (codes "matches")) { long = Some (codes "matches"); action = Some SetTrue }
+
+-- `--counts`
+abbrev pub counts_rule : Rule
+counts_rule = record (new_rule (codes "counts")) { long = Some (codes "counts"); action = Some SetTrue }
+
+-- `--memory ADDRESS:COUNT`, as often as is wanted
+abbrev pub spans_rule : Rule
+spans_rule = record (new_rule (codes "ADDRESS:COUNT")) { long = Some (codes "memory"); action = Some Append }
+
+-- with `[--from K] [--to K] [--only KIND]`
+abbrev pub of_numbers : App → App
+of_numbers app = with_rule (with_rule (with_rule app from_rule) to_rule) only_rule
+
+-- with `[--matches] [--counts] [--memory ADDRESS:COUNT]..`
+abbrev pub of_looks : App → App
+of_looks app = with_rule (with_rule (with_rule app matches_rule) counts_rule) spans_rule
+
+-- `bare SOURCE N [--random R] [--quiet] [--keys INPUT] [--from K] [--to K] [--only KIND] [--matches] [--counts] [--memory ADDRESS:COUNT]..`
 abbrev pub machine_app : App
-machine_app = with_rule (with_rule (with_rule (with_rule (with_rule (new_app (codes "bare"))
-    (required_rule (codes "SOURCE"))) time_rule) random_rule) quiet_rule) keys_rule
+machine_app = of_looks (of_numbers (with_rule (with_rule (with_rule (with_rule (with_rule (new_app (codes "bare"))
+    (required_rule (codes "SOURCE"))) time_rule) random_rule) quiet_rule) keys_rule))
+
+-- `debug POLICY INPUT N [--random R] [--inside]`
+abbrev pub debug_app : App
+debug_app = of_run (new_app (codes "debug"))
 
 -- the whole command line
 abbrev pub dsmon_app : App
-dsmon_app = with_subcommand (with_subcommand (with_subcommand files_app check_app.top) machine_app.top) (new_app (codes "demo")).top
+dsmon_app = with_subcommand (with_subcommand (with_subcommand (with_subcommand files_app check_app.top) machine_app.top) (new_app (codes "demo")).top) debug_app.top
 
 -- the command that the words name
 abbrev pub command_named : List Text → Option Text
@@ -174,7 +204,7 @@ pub record IsFlagged (flag : Text) (rows : List Row) (given : Bool) : Type 0 whe
   pub there : one_of flag rows ≡ Some (codes "true") → given ≡ true
   pub absent : one_of flag rows ≡ Some (codes "false") → given ≡ false
 
--- what stands after `run` or `trace` names the files and the numbers of a run, and says whether its sources have to be inside
+-- what stands after `run`, `trace` or `debug` names the files and the numbers of a run, and says whether its sources have to be inside
 pub record NamesRun (rows : List Row) (request : Request) : Type 0 where
   pub policy : first_of (codes "POLICY") rows ≡ Some request.policy.now
   pub input : first_of (codes "INPUT") rows ≡ Some request.input.now
@@ -293,14 +323,41 @@ pub record AsksForCheck (words : List Text) (request : CheckRequest) : Type 0 wh
   pub named : subcommand_of dsmon_app words ≡ Some (codes "check", rows)
   pub names : NamesCheck rows request
 
+-- the word for the one kind of instruction that `bare` tells
+abbrev pub bare_kind_word : BareOnly → Text
+bare_kind_word bare_only.End = codes "end"
+bare_kind_word bare_only.Exceptions = codes "exceptions"
+bare_kind_word bare_only.Tlb = codes "tlb"
+bare_kind_word bare_only.Devices = codes "devices"
+
+-- the spans that texts write, where there are texts
+abbrev pub NamesSpans : Option (List Text) → List Span → Type 0
+NamesSpans None spans = spans ≡ []
+NamesSpans (Some texts) spans = WriteSpans texts spans
+
+-- what stands after `bare` says what is told
+pub record NamesBareFlags (rows : List Row) (view : BareView) : Type 0 where
+  pub quiet : IsFlagged (codes "quiet") rows view.quiet
+  pub from : IsNumber 64 (one_of (codes "FROM") rows) view.from
+  pub to : IsGiven 32 (one_of (codes "TO") rows) view.to
+  pub only : first_of (codes "KIND") rows ≡ option_map bare_kind_word view.only
+  pub matches : IsFlagged (codes "matches") rows view.matches
+  pub counts : IsFlagged (codes "counts") rows view.counts
+  pub memory : NamesSpans (all_of (codes "ADDRESS:COUNT") rows) (spans_in view.memory)
+  pub spans : All IsSpan (spans_in view.memory)
+
+-- and its window does not end before it begins
+pub record NamesBareView (rows : List Row) (view : BareView) : Type 0 where
+  pub flags : NamesBareFlags rows view
+  pub forward : (to : ℕ) → view.to ≡ Some to → view.from ≤ to
+
 -- what stands after `bare` names the source, the numbers and an input where one is wanted, and says
--- whether it is quiet
+-- what is told
 pub record NamesBare (rows : List Row) (request : BareRequest) : Type 0 where
   pub source : first_of (codes "SOURCE") rows ≡ Some request.source.now
   pub most : IsNumber 32 (one_of (codes "N") rows) request.most
   pub random : IsNumber 8 (one_of (codes "R") rows) request.random
-  pub quiet : one_of (codes "quiet") rows ≡ Some (codes "true") → request.quiet ≡ true
-  pub told : one_of (codes "quiet") rows ≡ Some (codes "false") → request.quiet ≡ false
+  pub view : NamesBareView rows request.view
   pub keys : first_of (codes "INPUT") rows ≡ option_map (λ s. s.now) request.keys
 
 -- clap takes the words, and they ask for a run of this source on the bare machine
@@ -310,15 +367,23 @@ pub record AsksForBare (words : List Text) (request : BareRequest) : Type 0 wher
   pub named : subcommand_of dsmon_app words ≡ Some (codes "bare", rows)
   pub names : NamesBare rows request
 
+-- clap takes the words, and they ask for a session with a debugger over a run of these files and numbers
+pub record AsksForDebug (words : List Text) (request : Request) : Type 0 where
+  pub taken : fault_of dsmon_app words ≡ []
+  pub rows : List Row
+  pub named : subcommand_of dsmon_app words ≡ Some (codes "debug", rows)
+  pub names : NamesRun rows request
+
 -- the words ask for the demonstration, for a run of files, for a listing, for a check, for a run
--- on the bare machine or for the trace of a run of files
+-- on the bare machine, for the trace of a run of files or for a session with a debugger
 abbrev pub AsksForSomething : List Text → Type 0
 AsksForSomething words =
     AsksForDemo words ⊎ (((request : RunRequest) × AsksForRun words request)
     ⊎ (((request : ListRequest) × AsksForList words request)
     ⊎ (((request : CheckRequest) × AsksForCheck words request)
     ⊎ (((request : BareRequest) × AsksForBare words request)
-    ⊎ ((request : TraceRequest) × AsksForTrace words request)))))
+    ⊎ (((request : TraceRequest) × AsksForTrace words request)
+    ⊎ ((request : Request) × AsksForDebug words request))))))
 
 -- what stands after `run` or `trace` wants memory by texts that write no windows, or too many
 pub record MisnamesMemory (words : List Text) : Type 0 where

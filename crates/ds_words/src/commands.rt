@@ -2,8 +2,9 @@
 ghost use Rattle.std.specs.Prelude.{◌≡◌, IfOk, codes, false};
 ghost use Rattle.clap.specs.Words.{app_of, new_app, new_rule, rule_of, with_rule, with_subcommand};
 ghost use Rattle.clap.specs.declared.builder.command.Command.TheViews.{out-Command as fields_of};
-ghost use Rattle.ds_words.specs.Words.{bare_app, check_app, dsmon_app, entries_rule, files_app, from_rule, inside_rule, keys_rule, list_app, machine_app, memory_rule, most_rule, must_end_rule, notes_rule, of_end, of_files, of_lines, of_run, of_turns, only_rule, process_rule, processor_rule, quiet_rule, random_rule, required_rule, run_app, summary_rule, time_rule, to_rule, trace_app, words_rule};
+ghost use Rattle.ds_words.specs.Words.{bare_app, check_app, counts_rule, dsmon_app, entries_rule, files_app, from_rule, inside_rule, keys_rule, list_app, machine_app, matches_rule, memory_rule, most_rule, must_end_rule, notes_rule, of_end, of_files, of_lines, of_looks, of_numbers, of_run, of_turns, only_rule, process_rule, processor_rule, quiet_rule, random_rule, required_rule, run_app, spans_rule, summary_rule, time_rule, to_rule, trace_app, words_rule};
 
+use crate::debug::debug_command;
 use clap::builder::ValueParser;
 use clap::{Arg, ArgAction, Command};
 use std::alloc::{AllocError, Global};
@@ -15,6 +16,7 @@ const HELP: &str = "Examples:
   dsmon run policy.toml input.txt 1000
   dsmon trace policy.toml input.txt 1000
   dsmon bare handler.s 300
+  dsmon debug policy.toml input.txt 100000
 
 The status is 0 where all was done, 1 where the words are wrong or ask for help,
 2 where the policy, a source, the input or R is refused, 3 where a fault ends
@@ -157,9 +159,18 @@ after N instructions, with `break 1`, or at one of the two where the next 32 wor
 is 0 then.
 Of INPUT the key lines count, their times in instructions.
 
+--from, --to and --only leave out lines of instructions, by the numbers at their beginning and by what
+they did. --matches adds lines, and --counts and --memory add to the end. KIND is one of these:
+  exceptions  those that enter an exception, an interrupt among them
+  tlb         tlbp, tlbr, tlbwi and tlbwr, and those that the buffer stops
+  devices     those that reach a device, interrupts, and where what the devices ask for changes
+  end         no instruction, as with --quiet
+
 Examples:
   dsmon bare handler.s 300
   dsmon bare handler.s 1000000 --quiet --random 40 --keys input.txt
+  dsmon bare handler.s 300 --from 80 --to 100 --memory 00500000:8 --memory 00601000:2
+  dsmon bare handler.s 300 --only tlb --matches --counts
 
 docs/bare.md has the bare machine.";
 
@@ -245,7 +256,10 @@ fn with_files<'a>(alloc: Global, described: Command<'a>) -> Result<Command<'a>, 
         ))
 }
 
-fn with_numbers<'a>(alloc: Global, described: Command<'a>) -> Result<Command<'a>, AllocError>
+pub(crate) fn with_numbers<'a>(
+    alloc: Global,
+    described: Command<'a>,
+) -> Result<Command<'a>, AllocError>
     requires { (fields_of described).has_globals ≡ false }
     ensures app { IfOk result (λ c. app_of c ≡ of_run (app_of described.entry)) }
     ensures local { IfOk result (λ c. (fields_of c).has_globals ≡ false) }
@@ -511,14 +525,102 @@ fn machine_described<'a>(alloc: Global) -> Result<Command<'a>, AllocError>
         .arg(count_argument(alloc))
 }
 
+fn first_argument<'a>(alloc: Global) -> Arg<'a>
+    ensures rule { rule_of result ≡ from_rule }
+    ensures local { result.global ≡ false }
+{
+    Arg::new(alloc, "FROM")
+        .long("from")
+        .value_name("K")
+        .value_parser(ValueParser::unsigned(0, 1_000_000_000))
+        .default_value("0")
+        .help("Instructions are told from this one on; the first is 1")
+}
+
+fn past_argument<'a>(alloc: Global) -> Arg<'a>
+    ensures rule { rule_of result ≡ to_rule }
+    ensures local { result.global ≡ false }
+{
+    Arg::new(alloc, "TO")
+        .long("to")
+        .value_name("K")
+        .value_parser(ValueParser::unsigned(0, 1_000_000_000))
+        .help("Instructions are told before this one; it may not be below that after --from")
+}
+
+fn kind_argument<'a>(alloc: Global) -> Arg<'a>
+    ensures rule { rule_of result ≡ only_rule }
+    ensures local { result.global ≡ false }
+{
+    Arg::new(alloc, "KIND").long("only").help(
+        "One kind of instruction is told alone: exceptions, tlb, devices or end, which tells none",
+    )
+}
+
+fn matches_argument<'a>(alloc: Global) -> Arg<'a>
+    ensures rule { rule_of result ≡ matches_rule }
+    ensures local { result.global ≡ false }
+{
+    Arg::new(alloc, "matches")
+        .long("matches")
+        .action(ArgAction::SetTrue)
+        .help("A line tells where two slots of the buffer begin to match each other")
+}
+
+fn counts_argument<'a>(alloc: Global) -> Arg<'a>
+    ensures rule { rule_of result ≡ counts_rule }
+    ensures local { result.global ≡ false }
+{
+    Arg::new(alloc, "counts")
+        .long("counts")
+        .action(ArgAction::SetTrue)
+        .help("The end tells how much of each there was: refills, exceptions, interrupts ..")
+}
+
+fn spans_argument<'a>(alloc: Global) -> Arg<'a>
+    ensures rule { rule_of result ≡ spans_rule }
+    ensures local { result.global ≡ false }
+{
+    Arg::new(alloc, "ADDRESS:COUNT")
+        .long("memory")
+        .action(ArgAction::Append)
+        .help(
+            "Words of memory are written at the end, by their physical address, at most eight times",
+        )
+}
+
+fn with_numbered<'a>(alloc: Global, described: Command<'a>) -> Result<Command<'a>, AllocError>
+    requires { (fields_of described).has_globals ≡ false }
+    ensures app { IfOk result (λ c. app_of c ≡ of_numbers (app_of described.entry)) }
+    ensures local { IfOk result (λ c. (fields_of c).has_globals ≡ false) }
+{
+    described
+        .arg(first_argument(alloc))?
+        .arg(past_argument(alloc))?
+        .arg(kind_argument(alloc))
+}
+
+fn with_looks<'a>(alloc: Global, described: Command<'a>) -> Result<Command<'a>, AllocError>
+    requires { (fields_of described).has_globals ≡ false }
+    ensures app { IfOk result (λ c. app_of c ≡ of_looks (app_of described.entry)) }
+    ensures local { IfOk result (λ c. (fields_of c).has_globals ≡ false) }
+{
+    described
+        .arg(matches_argument(alloc))?
+        .arg(counts_argument(alloc))?
+        .arg(spans_argument(alloc))
+}
+
 fn machine_command<'a>(alloc: Global) -> Result<Command<'a>, AllocError>
     ensures app { IfOk result (λ c. app_of c ≡ machine_app) }
     ensures local { IfOk result (λ c. (fields_of c).has_globals ≡ false) }
 {
-    machine_described(alloc)?
+    let quieted = machine_described(alloc)?
         .arg(random_argument(alloc))?
         .arg(quiet_argument(alloc))?
-        .arg(keys_argument(alloc))
+        .arg(keys_argument(alloc))?;
+    let numbered = with_numbered(alloc, quieted)?;
+    with_looks(alloc, numbered)
 }
 
 fn bare_command<'a>(alloc: Global) -> Command<'a>
@@ -577,9 +679,18 @@ fn demo_command<'a>(alloc: Global) -> Command<'a>
         .after_help(DEMO_HELP)
 }
 
+fn with_demo<'a>(alloc: Global) -> Result<Command<'a>, AllocError>
+    ensures { IfOk result (λ c. app_of c ≡ with_subcommand (with_subcommand
+        (with_subcommand files_app check_app.top) machine_app.top)
+        (new_app (codes "demo")).top) }
+{
+    with_machine(alloc)?.subcommand(demo_command(alloc))
+}
+
 /// The whole command line.
 pub fn command<'a>(alloc: Global) -> Result<Command<'a>, AllocError>
     ensures { IfOk result (λ c. app_of c ≡ dsmon_app) }
 {
-    with_machine(alloc)?.subcommand(demo_command(alloc))
+    let debug = debug_command(alloc)?;
+    with_demo(alloc)?.subcommand(debug)
 }

@@ -2,9 +2,12 @@
 #![tactic(auto)]
 
 mod commands;
+mod debug;
+mod spans;
 mod windows;
 mod words;
 
+pub use ds_bare_view::{BareOnly, BareView, Span, Spans};
 pub use windows::{Window, Windows};
 pub use words::{
     BareRequest, CheckRequest, Extras, ListRequest, Request, RunRequest, TraceRequest, Untaken,

@@ -67,7 +67,7 @@ impl Windows {
 }
 
 /// The number that digits of a base write: one or more, and at most so many.
-fn digits_of(base: u64, most: usize, text: &[u8]) -> Option<u32>
+pub(crate) fn digits_of(base: u64, most: usize, text: &[u8]) -> Option<u32>
     requires { base ≤ 16 }
     ensures { result ≡ digits_of base most text.now }
 {
@@ -78,7 +78,7 @@ fn digits_of(base: u64, most: usize, text: &[u8]) -> Option<u32>
 }
 
 /// The address that a text writes: one to eight hexadecimal digits, with `0x` before them or without.
-fn address_of(text: &[u8]) -> Option<u32>
+pub(crate) fn address_of(text: &[u8]) -> Option<u32>
     ensures { result ≡ address_of text.now }
 {
     match text.strip_prefix(b"0x".as_slice()) {

@@ -1,21 +1,25 @@
 //! What the program's words ask for.
-ghost use Rattle.std.specs.Prelude.{ℕ, Option, ◌≡◌, ◌↔◌, Err, IfErr, IfOk, IfSome, List, None, Ok, Some, codes, map, option_map, string_bytes};
+ghost use Rattle.std.specs.Prelude.{ℕ, Option, ◌≡◌, ◌↔◌, ◌<◌, Err, IfErr, IfOk, IfSome, IsSomeAnd, IsTrue, List, None, Ok, Some, codes, map, option_map, string_bytes};
 ghost use Rattle.std.specs.List.{All};
 ghost use Rattle.clap.specs.Words.{FailsBy, all_of, fault_of, first_of, found_of, many_of, one_of, rows_of, subcommand_of, subcommand_rows_of, values_left};
+ghost use Rattle.ds_bare_view.specs.Spans.{spans_in};
+ghost use Rattle.ds_words.specs.Spans.{IsSpan};
 ghost use Rattle.ds_words.specs.Windows.{IsWindow, windows_in};
 ghost use Rattle.ds_words.specs.declared.windows.Window.{Window};
-ghost use Rattle.ds_words.specs.Words.{AsksForBare, AsksForCheck, AsksForList, AsksForRun, AsksForSomething, AsksForTrace, IsGiven, MisnamesMemory, NamesAskedRun, NamesBare, NamesCheck, NamesExtras, NamesList, NamesMemory, NamesProcesses, NamesRun, NamesTrace, NamesView, WriteProcesses, command_named, dsmon_app, kind_word};
+ghost use Rattle.ds_words.specs.Words.{AsksForBare, AsksForCheck, AsksForDebug, AsksForList, AsksForRun, AsksForSomething, AsksForTrace, IsGiven, MisnamesMemory, NamesAskedRun, NamesBare, NamesCheck, NamesExtras, NamesList, NamesMemory, NamesProcesses, NamesRun, NamesTrace, NamesView, WriteProcesses, command_named, dsmon_app, kind_word, NamesBareFlags, NamesBareView, NamesSpans, bare_kind_word};
 
 use crate::commands::command;
+use crate::spans::spans_of;
 use crate::windows::{Windows, windows_of};
 use clap::parser::ValuesRef;
 use clap::{ArgMatches, Error};
+use ds_bare_view::{BareOnly, BareView, Span, Spans};
 use ds_view::{Only, Processes, View};
 use std::alloc::Global;
 use std::rt::Env;
 use std::{env, io};
 
-/// A run of files that the words ask for, or ask for the trace of.
+/// A run of files that the words ask for, ask for the trace of, or want to debug.
 #[derive(Clone, Copy, Debug, PartialEq, Eq)]
 pub struct Request<'a> {
     /// The name of the policy's file.
@@ -94,8 +98,8 @@ pub struct BareRequest<'a> {
     pub most: u32,
     /// Where the register Random starts.
     pub random: u8,
-    /// Whether the instructions are not told, but the end alone.
-    pub quiet: bool,
+    /// What is told.
+    pub view: BareView,
     /// The name of the file of an input, whose characters come in.
     pub keys: Option<&'a str>,
 }
@@ -115,6 +119,8 @@ pub enum Wish<'a> {
     Bare(BareRequest<'a>),
     /// The trace of a run of files.
     Trace(TraceRequest<'a>),
+    /// A session with a debugger over a run of files.
+    Debug(Request<'a>),
 }
 
 /// Why words that clap takes ask for nothing.
@@ -125,6 +131,10 @@ pub enum Untaken {
     Kind,
     /// A text after `--memory` writes no words of memory that there may be, or there are too many.
     Memory,
+    /// Of a bare run the word after `--only` stands for no kind of instruction, the number after `--to`
+    /// is below that after `--from`, or a text after `--memory` writes no words of memory that there may
+    /// be, or there are too many.
+    Bare,
 }
 
 /// The words that the program was started with, its own name first.
@@ -141,7 +151,7 @@ fn read_words<'a>(alloc: Global, words: &'a [String]) -> Result<ArgMatches<'a>, 
     command(alloc)?.try_get_matches_from(words)
 }
 
-/// The run that the words after `run` or `trace` ask for.
+/// The run that the words after `run`, `trace` or `debug` ask for.
 fn request_of<'a>(found: &ArgMatches<'a>) -> Option<Request<'a>>
     ensures some { IfSome result (λ request. NamesRun (rows_of (found_of found.now)) request) }
     ensures none { result ≡ None → (request : Request) → ¬ NamesRun (rows_of (found_of found.now)) request }
@@ -317,6 +327,7 @@ fn asked_run<'a>(found: &ArgMatches<'a>) -> Result<RunRequest<'a>, Untaken>
         → ¬ NamesMemory (all_of (codes "P:ADDRESS:COUNT") (rows_of (found_of found.now))) memory }
     ensures kind { result ≡ Err Untaken.Kind → (memory : List Window)
         × NamesMemory (all_of (codes "P:ADDRESS:COUNT") (rows_of (found_of found.now))) memory }
+    ensures other { ¬ (result ≡ Err Untaken.Bare) }
 {
     let Some(memory) = memory_of(found) else {
         return Err(Untaken::Memory);
@@ -336,6 +347,7 @@ fn asked_trace<'a>(found: &ArgMatches<'a>) -> Result<TraceRequest<'a>, Untaken>
         → ¬ NamesMemory (all_of (codes "P:ADDRESS:COUNT") (rows_of (found_of found.now))) memory }
     ensures kind { result ≡ Err Untaken.Kind → (memory : List Window)
         × NamesMemory (all_of (codes "P:ADDRESS:COUNT") (rows_of (found_of found.now))) memory }
+    ensures other { ¬ (result ≡ Err Untaken.Bare) }
 {
     let Some(memory) = memory_of(found) else {
         return Err(Untaken::Memory);
@@ -370,6 +382,89 @@ fn check_request_of<'a>(found: &ArgMatches<'a>) -> Option<CheckRequest<'a>>
     })
 }
 
+/// The kind of instruction that this word stands for.
+fn bare_only_of(word: &str) -> Option<BareOnly>
+    ensures some { IfSome result (λ only. bare_kind_word only ≡ word.now) }
+    ensures none { result ≡ None → (only : BareOnly) → ¬ (bare_kind_word only ≡ word.now) }
+{
+    match word {
+        "end" => Some(BareOnly::End),
+        "exceptions" => Some(BareOnly::Exceptions),
+        "tlb" => Some(BareOnly::Tlb),
+        "devices" => Some(BareOnly::Devices),
+        _ => None,
+    }
+}
+
+/// The kind of instruction that is told, where one is named.
+fn bare_kind_of<'a>(found: &ArgMatches<'a>) -> Option<Option<BareOnly>>
+    ensures some { IfSome result (λ only. first_of (codes "KIND") (rows_of (found_of found.now))
+        ≡ option_map bare_kind_word only) }
+    ensures none { result ≡ None → (only : Option BareOnly)
+        → ¬ (first_of (codes "KIND") (rows_of (found_of found.now))
+        ≡ option_map bare_kind_word only) }
+{
+    match found.get_str("KIND") {
+        Some(word) => Some(Some(bare_only_of(word)?)),
+        None => Some(None),
+    }
+}
+
+/// The words of memory of the bare machine that are wanted.
+fn spans_named<'a>(found: &ArgMatches<'a>) -> Option<Spans>
+    ensures some { IfSome result (λ memory. NamesSpans
+        (all_of (codes "ADDRESS:COUNT") (rows_of (found_of found.now)))
+        (spans_in memory)) }
+    ensures good { IfSome result (λ memory. All IsSpan (spans_in memory)) }
+    ensures none { result ≡ None → (memory : List Span)
+        → ¬ NamesSpans (all_of (codes "ADDRESS:COUNT") (rows_of (found_of found.now))) memory }
+{
+    match found.get_strs("ADDRESS:COUNT") {
+        Some(texts) => spans_of(texts),
+        None => Some(Spans::none()),
+    }
+}
+
+/// Whether there is an end, and it is before a beginning.
+fn ends_before(to: Option<u64>, from: u64) -> bool
+    ensures { IsTrue result ↔ IsSomeAnd to (λ end. end < from) }
+{
+    match to {
+        Some(to) => to < from,
+        None => false,
+    }
+}
+
+/// What the flags after `bare` want told.
+fn bare_flags_of<'a>(found: &ArgMatches<'a>) -> Option<BareView>
+    ensures some { IfSome result (λ view. NamesBareFlags (rows_of (found_of found.now)) view) }
+    ensures none { result ≡ None → (view : BareView)
+        → ¬ NamesBareFlags (rows_of (found_of found.now)) view }
+{
+    Some(BareView {
+        quiet: found.get_flag("quiet"),
+        from: found.get_one("FROM")?,
+        to: given_of(found, "TO")?.map(u64::from),
+        only: bare_kind_of(found)?,
+        matches: found.get_flag("matches"),
+        counts: found.get_flag("counts"),
+        memory: spans_named(found)?,
+    })
+}
+
+/// What the words after `bare` want told: no window that ends before it begins.
+fn bare_view_of<'a>(found: &ArgMatches<'a>) -> Option<BareView>
+    ensures some { IfSome result (λ view. NamesBareView (rows_of (found_of found.now)) view) }
+    ensures none { result ≡ None → (view : BareView)
+        → ¬ NamesBareView (rows_of (found_of found.now)) view }
+{
+    let view = bare_flags_of(found)?;
+    if ends_before(view.to, view.from) {
+        return None;
+    }
+    Some(view)
+}
+
 /// What the words after `bare` ask for.
 fn bare_request_of<'a>(found: &ArgMatches<'a>) -> Option<BareRequest<'a>>
     ensures some { IfSome result (λ request. NamesBare (rows_of (found_of found.now)) request) }
@@ -379,14 +474,14 @@ fn bare_request_of<'a>(found: &ArgMatches<'a>) -> Option<BareRequest<'a>>
         source: found.get_str("SOURCE")?,
         most: found.get_one("N")?,
         random: found.get_one("R")?,
-        quiet: found.get_flag("quiet"),
+        view: bare_view_of(found)?,
         keys: found.get_str("INPUT"),
     })
 }
 
 /// What `words` ask for, the program's own name first. An error is clap's: a mistake in the words,
 /// a call for help or the version, or memory that ran out. Where clap takes the words although they
-/// ask for nothing, it is told why: `Memory` goes before `Kind`.
+/// ask for nothing, it is told why: `Memory` goes before `Kind`; of a bare run it is always `Bare`.
 pub fn wish_of<'a>(alloc: Global, words: &'a [String]) -> Result<Result<Wish<'a>, Untaken>, Error>
     ensures refused { FailsBy (fault_of dsmon_app (map string_bytes words.entry.now)) result }
     ensures named { IfOk result (λ wish. (wish ≡ Ok Wish.Demo)
@@ -403,12 +498,17 @@ pub fn wish_of<'a>(alloc: Global, words: &'a [String]) -> Result<Result<Wish<'a>
         → AsksForBare (map string_bytes words.entry.now) request) }
     ensures trace { IfOk result (λ wish. (request : TraceRequest) → wish ≡ Ok (Wish.Trace request)
         → AsksForTrace (map string_bytes words.entry.now) request) }
+    ensures debug { IfOk result (λ wish. (request : Request) → wish ≡ Ok (Wish.Debug request)
+        → AsksForDebug (map string_bytes words.entry.now) request) }
     ensures none { IfOk result (λ wish. (cause : Untaken) → wish ≡ Err cause
         → ¬ AsksForSomething (map string_bytes words.entry.now)) }
     ensures memory { IfOk result (λ wish. wish ≡ Err Untaken.Memory
         → MisnamesMemory (map string_bytes words.entry.now)) }
     ensures kind { IfOk result (λ wish. wish ≡ Err Untaken.Kind
         → ¬ MisnamesMemory (map string_bytes words.entry.now)) }
+    ensures machine { IfOk result (λ wish. (cause : Untaken) → wish ≡ Err cause
+        → (cause ≡ Untaken.Bare)
+        ↔ (command_named (map string_bytes words.entry.now) ≡ Some (codes "bare"))) }
 {
     let matches = read_words(alloc, words)?;
     match matches.subcommand() {
@@ -421,7 +521,8 @@ pub fn wish_of<'a>(alloc: Global, words: &'a [String]) -> Result<Result<Wish<'a>
                 .ok_or(Untaken::Kind),
         ),
         Some(("list", found)) => Ok(list_request_of(found).map(Wish::List).ok_or(Untaken::Kind)),
-        Some(("bare", found)) => Ok(bare_request_of(found).map(Wish::Bare).ok_or(Untaken::Kind)),
+        Some(("debug", found)) => Ok(request_of(found).map(Wish::Debug).ok_or(Untaken::Kind)),
+        Some(("bare", found)) => Ok(bare_request_of(found).map(Wish::Bare).ok_or(Untaken::Bare)),
         _ => Ok(Err(Untaken::Kind)),
     }
 }

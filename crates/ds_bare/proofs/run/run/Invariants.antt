@@ -7,8 +7,8 @@ use Rattle.ds_bare.proofs.run.run.Given as goal
 -- what is written, and what the instructions that are left will tell, is what all tell
 abbrev pub invariant-loop-done : goal.invariant-loop-done
 invariant-loop-done g l = record {
-  text : IsUnderWay (g.O.Output.contents l.fn.out) (g.O.Output.contents l.out) (run_from l.quiet (l.most - l.done) l.done l.machine) (run_from l.quiet l.most 0 l.fn.machine);
+  text : IsUnderWay (g.O.Output.contents l.fn.out) (g.O.Output.contents l.out) (run_from l.view (l.most - l.done) l.done l.machine) (run_from l.view l.most 0 l.fn.machine);
   ending : ending_from (l.most - l.done) l.done l.machine ≡ ending_from l.most 0 l.fn.machine;
-  told : HasTold (g.O.Output.contents l.fn.out) (g.O.Output.contents l.out) l.quiet l.most l.done l.fn.machine l.machine;
+  told : HasTold (g.O.Output.contents l.fn.out) (g.O.Output.contents l.out) l.view l.most l.done l.fn.machine l.machine;
   asked : IsAskedOnce (g.O.Output.answers l.fn.out) (g.O.Output.answers l.out) false;
 }

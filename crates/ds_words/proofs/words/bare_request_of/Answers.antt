@@ -1,7 +1,7 @@
 use Rattle.std.proofs.Common.{◌∙◌, sym}
 use Rattle.std.specs.Str.Parse.{ParsesUnsigned, ExplainsUnsignedError, HasUnsignedDigitsIfOk}
 use Rattle.clap.specs.Words.{found_of}
-use Rattle.clap.proofs.WalkLemmas.{first_value-rows, one_text-rows}
+use Rattle.clap.proofs.WalkLemmas.{first_value-rows}
 use Rattle.ds_words.proofs.Requests.{word_found, word_wanting, number_found, number_wanting}
 use Rattle.ds_words.proofs.words.bare_request_of.Goals as goal
 
@@ -12,8 +12,7 @@ returns-clause-some c =
       source = word_found found _ c.get_str.result c.in_ok-get_str.field-0 c.get_str.ensures c.in_ok-get_str.was;
       most = number_found (λ bs r. ParsesUnsigned 32 10 bs r × ExplainsUnsignedError 10 bs r × HasUnsignedDigitsIfOk bs r) 32 found _ c.get_one.result _ (λ t x g. g.0) c.get_one.ensures.none (λ t e. c.get_one.ensures.value t e) c.in_ok-get_one.was;
       random = number_found (λ bs r. ParsesUnsigned 8 10 bs r × ExplainsUnsignedError 10 bs r × HasUnsignedDigitsIfOk bs r) 8 found _ c.get_one-2.result _ (λ t x g. g.0) c.get_one-2.ensures.none (λ t e. c.get_one-2.ensures.value t e) c.in_ok-get_one-2.was;
-      quiet = λ is. c.get_flag.ensures.value (one_text-rows found _ ∙ is);
-      told = λ is. c.get_flag.ensures.other (one_text-rows found _ ∙ is);
+      view = c.in_ok-bare_view_of.ensures.some;
       keys = sym (first_value-rows found _) ∙ sym c.get_str-2.ensures;
     }
 

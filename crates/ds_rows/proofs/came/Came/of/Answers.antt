@@ -1,5 +1,5 @@
 use Rattle.std.proofs.Common.{refl, subst, map, string_bytes, ℕ, List, Some, None}
-use Rattle.ds_drive.specs.Done.{IsDone, stream}
+use Rattle.ds_drive.specs.Done.{IsDone, no_input, stream}
 use Rattle.ds_drive.specs.Listening.{listener}
 use Rattle.ds_rows.proofs.came.Came.of.Goals as goal
 
@@ -13,6 +13,6 @@ returns-clause-done g c zero =
       all = refl;
       err = err;
       heard = refl;
-      done = subst (λ (xs : List ℕ). IsDone (map string_bytes c.args.words.now) (g.F.Files.holds c.args.files) (stream (Some xs) (Some out)) err)
+      done = subst (λ (xs : List ℕ). IsDone (map string_bytes c.args.words.now) (g.F.Files.holds c.args.files) no_input (stream (Some xs) (Some out)) err)
           c.new-out.ensures.items (c.drive-status.ensures.done zero);
     }

@@ -1,0 +1,28 @@
+-- Which instructions of a run on the bare machine are told.
+use Rattle.std.specs.Prelude.{◌≡◌, ℕ, Bool, true, false, not, ◌&&◌, nat_le, nat_lt, [], Option, Some, None}
+use Rattle.ds_bare_view.specs.declared.view.BareOnly.{BareOnly}
+use Rattle.ds_bare_view.specs.declared.view.BareOnly.TheVariants.{End}
+use Rattle.ds_bare_view.specs.declared.view.BareView.{BareView}
+use Rattle.ds_bare_view.specs.Spans.{spans_in}
+
+-- whether the end alone is told
+abbrev pub is_end : Option BareOnly → Bool
+is_end (Some End) = true
+is_end other = false
+
+-- whether a number is before the first that is not told any more
+abbrev pub is_before : Option ℕ → ℕ → Bool
+is_before None number = true
+is_before (Some to) number = nat_lt number to
+
+-- whether anything may be told of the instruction with a number
+abbrev pub reaches : BareView → ℕ → Bool
+reaches v number = not v.quiet && not (is_end v.only) && nat_le v.from number && is_before v.to number
+
+-- all instructions are told, and nothing more of the end than there always is
+pub record IsWhole (v : BareView) : Type 0 where
+  pub each : (number : ℕ) → reaches v number ≡ true
+  pub kind : v.only ≡ None
+  pub matches : v.matches ≡ false
+  pub counts : v.counts ≡ false
+  pub memory : spans_in v.memory ≡ []
