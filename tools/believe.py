@@ -11,12 +11,10 @@ list, and one that docs/theorems.md doesn't show are told with their places, and
 import sys
 from pathlib import Path
 
-sys.dont_write_bytecode = True
-
-from believe.page import LISTS, PAGE, named_by, page  # noqa: E402
-from believe.repository import Repository  # noqa: E402
-from believe.texts import Unresolved  # noqa: E402
-from believe.shown import DOCUMENT, shown  # noqa: E402
+from believe.page import LISTS, PAGE, named_by, page
+from believe.repository import Repository
+from believe.texts import Unresolved
+from believe.shown import DOCUMENT, shown
 
 TOP = Path(__file__).resolve().parent.parent
 

@@ -1,21 +1,20 @@
 #!/usr/bin/env python3
 """Checks the documents: with --check it tells each fault, and ends with status 1 where there is one.
 
-README.md has at most 120 lines of at most 120 columns. Each document in docs/ is named in README.md, or in a document
-that README.md names. What a link leads to is there, and so is each file or folder of the repository that stands in
-backticks: one that begins at the top of the repository, or in a folder of a crate, such as `src/lib.rt`. Words in capitals
-stand for any name, as in `crates/NAME/wrong/`. What speaks of the past may name what is gone: CHANGELOG.md,
-docs/log.md, and a section "Names that changed".
+README.md has at most 120 lines, docs/theorems.md 450 and docs/DECISIONS.md 500, each of at most 120 columns. Each document
+in docs/ is named in README.md, or in a document that README.md names. What a link leads to is there, and so is each file or
+folder of the repository that stands in backticks: one that begins at the top of the repository, or in a folder of a crate,
+such as `src/lib.rt`. Words in capitals stand for any name, as in `crates/NAME/wrong/`. What speaks of the past may name what
+is gone: CHANGELOG.md and docs/log.md.
 """
 import argparse
 import re
 import sys
 from pathlib import Path
 
-sys.dont_write_bytecode = True
-
 TOP = Path(__file__).resolve().parent.parent
-LINES, COLUMNS = 120, 120
+LINES = {"README.md": 120, "docs/theorems.md": 450, "docs/DECISIONS.md": 500}  # at most, of these documents
+COLUMNS = 120  # of their lines, at most
 PAST = {"CHANGELOG.md", "docs/log.md"}
 CODE = re.compile(r"`([^`\n]+)`")
 LINK = re.compile(r"\]\(([^)#\s]+)")
@@ -25,11 +24,11 @@ ANY_NAME = re.compile(r"(?<![A-Za-z])[A-Z]{2,}(?![A-Za-z])")
 CAPITALS = {"README.md", "CONTRIBUTING.md", "CHANGELOG.md", "HANDLES", "DECISIONS.md"}
 
 
-def size_faults(text):
-    """What is wrong with the size of README.md."""
-    lines = text.splitlines()
-    told = [f"README.md: {len(lines)} lines, at most {LINES}"] if len(lines) > LINES else []
-    return told + [f"README.md:{at}: {len(line)} columns, at most {COLUMNS}" for at, line in enumerate(lines, 1) if len(line) > COLUMNS]
+def size_faults(path, text):
+    """What is wrong with the size of a document that has one."""
+    lines, most = text.splitlines(), LINES[path]
+    told = [f"{path}: {len(lines)} lines, at most {most}"] if len(lines) > most else []
+    return told + [f"{path}:{at}: {len(line)} columns, at most {COLUMNS}" for at, line in enumerate(lines, 1) if len(line) > COLUMNS]
 
 
 def documents(top):
@@ -65,7 +64,6 @@ def is_there(top, path):
 
 def missing(top, path, text):
     """The paths that a document names, and its links, that lead nowhere."""
-    text = re.split(r"^## Names that changed$", text, flags=re.MULTILINE)[0]
     tops = {it.name for it in top.iterdir() if it.is_dir()} | set(IN_A_CRATE)
     named = {it for it in names(text) if it.split("/")[0] in tops and "/" in it or it in CAPITALS}
     told = [it for it in sorted(named) if not stands_for_any(it) and not is_there(top, it)]
@@ -76,7 +74,8 @@ def missing(top, path, text):
 def faults(top):
     """All that is wrong with the documents below a folder."""
     texts = documents(top)
-    told = size_faults(texts["README.md"]) if "README.md" in texts else ["README.md: missing"]
+    told = [] if "README.md" in texts else ["README.md: missing"]
+    told += [fault for path in LINES if path in texts for fault in size_faults(path, texts[path])]
     told += [f"{it}: named neither by README.md nor by a document that it names" for it in unnamed(texts)]
     return told + [f"{path}: `{it}` is not there" for path in texts if path not in PAST for it in missing(top, path, texts[path])]
 

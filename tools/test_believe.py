@@ -1,22 +1,12 @@
 #!/usr/bin/env python3
 """Tests of tools/believe.py, over a toy crate: what a clause rests on, and what is told of a name, a page or a document that is wrong."""
-import contextlib
-import importlib.util
-import io
-import sys
-import tempfile
 import unittest
-from pathlib import Path
 
-sys.dont_write_bytecode = True
+from believe.page import Asked, named_by, page
+from believe.repository import Repository
+from rooms import InARoom, placed, said, script
 
-from believe.page import Asked, named_by, page  # noqa: E402
-from believe.repository import Repository  # noqa: E402
-
-SCRIPT = importlib.util.spec_from_file_location("believe_command", Path(__file__).resolve().parent / "believe.py")
-COMMAND = importlib.util.module_from_spec(SCRIPT)
-SCRIPT.loader.exec_module(COMMAND)
-
+COMMAND = script("believe")
 FILES = {
     "crates/toy/src/run.rt": """\
 //! A run.
@@ -206,38 +196,29 @@ LISTS = [Asked(RUN, "run", ["ok"], "What is shown.", ["nothing"]), Asked(RUN, "r
 NEEDED = {"Holds", "Spot", "Parts", "Way", "turned", "straight", "Mood", "WORDS", "table", "firsts", "Place", "Fault", "Cause"}
 
 
-class Believe(unittest.TestCase):
-    def setUp(self):
-        room = tempfile.TemporaryDirectory(prefix="believe-test-")
-        self.addCleanup(room.cleanup)
-        self.top = Path(room.name)
-        for path in FILES:
-            self.put(path)
+class Believe(InARoom):
+    files = FILES
 
     def put(self, path, old="", new=""):
         """Writes a file of the toy, with a text that stands in it once as another."""
         text = FILES[path]
         if old:
             self.assertEqual(1, text.count(old), old)
-        place = self.top / path
-        place.parent.mkdir(parents=True, exist_ok=True)
-        place.write_text(text.replace(old, new) if old else text, "utf-8")
+        placed(self.room, {path: text.replace(old, new) if old else text})
 
     def reached(self, *clauses):
-        repository = Repository(self.top)
+        repository = Repository(self.room)
         return repository.rests_on(named_by(repository, RUN, "run", clauses)[1].found.values()).values()
 
     def names(self, *clauses):
         return {it.name for it in self.reached(*clauses)}
 
     def main(self, *words):
-        with contextlib.redirect_stdout(io.StringIO()) as said:
-            status = COMMAND.main(list(words), self.top, LISTS)
-        return status, said.getvalue()
+        return said(COMMAND.main, list(words), self.room, LISTS)[:2]
 
     def told(self):
         """What the page can't be written for."""
-        return page(Repository(self.top), LISTS)[1]
+        return page(Repository(self.room), LISTS)[1]
 
     def test_a_clause_rests_on_what_it_names_and_on_nothing_else(self):
         self.assertEqual(NEEDED, self.names("ok"))
@@ -305,13 +286,13 @@ class Believe(unittest.TestCase):
         self.assertIn("crates/toy/src/fault.rt:8: `Reason` leads nowhere", self.told())
 
     def test_what_nothing_needs_is_counted_at_the_end(self):
-        text, told = page(Repository(self.top), LISTS)
+        text, told = page(Repository(self.room), LISTS)
         self.assertEqual([], told)
         self.assertIn("| `toy` | 5 | 1 | 13 |", text)  # unneeded twice, hidden, count and with_all
         self.assertNotIn("`count`", text)
 
     def test_a_list_has_what_the_lists_before_it_have_not_and_the_rows(self):
-        text, _ = page(Repository(self.top), LISTS)
+        text, _ = page(Repository(self.room), LISTS)
         self.assertIn("| 1. `run` | `ok` | 6 | 24 | 7 | 23 | 24 |", text)
         self.assertIn("| 2. `run` | `err` | 0 | 0 | 0 | 0 | 24 |", text)
         self.assertIn("On 2 of the definitions rests a worked row.", text)
@@ -330,7 +311,17 @@ class Believe(unittest.TestCase):
         self.put("docs/theorems.md", "Holds shown\n        place.now) }", "Holds shown place) }")
         self.assertEqual((1, f"docs/theorems.md:3: clause `ok` of `run` is not as {RUN} has it\n"), self.main("--check"))
         self.main()
-        self.assertEqual(FILES["docs/theorems.md"], Path(self.top, "docs/theorems.md").read_text("utf-8"))
+        self.assertEqual(FILES["docs/theorems.md"], (self.room / "docs/theorems.md").read_text("utf-8"))
+
+    def test_clauses_may_stand_below_each_other_with_words_between(self):
+        self.main()
+        block = "    // what is shown\n    run ensures ok { IfOk result (λ shown. Holds shown\n        place.now) }\n    // the rest\n    run ensures err { n ≡ n }\n"
+        self.put("docs/theorems.md", FILES["docs/theorems.md"], block)
+        self.assertEqual(0, self.main("--check")[0])
+        self.put("docs/theorems.md", FILES["docs/theorems.md"], block.replace("n ≡ n", "n ≡ m"))
+        self.assertEqual((1, f"docs/theorems.md:5: clause `err` of `run` is not as {RUN} has it\n"), self.main("--check"))
+        self.main()
+        self.assertEqual(block, (self.room / "docs/theorems.md").read_text("utf-8"))
 
     def test_a_clause_that_is_not_shown_or_is_no_clause_is_told(self):
         self.main()
@@ -344,7 +335,7 @@ class Believe(unittest.TestCase):
         self.assertIn(f"{RUN}: `run` has no clause `err`", self.told())
 
     def test_laws_are_functions_that_do_nothing(self):
-        text, told = page(Repository(self.top), [*LISTS, Asked("", "", [], "What is true.", [], ("toy",))])
+        text, told = page(Repository(self.room), [*LISTS, Asked("", "", [], "What is true.", [], ("toy",))])
         self.assertEqual([], told)
         self.assertIn("| 3. The laws of `toy` | one law | 1 | 3 | 0 | 0 | 27 |", text)
 

@@ -61,7 +61,7 @@ LISTS = [
           "What the words of the program ask for, its statuses, listings and checks, what a run came to, and what is told of a fault.",
           ["`tools/came_model.py`, which writes the text of each row of `came/`: statuses, words of memory, summaries and bounds",
            "`tools/reason_model.py`, what is told of a policy and an input that are refused",
-           "`tools/refused_memory.py` and `tools/refused_growths.py`, which refuse each growth of memory in turn",
+           "`tools/refused_growths.py`, which refuses each growth of memory in turn",
            "the rows of `listing/`, `checking/`, `mistakes/` and `commands/`"]),
 ]
 HEAD = """\

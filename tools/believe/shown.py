@@ -1,10 +1,10 @@
-"""Clauses that a document shows as code: a block that begins with a function's name and `ensures` is what the source has, word for word."""
+"""Clauses that a document shows as code: lines that begin with a function's name and `ensures` are what the source has, word for word."""
 import re
 
 from .contracts import Contract
 
 DOCUMENT = "docs/theorems.md"
-BLOCK = re.compile(r"(?:^ {4}\S.*\n(?:^ {4}.*\n)*)", re.MULTILINE)
+CLAUSE = re.compile(r"^ {4}\S.*\n(?:^ {5,}.*\n)*", re.MULTILINE)  # a line of code, and those below it that stand further to the right
 FIRST = re.compile(r" {4}(\w+) ensures (\w+) \{")
 
 
@@ -15,22 +15,22 @@ def shown(text, repository, functions, whole):
     contracts = {name: Contract(repository.read(path), name) for name, path in functions.items()}
     faults, found = [], set()
 
-    def anew(block):
-        got = FIRST.match(block.group())
+    def anew(code):
+        got = FIRST.match(code.group())
         if not got:
-            return block.group()
+            return code.group()
         name, clause = got.groups()
-        place = f"{DOCUMENT}:{text.count(chr(10), 0, block.start()) + 1}"
+        place = f"{DOCUMENT}:{text.count(chr(10), 0, code.start()) + 1}"
         if name not in contracts or ("ensures", clause) not in contracts[name].clauses:
             faults.append(f"{place}: no `{name}` of the lists has a clause `{clause}`")
-            return block.group()
+            return code.group()
         found.add((name, clause))
         lines = contracts[name].said(clause)
         now = "\n".join([f"    {name} {lines[0].strip()}", *lines[1:]]) + "\n"
-        if now.split() != block.group().split():
+        if now.split() != code.group().split():
             faults.append(f"{place}: clause `{clause}` of `{name}` is not as {functions[name]} has it")
         return now
 
-    made = BLOCK.sub(anew, text)
+    made = CLAUSE.sub(anew, text)
     missing = [(name, clause) for name in whole for clause in contracts[name].promised() if (name, clause) not in found]
     return made, faults, [f"{DOCUMENT}: clause `{clause}` of `{name}` is not shown" for name, clause in missing]
