@@ -3,7 +3,7 @@
 
     bench/families.py [PROGRAM]            seconds of processor time of one call, for each family and call
     bench/families.py --count [PROGRAM]    host instructions in place of seconds, by callgrind (valgrind)
-    bench/families.py --alone [PROGRAM]    host instructions of one call alone, where nearly nothing is shared
+    bench/families.py --alone PROGRAM      host instructions of one call alone, where nearly nothing is shared
 
 PROGRAM is part_cases, as `(cd crates/part_cases && rt run)` proves and builds it. It replays two files over both buffers: the
 shares, and the shares with a call after them; a call is half of the difference, of the least of nine runs each, which may be wrong by
@@ -16,9 +16,11 @@ processes have 256 entries each:
 
 A leaf is a drop of the last entry, from which nothing was shared; what was shared from the one that `drop` drops is handed on.
 
-With `--alone` each process has 255 entries that an operator granted, and one place free, the last. What is given there is dropped, taken
-and revoked, with so many shares of it in as many processes. Each call is counted against the same call of an address that is no page's,
-which is refused at once: so the comparison is no part of it.
+With `--alone` each process that takes part has 255 entries that an operator granted, and one place free, the last. What is given there is
+dropped, taken and revoked, with so many shares of it in as many processes, or all in the last places of one. Then calls in a chain of four
+processes are counted, whose 1,024 entries were each shared from the one before. Counted is what callgrind collects in the function of the
+call, for each buffer: so PROGRAM has to keep `Grants::take` and the others as functions, and no comparison is a part of it. A proved program
+has them inlined; one from the code that `rt try` hands to LLVM, with its checks taken out and these marked `noinline`, keeps them.
 """
 import os
 import re
@@ -61,31 +63,47 @@ def calls(family):
     yield "end", f"end {second[0]}"
 
 
-def grants():
-    """The lines that grant all but one entry of each process."""
-    yield f"start {PROCESSES} 4 1"
-    for process in range(1, PROCESSES + 1):
-        for k in range(1, ENTRIES):
+def grants(processes, room):
+    """The lines that grant all entries of each process but one, or but as many as it is to have room for."""
+    yield f"start {processes} 4 1"
+    for process in range(1, processes + 1):
+        for k in range(1, ENTRIES + 1 - room.get(process, 1)):
             yield f"grant {process} {0x1000 * k:08x} 0 write give 1"
 
 
 def calls_alone():
-    """Calls, each with its name, the lines before it, and the same call of an address that is no page's."""
+    """Calls, each with its name and the lines before it."""
     last = 0x1000 * ENTRIES
-    gift = f"give 1 00001000 2 {last:08x} 2"
-    yield "give", [], gift, f"give 1 00001000 2 {last + 1:08x} 2 = 13"
-    yield "drop", [gift], f"drop 2 {last:08x} own", f"drop 2 {last + 1:08x} own = 13"
-    for n in (0, 1, 10, 50):
-        family = [gift, *(f"give 2 {last:08x} {process} {last:08x} 2" for process in range(3, n + 3))]
-        yield f"take {n}", family, f"take 1 2 {last:08x}", f"take 1 2 {last + 1:08x} = 13"
-        yield f"revoke {n}", family, f"revoke 2 {last:08x} 2", f"revoke 2 {last + 1:08x} 2 = 13"
+    made, gift = [*grants(2, {})], f"give 1 00001000 2 {last:08x} 2"
+    yield "give", made, gift
+    for name, address in ("last", last), ("middle", last // 2), ("first", 0x1000):
+        yield f"drop {name}", [*made, gift], f"drop 2 {address:08x} own"
+    yield "end", [*made, gift], "end 2"
+    each = [(f"{n}", n + 2, {}, [f"give 2 {last:08x} {process} {last:08x} 2" for process in range(3, n + 3)]) for n in (0, 1, 10, 50)]
+    in_one = [(f"{n} in one", 3, {3: n}, [f"give 2 {last:08x} 3 {last - 0x1000 * k:08x} 2" for k in range(n)]) for n in (1, 10, 50)]
+    for name, processes, room, family in each + in_one:
+        made = [*grants(processes, room), gift, *family]
+        yield f"take {name}", made, f"take 1 2 {last:08x}"
+        yield f"revoke {name}", made, f"revoke 2 {last:08x} 2"
+    made = list(shares("chain"))[: 4 * ENTRIES + 1]
+    yield "chain give", made[:-1], made[-1]
+    yield "chain leaf", made, f"drop 4 {last:08x} own"
+    yield "chain end", made, "end 2"
+    yield "chain take", made, "take 2 3 00001000"
+    yield "chain revoke", made, "revoke 3 00001000 2"
 
 
 def count_alone(program):
-    made = list(grants())
-    for name, before, call, refused in calls_alone():
-        took = [replayed(program, [*made, *before, line], CALLGRIND) for line in (call, refused)]
-        print(f"{name:12}{(took[0] - took[1]) / 2:,.0f} instructions", flush=True)
+    symbols = subprocess.run(["nm", program], capture_output=True, text=True, check=True).stdout
+    for name, made, call in calls_alone():
+        word = call.split()[0]
+        function = {"drop": "drop_page", "end": "end_process"}.get(word, word)
+        took = []
+        for symbol in sorted(set(re.findall(rf" (\S*::Grants::{function}::<\S*>)", symbols))):
+            words = [*CALLGRIND, f"--toggle-collect={symbol}"]
+            before = replayed(program, made, words) if any(it.startswith(word) for it in made) else 0
+            took.append(replayed(program, [*made, call], words) - before)
+        print(f"{name:16}{', '.join(f'{it:,.0f}' for it in sorted(took)) or 'no such function in PROGRAM'} instructions", flush=True)
 
 
 def replayed(program, lines, words=()):

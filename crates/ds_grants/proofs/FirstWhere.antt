@@ -1,9 +1,9 @@
 -- Rows when the entries for which a test holds are changed or go, one after the other, the first of them first.
-use Rattle.std.proofs.Common.{◌≡◌, ℕ, ◌==◌, ◌∷◌, not, Bool, true, false, cond, List, [], filter, is_some, Option, Some, None, refl, sym, ap, ap₂, subst, inl, inr, arith}
+use Rattle.std.proofs.Common.{◌≡◌, ℕ, zero, suc, take, ◌==◌, ◌∷◌, not, Bool, true, false, cond, List, [], filter, is_some, Option, Some, None, refl, sym, ap, ap₂, subst, inl, inr, arith}
 use Rattle.std.specs.List.{All, AllByRecursion, IsDistinct}
 use Rattle.std.proofs.lemmas.Bool.{cases_Bool}
 use Rattle.std.proofs.lemmas.Bool.Decides.{nat_tests}
-use Rattle.std.proofs.lemmas.List.Elements.{All-head, All-tail}
+use Rattle.std.proofs.lemmas.List.Elements.{All-nil, All-cons, All-head, All-tail}
 use Rattle.std.proofs.lemmas.Map.Keys.{IsDistinct-head, IsDistinct-tail}
 use Rattle.ds_policy.specs.declared.grant.Entry.{Entry}
 use Rattle.ds_policy.specs.declared.grant.EntryPlace.{EntryPlace}
@@ -137,6 +137,26 @@ put_places test g d q (e ∷ es) done distinct is = elim (cases_Bool (test e)) [
   | inr fails ↦
       rw (there test d e es distinct is fails, fails) (put_places test g d q es done (IsDistinct-tail has_same_address e es distinct) (in_tail test d e es is fails))
 ]
+
+-- Where the test holds of none of the first n it still holds of none of them.
+
+pub erased_before : (test : Entry → Bool) (d : Entry) (n : ℕ) (es : List Entry) → IsDistinct has_same_address es → first_where test es ≡ Some d
+    → All (λ (e : Entry). test e ≡ false) (take n es) → All (λ (e : Entry). test e ≡ false) (take n (erased d.address es))
+erased_before test d zero es distinct is before = All-nil (λ (e : Entry). test e ≡ false)
+erased_before test d (suc n) [] distinct is before = absurd cc
+erased_before test d (suc n) (e ∷ es) distinct is before =
+    let fails = All-head (λ (x : Entry). test x ≡ false) e (take n es) before in
+    let rest = erased_before test d n es (IsDistinct-tail has_same_address e es distinct) (in_tail test d e es is fails) (All-tail (λ (x : Entry). test x ≡ false) e (take n es) before) in
+    rw (there test d e es distinct is fails) (All-cons (λ (x : Entry). test x ≡ false) e (take n (erased d.address es)) fails rest)
+
+pub put_before : (test : Entry → Bool) (g : Grant) (d : Entry) (n : ℕ) (es : List Entry) → IsDistinct has_same_address es → first_where test es ≡ Some d
+    → All (λ (e : Entry). test e ≡ false) (take n es) → All (λ (e : Entry). test e ≡ false) (take n (put es d.address g))
+put_before test g d zero es distinct is before = All-nil (λ (e : Entry). test e ≡ false)
+put_before test g d (suc n) [] distinct is before = absurd cc
+put_before test g d (suc n) (e ∷ es) distinct is before =
+    let fails = All-head (λ (x : Entry). test x ≡ false) e (take n es) before in
+    let rest = put_before test g d n es (IsDistinct-tail has_same_address e es distinct) (in_tail test d e es is fails) (All-tail (λ (x : Entry). test x ≡ false) e (take n es) before) in
+    rw (there test d e es distinct is fails) (All-cons (λ (x : Entry). test x ≡ false) e (take n (put es d.address g)) fails rest)
 
 -- Where there is no first, nothing is left to do.
 no_first : (test : Entry → Bool) (e : Entry) (es : List Entry) → first_where test (e ∷ es) ≡ None → (test e ≡ false) × (first_where test es ≡ None)

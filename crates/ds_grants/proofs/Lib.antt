@@ -37,6 +37,7 @@ pub mod PageAnew
 pub mod Parents
 pub mod Puts
 pub mod Receivers
+pub mod Seen
 pub mod RegionsSeen
 pub mod RuleWords
 pub mod Sizes

@@ -70,6 +70,10 @@ seen_new address entries at r d seen within is new room before = record {
   few = omega (arith, length_push seen r);
 }
 
+-- a region that was seen last is one of them
+pub seen_last : (a : ℕ) (seen : List ℕ) → has a (seen ++ a ∷ []) ≡ true
+seen_last a seen = has_behind a seen (a ∷ []) (let here : (a == a) ≡ true = grind (arith, nat_tests) in rw here refl)
+
 -- a fifth region beside four that were seen
 pub seen_fifth : (address : ℕ) (entries : List Entry) (at r : ℕ) (d : Entry) (seen : List ℕ) → at < length entries → r ≡ region (get_or entries at d).address → has r seen ≡ false → length seen ≡ 4 → HasSeen address entries at seen → nat_lt 4 (count_distinct (region address ∷ regions_of entries)) ≡ true
 seen_fifth address entries at r d seen within is new full before =

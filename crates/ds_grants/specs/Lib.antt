@@ -6,6 +6,7 @@ pub mod Counts
 pub mod Words
 pub mod Buffer
 pub mod Changes
+pub mod Children
 pub mod Represented
 pub mod Order
 pub mod Origins

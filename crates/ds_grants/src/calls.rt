@@ -135,7 +135,7 @@ impl Grants {
             }),
             ..grant
         };
-        self.put(receiver, to, shared, memory, tables, spaces, tlb);
+        self.put(receiver, to, 0, shared, memory, tables, spaces, tlb);
     }
 
     /// Gives a copy of a page that a process has. It lies in the page's frame, which nobody may write
@@ -193,7 +193,7 @@ impl Grants {
                 until: None,
                 ..grant
             };
-            self.put(receiver, to, copy, memory, tables, spaces, tlb);
+            self.put(receiver, to, 0, copy, memory, tables, spaces, tlb);
         }
     }
 

@@ -61,7 +61,7 @@ impl Grants {
             parent: None,
             until: None,
         };
-        self.put(process, addr, grant, memory, tables, spaces, tlb);
+        self.put(process, addr, 0, grant, memory, tables, spaces, tlb);
         Ok(())
     }
 
@@ -97,7 +97,7 @@ impl Grants {
             right: Right::Read,
             ..grant
         };
-        self.put(process, addr, narrowed, memory, tables, spaces, tlb);
+        self.put(process, addr, place, narrowed, memory, tables, spaces, tlb);
         Ok(())
     }
 
@@ -131,7 +131,7 @@ impl Grants {
     {
         let place = self.table.likely_place(process, addr);
         self.granted_to(process, addr, place)?;
-        self.forbid(process, addr, rule, memory, tables, spaces, tlb);
+        self.forbid(process, addr, place, rule, memory, tables, spaces, tlb);
         Ok(())
     }
 

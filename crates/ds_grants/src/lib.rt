@@ -6,6 +6,7 @@
 mod argument_checks;
 mod buffer_laws;
 mod calls;
+mod child;
 mod commands;
 mod ends;
 mod families;

@@ -1,12 +1,15 @@
 //! From which addresses of a process something may have been shared, and which processes may have it.
-ghost use Rattle.std.specs.Prelude.{◌≡◌, ◌≢◌, ◌==◌, ℕ, false, [], position, None};
-ghost use Rattle.ds_grants.specs.Origins.{Has, of_others, receivers_of};
+ghost use Rattle.std.specs.Prelude.{◌≡◌, ◌≢◌, ◌==◌, ◌<◌, ℕ, true, false, [], position, slice_index_or, None};
+ghost use Rattle.ds_grants.specs.Origins.{Has, of_others, receivers_of, slot_of, AreSeen};
 
 use arrayvec::ArrayVec;
 use std::marker::Model;
 
 /// How many addresses of a process are told apart: twice as many as it can have entries.
 const MOST: usize = 512;
+
+/// How many slots there are for addresses.
+const SLOTS: usize = 512;
 
 /// The set of all processes.
 pub(crate) const EVERYONE: u128 = u128::MAX;
@@ -36,15 +39,20 @@ impl Default for Origin {
 #[derive(Drop)]
 pub(crate) struct Origins {
     known: ArrayVec<Origin, MOST>,
+    /// For each slot whether an address that has it was ever known: one whose slot isn't seen needs no
+    /// search.
+    seen: [bool; SLOTS],
     overflowed: bool,
 }
 
 impl Model for Origins {
-    ghost use Rattle.ds_grants.specs.Origins.{OriginsState};
+    ghost use Rattle.ds_grants.specs.Origins.{OriginsState, AreSeen};
 
     ghost Value = { OriginsState };
 
     ghost view = { λ o. record { known = o.known.items; overflowed = o.overflowed } };
+
+    ghost invariant = { λ o. AreSeen o.seen o.known.items };
 }
 
 impl Origins {
@@ -54,6 +62,7 @@ impl Origins {
     {
         Origins {
             known: ArrayVec::new(),
+            seen: [false; SLOTS],
             overflowed: false,
         }
     }
@@ -62,7 +71,7 @@ impl Origins {
     pub(crate) fn receivers(&self, addr: u32) -> u128
         ensures { result ≡ receivers_of self.now addr }
     {
-        match find(self.known.as_slice(), addr) {
+        match find(self.known.as_slice(), &self.seen, addr) {
             Some(i) => self.known[i].receivers,
             None => of_others(self.overflowed),
         }
@@ -91,7 +100,7 @@ impl Origins {
         ensures kept { (a q : ℕ) → Has (receivers_of self.old a) q
             → Has (receivers_of self.new a) q }
     {
-        match find(self.known.as_slice(), addr) {
+        match find(self.known.as_slice(), &self.seen, addr) {
             Some(i) => self.known[i].receivers |= receivers,
             None => self.append(addr, receivers),
         }
@@ -104,7 +113,7 @@ impl Origins {
         ensures others { (a q : ℕ) → a ≢ addr → Has (receivers_of self.old a) q
             → Has (receivers_of self.new a) q }
     {
-        match find(self.known.as_slice(), addr) {
+        match find(self.known.as_slice(), &self.seen, addr) {
             Some(i) => self.known.remove(i).receivers,
             None => of_others(self.overflowed),
         }
@@ -123,6 +132,7 @@ impl Origins {
         if self.known.is_full() {
             self.overflowed = true;
         } else {
+            self.seen[slot_of(addr)] = true;
             self.known.push(Origin {
                 address: addr,
                 receivers,
@@ -131,10 +141,32 @@ impl Origins {
     }
 }
 
+/// The slot of an address, by the number of its page.
+fn slot_of(addr: u32) -> usize
+    ensures value { result ≡ slot_of addr }
+    ensures within { result < 512 }
+{
+    (addr / 4096) as usize % SLOTS
+}
+
+/// Whether an address that has the slot of this one was ever known.
+fn is_seen(seen: &[bool], addr: u32) -> bool
+    ensures { result ≡ slice_index_or seen.now (slot_of addr) true }
+{
+    match seen.get(slot_of(addr)) {
+        Some(is_seen) => *is_seen,
+        None => true,
+    }
+}
+
 /// Where an address is known.
-fn find(known: &[Origin], addr: u32) -> Option<usize>
+fn find(known: &[Origin], seen: &[bool], addr: u32) -> Option<usize>
+    requires { AreSeen seen.now known.now }
     ensures { result ≡ position (λ o. o.address == addr) known.now }
 {
+    if !is_seen(seen, addr) {
+        return None;
+    }
     known.iter().position(|origin| origin.address == addr)
 }
 

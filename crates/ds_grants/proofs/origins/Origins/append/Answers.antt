@@ -1,6 +1,7 @@
 use Rattle.std.proofs.Common.{◌≡◌, true, None, position, sym, subst}
 use Rattle.ds_grants.specs.Origins.{OriginsState, Has, receivers_of}
 use Rattle.ds_grants.proofs.Known.{is_at, in_everyone, unknown_at, appended_at, kept_appended, kept_overflowed}
+use Rattle.ds_grants.proofs.Seen.{seen_more}
 use Rattle.ds_grants.proofs.origins.Origins.append.Goals as goal
 
 pub returns-then-self-clause-added : goal.returns-then-self-clause-added
@@ -29,3 +30,8 @@ returns-else-is_full-clause-kept c = λ a q h.
     let before = subst (λ (o : OriginsState). Has (receivers_of o a) q) (sym c.self.view_is) h in
     rw (c.push.ensures.items, c.if-self.false)
     (kept_appended c.self.inside.known.items (record { address = c.args.addr; receivers = c.args.receivers }) a q (rw c.if-self.false at before))
+
+pub invariant_of-self-else-is_full : goal.invariant_of-self-else-is_full
+invariant_of-self-else-is_full c =
+    rw (c.push.ensures.items, c.slot_of.ensures.value)
+    (seen_more c.self.inside.seen c.self.inside.known.items (record { address = c.args.addr; receivers = c.args.receivers }) c.self.invariant)

@@ -18,3 +18,6 @@ returns-in-None c =
     c.of_others.ensures
     ∙ sym (unknown_at c.self.inside.known.items c.self.inside.overflowed c.args.addr is)
     ∙ ap (λ (o : OriginsState). receivers_of o c.args.addr) c.self.view_is
+
+pub find-requires : goal.find-requires
+find-requires c = rw c.as_slice.ensures.value c.self.invariant

@@ -4,6 +4,7 @@ use Rattle.ds_grants.specs.declared.origins.Origin.{Origin}
 use Rattle.ds_grants.specs.Origins.{OriginsState, Has, receivers_of}
 use Rattle.ds_grants.proofs.Known.{is_at, known_at, unknown_at}
 use Rattle.ds_grants.proofs.Receivers.{others_stay}
+use Rattle.ds_grants.proofs.Seen.{seen_without}
 use Rattle.ds_grants.proofs.origins.Origins.take.Goals as goal
 
 pub returns-in-Some-clause-receivers : goal.returns-in-Some-clause-receivers
@@ -27,3 +28,9 @@ returns-in-None-clause-receivers c =
     c.of_others.ensures
     ∙ sym (unknown_at c.self.inside.known.items c.self.inside.overflowed c.args.addr is)
     ∙ ap (λ (o : OriginsState). receivers_of o c.args.addr) c.self.view_is
+
+pub find-requires : goal.find-requires
+find-requires c = rw c.as_slice.ensures.value c.self.invariant
+
+pub invariant_of-self : goal.invariant_of-self
+invariant_of-self c = rw c.remove.ensures.items (seen_without c.self.inside.seen c.self.inside.known.items c.in-Some.i c.self.invariant)
