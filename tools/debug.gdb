@@ -2,8 +2,6 @@
 set architecture mips:3000
 # Processes of a run are gdb's processes, and all of them go.
 set schedule-multiple on
-# A watch is a step and a look at a time: the program tells gdb of no watch of its own.
-set can-use-hw-watchpoints 0
 define dsmon
   if $argc == 3
     target remote | dsmon debug $arg0 $arg1 $arg2

@@ -26,8 +26,6 @@ import sys
 import time
 from pathlib import Path
 
-sys.dont_write_bytecode = True
-
 TOP = Path(__file__).resolve().parent.parent
 SECONDS = 60
 

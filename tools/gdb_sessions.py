@@ -16,8 +16,6 @@ import sys
 import tempfile
 from pathlib import Path
 
-sys.dont_write_bytecode = True
-
 TOP = Path(__file__).resolve().parent.parent
 SECONDS = 120
 
@@ -26,12 +24,12 @@ SESSIONS = {
     "a denial, forward": (
         "examples", "denied_store.toml", "denied_store.input", 1000, "denied_store.s", 1,
         ["next", "next", "info registers t0 t1", "continue", "monitor table", "monitor log", "x/x $t0+8", "continue"],
-        ["t0: 0x410000", "t1: 0x0", "denied 5 1 00400014 store 00410008 r2 1", "SIGSEGV", "1 00410000 read", "5 1 00400014 store 00410008 r2 1", "0x410008:", "No more reverse-execution history"],
+        ["t0: 0x410000", "t1: 0x0", "L5 1 00400014 store 00410008 r2 1", "SIGSEGV", "1 00410000 read", "5 1 00400014 store 00410008 r2 1", "0x410008:", "No more reverse-execution history"],
     ),
     "a denial, backward": (
         "examples", "denied_store.toml", "denied_store.input", 1000, "denied_store.s", 1,
         ["continue", "reverse-stepi", "info registers pc", "monitor time", "reverse-continue", "monitor time"],
-        ["SIGSEGV", "0x400010", "time 4 of 1000, goes on", "No more reverse-execution history", "time 0 of 1000, goes on"],
+        ["SIGSEGV", "0x400014", "time 5 of 1000, goes on", "No more reverse-execution history", "time 0 of 1000, goes on"],
     ),
     "two processes": (
         "examples", "ping_pong.toml", "ping_pong.input", 100000, "ping_pong.s", 2,
@@ -40,17 +38,18 @@ SESSIONS = {
     ),
     "a lost update": (
         "examples/labs", "lost_update.toml", "nothing.input", 1000, "lost_update.s", 2,
-        ["at 131", "x/x 0x410000", "reverse-stepi", "monitor time", "x/x 0x410000", "info registers t2"],
-        ["0x410000:\t0x00000013", "time 129 of 1000, goes on", "0x410000:\t0x00000018", "t2: 0x13"],
+        ["at 131", "x/x 0x410000", "watch *(int*)0x410000", "reverse-continue", "monitor time", "x/x 0x410000", "info registers t2", "continue", "monitor time", "delete", "continue", "inferior 2", "x/x 0x410000", "info threads"],
+        ["0x410000:\t0x00000013", "Old value = 19", "New value = 24", "time 129 of 1000, goes on", "0x410000:\t0x00000018", "t2: 0x13", "Old value = 24", "New value = 19", "time 132 of 1000, goes on",
+         "No more reverse-execution history", "0x410000:\t0x0000003a", "process 2 ready, runs"],
     ),
     "what is refused": (
         "examples", "hello.toml", "hello.input", 100, "hello.s", 1,
-        ["set var $t0 = 4", "x/x 0x80000000", "stepi", "info registers pc"],
-        ["0x80000000:", "Cannot access memory", "0x400004"],
+        ["set var $t0 = 4", "x/x 0x80000000", "stepi", "info registers pc", "rwatch *(int*)0x400000", "continue", "delete", "continue", "continue", "x/x 0x400000"],
+        ["0x80000000:", "Cannot access memory", "0x400004", "Could not insert hardware", "No more reverse-execution history", "No more reverse-execution history", "0x3c100040"],
     ),
 }
 RANDOM = [("examples", "ping_pong.toml", "ping_pong.input", 1000, "ping_pong.s", 2), ("examples", "hello.toml", "hello.input", 100, "hello.s", 1)]
-MOVES = ["stepi", "reverse-stepi", "next", "reverse-next", "step", "reverse-step", "continue", "reverse-continue", "info registers pc", "info threads", "x/4x 0x400000"]
+MOVES = ["stepi", "reverse-stepi", "next", "reverse-next", "step", "reverse-step", "continue", "reverse-continue", "info registers pc", "info threads", "x/4x 0x400000", "watch *(int*)0x410000", "delete"]
 
 
 def made_elf(folder, source, to):

@@ -1,23 +1,16 @@
 #!/usr/bin/env python3
 """Tests debug_sessions.py, and that gdb_sessions.py names what there is."""
-import sys
-import tempfile
 import unittest
-from pathlib import Path
-
-sys.dont_write_bytecode = True
-sys.path.insert(0, str(Path(__file__).resolve().parent))
 
 import debug_sessions as sessions
 import gdb_sessions
+from rooms import InARoom, placed
 
 
-class Sessions(unittest.TestCase):
+class Sessions(InARoom):
     def session(self, text):
-        with tempfile.TemporaryDirectory() as folder:
-            path = Path(folder) / "one.session"
-            path.write_text(text, "utf-8")
-            return sessions.Session(path)
+        placed(self.room, {"one.session": text})
+        return sessions.Session(self.room / "one.session")
 
     def test_a_packet_has_its_sum(self):
         self.assertEqual(sessions.framed("?"), b"$?#3f")

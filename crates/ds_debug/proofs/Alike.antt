@@ -1,10 +1,10 @@
 -- Between two turns a debugger sees of a station what it would see of each machine state that the station stands for.
-use Rattle.std.proofs.Common.{◌≡◌, ℕ, zero, suc, ◌+◌, ◌<◌, ◌≤◌, Bool, true, false, cond, nat_lt, nat_le, List, [], ◌++◌, length, Option, refl, sym, ap, ◌∙◌, arith}
+use Rattle.std.proofs.Common.{◌≡◌, ℕ, zero, suc, ◌+◌, ◌<◌, Bool, true, false, cond, nat_lt, nat_le, List, [], ◌++◌, Option, refl, sym, ap, ◌∙◌, arith}
 use Rattle.std.specs.Prelude.{◌&&◌, codes, slice_index_or}
 use Rattle.std.proofs.lemmas.Bool.Decides.{nat_tests}
 use Rattle.ds_packets.specs.Framing.{frame, hex_text}
 use Rattle.ds_packets.specs.declared.packet.Packet.{Packet}
-use Rattle.ds_packets.specs.declared.packet.Packet.TheVariants.{Supported, NoAcknowledgements, Description, Why, FirstThreads, MoreThreads, ThreadInfo, Monitor, StopAt, Attached, Current, Alive, Look, Go, Registers, Register, Memory, Write, Break, Unbreak, Actions, Resume, Forward, Backward, Leave, End}
+use Rattle.ds_packets.specs.declared.packet.Packet.TheVariants.{Supported, NoAcknowledgements, Description, Why, FirstThreads, MoreThreads, ThreadInfo, Monitor, StopAt, Attached, Current, Alive, Look, Go, Registers, Register, Memory, Write, Break, Unbreak, Watch, Unwatch, Actions, Resume, Forward, Backward, Leave, End}
 use Rattle.ds_packets.specs.declared.packet.Report.{Report}
 use Rattle.ds_packets.specs.declared.packet.Report.TheVariants as report
 use Rattle.ds_packets.specs.declared.packet.Who.{Who}
@@ -119,6 +119,8 @@ module _ (v w : Sight) (a : IsAlike v w) where
   answer_alike p (Go processes) = refl
   answer_alike p (Break address) = refl
   answer_alike p (Unbreak address) = refl
+  answer_alike p (Watch address size) = refl
+  answer_alike p (Unwatch address size) = refl
   answer_alike p Resume = refl
   answer_alike p (Forward action) = refl
   answer_alike p (Backward action) = refl
@@ -159,6 +161,8 @@ module _ (v w : Sight) (a : IsAlike v w) where
   plain_alike s (Go processes) = there_text_alike processes
   plain_alike s (Break address) = refl
   plain_alike s (Unbreak address) = refl
+  plain_alike s (Watch address size) = refl
+  plain_alike s (Unwatch address size) = refl
   plain_alike s End = refl
   plain_alike s (Supported multiple) = looked_alike s (Supported multiple)
   plain_alike s (Description offset size) = looked_alike s (Description offset size)

@@ -1,5 +1,5 @@
 -- A run that goes forward, turn by turn.
-use Rattle.std.proofs.Common.{◌≡◌, ℕ, ◌+◌, ◌≤◌, Bool, true, false, [], ◌∷◌, length, Option, None, refl, sym, ap, subst, ◌∙◌, arith}
+use Rattle.std.proofs.Common.{◌≡◌, ℕ, ◌+◌, ◌≤◌, Bool, true, false, List, [], ◌∷◌, length, Option, None, refl, sym, ap, subst, ◌∙◌, arith}
 use Rattle.std.specs.Prelude.{◌||◌, ◌&&◌, nat_lt, not, is_some}
 use Rattle.std.proofs.lemmas.Bool.Decides.{nat_tests}
 use Rattle.ds_pagemap.specs.Machine.{first}
@@ -10,7 +10,9 @@ use Rattle.ds_refinement.specs.Runs.{RunsWithin, held_goes_on}
 use Rattle.ds_refinement.proofs.RunSteps.{within_start}
 use Rattle.ds_station.proofs.InPieces.{no_steps}
 use Rattle.ds_debug.specs.Goals.{Goal, stop_after}
-use Rattle.ds_debug.specs.Forward.{HasPassed, IsTurn, stop_between}
+use Rattle.ds_debug.specs.Watches.{all_seen}
+use Rattle.ds_debug.specs.declared.watches.Seen.{Seen}
+use Rattle.ds_debug.specs.Forward.{HasPassed, IsOnward, stop_between}
 use Rattle.ds_debug.specs.Answering.{is_back}
 use Rattle.ds_debug.specs.declared.goals.Stop.{Stop}
 use Rattle.ds_debug.specs.declared.session.Course.{Course}
@@ -22,13 +24,15 @@ pub none_passed : (g : Goal) (n : ℕ) (h : Held) → HasPassed g n h h
 none_passed g n h = record { path = []; passes = refl }
 
 -- what stops after a turn, by what was looked at before it
-pub stop_told : (g : Goal) (last new : Held) (runner : Option ℕ) (logged : ℕ) (stop : Option Stop) → runner ≡ first last.kept.state.ready → logged ≡ length last.kept.log → stop ≡ stop_after g runner logged new → stop_between g last new ≡ stop
-stop_told g last new runner logged stop runs had is =
-    ap (λ (r : Option ℕ). stop_after g r (length last.kept.log) new) (sym runs)
-    ∙ (ap (λ (l : ℕ). stop_after g runner l new) (sym had) ∙ sym is)
+pub stop_told : (g : Goal) (last new : Held) (runner : Option ℕ) (logged : ℕ) (seen : List Seen) (stop : Option Stop)
+    → runner ≡ first last.kept.state.ready → logged ≡ length last.kept.log → seen ≡ all_seen last g.watchpoints → stop ≡ stop_after g.aim runner logged seen new → stop_between g last new ≡ stop
+stop_told g last new runner logged seen stop runs had saw is =
+    ap (λ (r : Option ℕ). stop_after g.aim r (length last.kept.log) (all_seen last g.watchpoints) new) (sym runs)
+    ∙ (ap (λ (l : ℕ). stop_after g.aim runner l (all_seen last g.watchpoints) new) (sym had)
+    ∙ (ap (λ (s : List Seen). stop_after g.aim runner logged s new) (sym saw) ∙ sym is))
 
 -- one more turn has passed
-pub one_passed : (g : Goal) (n : ℕ) (old last new : Held) → HasPassed g n old last → IsTurn n last new → stop_between g last new ≡ None → HasPassed g n old new
+pub one_passed : (g : Goal) (n : ℕ) (old last new : Held) → HasPassed g n old last → IsOnward n last new → stop_between g last new ≡ None → HasPassed g n old new
 one_passed g n old last new passed turn none = record { path = last ∷ passed.path; passes = (turn, none, passed.passes) }
 
 -- where time is left and the run does not go on, nobody is left

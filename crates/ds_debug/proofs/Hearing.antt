@@ -1,11 +1,11 @@
 -- A stream of bytes is heard one by one, and in chunks, as it is heard at once.
-use Rattle.std.proofs.Common.{◌≡◌, ℕ, Bool, true, false, List, [], ◌∷◌, ◌++◌, Option, Some, None, Result, append_assoc, append-nil, refl, sym, ap, subst, ◌∙◌}
+use Rattle.std.proofs.Common.{◌≡◌, ℕ, Bool, true, false, List, [], ◌∷◌, ◌++◌, Option, Result, append_assoc, append-nil, refl, sym, ap, subst, ◌∙◌}
 use Rattle.ds_packets.specs.Scanning.{came, scanned}
 use Rattle.ds_packets.specs.Scans.{Scan, Between}
 use Rattle.ds_packets.specs.Streams.{Piece, Splits, all_came, all_said, listed}
 use Rattle.ds_packets.proofs.Pieces.{came_pieces}
 use Rattle.ds_packets.specs.declared.scan.PacketFault.{PacketFault}
-use Rattle.ds_debug.specs.Streams.{ExchangeState, Hears, HearsAll, HearsBy, HearsLive, HearsOne, Marks, StreamState, scan_through}
+use Rattle.ds_debug.specs.Streams.{ExchangeState, Hears, HearsAll, HearsBy, HearsLive, HearsOne, StreamState, scan_through}
 
 -- what comes of bytes, and then of more
 pub came_both : (s : Scan) (xs ys : List ℕ) → all_came s (xs ++ ys) ≡ all_came s xs ++ all_came (scan_through s xs) ys

@@ -4,6 +4,8 @@ pub mod Shown
 pub mod Going
 pub mod Returning
 pub mod Acting
+pub mod Watching
+pub mod Exiting
 pub mod Settings
 pub mod Alike
 pub mod Looking

@@ -12,36 +12,34 @@ use Rattle.ds_refinement.specs.Runs.{RunsWithin}
 use Rattle.ds_refinement.proofs.Joined.{path_join}
 use Rattle.ds_refinement.proofs.RunSteps.{within_start}
 use Rattle.ds_station.proofs.InPieces.{to_within, within_join}
-use Rattle.ds_debug.specs.Backward.{ComesBack, FindsIn, ReturnsBy, back_process, back_reason, back_time, earlier, until_of}
+use Rattle.ds_debug.specs.Backward.{ComesBack, FindsIn, ReturnsBy, back_process, back_reason, back_time, until_of}
 use Rattle.ds_debug.specs.Forward.{IsTurn}
-use Rattle.ds_debug.specs.Goals.{Goal}
+use Rattle.ds_debug.specs.Goals.{Goal, goal_with}
 use Rattle.ds_debug.specs.Inputs.{IsAt, IsReached, RunInputs}
-use Rattle.ds_debug.specs.Places.{Finds, HasFound, began_at, or_else, place_after}
+use Rattle.ds_debug.specs.Places.{Finds, HasFound, began_at, earlier, or_else, place_after}
 use Rattle.ds_debug.specs.Resumes.{asked_of, goal_of}
 use Rattle.ds_debug.specs.Sessions.{SessionState, named_or}
 use Rattle.ds_debug.specs.Stops.{stop_text}
 use Rattle.ds_debug.specs.Times.{asked_after, asked_place}
+use Rattle.ds_debug.specs.Watches.{all_seen}
 use Rattle.ds_debug.specs.declared.goals.Breakpoint.{Breakpoint}
+use Rattle.ds_debug.specs.declared.watches.Watchpoint.{Watchpoint}
 use Rattle.ds_debug.specs.declared.places.Place.{Place}
 use Rattle.ds_debug.specs.declared.places.Sought.{Sought}
 use Rattle.ds_debug.specs.declared.places.Sought.TheVariants.{LastTurn, LastStop}
 use Rattle.ds_debug.specs.declared.stops.Reason.{Reason}
-
--- these actions and breakpoints
-abbrev pub goal_with : List (Option Action) → List Breakpoint → Goal
-goal_with actions breakpoints = record { actions = actions; breakpoints = breakpoints }
 
 -- on no turn nothing is found
 pub none_found : (s : Sought) (g : Goal) (until : ℕ) (h : Held) → HasFound s g until None h h
 none_found s g until h = record { path = []; turns = refl; last = refl }
 
 -- on one turn more
-pub one_found : (s : Sought) (g : Goal) (until : ℕ) (place found : Option Place) (old last new : Held) → HasFound s g until place old last → IsTurn until last new → found ≡ place_after s g until (began_at last) new
+pub one_found : (s : Sought) (g : Goal) (until : ℕ) (place found : Option Place) (old last new : Held) → HasFound s g until place old last → IsTurn until last new → found ≡ place_after s g.aim until (began_at last) (all_seen last g.watchpoints) new
     → HasFound s g until (or_else found place) old new
 one_found s g until place found old last new before turn is = record {
   path = last ∷ before.path;
   turns = (turn, before.turns);
-  last = ap (λ (p : Option Place). or_else p place) is ∙ ap (or_else (place_after s g until (began_at last) new)) before.last;
+  last = ap (λ (p : Option Place). or_else p place) is ∙ ap (or_else (place_after s g.aim until (began_at last) (all_seen last g.watchpoints) new)) before.last;
 }
 
 -- what is true of both is true of the first, or else the second
@@ -76,21 +74,21 @@ pub finds_alike : (s : Sought) (g k : Goal) (until time : ℕ) (place : Option P
 finds_alike s g k until time place old new same is f =
     subst (λ (t : ℕ). Finds s k t place old new) is (subst (λ (x : Goal). Finds s x until place old new) same f)
 
--- goals with the same actions and breakpoints
-pub goals_alike : (a b : List (Option Action)) (x y : List Breakpoint) → a ≡ b → x ≡ y → goal_with a x ≡ goal_with b y
-goals_alike a b x y same is = ap (λ (l : List (Option Action)). goal_with l x) same ∙ ap (goal_with b) is
+-- goals with the same actions, breakpoints and watches
+pub goals_alike : (a b : List (Option Action)) (x y : List Breakpoint) (v w : List Watchpoint) → a ≡ b → x ≡ y → v ≡ w → goal_with a x v ≡ goal_with b y w
+goals_alike a b x y v w same is saw = ap (λ (l : List (Option Action)). goal_with l x v) same ∙ (ap (λ (l : List Breakpoint). goal_with b l v) is ∙ ap (goal_with b y) saw)
 
 -- the earlier of two times, by the time that was looked at
 pub until_alike : (until time now limit : ℕ) → until ≡ earlier time limit → time ≡ now → until ≡ earlier now limit
 until_alike until time now limit is same = is ∙ ap (λ (t : ℕ). earlier t limit) same
 
-back_early_by : (s : Sought) (place : Option Place) (until limit : ℕ) → until ≤ limit → IfSome place (λ p. p.time < until) → IfSome (back_time s place) (λ t. t ≤ limit)
+back_early_by : (s : Sought) (place : Option Place) (until limit : ℕ) → until ≤ limit → IfSome place (λ p. p.time ≤ until) → IfSome (back_time s place) (λ t. t ≤ limit)
 back_early_by s (Some place) until limit le early = omega (arith, le, early)
 back_early_by LastStop None until limit le early = omega arith
 back_early_by (LastTurn p) None until limit le early = tt
 
--- a place before a time of a run is one to which the run can go back
-pub back_early : (s : Sought) (place : Option Place) (until limit : ℕ) (to : Option ℕ) → until ≤ limit → to ≡ back_time s place → IfSome place (λ p. p.time < until) → IfSome to (λ t. t ≤ limit)
+-- a place up to a time of a run is one to which the run can go back
+pub back_early : (s : Sought) (place : Option Place) (until limit : ℕ) (to : Option ℕ) → until ≤ limit → to ≡ back_time s place → IfSome place (λ p. p.time ≤ until) → IfSome to (λ t. t ≤ limit)
 back_early s place until limit to le is early = subst (λ (o : Option ℕ). IfSome o (λ t. t ≤ limit)) (sym is) (back_early_by s place until limit le early)
 
 -- the process that goes back has a small number

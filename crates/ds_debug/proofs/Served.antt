@@ -1,23 +1,22 @@
 -- What is written while bytes are read is what is heard of them, one after another.
 use Rattle.std.proofs.Common.{◌≡◌, ◌⊎◌, inl, inr, ℕ, Bool, true, false, List, [], ◌∷◌, ◌++◌, append_assoc, append-nil, refl, sym, ap, subst, ◌∙◌}
-use Rattle.std.specs.Prelude.{Option, Some, None, Result, Ok, Err}
+use Rattle.std.specs.Prelude.{Option, Result, Ok, Err}
 use Rattle.std.specs.Io.KnownBytes.{Appends, Consumes, Keeps}
 use Rattle.std.proofs.KnownBytes.{Consumes-nil, Consumes-trans, Consumes-kept}
 use Rattle.ds_log.specs.Sent.{AppendsPart}
 use Rattle.ds_log.proofs.Sends.{appends_both, appends_none, part_before, part_behind}
 use Rattle.ds_packets.specs.Packets.{packet_of}
 use Rattle.ds_packets.specs.Scanning.{came, scanned, start}
-use Rattle.ds_packets.specs.Scans.{Scan}
 use Rattle.ds_packets.specs.Streams.{all_came, listed}
 use Rattle.ds_packets.specs.declared.packet.Packet.{Packet}
 use Rattle.ds_packets.specs.declared.packet.Refusal.{Refusal}
 use Rattle.ds_packets.specs.declared.scan.PacketFault.{PacketFault}
 use Rattle.ds_station.specs.declared.fault.Fault.{Fault}
-use Rattle.ds_debug.specs.Answering.{Answers, AnswersBy, AnswersWhere, course_by}
+use Rattle.ds_debug.specs.Answering.{AnswersBy, AnswersWhere, course_by}
 use Rattle.ds_debug.specs.Serving.{DebugEndsBy, Debugs, EndsSo, IsCutAt, IsCutIn, IsLate, Pipes, ServedPart, Serves, ServesPart, WritesFront, WritesSo, pipes, stream_at}
 use Rattle.ds_debug.specs.Inputs.{IsBeginning, RunInputs}
 use Rattle.ds_debug.specs.Sessions.{SessionState, begun}
-use Rattle.ds_debug.specs.Streams.{AnswersWords, ExchangeState, Hears, HearsAll, HearsBy, HearsLive, HearsOne, HearsWords, StreamState, mark_text, scan_through}
+use Rattle.ds_debug.specs.Streams.{AnswersWords, ExchangeState, Hears, HearsAll, HearsBy, HearsLive, HearsWords, StreamState, mark_text}
 use Rattle.ds_debug.specs.declared.serving.Ending.{Ending}
 use Rattle.ds_debug.specs.declared.session.Course.{Course}
 use Rattle.ds_debug.specs.declared.session.Course.TheVariants as course

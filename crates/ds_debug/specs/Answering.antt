@@ -3,7 +3,7 @@ use Rattle.std.specs.Prelude.{◌≡◌, ⊤, codes, ℕ, Bool, true, false, Lis
 use Rattle.ds_packets.specs.Framing.{frame}
 use Rattle.ds_packets.specs.Packets.{packet_of}
 use Rattle.ds_packets.specs.declared.packet.Packet.{Packet}
-use Rattle.ds_packets.specs.declared.packet.Packet.TheVariants.{NoAcknowledgements, Why, Monitor, StopAt, Look, Go, Break, Unbreak, Resume, Forward, Backward, End}
+use Rattle.ds_packets.specs.declared.packet.Packet.TheVariants.{NoAcknowledgements, Why, Monitor, StopAt, Look, Go, Break, Unbreak, Watch, Unwatch, Resume, Forward, Backward, End}
 use Rattle.ds_packets.specs.declared.packet.Refusal.{Refusal}
 use Rattle.ds_packets.specs.declared.packet.Refusal.TheVariants.{Unknown, Malformed}
 use Rattle.ds_pagemap.specs.Machine.{State}
@@ -31,6 +31,8 @@ after_plain s (Look w) = after_setting s (Look w)
 after_plain s (Go w) = after_setting s (Go w)
 after_plain s (Break a) = after_setting s (Break a)
 after_plain s (Unbreak a) = after_setting s (Unbreak a)
+after_plain s (Watch a l) = after_setting s (Watch a l)
+after_plain s (Unwatch a l) = after_setting s (Unwatch a l)
 after_plain s other = s
 
 -- and what is answered, where this is seen
@@ -43,6 +45,8 @@ plain_text v s (Look w) = frame (setting_text v s (Look w))
 plain_text v s (Go w) = frame (setting_text v s (Go w))
 plain_text v s (Break a) = frame (setting_text v s (Break a))
 plain_text v s (Unbreak a) = frame (setting_text v s (Unbreak a))
+plain_text v s (Watch a l) = frame (setting_text v s (Watch a l))
+plain_text v s (Unwatch a l) = frame (setting_text v s (Unwatch a l))
 plain_text v s End = []
 plain_text v s other = frame (answer_text v s.process other)
 

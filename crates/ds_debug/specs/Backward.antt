@@ -1,12 +1,12 @@
 -- Packets after which a session goes back.
-use Rattle.std.specs.Prelude.{◌≡◌, ℕ, ◌==◌, nat_lt, if◌then◌else◌, List, [], ◌++◌, Option, Some, None}
+use Rattle.std.specs.Prelude.{◌≡◌, ℕ, ◌==◌, if◌then◌else◌, List, [], ◌++◌, Option, Some, None}
 use Rattle.ds_packets.specs.Framing.{frame}
 use Rattle.ds_packets.specs.declared.packet.Action.{Action}
 use Rattle.ds_packets.specs.declared.packet.Action.TheVariants.{Continue}
 use Rattle.ds_refinement.specs.Held.{Held}
 use Rattle.ds_debug.specs.Goals.{Goal}
 use Rattle.ds_debug.specs.Inputs.{IsAt, IsBeginning, RunInputs}
-use Rattle.ds_debug.specs.Places.{Finds, sought_by}
+use Rattle.ds_debug.specs.Places.{Finds, earlier, sought_by}
 use Rattle.ds_debug.specs.Resumes.{asked_of, goal_of}
 use Rattle.ds_debug.specs.Sessions.{SessionState, named_or}
 use Rattle.ds_debug.specs.Stops.{stop_text}
@@ -20,10 +20,6 @@ use Rattle.ds_debug.specs.declared.stops.Reason.TheVariants.{Begin, Signal}
 -- the process that goes back: the one that is named to go, or else the one that is looked at
 abbrev pub back_of : SessionState → ℕ
 back_of s = named_or s.going s.process
-
--- the earlier of two times
-abbrev pub earlier : ℕ → ℕ → ℕ
-earlier t n = if nat_lt t n then t else n
 
 -- up to when a run is looked through: to the time of the session, or to the end of the run
 abbrev pub until_of : SessionState → ℕ

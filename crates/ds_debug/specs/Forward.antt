@@ -1,10 +1,15 @@
 -- How a run goes forward, turn by turn, to where something stops.
-use Rattle.std.specs.Prelude.{◌≡◌, ◌<◌, ◌≤◌, ℕ, ◌+◌, false, List, [], ◌∷◌, length, Option, Some, None}
+use Rattle.std.specs.Prelude.{◌≡◌, ◌<◌, ◌≤◌, ◌⊎◌, ℕ, ◌+◌, true, false, List, [], ◌∷◌, length, Option, Some, None}
 use Rattle.ds_pagemap.specs.Machine.{first}
 use Rattle.ds_refinement.specs.Held.{Held}
 use Rattle.ds_refinement.specs.Real.{RealPath}
 use Rattle.ds_refinement.specs.Runs.{RunsTo, held_goes_on}
+use Rattle.ds_station.specs.Runs.{IsCut}
+use Rattle.ds_station.specs.declared.fault.Fault.{Fault}
+use Rattle.ds_station.specs.declared.fault.Fault.TheVariants.{Memory}
+use Rattle.ds_debug.specs.Exits.{exits_next}
 use Rattle.ds_debug.specs.Goals.{Goal, stop_after}
+use Rattle.ds_debug.specs.Watches.{all_seen}
 use Rattle.ds_debug.specs.declared.goals.Stop.{Stop}
 
 -- a turn of a run for n
@@ -16,12 +21,17 @@ pub record IsTurn (n : ℕ) (old new : Held) : Type 0 where
 
 -- what stops after it
 abbrev pub stop_between : Goal → Held → Held → Option Stop
-stop_between g old new = stop_after g (first old.kept.state.ready) (length old.kept.log) new
+stop_between g old new = stop_after g.aim (first old.kept.state.ready) (length old.kept.log) (all_seen old g.watchpoints) new
+
+-- a turn that is not the exit of the last process
+pub record IsOnward (n : ℕ) (old new : Held) : Type 0 where
+  pub turn : IsTurn n old new
+  pub stays : exits_next old ≡ false
 
 -- by these turns, the newest first, after none of which something stops
 abbrev pub Passes : Goal → ℕ → Held → List Held → Held → Type 0
 Passes g n old [] new = new ≡ old
-Passes g n old (last ∷ before) new = IsTurn n last new × (stop_between g last new ≡ None) × Passes g n old before last
+Passes g n old (last ∷ before) new = IsOnward n last new × (stop_between g last new ≡ None) × Passes g n old before last
 
 -- it came so far without a stop
 pub record HasPassed (g : Goal) (n : ℕ) (old new : Held) : Type 0 where
@@ -32,15 +42,19 @@ pub record HasPassed (g : Goal) (n : ℕ) (old new : Held) : Type 0 where
 pub record HasStopped (g : Goal) (n : ℕ) (stop : Stop) (old new : Held) : Type 0 where
   pub last : Held
   pub passed : HasPassed g n old last
-  pub turn : IsTurn n last new
+  pub turn : IsOnward n last new
   pub stops : stop_between g last new ≡ Some stop
 
--- or to the end of the run, with no stop before; no time has passed since the last turn
+-- or to the end of the run, or before the exit of the last process, with no stop before; no time has passed since the last turn
 pub record HasEnded (g : Goal) (n : ℕ) (old new : Held) : Type 0 where
   pub last : Held
   pub passed : HasPassed g n old last
   pub still : new.kept.state.time ≤ last.kept.state.time
-  pub over : held_goes_on n new ≡ false
+  pub over : (held_goes_on n new ≡ false) ⊎ (exits_next new ≡ true)
+
+-- it was cut short by this fault: the next step is refused, or memory ran out before a turn
+abbrev pub IsShort : Fault → Held → Held → Type 0
+IsShort f old new = IsCut f old new ⊎ ((f ≡ Memory) × RealPath old new)
 
 -- one of the two
 abbrev pub Goes : Goal → ℕ → Option Stop → Held → Held → Type 0

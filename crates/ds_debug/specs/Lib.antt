@@ -11,6 +11,8 @@ pub mod Reports
 pub mod Tables
 pub mod Answers
 pub mod Denials
+pub mod Watches
+pub mod Exits
 pub mod Goals
 pub mod Forward
 pub mod Inputs

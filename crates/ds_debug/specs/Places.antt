@@ -6,13 +6,19 @@ use Rattle.ds_pagemap.specs.Machine.{first}
 use Rattle.ds_refinement.specs.Held.{Held}
 use Rattle.ds_refinement.specs.Runs.{held_goes_on}
 use Rattle.ds_debug.specs.Forward.{IsTurn}
-use Rattle.ds_debug.specs.Goals.{Goal, stop_after}
+use Rattle.ds_debug.specs.Goals.{Aim, Goal, first_changed, stop_after}
+use Rattle.ds_debug.specs.Watches.{all_seen}
 use Rattle.ds_debug.specs.declared.goals.Stop.{Stop}
 use Rattle.ds_debug.specs.declared.places.Began.{Began}
 use Rattle.ds_debug.specs.declared.places.Place.{Place}
 use Rattle.ds_debug.specs.declared.places.Sought.{Sought}
 use Rattle.ds_debug.specs.declared.places.Sought.TheVariants.{LastTurn, LastStop}
+use Rattle.ds_debug.specs.declared.watches.Seen.{Seen}
 use Rattle.ds_debug.specs.declared.stops.Reason.TheVariants.{Rest}
+
+-- the earlier of two times
+abbrev pub earlier : ℕ → ℕ → ℕ
+earlier t n = if nat_lt t n then t else n
 
 -- a step back seeks the last turn of a process, and all else the last stop
 abbrev pub sought_by : Action → ℕ → Sought
@@ -34,10 +40,14 @@ abbrev pub stop_place : ℕ → Option Stop → Option Place
 stop_place time None = None
 stop_place time (Some stop) = Some (record { time = time; stop = stop })
 
--- what is found of a turn that began so, in a run to a time: where it began, or where it came to before that time
-abbrev pub place_after : Sought → Goal → ℕ → Began → Held → Option Place
-place_after (LastTurn p) g until began new = turn_place p began.runner began.time
-place_after LastStop g until began new = if nat_lt new.kept.state.time until then stop_place new.kept.state.time (stop_after g began.runner began.logged new) else None
+-- what stops where a turn that began so, and before which these were seen, has come to: before a time all that stops, and then only what is watched
+abbrev pub stop_until : Aim → ℕ → Began → List Seen → Held → Option Stop
+stop_until a until began seen new = if nat_lt new.kept.state.time until then stop_after a began.runner began.logged seen new else first_changed a new seen
+
+-- what is found of such a turn, in a run to a time: where it began, or where it came to, which is where a run to that time ends at the latest
+abbrev pub place_after : Sought → Aim → ℕ → Began → List Seen → Held → Option Place
+place_after (LastTurn p) a until began seen new = turn_place p began.runner began.time
+place_after LastStop a until began seen new = stop_place (earlier new.kept.state.time until) (stop_until a until began seen new)
 
 -- the first, or else the second
 abbrev pub or_else : Option Place → Option Place → Option Place
@@ -47,7 +57,7 @@ or_else (Some place) second = Some place
 -- the last place that is found on these turns, the newest first
 abbrev pub last_place : Sought → Goal → ℕ → List Held → Held → Option Place
 last_place s g until [] new = None
-last_place s g until (last ∷ before) new = or_else (place_after s g until (began_at last) new) (last_place s g until before last)
+last_place s g until (last ∷ before) new = or_else (place_after s g.aim until (began_at last) (all_seen last g.watchpoints) new) (last_place s g until before last)
 
 -- by these turns of a run for n, the newest first
 abbrev pub Turns : ℕ → Held → List Held → Held → Type 0

@@ -1,15 +1,16 @@
 -- Packets after which a run goes on.
-use Rattle.std.specs.Prelude.{◌≡◌, ℕ, Bool, true, false, zero, suc, ◌+◌, if◌then◌else◌, List, [], ◌∷◌, ◌++◌, length, drop, Option, Some, None}
+use Rattle.std.specs.Prelude.{◌≡◌, ℕ, Bool, true, false, zero, suc, ◌+◌, ◌&&◌, not, if◌then◌else◌, List, [], ◌∷◌, ◌++◌, length, drop, Option, Some, None}
 use Rattle.ds_packets.specs.Framing.{frame}
 use Rattle.ds_packets.specs.Packets.{action_for, names}
 use Rattle.ds_packets.specs.declared.packet.Action.{Action}
 use Rattle.ds_packets.specs.declared.packet.Who.{Who}
 use Rattle.ds_refinement.specs.Held.{Held}
 use Rattle.ds_debug.specs.Answers.{console_text}
+use Rattle.ds_debug.specs.Exits.{exits_next}
 use Rattle.ds_debug.specs.Forward.{Goes}
 use Rattle.ds_debug.specs.Reports.{is_going}
 use Rattle.ds_debug.specs.Sights.{sight_held}
-use Rattle.ds_debug.specs.Goals.{Goal}
+use Rattle.ds_debug.specs.Goals.{Goal, goal_with}
 use Rattle.ds_debug.specs.Outputs.{outputs_text}
 use Rattle.ds_debug.specs.Sessions.{SessionState}
 use Rattle.ds_debug.specs.Stops.{stop_text}
@@ -55,7 +56,7 @@ actions_by action going words = actions_from action going words 0 101
 
 -- what stops a session's run
 abbrev pub goal_of : Option Action → List ℕ → SessionState → Goal
-goal_of action words s = record { actions = actions_by action s.going words; breakpoints = s.breakpoints }
+goal_of action words s = goal_with (actions_by action s.going words) s.breakpoints s.watchpoints
 
 -- the process of which it is told where it came: where the run is over, the one that was looked at
 abbrev pub came_process : Option Stop → ℕ → ℕ
@@ -67,6 +68,10 @@ abbrev pub came_reason : Bool → Option Stop → Reason
 came_reason true None = Rest
 came_reason false None = End
 came_reason going (Some stop) = stop.reason
+
+-- a run for n goes on for gdb: time is left, and the last process has not come to its exit
+abbrev pub may_go : ℕ → Held → Bool
+may_go n h = is_going n (sight_held h) && not (exits_next h)
 
 -- up to when it goes
 abbrev pub bound_of : SessionState → ℕ
@@ -81,4 +86,4 @@ pub record Resumes (action : Option Action) (words : List ℕ) (old new : Sessio
   pub stop : Option Stop
   pub goes : Goes (goal_of action words old) (bound_of old) stop old.held new.held
   pub rest : new ≡ record old { held = new.held; process = came_process stop old.process; stop_at = asked_of old new.held }
-  pub told : after ≡ before ++ (grown_by (lengths_of old.held) new.held ++ frame (stop_text (came_process stop old.process) (came_reason (is_going old.limit (sight_held new.held)) stop)))
+  pub told : after ≡ before ++ (grown_by (lengths_of old.held) new.held ++ frame (stop_text (came_process stop old.process) (came_reason (may_go old.limit new.held) stop)))

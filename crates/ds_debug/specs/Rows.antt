@@ -1,13 +1,13 @@
 -- Worked rows of what a debugger is answered.
-use Rattle.std.specs.Prelude.{codes, ◌≡◌, ℕ, true, false, [], ◌∷◌, Some, None, Ok, Err, refl}
+use Rattle.std.specs.Prelude.{codes, ◌≡◌, true, false, [], ◌∷◌, Some, None, Ok, Err, refl}
 use Rattle.std.specs.Fmt.{digits}
 use Rattle.ds_isa.specs.Registers.{zero_registers}
 use Rattle.ds_listing.specs.Texts.{hex4, hex8}
 use Rattle.ds_packets.specs.Framing.{hex_text}
 use Rattle.ds_packets.specs.Scanning.{start}
-use Rattle.ds_packets.specs.Scans.{Between, Half}
+use Rattle.ds_packets.specs.Scans.{Half}
 use Rattle.ds_packets.specs.Streams.{all_came}
-use Rattle.ds_packets.specs.declared.packet.Packet.TheVariants.{Supported, NoAcknowledgements, FirstThreads, ThreadInfo, Current, Alive, Registers, Register, Memory, Break, End}
+use Rattle.ds_packets.specs.declared.packet.Packet.TheVariants.{Supported, NoAcknowledgements, FirstThreads, ThreadInfo, Current, Alive, Register, Memory, End}
 use Rattle.ds_packets.specs.declared.packet.Report.TheVariants.{Time, Processes}
 use Rattle.ds_packets.specs.declared.packet.Who.TheVariants as who
 use Rattle.ds_packets.specs.declared.scan.PacketFault.TheVariants.{Sum}
@@ -16,14 +16,19 @@ use Rattle.ds_refinement.specs.Held.{Held, no_memory}
 use Rattle.ds_debug.specs.Answers.{answer_text, basic_features, report_text}
 use Rattle.ds_debug.specs.Backward.{back_reason, back_time}
 use Rattle.ds_debug.specs.Each.{each}
-use Rattle.ds_debug.specs.Goals.{Goal}
+use Rattle.ds_debug.specs.Exits.{is_syscall}
+use Rattle.ds_debug.specs.Goals.{Aim, watch_stop}
 use Rattle.ds_debug.specs.Memory.{bytes_from}
 use Rattle.ds_debug.specs.Places.{place_after}
+use Rattle.ds_debug.specs.Resumes.{came_reason}
+use Rattle.ds_debug.specs.Sessions.{watch_text, with_watch, without_watch}
 use Rattle.ds_debug.specs.Sights.{Sight}
 use Rattle.ds_debug.specs.Stops.{stop_text}
 use Rattle.ds_debug.specs.Streams.{acknowledges_after, is_end, mark_text, scan_through}
 use Rattle.ds_debug.specs.declared.places.Sought.TheVariants.{LastTurn, LastStop}
+use Rattle.ds_debug.specs.Watches.{is_new}
 use Rattle.ds_debug.specs.declared.stops.Reason.TheVariants as reason
+use Rattle.ds_debug.specs.declared.watches.Watchpoint.{Watchpoint}
 
 -- two processes at 00400000, of which the second runs, at time 7
 abbrev shown : Sight
@@ -38,6 +43,10 @@ shown = record {
   consoles = [];
   log = [];
 }
+
+-- process 1 watches a word
+abbrev watched : Watchpoint
+watched = record { process = 1; address = 0x410000; length = 4 }
 
 -- a process by its name, and all of them
 pub the_process_that_is_looked_at : answer_text shown 1 Current ≡ codes "QCp1.1"
@@ -94,6 +103,10 @@ pub a_breakpoint_is_told : stop_text 100 reason.Break ≡ codes "T05thread:p64.1
 unfolding stop_text
 a_breakpoint_is_told = refl
 
+pub a_watch_is_told : stop_text 1 (reason.Watch 0x410000) ≡ codes "T05thread:p1.1;watch:00410000;"
+unfolding stop_text hex4 hex8
+a_watch_is_told = refl
+
 pub the_beginning_is_told : stop_text 1 reason.Begin ≡ codes "T05thread:p1.1;replaylog:begin;"
 unfolding stop_text
 the_beginning_is_told = refl
@@ -102,12 +115,55 @@ pub the_end_is_told : stop_text 1 reason.End ≡ codes "T05thread:p1.1;replaylog
 unfolding stop_text
 the_end_is_told = refl
 
--- a step back comes to where the last turn of the process began
-pub a_turn_of_the_process : (g : Goal) (h : Held) → place_after (LastTurn 1) g 9 (record { time = 4; runner = Some 1; logged = 0 }) h ≡ Some (record { time = 4; stop = record { process = 1; reason = reason.Rest } })
-a_turn_of_the_process g h = refl
+-- a call, and what is none
+pub a_word_that_calls : is_syscall (Some 12) ≡ true
+a_word_that_calls = refl
 
-pub a_turn_of_another_process : (g : Goal) (h : Held) → place_after (LastTurn 1) g 9 (record { time = 4; runner = Some 2; logged = 0 }) h ≡ None
-a_turn_of_another_process g h = refl
+pub a_break_is_no_call : is_syscall (Some 13) ≡ false
+a_break_is_no_call = refl
+
+pub what_may_not_be_fetched_is_no_call : is_syscall None ≡ false
+what_may_not_be_fetched_is_no_call = refl
+
+-- where a run ends for gdb it has no more history
+pub the_last_exit_ends_it : came_reason false None ≡ reason.End
+the_last_exit_ends_it = refl
+
+-- a watch is told of the process that has it; a byte that may be loaded from now on is new to it, and one that may not be any more is none
+pub it_is_told_of_who_watches : watch_stop (record { process = 1; address = 0x410000; length = 4 }) ≡ record { process = 1; reason = reason.Watch 0x410000 }
+it_is_told_of_who_watches = refl
+
+pub a_byte_that_goes : is_new (Some 18) None ≡ false
+a_byte_that_goes = refl
+
+pub a_byte_that_comes : is_new None (Some 0) ≡ true
+a_byte_that_comes = refl
+
+pub a_byte_that_changes : is_new (Some 18) (Some 19) ≡ true
+a_byte_that_changes = refl
+
+pub a_byte_that_stays : is_new (Some 18) (Some 18) ≡ false
+a_byte_that_stays = refl
+
+-- a watch is set once, and at most 64 bytes long
+pub a_watch_that_is_there : with_watch (watched ∷ []) watched ≡ watched ∷ []
+a_watch_that_is_there = refl
+
+pub a_watch_that_is_too_long : watch_text [] (record watched { length = 65 }) ≡ codes "E16"
+a_watch_that_is_too_long = refl
+
+pub a_watch_is_taken_away : without_watch (watched ∷ []) watched ≡ []
+a_watch_is_taken_away = refl
+
+pub that_of_another_process_stays : without_watch (watched ∷ []) (record watched { process = 2 }) ≡ watched ∷ []
+that_of_another_process_stays = refl
+
+-- a step back comes to where the last turn of the process began
+pub a_turn_of_the_process : (a : Aim) (h : Held) → place_after (LastTurn 1) a 9 (record { time = 4; runner = Some 1; logged = 0 }) [] h ≡ Some (record { time = 4; stop = record { process = 1; reason = reason.Rest } })
+a_turn_of_the_process a h = refl
+
+pub a_turn_of_another_process : (a : Aim) (h : Held) → place_after (LastTurn 1) a 9 (record { time = 4; runner = Some 2; logged = 0 }) [] h ≡ None
+a_turn_of_another_process a h = refl
 
 -- a process without a turn stays, and the last stop is sought to the beginning
 pub a_process_without_a_turn_stays : back_time (LastTurn 2) None ≡ None

@@ -94,10 +94,8 @@ pub record DebugsPart (i : RunInputs) (n : ℕ) (p : Pipes) : Type 0 where
   pub begins : IsBeginning i n first
   pub serves : ServesPart (stream_at i n first) p
 
--- a fault that comes after the inputs were taken
+-- a fault that comes after the inputs were taken: memory ran out, or a write failed
 abbrev pub IsLate : Fault → Type 0
-IsLate fault.Stuck = ⊤
-IsLate fault.Failed = ⊤
 IsLate fault.WriteFault = ⊤
 IsLate fault.Memory = ⊤
 IsLate f = ⊥

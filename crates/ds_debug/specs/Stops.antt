@@ -1,15 +1,17 @@
 -- What gdb is told of a process that stands.
 use Rattle.std.specs.Prelude.{codes, ℕ, List, [], ◌++◌}
+use Rattle.ds_listing.specs.Texts.{hex8}
 use Rattle.ds_packets.specs.Framing.{hex_pair}
 use Rattle.ds_debug.specs.Threads.{thread_text}
 use Rattle.ds_debug.specs.declared.stops.Reason.{Reason}
-use Rattle.ds_debug.specs.declared.stops.Reason.TheVariants.{Rest, Break, Signal, Begin, End}
+use Rattle.ds_debug.specs.declared.stops.Reason.TheVariants.{Rest, Break, Watch, Signal, Begin, End}
 
 -- the signal: that of what was denied, or else SIGTRAP
 abbrev pub signal_of : Reason → ℕ
 signal_of (Signal s) = s
 signal_of Rest = 5
 signal_of Break = 5
+signal_of (Watch a) = 5
 signal_of Begin = 5
 signal_of End = 5
 
@@ -17,6 +19,7 @@ signal_of End = 5
 abbrev pub reason_text : Reason → List ℕ
 reason_text Rest = []
 reason_text Break = codes "swbreak:;"
+reason_text (Watch a) = codes "watch:" ++ hex8 a ++ codes ";"
 reason_text (Signal s) = []
 reason_text Begin = codes "replaylog:begin;"
 reason_text End = codes "replaylog:end;"

@@ -1,37 +1,45 @@
 //! A run that is looked through for the last place of what is sought.
-ghost use Rattle.std.specs.Prelude.{◌≡◌, ◌<◌, ◌≤◌, IfOk, IfSome, None, false};
-ghost use Rattle.ds_debug.specs.Backward.{back_process, back_reason, back_time, earlier, turnless_reason};
+ghost use Rattle.std.specs.Prelude.{◌≡◌, ◌<◌, ◌≤◌, IfErr, IfOk, IfSome, None, false};
+ghost use Rattle.ds_station.specs.Faults.{IsNewFault};
+ghost use Rattle.ds_debug.specs.Backward.{back_process, back_reason, back_time, turnless_reason};
+ghost use Rattle.ds_debug.specs.Goals.{goal_with};
 ghost use Rattle.ds_debug.specs.Places.{Finds};
 
 use crate::goals::Breakpoint;
 use crate::places::{Place, Sought, began_at, or_else, place_after};
 use crate::stops::Reason;
+use crate::watches::{Watchpoint, all_seen};
 use ds_packets::Action;
 use ds_station::{Fault, Station};
 use ds_tlb::Lookaside;
+use std::alloc::Global;
 
 /// Runs to a time, turn by turn, and answers the last place that is found on the way. It is cut short
-/// only where there is no room for a turn.
+/// only where there is no room for a turn, or for what is watched.
 pub(crate) fn find_last<L: Lookaside>(
+    alloc: Global,
     station: &mut Station<L>,
     until: u64,
     sought: Sought,
     actions: &[Option<Action>],
     breakpoints: &[Breakpoint],
+    watchpoints: &[Watchpoint],
 ) -> Result<Option<Place>, Fault>
     requires limit { until ≤ 1000000000 }
     requires whole { station.old.held.kept.state.owed ≡ None }
     requires spent { station.old.held.own.spent ≡ 0 }
     requires working { station.old.held.own.failed ≡ false }
     ensures finds { IfOk result (λ place. Finds sought
-        (record { actions = actions.now; breakpoints = breakpoints.now })
+        (goal_with actions.now breakpoints.now watchpoints.now)
         until place station.old.held station.new.held) }
     ensures small { IfOk result (λ place. IfSome place (λ p. p.stop.process ≤ 100)) }
-    ensures early { IfOk result (λ place. IfSome place (λ p. p.time < until)) }
+    ensures early { IfOk result (λ place. IfSome place (λ p. p.time ≤ until)) }
+    ensures faults { IfErr result IsNewFault }
 {
     let mut place = None;
     while station.time() < until {
         let began = began_at(station);
+        let seen = all_seen(alloc, station, watchpoints)?;
         match station.run(began.time + 1) {
             Ok(()) => {}
             Err(fault) => return Err(fault),
@@ -39,18 +47,18 @@ pub(crate) fn find_last<L: Lookaside>(
         if station.time() <= began.time {
             return Ok(place);
         }
-        let found = place_after(station, sought, until, began, actions, breakpoints);
+        let found = place_after(
+            station,
+            sought,
+            until,
+            began,
+            actions,
+            breakpoints,
+            seen.as_slice(),
+        );
         place = or_else(found, place);
     }
     Ok(place)
-}
-
-/// The earlier of two times.
-pub(crate) fn earlier(time: u64, limit: u64) -> u64
-    ensures value { result ≡ earlier time limit }
-    ensures within { result ≤ limit }
-{
-    if time < limit { time } else { limit }
 }
 
 /// To which time a session goes back. Without a place it is the beginning where the last stop was

@@ -1,13 +1,14 @@
 //! What stops a run that goes forward.
-ghost use Rattle.std.specs.Prelude.{◌≡◌, ◌<◌, ◌≤◌, ◌==◌, ◌&&◌, drop, length, slice_index_or, IfSome, IsSome, None};
+ghost use Rattle.std.specs.Prelude.{◌≡◌, ◌<◌, ◌≤◌, ◌==◌, ◌&&◌, drop, length, slice_index_or, true, IfSome, IsSome, None};
 ghost use Rattle.std.specs.List.{list_any};
 ghost use Rattle.ds_station.specs.Reads.{address_held};
 ghost use Rattle.ds_pagemap.specs.Machine.{first};
-ghost use Rattle.ds_debug.specs.Goals.{action_of, break_stop, is_break, is_done, is_within, stop_after, stop_by, unit_stop, unit_stop_by};
+ghost use Rattle.ds_debug.specs.Goals.{action_of, break_stop, first_changed, has_changed, is_break, is_done, is_within, stop_after, stop_by, turn_stop, unit_stop, unit_stop_by, watch_stop};
 
 use crate::denials::signal_told;
 use crate::look::is_there;
 use crate::stops::Reason;
+use crate::watches::{Seen, Watchpoint, is_new, value_at};
 use ds_packets::Action;
 use ds_station::Station;
 use ds_tlb::Lookaside;
@@ -152,8 +153,53 @@ fn break_stop<L: Lookaside>(
     }
 }
 
-/// What stops after a turn in which this process ran, and before which the log had so many bytes.
-pub(crate) fn stop_after<L: Lookaside>(
+/// Whether a byte of a process that is named and there is not as it was seen.
+fn has_changed<L: Lookaside>(
+    station: &Station<L>,
+    actions: &[Option<Action>],
+    breakpoints: &[Breakpoint],
+    seen: Seen,
+) -> bool
+    ensures small { result ≡ true → seen.watchpoint.process ≤ 100 }
+    ensures value { result ≡ has_changed
+        (record { actions = actions.now; breakpoints = breakpoints.now })
+        station.now.held seen }
+{
+    action_of(actions, station, seen.watchpoint.process).is_some()
+        && is_new(seen.value, value_at(station, seen.watchpoint, seen.index))
+}
+
+/// The process that watches stops, whoever wrote.
+fn watch_stop(watchpoint: Watchpoint) -> Stop
+    ensures { result ≡ watch_stop watchpoint }
+{
+    let process = watchpoint.process;
+    let reason = Reason::Watch(watchpoint.address);
+    Stop { process, reason }
+}
+
+/// What stops by the first byte that has changed since these were seen.
+pub(crate) fn first_changed<L: Lookaside>(
+    station: &Station<L>,
+    actions: &[Option<Action>],
+    breakpoints: &[Breakpoint],
+    seen: &[Seen],
+) -> Option<Stop>
+    ensures small { IfSome result (λ stop. stop.process ≤ 100) }
+    ensures value { result ≡ first_changed
+        (record { actions = actions.now; breakpoints = breakpoints.now })
+        station.now.held seen.now }
+{
+    for byte in seen {
+        if has_changed(station, actions, breakpoints, *byte) {
+            return Some(watch_stop(byte.watchpoint));
+        }
+    }
+    None
+}
+
+/// What stops the process that ran, or else the one that runs next.
+fn turn_stop<L: Lookaside>(
     station: &Station<L>,
     actions: &[Option<Action>],
     breakpoints: &[Breakpoint],
@@ -161,12 +207,33 @@ pub(crate) fn stop_after<L: Lookaside>(
     logged: usize,
 ) -> Option<Stop>
     ensures small { IfSome result (λ stop. stop.process ≤ 100) }
-    ensures value { result ≡ stop_after
+    ensures value { result ≡ turn_stop
         (record { actions = actions.now; breakpoints = breakpoints.now })
         runner logged station.now.held }
 {
     match unit_stop(station, actions, breakpoints, runner, logged) {
         Some(stop) => Some(stop),
         None => break_stop(station, actions, breakpoints),
+    }
+}
+
+/// What stops after a turn in which this process ran, before which the log had so many bytes, and these
+/// were seen.
+pub(crate) fn stop_after<L: Lookaside>(
+    station: &Station<L>,
+    actions: &[Option<Action>],
+    breakpoints: &[Breakpoint],
+    runner: Option<u32>,
+    logged: usize,
+    seen: &[Seen],
+) -> Option<Stop>
+    ensures small { IfSome result (λ stop. stop.process ≤ 100) }
+    ensures value { result ≡ stop_after
+        (record { actions = actions.now; breakpoints = breakpoints.now })
+        runner logged seen.now station.now.held }
+{
+    match first_changed(station, actions, breakpoints, seen) {
+        Some(stop) => Some(stop),
+        None => turn_stop(station, actions, breakpoints, runner, logged),
     }
 }

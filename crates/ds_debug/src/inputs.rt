@@ -1,5 +1,6 @@
 //! What a run begins with, and stations of its runs.
-ghost use Rattle.std.specs.Prelude.{◌≡◌, ◌≤◌, IfErr, IfOk, None, OnOk, false};
+ghost use Rattle.std.specs.Prelude.{◌≡◌, ◌≤◌, ◌⊎◌, IfErr, IfOk, None, OnOk, false};
+ghost use Rattle.ds_station.specs.Faults.{IsNewFault};
 ghost use Rattle.ds_station.specs.Headline.{Refuses};
 ghost use Rattle.ds_debug.specs.Inputs.{IsAt, IsBeginning, first_of, inputs_seen};
 
@@ -51,6 +52,8 @@ pub(crate) fn station_at<'a>(
     time: u64,
 ) -> Result<Station<Indexed<64, 8>>, Fault>
     requires { time ≤ 1000000000 }
+    ensures faults { IfErr result (λ f. IsNewFault f
+        ⊎ Refuses f (first_of (inputs_seen inputs.entry) limit)) }
     ensures at { IfOk result (λ s. IsAt (inputs_seen inputs.entry) limit time s.held) }
     ensures whole { IfOk result (λ s. s.held.kept.state.owed ≡ None) }
     ensures spent { IfOk result (λ s. s.held.own.spent ≡ 0) }

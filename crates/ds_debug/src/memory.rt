@@ -17,7 +17,11 @@ const MOST_BYTES: u32 = 2048;
 
 /// The byte at an address, where the process may load it.
 #[tactic(auto, using(crate::proofs::Bytes::byte_by_word))]
-fn byte_read<L: Lookaside>(station: &Station<L>, process: u32, address: u32) -> Option<u8>
+pub(crate) fn byte_read<L: Lookaside>(
+    station: &Station<L>,
+    process: u32,
+    address: u32,
+) -> Option<u8>
     requires above { 0 < process }
     requires within { process ≤ length station.now.held.kept.state.processes }
     ensures { result ≡ byte_read (memory_held station.now.held) process address }

@@ -1,9 +1,11 @@
 //! Places of a run, of which the last one is sought on the way back.
 ghost use Rattle.std.specs.Prelude.{◌≡◌, ◌<◌, ◌≤◌, IfSome};
-ghost use Rattle.ds_debug.specs.Places.{began_at, or_else, place_after, sought_by, stop_place, turn_place};
+ghost use Rattle.ds_debug.specs.Places.{began_at, or_else, place_after, sought_by, stop_place, stop_until, turn_place};
 
-use crate::goals::{Breakpoint, Stop, stop_after};
+use crate::goals::{Breakpoint, Stop, first_changed, stop_after};
 use crate::stops::Reason;
+use crate::times::earlier;
+use crate::watches::Seen;
 use ds_packets::Action;
 use ds_station::Station;
 use ds_tlb::Lookaside;
@@ -88,8 +90,36 @@ fn stop_place(time: u64, stop: Option<Stop>) -> Option<Place>
     }
 }
 
-/// What is found of a turn that began so, in a run to a time: where it began, or where it came to
-/// before that time.
+/// What stops where a turn that began so, and before which these were seen, has come to: before a time
+/// all that stops, and then only what is watched.
+fn stop_until<L: Lookaside>(
+    station: &Station<L>,
+    until: u64,
+    began: Began,
+    actions: &[Option<Action>],
+    breakpoints: &[Breakpoint],
+    seen: &[Seen],
+) -> Option<Stop>
+    ensures value { result ≡ stop_until
+        (record { actions = actions.now; breakpoints = breakpoints.now })
+        until began seen.now station.now.held }
+    ensures small { IfSome result (λ stop. stop.process ≤ 100) }
+{
+    if station.time() < until {
+        stop_after(
+            station,
+            actions,
+            breakpoints,
+            began.runner,
+            began.logged,
+            seen,
+        )
+    } else {
+        first_changed(station, actions, breakpoints, seen)
+    }
+}
+
+/// What is found of such a turn, in a run to a time: where it began, or where it came to.
 pub(crate) fn place_after<L: Lookaside>(
     station: &Station<L>,
     sought: Sought,
@@ -97,25 +127,22 @@ pub(crate) fn place_after<L: Lookaside>(
     began: Began,
     actions: &[Option<Action>],
     breakpoints: &[Breakpoint],
+    seen: &[Seen],
 ) -> Option<Place>
     requires small { IfSome began.runner (λ p. p ≤ 100) }
     requires early { began.time < until }
     ensures value { result ≡ place_after sought
         (record { actions = actions.now; breakpoints = breakpoints.now })
-        until began station.now.held }
+        until began seen.now station.now.held }
     ensures small { IfSome result (λ place. place.stop.process ≤ 100) }
-    ensures early { IfSome result (λ place. place.time < until) }
+    ensures early { IfSome result (λ place. place.time ≤ until) }
 {
     match sought {
         Sought::LastTurn(process) => turn_place(process, began.runner, began.time),
         Sought::LastStop => {
-            let time = station.time();
-            if time < until {
-                let stop = stop_after(station, actions, breakpoints, began.runner, began.logged);
-                stop_place(time, stop)
-            } else {
-                None
-            }
+            let time = earlier(station.time(), until);
+            let stop = stop_until(station, until, began, actions, breakpoints, seen);
+            stop_place(time, stop)
         }
     }
 }

@@ -1,5 +1,5 @@
 //! A session with gdb over a reader and a writer.
-ghost use Rattle.std.specs.Prelude.{◌≡◌, ◌∷◌, [], IfErr, IfOk, IfSome, OnErr, OnOk};
+ghost use Rattle.std.specs.Prelude.{◌≡◌, ◌∷◌, [], IfErr, IfOk, IfSome, OnErr, OnOk, false};
 ghost use Rattle.std.specs.Io.KnownBytes.{Appends};
 ghost use Rattle.ds_log.specs.Sent.{AppendsPart};
 ghost use Rattle.ds_packets.specs.Streams.{listed};
@@ -31,6 +31,7 @@ const CHUNK: usize = 1024;
 /// Writes a text, and sees to it that it goes out now.
 fn send_now<W: Write>(out: &mut W, text: &[u8]) -> Result<(), Fault>
     ensures ok { OnOk result (Appends (W.contents out.old) (W.contents out.new) text.now) }
+    ensures faults { IfErr result IsLate }
     ensures err { OnErr result
         (AppendsPart (W.contents out.old) (W.contents out.new) text.now) }
 {
@@ -48,6 +49,7 @@ fn send_now<W: Write>(out: &mut W, text: &[u8]) -> Result<(), Fault>
 fn send_mark<W: Write>(out: &mut W, acknowledges: bool, mark: u8) -> Result<(), Fault>
     ensures ok { OnOk result
         (Appends (W.contents out.old) (W.contents out.new) (mark_text acknowledges mark)) }
+    ensures faults { IfErr result IsLate }
     ensures err { OnErr result
         (AppendsPart (W.contents out.old) (W.contents out.new) (mark_text acknowledges mark)) }
 {
@@ -55,18 +57,6 @@ fn send_mark<W: Write>(out: &mut W, acknowledges: bool, mark: u8) -> Result<(), 
         send_now(out, &[mark])
     } else {
         Ok(())
-    }
-}
-
-/// The fault, as one of a run that has begun.
-fn late(fault: Fault) -> Fault
-    ensures { IsLate result }
-{
-    match fault {
-        Fault::Stuck => Fault::Stuck,
-        Fault::WriteFault => Fault::WriteFault,
-        Fault::Memory => Fault::Memory,
-        _ => Fault::Failed,
     }
 }
 
@@ -82,6 +72,8 @@ impl<'a> Exchange<'a> {
             (W.contents out.old) (W.contents out.new)) }
         ensures err { OnErr result (IsCutAt words.now self.old
             (W.contents out.old) (W.contents out.new)) }
+        ensures faults { self.old.session.cut ≡ false → IfErr result IsLate }
+        ensures uncut { OnOk result (self.new.session.cut ≡ self.old.session.cut) }
     {
         match send_mark(out, self.acknowledges, b'+') {
             Ok(()) => {}
@@ -107,6 +99,8 @@ impl<'a> Exchange<'a> {
             (W.contents out.old) (W.contents out.new)) }
         ensures err { OnErr result (IsCutIn (item ∷ []) self.old
             (W.contents out.old) (W.contents out.new)) }
+        ensures faults { self.old.session.cut ≡ false → IfErr result IsLate }
+        ensures uncut { OnOk result (self.new.session.cut ≡ self.old.session.cut) }
     {
         if self.ended {
             return Ok(());
@@ -128,6 +122,8 @@ impl<'a> Exchange<'a> {
             (W.contents out.old) (W.contents out.new)) }
         ensures err { OnErr result (IsCutIn (listed came) self.old
             (W.contents out.old) (W.contents out.new)) }
+        ensures faults { self.old.session.cut ≡ false → IfErr result IsLate }
+        ensures uncut { OnOk result (self.new.session.cut ≡ self.old.session.cut) }
     {
         match came {
             Some(item) => self.serve_item(alloc, item, out),
@@ -144,6 +140,9 @@ impl<'a> Stream<'a> {
             (W.contents out.old) (W.contents out.new)) }
         ensures err { OnErr result (ServedPart bytes.now self.old
             (W.contents out.old) (W.contents out.new)) }
+        ensures faults { self.old.exchange.session.cut ≡ false → IfErr result IsLate }
+        ensures uncut { OnOk result
+            (self.new.exchange.session.cut ≡ self.old.exchange.session.cut) }
     {
         for byte in bytes {
             let came = self.scanner.take(*byte);
@@ -169,6 +168,9 @@ impl<'a> Stream<'a> {
             (W.contents out.new)))) }
         ensures err { OnErr result (ServesPart self.old (pipes (R.remaining reader.old)
             (R.remaining reader.new) (W.contents out.old) (W.contents out.new))) }
+        ensures faults { self.old.exchange.session.cut ≡ false → IfErr result IsLate }
+        ensures uncut { OnOk result
+            (self.new.exchange.session.cut ≡ self.old.exchange.session.cut) }
     {
         let mut chunk = [0u8; CHUNK];
         match reader.read(&mut chunk) {
@@ -196,6 +198,9 @@ impl<'a> Stream<'a> {
             (W.contents out.new))) }
         ensures err { OnErr result (ServesPart self.old (pipes (R.remaining reader.old)
             (R.remaining reader.new) (W.contents out.old) (W.contents out.new))) }
+        ensures faults { self.old.exchange.session.cut ≡ false → IfErr result IsLate }
+        ensures uncut { OnOk result
+            (self.new.exchange.session.cut ≡ self.old.exchange.session.cut) }
     {
         for _ in 0..u64::MAX {
             if self.is_ended() {
@@ -235,6 +240,6 @@ pub fn debug<'a, R: Read, W: Write>(
     let mut stream = Stream::new(session);
     match stream.serve_all(alloc, reader, out) {
         Ok(ending) => Ok(ending),
-        Err(fault) => Err(late(fault)),
+        Err(fault) => Err(fault),
     }
 }

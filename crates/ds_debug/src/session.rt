@@ -3,24 +3,25 @@ ghost use Rattle.std.specs.Prelude.{◌≡◌, ◌<◌, ◌≤◌, ◌==◌, ◌
 ghost use Rattle.ds_packets.specs.Framing.{frame};
 ghost use Rattle.ds_refinement.specs.Real.{RealPath};
 ghost use Rattle.ds_refinement.specs.Runs.{RunsWithin};
+ghost use Rattle.ds_station.specs.Faults.{IsNewFault};
 ghost use Rattle.ds_station.specs.Headline.{Refuses};
-ghost use Rattle.ds_station.specs.Runs.{IsCut};
 ghost use Rattle.ds_pagemap.specs.Machine.{State};
 ghost use Rattle.ds_refinement.specs.Stands.{Stands};
 ghost use Rattle.ds_debug.specs.Answering.{Answers, AnswersPacket, TellsOf, after_plain, course_by, goes_back, is_back, plain_text, refusal_text};
 ghost use Rattle.ds_debug.specs.Answers.{answer_text, report_text};
 ghost use Rattle.ds_debug.specs.Backward.{ComesBack, FindsIn, Returns, ReturnsBy, back_of, until_of};
-ghost use Rattle.ds_debug.specs.Forward.{Goes};
+ghost use Rattle.ds_debug.specs.Forward.{Goes, IsShort};
+ghost use Rattle.ds_debug.specs.Goals.{goal_with};
 ghost use Rattle.ds_debug.specs.Inputs.{IsBeginning, IsReached, first_of, inputs_seen};
 ghost use Rattle.ds_debug.specs.Outputs.{outputs_text};
-ghost use Rattle.ds_debug.specs.Reports.{is_going};
-ghost use Rattle.ds_debug.specs.Resumes.{Resumes, bound_of, came_process, came_reason, goal_of};
-ghost use Rattle.ds_debug.specs.Sessions.{IsStill, after_setting, begun, named_or, setting_text, sight_of, told_first};
+ghost use Rattle.ds_debug.specs.Resumes.{Resumes, bound_of, came_process, came_reason, goal_of, may_go};
+ghost use Rattle.ds_debug.specs.Sessions.{IsStill, after_setting, begun, is_same_watch, is_watch, named_or, setting_text, sight_of, told_first};
 ghost use Rattle.ds_debug.specs.Stops.{stop_text};
 ghost use Rattle.ds_debug.specs.Times.{asked_after};
 
 use crate::actions::actions_by;
-use crate::backward::{back_process, back_reason, back_time, earlier, find_last};
+use crate::backward::{back_process, back_reason, back_time, find_last};
+use crate::exits::exits_next;
 use crate::forward::go;
 use crate::goals::{Breakpoint, Stop, is_break};
 use crate::grown::{lengths_of, push_grown};
@@ -29,7 +30,8 @@ use crate::look::{are_there, push_answer, push_report};
 use crate::places::{Place, Sought, sought_by};
 use crate::reports::is_going;
 use crate::stops::{Reason, push_stop};
-use crate::times::{asked_after, asked_place, bound_by};
+use crate::times::{asked_after, asked_place, bound_by, earlier};
+use crate::watches::Watchpoint;
 use arrayvec::ArrayVec;
 use ds_packets::{Action, Packet, Refusal, Report, Who, push_frame};
 use ds_station::{Fault, Station};
@@ -39,6 +41,10 @@ use std::marker::Model;
 
 /// The most breakpoints.
 const MOST_BREAKPOINTS: usize = 64;
+/// The most watches.
+const MOST_WATCHPOINTS: usize = 16;
+/// The most bytes of a watch.
+const MOST_WATCHED: u32 = 64;
 
 /// A session of a debugger over a station, which stands between two turns of a run.
 #[derive(Drop)]
@@ -53,6 +59,7 @@ pub struct Session<'a> {
     /// Who goes where nobody is named.
     going: Who,
     breakpoints: ArrayVec<Breakpoint, MOST_BREAKPOINTS>,
+    watchpoints: ArrayVec<Watchpoint, MOST_WATCHPOINTS>,
     /// A time at which the run is to stop once, in ticks.
     stop_at: Option<u64>,
     /// Whether the run was cut short.
@@ -72,6 +79,7 @@ impl<'a> Model for Session<'a> {
       process = s.process;
       going = s.going;
       breakpoints = s.breakpoints.items;
+      watchpoints = s.watchpoints.items;
       stop_at = s.stop_at;
       cut = s.cut;
     } };
@@ -83,6 +91,7 @@ impl<'a> Model for Session<'a> {
       process = s.process;
       going = s.going;
       breakpoints = s.breakpoints.items;
+      watchpoints = s.watchpoints.items;
       stop_at = s.stop_at;
       cut = s.cut;
     }) };
@@ -107,6 +116,32 @@ fn place_of(breakpoints: &[Breakpoint], process: u32, address: u32) -> Option<us
     breakpoints
         .iter()
         .position(|b| b.process == process && b.address == address)
+}
+
+/// Whether two watches are the same.
+fn is_same_watch(first: Watchpoint, second: Watchpoint) -> bool
+    ensures { result ≡ is_same_watch first second }
+{
+    second.process == first.process
+        && second.address == first.address
+        && second.length == first.length
+}
+
+/// Whether a watch is there.
+fn is_watch(watchpoints: &[Watchpoint], watchpoint: Watchpoint) -> bool
+    ensures { result ≡ is_watch watchpoints.now watchpoint }
+{
+    watchpoints.iter().any(|w| is_same_watch(watchpoint, *w))
+}
+
+/// The place of a watch, where it is there.
+fn place_of_watch(watchpoints: &[Watchpoint], watchpoint: Watchpoint) -> Option<usize>
+    ensures place { result ≡ position (is_same_watch watchpoint) watchpoints.now }
+    ensures within { IfSome result (λ place. place < length watchpoints.now) }
+{
+    watchpoints
+        .iter()
+        .position(|w| is_same_watch(watchpoint, *w))
 }
 
 /// Adds the error of a packet that is not known, which is empty, or malformed.
@@ -162,6 +197,7 @@ impl<'a> Session<'a> {
             process: 1,
             going: Who::All,
             breakpoints: ArrayVec::new(),
+            watchpoints: ArrayVec::new(),
             stop_at: None,
             cut: false,
         })
@@ -239,6 +275,50 @@ impl<'a> Session<'a> {
         }
     }
 
+    /// Sets a watch, where it is not too long and not there and there is room.
+    fn set_watch(&mut self, address: u32, length: u32) -> &'static [u8]
+        ensures changed { self.new ≡ after_setting self.old (Packet.Watch address length) }
+        ensures text { result.now
+            ≡ setting_text (sight_of self.old) self.old (Packet.Watch address length) }
+        ensures still { IsStill self.old self.new }
+    {
+        let process = self.process;
+        let watchpoint = Watchpoint {
+            process,
+            address,
+            length,
+        };
+        if MOST_WATCHED < length {
+            b"E16"
+        } else if is_watch(self.watchpoints.as_slice(), watchpoint) {
+            b"OK"
+        } else if self.watchpoints.len() < MOST_WATCHPOINTS {
+            self.watchpoints.push(watchpoint);
+            b"OK"
+        } else {
+            b"E1C"
+        }
+    }
+
+    /// Takes a watch away, where it is there.
+    fn drop_watch(&mut self, address: u32, length: u32)
+        ensures changed { self.new ≡ after_setting self.old (Packet.Unwatch address length) }
+        ensures still { IsStill self.old self.new }
+    {
+        let process = self.process;
+        let watchpoint = Watchpoint {
+            process,
+            address,
+            length,
+        };
+        match place_of_watch(self.watchpoints.as_slice(), watchpoint) {
+            Some(place) => {
+                let _ = self.watchpoints.remove(place);
+            }
+            None => {}
+        }
+    }
+
     /// Changes what is looked at, or what stops, as a packet asks for.
     fn set(&mut self, packet: Packet) -> &'static [u8]
         ensures changed { self.new ≡ after_setting self.old packet }
@@ -251,6 +331,11 @@ impl<'a> Session<'a> {
             Packet::Break(address) => self.set_break(address),
             Packet::Unbreak(address) => {
                 self.drop_break(address);
+                b"OK"
+            }
+            Packet::Watch { address, length } => self.set_watch(address, length),
+            Packet::Unwatch { address, length } => {
+                self.drop_watch(address, length);
                 b"OK"
             }
             Packet::StopAt(time) => {
@@ -321,10 +406,10 @@ impl<'a> Session<'a> {
     }
 
     /// Goes on with the run, where it was not cut short, by how far each process is to go.
-    fn go_on(&mut self, actions: &[Option<Action>]) -> Result<Option<Stop>, Fault>
+    fn go_on(&mut self, alloc: Global, actions: &[Option<Action>]) -> Result<Option<Stop>, Fault>
         requires { self.old.cut ≡ false }
         ensures goes { IfOk result (λ stop. Goes
-            (record { actions = actions.now; breakpoints = self.old.breakpoints })
+            (goal_with actions.now self.old.breakpoints self.old.watchpoints)
             (bound_of self.old) stop self.old.held self.new.held) }
         ensures small { IfOk result (λ stop. IfSome stop (λ s. s.process ≤ 100)) }
         ensures rest { OnOk result (self.new ≡ record self.old { held = self.new.held }) }
@@ -332,14 +417,17 @@ impl<'a> Session<'a> {
             (self.new ≡ record self.old { held = self.new.held; cut = true }) }
         ensures within { RunsWithin self.old.limit self.old.held self.new.held }
         ensures real { OnOk result (RealPath self.old.held self.new.held) }
-        ensures short { IfErr result (λ f. IsCut f self.old.held self.new.held) }
+        ensures faults { IfErr result IsNewFault }
+        ensures short { IfErr result (λ f. IsShort f self.old.held self.new.held) }
     {
         let until = bound_by(self.stop_at, self.station.time(), self.limit);
         match go(
+            alloc,
             &mut self.station,
             until,
             actions,
             self.breakpoints.as_slice(),
+            self.watchpoints.as_slice(),
         ) {
             Ok(came) => Ok(came),
             Err(fault) => {
@@ -354,9 +442,9 @@ impl<'a> Session<'a> {
         requires { IfSome came (λ s. s.process ≤ 100) }
         ensures new { self.new ≡ record self.old { process = came_process came self.old.process } }
         ensures reason { result
-            ≡ came_reason (is_going self.old.limit (sight_of self.old)) came }
+            ≡ came_reason (may_go self.old.limit self.old.held) came }
     {
-        let going = is_going(&self.station, self.limit);
+        let going = is_going(&self.station, self.limit) && !exits_next(&self.station);
         match came {
             Some(stop) => {
                 self.process = stop.process;
@@ -401,6 +489,8 @@ impl<'a> Session<'a> {
     ) -> Result<(), Fault>
         ensures resumes { OnOk result (Resumes action words.now self.old self.new
             out.old.items out.new.items) }
+        ensures faults { self.old.cut ≡ false → IfErr result IsNewFault }
+        ensures uncut { OnOk result (self.new.cut ≡ self.old.cut) }
         ensures within { RunsWithin self.old.limit self.old.held self.new.held }
         ensures real { OnOk result (RealPath self.old.held self.new.held) }
         ensures limit { self.new.limit ≡ self.old.limit }
@@ -412,7 +502,7 @@ impl<'a> Session<'a> {
         let before = lengths_of(&self.station);
         let began = self.station.time();
         let actions = actions_by(alloc, action, self.going, words)?;
-        let came = match self.go_on(actions.as_slice()) {
+        let came = match self.go_on(alloc, actions.as_slice()) {
             Ok(came) => came,
             Err(fault) => return Err(fault),
         };
@@ -429,7 +519,8 @@ impl<'a> Session<'a> {
             (goal_of (Some Action.Continue) [] self.now) (until_of self.now) place) }
         ensures small { IfOk result (λ place. IfSome place (λ p. p.stop.process ≤ 100)) }
         ensures early { IfOk result
-            (λ place. IfSome place (λ p. p.time < until_of self.now)) }
+            (λ place. IfSome place (λ p. p.time ≤ until_of self.now)) }
+        ensures faults { self.now.cut ≡ false → IfErr result IsNewFault }
     {
         let until = earlier(self.station.time(), self.limit);
         let actions = actions_by(alloc, Some(Action::Continue), self.going, &[])?;
@@ -438,11 +529,13 @@ impl<'a> Session<'a> {
             Err(refused) => return Err(refused),
         };
         match find_last(
+            alloc,
             &mut station,
             until,
             sought,
             actions.as_slice(),
             self.breakpoints.as_slice(),
+            self.watchpoints.as_slice(),
         ) {
             Ok(place) => Ok(place),
             Err(fault) => Err(fault),
@@ -457,6 +550,7 @@ impl<'a> Session<'a> {
             self.new.held) }
         ensures rest { OnOk result (self.new ≡ record self.old { held = self.new.held }) }
         ensures err { OnErr result (self.new ≡ self.old) }
+        ensures faults { IfErr result IsNewFault }
     {
         match time {
             Some(time) => match station_at(alloc, self.inputs, self.limit, time) {
@@ -498,6 +592,8 @@ impl<'a> Session<'a> {
         requires small { process < 256 }
         ensures returns { OnOk result (ReturnsBy sought process self.old self.new
             out.old.items out.new.items) }
+        ensures faults { IfErr result IsNewFault }
+        ensures uncut { OnOk result (self.new.cut ≡ self.old.cut) }
         ensures limit { self.new.limit ≡ self.old.limit }
         ensures inputs { self.new.inputs ≡ self.old.inputs }
     {
@@ -523,6 +619,8 @@ impl<'a> Session<'a> {
     fn go_back(&mut self, alloc: Global, action: Action, out: &mut Vec<u8>) -> Result<(), Fault>
         ensures returns { OnOk result (Returns action self.old self.new
             out.old.items out.new.items) }
+        ensures faults { self.old.cut ≡ false → IfErr result IsNewFault }
+        ensures uncut { OnOk result (self.new.cut ≡ self.old.cut) }
         ensures limit { self.new.limit ≡ self.old.limit }
         ensures inputs { self.new.inputs ≡ self.old.inputs }
     {
@@ -553,6 +651,8 @@ impl<'a> Session<'a> {
             | Packet::Go(_)
             | Packet::Break(_)
             | Packet::Unbreak(_)
+            | Packet::Watch { .. }
+            | Packet::Unwatch { .. }
             | Packet::StopAt(_) => push_frame(out, self.set(packet)),
             Packet::End => Ok(()),
             _ => self.answer_look(alloc, packet, out),
@@ -569,6 +669,8 @@ impl<'a> Session<'a> {
     ) -> Result<(), Fault>
         ensures answers { OnOk result (AnswersPacket words.now packet self.old self.new
             out.old.items out.new.items) }
+        ensures faults { self.old.cut ≡ false → IfErr result IsNewFault }
+        ensures uncut { OnOk result (self.new.cut ≡ self.old.cut) }
         ensures within { is_back (course_by packet) ≡ false
             → RunsWithin self.old.limit self.old.held self.new.held }
         ensures real { is_back (course_by packet) ≡ false
@@ -592,6 +694,8 @@ impl<'a> Session<'a> {
     pub fn answer(&mut self, alloc: Global, words: &[u8], out: &mut Vec<u8>) -> Result<(), Fault>
         ensures answers { OnOk result (Answers words.now self.old self.new
             out.old.items out.new.items) }
+        ensures faults { self.old.cut ≡ false → IfErr result IsNewFault }
+        ensures uncut { OnOk result (self.new.cut ≡ self.old.cut) }
         ensures looks { self.old.cut ≡ false → (m : State) → Stands self.old.held m
             → OnOk result (TellsOf words.now m self.old out.old.items out.new.items) }
         ensures within { goes_back words.now ≡ false

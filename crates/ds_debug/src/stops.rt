@@ -2,6 +2,7 @@
 ghost use Rattle.std.specs.Prelude.{◌≡◌, ◌<◌, ◌++◌, OnOk, codes};
 ghost use Rattle.ds_debug.specs.Stops.{reason_text, signal_of, stop_text};
 
+use crate::digits::push_address;
 use crate::threads::push_thread;
 use ds_packets::push_hex;
 use std::alloc::AllocError;
@@ -13,6 +14,8 @@ pub enum Reason {
     Rest,
     /// It stands at a breakpoint.
     Break,
+    /// A byte of what it watches from this address on has changed.
+    Watch(u32),
     /// It was denied something: this signal tells what. Or it had no turn yet to which it could go back:
     /// SIGINT.
     Signal(u8),
@@ -28,19 +31,29 @@ fn signal_of(reason: Reason) -> u8
 {
     match reason {
         Reason::Signal(signal) => signal,
-        Reason::Rest | Reason::Break | Reason::Begin | Reason::End => 5,
+        Reason::Rest | Reason::Break | Reason::Watch(_) | Reason::Begin | Reason::End => 5,
     }
 }
 
-/// What else is told of the reason.
-fn reason_text(reason: Reason) -> &'static [u8]
-    ensures { result.now ≡ reason_text reason }
+/// Adds that what is watched from an address on has changed.
+fn push_watch(text: &mut Vec<u8>, address: u32) -> Result<(), AllocError>
+    ensures { OnOk result (text.new.items ≡ text.old.items ++ reason_text (Reason.Watch address)) }
+{
+    text.extend_from_slice(b"watch:")?;
+    push_address(text, address)?;
+    text.extend_from_slice(b";")
+}
+
+/// Adds what else is told of the reason.
+fn push_reason(text: &mut Vec<u8>, reason: Reason) -> Result<(), AllocError>
+    ensures { OnOk result (text.new.items ≡ text.old.items ++ reason_text reason) }
 {
     match reason {
-        Reason::Break => b"swbreak:;",
-        Reason::Begin => b"replaylog:begin;",
-        Reason::End => b"replaylog:end;",
-        Reason::Rest | Reason::Signal(_) => &[],
+        Reason::Break => text.extend_from_slice(b"swbreak:;"),
+        Reason::Watch(address) => push_watch(text, address),
+        Reason::Begin => text.extend_from_slice(b"replaylog:begin;"),
+        Reason::End => text.extend_from_slice(b"replaylog:end;"),
+        Reason::Rest | Reason::Signal(_) => Ok(()),
     }
 }
 
@@ -55,5 +68,5 @@ pub(crate) fn push_stop(text: &mut Vec<u8>, process: u32, reason: Reason) -> Res
     text.extend_from_slice(b"thread:")?;
     push_thread(text, process)?;
     text.extend_from_slice(b";")?;
-    text.extend_from_slice(reason_text(reason))
+    push_reason(text, reason)
 }

@@ -1,5 +1,6 @@
 //! gdb's stream of bytes: what is written while they come.
-ghost use Rattle.std.specs.Prelude.{◌≡◌, ◌++◌, Ok, OnErr, OnOk, false, true};
+ghost use Rattle.std.specs.Prelude.{◌≡◌, ◌++◌, IfErr, Ok, OnErr, OnOk, false, true};
+ghost use Rattle.ds_station.specs.Faults.{IsNewFault};
 ghost use Rattle.ds_packets.specs.Scanning.{start};
 ghost use Rattle.ds_packets.specs.Streams.{listed};
 ghost use Rattle.ds_debug.specs.Streams.{AnswersWords, Hears, HearsAll, HearsOne, HearsWords, acknowledges_after, is_end, mark_text};
@@ -78,8 +79,10 @@ impl<'a> Exchange<'a> {
         words: &[u8],
         out: &mut Vec<u8>,
     ) -> Result<(), Fault>
-        ensures { OnOk result (AnswersWords words.now self.old self.new
+        ensures answers { OnOk result (AnswersWords words.now self.old self.new
             out.old.items out.new.items) }
+        ensures faults { self.old.session.cut ≡ false → IfErr result IsNewFault }
+        ensures uncut { OnOk result (self.new.session.cut ≡ self.old.session.cut) }
     {
         match self.session.answer(alloc, words, out) {
             Ok(()) => {}

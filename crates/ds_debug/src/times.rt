@@ -1,10 +1,19 @@
 //! A time at which a run is to stop once.
 ghost use Rattle.std.specs.Prelude.{◌≡◌, ◌<◌, ◌≤◌, IfSome};
+ghost use Rattle.ds_debug.specs.Places.{earlier};
 ghost use Rattle.ds_debug.specs.Times.{asked_after, asked_place, bound_by, is_before, is_passed};
 
 use crate::goals::Stop;
 use crate::places::{Place, Sought};
 use crate::stops::Reason;
+
+/// The earlier of two times.
+pub(crate) fn earlier(time: u64, limit: u64) -> u64
+    ensures value { result ≡ earlier time limit }
+    ensures within { result ≤ limit }
+{
+    if time < limit { time } else { limit }
+}
 
 /// Up to when a run goes on: to the time that is asked for, where it lies ahead and before the end.
 pub(crate) fn bound_by(asked: Option<u64>, time: u64, limit: u64) -> u64
@@ -69,10 +78,10 @@ pub(crate) fn asked_place(
 ) -> Option<Place>
     requires process { process < 256 }
     requires small { IfSome place (λ p. p.stop.process ≤ 100) }
-    requires early { IfSome place (λ p. p.time < until) }
+    requires early { IfSome place (λ p. p.time ≤ until) }
     ensures value { result ≡ asked_place sought asked until process place }
     ensures small { IfSome result (λ p. p.stop.process < 256) }
-    ensures early { IfSome result (λ p. p.time < until) }
+    ensures early { IfSome result (λ p. p.time ≤ until) }
 {
     match sought {
         Sought::LastStop => match asked {

@@ -10,7 +10,7 @@ use Rattle.ds_packets.specs.declared.packet.Action.TheVariants.{Continue, Step, 
 use Rattle.ds_packets.specs.declared.packet.Report.{Report}
 use Rattle.ds_packets.specs.declared.packet.Report.TheVariants as report
 use Rattle.ds_packets.specs.declared.packet.Packet.{Packet}
-use Rattle.ds_packets.specs.declared.packet.Packet.TheVariants.{Supported, NoAcknowledgements, Description, Why, FirstThreads, MoreThreads, ThreadInfo, Monitor, StopAt, Attached, Current, Alive, Look, Go, Registers, Register, Memory, Write, Break, Unbreak, Actions, Resume, Forward, Backward, Leave, End}
+use Rattle.ds_packets.specs.declared.packet.Packet.TheVariants.{Supported, NoAcknowledgements, Description, Why, FirstThreads, MoreThreads, ThreadInfo, Monitor, StopAt, Attached, Current, Alive, Look, Go, Registers, Register, Memory, Write, Break, Unbreak, Watch, Unwatch, Actions, Resume, Forward, Backward, Leave, End}
 use Rattle.ds_packets.specs.declared.packet.Refusal.{Refusal}
 use Rattle.ds_packets.specs.declared.packet.Refusal.TheVariants.{Unknown, Malformed}
 use Rattle.ds_packets.specs.Framing.{hex_text, pair_of}
@@ -53,11 +53,17 @@ abbrev pub breakpoint : Bool → Option (ℕ × ℕ) → Result Packet Refusal
 breakpoint set None = Err Malformed
 breakpoint set (Some range) = Ok (if set then Break range.0 else Unbreak range.0)
 
--- KIND,ADDRESS,SIZE: both kinds are one
+-- a watch of so many bytes from an address on
+abbrev pub watchpoint : Bool → Option (ℕ × ℕ) → Result Packet Refusal
+watchpoint set None = Err Malformed
+watchpoint set (Some range) = Ok (if set then Watch range.0 range.1 else Unwatch range.0 range.1)
+
+-- KIND,ADDRESS,SIZE: a breakpoint, of which both kinds are one, or a watch of what is written
 abbrev pub stopped_at : Bool → List ℕ → Result Packet Refusal
 stopped_at set rest =
     if bytes_eq (before 44 rest) (codes "0") || bytes_eq (before 44 rest) (codes "1")
     then breakpoint set (pair_at (after 44 rest))
+    else if bytes_eq (before 44 rest) (codes "2") then watchpoint set (pair_at (after 44 rest))
     else Err Unknown
 
 -- after b: c or s

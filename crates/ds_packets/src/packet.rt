@@ -80,6 +80,10 @@ pub enum Packet {
     Break(u32),
     /// `z0`, `z1`: no breakpoint at an address any more.
     Unbreak(u32),
+    /// `Z2`: a watch of so many bytes from an address on.
+    Watch { address: u32, length: u32 },
+    /// `z2`: no watch of them any more.
+    Unwatch { address: u32, length: u32 },
     /// `vCont?`: the actions that are known.
     Actions,
     /// `vCont`: actions, each of processes.

@@ -1,5 +1,6 @@
 //! Packets, read by their names and forms.
 ghost use Rattle.std.specs.Prelude.{◌≡◌, ◌<◌, ◌≤◌, IfSome};
+ghost use Rattle.ds_packets.specs.Words.{pair_at};
 ghost use Rattle.ds_packets.specs.Packets.{
   action_for,
   action_of,
@@ -8,6 +9,7 @@ ghost use Rattle.ds_packets.specs.Packets.{
   alive,
   alone,
   back_of,
+  breakpoint,
   chosen,
   described,
   digit_at,
@@ -32,6 +34,7 @@ ghost use Rattle.ds_packets.specs.Packets.{
   ticks_from,
   ticks_of,
   told,
+  watchpoint,
   with_arguments,
 };
 
@@ -97,20 +100,43 @@ fn looked(rest: &[u8]) -> Option<Packet>
     }
 }
 
-/// A breakpoint that is set or taken away, of either kind.
+/// A breakpoint that is set or taken away.
+fn breakpoint(set: bool, range: &[u8]) -> Result<Packet, Refusal>
+    ensures { result ≡ breakpoint set (pair_at range.now) }
+{
+    match pair_at(range) {
+        Some((address, _)) => Ok(if set {
+            Packet::Break(address)
+        } else {
+            Packet::Unbreak(address)
+        }),
+        None => Err(Refusal::Malformed),
+    }
+}
+
+/// A watch that is set or taken away.
+fn watchpoint(set: bool, range: &[u8]) -> Result<Packet, Refusal>
+    ensures { result ≡ watchpoint set (pair_at range.now) }
+{
+    match pair_at(range) {
+        Some((address, length)) => Ok(if set {
+            Packet::Watch { address, length }
+        } else {
+            Packet::Unwatch { address, length }
+        }),
+        None => Err(Refusal::Malformed),
+    }
+}
+
+/// A breakpoint, of either kind, or a watch that is set or taken away.
 fn stopped_at(set: bool, rest: &[u8]) -> Result<Packet, Refusal>
     ensures { result ≡ stopped_at set rest.now }
 {
     let (kind, range) = cut_at(rest, b',');
     if kind == b"0".as_slice() || kind == b"1".as_slice() {
-        match pair_at(range) {
-            Some((address, _)) => Ok(if set {
-                Packet::Break(address)
-            } else {
-                Packet::Unbreak(address)
-            }),
-            None => Err(Refusal::Malformed),
-        }
+        breakpoint(set, range)
+    } else if kind == b"2".as_slice() {
+        watchpoint(set, range)
     } else {
         Err(Refusal::Unknown)
     }

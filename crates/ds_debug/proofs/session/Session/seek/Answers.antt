@@ -1,11 +1,13 @@
-use Rattle.std.proofs.Common.{◌≡◌, ◌<◌, ℕ, List, [], Option, Some, ◌∙◌, subst}
+use Rattle.std.proofs.Common.{◌≡◌, ◌≤◌, ℕ, List, [], Option, Some, ◌∙◌, subst}
 use Rattle.std.specs.Prelude.{IfSome}
 use Rattle.ds_packets.specs.declared.packet.Action.{Action}
 use Rattle.ds_packets.specs.declared.packet.Action.TheVariants.{Continue}
-use Rattle.ds_debug.specs.Backward.{FindsIn, earlier, until_of}
+use Rattle.ds_debug.specs.Backward.{FindsIn, until_of}
+use Rattle.ds_debug.specs.Goals.{goal_with}
+use Rattle.ds_debug.specs.Places.{earlier}
 use Rattle.ds_debug.specs.Resumes.{actions_by, goal_of}
 use Rattle.ds_debug.specs.Sessions.{SessionState}
-use Rattle.ds_debug.proofs.Returning.{finds_alike, goal_with, goals_alike, until_alike}
+use Rattle.ds_debug.proofs.Returning.{finds_alike, goals_alike, until_alike}
 use Rattle.ds_debug.proofs.session.Session.seek.Goals as goal
 
 pub returns-in-Ok-find_last-clause-finds : goal.returns-in-Ok-find_last-clause-finds
@@ -18,15 +20,15 @@ returns-in-Ok-find_last-clause-finds c =
       start = c.in-Ok.station.held;
       last = c.find_last.new.station.held;
       begins = c.in-Ok.ensures.begins;
-      finds = finds_alike c.args.sought (goal_with c.as_slice.result.now c.as_slice-2.result.now) (goal_with actions inside.breakpoints.items) c.earlier-until.result (earlier inside.station.held.kept.state.time inside.limit)
+      finds = finds_alike c.args.sought (goal_with c.as_slice.result.now c.as_slice-2.result.now c.as_slice-3.result.now) (goal_with actions inside.breakpoints.items inside.watchpoints.items) c.earlier-until.result (earlier inside.station.held.kept.state.time inside.limit)
           c.in-Ok-find_last.place c.in-Ok.station.held c.find_last.new.station.held
-          (goals_alike c.as_slice.result.now actions c.as_slice-2.result.now inside.breakpoints.items (listed ∙ c.in_ok-actions.ensures) c.as_slice-2.ensures.value)
+          (goals_alike c.as_slice.result.now actions c.as_slice-2.result.now inside.breakpoints.items c.as_slice-3.result.now inside.watchpoints.items (listed ∙ c.in_ok-actions.ensures) c.as_slice-2.ensures.value c.as_slice-3.ensures.value)
           (until_alike c.earlier-until.result c.time.result inside.station.held.kept.state.time inside.limit c.earlier-until.ensures.value c.time.ensures.held) c.in-Ok-find_last.ensures.finds;
     })
 
 pub returns-in-Ok-find_last-clause-early : goal.returns-in-Ok-find_last-clause-early
 returns-in-Ok-find_last-clause-early c =
     let inside = c.self.inside in
-    subst (λ (s : SessionState). IfSome c.in-Ok-find_last.place (λ p. p.time < until_of s)) c.self.view_is
-    (subst (λ (t : ℕ). IfSome c.in-Ok-find_last.place (λ p. p.time < t))
+    subst (λ (s : SessionState). IfSome c.in-Ok-find_last.place (λ p. p.time ≤ until_of s)) c.self.view_is
+    (subst (λ (t : ℕ). IfSome c.in-Ok-find_last.place (λ p. p.time ≤ t))
     (until_alike c.earlier-until.result c.time.result inside.station.held.kept.state.time inside.limit c.earlier-until.ensures.value c.time.ensures.held) c.in-Ok-find_last.ensures.early)

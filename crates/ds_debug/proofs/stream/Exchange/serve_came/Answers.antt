@@ -1,4 +1,4 @@
-use Rattle.std.proofs.Common.{◌∷◌, [], Option, Result, List, ℕ, sym, subst}
+use Rattle.std.proofs.Common.{[], Option, Result, List, ℕ, sym, subst}
 use Rattle.std.specs.Prelude.{OnErr, OnOk}
 use Rattle.ds_packets.specs.Streams.{listed}
 use Rattle.ds_packets.specs.declared.scan.PacketFault.{PacketFault}

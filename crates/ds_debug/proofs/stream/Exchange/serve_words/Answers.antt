@@ -1,4 +1,4 @@
-use Rattle.std.proofs.Common.{◌≡◌, inl, ℕ, List, [], sym, subst}
+use Rattle.std.proofs.Common.{inl, ℕ, List, subst}
 use Rattle.std.specs.Prelude.{Option}
 use Rattle.std.specs.Io.KnownBytes.{Appends}
 use Rattle.ds_log.specs.Sent.{AppendsPart}
@@ -28,7 +28,7 @@ returns-clause-ok g c =
     ok_gives c.send_now.result
     (λ written. words_written c.args.words.now old new w0 w1 w2 text
     (subst (λ (e : ExchangeState). Appends w0 w1 (mark_text e.acknowledges 43)) c.self.view_is c.in-Ok.ensures.ok)
-    (subst (λ (t : List ℕ). AnswersWords c.args.words.now old new t text) c.new-text.ensures.items c.in-Ok-answer_words.ensures)
+    (subst (λ (t : List ℕ). AnswersWords c.args.words.now old new t text) c.new-text.ensures.items c.in-Ok-answer_words.ensures.answers)
     (subst (Appends w1 w2) c.deref.ensures.value written)) c.send_now.ensures.ok
 
 pub returns-clause-err : goal.returns-clause-err
@@ -42,5 +42,5 @@ returns-clause-err g c =
     err_gives c.send_now.result
     (λ written. words_cut c.args.words.now old new w0 w1 w2 text
     (subst (λ (e : ExchangeState). Appends w0 w1 (mark_text e.acknowledges 43)) c.self.view_is c.in-Ok.ensures.ok)
-    (subst (λ (t : List ℕ). AnswersWords c.args.words.now old new t text) c.new-text.ensures.items c.in-Ok-answer_words.ensures)
+    (subst (λ (t : List ℕ). AnswersWords c.args.words.now old new t text) c.new-text.ensures.items c.in-Ok-answer_words.ensures.answers)
     (subst (AppendsPart w1 w2) c.deref.ensures.value written)) c.send_now.ensures.err
