@@ -7,12 +7,10 @@ kernel mode: sums, accesses of memory and devices by all segments, calls, branch
 tests that the files are as this script writes them, and that each exception is met.
 """
 import random
-import sys
 from pathlib import Path
 
-sys.dont_write_bytecode = True
-
-from bare_model import told  # noqa: E402
+from bare_model import told
+from case_files import write
 
 FOLDER = Path(__file__).resolve().parent.parent / "crates" / "rows" / "data" / "bare"
 CASES, MOST, START = 16, 500, 40
@@ -169,10 +167,5 @@ def files():
     return {FOLDER / "drawn.input": keys(), FOLDER / "drawn.cases": table(range(1, CASES + 1), WORDS), **by_kind}
 
 
-def main():
-    for path, content in files().items():
-        path.write_text(content)
-
-
 if __name__ == "__main__":
-    main()
+    write(files())

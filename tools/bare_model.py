@@ -13,13 +13,11 @@ from pathlib import Path
 from types import SimpleNamespace
 from typing import NamedTuple
 
-sys.dont_write_bytecode = True
-
-import trace_model  # noqa: E402
-from bare_devices import Bus, BusError  # noqa: E402
-from hostile_model import LOADS, SIZES, STORES, Hostile, decode, signed  # noqa: E402
-from trace_model import BRANCHES, DATA, decode_all, files_in, image  # noqa: E402
-from turns_model import MASK, Denied  # noqa: E402
+import trace_model
+from bare_devices import Bus, BusError
+from hostile_model import LOADS, SIZES, STORES, Hostile, decode, signed
+from trace_model import BRANCHES, COMMON, DATA, by_names, decode_all, files_in, image
+from turns_model import MASK, Denied
 
 SLOTS, WIRED, FIRST = 64, 8, 0x8040_0000  # Random names slots from the first that is not wired
 REFILL, GENERAL, VECTOR_WORDS, FINISH = 0x8000_0000, 0x8000_0080, 32, 0x4D
@@ -98,12 +96,17 @@ def decoded(word):
     return ("reserved",) if name is None else (name, *o)
 
 
-def text_of(word):
-    """A word as `dsmon list --words` writes it."""
+def text_of(word, names=False):
+    """A word as `dsmon list --words` writes it, or with common names as with `--names`; a register of the coprocessor has its number only."""
     name, *o = decoded(word)
     if name in ("mfc0", "mtc0"):
-        return f"{name} ${o[0]},${o[1]}"
-    return name if name in SYSTEM.values() else trace_model.text_of(word)
+        return f"{name} {register_text(o[0], names)},${o[1]}"
+    text = name if name in SYSTEM.values() else trace_model.text_of(word)
+    return by_names(text) if names else text
+
+
+def register_text(n, names):
+    return f"${COMMON[n] if names else n}"
 
 
 class View(NamedTuple):
@@ -116,6 +119,7 @@ class View(NamedTuple):
     matches: bool = False
     counts: bool = False
     memory: tuple = ()  # the address and the count of each span
+    names: bool = False  # whether registers have their common names
 
     def reaches(self, number):
         """Whether the instruction with this number may be told."""
@@ -376,7 +380,7 @@ class Machine:
             "tlb": is_done and SYSTEM.get(word, "rfe") != "rfe" or code in (1, 2, 3),
             "devices": is_done and is_device or code == 0 or asked != self.bus.requests(),
         }[view.only]
-        line = self.line(done, pc, word, r, others, slot, stored, code, is_jump) if is_told else ""
+        line = self.line(view.names, done, pc, word, r, others, slot, stored, code, is_jump) if is_told else ""
         return line + (self.begun(slots) if view.matches else ""), ending
 
     def begun(self, before):
@@ -384,14 +388,14 @@ class Machine:
         pairs = [(a, b) for a in range(SLOTS) for b in range(a + 1, SLOTS) if self.slots[a].meets(self.slots[b]) and not before[a].meets(before[b])]
         return "".join(f"slots {a} and {b} match each other, which the architecture forbids\n" for a, b in pairs) if before != self.slots else ""
 
-    def line(self, done, pc, word, r, others, slot, stored, code, is_jump):
+    def line(self, names, done, pc, word, r, others, slot, stored, code, is_jump):
         """The line of an instruction."""
-        told = [f"{done + 1} {pc:08X} {'not fetched' if word is None else text_of(word)}"]
+        told = [f"{done + 1} {pc:08X} {'not fetched' if word is None else text_of(word, names)}"]
         if code is None and not is_jump:
             told += [f"slot {slot} {self.slots[slot]}"] if slot is not None else []
             told += [f"{stored[0] & ~3:08X} holds {self.bus.word(stored[0] & ~3) if self.bus.is_memory(stored[0]) else stored[1]:08X}"] if stored else []
-            told += [f"${self.late[0]} is late"] if self.late else []
-        told += [f"${n} {new:08X}" for n, (old, new) in enumerate(zip(r, self.seen())) if old != new]
+            told += [f"{register_text(self.late[0], names)} is late"] if self.late else []
+        told += [f"{register_text(n, names)} {new:08X}" for n, (old, new) in enumerate(zip(r, self.seen())) if old != new]
         told += [f"{name} {new:08X}" for (name, new), old in zip(self.others().items(), others.values()) if old != new]
         told += [f"exception {exception_text(code)} at {self.pc:08X}"] if code is not None else []
         return "; ".join(told) + "\n"
@@ -420,7 +424,7 @@ class Machine:
     def end(self, view, done, why):
         yield f"end after {done}: {why}\n"
         for n, value in enumerate(self.seen()):
-            yield f"${n} {value:08X}\n"
+            yield f"{register_text(n, view.names)} {value:08X}\n"
         for name, value in self.others().items():
             yield f"{name} {value:08X}{fields_text(name, value)}\n"
         yield f"Random {self.random}\n"
@@ -467,12 +471,12 @@ def fields_text(name, w):
 def told(read, words):
     """What `dsmon` writes for these words, the first of which is `bare`, with a function from a file's name to its text."""
     _, source, most, *flags = [part for word in words for part in word.split("=")]
-    plain = ("--quiet", "--matches", "--counts")
-    is_quiet, matches, counts = (it in flags for it in plain)
+    plain = ("--quiet", "--matches", "--counts", "--names")
+    is_quiet, matches, counts, names = (it in flags for it in plain)
     flags = [it for it in flags if it not in plain]
     given = dict(zip(flags[::2], flags[1::2]))
     memory = [it.split(":") for name, it in zip(flags[::2], flags[1::2]) if name == "--memory"]
-    view = View(is_quiet, int(given.get("--from", 0)), int(given["--to"]) if "--to" in given else None, given.get("--only"), matches, counts, tuple((int(address, 16), int(count)) for address, count in memory))
+    view = View(is_quiet, int(given.get("--from", 0)), int(given["--to"]) if "--to" in given else None, given.get("--only"), matches, counts, tuple((int(address, 16), int(count)) for address, count in memory), names)
     lines = [line.split(" ") for line in read(given["--keys"]).splitlines()] if "--keys" in given else []
     keys = [(int(o[0]), int(o[2]), byte) for o in lines if o[1:2] == ["key"] for byte in bytes.fromhex(o[3])]
     return "".join(Machine(words_of(read(source)), int(given.get("--random", 63)), keys).run(int(most), view)).encode()

@@ -14,9 +14,7 @@ import sys
 import tempfile
 from pathlib import Path
 
-sys.dont_write_bytecode = True
-
-import elf_to_policy  # noqa: E402
+import elf_to_policy
 
 TOP = Path(__file__).resolve().parent.parent
 EXAMPLES = TOP / "examples" / "c"

@@ -16,9 +16,7 @@ from collections import Counter
 from pathlib import Path
 from typing import NamedTuple, Optional
 
-sys.dont_write_bytecode = True
-
-from trace_model import DATA, UNKNOWN, Denied, Traced, begun, files_in, is_refused_command, rule_of  # noqa: E402
+from trace_model import DATA, UNKNOWN, Denied, Traced, begun, files_in, is_refused_command, rule_of
 
 BY_HAND = "came/by_hand"
 FLAGS = ("--summary", "--must-end", "--memory", "--most")
@@ -78,7 +76,7 @@ def asked(words):
     """What these words ask for; a flag's value stands after it, or after an equals sign."""
     command, *rest = [part for word in words for part in word.split("=")]
     left, names, flags, windows, most = iter(rest), [], set(), [], None
-    view = {"from": 0, "to": 2**63, "processes": set(), "only": None, "processor": "--processor" in rest, "entries": "--entries" in rest, "random": 63}
+    view = {"from": 0, "to": 2**63, "processes": set(), "only": None, "processor": "--processor" in rest, "entries": "--entries" in rest, "source": "--source" in rest, "names": "--names" in rest, "random": 63}
     for it in left:
         match it:
             case "--from" | "--to" | "--random": view[it[2:]] = int(next(left))

@@ -18,11 +18,9 @@ import sys
 from dataclasses import dataclass, field
 from pathlib import Path
 
-sys.dont_write_bytecode = True
-
-from elf_program import MAY_RUN, MAY_WRITE, MOST_ENTRIES, MOST_PAGES, PAGE, Program, Refused, program_of, words_of  # noqa: E402
-from guest_files import MOST_TICKS, check_data, data_of, keys_text  # noqa: E402
-from later_instructions import COPROCESSOR, FLOATING_POINT, coprocessor  # noqa: E402
+from elf_program import MAY_RUN, MAY_WRITE, MOST_ENTRIES, MOST_PAGES, PAGE, Program, Refused, program_of, words_of
+from guest_files import MOST_TICKS, check_data, data_of, keys_text
+from later_instructions import COPROCESSOR, FLOATING_POINT, coprocessor
 
 PARTS = 16  # pages in a source
 MOST_RULES, MOST_PROCESSES = 999, 100

@@ -14,9 +14,7 @@ import sys
 import time
 from pathlib import Path
 
-sys.dont_write_bytecode = True
-
-from gate_times import KINDS, ROOMS, TOP, edits_by_crate, seconds_in  # noqa: E402
+from gate_times import KINDS, ROOMS, TOP
 
 PAGE, MEASURED = "docs/figures.md", "tools/figures.json"
 HEAD = """\
@@ -34,6 +32,16 @@ def runs_of(measured):
     """The part on whole commands."""
     rows = [[it["what"], it["day"], it["processors"], it["minutes"], it["processor minutes"], f"`{it['last line']}`"] for it in measured["runs"]]
     return ["## What whole commands took", "", *table(["Command", "Day", "Processors", "Minutes", "Processor minutes", "Last line"], rows)]
+
+
+def edits_by_crate(top):
+    """The crates in the order of crates.txt, and of each how many edits each folder of them has."""
+    lines = [it.partition("#")[0].partition(":")[0].split() for it in Path(top, "crates.txt").read_text("utf-8").split("\n")]
+    return {it[0]: {room: len(list(Path(top, "crates", it[0], room).glob("*.edit"))) for room in ROOMS} for it in lines if it}
+
+
+def seconds_in(took):
+    return f"{took:.0f}" if took >= 0.5 else ""
 
 
 def crates_of(edits, measured):

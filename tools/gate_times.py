@@ -1,10 +1,9 @@
 #!/usr/bin/env python3
-"""Tells what the gate takes, by crate: runs a command, reads the processor seconds of all processes that it starts, and writes a table.
+"""Tells what the gate takes, by crate: runs a command, and reads the processor seconds of all processes that it starts.
 
     tools/gate_times.py --keep CI -- rt ci                                the proofs, the tests, and the edits of must-fail/
     tools/gate_times.py --keep WRONG -- tools/wrong_bodies.py             the edits of wrong/
-    tools/gate_times.py CI WRONG                                          the table of both, from the files that --keep wrote
-    tools/figures.py --seconds CI WRONG                                   takes both over into docs/figures.md
+    tools/figures.py --seconds CI WRONG                                   takes both over into docs/figures.md, as a table
 
 A process is counted for the crate that its words name (`--crate-name`), as a proof, as a proof with tests (`--test`), or as the try of an
 edit, by the folder that it runs in. It is read a few times a second, as long as it runs; so the last fraction of a second of each
@@ -119,46 +118,16 @@ def measured(words, keep=None):
     return ran.returncode, reader.rows()
 
 
-def table(rows, edits):
-    """The lines of a table by crate, with what each kind took in whole processor seconds, and the sums. `edits` has the crates in their
-    order, and of each how many edits each of its folders has."""
-    total = defaultdict(float)
-    for crate, kind, seconds in rows:
-        total[crate, kind] += seconds
-        total["all", kind] += seconds
-    counts = {**edits, "all": {room: sum(it[room] for it in edits.values()) for room in ROOMS}}
-    lines = ["| Crate | Proof | With tests | `must-fail/` | | `wrong/` | |", "|---|---|---|---|---|---|---|"]
-    for crate, its in counts.items():
-        cells = [seconds_in(total[crate, kind]) for kind in KINDS[:2]]
-        for room in ROOMS:
-            cells += [str(its[room] or ""), seconds_in(total[crate, room])]
-        lines.append(" | ".join([f"| `{crate}`" if crate in edits else "| all", *cells]) + " |")
-    return [*lines, "", f"Other processes took {total['all', 'other']:.0f} processor seconds."]
-
-
-def seconds_in(took):
-    return f"{took:.0f}" if took >= 0.5 else ""
-
-
-def edits_by_crate(top=TOP):
-    """The crates in the order of crates.txt, and of each how many edits each folder of them has."""
-    lines = [it.partition("#")[0].partition(":")[0].split() for it in Path(top, "crates.txt").read_text("utf-8").split("\n")]
-    count = lambda crate, room: len(list(Path(top, "crates", crate, room).glob("*.edit")))
-    return {it[0]: {room: count(it[0], room) for room in ROOMS} for it in lines if it}
-
-
 def main(words):
     command = words[words.index("--") + 1 :] if "--" in words else []
     parser = argparse.ArgumentParser(prog="gate_times.py", description=__doc__, formatter_class=argparse.RawDescriptionHelpFormatter)
-    parser.add_argument("files", metavar="FILE", nargs="*", help="a file that --keep wrote")
     parser.add_argument("--keep", metavar="FILE", help="write there what was read")
     given = parser.parse_args(words[: words.index("--")] if "--" in words else words)
-    if bool(command) == bool(given.files):
-        parser.error("say a command behind --, or files")
-    rows, status = [row for it in given.files for row in json.loads(Path(it).read_text("utf-8"))], 0
-    if command:
-        status, rows = measured(command, given.keep)
-    print("\n".join(table(rows, edits_by_crate())))
+    if not command:
+        parser.error("say a command behind --")
+    status, rows = measured(command, given.keep)
+    for crate, kind, seconds in rows:
+        print(f"{crate or 'all others'}, {kind}: {seconds:.0f} s")
     return status
 
 

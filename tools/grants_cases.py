@@ -6,17 +6,21 @@ by hand, with its answers, and only tested.
 """
 import itertools
 import random
-import sys
 from pathlib import Path
 
-sys.dont_write_bytecode = True
-
-from grants_model import Model, answer, is_page  # noqa: E402
+from case_files import write
+from grants_answers import Model, answer
+from grants_model import is_page
 
 CALLS = ["grant", "give", "take", "drop", "revoke", "narrow", "end", "split", "expire"]
 CRATE = Path(__file__).resolve().parent.parent / "crates" / "part_cases"
 DATA = CRATE / "data" / "grants"
 OUTPUT = CRATE / "stdout"
+
+
+def told(place):
+    """A process and an address, as a line has them."""
+    return f"{place[0]} {place[1]:08x}"
 
 
 class File:
@@ -38,6 +42,14 @@ class File:
             self.reasons.append((asked.split()[0], tuple(self.model.reasons)))
         self.lines.append(line)
         return answered
+
+    def ask_each(self, *lines):
+        for asked in lines:
+            self.ask(asked)
+
+    def fill(self, places):
+        """Each of these processes misses at its address, so that the buffer has it."""
+        self.ask_each(*(f"fill {told(place)}" for place in places))
 
     def text(self):
         return "\n".join(self.lines) + "\n"
@@ -62,20 +74,12 @@ def prepare(file, frames):
     for address, page, right, give in [(0x1000, 0, "write", "give"), (0x2000, 1, "read", "give"),
                                        (0x3000, 2, "write", "keep"), (0x4000, 0, "write", "give")]:
         file.ask(f"grant 1 {address:08x} {page} {right} {give} 1")
-    file.ask("revoke 1 00004000 2")
-    file.ask("give 1 00001000 2 00001000 1")
-    file.ask("grant 2 00002000 0 write give 3")
-    file.ask("grant 2 00003000 0 write give 3")
-    file.ask("revoke 2 00003000 4")
-    file.ask("grant 3 00001000 0 write give 5")
-    file.ask("end 3")
-    for k in range(256):
-        file.ask(f"grant 4 {0x1000 * (k + 1):08x} 0 read give 6")
-    file.ask("revoke 4 00003000 6")
-    for k in range(4):
-        file.ask(f"grant 5 {0x40_0000 * k + 0x1000:08x} 0 read give 7")
-    for k in range(256):
-        file.ask(f"grant 6 {0x40_0000 * (k % 4) + 0x1000 * (k // 4 + 1):08x} 0 read give 8")
+    file.ask_each(
+        "revoke 1 00004000 2", "give 1 00001000 2 00001000 1", "grant 2 00002000 0 write give 3",
+        "grant 2 00003000 0 write give 3", "revoke 2 00003000 4", "grant 3 00001000 0 write give 5", "end 3")
+    file.ask_each(*(f"grant 4 {0x1000 * (k + 1):08x} 0 read give 6" for k in range(256)), "revoke 4 00003000 6")
+    file.ask_each(*(f"grant 5 {0x40_0000 * k + 0x1000:08x} 0 read give 7" for k in range(4)))
+    file.ask_each(*(f"grant 6 {0x40_0000 * (k % 4) + 0x1000 * (k // 4 + 1):08x} 0 read give 8" for k in range(256)))
 
 
 def undone(file, asked, p, at):
@@ -94,9 +98,9 @@ def restored(file, p, at, entry):
     if parent:
         file.ask(f"give {giver} {parent[1]:08x} {p} {at:08x} 1")
     else:
-        had = "write" if right == "nothing" else right
+        had = "write" if right == "none" else right
         file.ask(f"grant {p} {at:08x} {page or 0} {had} {'give' if give else 'keep'} {rule}")
-    if right == "nothing":
+    if right == "none":
         file.ask(f"revoke {p} {at:08x} {rule}")
 
 
@@ -110,23 +114,18 @@ def refusals():
             if frames == 4 or mode == 3:
                 undone(file, f"give 1 {source:08x} {p} {at:08x} {mode}", p, at)
     for p, at in PLACES:
-        place = f"{p} {at:08x}"
-        undone(file, f"grant {place} 0 read keep 9", p, at)
-        undone(file, f"narrow {place}", p, at)
-        undone(file, f"revoke {place} 9", p, at)
-        undone(file, f"drop {place} command", p, at)
-        if 1 <= p <= 6:
-            undone(file, f"drop {place} own", p, at)
-        for caller in (1, 2, 3):
-            undone(file, f"take {caller} {place}", p, at)
+        place = told((p, at))
+        calls = [f"grant {place} 0 read keep 9", f"narrow {place}", f"revoke {place} 9", f"drop {place} command"]
+        calls += [f"drop {place} own"] * (1 <= p <= 6)
+        for asked in (*calls, *(f"take {caller} {place}" for caller in (1, 2, 3))):
+            undone(file, asked, p, at)
     return file
 
 
 def ask_pages(file, pages):
     """Which bytes these pages have, and where they lie."""
     for page in pages:
-        file.ask(f"byte {page}")
-        file.ask(f"frame {page}")
+        file.ask_each(f"byte {page}", f"frame {page}")
 
 
 def ask_all(file, processes):
@@ -151,13 +150,13 @@ def mostly(rng, good, every):
 
 def free_places(model, p, places):
     """Where a process has room for an entry."""
-    return [at for at in places if is_page(at) and model.at(p, at).right == "nothing" and not model.is_fifth(p, at)]
+    return [at for at in places if is_page(at) and model.entry(p, at).right == "none" and not model.is_fifth(p, at)]
 
 
 def random_split(model, rng):
     """A page that may be written somewhere gets a frame of its own; more often than not one that may share its frame."""
-    writers = [(p, at) for p, row in model.entries.items() for at, entry in row.items() if entry.right == "write"]
-    marked = [(p, at) for p, at in writers if model.at(p, at).page in model.marked]
+    writers = [(p, at) for p, row in model.table.rows.items() for at, entry in row.items() if entry.right == "write"]
+    marked = [(p, at) for p, at in writers if model.entry(p, at).page in model.marked]
     if not writers:
         return None
     p, at = mostly(rng, marked, writers)
@@ -183,12 +182,12 @@ def random_call(model, rng, processes, places, often=USUAL, modes=(1, 2, 3, 3)):
         at = mostly(rng, free_places(model, p, places), places)
         return f"grant {p} {at:08x} {rng.randrange(model.named)} {right} {give} {rng.randrange(1000)}"
     if verb == "give":
-        at = mostly(rng, [at for at in held if model.at(p, at).give], places)
+        at = mostly(rng, [at for at in held if model.entry(p, at).give], places)
         to = mostly(rng, free_places(model, q, places), places)
         return f"give {p} {at:08x} {q} {to:08x} {mostly(rng, modes, [0, 4])}"
     if verb == "take":
         at = mostly(rng, [at for at, entry in model.row(q).items() if entry.giver], places)
-        return f"take {mostly(rng, [model.at(q, at).giver or p], processes)} {q} {at:08x}"
+        return f"take {mostly(rng, [model.entry(q, at).giver or p], processes)} {q} {at:08x}"
     if verb == "write":
         own = [page for page in model.live_pages() if page not in model.marked]
         return f"write {rng.choice(own)} {rng.randrange(256)}" if own else f"fill {alive[0]} {at:08x}"
@@ -210,7 +209,7 @@ def sequences():
             file.ask(random_call(file.model, rng, everybody, places))
             if k % 50 == 49:
                 ask_all(file, everybody)
-            if len(file.model.ended) >= processes - 1:
+            if len(file.model.living) <= 1:
                 file.ask(f"start {processes} {frames} {named}")
     return file
 
@@ -251,9 +250,9 @@ def kind_of_space(model, had, p):
 
 def change_of(model, rng, p):
     """A call or command that changes an entry of this process, and where."""
-    row, others = model.row(p), [q for q in model.entries if model.lives(q)]
+    row, others = model.row(p), [q for q in model.table.rows if model.lives(q)]
     at = rng.choice([at for at in SPACE_PLACES if model.held(p, at) is not None] or SPACE_PLACES)
-    entry = model.at(p, at)
+    entry = model.entry(p, at)
     if at not in row or entry.page is None:
         q = rng.choice(others)
         sources = [a for a, source in model.row(q).items() if source.page is not None and source.give]
@@ -324,7 +323,7 @@ def spaces():
 
 def store(file, p, at, byte):
     """A process stores to its page: that gets a frame of its own first, if it shares one."""
-    page = file.model.at(p, at).page
+    page = file.model.entry(p, at).page
     is_marked, frame = page in file.model.marked, file.model.lies[page]
     file.ask(f"split {p} {at:08x}")
     file.splits.append((is_marked, file.model.lies[page] != frame))
@@ -334,63 +333,45 @@ def store(file, p, at, byte):
 def ask_holders(file):
     """Where each page that is held lies, its bytes, and what the buffer has of it for each of its holders."""
     ask_pages(file, file.model.live_pages())
-    for p, row in file.model.entries.items():
+    for p, row in file.model.table.rows.items():
         for at in row:
             file.ask(f"translation {p} {at:08x}")
+
+
+def stores(file, *each):
+    """Stores, each a process, an address and a byte; after each, all holders are asked."""
+    for it in each:
+        store(file, *it)
+        ask_holders(file)
 
 
 def copies_of_copies(file):
     """A page, its copy, a copy of that and a copy of this are stored to, in each order; every holder has each in the buffer."""
     for order in itertools.permutations(range(1, 5)):
-        file.ask("start 4 4 1")
-        file.ask("write 0 10")
-        file.ask("grant 1 00001000 0 write give 1")
-        for p in range(1, 4):
-            file.ask(f"give {p} 00001000 {p + 1} 00001000 3")
-        for p in range(1, 5):
-            file.ask(f"fill {p} 00001000")
+        file.ask_each("start 4 4 1", "write 0 10", "grant 1 00001000 0 write give 1")
+        file.ask_each(*(f"give {p} 00001000 {p + 1} 00001000 3" for p in range(1, 4)))
+        file.fill((p, 0x1000) for p in range(1, 5))
         ask_holders(file)
-        for p in order:
-            store(file, p, 0x1000, 20 + p)
-            ask_holders(file)
-        store(file, order[0], 0x1000, 30)  # once more
-        ask_holders(file)
+        stores(file, *((p, 0x1000, 20 + p) for p in order), (order[0], 0x1000, 30))  # the first once more
 
 
 def originals_that_go(file):
     """The page of which copies were made goes before one of them is stored to; its number is used again."""
     for gone in ("drop 2 00001000 own", "drop 2 00001000 command", "take 1 2 00001000", "revoke 2 00001000 5", "end 2"):
-        file.ask("start 4 5 1")
-        file.ask("write 0 10")
-        file.ask("grant 1 00001000 0 write give 1")
-        file.ask("give 1 00001000 2 00001000 3")
+        file.ask_each("start 4 5 1", "write 0 10", "grant 1 00001000 0 write give 1", "give 1 00001000 2 00001000 3")
         store(file, 2, 0x1000, 11)  # page 1, which lies in frame 1
-        file.ask("give 2 00001000 3 00001000 3")
-        file.ask("give 2 00001000 3 00002000 3")
-        for at in (0x1000, 0x2000):
-            file.ask(f"fill 3 {at:08x}")
-        file.ask(gone)
+        file.ask_each("give 2 00001000 3 00001000 3", "give 2 00001000 3 00002000 3", "fill 3 00001000", "fill 3 00002000", gone)
         ask_holders(file)
-        file.ask("give 1 00001000 4 00001000 3")  # page 1 anew, which lies in frame 0
-        file.ask("fill 4 00001000")
+        file.ask_each("give 1 00001000 4 00001000 3", "fill 4 00001000")  # page 1 anew, which lies in frame 0
         ask_holders(file)
-        store(file, 4, 0x1000, 12)
-        ask_holders(file)
-        store(file, 3, 0x2000, 13)
-        ask_holders(file)
-        store(file, 3, 0x1000, 14)  # alone in its frame
-        ask_holders(file)
-        store(file, 1, 0x1000, 15)
-        ask_holders(file)
+        stores(file, (4, 0x1000, 12), (3, 0x2000, 13), (3, 0x1000, 14), (1, 0x1000, 15))  # the third lies alone in its frame
 
 
 def frames_that_are_used(file):
     """Pages that live are counted, and not frames: a copy of the last is refused while all lie in one frame, or in all frames."""
     for stored in range(5):
-        file.ask("start 2 4 1")
-        file.ask("grant 1 00001000 0 write give 1")
-        for k in range(1, 4):
-            file.ask(f"give 1 00001000 2 {0x1000 * k:08x} 3")
+        file.ask_each("start 2 4 1", "grant 1 00001000 0 write give 1")
+        file.ask_each(*(f"give 1 00001000 2 {0x1000 * k:08x} 3" for k in range(1, 4)))
         for k in range(stored):
             store(file, *((1, 0x1000) if k == 3 else (2, 0x1000 * (k + 1))), 40 + k)
         ask_holders(file)
@@ -398,16 +379,13 @@ def frames_that_are_used(file):
         file.ask("drop 2 00002000 own")
         file.ask("give 2 00001000 2 00008000 3")  # its number is used again, and lies with page 1
         ask_holders(file)
-        store(file, 2, 0x8000, 50)
-        ask_holders(file)
+        stores(file, (2, 0x8000, 50))
 
 
 def copies_of_one(file):
     """Of all 1,024 pages 1,023 are copies of one; then each gets a frame of its own, in some order."""
     rng = random.Random(1024)
-    file.ask("start 5 1024 1")
-    file.ask("write 0 7")
-    file.ask("grant 1 00001000 0 write give 1")
+    file.ask_each("start 5 1024 1", "write 0 7", "grant 1 00001000 0 write give 1")
     holders = [(1, 0x1000)]
     for k in range(1, 1024):
         p, at = k % 5 + 1, 0x40_0000 * (k % 4) + 0x1000 * (k // 5 + 2)
@@ -419,42 +397,32 @@ def copies_of_one(file):
         if n % 16 == 0:
             file.ask(f"fill {p} {at:08x}")
         store(file, p, at, n % 256)
-        file.ask(f"frame {file.model.at(p, at).page}")
+        file.ask(f"frame {file.model.entry(p, at).page}")
         if n % 16 == 0:
             file.ask(f"translation {p} {at:08x}")
-    for page in file.model.live_pages():
-        file.ask(f"byte {page}")
+    file.ask_each(*(f"byte {page}" for page in file.model.live_pages()))
 
 
 def holders_elsewhere(file):
     """A page has holders that have a number, had one before a flush, or never had one; some may only read. It is copied, and
     one of them stores to it. What the buffer has of it moves for all; what it has of others by the same numbers stays."""
     for storer in (1, 30, 64, 70):
-        file.ask("start 70 40 3")
-        file.ask("write 0 60")
-        file.ask("write 1 61")
+        file.ask_each("start 70 40 3", "write 0 60", "write 1 61")
         for p in (1, 2, 30, 64, 65, 70):
-            file.ask(f"grant {p} 00001000 0 write give 1")
-            file.ask(f"grant {p} 00400000 0 read give 1")
-            file.ask(f"grant {p} 00002000 {p % 2 + 1} write give 1")
+            file.ask_each(
+                f"grant {p} 00001000 0 write give 1", f"grant {p} 00400000 0 read give 1",
+                f"grant {p} 00002000 {p % 2 + 1} write give 1")
         file.ask("grant 66 00001000 1 write give 1")
         for places, first, last in ((0x1000, 1, 63), (0x2000, 64, 69)):
-            file.ask(f"fill 1 {places:08x}")
-            file.ask(f"enter {first} {last}")
-        for p in (2, 30, 64, 65, 66):
-            for at in (0x1000, 0x40_0000, 0x2000):
-                file.ask(f"fill {p} {at:08x}")
+            file.ask_each(f"fill 1 {places:08x}", f"enter {first} {last}")
+        file.fill(itertools.product((2, 30, 64, 65, 66), (0x1000, 0x40_0000, 0x2000)))
         file.ask("give 2 00400000 3 00005000 3")
         ask_holders(file)
-        store(file, storer, 0x1000, 62)
-        ask_holders(file)
+        stores(file, (storer, 0x1000, 62))
         file.ask("enter 1 70")
-        for p in (1, 70, 3):
-            for at in (0x1000, 0x40_0000, 0x5000):
-                file.ask(f"fill {p} {at:08x}")
+        file.fill(itertools.product((1, 70, 3), (0x1000, 0x40_0000, 0x5000)))
         ask_holders(file)
-        store(file, 3, 0x5000, 63)
-        ask_holders(file)
+        stores(file, (3, 0x5000, 63))
 
 
 def copies():
@@ -462,21 +430,14 @@ def copies():
     file = File(["Copies, and what lies where before and after the first store to each: copies of copies, pages that go before their",
                  "copies are stored to, 1,023 copies of one page, pages for which no number is left, and holders that have numbers or none.",
                  "split PROCESS ADDRESS gives the page there a frame of its own; translation answers the number of a frame."])
-    copies_of_copies(file)
-    originals_that_go(file)
-    frames_that_are_used(file)
-    copies_of_one(file)
-    holders_elsewhere(file)
+    for made in (copies_of_copies, originals_that_go, frames_that_are_used, copies_of_one, holders_elsewhere):
+        made(file)
     return file
-
-
-def places_of(model):
-    return [(p, at) for p, row in model.entries.items() for at in row]
 
 
 def above(model, place):
     """How many entries stand above the one at a place."""
-    parent = model.at(*place).parent
+    parent = model.entry(*place).parent
     return 0 if parent is None else 1 + above(model, parent)
 
 
@@ -484,7 +445,7 @@ def relatives(model, asked):
     """How many descend from the entry of a call, and how many stand above it; at the end of a process, the most of one of its."""
     verb, *words = asked.split()
     if verb == "expire":
-        changed = [(p, at) for p, row in model.entries.items() for at, entry in row.items() if model.has_ended(entry, int(words[0]))]
+        changed = [(p, at) for p, row in model.table.rows.items() for at, entry in row.items() if entry.has_ended(int(words[0]))]
     elif verb == "end":
         changed = [(int(words[0]), at) for at in model.row(int(words[0]))]
     else:
@@ -495,30 +456,29 @@ def relatives(model, asked):
 
 def reach(file, asked):
     """A call; then every entry that stood before it or stands now is asked, and what the buffer has where it had something."""
-    model, places, reached = file.model, places_of(file.model), relatives(file.model, asked)
+    model, places, reached = file.model, file.model.all_places(), relatives(file.model, asked)
     held = [place for place in places if model.held(*place) is not None]
     if file.ask(asked) == "ok":
         file.reached.append((asked.split()[0], *reached))
-    for p, at in places + [place for place in places_of(model) if place not in places]:
+    for p, at in places + [place for place in model.all_places() if place not in places]:
         file.ask(f"entry {p} {at:08x}")
     for p, at in held:
         file.ask(f"translation {p} {at:08x}")
-    for p, row in model.entries.items():
+    for p, row in model.table.rows.items():
         if row:
             file.ask(f"addresses {p}")
 
 
-def share(file, places, mode=2, fill=True):
-    """Each process shares what it has with the next, from the place where the first was granted a page on."""
-    file.ask(f"grant {places[0][0]} {places[0][1]:08x} 0 write give 1")
-    for (p, at), (q, to) in itertools.pairwise(places):
-        file.ask(f"give {p} {at:08x} {q} {to:08x} {mode}")
-    for p, at in places if fill else []:
-        file.ask(f"fill {p} {at:08x}")
+def reach_each(file, asked):
+    for line in asked:
+        reach(file, line)
 
 
-def told(place):
-    return f"{place[0]} {place[1]:08x}"
+def share(file, start, places, filled=None):
+    """Each process shares what it has with the next, from the place where the first was granted a page on. Some places, or all, are in the buffer."""
+    file.ask_each(start, f"grant {told(places[0])} 0 write give 1")
+    file.ask_each(*(f"give {told(place)} {told(to)} 2" for place, to in itertools.pairwise(places)))
+    file.fill(places if filled is None else filled)
 
 
 def long_chains(file):
@@ -533,61 +493,42 @@ def long_chains(file):
          f"grant {told(places[3])} 0 write give 11"],
         ["end 1"]]
     for asked in changes:
-        file.ask("start 2 4 1")
-        share(file, places, fill=False)
-        for p, at in places[::4] + places[1::4]:
-            file.ask(f"fill {p} {at:08x}")
-        for line in asked:
-            reach(file, line)
+        share(file, "start 2 4 1", places, places[::4] + places[1::4])
+        reach_each(file, asked)
 
 
 def families_of_a_hundred(file):
     """A page that each of 100 processes shares with the next; that one shares with all others; and that each shares with two."""
     for asked in (["end 50", "revoke 1 00001000 9"], ["drop 50 00001000 own", "take 50 51 00001000", "take 48 49 00001000"],
                   ["end 49", "end 50", "end 51", "take 48 52 00001000", "take 47 48 00001000", "take 1 2 00001000"], ["end 1", "revoke 2 00001000 9"]):
-        file.ask("start 100 4 1")
-        share(file, [(p, 0x1000) for p in range(1, 101)])
-        for line in asked:
-            reach(file, line)
+        share(file, "start 100 4 1", [(p, 0x1000) for p in range(1, 101)])
+        reach_each(file, asked)
     for asked in (["take 1 7 00001000", "end 8", "revoke 1 00001000 9"], ["drop 1 00001000 own", "revoke 9 00001000 9"], ["end 1"]):
-        file.ask("start 100 4 1")
-        file.ask("grant 1 00001000 0 write give 1")
+        file.ask_each("start 100 4 1", "grant 1 00001000 0 write give 1")
         for p in range(2, 101):
-            file.ask(f"give 1 00001000 {p} 00001000 2")
-            file.ask(f"give {p} 00001000 {p % 100 + 1} 00002000 1")
-        for p in range(1, 101):
-            file.ask(f"fill {p} 00001000")
-        for line in asked:
-            reach(file, line)
+            file.ask_each(f"give 1 00001000 {p} 00001000 2", f"give {p} 00001000 {p % 100 + 1} 00002000 1")
+        file.fill((p, 0x1000) for p in range(1, 101))
+        reach_each(file, asked)
     for asked in (["drop 3 00001000 own", "end 12", "take 1 2 00001000", "revoke 1 00001000 9"], ["take 1 3 00001000", "take 2 4 00001000", "end 5", "end 1"]):
-        file.ask("start 100 4 1")
-        file.ask("grant 1 00001000 0 write give 1")
-        for p in range(2, 101):
-            file.ask(f"give {p // 2} 00001000 {p} 00001000 {1 if p > 50 else 2}")
-        for p in range(38, 101):
-            file.ask(f"fill {p} 00001000")
-        for line in asked:
-            reach(file, line)
+        file.ask_each("start 100 4 1", "grant 1 00001000 0 write give 1")
+        file.ask_each(*(f"give {p // 2} 00001000 {p} 00001000 {1 if p > 50 else 2}" for p in range(2, 101)))
+        file.fill((p, 0x1000) for p in range(38, 101))
+        reach_each(file, asked)
 
 
 def families_with_copies(file):
     """A share is copied, and the copy shared on: what becomes of the copy and of what was shared from it, and of its page."""
     for asked in ("take 1 2 00001000", "revoke 1 00001000 9", "revoke 2 00001000 9", "drop 2 00001000 own", "end 2", "end 1",
                   "take 2 3 00001000", "revoke 3 00001000 9", "drop 3 00001000 command", "end 3", "take 3 4 00001000", "narrow 3 00001000"):
-        file.ask("start 5 3 1")
-        share(file, [(1, 0x1000), (2, 0x1000)])
-        file.ask("write 0 10")
-        file.ask("give 2 00001000 3 00001000 3")
-        file.ask("give 3 00001000 4 00001000 2")
-        file.ask("give 4 00001000 5 00002000 1")
-        file.ask("give 2 00001000 5 00001000 1")
-        for p, at in places_of(file.model):
-            file.ask(f"fill {p} {at:08x}")
+        share(file, "start 5 3 1", [(1, 0x1000), (2, 0x1000)])
+        file.ask_each(
+            "write 0 10", "give 2 00001000 3 00001000 3", "give 3 00001000 4 00001000 2",
+            "give 4 00001000 5 00002000 1", "give 2 00001000 5 00001000 1")
+        file.fill(file.model.all_places())
         reach(file, asked)
         ask_holders(file)
         for p in range(1, 5):  # by which numbers copies go from now on
-            file.ask(f"give {p} 00001000 {p} 00005000 3")
-            file.ask(f"entry {p} 00005000")
+            file.ask_each(f"give {p} 00001000 {p} 00005000 3", f"entry {p} 00005000")
 
 
 def places_used_again(file):
@@ -595,14 +536,12 @@ def places_used_again(file):
     for gone, left in (("drop 2 00001000 own", ""), ("drop 2 00001000 command", ""), ("take 1 2 00001000", ""), ("revoke 2 00001000 8", ""),
                        ("end 2", ""), ("drop 1 00001000 own", "grant 1 00001000 0 write give 7")):
         for asked in ("revoke 2 00001000 9", "drop 2 00001000 command", "take 1 2 00001000", "revoke 1 00001000 9", "take 2 3 00001000", "end 2"):
-            file.ask("start 4 4 2")
-            share(file, [(1, 0x1000), (2, 0x1000), (3, 0x1000), (4, 0x1000)])
+            share(file, "start 4 4 2", [(p, 0x1000) for p in range(1, 5)])
             reach(file, gone)
             if left:
                 file.ask(left)
-            file.ask("grant 2 00001000 1 write give 6")
-            file.ask("give 2 00001000 3 00002000 2")
-            file.ask("give 2 00001000 3 00001000 2")
+            file.ask_each(
+                "grant 2 00001000 1 write give 6", "give 2 00001000 3 00002000 2", "give 2 00001000 3 00001000 2")
             reach(file, asked)
 
 
@@ -614,77 +553,58 @@ def families_within(file):
         for place in places:
             p = place[0]
             for asked in (f"end {p}", f"drop {told(place)} own", f"revoke {told(place)} 9", f"narrow {told(place)}", "take"):
-                file.ask("start 3 4 1")
-                share(file, places)
-                giver = file.model.at(*place).giver
+                share(file, "start 3 4 1", places)
+                giver = file.model.entry(*place).giver
                 if asked == "take" and not giver:
                     continue
-                reach(file, f"take {giver} {told(place)}" if asked == "take" else asked)
-                reach(file, f"revoke {told(places[0])} 8")
-                reach(file, f"end {places[-1][0]}")
+                taken = f"take {giver} {told(place)}" if asked == "take" else asked
+                reach_each(file, (taken, f"revoke {told(places[0])} 8", f"end {places[-1][0]}"))
 
 
 def handed_on_in_turn(file):
     """A chain of 256 over 100 processes, each of whose entries is in one of its calls: handed on, narrowed, given anew and cut."""
     places = [(k % 100 + 1, 0x1000 * (k // 100 + 1)) for k in range(256)]
-    file.ask("start 100 4 1")
-    share(file, places, fill=False)
-    for p, at in places[::8]:
-        file.ask(f"fill {p} {at:08x}")
+    share(file, "start 100 4 1", places, places[::8])
     for k in (255, 254, 120, 121, 122, 40):  # the last two, three after each other, and one above all of them
         reach(file, f"drop {told(places[k])} own")
-    for asked in (f"give {told(places[119])} {told(places[120])} 2", f"narrow {told(places[119])}", f"give {told(places[120])} {told(places[121])} 1",
-                  f"drop {told(places[120])} command", f"end {places[10][0]}", f"take {places[119][0]} {told(places[121])}",
-                  f"take {places[29][0]} {told(places[30])}", f"revoke {told(places[1])} 9"):
-        reach(file, asked)
+    reach_each(file, (
+        f"give {told(places[119])} {told(places[120])} 2", f"narrow {told(places[119])}", f"give {told(places[120])} {told(places[121])} 1",
+        f"drop {told(places[120])} command", f"end {places[10][0]}", f"take {places[119][0]} {told(places[121])}",
+        f"take {places[29][0]} {told(places[30])}", f"revoke {told(places[1])} 9"))
 
 
 def against_the_numbers(file):
     """A chain of 256 from process 100 down to 1 and again, so that each share stands in a process that comes before: handed on and cut in turn."""
     places = [(100 - k % 100, 0x1000 * (k // 100 + 1)) for k in range(256)]
-    file.ask("start 100 4 1")
-    share(file, places, fill=False)
-    for p, at in places[::8]:
-        file.ask(f"fill {p} {at:08x}")
+    share(file, "start 100 4 1", places, places[::8])
     for k in (1, 2, 255, 60):
         reach(file, f"drop {told(places[k])} own")
-    for asked in (f"take {places[199][0]} {told(places[200])}", f"end {places[10][0]}", f"take {places[11][0]} {told(places[12])}", f"revoke {told(places[0])} 9"):
-        reach(file, asked)
+    reach_each(file, (
+        f"take {places[199][0]} {told(places[200])}", f"end {places[10][0]}", f"take {places[11][0]} {told(places[12])}", f"revoke {told(places[0])} 9"))
 
 
 def whole_table(file):
     """All 25,600 entries of 100 processes are one chain: some are handed on, and it is cut at one place after the other, from below."""
     places = [(100 - k % 100, 0x1000 * (k // 100 + 1)) for k in range(25_600)]
     asked = places[:4] + places[97:104] + places[12_798:12_803] + places[-3:]
-    file.ask("start 100 4 1")
-    share(file, places, fill=False)
-    for p, at in asked:
-        file.ask(f"fill {p} {at:08x}")
+    share(file, "start 100 4 1", places, asked)
     for line in (f"drop {told(places[1])} own", f"drop {told(places[100])} own", f"drop {told(places[-1])} own", f"end {places[101][0]}",
                  f"take {places[-101][0]} {told(places[-100])}", f"take {places[12_799][0]} {told(places[12_800])}", f"revoke {told(places[0])} 9"):
         file.ask(line)
         for p, at in asked:
-            file.ask(f"entry {p} {at:08x}")
-            file.ask(f"translation {p} {at:08x}")
+            file.ask_each(f"entry {p} {at:08x}", f"translation {p} {at:08x}")
 
 
 def many_places_in_turn(file):
     """A process shares from 600 of its addresses, one after the other, and each of these families is cut; those after them are found all the same."""
-    file.ask("start 4 4 1")
-    file.ask("grant 1 00001000 0 write give 1")
+    file.ask_each("start 4 4 1", "grant 1 00001000 0 write give 1")
     for k in range(600):
         at = f"{0x1000 * (k + 1):08x}"
-        file.ask(f"give 1 00001000 2 {at} 2")
-        file.ask(f"give 2 {at} 3 00001000 2")
-        file.ask(f"take 1 2 {at}")
+        file.ask_each(f"give 1 00001000 2 {at} 2", f"give 2 {at} 3 00001000 2", f"take 1 2 {at}")
     for at in ("00001000", "00258000", "00300000"):
         for gone in ("drop 2 {} own", "take 1 2 {}", "revoke 2 {} 9"):
-            file.ask(f"give 1 00001000 2 {at} 2")
-            file.ask(f"give 2 {at} 3 00001000 2")
-            file.ask("give 3 00001000 4 00001000 2")
-            reach(file, gone.format(at))
-            reach(file, "drop 3 00001000 command")
-            reach(file, "drop 4 00001000 command")
+            file.ask_each(f"give 1 00001000 2 {at} 2", f"give 2 {at} 3 00001000 2", "give 3 00001000 4 00001000 2")
+            reach_each(file, (gone.format(at), "drop 3 00001000 command", "drop 4 00001000 command"))
             if file.model.row(2):
                 file.ask(f"drop 2 {at} command")
 
@@ -704,7 +624,7 @@ def random_families(file):
                 reach(file, asked)
             else:
                 file.ask(asked)
-            if len(file.model.ended) >= processes - 1:
+            if len(file.model.living) <= 1:
                 file.ask(f"start {processes} {frames} {named}")
 
 
@@ -734,7 +654,7 @@ def begin(file, processes, frames, named, rules):
 
 def expire(file, now):
     """What has ended is asked before and after, with all that the buffer has."""
-    for p in file.model.entries:
+    for p in file.model.table.rows:
         file.ask(f"due {p} {now}")
     reach(file, f"expire {now}")
     file.ask("next")
@@ -751,8 +671,7 @@ def ends_of_rules(file):
             file.ask(f"fill {p} {address:08x}")
         for now in times:
             expire(file, now)
-        file.ask("grant 2 00001000 1 read keep 9")
-        file.ask("give 1 00003000 2 00002000 1")
+        file.ask_each("grant 2 00001000 1 read keep 9", "give 1 00003000 2 00002000 1")
         expire(file, 1_000_000_000)
 
 
@@ -765,8 +684,7 @@ def ends_of_shares(file):
         for given in ("1 00001000 2 00001000 2", "2 00001000 3 00001000 1", "2 00001000 4 00001000 3", "4 00001000 5 00001000 2", "3 00001000 5 00002000 1",
                       "3 00001000 5 00003000 3"):
             file.ask(f"give {given}")
-        for p, at in places_of(file.model):
-            file.ask(f"fill {p} {at:08x}")
+        file.fill(file.model.all_places())
         if asked:
             reach(file, asked)
         for now in (6, 7):
@@ -812,7 +730,7 @@ def random_ends(file):
                     file.ask(random_call(file.model, rng, list(range(1, processes + 1)), places, SHARING, (1, 2, 2, 2, 3)))
                 if rng.random() < 0.4:
                     expire(file, now)
-                if len(file.model.ended) >= processes - 1:
+                if len(file.model.living) <= 1:
                     break
             expire(file, 40)
 
@@ -854,10 +772,5 @@ def files():
     return {**{DATA / name: text for name, text in texts.items()}, OUTPUT: output}
 
 
-def main():
-    for path, text in files().items():
-        path.write_text(text)
-
-
 if __name__ == "__main__":
-    main()
+    write(files())

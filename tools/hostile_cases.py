@@ -10,13 +10,11 @@ start of Random. tools/test_hostile_cases.py tests that the files are as this sc
 """
 import random
 import re
-import sys
 from functools import lru_cache
 from pathlib import Path
 
-sys.dont_write_bytecode = True
-
-from hostile_model import Hostile, NotQuiet, assembled, encode  # noqa: E402
+from case_files import policy_text, write
+from hostile_model import Hostile, NotQuiet, encode
 
 TOP = Path(__file__).resolve().parent.parent / "crates" / "rows" / "data"
 FOLDER = "hostile"
@@ -30,21 +28,9 @@ CODE_PAGE, MORE_PAGE, DATA_PAGE, SLIDE, SHOW, SAVED, WITNESS = range(7)
 KEPT = [k for k in range(1, 32) if k not in (26, 27)]  # registers that a program may tell
 
 # What a process begins with: the addresses of its pages, and a copy of its data.
-PREAMBLE = """\
-lui   16,0x80
-addiu 16,16,-96
-lui   17,0x80
-lui   18,0xc0
-addiu 19,18,0x1000
-addiu 2,0,5
-syscall
-addu  5,2,0
-addu  4,18,0
-addu  6,19,0
-addiu 7,0,3
-addiu 2,0,6
-syscall
-"""
+PREAMBLE = [
+    ("lui", 16, 0x80), ("addiu", 16, 16, -96), ("lui", 17, 0x80), ("lui", 18, 0xC0), ("addiu", 19, 18, 0x1000), ("addiu", 2, 0, 5), ("syscall",),
+    ("addu", 5, 2, 0), ("addu", 4, 18, 0), ("addu", 6, 19, 0), ("addiu", 7, 0, 3), ("addiu", 2, 0, 6), ("syscall",)]
 
 
 def loaded(register, value):
@@ -100,7 +86,7 @@ class Setting:
     def __init__(self, name, about, count, rate):
         self.name, self.about, self.count, self.rate = name, about, count, rate
         self.witness = count + 1
-        self.start = CODE + 4096 - 4 * (BEFORE + len(assembled(PREAMBLE)))
+        self.start = CODE + 4096 - 4 * (BEFORE + len(PREAMBLE))
         self.rules = []
         for p in range(1, count + 1):
             self.rules += [(p, CODE, "write", CODE_PAGE, True), (p, MORE, "write", MORE_PAGE, True), (p, DATA, "write", DATA_PAGE, True),
@@ -132,17 +118,10 @@ class Setting:
         return [*events, *((ask, "key", line, b"?") for line in range(self.count + 1))]
 
     def policy(self):
-        lines = [f"# {self.about}", "version = 1", f"frames = {FRAMES}", *([f"rate = {self.rate}"] if self.rate else []), "process = ["]
-        lines += [f"    {{ start = 0x{self.start:08x}, line = {k} }}," for k in range(self.count)]
-        lines += [f"    {{ start = 0x00400000, line = {self.count} }},", "]", "page = ["]
+        processes = [*((self.start, k) for k in range(self.count)), (0x0040_0000, self.count)]
         parts = {"code": ("one.s", 0), "more": ("one.s", 1), "slide": ("show.s", 0), "show": ("show.s", 1), "witness": ("witness.s", 0)}
-        for name in NAMED:
-            rest = ', source = "%s", part = %d' % parts[name] if name in parts else ""
-            lines.append(f'    {{ name = "{name}"{rest} }},')
-        lines += ["]", "rule = ["]
-        for p, at, right, number, give in self.rules:
-            lines.append(f'    {{ process = {p}, address = 0x{at:08x}, right = "{right}", page = "{NAMED[number]}"{", give = true" if give else ""} }},')
-        return "\n".join([*lines, "]"]) + "\n"
+        rules = [(p, at, right, NAMED[number], give) for p, at, right, number, give in self.rules]
+        return policy_text(self.about, FRAMES, self.rate, processes, [(it, *parts.get(it, ())) for it in NAMED], rules)
 
     def input(self):
         lines = []
@@ -263,7 +242,7 @@ def drawn(setting):
     """The programs of a setting's cases with their runs."""
     rng, made = random.Random(f"programs of {setting.name}"), []
     while len(made) < CASES:
-        words = assembled(PREAMBLE) + Drawn(rng).words
+        words = words_of(PREAMBLE) + Drawn(rng).words
         try:
             run = setting.begun(words)
             run.run(END)
@@ -322,11 +301,5 @@ def lines():
             for setting in SETTINGS for start in STARTS]
 
 
-def main():
-    for path, content in files().items():
-        path.parent.mkdir(parents=True, exist_ok=True)
-        path.write_bytes(content)
-
-
 if __name__ == "__main__":
-    main()
+    write(files())

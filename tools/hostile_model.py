@@ -1,16 +1,15 @@
-"""What a process does whose program changes itself and jumps anywhere: a plain model of a run, from which the cases of hostile/ come.
+"""What an instruction does, also where a program changes itself and jumps anywhere: a run, over tools/turns_model.py.
 
-It is written after docs/machine.md, docs/monitor.md, docs/policy.md and docs/formats.md, over tools/turns_model.py, and shares
-nothing with the program: an instruction is the word that its page holds when it is fetched. There is no buffer, no page table and no
-touch. So a program has to be one that can't tell: NotQuiet is raised where an instruction reads register 26 or 27, or a register
-whose load is late. Register 26 may hold the address of an access, where address 0 in its place means the same bytes.
+It is written after docs/machine.md and Kane and Heinrich, and shares nothing with the program: an instruction is the word
+that its page holds when it is fetched. There is no buffer, no page table and no touch. So a program has to be one that
+can't tell: NotQuiet is raised where an instruction reads register 26 or 27, or a register whose load is late. Register 26
+may hold the address of an access, where address 0 in its place means the same bytes.
 """
-import re
 from functools import lru_cache
 
-from turns_model import MASK, Denied, Run
+from grants_model import COPY
+from turns_model import CALL, JUMP, MASK, Denied, Run
 
-CALL, JUMP = "call", "jump"
 SIGN = 2**31
 
 # Each form of operands: what of a word has to be zero, and of each operand its lowest bit and number of bits.
@@ -49,12 +48,6 @@ def encode(name, *operands):
     return code | sum((it & (1 << n) - 1) << low for it, (low, n) in zip(operands, fields))
 
 
-def assembled(text):
-    """The words of a source of instructions without labels."""
-    lines = [line.split("#")[0].strip() for line in text.splitlines()]
-    return [encode(line.split()[0], *(int(it, 0) for it in re.findall(r"-?\b\w+", line.partition(" ")[2]))) for line in lines if line]
-
-
 @lru_cache(None)
 def decode(word):
     """The name of a word's instruction, with its operands; or what it raises."""
@@ -75,19 +68,11 @@ def signed(value, n=32):
 
 
 class Hostile(Run):
-    """A run of processes whose code lies in their pages. An event is a time with a command, or with "key", a line and its bytes."""
+    """A run of processes whose code lies in their pages."""
 
-    def __init__(self, processes, pages, named, frames, rules, rate, events):
-        super().__init__(None, processes, pages, named, frames, rules, rate)
-        self.events, self.queues = list(events), [bytearray() for _ in range(4)]
-        self.seen = {}  # how often each kind of thing was met
-        self.slots, self.changed, self.copied, self.calls, self.shares = set(), set(), set(), set(), 0
-        for q in self.processes.values():
-            q.hi = q.lo = 0
-            q.late = None
-
-    def sees(self, kind):
-        self.seen[kind] = self.seen.get(kind, 0) + 1
+    def __init__(self, *begun):
+        super().__init__(*begun)
+        self.slots, self.changed, self.copied, self.shares = set(), set(), set(), 0
 
     # Accesses.
 
@@ -151,9 +136,7 @@ class Hostile(Run):
         if number in self.copied:
             self.sees("a store to a page with a copy")
             self.copied.discard(number)
-        for k, byte in enumerate(data, at):
-            if page[k] != byte:
-                self.changed.add((number, k & ~3))
+        self.changed.update((number, k & ~3) for k, byte in enumerate(data, at) if page[k] != byte)
         page[at:at + len(data)] = data
 
     def operate(self, q, name, o):
@@ -223,6 +206,7 @@ class Hostile(Run):
     def instruction(self, p, pc, in_slot):
         """One instruction: none, or a jump with its target, or a call."""
         q = self.processes[p]
+        self.notes(pc, in_slot)
         page, at = self.at(p, "fetch", pc, 4)
         if (self.number_of(page), at) in self.changed:
             self.sees("a changed word is done")
@@ -251,79 +235,23 @@ class Hostile(Run):
         q.late = late
         return None
 
-    def unit(self, p):
-        """A unit of the process, and the ticks that it takes."""
-        q = self.processes[p]
-        pc = q.pc
-        if pc in self.slots:
+    # What a test may want to be met.
+
+    def notes(self, pc, in_slot):
+        """An instruction is begun."""
+        if not in_slot and pc in self.slots:
             self.sees("a slot is begun with")
-        try:
-            done = self.instruction(p, pc, False)
-            if done is CALL:
-                q.late, q.pc = None, pc + 4 & MASK
-                self.call(p, q)
-                return 1
-            if done is None:
-                q.pc = pc + 4 & MASK
-                return 1
-            pc = pc + 4 & MASK
+        if in_slot and pc % 4096 == 0:
+            self.sees("a slot on the next page")
+        if in_slot:
             self.slots.add(pc)
-            if pc % 4096 == 0:
-                self.sees("a slot on the next page")
-            self.instruction(p, pc, True)
-            q.pc = done[1]
-            return 2
-        except Denied as denied:
-            kind, address, rule, code = denied.args
-            address = pc if address is None else address
-            self.log.append(f"{self.time} {p} {pc:08X} {kind} {address:08X} {rule} {code}")
-            self.sees(f"{kind} {rule[0]} {code}" + (" in a slot" if pc != q.pc else ""))
-            q.state, q.late = "Parked", None
-            self.ready.remove(p)
-            return 1
 
-    # Calls, and boundaries.
-
-    def call(self, p, q):
-        what = q.r[2]
-        self.calls.add(what if what < 10 else 10)
-        if what == 2:
-            queue = self.queues[q.line]
-            q.r[2] = queue.pop(0) if queue else MASK
-        elif what == 4:
-            q.r[2] = self.time
-        elif what == 9:
-            q.r[2] = 0
-            if not self.queues[q.line]:
-                q.state = "Waiting"
-                self.ready.remove(p)
-        elif what > 9:
-            q.r[2] = MASK
-        else:
-            super().call(p, q)
+    def copy_page(self, page, copy):
+        super().copy_page(page, copy)
+        self.copied |= {page, copy}
+        self.sees("a copy")
 
     def give(self, p, address, receiver, to, mode):
         number = super().give(p, address, receiver, to, mode)
-        if not number and mode != 3:
-            self.shares += 1
-        elif not number:
-            self.copied |= {self.table[p, address][1], self.table[receiver, to][1]}
-            self.sees("a copy")
+        self.shares += not number and mode != COPY
         return number
-
-    def turn(self):
-        before, runner = self.time, self.ready[0] if self.ready else None
-        self.time += self.unit(runner) if runner else 1
-        while self.events and self.events[0][0] <= self.time:
-            _, what, *words = self.events.pop(0)
-            if what == "key":
-                self.queues[words[0]] += bytes(words[1])
-            else:
-                self.obey(what, *words)
-        for p, q in self.processes.items():
-            if q.state == "Waiting" and self.queues[q.line]:
-                q.state = "Ready"
-                self.ready.append(p)
-        slice_ = 2 ** (self.rate + 2)
-        if self.rate and before // slice_ != self.time // slice_ and self.ready[:1] == [runner]:
-            self.ready.append(self.ready.pop(0))

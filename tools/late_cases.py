@@ -1,17 +1,14 @@
 #!/usr/bin/env python3
-"""Writes the rows of crates/rows/data/grants/late/, each with the text of tools/turns_model.py, and their lines of data/rows.
+"""Writes the rows of crates/rows/data/grants/late/, each with the text of tools/hostile_model.py, and their lines of data/rows.
 
 In each row pages are copied, and stored to later. In the model a copy is a page of its own at once; the machine has it lie in
 the frame of its page until one of the two is stored to. tools/test_late_cases.py tests that the files are as this script
 writes them, and that the model comes to what is worked out by hand.
 """
 import itertools
-import sys
 from pathlib import Path
 
-sys.dont_write_bytecode = True
-
-from turns_model import Run, assemble  # noqa: E402
+from case_files import plain, policy_text, write
 
 ROWS = Path(__file__).resolve().parent.parent / "crates" / "rows" / "data"
 FOLDER = "grants/late"
@@ -80,19 +77,14 @@ class Row:
         return START + 4 * sum(line.startswith(" ") for line in before)
 
     def policy(self):
-        processes = "".join(f"    {{ start = 0x{self.start_of(guest):08x}, line = {k % 4} }},\n" for k, guest in enumerate(self.guests))
-        pages = "".join(f'    {{ name = "data{k}" }},\n' for k in range(1, self.named))
-        rules = "".join(f'    {{ process = {guest.number}, address = 0x{START:08x}, right = "read", page = "code" }},\n' for guest in self.guests)
-        rules += "".join(f'    {{ process = {p}, address = 0x{at:08x}, right = "{right}", page = "data{page}", give = true }},\n'
-                         for p, at, right, page in self.rules)
-        return (f"# {self.about}\nversion = 1\nframes = {self.frames}\nprocess = [\n{processes}]\n"
-                f'page = [\n    {{ name = "code", source = "one.s", part = 0 }},\n{pages}]\nrule = [\n{rules}]\n')
+        rules = [(guest.number, START, "read", "code", False) for guest in self.guests]
+        rules += [(p, at, right, f"data{page}", True) for p, at, right, page in self.rules]
+        pages = [("code", "one.s", 0), *((f"data{k}",) for k in range(1, self.named))]
+        return policy_text(self.about, self.frames, 0, [(self.start_of(it), k % 4) for k, it in enumerate(self.guests)], pages, rules)
 
     def run(self):
-        rules = [(guest.number, START, "read", 0, False) for guest in self.guests]
-        rules += [(p, at, right, page, True) for p, at, right, page in self.rules]
-        run = Run({0: assemble(self.source, START)}, [(self.start_of(guest), k % 4) for k, guest in enumerate(self.guests)],
-                  [bytes(4096)] * self.frames, self.named, self.frames, rules, 0)
+        files = {"one.s": self.source, "policy.toml": self.policy(), "nothing": ""}
+        run = plain(files.get, "policy.toml", "nothing")
         run.run(self.n)
         return run
 
@@ -204,11 +196,5 @@ def files():
     return {ROWS / FOLDER / name / file: content for name, row in rows().items() for file, content in row.files().items()}
 
 
-def main():
-    for path, content in files().items():
-        path.parent.mkdir(parents=True, exist_ok=True)
-        path.write_bytes(content)
-
-
 if __name__ == "__main__":
-    main()
+    write(files())

@@ -15,9 +15,7 @@ import sys
 import tempfile
 from pathlib import Path
 
-sys.dont_write_bytecode = True
-
-from page import examples, files, kit, program, wasm  # noqa: E402
+from page import examples, files, kit, program, wasm
 
 TOP = Path(__file__).resolve().parent.parent
 

@@ -22,9 +22,7 @@ import zlib
 from dataclasses import dataclass
 from pathlib import Path
 
-sys.dont_write_bytecode = True
-
-import elf_to_policy  # noqa: E402
+import elf_to_policy
 
 TOP = Path(__file__).resolve().parent.parent
 EXAMPLES = TOP / "examples" / "c"

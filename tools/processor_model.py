@@ -1,15 +1,16 @@
 """The processor under a run: its translation lookaside buffer, the refill handler and what the monitor serves, as counts and entries.
 
 It is written after docs/machine.md ("The refill handler") and docs/architecture.md ("How a user instruction travels", "Late copies"),
-over tools/hostile_model.py, and shares nothing with the program. The model of a run says what a unit asks for: its fetches, its load
+over tools/hostile_model.py and tools/spaces_model.py, and shares nothing with the program. The model of a run says what a unit asks for: its fetches, its load
 or its store, in their order. Here that unit is begun again and again until nothing of it is missing.
 """
 from collections import Counter
 from typing import NamedTuple
 
 from hostile_model import Hostile, NotQuiet
+from spaces_model import AddressSpaces, LateCopies
 
-SLOTS, WIRED, NUMBERS = 64, 8, 63
+SLOTS, WIRED = 64, 8
 FIRST_TABLE_PAGE, FIRST_FRAME, EMPTY_TABLE = 0xC0000, 402, 1
 
 
@@ -57,15 +58,15 @@ class Buffer:
             self.slots[slot] = None
 
 
-class Processor(Hostile):
+class Processor(AddressSpaces, LateCopies, Hostile):
     """A run with the processor that goes through it, from a start of Random."""
 
     def __init__(self, *begun):
         *begun, random = begun
         super().__init__(*begun)
         self.buffer, self.done, self.is_known = Buffer(random), Counter(), True
-        self.numbers, self.next_number = {}, 1
-        self.lies, self.marked = list(range(self.frames)), [False] * self.frames
+        self.begin_spaces()
+        self.place_pages()
         self.places = {p: [None] * 4 for p in self.processes}
         self.asks = None
         self.place_tables()
@@ -74,18 +75,22 @@ class Processor(Hostile):
     # Address spaces, page tables and frames.
 
     def enter(self):
-        """Who is first has the number of an address space; where all were handed out, everybody loses theirs, and the buffer is empty."""
-        if not self.ready or self.ready[0] in self.numbers:
-            return
-        if self.next_number > NUMBERS:
-            self.numbers, self.next_number, self.buffer.slots = {}, 1, [None] * SLOTS
-        self.numbers[self.ready[0]] = self.next_number
-        self.next_number += 1
+        """Who is first has the number of an address space."""
+        if self.ready:
+            self.take_number(self.ready[0])
+
+    def flush(self):
+        self.buffer.slots = [None] * SLOTS
+
+    def forget(self, p, address):
+        """What the buffer has of an address goes, and of the page of its page table."""
+        self.buffer.forget(address >> 12, self.numbers[p])
+        self.buffer.forget(FIRST_TABLE_PAGE + (address >> 22), self.numbers[p])
 
     def place_tables(self):
         """Each region of a process with an entry has the first of its four places for tables that is free."""
         for p, places in self.places.items():
-            regions = [at >> 22 for q, at in self.table if q == p]
+            regions = [at >> 22 for at in self.row(p)]
             places[:] = [it if it in regions else None for it in places]
             for region in regions:
                 if region not in places:
@@ -103,41 +108,12 @@ class Processor(Hostile):
         entry = self.entry(p, page << 12)
         if entry.right == "none":
             return Translation(page, number, 0, False, False)
-        return Translation(page, number, FIRST_FRAME + self.lies[entry.page], True, entry.right == "write" and not self.marked[entry.page])
+        return Translation(page, number, FIRST_FRAME + self.lies[entry.page], True, self.may_be_stored_to(entry))
 
-    def rewrite(self, page):
-        """Where a page lies, or whether it is marked, is another: so are all that the buffer has of it."""
-        for (p, address), entry in self.table.items():
-            slot = self.buffer.find(address >> 12, self.numbers.get(p))
-            if entry.page == page and slot is not None:
-                self.buffer.slots[slot] = self.translation(p, address >> 12)
-
-    def copy_late(self, p, address):
-        """A page that is stored to gets a frame of its own, the first in which no page lies, where another lies in its frame."""
-        page = self.entry(p, address - address % 4096).page
-        lying = [self.lies[it] for it in self.live_pages()]
-        if lying.count(self.lies[page]) > 1:
-            self.lies[page] = min(set(range(self.frames)) - set(lying))
-        self.marked[page] = False
-        self.rewrite(page)
-
-    # What changes them.
-
-    def changes(self, verb, p, address):
-        if verb == "end":
-            self.numbers.pop(p, None)
-        elif p in self.numbers:
-            self.buffer.forget(address >> 12, self.numbers[p])
-            self.buffer.forget(FIRST_TABLE_PAGE + (address >> 22), self.numbers[p])
-
-    def give(self, p, address, receiver, to, mode):
-        number = super().give(p, address, receiver, to, mode)
-        if not number and mode == 3:
-            page, copy = self.table[p, address].page, self.table[receiver, to].page
-            self.lies[copy] = self.lies[page]
-            self.marked[page] = self.marked[copy] = True
-            self.rewrite(page)
-        return number
+    def rewrite_entry(self, p, address):
+        slot = self.buffer.find(address >> 12, self.numbers.get(p))
+        if slot is not None:
+            self.buffer.slots[slot] = self.translation(p, address >> 12)
 
     def obey(self, verb, *words):
         super().obey(verb, *words)
@@ -193,7 +169,7 @@ class Processor(Hostile):
                 return False
             if ask.kind == "store" and not self.buffer.slots[slot].is_dirty and self.entry(p, ask.address - ask.address % 4096).right == "write":
                 self.serve("copy")
-                self.copy_late(p, ask.address)
+                self.split(p, ask.address - ask.address % 4096)
                 return False
         return True
 

@@ -5,12 +5,10 @@ Each key of a policy is doubled, missing and of another type; and a policy and a
 tools/test_reading_cases.py tests the model, and that the files are as this script writes them.
 """
 import random
-import sys
 from pathlib import Path
 
-sys.dont_write_bytecode = True
-
-from reading_model import input_refusal, policy_refusal, sources  # noqa: E402
+from case_files import write
+from reading_model import input_refusal, policy_refusal, sources
 
 DATA = Path(__file__).resolve().parent.parent / "crates" / "rows" / "data" / "reading"
 HEAD = "Written by tools/reading_cases.py, with the answers of tools/reading_model.py."
@@ -161,5 +159,4 @@ def files():
 
 
 if __name__ == "__main__":
-    for path, text in files().items():
-        path.write_text(text, "ascii")
+    write(files())

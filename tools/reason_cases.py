@@ -7,14 +7,12 @@ tells by tools/reason_model.py: each byte in several places, and texts that are 
 tools/test_reason_cases.py holds the rules against the tables that were written by hand, and the files against this script.
 """
 import re
-import sys
 from pathlib import Path
 from typing import NamedTuple
 
-sys.dont_write_bytecode = True
-
-from reading_cases import INPUT, PAGES  # noqa: E402
-from reason_model import input_told, policy_told, shown  # noqa: E402
+from case_files import write
+from reading_cases import INPUT, PAGES
+from reason_model import input_told, policy_told, shown
 
 DATA = Path(__file__).resolve().parent.parent / "crates" / "rows" / "data" / "mistakes"
 HEAD = "Written by tools/reason_cases.py, from the rules of docs/mistakes.md."
@@ -257,16 +255,14 @@ def tables():
 
 
 def files():
-    """The name of each file, and what it holds."""
+    """The text of each file, by its path."""
     places = [("alone", b"", alone), ("after a statement", b"nop", directly_after), ("after a statement and a blank", b"nop ", after_a_blank)]
     every_byte = [case(f"{c:02X} {title}", front + bytes([c]), rule(c)) for title, front, rule in places for c in range(256)]
     prefixes = [case(f"{count} bytes of line {i}", line[:count], cut_off(line, count)) for i, line in enumerate(LINES, 1) for count in range(len(line) + 1)]
-    for name, cases in (("source_bytes", every_byte), ("source_prefixes", prefixes)):
-        yield f"{name}.cases", f"# {HEAD}\n\n" + "\n".join(cases)
-    for name, cases in tables():
-        yield f"{name}.cases", f"# {TOLD}\n\n" + "\n".join(checked(*it) for it in cases)
+    made = [(name, HEAD, cases) for name, cases in (("source_bytes", every_byte), ("source_prefixes", prefixes))]
+    made += [(name, TOLD, [checked(*it) for it in cases]) for name, cases in tables()]
+    return {DATA / f"{name}.cases": f"# {head}\n\n" + "\n".join(cases) for name, head, cases in made}
 
 
 if __name__ == "__main__":
-    for name, text in files():
-        (DATA / name).write_text(text, "ascii")
+    write(files())

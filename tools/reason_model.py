@@ -7,7 +7,7 @@ import re
 import tomllib
 from pathlib import Path
 
-from reading_model import ROOT, is_good_page, is_good_process, is_integer, is_text, policy_refusal
+from reading_model import is_good_page, is_good_process, is_integer, is_text, policy_refusal
 
 SOURCES = Path(__file__).resolve().parent.parent / "crates" / "ds_policy_reasons" / "src"
 # The keys of an event's words after its name, in their order.

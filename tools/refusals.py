@@ -9,8 +9,6 @@ import re
 import sys
 from pathlib import Path
 
-sys.dont_write_bytecode = True
-
 TOP = Path(__file__).resolve().parent.parent
 CRATE = TOP / "crates" / "ds_check" / "src" / "refusals.rt"
 DOCUMENT = TOP / "docs" / "refusals.md"

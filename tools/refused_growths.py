@@ -8,12 +8,11 @@ A run of dsmon for which a growth is refused before its first turn writes nothin
 of whole turns. Both end with status 3 and the line of want of memory. Where a growth alone is refused, the program may ask for less
 instead, or do without, and then the run is whole. Where all from one on are refused, it may be whole only if it is so with each of them
 refused alone. The tests whose names begin with `for_want_of_memory` or `after_want_of_memory` pass whichever
-growths are refused. Which growth is refused says tools/refuse.c, a library that a C compiler makes: where there is no compiler, or a
-program was not built, this is said, nothing is tried there, and the status is 0. It is 1 where an answer is wrong.
+growths are refused. Which growth is refused says tools/refuse.c, a library that the toolchain's compiler makes. Where a program was not
+built, this is said, nothing is tried there, and the status is 0. It is 1 where an answer is wrong.
 """
 import argparse
 import os
-import shutil
 import subprocess
 import sys
 import tempfile
@@ -21,9 +20,7 @@ from concurrent.futures import ThreadPoolExecutor
 from pathlib import Path
 from typing import NamedTuple
 
-sys.dont_write_bytecode = True
-
-from refused_memory import GUEST, KNOWN, POLICY, TICKS, Wrong  # noqa: E402
+from page.kit import installed
 
 TOP = Path(__file__).resolve().parent.parent
 DATA = TOP / "crates" / "rows" / "data"
@@ -31,6 +28,27 @@ NOTHING = str(DATA / "nothing.input")
 MEMORY, TOLD = 3, b"dsmon: 25 Memory\n"
 SECONDS = 60  # of one run
 ABOUT_MEMORY = ("for_want_of_memory", "after_want_of_memory")
+BYTES = 257  # of the guest: one more than a console makes room for at once
+TICKS = 2 * BYTES + 6  # of its whole run, which is denied at time 515
+KNOWN = [*range(4), *range(2 * BYTES - 6, TICKS + 1)]  # the times near the growths of its run
+
+POLICY = """\
+version = 1
+frames = 16
+process = [{ start = 0x00400000, line = 0 }, { start = 0x00400000, line = 1 }]
+page = [{ name = "code", source = "guest.s", part = 0 }]
+rule = [
+    { process = 1, address = 0x00400000, right = "read", page = "code" },
+    { process = 2, address = 0x00400000, right = "read", page = "code" },
+]
+"""
+# Puts so many bytes that its console grows twice, and is denied a store, so that the log grows before the other process
+# begins: turns in which nobody is ready ask for no room.
+GUEST = "addiu $a0, $zero, 46\n" + BYTES * "addiu $v0, $zero, 1\nsyscall\n" + "sw $zero, 0($zero)\n"
+
+
+class Wrong(Exception):
+    """What is not as it has to be."""
 
 
 class Run(NamedTuple):
@@ -62,13 +80,14 @@ class Program:
 
 
 class Row(NamedTuple):
-    """A run of dsmon: its name, its folder, its policy, its ticks, and the times whose texts are known."""
+    """A run of dsmon: its folder, its policy, its ticks, the times whose texts are known, and whether it is cut in each way."""
 
     name: str
     folder: str
     policy: str
     ticks: int
     times: tuple
+    has_each_cut: bool = False
 
     def words(self, ticks):
         return ["run", self.policy, NOTHING, str(ticks)]
@@ -82,7 +101,7 @@ def rows(folder):
     return [Row("put_a", str(DATA / "runs" / "put_a"), shared, 100, tuple(range(7))),
             Row("copied", str(DATA / "grants" / "copied"), "policy.toml", 100, tuple(range(29))),
             Row("share_and_copy", str(DATA / "grants" / "share_and_copy"), "policy.toml", 100, tuple(range(31))),
-            Row("guest", folder, "guest.toml", TICKS, tuple(KNOWN))]
+            Row("guest", folder, "guest.toml", TICKS, tuple(KNOWN), True)]
 
 
 def judged(run, growth, may_be_whole, before, whole, known):
@@ -100,14 +119,25 @@ def judged(run, growth, may_be_whole, before, whole, known):
     return known.index(run.out)
 
 
+def check_cuts(texts, first):
+    """The guest was cut before its first turn, after a byte that was put, and after a line of the log."""
+    for what, is_met in [
+            ("before its first turn", lambda text: text == first),
+            ("after a byte", lambda text: not text.startswith(b"console 0 0\n") and b"\nlog 0\n" in text),
+            ("after a line of the log", lambda text: b"\nlog 1\n" in text)]:
+        if not any(map(is_met, texts)):
+            raise Wrong(f"no run was cut {what}")
+
+
 def tried(program, row, lanes):
     """Tries each growth of a row both ways: how many there are, how many of them in the run, and how often the run was whole all the same."""
     whole, growths = program.counted(row.words(row.ticks), row.folder)
     before = program.counted(row.words(0), row.folder)[1]
     known = [it.out for it in lanes.map(lambda n: program.run(row.words(n), row.folder), row.times)]
     if whole.status or whole.out != known[-1] or not 0 < before < growths:
-        raise Wrong(f"{row.name}: without a refusal it ends with {whole.status}, and has {before} growths before the run and {growths} in all")
-    spared = set()  # the growths that a run can do without
+        counts = f"{before} growths before the run and {growths} in all"
+        raise Wrong(f"{row.name}: without a refusal it ends with {whole.status}, and has {counts}")
+    spared, cuts = set(), set()  # the growths that a run can do without, and the places where it was cut
     wholes = 0
     for on in (False, True):
         marks = [f"{growth}{'..' if on else ''}" for growth in range(1, growths + 1)]
@@ -124,6 +154,9 @@ def tried(program, row, lanes):
             places += [place] if run.status and place is not None else []
         if places != sorted(places):
             raise Wrong(f"{row.name}: a later growth was refused earlier: {places}")
+        cuts.update(places)
+    if row.has_each_cut:
+        check_cuts([known[it] for it in cuts], known[0])
     return growths, growths - before, wholes
 
 
@@ -145,11 +178,10 @@ def passed(program, name, lanes):
 
 
 def compiled(folder):
-    """The library, or none where there is no compiler."""
-    compiler = shutil.which("cc")
+    """The library, made by the compiler of the toolchain."""
     library = str(Path(folder) / "refuse.so")
-    if not compiler or subprocess.run([compiler, "-O1", "-shared", "-fPIC", str(TOP / "tools" / "refuse.c"), "-o", library]).returncode:
-        return None
+    compiler = [installed() / "toolchain/bin/clang", "-O1", "-shared", "-fPIC", "-nostdlib", "-fuse-ld=lld"]
+    subprocess.run([*compiler, str(TOP / "tools" / "refuse.c"), "-o", library], check=True)
     return library
 
 
@@ -160,9 +192,6 @@ def main(words):
     given = parser.parse_args(words)
     with tempfile.TemporaryDirectory(prefix="refused-growths-") as folder, ThreadPoolExecutor(len(os.sched_getaffinity(0))) as lanes:
         library = compiled(folder)
-        if not library:
-            print("refused_growths: there is no C compiler, and nothing was tried")
-            return 0
         for path in (given.dsmon, *given.tests):
             if not Path(path).is_file():
                 print(f"refused_growths: {path} was not built, and was not tried")

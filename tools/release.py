@@ -16,14 +16,12 @@ import sys
 import tempfile
 from pathlib import Path
 
-sys.dont_write_bytecode = True
-
-from release import Refused  # noqa: E402
-from release.archive import File, archive  # noqa: E402
-from release.contents import contents, documents, made, page  # noqa: E402
-from release.licences import kit_here, licences, linked  # noqa: E402
-from release.manual import manual, section  # noqa: E402
-from release.tree import GATE, PROOFS, cloned, commit_of, passed  # noqa: E402
+from release import Refused
+from release.archive import File, archive
+from release.contents import contents, documents, made, page
+from release.licences import kit_here, licences, linked
+from release.manual import manual, section
+from release.tree import GATE, PROOFS, cloned, commit_of, passed
 
 TOP = Path(__file__).resolve().parent.parent
 OF_THE_SYSTEM = re.compile(r"linux-vdso|libc\.so|ld-linux")  # what the program may ask the system for: the C library and its loader

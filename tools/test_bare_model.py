@@ -1,11 +1,8 @@
 #!/usr/bin/env python3
 """Tests of tools/bare_model.py: the rows are as it has them, and values that were worked out by hand."""
-import sys
 import unittest
 
-sys.dont_write_bytecode = True
-
-from bare_model import FIRST, GENERAL, REFILL, Entry, Machine, rows, text_of, told, words_of  # noqa: E402
+from bare_model import FIRST, GENERAL, REFILL, Entry, Machine, rows, text_of, told, words_of
 
 DATA = 0x8050_0000  # a place of memory beyond the image, in kseg0
 
@@ -153,6 +150,12 @@ class Flags(unittest.TestCase):
         for kind, numbers in [("exceptions", ["4"]), ("tlb", ["3"]), ("devices", ["2"]), ("end", [])]:
             told = lines(source, 10, "--only", kind)
             self.assertEqual([it.split()[0] for it in told[:len(numbers) + 1]], [*numbers, "end"], kind)
+
+    def test_names_change_general_registers_alone(self):
+        told = lines("lui $8, 0x8040\nlw $9, 0($8)\nmfc0 $27, $14\nmtc0 $9, $2\nnop", 5, "--names")
+        self.assertEqual(told[:4], [
+            "1 80400000 lui $t0,0x8040; $t0 80400000", "2 80400004 lw $t1,0($t0); $t1 is late", "3 80400008 mfc0 $k1,$14; $k1 is late; $t1 3C088040", "4 8040000C mtc0 $t1,$2; EntryLo 3C088000"])
+        self.assertEqual(told[6:8] + told[14:16], ["$zero 00000000", "$at 00000000", "$t0 80400000", "$t1 3C088040"])
 
     def test_counts_and_memory_stand_at_the_end(self):
         told = lines("tlbwr\nlw $9, 0x1000($0)", 10, "--quiet", "--counts", "--memory", "00400000:2")

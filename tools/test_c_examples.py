@@ -1,16 +1,12 @@
 #!/usr/bin/env python3
 """Tests of tools/c_examples.py, with compilers that are none."""
-import contextlib
-import io
-import sys
 import unittest
 from unittest import mock
 
-sys.dont_write_bytecode = True
-
-import c_examples  # noqa: E402
-from c_examples import EXAMPLES, check, different, written  # noqa: E402
-from elf_to_policy import HEAD  # noqa: E402
+import c_examples
+from c_examples import EXAMPLES, check, different, written
+from elf_to_policy import HEAD
+from rooms import said
 
 NOTED = (EXAMPLES / "compiler").read_text("ascii")
 THERE = written(EXAMPLES)
@@ -19,9 +15,9 @@ OTHER = {**THERE, "sieve-1.s": THERE["sieve-1.s"] + ".word 0x00000000\n"}
 
 def checked(compiler, texts):
     """The status and the lines of a check where this compiler makes these texts."""
-    with mock.patch.object(c_examples, "made", lambda: texts), contextlib.redirect_stdout(io.StringIO()) as said:
-        status = check(compiler)
-    return status, said.getvalue().splitlines()
+    with mock.patch.object(c_examples, "made", lambda: texts):
+        status, out, _ = said(check, compiler)
+    return status, out.splitlines()
 
 
 class Tests(unittest.TestCase):

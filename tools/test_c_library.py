@@ -8,14 +8,12 @@ library of this machine: each has to put what its `.expected` has for dsmon. Whe
 import re
 import shutil
 import subprocess
-import sys
 import tempfile
 import unittest
 from pathlib import Path
 
-sys.dont_write_bytecode = True
+from port import ADDRESS, EXAMPLES, PAGES, parts
 
-EXAMPLES = Path(__file__).resolve().parent.parent / "examples" / "c"
 LIBRARY, TESTS = EXAMPLES / "lib", EXAMPLES / "lib" / "tests"
 HERE = all(map(shutil.which, ("gcc", "nm", "objcopy")))
 # What stops a function that shifts too far, or reads a word where none is.
@@ -63,20 +61,7 @@ def keys(name):
 
 def console(name):
     """What an example has to put on line 0."""
-    text = (EXAMPLES / f"{name}.expected").read_bytes()
-    count, _, rest = text.removeprefix(b"console 0 ").partition(b"\n")
-    return rest[:int(count)]
-
-
-# Bytes of a file at a fixed address before `main` begins, as `--data` puts them into pages of a policy.
-PAGES = """
-#define _GNU_SOURCE
-#include <fcntl.h>
-#include <sys/mman.h>
-__attribute__((constructor)) static void place(void) {
-    mmap((void *)0x00500000, 4096, PROT_READ, MAP_PRIVATE | MAP_FIXED_NOREPLACE, open("%s", O_RDONLY), 0);
-}
-"""
+    return parts((EXAMPLES / f"{name}.expected").read_bytes())[0]
 
 
 @unittest.skipUnless(HERE, "no gcc here, so the C library is not tested")
@@ -107,7 +92,7 @@ class Tests(unittest.TestCase):
                 program, files = self.room / name, [EXAMPLES / it for it in sources]
                 if data:
                     files.append(self.room / "pages.c")
-                    files[-1].write_text(PAGES % (EXAMPLES / data), "utf-8")
+                    files[-1].write_text(PAGES % (ADDRESS, 4096, EXAMPLES / data), "utf-8")
                 run("gcc", "-std=c11", "-O1", "-fwrapv", "-o", program, *files)
                 done = run(program, input=keys(name), check=False, timeout=100)
                 status = f"\nexit {done.returncode}\n".encode() if done.returncode else b""

@@ -1,11 +1,8 @@
 #!/usr/bin/env python3
 """Tests of tools/came_model.py: it comes to texts that were written by hand, flags add what they say and nothing else, and the rows are as it has them."""
-import sys
 import unittest
 
-sys.dont_write_bytecode = True
-
-from came_model import BAD_MEMORY, BY_HAND, DATA, PIECE, BadMemory, Window, asked, came, files_in, others, rows, window_of  # noqa: E402
+from came_model import BAD_MEMORY, BY_HAND, DATA, PIECE, BadMemory, Window, asked, came, files_in, others, rows, window_of
 
 CODE = """\
 version = 1

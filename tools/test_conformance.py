@@ -1,22 +1,17 @@
 #!/usr/bin/env python3
 """Tests of tools/conformance.py: its guests on a plain model, and how it compares, without any peer."""
-import contextlib
-import io
-import sys
 import tempfile
 import unittest
-from pathlib import Path
 from unittest import mock
 
-sys.dont_write_bytecode = True
-
-import conformance  # noqa: E402
-from conformance import REASONS, Table, differing, same_text, words_drawn  # noqa: E402
-from conformance_buffer import bare_end, buffer_guest, handler  # noqa: E402
-from conformance_guests import CASES, CODE, EDGES, OUT, RESULTS, TABLE, bytes_of, call, dsmon_end, elf_of, fault_guest, faults, guest_of, pairs  # noqa: E402
-from conformance_late import BLOCKS, MINE, PLACES, SUMS, late_guest  # noqa: E402
-from elf_program import program_of  # noqa: E402
-from hostile_model import CODES, LOADS, Hostile, decode, encode, signed  # noqa: E402
+import conformance
+from conformance import REASONS, Table, differing, same_text, words_drawn
+from conformance_buffer import bare_end, buffer_guest, handler
+from conformance_guests import CASES, CODE, EDGES, OUT, RESULTS, TABLE, bytes_of, call, dsmon_end, elf_of, fault_guest, faults, guest_of, pairs
+from conformance_late import BLOCKS, MINE, PLACES, SUMS, late_guest
+from elf_program import program_of
+from hostile_model import CODES, LOADS, Hostile, decode, encode, signed
+from rooms import said
 
 FEW = [(5, 3), (0x8000_0000, 0x8000_0000), (0xFFFF_FFFF, 2), (0x1234_5678, 0x9ABC_DEF0)]
 
@@ -103,17 +98,15 @@ class Tests(unittest.TestCase):
         self.assertEqual(["4 bytes, 8 bytes, and 8 are wanted"], differing(names, bytes(4), bytes(8)))
 
     def test_missing_peers_are_skipped_and_a_missing_program_is_told(self):
-        with tempfile.NamedTemporaryFile() as program, mock.patch.object(conformance.shutil, "which", lambda _: None), contextlib.redirect_stdout(io.StringIO()) as said:
-            self.assertEqual(0, conformance.main(["--dsmon", program.name]))
-            with self.assertRaisesRegex(SystemExit, "no program"):
-                conformance.main(["--dsmon", f"{program.name}x"])
-        self.assertEqual(7, said.getvalue().count("skipped: no package"))
+        with tempfile.NamedTemporaryFile() as program, mock.patch.object(conformance.shutil, "which", lambda _: None):
+            status, out, _ = said(conformance.main, ["--dsmon", program.name])
+            self.assertIn("no program", said(conformance.main, ["--dsmon", f"{program.name}x"])[0])
+        self.assertEqual((0, 7), (status, out.count("skipped: no package")))
 
     def test_a_difference_is_counted(self):
         table = Table()
-        with contextlib.redirect_stdout(io.StringIO()) as said:
-            table.add("what", "peer", 1000, ["it"])
-        self.assertEqual((1, "conformance: what, peer: it\n"), (table.failed, said.getvalue()))
+        _, out, _ = said(table.add, "what", "peer", 1000, ["it"])
+        self.assertEqual((1, "conformance: what, peer: it\n"), (table.failed, out))
         self.assertIn("| what | peer | 1,000 | 1 |", table.text())
 
 

@@ -1,23 +1,19 @@
 #!/usr/bin/env python3
 """Tests of tools/elf_to_policy.py, over small ELF files that are built here."""
 import contextlib
-import io
 import re
 import struct
-import sys
 import tempfile
 import tomllib
 import unittest
 from pathlib import Path
 
-sys.dont_write_bytecode = True
+from c_examples import EXAMPLES, POLICIES
+from elf_to_policy import HEAD, main
+from later_instructions import coprocessor, later
+from reading_model import input_refusal, policy_refusal
+from rooms import TOP, placed, said
 
-from c_examples import EXAMPLES, POLICIES  # noqa: E402
-from elf_to_policy import HEAD, main  # noqa: E402
-from later_instructions import coprocessor, later  # noqa: E402
-from reading_model import input_refusal, policy_refusal  # noqa: E402
-
-TOP = Path(__file__).resolve().parent.parent
 PAGE = 4096
 NOP, CALL = 0, 0x0000000C
 CODE, DATA = 5, 6  # flags of segments: read and execute, read and write
@@ -55,21 +51,13 @@ class Folder:
 
     def __init__(self, room, **files):
         self.room = Path(room)
-        self.names = []
-        for name, data in files.items():
-            path = self.room / f"{name}.elf"
-            path.write_bytes(data)
-            self.names.append(str(path))
+        placed(self.room, {f"{name}.elf": data for name, data in files.items()})
+        self.names = [f"{self.room}/{name}.elf" for name in files]
 
     def run(self, *options):
         """The status, the lines on standard output, and those on standard error."""
-        out, err = io.StringIO(), io.StringIO()
-        with contextlib.redirect_stdout(out), contextlib.redirect_stderr(err):
-            try:
-                status = main([*options, "--into", str(self.room), *self.names])
-            except SystemExit as end:
-                status = end.code
-        return status, out.getvalue().splitlines(), err.getvalue().splitlines()
+        status, out, err = said(main, [*options, "--into", str(self.room), *self.names])
+        return status, out.splitlines(), err.splitlines()
 
     def written(self):
         return {it.name for it in self.room.iterdir()} - {Path(it).name for it in self.names}

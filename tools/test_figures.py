@@ -1,16 +1,10 @@
 #!/usr/bin/env python3
 """Tests of tools/figures.py, over a small repository in a folder of its own."""
-import contextlib
-import io
 import json
-import sys
-import tempfile
 import unittest
-from pathlib import Path
 
-sys.dont_write_bytecode = True
-
-from figures import main, page  # noqa: E402
+from figures import main, page
+from rooms import InARoom, placed, said
 
 RUN = {"what": "`rt ci`", "day": "2026-11-26", "processors": 2, "minutes": 47, "processor minutes": 90, "last line": "9 passed, 0 failed"}
 FILES = {
@@ -27,21 +21,14 @@ FILES = {
 }
 
 
-class Figures(unittest.TestCase):
-    def setUp(self):
-        self.room = tempfile.TemporaryDirectory(prefix="figures-test-")
-        self.addCleanup(self.room.cleanup)
-        for path, text in FILES.items():
-            Path(self.room.name, path).parent.mkdir(parents=True, exist_ok=True)
-            Path(self.room.name, path).write_text(text, "utf-8")
+class Figures(InARoom):
+    files = FILES
 
     def main(self, *words):
-        with contextlib.redirect_stdout(io.StringIO()) as said:
-            status = main(list(words), self.room.name)
-        return status, said.getvalue()
+        return said(main, list(words), self.room)[:2]
 
     def test_the_page_has_what_is_counted_and_what_was_measured(self):
-        lines = page(self.room.name).splitlines()
+        lines = page(self.room).splitlines()
         for line in (
             "| `low` | 12 |  |  |  | 2 | 7 |",
             "| `high` |  |  | 1 |  |  |  |",
@@ -62,7 +49,7 @@ class Figures(unittest.TestCase):
 
     def test_a_count_that_differs_is_told(self):
         self.main()
-        Path(self.room.name, "crates/low/wrong/three.edit").write_text("", "utf-8")
+        placed(self.room, {"crates/low/wrong/three.edit": ""})
         status, said = self.main("--check")
         self.assertEqual(1, status)
         self.assertIn("docs/figures.md: | `low` | 12 |  |  |  | 2 | 7 |\n", said)
@@ -72,10 +59,9 @@ class Figures(unittest.TestCase):
         self.assertEqual((1, "docs/figures.md lacks lines\nrun tools/figures.py\n"), self.main("--check"))
 
     def test_seconds_are_taken_over_and_others_stay(self):
-        kept = Path(self.room.name, "kept")
-        kept.write_text(json.dumps([["low", "proof", 20.0], ["high", "with tests", 5.0], ["", "other", 3.0]]), "utf-8")
-        self.assertEqual((0, ""), self.main("--seconds", str(kept)))
-        lines = page(self.room.name).splitlines()
+        placed(self.room, {"kept": json.dumps([["low", "proof", 20.0], ["high", "with tests", 5.0], ["", "other", 3.0]])})
+        self.assertEqual((0, ""), self.main("--seconds", f"{self.room}/kept"))
+        lines = page(self.room).splitlines()
         self.assertIn("| `low` | 20 |  |  |  | 2 | 7 |", lines)
         self.assertIn("| `high` |  | 5 | 1 |  |  |  |", lines)
 

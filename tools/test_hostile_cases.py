@@ -1,36 +1,21 @@
 #!/usr/bin/env python3
 """Tests of tools/hostile_cases.py and its model: rows that were not made by it come to the same, each kind of thing is met, and the files are as they are written."""
 import re
-import sys
 import unittest
 
-sys.dont_write_bytecode = True
-
-from hostile_cases import BEFORE, CASES, FOLDER, KINDS, MORE, PREAMBLE, SETTINGS, TOP, drawn, escaped, files, lines  # noqa: E402
-from hostile_model import Hostile, NotQuiet, assembled, decode, encode  # noqa: E402
-from turns_model import assemble  # noqa: E402
+from bare_model import words_of
+from case_files import different
+from hostile_cases import BEFORE, CASES, FOLDER, KINDS, MORE, PREAMBLE, SETTINGS, TOP, drawn, escaped, files, lines
+from hostile_model import Hostile, NotQuiet, decode, encode
 
 START, DATA = 0x40_0000, 0x41_0000
 BRANCHES = ("beq", "bne", "blez", "bgtz", "bltz", "bgez", "bltzal", "bgezal")
-WORDS = {"mfc0": 0x40026000, "mtc0": 0x40826000, "tlbwr": 0x42000006, "rfe": 0x42000010}
-
-
-def word_of(at, name, *o):
-    if name in WORDS or name == ".word":
-        return WORDS.get(name) or o[0]
-    if name in BRANCHES:
-        o = (*o[:-1], (o[-1] - at - 4) // 4)
-    elif name in ("j", "jal"):
-        o = (o[0] >> 2,)
-    return 0 if name == "nop" else encode(name, *o)
 
 
 def text_of(source, n, data=()):
     """What a run of one process with its code, and with data where it may write any, comes to."""
-    words = [word_of(at, *it) for at, it in assemble(source, START).items()]
-    code = b"".join(word.to_bytes(4, "little") for word in words)
     rules = [(1, START, "read", 0, False), *((1, it, "write", 1, False) for it in data)]
-    run = Hostile([(START, 0)], [code.ljust(4096, b"\0"), bytes(4096)], 2, 16, rules, 0, [])
+    run = Hostile([(START, 0)], [words_of(source).ljust(4096, b"\0"), bytes(4096)], 2, 16, rules, 0, [])
     run.run(n)
     return run.text()
 
@@ -56,7 +41,6 @@ class Tests(unittest.TestCase):
     def test_each_word_is_the_instruction_that_it_was_made_of(self):
         for it in (("addiu", 9, 8, 0xFFFF), ("lw", 9, 4, 8), ("sll", 9, 8, 31), ("jalr", 31, 8), ("bltzal", 8, 0xFFFE), ("mult", 8, 9), ("break",)):
             self.assertEqual(decode(encode(*it)), it)
-        self.assertEqual(assembled("lui 8,0x41 # a page\n\nsw 9,-4(8)\nsyscall"), [0x3C080041, 0xAD09FFFC, 0x0000000C])
 
     def test_a_program_that_could_tell_of_a_touch_is_not_run(self):
         for source in ("addu $4,$26,$0", "lui $8,0x41\nsw $27,0($8)", "lui $8,0x41\nlw $9,0($8)\naddu $4,$9,$0", "lui $26,0x41\nlw $9,0($26)", "lui $8,0x41\nlwl $26,0($8)"):
@@ -72,7 +56,7 @@ class Tests(unittest.TestCase):
             self.assertEqual(set(range(11)) - set.union(*(run.calls for _, run in made)), set(), name)
 
     def test_the_branch_at_a_pages_end_has_its_slot_on_the_next(self):
-        place = len(assembled(PREAMBLE)) + BEFORE - 1
+        place = len(PREAMBLE) + BEFORE - 1
         for name, made in self.made.items():
             self.assertLessEqual({decode(words[place])[0] for words, _ in made}, {*BRANCHES, "raises"}, name)
         self.assertEqual(SETTINGS[0].start + 4 * (place + 1), MORE)
@@ -85,8 +69,7 @@ class Tests(unittest.TestCase):
         self.assertEqual([line for line in text if line.startswith(FOLDER)], lines())
 
     def test_the_files_are_as_they_are_written(self):
-        for path, content in files().items():
-            self.assertTrue(path.read_bytes() == content, path)
+        self.assertEqual([], different(files()))
 
 
 if __name__ == "__main__":

@@ -1,21 +1,17 @@
 #!/usr/bin/env python3
 """Tests of tools/late_cases.py: rows that were written by hand come to the same, and the files are as they are written."""
-import sys
 import unittest
 
-sys.dont_write_bytecode = True
-
-from late_cases import DATA, FOLDER, ROWS, START, files, lines, rows  # noqa: E402
-from turns_model import Run, assemble  # noqa: E402
+from case_files import different, plain
+from late_cases import FOLDER, ROWS, files, lines, rows
+from trace_model import files_in
 
 EXAMPLES = ROWS.parents[2] / "examples"
 
 
 class Tests(unittest.TestCase):
     def test_the_example_comes_to_what_is_told_of_it(self):
-        code = assemble((EXAMPLES / "late_copy.s").read_text(), START)
-        rules = [(p, START, "read", 0, False) for p in (1, 2, 3)] + [(1, DATA, "write", 1, True)]
-        run = Run({0: code}, [(START, 0), (START + 0x54, 1), (START + 0x80, 2)], [bytes(4096)] * 5, 2, 5, rules, 0)
+        run = plain(files_in(EXAMPLES), "late_copy.toml", "late_copy.input")
         run.run(100)
         self.assertEqual(run.text(), (EXAMPLES / "late_copy.expected").read_bytes())
         self.assertEqual([bytes(it) for it in run.consoles], [b"b", b"ac", b"b", b""])
@@ -39,8 +35,7 @@ class Tests(unittest.TestCase):
         self.assertEqual([line for line in text if line.startswith(FOLDER)], lines())
 
     def test_the_files_are_as_they_are_written(self):
-        for path, content in files().items():
-            self.assertTrue(path.read_bytes() == content, path)
+        self.assertEqual([], different(files()))
 
 
 if __name__ == "__main__":

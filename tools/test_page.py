@@ -2,24 +2,16 @@
 """Tests of tools/page.py and of the page: what it is made of, and, where node is installed, the page's own scripts (tools/page/*_test.js)."""
 import base64
 import contextlib
-import importlib.util
-import io
 import shutil
 import subprocess
 import sys
-import tempfile
 import unittest
-from pathlib import Path
 from unittest import mock
 
-sys.dont_write_bytecode = True
+from page import examples, files, kit, program, wasm
+from rooms import TOP, InARoom, placed, said, script
 
-from page import examples, files, kit, program, wasm  # noqa: E402
-
-TOP = Path(__file__).resolve().parent.parent
-SCRIPT = importlib.util.spec_from_file_location("page_command", TOP / "tools/page.py")
-COMMAND = importlib.util.module_from_spec(SCRIPT)
-SCRIPT.loader.exec_module(COMMAND)
+COMMAND = script("page")
 NODE = shutil.which("node")
 TESTS = sorted((TOP / "tools/page").glob("*_test.js"))
 
@@ -67,29 +59,20 @@ cat module.bc >out/given.bc
 CLANG = "#!/bin/sh\ncat \"$2\" >\"$3\"\n"
 
 
-def executable(path, text):
-    path.parent.mkdir(parents=True, exist_ok=True)
-    path.write_text(text, "utf-8")
-    path.chmod(0o755)
+class Made(InARoom):
+    files = {
+        "top/crates/dsmon/module.bc": "a module",
+        "kit/bin/rt": RT, "kit/bin/rtlib.py": "", "kit/bin/rattle": "", "kit/toolchain/bin/clang": CLANG, "kit/KIT-ID": "a kit\n",
+    }
 
-
-class Made(unittest.TestCase):
     def setUp(self):
-        self.folder = tempfile.TemporaryDirectory()
-        self.addCleanup(self.folder.cleanup)
-        self.top = Path(self.folder.name, "top")
-        self.room = Path(self.folder.name, "room")
-        self.kit = Path(self.folder.name, "kit")
+        super().setUp()
+        self.top, self.kit, self.room = (self.room / it for it in ("top", "kit", "room"))
         self.crate = self.top / "crates/dsmon"
-        self.room.mkdir()
-        (self.crate / "out").mkdir(parents=True)
-        (self.crate / "module.bc").write_text("a module", "utf-8")
-        executable(self.kit / "bin/rt", RT)
-        executable(self.kit / "bin/rtlib.py", "")
-        executable(self.kit / "bin/rattle", "")
-        executable(self.kit / "toolchain/bin/clang", CLANG)
-        (self.kit / "toolchain/lib").mkdir()
-        (self.kit / "KIT-ID").write_text("a kit\n", "utf-8")
+        for it in (self.room, self.crate / "out", self.kit / "toolchain/lib"):
+            it.mkdir()
+        for it in self.kit.glob("**/bin/*"):
+            it.chmod(0o755)
 
     def test_a_kit_of_links_keeps_what_its_clang_is_given(self):
         rt = kit.linked(self.kit, self.room / "kit", self.room / "kept.bc")
@@ -121,7 +104,7 @@ class Made(unittest.TestCase):
 
     def test_a_build_that_fails_is_told_and_the_proved_program_stays(self):
         (self.crate / "out/dsmon.o").write_text("a module", "utf-8")
-        executable(self.kit / "bin/rt", "#!/bin/sh\necho why\nexit 1\n")
+        placed(self.kit, {"bin/rt": "#!/bin/sh\necho why\nexit 1\n"})
         with self.assertRaisesRegex(program.Refused, "(?s)does not build.*why"):
             program.proved(self.top, self.kit, self.room)
         self.assertEqual("a module", (self.crate / "out/dsmon.o").read_text("utf-8"))
@@ -131,29 +114,24 @@ class Made(unittest.TestCase):
         self.assertEqual("try -- demo\n", (self.crate / "said").read_text("utf-8"))
 
     def test_a_folder_with_other_files_is_refused(self):
-        (self.room / "mine").write_text("", "utf-8")
-        said = io.StringIO()
-        with contextlib.redirect_stdout(said):
-            self.assertEqual(1, COMMAND.main([str(self.room)], self.top))
-        self.assertIn("other files", said.getvalue())
+        placed(self.room, {"mine": ""})
+        status, out, _ = said(COMMAND.main, [str(self.room)], self.top)
+        self.assertEqual(1, status)
+        self.assertIn("other files", out)
 
 
-class Whole(unittest.TestCase):
+class Whole(InARoom):
     """The whole tool over a module that is made up."""
 
+    files = {"KIT-ID": "a kit\n", "module.bc": "a module"}
+
     def setUp(self):
-        folder = tempfile.TemporaryDirectory()
-        self.addCleanup(folder.cleanup)
-        self.room = Path(folder.name)
-        (self.room / "KIT-ID").write_text("a kit\n", "utf-8")
-        (self.room / "module.bc").write_text("a module", "utf-8")
+        super().setUp()
         self.to = self.room / "to"
 
     def made(self, wasm_opt):
         """Makes the page with a `wasm-opt` of this name, and returns what is said."""
-        said = io.StringIO()
         with contextlib.ExitStack() as now:
-            now.enter_context(contextlib.redirect_stdout(said))
             for what, value in [
                 ("page.kit.installed", lambda: self.room),
                 ("page.program.tried", lambda *_: self.room / "module.bc"),
@@ -162,8 +140,9 @@ class Whole(unittest.TestCase):
                 ("shutil.which", lambda name: wasm_opt),
             ]:
                 now.enter_context(mock.patch(what, value))
-            self.assertEqual(0, COMMAND.main(["--try", str(self.to)]))
-        return said.getvalue()
+            status, out, _ = said(COMMAND.main, ["--try", str(self.to)])
+        self.assertEqual(0, status)
+        return out
 
     def test_the_folder_has_the_page_and_of_what_it_was_made(self):
         self.made("wasm-opt")
@@ -247,16 +226,12 @@ class Examples(unittest.TestCase):
         self.assertIn("--only denials", by_name["labs/reach"]["flags"])
 
 
-class OneFile(unittest.TestCase):
+class OneFile(InARoom):
     def setUp(self):
-        folder = tempfile.TemporaryDirectory()
-        self.addCleanup(folder.cleanup)
-        self.folder = Path(folder.name)
-        files.copied(TOP / "page", self.folder)
-        (self.folder / "examples.js").write_text(examples.script(TOP), "utf-8")
-        (self.folder / "made.js").write_text(files.made_script({"proved": "no"}), "utf-8")
-        (self.folder / "a.wasm").write_bytes(bytes(range(256)))
-        self.text = files.one_file(self.folder, self.folder / "a.wasm")
+        super().setUp()
+        files.copied(TOP / "page", self.room)
+        placed(self.room, {"examples.js": examples.script(TOP), "made.js": files.made_script({"proved": "no"}), "a.wasm": bytes(range(256))})
+        self.text = files.one_file(self.room, self.room / "a.wasm")
 
     def test_nothing_is_fetched(self):
         self.assertNotRegex(self.text, r"<script src|<link |https?://(?!www\.w3\.org/2000/svg)")

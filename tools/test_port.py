@@ -1,19 +1,14 @@
 #!/usr/bin/env python3
 """Tests of tools/port.py: what the programs are given and how their texts are compared, with no package and no compiler."""
-import contextlib
-import io
 import random
-import sys
-import tempfile
 import unittest
 import zlib
 from pathlib import Path
 from unittest import mock
 
-sys.dont_write_bytecode = True
-
-import port  # noqa: E402
-from port import ADDRESS, DAMAGED, END, EXAMPLES, PACKED, PORTS, TEXT, Refused, damaged, drawn_block, first_difference, item, items_in, parts, read_again  # noqa: E402
+import port
+from port import ADDRESS, DAMAGED, END, EXAMPLES, PACKED, PORTS, TEXT, Refused, damaged, drawn_block, first_difference, item, items_in, parts, read_again
+from rooms import InARoom, placed, said
 
 RUN = b"console 0 6\nfirst\n\nconsole 1 0\n\nconsole 2 0\n\nconsole 3 0\n\nlog 1\n2 1 00400008 store 00410008 r2 1\ntime 10\n"
 
@@ -45,28 +40,17 @@ def unpacked(block):
 def package(room):
     """A source package with the files whose texts are packed."""
     folder = Path(room, "package")
-    for it in ("debian", "lib"):
-        (folder / it).mkdir(parents=True)
-    for it in ("deflate.c", "LICENSE", "lib/lz4.c", "lib/LICENSE"):
-        (folder / it).write_text(f"{it}\n" * 500, "ascii")
-    (folder / "debian" / "changelog").write_text("zlib (1:1.2.13-1) unstable; urgency=low\n", "ascii")
+    placed(folder, {it: f"{it}\n" * 500 for it in ("deflate.c", "LICENSE", "lib/lz4.c", "lib/LICENSE")})
+    placed(folder, {"debian/changelog": "zlib (1:1.2.13-1) unstable; urgency=low\n"})
     return folder
 
 
-class Tests(unittest.TestCase):
-    def setUp(self):
-        folder = tempfile.TemporaryDirectory(prefix="port-test-")
-        self.addCleanup(folder.cleanup)
-        self.room = Path(folder.name)
-
+class Tests(InARoom):
     def said(self, words, **stand_ins):
         """The status of the script and its lines, with stand-ins for its functions."""
-        with contextlib.ExitStack() as stack:
-            for name, value in stand_ins.items():
-                stack.enter_context(mock.patch.object(port, name, value))
-            out, err = (stack.enter_context(it(io.StringIO())) for it in (contextlib.redirect_stdout, contextlib.redirect_stderr))
-            status = port.main(words)
-        return status, out.getvalue().splitlines(), err.getvalue().splitlines()
+        with mock.patch.multiple(port, **stand_ins):
+            status, out, err = said(port.main, words)
+        return status, out.splitlines(), err.splitlines()
 
     def compared(self, mine, theirs, name="zlib"):
         """What is said of a port that puts one text in dsmon and another natively."""
@@ -154,8 +138,7 @@ class Tests(unittest.TestCase):
 
     def test_wrong_words_are_refused(self):
         for words in (["gzip"], ["--from", "."], ["--from", ".", "zlib", "lz4"]):
-            with self.assertRaises(SystemExit), contextlib.redirect_stderr(io.StringIO()):
-                port.options(words)
+            self.assertEqual(2, said(port.options, words)[0])
 
 
 if __name__ == "__main__":

@@ -1,14 +1,11 @@
 #!/usr/bin/env python3
 """Tests of tools/processor_model.py: units that were counted by hand, the longest unit, and what holds in each run."""
-import sys
 import unittest
 
-sys.dont_write_bytecode = True
-
-import trace_model  # noqa: E402
-import unit_course  # noqa: E402
-from hostile_model import signed  # noqa: E402
-from trace_model import DATA, MASK, Traced, cases, files_in, rows, traced  # noqa: E402
+import trace_model
+import unit_course
+from hostile_model import signed
+from trace_model import DATA, MASK, Traced, cases, files_in, rows, traced
 
 PUT_A = "trace ../../policies/code.toml ../../nothing.input".split()
 
@@ -27,12 +24,8 @@ class Touched(Traced):
 
 
 def begun(read, policy, given, kind=Traced, random=63):
-    trace_model.Traced, was = kind, trace_model.Traced
-    try:
-        view = {"from": 0, "to": 2**63, "processes": set(), "only": None, "processor": True, "entries": False, "random": random}
-        return trace_model.begun(read, policy, given, view)
-    finally:
-        trace_model.Traced = was
+    view = {"from": 0, "to": 2**63, "processes": set(), "only": None, "processor": True, "entries": False, "source": False, "names": False, "random": random}
+    return trace_model.begun(read, policy, given, view, kind)
 
 
 def turns(run, n):

@@ -1,11 +1,8 @@
 #!/usr/bin/env python3
 """Tests of tools/refusals.py, over a small crate and a small document."""
-import sys
 import unittest
 
-sys.dont_write_bytecode = True
-
-from refusals import Wrong, constant_of, different, said_by_crate, said_by_document, written  # noqa: E402
+from refusals import Wrong, constant_of, different, said_by_crate, said_by_document, written
 
 CRATE = '''//! Words.
 

@@ -1,16 +1,13 @@
 #!/usr/bin/env python3
 """Tests of the verdicts that tools/refused_growths.py gives, over programs that a small model plays, and of its library over a command of the system."""
-import contextlib
-import io
+import shutil
 import subprocess
-import sys
 import tempfile
 import unittest
 from concurrent.futures import ThreadPoolExecutor
 
-sys.dont_write_bytecode = True
-
-from refused_growths import MEMORY, TOLD, Program, Row, Run, Wrong, compiled, main, passed, tests_of, tried  # noqa: E402
+from refused_growths import MEMORY, TOLD, Program, Row, Run, Wrong, check_cuts, compiled, main, passed, tests_of, tried
+from rooms import placed, said
 
 BEFORE, ALL = 6, 9  # the growths before a run, and in all; each of the others comes a turn later
 WHOLE = b"time 3\n"
@@ -57,6 +54,19 @@ class Tested:
         return self.run(words), 4
 
 
+# Asks three times for memory, the second time for more than before, and ends with which were refused.
+THREE = """\
+#include <stdlib.h>
+int main(void) {
+    int is = 0;
+    void *volatile a;
+    for (int k = 0; k < 3; k++) {
+        a = k == 1 ? realloc(a, 90) : malloc(40);
+        is = 2 * is + !a;
+    }
+    return is;
+}
+"""
 ROW = Row("a row", "/", "policy", 3, (0, 1, 2, 3))
 
 
@@ -96,6 +106,13 @@ class Tests(unittest.TestCase):
     def test_a_later_growth_that_is_refused_earlier_is_wrong(self):
         self.assert_wrong("a later growth was refused earlier", _7=Run(MEMORY, b"time 2\n", TOLD))
 
+    def test_a_guest_that_grows_too_little_is_wrong(self):
+        first, byte, line = (b"console 0 %d\n%s\nlog %d\n" % it for it in ((0, b"", 0), (1, b".", 0), (1, b".", 1)))
+        check_cuts([first, byte, line], first)
+        for texts, why in (([byte, line], "before its first turn"), ([first, line], "after a byte"), ([first, byte], "after a line of the log")):
+            with self.assertRaisesRegex(Wrong, f"no run was cut {why}"):
+                check_cuts(texts, first)
+
     def test_the_tests_about_memory_pass_whichever_growth_is_refused(self):
         self.assertEqual(tests_of(Tested()), ["a::for_want_of_memory_it_stays", "b::after_want_of_memory_it_stays"])
         self.assertEqual(passed(Tested(), "a", self.lanes), 4)
@@ -106,22 +123,19 @@ class Tests(unittest.TestCase):
     def test_the_library_counts_growths_and_refuses_them(self):
         with tempfile.TemporaryDirectory() as folder:
             library = compiled(folder)
-            if not library:
+            if not shutil.which("cc"):
                 self.skipTest("no C compiler")
             source, program = f"{folder}/three.c", f"{folder}/three"
-            with open(source, "w") as file:
-                file.write("#include <stdlib.h>\nint main(void) { int is = 0; void *volatile a;\n"
-                           "for (int k = 0; k < 3; k++) { a = k == 1 ? realloc(a, 90) : malloc(40); is = 2 * is + !a; } return is; }\n")
+            placed(folder, {"three.c": THREE})
             subprocess.run(["cc", "-O0", source, "-o", program], check=True)
             three = Program(library, program)
             self.assertEqual(three.counted([]), (Run(0, b"", b""), 3))
             self.assertEqual([three.run([], refuse=it).status for it in ("1", "2", "3", "1..", "2..", "3..", "4")], [4, 2, 1, 7, 3, 1, 0])
 
     def test_what_was_not_built_is_told(self):
-        said = io.StringIO()
-        with contextlib.redirect_stdout(said):
-            self.assertEqual(main(["--dsmon", "/no/dsmon", "--tests", "/no/tests"]), 0)
-        self.assertRegex(said.getvalue(), "/no/dsmon was not built|no C compiler")
+        status, out, _ = said(main, ["--dsmon", "/no/dsmon", "--tests", "/no/tests"])
+        self.assertEqual(status, 0)
+        self.assertIn("/no/dsmon was not built", out)
 
 
 if __name__ == "__main__":

@@ -1,29 +1,21 @@
 #!/usr/bin/env python3
 """Tests of tools/release.py, over a toy repository with a toy gate, a stand-in for the program, and a toy kit."""
-import contextlib
 import hashlib
-import importlib.util
 import io
 import os
 import shutil
 import subprocess
 import sys
 import tarfile
-import tempfile
 import unittest
-from pathlib import Path
 from unittest import mock
 
-sys.dont_write_bytecode = True
+from release import Refused, contents, licences
+from release.archive import File, archive
+from release.manual import SECTIONS, formatted, manual, section
+from rooms import TOP, InARoom, placed, said, script
 
-from release import Refused, contents, licences  # noqa: E402
-from release.archive import File, archive  # noqa: E402
-from release.manual import SECTIONS, formatted, manual, section  # noqa: E402
-
-TOP = Path(__file__).resolve().parent.parent
-SCRIPT = importlib.util.spec_from_file_location("release_command", TOP / "tools" / "release.py")
-COMMAND = importlib.util.module_from_spec(SCRIPT)
-SCRIPT.loader.exec_module(COMMAND)
+COMMAND = script("release")
 
 HELPS = {
     "": "Runs a station\n\nUsage: dsmon <COMMAND>\n\nCommands:\n  run   Runs processes\n  help  Print help\n\nOptions:\n  -h, --help  Print help\n\nThe status is 0.\n",
@@ -74,20 +66,12 @@ KIT = {
 }
 
 
-def placed(room, files):
-    """Files below a folder."""
-    for path, text in files.items():
-        (room / path).parent.mkdir(parents=True, exist_ok=True)
-        (room / path).write_text(text, "utf-8")
+class Tests(InARoom):
+    files = {f"kit/{path}": text for path, text in KIT.items()}
 
-
-class Tests(unittest.TestCase):
     def setUp(self):
-        folder = tempfile.TemporaryDirectory(prefix="release-test-")
-        self.addCleanup(folder.cleanup)
-        self.room = Path(folder.name)
+        super().setUp()
         self.top, self.to = self.room / "top", self.room / "to"
-        placed(self.room / "kit", KIT)
 
     def git(self, *words):
         who = {f"GIT_{it}_{what}": value for it in ("AUTHOR", "COMMITTER") for what, value in [("NAME", "A"), ("EMAIL", "a@b.c"), ("DATE", "2026-11-29T12:00:00Z")]}
@@ -106,10 +90,8 @@ class Tests(unittest.TestCase):
 
     def said(self, *words, to=None, needs=("libc.so.6",)):
         """The status of the script, what it said, and of what it complained."""
-        with contextlib.redirect_stdout(io.StringIO()) as out, contextlib.redirect_stderr(io.StringIO()) as err, \
-                mock.patch.object(COMMAND, "kit_here", lambda: (self.room / "kit", "toy kit")), mock.patch.object(COMMAND, "libraries", lambda program: [*needs]):
-            status = COMMAND.main([str(to or self.to), *words], self.top)
-        return status, out.getvalue(), err.getvalue()
+        with mock.patch.multiple(COMMAND, kit_here=lambda: (self.room / "kit", "toy kit"), libraries=lambda program: [*needs]):
+            return said(COMMAND.main, [str(to or self.to), *words], self.top)
 
     def refused(self, *words, **how):
         """What the script says where it refuses, in its first line; there is no archive then."""
@@ -117,7 +99,7 @@ class Tests(unittest.TestCase):
         self.assertEqual((2, []), (status, [*self.to.glob("*.tar.gz")]))
         return err.splitlines()[0].removeprefix("release: ")
 
-    def files(self, name="dsmon-1.2.3-x86_64-linux"):
+    def packed(self, name="dsmon-1.2.3-x86_64-linux"):
         """The members of the archive by their names in its folder."""
         with tarfile.open(self.to / f"{name}.tar.gz") as it:
             return {member.name.removeprefix(f"{name}/"): (member, it.extractfile(member).read()) for member in it if member.isfile()}
@@ -126,7 +108,7 @@ class Tests(unittest.TestCase):
         self.committed()
         status, out, err = self.said()
         self.assertEqual((0, ""), (status, err))
-        files = self.files()
+        files = self.packed()
         self.assertEqual({"README.md", "CHANGELOG.md", "LICENSE", "MADE", "dsmon", "dsmon.1", "docs/policy.md", "docs/formats.md", "docs/refusals.md", "examples/hello.s",
                           "examples/labs/README.md", *(f"tools/{it}" for it in contents.SCRIPTS), "licences/README", "licences/memchr/LICENSE-MIT",
                           "licences/itoa/LICENSE", "licences/core/LICENSE-of-text-mod"}, set(files))
@@ -136,7 +118,7 @@ class Tests(unittest.TestCase):
     def test_made_says_of_what_and_by_which_gate(self):
         self.committed()
         self.said()
-        files = self.files()
+        files = self.packed()
         lines = files["MADE"][1].decode().splitlines()
         head = [it[2:] for it in lines if it.startswith("# ")]
         self.assertEqual("dsmon 1.2.3 for x86-64 Linux; it needs the C library", head[0])
@@ -208,7 +190,7 @@ class Tests(unittest.TestCase):
         self.committed()
         with mock.patch.object(COMMAND, "PROOFS", ["sh", "-c", ".ci/run >&2 && echo '9 passed, 0 failed' && test -f crates/dsmon/out/dsmon"]):
             self.assertEqual(0, self.said("--candidate")[0])
-        self.assertIn(b"9 passed, 0 failed\n", self.files("dsmon-1.2.3-candidate-x86_64-linux")["MADE"][1])
+        self.assertIn(b"9 passed, 0 failed\n", self.packed("dsmon-1.2.3-candidate-x86_64-linux")["MADE"][1])
 
     def test_versions_have_to_agree(self):
         self.committed(program=PROGRAM.replace("VERSION", "0.1.0"))
@@ -222,7 +204,7 @@ class Tests(unittest.TestCase):
         self.assertEqual("the program needs libm.so.6, and the C library alone is promised", self.refused(needs=["linux-vdso.so.1", "libm.so.6", "libc.so.6"]))
         self.committed(program=PROGRAM.replace("VERSION", "1.2.3") + "# GLIBC_2.9 GLIBC_2.34 GLIBC_2.4\n")
         self.assertEqual(0, self.said(needs=["linux-vdso.so.1", "libc.so.6", "/lib64/ld-linux-x86-64.so.2"])[0])
-        self.assertIn(b"it needs the C library, glibc 2.34 or later", self.files()["MADE"][1])
+        self.assertIn(b"it needs the C library, glibc 2.34 or later", self.packed()["MADE"][1])
 
     def test_a_program_of_another_machine_is_refused(self):
         with self.assertRaisesRegex(Refused, "^the program is none of this machine: "):
@@ -239,7 +221,7 @@ class Tests(unittest.TestCase):
         self.committed()
         commit = subprocess.run(["git", "-C", self.top, "rev-parse", "HEAD"], capture_output=True, text=True).stdout[:12]
         self.assertEqual(0, self.said("--page", str(self.page_of(f"kit toy\ncommit 2d87c71a\ncommit {commit}\nproved yes")))[0])
-        self.assertEqual({"page/MADE", "page/index.html"}, {it for it in self.files() if it.startswith("page/")})
+        self.assertEqual({"page/MADE", "page/index.html"}, {it for it in self.packed() if it.startswith("page/")})
 
     def test_another_page_is_refused(self):
         self.committed()
@@ -267,17 +249,16 @@ class Tests(unittest.TestCase):
         self.assertEqual("docs/formats.md has no section Statuses of the program, and the manual page has it", self.refused())
 
 
-class Parts(unittest.TestCase):
+class Parts(InARoom):
     def test_no_answer_of_today_goes_along(self):
         names = set(contents.examples(TOP))
         self.assertLessEqual({"labs/README.md", "labs/stopped.s", "hello.s"}, names)
         self.assertFalse([it for it in names if "answers" in it or it.endswith((".told", ".expected"))])
 
     def test_the_scripts_need_no_others(self):
-        with tempfile.TemporaryDirectory(prefix="release-test-") as room:
-            for it in contents.SCRIPTS:
-                shutil.copy(TOP / "tools" / it, room)
-            done = subprocess.run([sys.executable, Path(room, "elf_to_policy.py"), "--help"], capture_output=True, text=True)
+        for it in contents.SCRIPTS:
+            shutil.copy(TOP / "tools" / it, self.room)
+        done = subprocess.run([sys.executable, self.room / "elf_to_policy.py", "--help"], capture_output=True, text=True)
         self.assertEqual((0, ""), (done.returncode, done.stderr))
 
     def test_documents_of_today_have_the_sections_of_the_manual_page(self):
@@ -287,15 +268,13 @@ class Parts(unittest.TestCase):
                 formatted(section(texts, path, heading))
 
     def test_a_crate_that_the_kit_has_not_is_told(self):
-        with tempfile.TemporaryDirectory(prefix="release-test-") as room:
-            placed(Path(room), {"crates.txt": "dsmon: nothing_like_it\n", **{f"kit/{path}": text for path, text in KIT.items()}})
-            with self.assertRaisesRegex(Refused, "^the kit has no crate nothing_like_it$"):
-                licences.linked(Path(room), Path(room, "kit"), "dsmon")
+        placed(self.room, {"crates.txt": "dsmon: nothing_like_it\n", **Tests.files})
+        with self.assertRaisesRegex(Refused, "^the kit has no crate nothing_like_it$"):
+            licences.linked(self.room, self.room / "kit", "dsmon")
 
     def test_crates_without_a_licence_are_listed(self):
-        with tempfile.TemporaryDirectory(prefix="release-test-") as room:
-            placed(Path(room), KIT)
-            files = licences.licences(Path(room), "toy kit", ["core", "itoa", "std"])
+        placed(self.room, KIT)
+        files = licences.licences(self.room, "toy kit", ["core", "itoa", "std"])
         said = files["README"].decode()
         self.assertIn("- itoa: LICENSE\n", said)
         self.assertIn("- core: LICENSE-of-text-mod\n", said)
@@ -307,7 +286,7 @@ class Parts(unittest.TestCase):
             self.assertEqual([("it", 0o755), ("it/a", 0o755), ("it/b", 0o755), ("it/b/c", 0o755), ("it/b/c/d", 0o644)], [(one.name, one.mode) for one in it])
 
 
-class Pages(unittest.TestCase):
+class Pages(InARoom):
     def page(self, helps=HELPS):
         texts = {path: text for path, text in FILES.items() if path.endswith(".md") and "labs" not in path}
         return manual(helps, texts, "1.2.3", "2026-11-29")
@@ -330,13 +309,12 @@ class Pages(unittest.TestCase):
         self.assertEqual([".TP", "a|b", "c"], formatted("| A | B |\n|---|---|\n| a\\|b | c |\n"))
 
     def test_formatters_have_nothing_to_say_of_it(self):
-        with tempfile.TemporaryDirectory(prefix="release-test-") as room:
-            page = Path(room, "dsmon.1")
-            page.write_text(self.page(), "utf-8")
-            for words in (["mandoc", "-Tlint", "-W", "warning", page], ["groff", "-k", "-man", "-ww", "-z", "-Tutf8", page]):
-                if shutil.which(words[0]):
-                    done = subprocess.run(words, capture_output=True, text=True)
-                    self.assertEqual("", done.stdout + done.stderr)
+        page = self.room / "dsmon.1"
+        page.write_text(self.page(), "utf-8")
+        for words in (["mandoc", "-Tlint", "-W", "warning", page], ["groff", "-k", "-man", "-ww", "-z", "-Tutf8", page]):
+            if shutil.which(words[0]):
+                done = subprocess.run(words, capture_output=True, text=True)
+                self.assertEqual("", done.stdout + done.stderr)
 
 
 if __name__ == "__main__":

@@ -1,25 +1,18 @@
 #!/usr/bin/env python3
 """Tests of tools/tests.py: each script is run, and one that fails is told."""
-import contextlib
-import io
-import sys
-import tempfile
 import unittest
 from pathlib import Path
 
-sys.dont_write_bytecode = True
+from rooms import InARoom, placed, said
+from tests import TOP, commands, main
 
-from tests import COMMANDS, TOP, main  # noqa: E402
 
-
-class Tests(unittest.TestCase):
+class Tests(InARoom):
     def said(self, **scripts):
         """The status and the lines of a run of these scripts, by their names."""
-        with tempfile.TemporaryDirectory(prefix="tests-test-") as room, contextlib.redirect_stdout(io.StringIO()) as said:
-            for name, text in scripts.items():
-                Path(room, f"{name}.py").write_text(text, "utf-8")
-            status = main([[f"{name}.py", "one", "two"] for name in scripts], room)
-        return status, said.getvalue().splitlines()
+        placed(self.room, {f"{name}.py": text for name, text in scripts.items()})
+        status, out, _ = said(main, [[f"{name}.py", "one", "two"] for name in scripts], self.room)
+        return status, out.splitlines()
 
     def test_scripts_that_end_well_pass(self):
         status, lines = self.said(first="print('said')", second="import sys\nprint(sys.argv[1:])")
@@ -34,9 +27,10 @@ class Tests(unittest.TestCase):
         self.assertTrue(any(it.startswith("== second.py one two: ") and it.endswith("status 1") for it in lines))
 
     def test_each_script_of_tests_is_run(self):
-        names = {it.name for it in Path(TOP, "tools").glob("test_*.py")}
-        self.assertLessEqual(names, {Path(words[0]).name for words in COMMANDS})
-        self.assertTrue(all(Path(TOP, words[0]).is_file() for words in COMMANDS))
+        names = [words[0] for words in commands()]
+        self.assertLessEqual({f"tools/{it.name}" for it in Path(TOP, "tools").glob("test_*.py")}, set(names))
+        self.assertEqual([], [it for it in names if not Path(TOP, it).is_file()])
+        self.assertEqual(len(names), len(set(names)))
 
 
 if __name__ == "__main__":

@@ -2,12 +2,9 @@
 """Tests of tools/trace_model.py: the rows are as it has them, words are written as a listing has them, a window leaves out lines and nothing else, and counts add up."""
 import re
 import subprocess
-import sys
 import unittest
 
-sys.dont_write_bytecode = True
-
-from trace_model import DATA, HIDDEN, cases, files_in, image, is_as_expected, renewed, rows, text_of, traced  # noqa: E402
+from trace_model import COMMON, DATA, HIDDEN, cases, files_in, image, is_as_expected, places, renewed, rows, text_of, traced
 
 PERIOD = DATA / "traces" / "period"
 WORDS = "trace ../../policies/two_at_rate_3.toml ../../nothing.input 100".split()
@@ -138,6 +135,18 @@ class Tests(unittest.TestCase):
         for line in lines():
             for n in HIDDEN:
                 self.assertNotIn(f"  ${n}=", line)
+
+    def test_a_trace_by_its_sources_has_the_plain_lines(self):
+        words = "traces/sources", "two.toml", "../../nothing.input", 60
+        plain, by_source, by_names = in_folder(*words), in_folder(*words, "--source"), in_folder(*words, "--names")
+        self.assertEqual((len(plain), len(plain)), (len(by_source), len(by_names)))
+        for line, told_, named in zip(plain, by_source, by_names):
+            self.assertEqual(line, re.sub(r"\$(\w+)", lambda m: f"${COMMON.index(m[1])}", named))
+            self.assertTrue(re.sub(r"^( *)\w+\.s:\d+( \w+(\+\d+)?)?  ", r"\1", told_).startswith(line.split("  unknown")[0]), told_)
+
+    def test_the_places_of_a_source(self):
+        text = "nop\nmain:\nstart: nop # one\n.byte 1\n.space 3\nnop"
+        self.assertEqual(places(text), [(4, 1, None), (4, 2, ("main", 4)), (8, 3, ("main", 4)), (9, 4, ("main", 4)), (12, 5, ("main", 4)), (16, 6, ("main", 4))])
 
     def test_entries_add_lines_and_nothing_else(self):
         for flags in ((), ("--from", 36), ("--process", 3), ("--only", "calls"), ("--only", "end"), ("--to", 30, "--processor")):

@@ -1,21 +1,16 @@
 #!/usr/bin/env python3
 """Tests of tools/unit_course.py: it passes over the course as it is, and fails over others."""
-import contextlib
-import io
-import sys
 import unittest
 
-sys.dont_write_bytecode = True
-
-from unit_course import EXPECTED, State, begins, main, nexts  # noqa: E402
+from rooms import said
+from unit_course import EXPECTED, State, begins, main, nexts
 
 
 class Tests(unittest.TestCase):
     def said(self, *words, **more):
         """The status and the lines of a search."""
-        with contextlib.redirect_stdout(io.StringIO()) as said:
-            status = main(*words, **more)
-        return status, said.getvalue().splitlines()
+        status, out, _ = said(main, *words, **more)
+        return status, out.splitlines()
 
     def test_every_course_is_tallied(self):
         status, lines = self.said()

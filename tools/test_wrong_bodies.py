@@ -1,14 +1,13 @@
 #!/usr/bin/env python3
 """Tests of tools/wrong_bodies.py, over a small crate in a folder of its own."""
+import shutil
 import subprocess
 import sys
-import tempfile
 from pathlib import Path
-from unittest import TestCase, main, mock
+from unittest import main, mock
 
-sys.dont_write_bytecode = True
-
-from wrong_bodies import census, crates, proving  # noqa: E402
+from rooms import InARoom, placed
+from wrong_bodies import census, crates, proving
 
 CODE = """\
 #![tactic(auto)] ghost use Rattle.std.specs.Prelude.{◌≡◌, ◌≤◌, ◌<◌, ◌+◌}; ghost use Rattle.toy.specs.Numbers.{order_of, after};
@@ -73,28 +72,25 @@ BAD = {
 NOT_THERE = {"next.not_there": ("BAD EDIT: an 'old:' text is in src/lib.rt 0 times, and not once", "n + SECOND", "n")}
 
 
-class Test(TestCase):
-    def room(self, edits, **others):
+class Test(InARoom):
+    def crate(self, edits, **others):
         """Writes a crate with its edits, each over the file that has its old text, and returns the folder."""
-        room = tempfile.TemporaryDirectory(prefix="wrong-bodies-test-")
-        self.addCleanup(room.cleanup)
-        files = {"../../crates.txt": "toy:\n", "src/lib.rt": CODE, "specs/Lib.antt": "pub mod Numbers\npub mod Rows\n", "specs/Numbers.antt": NUMBERS, "specs/Rows.antt": ROWS}
+        shutil.rmtree(self.room / "crates", ignore_errors=True)
+        files = {"src/lib.rt": CODE, "specs/Lib.antt": "pub mod Numbers\npub mod Rows\n", "specs/Numbers.antt": NUMBERS, "specs/Rows.antt": ROWS}
         for name, (_, old, new, *lines) in edits.items():
             file = "specs/Numbers.antt" if old in NUMBERS else "src/lib.rt"
             files[f"wrong/{name}.edit"] = "\n".join([f"file: {file}", *lines, f"old: {old}", f"new: {new}", ""])
         files.update({f"wrong/{name}": text for name, text in others.items()})
-        for path, text in files.items():
-            Path(room.name, "crates/toy", path).parent.mkdir(parents=True, exist_ok=True)
-            Path(room.name, "crates/toy", path).resolve().write_text(text, "utf-8")
-        return room.name
+        placed(self.room, {"crates.txt": "toy:\n", **{f"crates/toy/{path}": text for path, text in files.items()}})
+        return self.room
 
     def ran(self, edits):
         """Runs the command, and returns its status and what it printed."""
-        return subprocess.run([sys.executable, Path(__file__).with_name("wrong_bodies.py"), "--root", self.room(edits)], capture_output=True, text=True)
+        return subprocess.run([sys.executable, Path(__file__).with_name("wrong_bodies.py"), "--root", self.crate(edits)], capture_output=True, text=True)
 
     def lacks(self, edits, implied=""):
         with mock.patch.dict(census.EACH_CLAUSE, {"toy": ["next"]}):
-            return census.census(crates.Repository(self.room(edits, implied=implied)))
+            return census.census(crates.Repository(self.crate(edits, implied=implied)))
 
     def has_verdicts(self, edits, counts, said):
         for name, (verdict, *_) in edits.items():
@@ -110,7 +106,7 @@ class Test(TestCase):
         self.assertNotIn("twice.well", said.stdout)
 
     def test_copies_of_a_function_are_tried_side_by_side_but_not_two_edits_of_one_arm_of_a_method(self):
-        edits = crates.Repository(self.room({name: it for name, it in EDITS.items() if name.startswith(("order.", "rank."))})).crates["toy"].edits
+        edits = crates.Repository(self.crate({name: it for name, it in EDITS.items() if name.startswith(("order.", "rank."))})).crates["toy"].edits
         batches = [[it.name.removesuffix(".edit") for it in batch] for batch in proving.batches_of(edits, crates.Edit.clashes)]
         self.assertEqual([["order.green_is_red", "order.harmless", "order.red_is_green", "rank.green_is_fifth", "rank.harmless"], ["rank.red_is_sixth"]], batches)
 

@@ -11,54 +11,35 @@ from concurrent.futures import ThreadPoolExecutor, as_completed
 from pathlib import Path
 
 TOP = Path(__file__).resolve().parent.parent
-COMMANDS = [  # those that take longest first
-    ["tools/refused_memory.py"],
-    ["tools/test_wrong_bodies.py"],
-    ["tools/wrong_bodies.py", "--count"],
-    ["tools/test_elf_to_policy.py"],
-    ["tools/test_c_library.py"],
-    ["tools/test_conformance.py"],
-    ["tools/test_release.py"],
-    ["tools/test_hostile_cases.py"],
-    ["tools/test_reading_cases.py"],
-    ["tools/test_grants_cases.py"],
-    ["tools/test_turns_cases.py"],
-    ["tools/test_late_cases.py"],
-    ["tools/test_trace_model.py"],
-    ["tools/test_came_model.py"],
-    ["tools/test_bare_model.py"],
-    ["tools/test_bare_cases.py"],
-    ["tools/test_processor_model.py"],
-    ["tools/test_reason_cases.py"],
-    ["tools/test_refused_memory.py"],
-    ["tools/test_refused_growths.py"],
-    ["tools/refused_growths.py"],
-    ["tools/debug_sessions.py"],
-    ["tools/test_debug_sessions.py"],
-    ["tools/test_unit_course.py"],
-    ["tools/unit_course.py"],
-    ["tools/test_gate_times.py"],
-    ["tools/believe.py", "--check"],
-    ["tools/test_believe.py"],
-    ["tools/test_figures.py"],
-    ["tools/test_refusals.py"],
-    ["tools/test_tests.py"],
-    ["tools/test_page.py"],
-    ["tools/test_documents.py"],
-    ["tools/test_c_examples.py"],
-    ["tools/test_port.py"],
-    ["tools/c_examples.py", "--check"],
-    ["tools/refusals.py", "--check"],
-    ["tools/figures.py", "--check"],
-    ["tools/documents.py", "--check"],
-]
+LONGEST = "wrong_bodies elf_to_policy c_library conformance release hostile_cases grants_cases trace_model processor_model".split()
+OTHERS = """\
+wrong_bodies.py --count
+refused_growths.py
+debug_sessions.py
+debug_draws.py
+unit_course.py
+believe.py --check
+c_examples.py --check
+refusals.py --check
+figures.py --check
+documents.py --check
+"""
+
+
+def commands(top=TOP):
+    """The tests, of which those that take longest are first, and the scripts that test the program or the documents."""
+    tests = [f"test_{name}.py" for name in LONGEST]
+    tests += sorted({it.name for it in Path(top, "tools").glob("test_*.py")}.difference(tests))
+    return [["tools/" + words[0], *words[1:]] for words in map(str.split, [*tests, *OTHERS.splitlines()])]
 
 
 def ran(words, top=TOP):
     """Runs a script, and returns its status, and what it said with the seconds that it took."""
     began = time.monotonic()
-    done = subprocess.run([sys.executable, *words], cwd=top, stdin=subprocess.DEVNULL, stdout=subprocess.PIPE, stderr=subprocess.STDOUT, errors="replace")
-    return done.returncode, f"== {' '.join(words)}: {time.monotonic() - began:.0f} s, status {done.returncode}\n{done.stdout}"
+    done = subprocess.run(
+        [sys.executable, *words], cwd=top, stdin=subprocess.DEVNULL, stdout=subprocess.PIPE, stderr=subprocess.STDOUT, errors="replace")
+    took = time.monotonic() - began
+    return done.returncode, f"== {' '.join(words)}: {took:.0f} s, status {done.returncode}\n{done.stdout}"
 
 
 def main(commands, top=TOP):
@@ -73,4 +54,4 @@ def main(commands, top=TOP):
 
 
 if __name__ == "__main__":
-    sys.exit(main(COMMANDS))
+    sys.exit(main(commands()))

@@ -14,19 +14,18 @@ import tomllib
 from collections import Counter
 from pathlib import Path
 
-sys.dont_write_bytecode = True
-
-from hostile_model import CODES, LOADS, STORES, NotQuiet, decode, encode, signed  # noqa: E402
-from processor_model import Processor  # noqa: E402
-from turns_model import MASK, NO_ENTRY, Denied, assemble  # noqa: E402
+from grants_model import NUMBERS
+from hostile_model import CODES, LOADS, STORES, NotQuiet, decode, encode, signed
+from processor_model import Processor
+from turns_model import MASK, NAMES, UNKNOWN, Denied, assemble
 
 DATA = Path(__file__).resolve().parent.parent / "crates" / "rows" / "data"
 BRANCHES = ("beq", "bne", "blez", "bgtz", "bltz", "bgez", "bltzal", "bgezal")
 LINKS, JUMPS = {"jal": 31, "bltzal": 31, "bgezal": 31}, ("j", "jal", "jr", "jalr", *BRANCHES)
 HALVES, HIDDEN = ("andi", "ori", "xori", "lui"), (0, 26, 27)
 CALLS = "exit put get yield time self give take drop wait unknown".split()
-UNKNOWN, GIVE, COPY = 10, 6, 3
-REFUSALS = {11: "Regions", 12: "NoProcess", 13: "NotPage", 14: "NoGrant", 15: "NotAllowed", 16: "Taken", 17: "TableFull", 18: "NoFrames", 19: "NotGiven"}
+GIVE, COPY = 6, 3
+REFUSALS, COMMON = {number: name for name, number in NUMBERS.items()}, list(NAMES)
 MODES = {1: "read", 2: "write", 3: "copy"}
 
 
@@ -44,6 +43,19 @@ def image(text):
             pieces.append((at, name, rest))
             at += {".byte": 1}.get(name, int(rest, 0) if name == ".space" else 4)
     return b"".join(piece(at, name, rest, labels) for at, name, rest in pieces)
+
+
+def places(text):
+    """Of each line of a source where it ends in the image, its number, and the last label that stands on it or before it with its place; of labels at one place the first."""
+    found, at, label = [], 0, None
+    for number, line in enumerate(text.splitlines(), 1):
+        line = line.split("#")[0].strip()
+        while match := re.match(r"(\w+):\s*", line):
+            label, line = label if label and label[1] == at else (match[1], at), line[match.end():]
+        name, _, rest = line.partition(" ")
+        at += {"": 0, ".byte": 1}.get(name, int(rest, 0) if name == ".space" else 4)
+        found.append((at, number, label))
+    return found
 
 
 def piece(at, name, rest, labels, start=0x40_0000):
@@ -74,12 +86,11 @@ def begun(read, policy, given, view, kind=None):
         whole = image(read(it["source"])) if "source" in it else b""
         pages.append(whole[4096 * it.get("part", 0):][:4096].ljust(4096, b"\0"))
     frames = said.get("frames", len(pages))
-    rules = [(it["process"], it["address"], it["right"], names.index(it["page"]) if "page" in it else None, it.get("give", False)) for it in said.get("rule", [])]
+    rules = [(it["process"], it["address"], it["right"], names.index(it["page"]) if "page" in it else None, it.get("give", False), it.get("until"))
+             for it in said.get("rule", [])]
     processes = [(it["start"], it.get("line", 0)) for it in said["process"]]
     run = (kind or Traced)(processes, pages + [bytes(4096)] * (frames - len(pages)), len(names), frames, rules, said.get("rate", 0), events_of(read(given), names), view["random"], view)
-    for it in said.get("rule", []):
-        place = it["process"], it["address"]
-        run.table[place] = run.table[place]._replace(until=it.get("until"))
+    run.sources = [(it["source"], it.get("part", 0), places(read(it["source"]))) if "source" in it else None for it in said["page"]]
     return run
 
 
@@ -123,6 +134,11 @@ def text_of(word):
     code = word >> 6 & 0xFFFFF
     said = f"{name} {code}" if name in ("syscall", "break") and code else " ".join(filter(None, (name, ",".join(operand(name, o, k) for k in range(len(o))))))
     return f".word 0x{word:08X} # {said}" if name in (*BRANCHES, "j", "jal") else said
+
+
+def by_names(text):
+    """A text with registers by their common names."""
+    return re.sub(r"\$(\d+)", lambda m: f"${COMMON[int(m[1])]}", text)
 
 
 def decode_all(word):
@@ -240,12 +256,43 @@ class Traced(Processor):
             return "" if value is None else f"  {address:08X}={value:08X}"
         return "" if n is None or n in HIDDEN else f"  ${n}={r[n]:08X}"
 
+    def source_of(self, before, p, address):
+        """Where an address stands in its source, by the table before the unit."""
+        entry = before["table"].get((p, address & ~4095))
+        page = self.sources[entry.page] if self.view["source"] and entry and entry.page is not None and entry.page < len(self.sources) else None
+        if page is None:
+            return ""
+        name, part, lines = page
+        byte = 4096 * part + address % 4096
+        for end, number, label in lines:
+            if byte < end:
+                away = byte - label[1] if label else 0
+                return f"{name}:{number}" + (f" {label[0]}" if label else "") + (f"+{away}" if away else "") + "  "
+        return ""
+
+    def word_loaded(self, p, word, r, link=None):
+        """The word from which an instruction has loaded, by what the registers held before its unit."""
+        name, *o = decode_all(word)
+        if not self.view["source"] or name not in LOADS or o[2] in (26, 27, link):
+            return ""
+        address = (r[o[2]] + signed(o[1], 16) & MASK) & ~3
+        value = self.word(p, address)
+        return "" if value is None else f"  {address:08X}={value:08X}"
+
+    def line_of(self, before, p, time, pc, word, call, left):
+        """The line of an instruction."""
+        text = f"{time} {p} {pc:08X} {self.with_names(text_of(word))}{call}{self.with_names(left)}"
+        return self.source_of(before, p, pc) + text
+
+    def with_names(self, text):
+        return by_names(text) if self.view["names"] else text
+
     def unit_half(self, p):
         before, q, time = self.looked(), self.processes[p], self.time
         pc, word = q.pc, self.word(p, q.pc)
-        name = decode_all(word)[0] if word is not None else None
+        name, *o = decode_all(word) if word is not None else (None,)
         slot = self.word(p, pc + 4 & MASK) if name in JUMPS else None
-        call, number, mode = self.call_text(q.r) if name == "syscall" else "", q.r[2], q.r[7]
+        call, number, mode, r = self.call_text(q.r) if name == "syscall" else "", q.r[2], q.r[7], list(q.r)
         self.time += self.unit(p)
         logged = self.log[before["logged"]:]
         done = not logged or name == "syscall"
@@ -255,9 +302,12 @@ class Traced(Processor):
             self.count_call(number, mode, q.r[2])
         if self.tells("units", *(["calls"] if call else [])) and self.shows(p):
             if word is not None:
-                self.tell(f"{time} {p} {pc:08X} {text_of(word)}{call}{self.result(p, word) if done else ''}{self.refusal(call, q.r[2])}")
+                left = self.result(p, word) + self.word_loaded(p, word, r) if done else ""
+                self.tell(self.line_of(before, p, time, pc, word, call, left + self.refusal(call, q.r[2])))
             if slot is not None:
-                self.tell(f"  {time} {p} {pc + 4 & MASK:08X} {text_of(slot)}{self.result(p, slot) if done else ''}")
+                link = o[0] if name == "jalr" else LINKS.get(name)
+                left = self.result(p, slot) + self.word_loaded(p, slot, r, link) if done else ""
+                self.tell("  " + self.line_of(before, p, time, pc + 4 & MASK, slot, "", left))
         if self.tells("denials") and self.shows(p):
             for line in logged:
                 self.tell(f"denied {line}")
@@ -267,6 +317,8 @@ class Traced(Processor):
     def call_text(self, r):
         n, a = r[2], r[4:8]
         words = {1: [f"{a[0] & 255:02X}"], GIVE: [f"{a[0]:08X}", str(a[1]), f"{a[2]:08X}", MODES.get(a[3], str(a[3]))], 7: [str(a[0]), f"{a[1]:08X}"], 8: [f"{a[0]:08X}"]}
+        if n >= UNKNOWN and self.view["source"]:
+            return f"  unknown {n}: no call has this number"
         return "  " + " ".join([CALLS[min(n, UNKNOWN)], *words.get(n, [])])
 
     def refusal(self, call, answer):
@@ -275,16 +327,9 @@ class Traced(Processor):
 
     # A boundary.
 
-    def expire(self):
-        """Rights whose end has come are taken, and their rules are left."""
-        for place, entry in self.table.items():
-            if entry.until is not None and entry.until <= self.time:
-                self.changes("end of a right", *place)
-                self.table[place] = NO_ENTRY._replace(rule=entry.rule)
-
     def boundary_half(self, runner):
         before, lost = self.looked(), 0
-        self.expire()
+        self.expire(self.time)
         due = [it for it in self.events if it[0] <= self.time]
         self.events = [it for it in self.events if it[0] > self.time]
         for _, what, *o in due:
@@ -309,13 +354,8 @@ class Traced(Processor):
                     self.tell(f"{self.time} key {line} {byte:02X}")
             if lost:
                 self.tell(f"{self.time} lost {lost}")
-        for p, q in self.processes.items():
-            if q.state == "Waiting" and self.queues[q.line]:
-                q.state = "Ready"
-                self.ready.append(p)
-        slice_ = 2 ** (self.rate + 2)
-        if self.rate and self.began // slice_ != self.time // slice_ and runner and self.ready[:1] == [runner]:
-            self.ready.append(self.ready.pop(0))
+        self.wake()
+        self.rotate(runner, self.began)
         self.enter()
         self.tell_entries(self.time, before["table"])
         self.tell_changes(before)
@@ -364,7 +404,7 @@ class Traced(Processor):
     def of_a_process(self, p, q):
         """The line of a process; of one that is parked, with its last line of the log."""
         by = [line for line in self.log if line.split(" ")[1] == str(p)] if q.state == "Parked" else []
-        registers = "".join(f"  ${n}={value:08X}" for n, value in enumerate(q.r) if n not in HIDDEN and value)
+        registers = self.with_names("".join(f"  ${n}={value:08X}" for n, value in enumerate(q.r) if n not in HIDDEN and value))
         return f"process {p} {q.state.lower()} {q.pc:08X}{''.join(f' by {line}' for line in by[-1:])}{registers}"
 
     def text(self):
@@ -407,8 +447,9 @@ def rule_of(line):
 def traced(read, words):
     """What `dsmon` writes for these words, the first of which is `trace`, with a function from a file's name to its text."""
     _, policy, given, n, *flags = [part for word in words for part in word.split("=")]
-    view = {"from": 0, "to": 2**63, "processes": set(), "only": None, "processor": "--processor" in flags, "entries": "--entries" in flags, "random": 63}
-    flags = [it for it in flags if it not in ("--processor", "--entries")]
+    switches = ("processor", "entries", "source", "names")
+    view = {"from": 0, "to": 2**63, "processes": set(), "only": None, "random": 63, **{it: f"--{it}" in flags for it in switches}}
+    flags = [it for it in flags if it[2:] not in switches]
     for flag, value in zip(flags[::2], flags[1::2]):
         match flag:
             case "--from" | "--to" | "--random": view[flag[2:]] = int(value)

@@ -1,5 +1,5 @@
 #!/usr/bin/env python3
-"""Writes the rows of crates/rows/data/processes/turns/, each with the text of tools/turns_model.py.
+"""Writes the rows of crates/rows/data/processes/turns/, each with the text of tools/hostile_model.py.
 
 In each row more processes than there are address spaces take turns, so that numbers run out again and again, while calls
 and commands change entries of processes that have a number, that had one before a flush, and that never had one. Plans and
@@ -7,18 +7,18 @@ inputs are made up by a fixed seed while the model runs, so that most of what is
 what plans tell, is written by hand. tools/test_turns_cases.py tests that the files are as this script writes them.
 """
 import random
-import sys
 from pathlib import Path
 
-sys.dont_write_bytecode = True
-
-from turns_model import Run, assemble  # noqa: E402
+from case_files import policy_text, write
+from hostile_model import Hostile
+from spaces_model import AddressSpaces
+from trace_model import image
 
 DATA = Path(__file__).resolve().parent.parent / "crates" / "rows" / "data" / "processes" / "turns"
 START, PLAN = 0x40_0000, 0x40_F000
 IN_A_PAGE, WORDS = 7, 146  # processes that have their plans in one page, and the words of a plan
 OWN, NEXT, GIVEN, FAR = 0x40_1000, 0x40_2000, 0x40_3000, 0x80_1000  # pages of every process
-SPARE, NUMBERS, PARKED = 8, 63, 3  # frames for copies, address space numbers, and the most that are parked
+SPARE, PARKED = 8, 3  # frames for copies, and the most that are parked
 ROWS = {"70": (70, 0, 45000), "100": (100, 0, 45000), "70_by_the_clock": (70, 3, 30000), "100_by_the_clock": (100, 3, 30000)}
 
 
@@ -32,19 +32,20 @@ def word_of(what, address=0, p=0, to=0, m=0):
     return what << 28 | (address >> 22) << 24 | (address >> 12 & 15) << 20 | p << 12 | page << 4 | m
 
 
-class Made(Run):
+class Made(AddressSpaces, Hostile):
     """A run whose plans and commands are made up on its way."""
 
     def __init__(self, name, count, rate):
         self.rng, self.count = random.Random(name), count
         self.plan, self.input = {}, []
-        self.numbers, self.had, self.handed_out, self.flushes, self.kinds = set(), set(), 0, 0, []
+        self.had, self.flushes, self.kinds = set(), 0, []
+        self.begin_spaces()
         self.plans = (count + IN_A_PAGE - 1) // IN_A_PAGE
         pages = 1 + self.plans + count
         rules = [rule for p in range(1, count + 1) for rule in self.rules_of(p)]
+        code = image((DATA / "turns.s").read_text()).ljust(4096, b"\0")
         super().__init__(
-            {0: assemble((DATA / "turns.s").read_text(), START)}, [(self.start_of(p), p % 4) for p in range(1, count + 1)],
-            [bytes(4096)] * (pages + SPARE), pages, pages + SPARE, rules, rate)
+            [(self.start_of(p), p % 4) for p in range(1, count + 1)], [code, *[bytes(4096)] * (pages + SPARE - 1)], pages, pages + SPARE, rules, rate)
 
     def start_of(self, p):
         return START + 8 * ((p - 1) % IN_A_PAGE)
@@ -58,33 +59,31 @@ class Made(Run):
         return [(p, START, "read", 0, False), (p, PLAN, "read", 1 + (p - 1) // IN_A_PAGE, False),
                 (p, OWN, "write", self.own(p), True), (p, NEXT, "read", self.own(p % self.count + 1), True)]
 
-    # Which process has which kind of number, told by a set alone.
+    # Which process has which kind of number.
 
     def enters(self, p):
-        if p not in self.numbers:
-            if self.handed_out == NUMBERS:
-                self.numbers, self.handed_out, self.flushes = set(), 0, self.flushes + 1
-            self.numbers.add(p)
-            self.had.add(p)
-            self.handed_out += 1
+        self.take_number(p)
+        self.had.add(p)
+
+    def flush(self):
+        self.flushes += 1
 
     def changes(self, verb, p, address):
         self.kinds.append((verb, self.kind(p)))
-        if verb == "end":
-            self.numbers.discard(p)
+        super().changes(verb, p, address)
 
     def kind(self, p):
         return "held" if p in self.numbers else "lost" if p in self.had else "never"
 
     # Plans.
 
-    def load(self, p, address, size):
-        if PLAN <= address < PLAN + 4096:
+    def place(self, p, kind, address):
+        if kind == "load" and PLAN <= address < PLAN + 4096:
             at = (1 + (p - 1) // IN_A_PAGE, address - PLAN)
             if at not in self.plan:
                 self.plan[at] = self.next_word(p)
                 self.pages[at[0]][at[1]:at[1] + 4] = self.plan[at].to_bytes(4, "little")
-        return super().load(p, address, size)
+        return super().place(p, kind, address)
 
     def next_word(self, p):
         """What a process does next."""
@@ -187,21 +186,12 @@ class Made(Run):
         return rng.choice(["narrow", "narrow", "revoke", "drop"]), p, address
 
 
-def policy_text(made, name):
+def policy_of(made, name):
     """The policy of a row."""
-    lines = [f"# {made.count} processes that take turns. Written by tools/turns_cases.py."]
-    lines += ["version = 1", f"frames = {made.frames}"]
-    lines += ([f"rate = {made.rate}"] if made.rate else []) + ["process = ["]
-    lines += [f"    {{ start = 0x{made.start_of(p):08X}, line = {p % 4} }}," for p in made.processes]
-    lines += ["]", "page = [", '    { name = "code", source = "turns.s", part = 0 },']
-    lines += [f'    {{ name = "plan{k}", source = "{name}.s", part = {k - 1} }},' for k in range(1, made.plans + 1)]
-    lines += [f'    {{ name = "own{p}" }},' for p in made.processes] + ["]", "rule = ["]
-    for p in made.processes:
-        for _, address, right, page, give in made.rules_of(p):
-            last = ", give = true" if give else ""
-            lines.append(f'    {{ process = {p}, address = 0x{address:08X}, right = "{right}", '
-                         f'page = "{made.name_of(page)}"{last} }},')
-    return "\n".join([*lines, "]", ""])
+    about = f"{made.count} processes that take turns. Written by tools/turns_cases.py."
+    pages = [("code", "turns.s", 0), *((f"plan{k}", f"{name}.s", k - 1) for k in range(1, made.plans + 1)), *((f"own{p}",) for p in made.processes)]
+    rules = [(p, address, right, made.name_of(page), give) for p in made.processes for _, address, right, page, give in made.rules_of(p)]
+    return policy_text(about, made.frames, made.rate, [(made.start_of(p), p % 4) for p in made.processes], pages, rules, "08X")
 
 
 def plan_text(made):
@@ -225,16 +215,11 @@ def made_row(name):
 
 def files_of(name, made):
     """The files of a row."""
-    return {DATA / f"{name}.toml": policy_text(made, name), DATA / f"{name}.s": plan_text(made),
+    return {DATA / f"{name}.toml": policy_of(made, name), DATA / f"{name}.s": plan_text(made),
             DATA / f"{name}.input": "\n".join(["# Written by tools/turns_cases.py.", *made.input, ""]),
             DATA / name: made.text().decode()}
 
 
-def main():
-    for name in ROWS:
-        for path, text in files_of(name, made_row(name)).items():
-            path.write_text(text)
-
-
 if __name__ == "__main__":
-    main()
+    for name in ROWS:
+        write(files_of(name, made_row(name)))

@@ -12,9 +12,7 @@ from collections import Counter
 from concurrent.futures import ThreadPoolExecutor, as_completed
 from pathlib import Path
 
-sys.dont_write_bytecode = True
-
-from wrong_bodies import census, crates, proving  # noqa: E402
+from wrong_bodies import census, crates, proving
 
 
 def side_by_side(lanes, edits, took):

@@ -1,0 +1,137 @@
+"""Answers the lines of crates/part_cases/data/grants/: grants with the bytes of their pages, address spaces and a buffer."""
+import tomllib
+
+from grants_model import Entry, Grants
+from spaces_model import AddressSpaces, LateCopies
+
+FIRST_RANDOM, LAST_SLOT, FIRST_FREE_SLOT = 63, 63, 8
+
+
+class Model(AddressSpaces, LateCopies, Grants):
+    """What is done answers a number, of which 0 is told as "ok", or a word. What is asked has a method `tell_VERB`."""
+
+    def __init__(self, processes, frames, named):
+        super().__init__(range(1, processes + 1), frames, named)
+        self.begin_spaces()
+        self.place_pages()
+        self.bytes = [0] * frames
+        self.buffer, self.random = {}, FIRST_RANDOM  # slot: (number, address, frame, may be written)
+
+    def all_places(self):
+        return [(p, at) for p, row in self.table.rows.items() for at in row]
+
+    # The buffer.
+
+    def held(self, p, address):
+        """The slot where the buffer has a process's page, if it has it."""
+        number = self.numbers.get(p)
+        return next((slot for slot, it in self.buffer.items() if it[:2] == (number, address)), None)
+
+    def flush(self):
+        self.buffer = {}
+
+    def forget(self, p, address):
+        self.buffer.pop(self.held(p, address), None)
+
+    def translated(self, p, address):
+        entry = self.entry(p, address)
+        return self.numbers[p], address, self.lies[entry.page], self.may_be_stored_to(entry)
+
+    def rewrite_entry(self, p, address):
+        slot = self.held(p, address)
+        if slot is not None:
+            self.buffer[slot] = self.translated(p, address)
+
+    # What is done besides the calls and commands.
+
+    def copy_page(self, page, copy):
+        super().copy_page(page, copy)
+        self.bytes[copy] = self.bytes[page]
+
+    def write(self, page, byte):
+        """Only a page whose frame is its own."""
+        assert page not in self.marked
+        self.bytes[page] = byte
+        return 0
+
+    def enter(self, first, last):
+        for p in range(first, last + 1):
+            assert self.lives(p)
+            self.take_number(p)
+        return 0
+
+    def fill(self, p, address):
+        self.enter(p, p)
+        if self.entry(p, address).page is None or self.held(p, address) is not None:
+            return "nothing"
+        self.buffer[self.random] = self.translated(p, address)
+        self.random = LAST_SLOT if self.random == FIRST_FREE_SLOT else self.random - 1
+        return "filled"
+
+    # What is asked.
+
+    def tell_entry(self, p, address):
+        if address not in self.row(p):
+            return "none"
+        right, page, rule, give, giver, parent, until = self.entry(p, address)
+        words = ["nothing" if right == "none" else right, "-" if page is None else page, rule]
+        words += ["give" if give else "keep", giver]
+        words += ["from", parent[0], f"{parent[1]:08x}"] if parent else []
+        words += ["until", until] if until else []
+        return " ".join(map(str, words))
+
+    def tell_next(self):
+        ends = [entry.until for entry in self.table.values() if entry.right != "none" and entry.until]
+        return str(min(ends, default="none"))
+
+    def tell_due(self, p, now):
+        return next((f"{address:08x}" for address, entry in self.row(p).items() if entry.has_ended(now)), "none")
+
+    def tell_addresses(self, p):
+        return " ".join(f"{address:08x}" for address in self.row(p)) or "none"
+
+    def tell_byte(self, page):
+        return str(self.bytes[page])
+
+    def tell_frame(self, page):
+        return str(self.lies[page])
+
+    def tell_space(self, p):
+        return str(self.numbers.get(p, "none"))
+
+    def tell_translation(self, p, address):
+        slot = self.held(p, address)
+        if slot is None:
+            return "none"
+        _, _, frame, may_write = self.buffer[slot]
+        return f"{'write' if may_write else 'read'} {frame}"
+
+
+WORDS = {  # how the words of a line are read: a number in (d)ecimal or he(x)adecimal digits, (r)ight, (g)ive, (b)y whom
+    "start": "ddd", "grant": "dxdrgd", "give": "dxdxd", "take": "ddx", "drop": "dxb", "revoke": "dxd", "narrow": "dx",
+    "end": "d", "split": "dx", "write": "dd", "enter": "dd", "fill": "dx", "entry": "dx", "addresses": "d", "byte": "d",
+    "frame": "d", "space": "d", "translation": "dx", "expire": "d", "next": "", "due": "dd"}
+READ = {"d": int, "x": lambda word: int(word, 16), "r": str, "g": {"keep": False, "give": True}.get,
+        "b": {"own": False, "command": True}.get}
+
+
+def begun(words):
+    """The model of a policy, whose text has blanks in place of the ends of its lines."""
+    policy = tomllib.loads(words.replace(" ", "\n"))
+    model = Model(len(policy["process"]), policy["frames"], len(policy["page"]))
+    for number, rule in enumerate(policy["rule"], 1):
+        entry = Entry(rule["right"], int(rule["page"].removeprefix("p")), number, rule["give"], until=rule.get("until"))
+        model.table[rule["process"], rule["address"]] = entry
+    return model
+
+
+def answer(model, asked):
+    """The model after a line, and what is answered to the line."""
+    verb, _, words = asked.partition(" ")
+    if verb == "begin":
+        return begun(words), "ok"
+    values = [READ[kind](word) for kind, word in zip(WORDS[verb], words.split(), strict=True)]
+    if verb == "start":
+        return Model(*values), "ok"
+    answered = getattr(model, f"tell_{verb}", None) or getattr(model, verb)
+    return model, str(answered(*values) or "ok")
